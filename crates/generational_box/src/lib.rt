@@ -1,0 +1,6 @@
+//! Generational boxes: Copy boxes over recycled slots.
+#![tactic(auto)]
+
+mod boxes;
+mod entry;
+mod error;
