@@ -1,11 +1,102 @@
 //! Ids, pointers and boxes.
 
-use crate::error::Location;
+ghost use Rattle.std.specs.Prelude.{◌≡◌, Some};
+ghost use Rattle.generational_box.specs.Texts.{id_text};
 
-/// The name of a cell: its store, its slot and the slot's generation.
+use crate::error::Location;
+use std::alloc::AllocError;
+use std::fmt;
+use std::marker::PhantomData;
+
+/// The name of a cell: its store's number, its slot, and the slot's generation when it was made.
+///
+/// Two ids are equal if all three are. A name is never given twice, so an id names one cell for
+/// good, also when the cell has ended.
 #[derive(Clone, Copy, PartialEq, Eq, Hash)]
 pub struct GenerationalBoxId {
     store: u64,
     slot: usize,
     generation: u64,
+}
+
+impl GenerationalBoxId {
+    // The id of a slot of a store at a generation.
+    pub(crate) fn new(store: u64, slot: usize, generation: u64) -> GenerationalBoxId
+        ensures { result ≡ record { store = store; slot = slot; generation = generation } }
+    {
+        GenerationalBoxId {
+            store,
+            slot,
+            generation,
+        }
+    }
+}
+
+/// Prints `slot@generation`, both in decimal.
+impl fmt::Debug for GenerationalBoxId {
+    ghost debug_output = { λ id. Some (id_text id) };
+
+    fn fmt<W: fmt::Write>(&self, f: &mut fmt::Formatter<W>) -> fmt::Result {
+        write!(f, "{}@{}", self.slot, self.generation)
+    }
+}
+
+/// A box without its element type: an id, and the location at which its cell was made.
+///
+/// The location takes no part in equality.
+#[derive(Clone, Copy)]
+pub struct GenerationalPointer {
+    id: GenerationalBoxId,
+    created_at: Location,
+}
+
+/// Equal if the ids are, wherever the two were made.
+impl PartialEq for GenerationalPointer {
+    ghost use Rattle.std.proofs.Common.{rules};
+    ghost use Rattle.std.specs.Cmp.Rules.{comparing};
+    ghost use Rattle.generational_box.specs.Boxes.{has_same_id};
+
+    ghost eq = { has_same_id };
+
+    ghost laws = { Prim.search (comparing, rules) };
+
+    fn eq(&self, other: &GenerationalPointer) -> bool {
+        self.id == other.id
+    }
+}
+
+/// Prints the id.
+impl fmt::Debug for GenerationalPointer {
+    ghost debug_output = { λ it. Some (id_text it.id) };
+
+    fn fmt<W: fmt::Write>(&self, f: &mut fmt::Formatter<W>) -> fmt::Result {
+        write!(f, "{:?}", self.id)
+    }
+}
+
+/// A box: a name that is copied freely, for any element type.
+///
+/// A box owns nothing and keeps nothing alive. It is Send where `T` is.
+pub struct GenerationalBox<T> {
+    raw: GenerationalPointer,
+    marker: PhantomData<T>,
+}
+
+impl<T> Clone for GenerationalBox<T> {
+    ghost is_clone = { λ a b. b ≡ a };
+
+    fn clone(&self) -> Result<Self, AllocError> {
+        Ok(*self)
+    }
+}
+
+impl<T> Copy for GenerationalBox<T> {}
+
+/// Prints the id.
+impl<T> fmt::Debug for GenerationalBox<T> {
+    ghost debug_output = { λ it. Some (id_text it.raw.id) };
+
+    fn fmt<W: fmt::Write>(&self, f: &mut fmt::Formatter<W>) -> fmt::Result {
+        write!(f, "{:?}", self.raw)
+    }
 }

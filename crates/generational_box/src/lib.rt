@@ -4,3 +4,4 @@
 mod boxes;
 mod entry;
 mod error;
+mod session;

@@ -1,0 +1,43 @@
+-- Names of cells, and maps and sets under them.
+use Rattle.std.specs.Prelude.{ℕ, Bool, List, Option, None, Some}
+use Rattle.std.specs.declared.cmp.Ordering.{Ordering}
+use Rattle.std.specs.Ordering.{nat_cmp, ordering_then, eq_by_cmp}
+use Rattle.std.specs.List.{list_any}
+use Rattle.std.specs.FinMap as map
+use Rattle.std.specs.FinSet as set
+
+-- A cell's name: a slot, and a generation of that slot. Names are compared for equality alone.
+pub record Name : Type 0 where
+  pub slot : ℕ
+  pub generation : ℕ
+
+-- an order of names, by which finite maps are kept
+abbrev pub name_cmp : Name → Name → Ordering
+name_cmp a b = ordering_then (nat_cmp a.slot b.slot) (nat_cmp a.generation b.generation)
+
+-- whether two names are the same
+unfoldable pub is_name : Name → Name → Bool
+is_name a b = eq_by_cmp name_cmp a b
+
+-- whether a name stands in a list
+abbrev pub among : List Name → Name → Bool
+among names n = list_any (is_name n) names
+
+-- a finite set of names
+abbrev pub Names : Type 0
+Names = set.FinSet name_cmp
+
+-- a finite map under names
+abbrev pub NameMap : Type 0 → Type 0
+NameMap X = map.FinMap name_cmp X
+
+-- what `changed` makes of what stands at a key
+abbrev pub changed_if : {K X : Type 0} {R : K → K → Ordering}
+    → map.FinMap R X → K → (X → X) → Option X → map.FinMap R X
+changed_if m k f None = m
+changed_if m k f (Some x) = map.insert m k (f x)
+
+-- the map in which what stands at a key, if anything does, is changed by f
+unfoldable pub changed : {K X : Type 0} {R : K → K → Ordering}
+    → map.FinMap R X → K → (X → X) → map.FinMap R X
+changed m k f = changed_if m k f (map.get m k)

@@ -1,0 +1,153 @@
+-- A session: calls that name earlier boxes, guards and owners by their places.
+use Rattle.std.specs.Prelude.{◌≡◌, ℕ, Bool, true, false, if◌then◌else◌, nat_eq}
+use Rattle.std.specs.Prelude.{List, [], ◌∷◌, ◌++◌, Option, None, Some, slice_set}
+use Rattle.std.specs.List.{slice_index_or}
+use Rattle.generational_box.specs.declared.error.Location.{Location}
+use Rattle.generational_box.specs.declared.error.StoreError.{StoreError}
+use Rattle.generational_box.specs.declared.boxes.GenerationalPointer.{GenerationalPointer}
+use Rattle.generational_box.specs.declared.boxes.GenerationalBoxId.{GenerationalBoxId}
+use Rattle.generational_box.specs.declared.session.BoxAt.{BoxAt}
+use Rattle.generational_box.specs.declared.session.BoxAt.TheVariants.{Place, Foreign}
+use Rattle.generational_box.specs.declared.session.Call.{Call}
+use Rattle.generational_box.specs.declared.session.Call.TheVariants as call
+use Rattle.generational_box.specs.Boxes.{pointer_of}
+use Rattle.generational_box.specs.State.{State}
+use Rattle.generational_box.specs.Borrowing.{Trouble, Guard}
+use Rattle.generational_box.specs.Machine.{Action, Answer, OwnerName, Outcome}
+use Rattle.generational_box.specs.Machine.Action.{Make, Read, ReleaseReader, ReleaseWriter, End}
+use Rattle.generational_box.specs.Machine.Answer.{Made, Owned, Reads, Writes, Done, Old, Flag}
+use Rattle.generational_box.specs.Machine.Answer.{Back, Troubled, Refused}
+use Rattle.generational_box.specs.Steps.{Meets}
+
+-- What a place holds.
+pub data Held (T : Type 0) : Type 0 where
+  Boxed : (box : GenerationalPointer) → Held T
+  Reading : (guard : Guard) → Held T
+  Writing : (guard : Guard) (value : T) → Held T
+  Owning : (owner : OwnerName) → Held T
+  Nothing : Held T
+
+-- A store's state, and what each place holds.
+pub record SessionState (T : Type 0) : Type 0 where
+  pub state : State T
+  pub table : List (Held T)
+
+-- A reply.
+pub data Said (T : Type 0) : Type 0 where
+  ABox : (box : GenerationalPointer) → Said T
+  AnOwner : Said T
+  AReader : Said T
+  AWriter : Said T
+  Ready : Said T
+  TheOld : (value : T) → Said T
+  Yes : (flag : Bool) → Said T
+  TheId : (id : GenerationalBoxId) → Said T
+  TheSlot : (slot : ℕ) → Said T
+  Created : (location : Location) → Said T
+  Error : (trouble : Trouble) → Said T
+  Lacking : (cause : StoreError) → Said T
+  HandedBack : (value : T) (cause : StoreError) → Said T
+  Unready : (back : Option T) → Said T
+  NoSuch : (back : Option T) → Said T
+
+-- What a call comes to once its places are read: a call of the machine, or a reply at once.
+pub data Asked (T : Type 0) : Type 0 where
+  Asks : (action : Action T) → Asked T
+  Tells : (said : Said T) → Asked T
+
+module _ {T : Type 0} where
+  -- what a place holds; a place that isn't given yet holds nothing
+  abbrev pub held : List (Held T) → ℕ → Held T
+  held table place = slice_index_or table place Nothing
+
+  abbrev pub box_held : Held T → Option GenerationalPointer
+  box_held (Boxed b) = Some b
+  box_held _ = None
+
+  -- the box that a call names; a foreign one must be of another store
+  abbrev pub box_in : SessionState T → BoxAt T → Option GenerationalPointer
+  box_in s (Place p) = box_held (held s.table p)
+  box_in s (Foreign b) =
+      if nat_eq (pointer_of b).id.store s.state.number then None else Some (pointer_of b)
+
+  abbrev pub with_box : Option GenerationalPointer → Option T
+      → (GenerationalPointer → Asked T) → Asked T
+  with_box None back next = Tells (NoSuch back)
+  with_box (Some b) back next = next b
+
+  abbrev pub released : Held T → Asked T
+  released (Reading g) = Asks (ReleaseReader g)
+  released (Writing g v) = Asks (ReleaseWriter g v)
+  released _ = Tells (NoSuch None)
+
+  -- what each call asks of the machine
+  abbrev pub asked : SessionState T → Call T → Asked T
+  asked s (call.Leak v l) = Asks (Make None v l)
+  asked s (call.TryRead b l) = with_box (box_in s b) None (λ b. Asks (Read b l))
+  asked s (call.Release p) = released (held s.table p)
+  asked s (call.ManuallyDrop b) = with_box (box_in s b) None (λ b. Asks (End b))
+
+  -- a refusal of the store, with the value where one was handed in
+  abbrev pub refusal : Call T → StoreError → Said T
+  refusal (call.Leak v l) e = HandedBack v e
+  refusal _ e = Lacking e
+
+  abbrev pub is_release : Call T → Bool
+  is_release (call.Release p) = true
+  is_release _ = false
+
+  -- the reply to a call that the machine answered
+  abbrev pub said : Call T → Answer T → Said T
+  said c (Made b) = ABox b
+  said c (Owned o) = AnOwner
+  said c (Reads g) = AReader
+  said c (Writes g v) = AWriter
+  said c Done = Ready
+  said c (Old v) = Ready
+  said c (Flag b) = if is_release c then Ready else Yes b
+  said c (Back v) = Ready
+  said c (Troubled t) = Error t
+  said c (Refused e) = refusal c e
+
+  -- what a call gives to its own place
+  abbrev pub gives : Answer T → Held T
+  gives (Made b) = Boxed b
+  gives (Owned o) = Owning o
+  gives (Reads g) = Reading g
+  gives (Writes g v) = Writing g v
+  gives _ = Nothing
+
+  -- a guard that is spent leaves nothing at its place
+  abbrev pub spent : Call T → Answer T → List (Held T) → List (Held T)
+  spent (call.Release p) a table = slice_set table p Nothing
+  spent _ a table = table
+
+  -- the session with one place more
+  abbrev pub placed : SessionState T → Held T → SessionState T
+  placed s h = record s { table = s.table ++ h ∷ [] }
+
+  -- the reply to a call, and the session after it
+  abbrev pub settled : SessionState T → Call T → Outcome T → Said T × SessionState T
+  settled s c out =
+      let after : SessionState T = record { state = out.1; table = spent c out.0 s.table } in
+      (said c out.0, placed after (gives out.0))
+
+  abbrev pub Settles : SessionState T → Call T → Asked T → Said T → SessionState T → Type 0
+  Settles s c (Asks action) x r =
+      (answer : Answer T)
+      × (R : State T)
+      × Meets s.state action answer R
+      × ((x, r) ≡ settled s c (answer, R))
+  Settles s c (Tells y) x r = (x ≡ y) × (r ≡ placed s Nothing)
+
+  -- a call of a session that is answered x leads from s to r
+  abbrev pub SessionStep : SessionState T → Call T → Said T → SessionState T → Type 0
+  SessionStep s c x r = Settles s c (asked s c) x r
+
+  -- these calls with these replies lead from s to r
+  abbrev pub Run : SessionState T → List (Call T) → List (Said T) → SessionState T → Type 0
+  Run s [] [] r = r ≡ s
+  Run s (c ∷ calls) (x ∷ replies) r =
+      (next : SessionState T) × SessionStep s c x next × Run next calls replies r
+  Run s [] (x ∷ replies) r = ⊥
+  Run s (c ∷ calls) [] r = ⊥
