@@ -4,4 +4,6 @@
 mod boxes;
 mod entry;
 mod error;
+mod references;
 mod session;
+mod storage;
