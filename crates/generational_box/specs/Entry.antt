@@ -1,23 +1,90 @@
 -- What a slot's representation means.
-use Rattle.std.specs.Prelude.{◌≡◌, ◌≢◌, ℕ, List, [], ◌∷◌, Option, Some, None}
+use Rattle.std.specs.Prelude.{◌≡◌, ◌≢◌, ℕ, Bool, true, false, ◌&&◌, not, nat_eq}
+use Rattle.std.specs.Prelude.{if◌then◌else◌, List, [], ◌∷◌, ◌++◌, Option, Some, None}
+use Rattle.std.specs.Prelude.{Result, Ok, Err, map as list_map}
+use Rattle.std.specs.List.{filter}
+use Rattle.generational_box.specs.declared.error.Location.{Location}
+use Rattle.generational_box.specs.declared.error.BorrowMutError.{BorrowMutError}
+use Rattle.generational_box.specs.declared.error.BorrowMutError.TheVariants as writes
+use Rattle.generational_box.specs.declared.error.StoreError.TheVariants.{
+  OutOfMemory,
+  NumbersExhausted,
+  UnknownOwner,
+}
+use Rattle.generational_box.specs.declared.error.Refused.{Refused}
+use Rattle.generational_box.specs.declared.error.Refused.TheVariants as refused
 use Rattle.generational_box.specs.declared.entry.Borrow.{Borrow}
-use Rattle.generational_box.specs.declared.entry.KeptReaders.{KeptReaders}
-use Rattle.generational_box.specs.declared.entry.KeptReaders.TheVariants as kept
+use Rattle.generational_box.specs.declared.entry.StorageEntryData.{StorageEntryData}
+use Rattle.generational_box.specs.declared.entry.StorageEntryData.TheVariants as slot
+use Rattle.generational_box.specs.Cells.{Content}
+use Rattle.generational_box.specs.Cells.Content.{Here, Lent}
+use Rattle.generational_box.specs.Borrowing.{Trouble}
+use Rattle.generational_box.specs.Borrowing.Trouble.{Dropped, BeingRead, BeingWritten}
+use Rattle.generational_box.specs.Machine.{has_reader}
+use Rattle.generational_box.specs.Answers.{trouble_of, value_of}
 
--- the readers in order
-abbrev pub readers_kept : KeptReaders → List Borrow
-readers_kept kept.Nobody = []
-readers_kept (kept.One b) = b ∷ []
-readers_kept (kept.Many bs) = bs.items
+-- What a slot has: nothing, or a live value with its borrows and the location where it was made.
+pub data Kept (T : Type 0) : Type 0 where
+  Empty : Kept T
+  Live : (content : Content T) (created : Location) → Kept T
 
--- a list that is kept isn't empty
-abbrev pub IsKeptWell : KeptReaders → Type 0
-IsKeptWell kept.Nobody = Unit {0}
-IsKeptWell (kept.One b) = Unit {0}
-IsKeptWell (kept.Many bs) = bs.items ≢ []
+-- A slot: the generation of its last cell, and that cell while it is live.
+pub record Entry (T : Type 0) : Type 0 where
+  pub generation : ℕ
+  pub kept : Kept T
 
--- nobody reads, or there is a list
-abbrev pub IsNotOne : KeptReaders → Type 0
-IsNotOne kept.Nobody = Unit {0}
-IsNotOne (kept.One b) = ⊥
-IsNotOne (kept.Many bs) = Unit {0}
+module _ {T : Type 0} where
+  abbrev pub kept_data : StorageEntryData T → Kept T
+  kept_data slot.Empty = Empty
+  kept_data (slot.Data v readers l) = Live (Here v readers) l
+  kept_data (slot.Lent w l) = Live (Lent w) l
+
+  abbrev pub content_in : Kept T → Option (Content T)
+  content_in Empty = None
+  content_in (Live c l) = Some c
+
+  abbrev pub is_live : Kept T → Bool
+  is_live Empty = false
+  is_live (Live c l) = true
+
+  -- whether the slot has a live cell, and that cell this generation
+  abbrev pub valid_at : ℕ → Entry T → Bool
+  valid_at g e = nat_eq e.generation g && is_live e.kept
+
+  -- a reader at the end of the list
+  abbrev pub with_reader : Borrow → Kept T → Kept T
+  with_reader b (Live (Here v readers) l) = Live (Here v (readers ++ b ∷ [])) l
+  with_reader b other = other
+
+  -- the readers without the ticket's own
+  abbrev pub without_reader_in : ℕ → Kept T → Kept T
+  without_reader_in t (Live (Here v readers) l) =
+      Live (Here v (filter (λ r. not (nat_eq r.ticket t)) readers)) l
+  without_reader_in t other = other
+
+  -- the value, where the ticket is a reader's
+  abbrev pub value_for : ℕ → Option (Content T) → Option T
+  value_for t c = if has_reader c t then value_of c else None
+
+-- the locations of these readers, unless their list found no memory
+abbrev pub FoundReaders : List Borrow → Refused BorrowMutError → Type 0
+FoundReaders readers (refused.Borrow e) =
+    trouble_of e ≡ BeingRead (list_map (λ r. r.location) readers)
+FoundReaders readers (refused.Store OutOfMemory) = Unit {0}
+FoundReaders readers (refused.Store NumbersExhausted) = ⊥
+FoundReaders readers (refused.Store UnknownOwner) = ⊥
+
+-- readers stand in the way
+abbrev pub IsBeingRead : Option Trouble → Type 0
+IsBeingRead None = ⊥
+IsBeingRead (Some (Dropped l)) = ⊥
+IsBeingRead (Some (BeingRead ls)) = Unit {0}
+IsBeingRead (Some (BeingWritten l)) = ⊥
+
+-- a call that meets this trouble, or none, is answered so, unless its list found no memory
+abbrev pub FoundBorrowed : Option Trouble → Result (Unit {0}) (Refused BorrowMutError) → Type 0
+FoundBorrowed trouble (Ok u) = trouble ≡ None
+FoundBorrowed trouble (Err (refused.Borrow e)) = trouble ≡ Some (trouble_of e)
+FoundBorrowed trouble (Err (refused.Store OutOfMemory)) = IsBeingRead trouble
+FoundBorrowed trouble (Err (refused.Store NumbersExhausted)) = ⊥
+FoundBorrowed trouble (Err (refused.Store UnknownOwner)) = ⊥

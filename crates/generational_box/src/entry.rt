@@ -1,16 +1,17 @@
 //! What a slot keeps: its generation, and its cell with the borrows that stand there.
 
-ghost use Rattle.std.specs.Prelude.{◌≡◌, ◌≢◌, ◌∷◌, ◌++◌, [], IsTrue, ◌↔◌, IfOk, OnOk, OnErr, IsOk, Some, None, option_copied, option_map, map, not, nat_eq};
-ghost use Rattle.std.specs.List.{list_any, filter};
-ghost use Rattle.generational_box.specs.Entry.{readers_kept, IsKeptWell, IsNotOne};
+ghost use Rattle.std.specs.Prelude.{◌≡◌, ◌≢◌, []};
+ghost use Rattle.generational_box.specs.Entry.{FoundReaders};
+ghost use Rattle.generational_box.specs.declared.error.Refused.TheVariants as refused;
+ghost use Rattle.generational_box.specs.declared.error.BorrowMutError.TheVariants as writes;
 
 use crate::error::{
     AlreadyBorrowedError, AlreadyBorrowedMutError, BorrowMutError, BorrowMutResult, Location,
     Refused, StoreError,
 };
+use crate::readers::Readers;
 use std::alloc::{AllocError, Global};
 use std::marker::Model;
-use std::mem;
 
 /// A borrow that stands: its ticket, and the location where it was asked for.
 #[derive(Clone, Copy, Debug, PartialEq, Eq)]
@@ -19,177 +20,180 @@ pub(crate) struct Borrow {
     pub(crate) location: Location,
 }
 
-/// The readers of a cell, in the order in which they began. Contracts see them as that list.
-///
-/// The first one stands in place, so that a cell's first reader takes no memory.
+/// A slot: the generation of its last cell, and that cell while it is live.
 #[derive(Drop)]
-pub(crate) struct Readers {
-    kept: KeptReaders,
+pub(crate) struct StorageEntry<T> {
+    generation: u64,
+    data: StorageEntryData<T>,
 }
 
+/// A live cell with its borrows and the location at which it was made, or nothing.
 #[derive(Drop)]
-enum KeptReaders {
-    Nobody,
-    One(Borrow),
-    // never empty
-    Many(Vec<Borrow>),
+enum StorageEntryData<T> {
+    Empty,
+    Data(T, Readers, Location),
+    Lent(Borrow, Location),
 }
 
-impl Model for Readers {
-    ghost use Rattle.std.specs.Prelude.{List};
-    ghost use Rattle.generational_box.specs.declared.entry.Borrow.{Borrow};
-    ghost use Rattle.generational_box.specs.Entry.{readers_kept, IsKeptWell};
+impl<T> Model for StorageEntry<T> {
+    ghost use Rattle.generational_box.specs.Entry.{Entry, kept_data};
 
-    ghost Value = { List Borrow };
+    ghost Value = { Entry T };
 
-    ghost view = { λ r. readers_kept r.kept };
-
-    ghost invariant = { λ r. IsKeptWell r.kept };
+    ghost view = { λ e. record { generation = e.generation; kept = kept_data e.data } };
 }
 
-impl Readers {
-    // Nobody reads.
+impl<T> StorageEntry<T> {
+    ghost use Rattle.std.specs.Prelude.{◌≡◌, ◌<◌, ◌+◌, [], true, option_copied, option_map, OnOk, OnErr};
+    ghost use Rattle.generational_box.specs.Cells.Content.{Here, Lent};
+    ghost use Rattle.generational_box.specs.Borrowing.{read_refusal, write_refusal};
+    ghost use Rattle.generational_box.specs.Borrowing.Trouble.{BeingWritten};
+    ghost use Rattle.generational_box.specs.Machine.{has_reader};
+    ghost use Rattle.generational_box.specs.Steps.{has_readers};
+    ghost use Rattle.generational_box.specs.Entry.Kept.{Empty, Live};
+    ghost use Rattle.generational_box.specs.Entry.{content_in, valid_at, with_reader, without_reader_in, value_for, FoundBorrowed};
+
+    // The first cell of a slot.
     #[inline(always)]
-    fn new() -> Readers
-        ensures { result ≡ [] }
+    pub(crate) fn new(generation: u64, value: T, location: Location) -> StorageEntry<T>
+        ensures { result ≡ record { generation = generation; kept = Live (Here value []) location } }
     {
-        Readers {
-            kept: KeptReaders::Nobody,
+        StorageEntry {
+            generation,
+            data: StorageEntryData::Data(value, Readers::new(), location),
         }
     }
 
+    // The generation of the slot's last cell.
     #[inline(always)]
-    fn is_empty(&self) -> bool
-        ensures { IsTrue result ↔ (self.now ≡ []) }
+    pub(crate) fn generation(&self) -> u64
+        ensures { result ≡ self.now.generation }
     {
-        matches!(&self.kept, KeptReaders::Nobody)
+        self.generation
     }
 
-    // Adds a reader at the end. Only a reader beside another may lack memory, and then nothing
-    // changes.
+    // Whether the slot has a live cell, and that cell this generation.
     #[inline(always)]
-    fn push(&mut self, alloc: Global, borrow: Borrow) -> Result<(), AllocError>
-        ensures ok { OnOk result (self.new ≡ self.old ++ borrow ∷ []) }
-        ensures err { OnErr result (self.new ≡ self.old) }
-        ensures first { OnErr result (self.old ≢ []) }
+    pub(crate) fn valid(&self, generation: u64) -> bool
+        ensures { result ≡ valid_at generation self.now }
     {
-        if let KeptReaders::Nobody = &self.kept {
-            self.kept = KeptReaders::One(borrow);
-            return Ok(());
-        }
-        self.push_beside(alloc, borrow)
+        self.generation == generation && !matches!(&self.data, StorageEntryData::Empty)
     }
 
-    // Adds a reader beside others.
-    #[cold]
-    #[inline(never)]
-    fn push_beside(&mut self, alloc: Global, borrow: Borrow) -> Result<(), AllocError>
-        requires { self.old ≢ [] }
-        ensures ok { OnOk result (self.new ≡ self.old ++ borrow ∷ []) }
-        ensures err { OnErr result (self.new ≡ self.old) }
+    // The writer that stands in the way of a read.
+    #[inline(always)]
+    pub(crate) fn borrow_error(&self) -> Option<AlreadyBorrowedMutError>
+        ensures { option_map (λ e. BeingWritten e.borrowed_mut_at) result ≡ read_refusal (content_in self.now.kept) }
     {
-        match &mut self.kept {
-            KeptReaders::Nobody => unreachable!(),
-            KeptReaders::One(first) => {
-                let mut readers = Vec::with_capacity(alloc, 2)?;
-                readers.push_reserved(*first);
-                readers.push_reserved(borrow);
-                self.kept = KeptReaders::Many(readers);
-                Ok(())
-            }
-            KeptReaders::Many(readers) => {
-                readers.push(borrow)?;
-                Ok(())
+        match &self.data {
+            StorageEntryData::Data(_, _, _) | StorageEntryData::Empty => None,
+            StorageEntryData::Lent(writer, _) => {
+                Some(AlreadyBorrowedMutError::new(writer.location))
             }
         }
     }
 
-    // Whether a reader has the ticket.
+    // The borrows that stand in the way of a write or an end.
     #[inline(always)]
-    fn contains(&self, ticket: u64) -> bool
-        ensures { result ≡ list_any (λ r. nat_eq r.ticket ticket) self.now }
+    pub(crate) fn borrow_mut_error(&self, alloc: Global) -> BorrowMutResult<()>
+        ensures { FoundBorrowed (write_refusal (content_in self.now.kept)) result }
     {
-        match &self.kept {
-            KeptReaders::One(borrow) => borrow.ticket == ticket,
-            KeptReaders::Nobody => false,
-            KeptReaders::Many(readers) => has_ticket(readers.as_slice(), ticket),
+        match &self.data {
+            StorageEntryData::Data(_, readers, _) => {
+                if readers.is_empty() {
+                    return Ok(());
+                }
+                Err(readers_error(readers, alloc))
+            }
+            StorageEntryData::Empty => Ok(()),
+            StorageEntryData::Lent(writer, _) => Err(writer_error(writer)),
+        }
+    }
+
+    // Adds a reader to a cell that isn't lent. Only a reader beside another may lack memory, and
+    // then nothing changes.
+    #[inline(always)]
+    pub(crate) fn borrow(&mut self, alloc: Global, borrow: Borrow) -> Result<(), AllocError>
+        ensures ok { OnOk result (self.new ≡ record self.old { kept = with_reader borrow self.old.kept }) }
+        ensures err { OnErr result (self.new ≡ self.old) }
+        ensures first { OnErr result (has_readers (content_in self.old.kept) ≡ true) }
+    {
+        match &mut self.data {
+            StorageEntryData::Data(_, readers, _) => readers.push(alloc, borrow),
+            _ => Ok(()),
         }
     }
 
     // Takes the ticket's own reader away. The answer is whether there was one.
     #[inline(always)]
-    fn remove(&mut self, ticket: u64) -> bool
-        ensures known { result ≡ list_any (λ r. nat_eq r.ticket ticket) self.old }
-        ensures after { self.new ≡ filter (λ r. not (nat_eq r.ticket ticket)) self.old }
+    pub(crate) fn drop_borrow(&mut self, ticket: u64) -> bool
+        ensures known { result ≡ has_reader (content_in self.old.kept) ticket }
+        ensures after { self.new ≡ record self.old { kept = without_reader_in ticket self.old.kept } }
     {
-        match &mut self.kept {
-            KeptReaders::One(borrow) => {
-                let known = borrow.ticket == ticket;
-                if known {
-                    self.kept = KeptReaders::Nobody;
-                }
-                known
-            }
-            _ => remove_among(&mut self.kept, ticket),
+        match &mut self.data {
+            StorageEntryData::Data(_, readers, _) => readers.remove(ticket),
+            _ => false,
         }
     }
 
-    // Where the readers began, in order.
-    fn locations(&self, alloc: Global) -> Result<Vec<Location>, AllocError>
-        ensures { IfOk result (λ places. places.items ≡ map (λ r. r.location) self.now) }
+    // The value, where the reader stands.
+    #[inline(always)]
+    pub(crate) fn open(&self, ticket: u64) -> Option<&T>
+        ensures { option_copied result ≡ value_for ticket (content_in self.now.kept) }
     {
-        match &self.kept {
-            KeptReaders::Nobody => Ok(Vec::new(alloc)),
-            KeptReaders::One(borrow) => {
-                let mut places = Vec::with_capacity(alloc, 1)?;
-                places.push_reserved(borrow.location);
-                Ok(places)
-            }
-            KeptReaders::Many(readers) => {
-                readers
-                    .as_slice()
-                    .iter()
-                    .map(|borrow| borrow.location)
-                    .collect(alloc)
-            }
+        match &self.data {
+            StorageEntryData::Data(value, readers, _) if readers.contains(ticket) => Some(value),
+            _ => None,
         }
+    }
+
+    // Ends the cell.
+    #[inline(always)]
+    pub(crate) fn end(&mut self)
+    where
+        T: Drop,
+        ensures { self.new ≡ record self.old { kept = Empty } }
+    {
+        self.data = StorageEntryData::Empty;
+    }
+
+    // Puts a cell into a slot that has none, under the next generation, which is answered.
+    #[inline(always)]
+    pub(crate) fn refill(&mut self, value: T, location: Location) -> u64
+    where
+        T: Drop,
+        requires { self.old.generation < 18446744073709551615 }
+        ensures generation { result ≡ self.old.generation + 1 }
+        ensures filled { self.new ≡ record { generation = result; kept = Live (Here value []) location } }
+    {
+        self.generation += 1;
+        self.data = StorageEntryData::Data(value, Readers::new(), location);
+        self.generation
     }
 }
 
-// Whether a borrow has the ticket.
-fn has_ticket(readers: &[Borrow], ticket: u64) -> bool
-    ensures { result ≡ list_any (λ r. nat_eq r.ticket ticket) readers.now }
-{
-    readers.iter().any(|borrow| borrow.ticket == ticket)
-}
-
-// Takes the ticket's own reader away where there isn't just one.
+// The answer to a write or an end where these readers stand.
 #[cold]
 #[inline(never)]
-fn remove_among(kept: &mut KeptReaders, ticket: u64) -> bool
-    requires well { IsKeptWell kept.old }
-    requires several { IsNotOne kept.old }
-    ensures known { result ≡ list_any (λ r. nat_eq r.ticket ticket) (readers_kept kept.old) }
-    ensures after { readers_kept kept.new ≡ filter (λ r. not (nat_eq r.ticket ticket)) (readers_kept kept.old) }
-    ensures well { IsKeptWell kept.new }
+fn readers_error(readers: &Readers, alloc: Global) -> Refused<BorrowMutError>
+    requires { readers.now ≢ [] }
+    ensures { FoundReaders readers.now result }
 {
-    match kept {
-        KeptReaders::Nobody => false,
-        KeptReaders::One(_) => unreachable!(),
-        KeptReaders::Many(readers) => {
-            let known = has_ticket(readers.as_slice(), ticket);
-            remove_ticket(readers, ticket);
-            if readers.is_empty() {
-                *kept = KeptReaders::Nobody;
-            }
-            known
-        }
+    match readers.locations(alloc) {
+        Ok(borrowed_at) => Refused::Borrow(BorrowMutError::AlreadyBorrowed(
+            AlreadyBorrowedError::new(borrowed_at),
+        )),
+        Err(_) => Refused::Store(StoreError::OutOfMemory),
     }
 }
 
-// Takes away what has the ticket.
-fn remove_ticket(readers: &mut Vec<Borrow>, ticket: u64)
-    ensures { readers.new.items ≡ filter (λ r. not (nat_eq r.ticket ticket)) readers.old.items }
+// The answer to a write or an end where a writer stands.
+#[cold]
+#[inline(never)]
+fn writer_error(writer: &Borrow) -> Refused<BorrowMutError>
+    ensures { result ≡ refused.Borrow (writes.AlreadyBorrowedMut (record { borrowed_mut_at = writer.now.location })) }
 {
-    readers.retain(|borrow| borrow.ticket != ticket);
+    Refused::Borrow(BorrowMutError::AlreadyBorrowedMut(AlreadyBorrowedMutError::new(
+        writer.location,
+    )))
 }

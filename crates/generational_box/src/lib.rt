@@ -4,6 +4,7 @@
 mod boxes;
 mod entry;
 mod error;
+mod readers;
 mod references;
 mod session;
 mod storage;
