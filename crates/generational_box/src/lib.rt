@@ -4,6 +4,7 @@
 mod boxes;
 mod entry;
 mod error;
+mod pool;
 mod readers;
 mod references;
 mod session;

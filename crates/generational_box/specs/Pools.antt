@@ -1,0 +1,14 @@
+-- Lists of free slots.
+use Rattle.std.specs.Prelude.{◌≡◌, ◌<◌, ◌≤◌, ℕ, List, true, nat_eq}
+use Rattle.std.specs.List.{list_any, IsDistinct}
+
+-- a list of free slots, and for how many slots there is room
+pub record Pool : Type 0 where
+  pub slots : List ℕ
+  pub rooms : ℕ
+
+-- the slots differ, there is room for each, and the buffer has room for all
+pub record IsPool (slots : List ℕ) (rooms capacity : ℕ) : Type 0 where
+  pub distinct : IsDistinct nat_eq slots
+  pub below : (slot : ℕ) → list_any (nat_eq slot) slots ≡ true → slot < rooms
+  pub fits : rooms ≤ capacity

@@ -1,0 +1,108 @@
+//! Free slots.
+
+ghost use Rattle.std.specs.Prelude.{◌≡◌, ℕ, ◌+◌, ◌<◌, true, false, IfSome, IfNone, OnOk, OnErr};
+ghost use Rattle.std.specs.Ordering.{nat_cmp};
+ghost use Rattle.std.specs.FinSet as set;
+
+use crate::error::StoreError;
+use std::alloc::Global;
+use std::marker::Model;
+
+/// The numbers of the free slots, without repetition. Which of them `take` takes is the pool's own
+/// choice. The trait is implemented by this crate alone.
+pub trait SlotPool: Drop {
+    /// The free slots.
+    ghost members: { Self → set.FinSet nat_cmp };
+
+    /// For how many slots there is room: as many as `grow` answered Ok.
+    ghost rooms: { Self → ℕ };
+
+    /// A pool without slots and without room. Takes no memory.
+    fn new(alloc: Global) -> Self
+        ensures empty { members result ≡ set.empty }
+        ensures rooms { rooms result ≡ 0 };
+
+    /// Makes room for one more slot. The only refusal is `OutOfMemory`, and it changes nothing.
+    fn grow(&mut self) -> Result<(), StoreError>
+        ensures same { members self.new ≡ members self.old }
+        ensures ok { OnOk result (rooms self.new ≡ rooms self.old + 1) }
+        ensures err { OnErr result (rooms self.new ≡ rooms self.old) };
+
+    /// Takes a slot out: None exactly where there is none. Takes no memory.
+    fn take(&mut self) -> Option<usize>
+        ensures rooms { rooms self.new ≡ rooms self.old }
+        ensures member { IfSome result (λ slot. set.contains (members self.old) slot ≡ true) }
+        ensures taken { IfSome result (λ slot. members self.new ≡ set.remove (members self.old) slot) }
+        ensures none { IfNone result (members self.old ≡ set.empty) }
+        ensures unchanged { IfNone result (members self.new ≡ members self.old) };
+
+    /// Puts a slot in that isn't there, and for which room was made. Takes no memory.
+    fn put(&mut self, slot: usize)
+        requires room { slot < rooms self.old }
+        requires absent { set.contains (members self.old) slot ≡ false }
+        ensures rooms { rooms self.new ≡ rooms self.old }
+        ensures added { members self.new ≡ set.insert (members self.old) slot };
+
+    /// For how many slots there is room.
+    fn room(&self) -> usize
+        ensures { result ≡ rooms self.now };
+}
+
+/// Takes the slot that was put last. Contracts see it as the slots, the last one first, and the
+/// room.
+#[derive(Drop)]
+pub struct LastFirst {
+    slots: Vec<usize>,
+    room: usize,
+}
+
+impl Model for LastFirst {
+    ghost use Rattle.std.specs.Prelude.{vec_capacity, reverse};
+    ghost use Rattle.generational_box.specs.Pools.{Pool, IsPool};
+
+    ghost Value = { Pool };
+
+    ghost view = { λ p. record { slots = reverse p.slots.items; rooms = p.room } };
+
+    ghost invariant = { λ p. IsPool (reverse p.slots.items) p.room (vec_capacity p.slots) };
+}
+
+impl SlotPool for LastFirst {
+    ghost use Rattle.std.specs.FinSet as set;
+
+    ghost members = { λ p. set.from_list p.slots };
+
+    ghost rooms = { λ p. p.rooms };
+
+    fn new(alloc: Global) -> LastFirst {
+        LastFirst {
+            slots: Vec::new(alloc),
+            room: 0,
+        }
+    }
+
+    fn grow(&mut self) -> Result<(), StoreError> {
+        let more = self.room - self.slots.len() + 1;
+        if self.slots.reserve(more).is_err() {
+            return Err(StoreError::OutOfMemory);
+        }
+        self.room += 1;
+        Ok(())
+    }
+
+    #[inline(always)]
+    fn take(&mut self) -> Option<usize> {
+        let slot = self.slots.pop()?;
+        Some(slot)
+    }
+
+    #[inline(always)]
+    fn put(&mut self, slot: usize) {
+        self.slots.push_reserved(slot);
+    }
+
+    #[inline(always)]
+    fn room(&self) -> usize {
+        self.room
+    }
+}
