@@ -1,0 +1,9 @@
+pub mod Ends
+pub mod Filled
+pub mod Fresh
+pub mod Growing
+pub mod Maps
+pub mod Named
+pub mod SoundCalls
+pub mod Soundness
+pub mod Tickets
