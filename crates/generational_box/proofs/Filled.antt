@@ -17,7 +17,7 @@ use Rattle.generational_box.proofs.Maps.{changed_view}
 module _ {T : Type 0} where
   -- ---- another content in a cell
 
-  filled_view : (S : State T) (m : Name) (c : Content T) (q : Name)
+  pub filled_view : (S : State T) (m : Name) (c : Content T) (q : Name)
       → (map.get (filled S m c).cells q ≡ map.get S.cells q) ⊎ ((q ≡ m) × (x : Cell T)
       × (map.get S.cells q ≡ Some x) × (map.get (filled S m c).cells q ≡ Some (refilled c x)))
   filled_view S m c q = changed_view name_total name_exact S.cells m (refilled c) q

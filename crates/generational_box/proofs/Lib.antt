@@ -2,8 +2,10 @@ pub mod Ends
 pub mod Filled
 pub mod Fresh
 pub mod Growing
+pub mod Hindering
 pub mod Maps
 pub mod Named
 pub mod SoundCalls
 pub mod Soundness
+pub mod Staying
 pub mod Tickets
