@@ -3,9 +3,12 @@ pub mod Filled
 pub mod Fresh
 pub mod Growing
 pub mod Hindering
+pub mod Lasting
 pub mod Maps
 pub mod Named
+pub mod Saying
 pub mod SoundCalls
 pub mod Soundness
 pub mod Staying
+pub mod Stepping
 pub mod Tickets

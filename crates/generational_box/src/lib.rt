@@ -4,4 +4,5 @@
 mod boxes;
 mod entry;
 mod error;
+mod laws;
 mod session;
