@@ -1,6 +1,6 @@
 //! Laws of the machine, each the contract of a function that does nothing.
 
-ghost use Rattle.std.specs.Prelude.{◌≡◌, true, ℕ, Some};
+ghost use Rattle.std.specs.Prelude.{◌≡◌, ◌≤◌, ◌+◌, true, ℕ, Some};
 ghost use Rattle.std.specs.FinMap as map;
 ghost use Rattle.generational_box.specs.declared.boxes.GenerationalPointer.{GenerationalPointer};
 ghost use Rattle.generational_box.specs.Names.{Name};
@@ -11,6 +11,8 @@ ghost use Rattle.generational_box.specs.Borrowing.{read_trouble, write_trouble};
 ghost use Rattle.generational_box.specs.Borrowing.Trouble.{Dropped};
 ghost use Rattle.generational_box.specs.Machine.{Action, Answer};
 ghost use Rattle.generational_box.specs.Steps.{Meets};
+ghost use Rattle.generational_box.specs.Slots.{slots, retired};
+ghost use Rattle.generational_box.specs.Bounds.{IsBounded};
 
 /// A state in which nothing was made is sound, and each call leads from a sound state to a sound
 /// one.
@@ -37,4 +39,13 @@ pub fn shared_values_live_by_references<T>()
         IsSound S → is_shared (map.get S.cells m) ≡ true → IsNamed S.cells m }
     ensures live { (S : State T) (m : Name) →
         IsSound S → IsNamed S.cells m → is_shared (map.get S.cells m) ≡ true }
+{}
+
+/// A store never has more slots than there were live cells at once, and slots whose generations
+/// are used up.
+pub fn slots_are_bounded<T>()
+    ensures fresh { (number start next : ℕ) → IsBounded (fresh {T = T} number start next) }
+    ensures step { (S R : State T) (call : Action T) (answer : Answer T) →
+        IsSound S → IsBounded S → Meets S call answer R → IsBounded R }
+    ensures few { (S : State T) → IsBounded S → slots S ≤ S.peak + retired S }
 {}
