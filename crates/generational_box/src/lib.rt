@@ -4,6 +4,7 @@
 mod boxes;
 mod entry;
 mod error;
+mod laws;
 mod pool;
 mod readers;
 mod references;

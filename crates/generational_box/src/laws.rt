@@ -1,0 +1,51 @@
+//! Laws of the machine, each the contract of a function that does nothing.
+
+ghost use Rattle.std.specs.Prelude.{◌≡◌, ◌≤◌, ◌+◌, true, ℕ, Some};
+ghost use Rattle.std.specs.FinMap as map;
+ghost use Rattle.generational_box.specs.declared.boxes.GenerationalPointer.{GenerationalPointer};
+ghost use Rattle.generational_box.specs.Names.{Name};
+ghost use Rattle.generational_box.specs.Cells.{is_shared};
+ghost use Rattle.generational_box.specs.State.{State, IsSound, IsEnded, IsNamed, fresh};
+ghost use Rattle.generational_box.specs.Boxes.{name_of};
+ghost use Rattle.generational_box.specs.Borrowing.{read_trouble, write_trouble};
+ghost use Rattle.generational_box.specs.Borrowing.Trouble.{Dropped};
+ghost use Rattle.generational_box.specs.Machine.{Action, Answer};
+ghost use Rattle.generational_box.specs.Steps.{Meets};
+ghost use Rattle.generational_box.specs.Slots.{slots, retired};
+ghost use Rattle.generational_box.specs.Bounds.{IsBounded};
+
+/// A state in which nothing was made is sound, and each call leads from a sound state to a sound
+/// one.
+pub fn steps_are_sound<T>()
+    ensures fresh { (number start next : ℕ) → IsSound (fresh {T = T} number start next) }
+    ensures step { (S R : State T) (call : Action T) (answer : Answer T) →
+        IsSound S → Meets S call answer R → IsSound R }
+{}
+
+/// A name that has ended is never live again, and a box of such a name is answered that its value
+/// is gone, with the box's own location.
+pub fn ended_names_stay_ended<T>()
+    ensures step { (S R : State T) (call : Action T) (answer : Answer T) (n : Name) →
+        Meets S call answer R → IsEnded S n → IsEnded R n }
+    ensures read { (S : State T) (b : GenerationalPointer) →
+        IsEnded S (name_of b) → read_trouble S b ≡ Some (Dropped b.created_at) }
+    ensures write { (S : State T) (b : GenerationalPointer) →
+        IsEnded S (name_of b) → write_trouble S b ≡ Some (Dropped b.created_at) }
+{}
+
+/// In a sound state, a shared value is live exactly while a live Ref names it.
+pub fn shared_values_live_by_references<T>()
+    ensures named { (S : State T) (m : Name) →
+        IsSound S → is_shared (map.get S.cells m) ≡ true → IsNamed S.cells m }
+    ensures live { (S : State T) (m : Name) →
+        IsSound S → IsNamed S.cells m → is_shared (map.get S.cells m) ≡ true }
+{}
+
+/// A store never has more slots than there were live cells at once, and slots whose generations
+/// are used up.
+pub fn slots_are_bounded<T>()
+    ensures fresh { (number start next : ℕ) → IsBounded (fresh {T = T} number start next) }
+    ensures step { (S R : State T) (call : Action T) (answer : Answer T) →
+        IsSound S → IsBounded S → Meets S call answer R → IsBounded R }
+    ensures few { (S : State T) → IsBounded S → slots S ≤ S.peak + retired S }
+{}
