@@ -13,12 +13,12 @@ use Rattle.generational_box.specs.Slots.{lasts}
 use Rattle.generational_box.proofs.Maps.{name_exact, name_total, key_same, key_here, key_cases}
 use Rattle.generational_box.proofs.Maps.{get-insert_here, get-insert_apart}
 
-abbrev IsIn : List Name → Name → Type 0
+abbrev pub IsIn : List Name → Name → Type 0
 IsIn names n = list_any (eq_by_cmp name_cmp n) names ≡ true
 
 -- what the map has of a slot: nothing, and then no name is of that slot, or a name's generation
 -- that no other exceeds
-abbrev IsLast : List Name → ℕ → Option ℕ → Type 0
+abbrev pub IsLast : List Name → ℕ → Option ℕ → Type 0
 IsLast names s None = (n : Name) → IsIn names n → n.slot ≢ s
 IsLast names s (Some g) = IsIn names (record { slot = s; generation = g })
     × ((n : Name) → IsIn names n → n.slot ≡ s → n.generation ≤ g)
@@ -70,7 +70,7 @@ other_slot m names s (Some g) ne h = (
       (ne (sym is ∙ ap (λ (x : Name). x.slot) e))) (λ old. h.1 n old is) (in_cases n m names i),
 )
 
-get_lasts : (names : List Name) (s : ℕ) → IsLast names s (map.get (lasts names) s)
+pub get_lasts : (names : List Name) (s : ℕ) → IsLast names s (map.get (lasts names) s)
 unfolding lasts
 get_lasts [] s = subst (IsLast [] s) (sym (map.get-empty nat_cmp s)) (λ n i is. true≢false (sym i))
 get_lasts (m ∷ names) s =
@@ -86,7 +86,7 @@ get_lasts (m ∷ names) s =
     (key_cases nat_cmp_total map.nat_cmp-IsAntisymmetric s m.slot)
 
 -- two lists with the same names have the same last generations
-one_last : (xs ys : List Name) (s : ℕ)
+pub one_last : (xs ys : List Name) (s : ℕ)
     → ((n : Name) → IsIn xs n → IsIn ys n) → ((n : Name) → IsIn ys n → IsIn xs n)
     → (o p : Option ℕ) → IsLast xs s o → IsLast ys s p → o ≡ p
 one_last xs ys s f b None None h k = refl

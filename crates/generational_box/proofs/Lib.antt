@@ -1,6 +1,8 @@
 pub mod ActBounded
 pub mod BoundSteps
 pub mod Bounding
+pub mod CallEnds
+pub mod Calls
 pub mod Ends
 pub mod Filled
 pub mod Fresh
@@ -13,7 +15,16 @@ pub mod Maps
 pub mod Named
 pub mod PoolLemmas
 pub mod Saying
+pub mod SliceGet
+pub mod SlotBorrows
 pub mod SlotBound
+pub mod SlotCells
+pub mod SlotCounts
+pub mod SlotEnds
+pub mod SlotFound
+pub mod SlotMakings
+pub mod SlotNames
+pub mod SlotStates
 pub mod SoundCalls
 pub mod Soundness
 pub mod Staying

@@ -1,6 +1,7 @@
 //! Ids, pointers and boxes.
 
 ghost use Rattle.std.specs.Prelude.{◌≡◌, Some};
+ghost use Rattle.generational_box.specs.Boxes.{box_of};
 ghost use Rattle.generational_box.specs.Texts.{id_text};
 
 use crate::error::Location;
@@ -14,13 +15,14 @@ use std::marker::PhantomData;
 /// good, also when the cell has ended.
 #[derive(Clone, Copy, PartialEq, Eq, Hash)]
 pub struct GenerationalBoxId {
-    store: u64,
-    slot: usize,
-    generation: u64,
+    pub(crate) store: u64,
+    pub(crate) slot: usize,
+    pub(crate) generation: u64,
 }
 
 impl GenerationalBoxId {
     // The id of a slot of a store at a generation.
+    #[inline(always)]
     pub(crate) fn new(store: u64, slot: usize, generation: u64) -> GenerationalBoxId
         ensures { result ≡ record { store = store; slot = slot; generation = generation } }
     {
@@ -46,8 +48,26 @@ impl fmt::Debug for GenerationalBoxId {
 /// The location takes no part in equality.
 #[derive(Clone, Copy)]
 pub struct GenerationalPointer {
-    id: GenerationalBoxId,
-    created_at: Location,
+    pub(crate) id: GenerationalBoxId,
+    pub(crate) created_at: Location,
+}
+
+impl GenerationalPointer {
+    // The box of a slot of a store at a generation.
+    #[inline(always)]
+    pub(crate) fn new(
+        store: u64,
+        slot: usize,
+        generation: u64,
+        created_at: Location,
+    ) -> GenerationalPointer
+        ensures { result ≡ box_of store (record { slot = slot; generation = generation }) created_at }
+    {
+        GenerationalPointer {
+            id: GenerationalBoxId::new(store, slot, generation),
+            created_at,
+        }
+    }
 }
 
 /// Equal if the ids are, wherever the two were made.

@@ -10,3 +10,4 @@ mod readers;
 mod references;
 mod session;
 mod storage;
+mod unsync;

@@ -1,0 +1,270 @@
+-- The calls of a store whose cells are Values, as steps of the machine.
+use Rattle.std.proofs.Common.{◌≡◌, ◌≢◌, ℕ, ◌+◌, ◌-◌, ◌^◌, ◌<◌, Bool, true, false, cond, ◌&&◌, List, [], ◌∷◌}
+use Rattle.std.proofs.Common.{Option, None, Some, refl, sym, ap, subst, ◌∙◌, arith, inl, inr, ⊎_elim}
+use Rattle.std.specs.Prelude.{is_some, not, nat_eq, ◌||◌}
+use Rattle.std.specs.List.{list_any, filter}
+use Rattle.std.proofs.lemmas.Bool.{true≢false, false≢true, eq-eqb, eqb-true, ne_eqb}
+use Rattle.std.specs.FinMap as map
+use Rattle.generational_box.specs.declared.error.Location.{Location}
+use Rattle.generational_box.specs.declared.error.StoreError.TheVariants.{OutOfMemory, NumbersExhausted}
+use Rattle.generational_box.specs.declared.entry.Borrow.{Borrow}
+use Rattle.generational_box.specs.declared.boxes.GenerationalBoxId.{GenerationalBoxId}
+use Rattle.generational_box.specs.declared.boxes.GenerationalPointer.{GenerationalPointer}
+use Rattle.generational_box.specs.Names.{Name, is_name, among, NameMap, changed}
+use Rattle.generational_box.specs.Cells.{Content, Cell, content_of, is_shared, refilled}
+use Rattle.generational_box.specs.Cells.Content.{Here, Lent}
+use Rattle.generational_box.specs.Cells.Cell.{Value, Shared, Ref}
+use Rattle.generational_box.specs.Boxes.{name_of, name_in}
+use Rattle.generational_box.specs.State.{State}
+use Rattle.generational_box.specs.Borrowing.{Trouble, Guard, reach, reached, read_trouble, read_refusal, write_refusal, content_at, filled}
+use Rattle.generational_box.specs.Borrowing.Trouble.{Dropped, BeingRead}
+use Rattle.generational_box.specs.Ending.{swept, without, left_by, close, hindered}
+use Rattle.generational_box.specs.Machine.{act, read_at, next_guard, contents, own_name, own_cell, knows_reader, has_reader, without_reader, unless, Outcome}
+use Rattle.generational_box.specs.Machine.Action.{Read, ReleaseReader, End}
+use Rattle.generational_box.specs.Machine.Answer.{Reads, Done, Flag, Troubled, Refused}
+use Rattle.generational_box.specs.Steps.{Meets, limited, no_names, has_readers, is_reader, is_being_read, answer_to, may_lack}
+use Rattle.generational_box.specs.Entry.{Kept, content_in, is_live}
+use Rattle.generational_box.specs.Entry.Kept.{Empty, Live}
+use Rattle.generational_box.specs.Slotted.{own_cell_at, cell_of}
+use Rattle.generational_box.proofs.Maps.{name_exact, name_total, name_here, name_same, get-keep, changed_view}
+
+-- a list without the ticket stays as it is
+nothing_left : (t : ℕ) (rs : List Borrow) → list_any (λ r. nat_eq r.ticket t) rs ≡ false
+    → filter (λ r. not (nat_eq r.ticket t)) rs ≡ rs
+nothing_left t [] h = refl
+nothing_left t (r ∷ rs) h = at (nothing_left t rs) (nat_eq r.ticket t) h
+  where
+    at : (list_any (λ r. nat_eq r.ticket t) rs ≡ false → filter (λ r. not (nat_eq r.ticket t)) rs ≡ rs)
+        → (b : Bool) → (b || list_any (λ r. nat_eq r.ticket t) rs) ≡ false
+        → cond (not b) (r ∷ filter (λ r. not (nat_eq r.ticket t)) rs) (filter (λ r. not (nat_eq r.ticket t)) rs) ≡ r ∷ rs
+    at rest true h = absurd (true≢false h)
+    at rest false h = ap (λ xs. r ∷ xs) (rest h)
+
+module _ {T : Type 0} where
+  -- ---- reads
+
+  -- a box whose cell is live is of this store
+  own_store : (S : State T) (b : GenerationalPointer) (x : Cell T) → own_cell_at S b.id ≡ Some x
+      → b.id.store ≡ S.number
+  own_store S b x is = at (nat_eq b.id.store S.number) refl is
+    where
+      at : (own : Bool) → nat_eq b.id.store S.number ≡ own → cond own (map.get S.cells (name_of b)) None ≡ Some x → b.id.store ≡ S.number
+      at true h e = eqb-true b.id.store S.number h
+      at false h e = cc
+
+  -- what a box of a Value reaches, and how a read of it is answered
+  reach_is : (S : State T) (b : GenerationalPointer) (o : Option (Cell T)) → own_cell_at S b.id ≡ o
+      → reach S b ≡ reached o (name_of b)
+  unfolding reach
+  reach_is S b o is = at (nat_eq b.id.store S.number) refl ∙ ap (λ c. reached c (name_of b)) is
+    where
+      at : (own : Bool) → nat_eq b.id.store S.number ≡ own
+          → cond own (reached (map.get S.cells (name_of b)) (name_of b)) None
+          ≡ reached (cond own (map.get S.cells (name_of b)) None) (name_of b)
+      at true h = refl
+      at false h = refl
+
+  own_content : (S : State T) (b : GenerationalPointer) (c : Content T) (k : Location)
+      → own_cell_at S b.id ≡ Some (Value c k) → content_at S (name_of b) ≡ Some c
+  own_content S b c k is = at (nat_eq b.id.store S.number) is
+    where
+      at : (own : Bool) → cond own (map.get S.cells (name_of b)) None ≡ Some (Value c k)
+          → content_of (map.get S.cells (name_of b)) ≡ Some c
+      at true e = ap content_of e
+      at false e = cc
+
+  trouble_gone : (S : State T) (b : GenerationalPointer) → own_cell_at S b.id ≡ None
+      → read_trouble S b ≡ Some (Dropped b.created_at)
+  unfolding read_trouble
+  trouble_gone S b is = rw (reach_is S b None is) refl
+
+  trouble_here : (S : State T) (b : GenerationalPointer) (c : Content T) (k : Location)
+      → own_cell_at S b.id ≡ Some (Value c k) → read_trouble S b ≡ read_refusal (Some c)
+  unfolding read_trouble
+  trouble_here S b c k is =
+      rw (reach_is S b (Some (Value c k)) is) (ap read_refusal (own_content S b c k is))
+
+  -- a read's outcome
+  read_is : (S : State T) (b : GenerationalPointer) (l : Location) (o : Option Trouble)
+      → read_trouble S b ≡ o
+      → act S (Read b l) no_names ≡ unless o S (read_at S l (reach S b) (contents S (reach S b)))
+  read_is S b l o is = ap (λ t. unless t S (read_at S l (reach S b) (contents S (reach S b)))) is
+
+  -- a box that names no live cell of this store
+  pub read_gone : (S : State T) (b : GenerationalPointer) (l : Location) → own_cell_at S b.id ≡ None
+      → Meets S (Read b l) (Troubled (Dropped b.created_at)) S
+  read_gone S b l is =
+      inl (no_names, tt, sym (ap (limited S) (read_is S b l (Some (Dropped b.created_at)) (trouble_gone S b is))))
+
+  -- a writer stands in the way
+  pub read_lent : (S : State T) (b : GenerationalPointer) (l : Location) (c : Content T) (k : Location) (t : Trouble)
+      → own_cell_at S b.id ≡ Some (Value c k) → read_refusal (Some c) ≡ Some t
+      → Meets S (Read b l) (Troubled t) S
+  read_lent S b l c k t is lent =
+      inl (no_names, tt, sym (ap (limited S) (read_is S b l (Some t) (trouble_here S b c k is ∙ lent))))
+
+  -- a read that may begin
+  read_free : (S : State T) (b : GenerationalPointer) (l : Location) (v : T) (rs : List Borrow) (k : Location)
+      → own_cell_at S b.id ≡ Some (Value (Here v rs) k)
+      → act S (Read b l) no_names ≡ read_at S l (Some (name_of b)) (Some (Here v rs))
+  read_free S b l v rs k is =
+      read_is S b l None (trouble_here S b (Here v rs) k is)
+      ∙ (ap (λ n. read_at S l n (contents S n)) (reach_is S b (Some (Value (Here v rs) k)) is)
+      ∙ ap (read_at S l (Some (name_of b))) (own_content S b (Here v rs) k is))
+
+  pub read_begins : (S R : State T) (b : GenerationalPointer) (l : Location) (c : Content T) (k : Location)
+      → own_cell_at S b.id ≡ Some (Value c k) → read_refusal (Some c) ≡ None → S.next < 2 ^ 64 - 1
+      → R ≡ (read_at S l (Some (name_of b)) (content_at S (name_of b))).1
+      → Meets S (Read b l) (Reads (next_guard S (name_of b))) R
+  read_begins S R b l (Here v rs) k is free below after =
+      inl (
+        no_names,
+        tt,
+        sym (ap (limited S) (read_free S b l v rs k is)
+            ∙ (rw (ne_eqb S.next (2 ^ 64 - 1) (λ e. omega arith))
+            (λ i. (Reads (next_guard S (name_of b)), (sym (ap (λ o. (read_at S l (Some (name_of b)) o).1) (own_content S b (Here v rs) k is)) ∙ sym after) i)))),
+      )
+  read_begins S R b l (Lent w) k is free below after = cc
+
+  pub read_exhausted : (S : State T) (b : GenerationalPointer) (l : Location) (c : Content T) (k : Location)
+      → own_cell_at S b.id ≡ Some (Value c k) → read_refusal (Some c) ≡ None → S.next ≡ 2 ^ 64 - 1
+      → Meets S (Read b l) (Refused NumbersExhausted) S
+  read_exhausted S b l (Here v rs) k is free last =
+      inl (
+        no_names,
+        tt,
+        sym (ap (limited S) (read_free S b l v rs k is)
+            ∙ rw (eq-eqb S.next (2 ^ 64 - 1) last) refl),
+      )
+  read_exhausted S b l (Lent w) k is free last = cc
+
+  pub read_lacks : (S : State T) (b : GenerationalPointer) (l : Location) (c : Content T) (k : Location)
+      → own_cell_at S b.id ≡ Some (Value c k) → read_refusal (Some c) ≡ None → S.next < 2 ^ 64 - 1
+      → has_readers (Some c) ≡ true → Meets S (Read b l) (Refused OutOfMemory) S
+  read_lacks S b l (Here v rs) k is free below beside =
+      inr (
+        (λ i. is_reader (answers i) && has_readers (there i)) ∙ rw beside refl,
+        refl,
+        refl,
+      )
+    where
+      answers : answer_to S (Read b l) ≡ Reads (next_guard S (name_of b))
+      answers =
+          ap (λ out. (limited S out).0) (read_free S b l v rs k is)
+          ∙ rw (ne_eqb S.next (2 ^ 64 - 1) (λ e. omega arith)) refl
+
+      there : contents S (reach S b) ≡ Some (Here v rs)
+      there =
+          ap (contents S) (reach_is S b (Some (Value (Here v rs) k)) is)
+          ∙ own_content S b (Here v rs) k is
+  read_lacks S b l (Lent w) k is free below beside = cc
+
+  -- ---- releases
+
+  -- a content that stands there already
+  filled_own : (S : State T) (n : Name) (c : Content T) → content_at S n ≡ Some c → filled S n c ≡ S
+  filled_own S n c is = λ i. record S { cells = same i }
+    where
+      kept : (x : Cell T) → content_of (Some x) ≡ Some c → refilled c x ≡ x
+      kept (Value d l) e = cc
+      kept (Shared d l) e = cc
+      kept (Ref m l) e = refl
+
+      same : changed S.cells n (refilled c) ≡ S.cells
+      same = map.same_map name_total name_exact _ _ (λ q.
+          ⊎_elim (λ e. e)
+          (λ e. e.3 ∙ (ap Some (kept e.1 (sym (ap content_of (sym (ap (map.get S.cells) e.0) ∙ e.2)) ∙ is)) ∙ sym e.2))
+          (changed_view name_total name_exact S.cells n (refilled c) q))
+
+  unread : (S : State T) (n : Name) (t : ℕ) (o : Option (Content T)) → content_at S n ≡ o
+      → has_reader o t ≡ false → without_reader S n t o ≡ S
+  unread S n t None is h = refl
+  unread S n t (Some (Here v rs)) is h =
+      ap (λ xs. filled S n (Here v xs)) (nothing_left t rs h) ∙ filled_own S n (Here v rs) is
+  unread S n t (Some (Lent w)) is h = refl
+
+  -- a guard of this store, where the answer is whether its reader stood
+  pub released : (S R : State T) (g : Guard) (known : Bool) → nat_eq g.store S.number ≡ true
+      → known ≡ has_reader (content_at S g.cell) g.ticket
+      → R ≡ without_reader S g.cell g.ticket (content_at S g.cell)
+      → Meets S (ReleaseReader g) (Flag known) R
+  released S R g true own is after =
+      inl (no_names, tt, sym (rw (own, ← is) (λ i. (Flag true, sym after i))))
+  released S R g false own is after =
+      inl (no_names, tt, sym (rw (own, ← is) (λ i. (Flag false, (sym (unread S g.cell g.ticket (content_at S g.cell) refl (sym is)) ∙ sym after) i))))
+
+  -- a guard whose cell isn't live in this store
+  pub release_gone : (S : State T) (g : Guard) (id : GenerationalBoxId) → g ≡ record { store = id.store; cell = name_in id; ticket = g.ticket }
+      → own_cell_at S id ≡ None → Meets S (ReleaseReader g) (Flag false) S
+  release_gone S g id same is =
+      inl (no_names, tt, sym (rw unknown refl))
+    where
+      at : (own : Bool) → cond own (map.get S.cells (name_in id)) None ≡ None
+          → (own && has_reader (content_of (map.get S.cells (name_in id))) g.ticket) ≡ false
+      at true e = rw e refl
+      at false e = refl
+
+      unknown : knows_reader S g ≡ false
+      unknown =
+          ap (λ (x : Guard). nat_eq x.store S.number && has_reader (content_at S x.cell) g.ticket) same
+          ∙ at (nat_eq id.store S.number) is
+
+-- ---- the same, by what a slot keeps
+
+module _ {T : Type 0} (S : State T) (b : GenerationalPointer) (l : Location) where
+  -- the answer to a read, where the slot was found
+  pub read_by_kept : (k : Kept T) → own_cell_at S b.id ≡ cell_of k → is_live k ≡ true
+      → (t : Trouble) → Some t ≡ read_refusal (content_in k) → Meets S (Read b l) (Troubled t) S
+  read_by_kept Empty cell live t lent = absurd (false≢true live)
+  read_by_kept (Live c k) cell live t lent = read_lent S b l c k t cell (sym lent)
+
+  pub exhausted_by_kept : (k : Kept T) → own_cell_at S b.id ≡ cell_of k → is_live k ≡ true
+      → None ≡ read_refusal (content_in k) → S.next ≡ 2 ^ 64 - 1
+      → Meets S (Read b l) (Refused NumbersExhausted) S
+  exhausted_by_kept Empty cell live free last = absurd (false≢true live)
+  exhausted_by_kept (Live c k) cell live free last = read_exhausted S b l c k cell (sym free) last
+
+  pub begun_by_kept : (R : State T) (g : Guard) (t : ℕ) (k : Kept T) → own_cell_at S b.id ≡ cell_of k → is_live k ≡ true
+      → None ≡ read_refusal (content_in k) → S.next < 2 ^ 64 - 1
+      → g ≡ record { store = b.id.store; cell = name_of b; ticket = t } → t ≡ S.next
+      → R ≡ (read_at S l (Some (name_of b)) (content_at S (name_of b))).1
+      → Meets S (Read b l) (Reads g) R
+  begun_by_kept R g t Empty cell live free below is next after = absurd (false≢true live)
+  begun_by_kept R g t (Live c k) cell live free below is next after =
+      subst (λ x. Meets S (Read b l) (Reads x) R)
+      (sym (is ∙ (λ i. record { store = own_store S b (Value c k) cell i; cell = name_of b; ticket = next i })))
+      (read_begins S R b l c k cell (sym free) below after)
+
+  pub lacks_by_kept : (R : State T) (k : Kept T) → own_cell_at S b.id ≡ cell_of k → is_live k ≡ true
+      → None ≡ read_refusal (content_in k) → S.next < 2 ^ 64 - 1
+      → has_readers (content_at S (name_of b)) ≡ true → R ≡ S
+      → Meets S (Read b l) (Refused OutOfMemory) R
+  lacks_by_kept R Empty cell live free below beside same = absurd (false≢true live)
+  lacks_by_kept R (Live c k) cell live free below beside same =
+      rw same (read_lacks S b l c k cell (sym free) below (sym (ap has_readers (own_content S b c k cell)) ∙ beside))
+
+module _ {T : Type 0} (S : State T) (g : Guard) (id : GenerationalBoxId) (t : ℕ)
+    (same : g ≡ record { store = id.store; cell = name_in id; ticket = t }) where
+  pub released_by_kept : (R : State T) (known : Bool) (k : Kept T) → own_cell_at S id ≡ cell_of k → is_live k ≡ true
+      → known ≡ has_reader (content_at S (name_in id)) t
+      → R ≡ without_reader S (name_in id) t (content_at S (name_in id))
+      → Meets S (ReleaseReader g) (Flag known) R
+  released_by_kept R known Empty cell live is after = absurd (false≢true live)
+  released_by_kept R known (Live c k) cell live is after =
+      rw same (released S R guard known (eq-eqb id.store S.number (own_store S box (Value c k) cell)) is after)
+    where
+      guard : Guard
+      guard = record { store = id.store; cell = name_in id; ticket = t }
+
+      box : GenerationalPointer
+      box = record { id = id; created_at = k }
+
+  pub release_of_gone : own_cell_at S id ≡ None → Meets S (ReleaseReader g) (Flag false) S
+  release_of_gone is = rw same (release_gone S guard id refl is)
+    where
+      guard : Guard
+      guard = record { store = id.store; cell = name_in id; ticket = t }
+
+module _ {T : Type 0} where
+  pub next_of : {R S : State T} → R ≡ S → R.next ≡ S.next
+  next_of e = ap (λ (X : State T). X.next) e

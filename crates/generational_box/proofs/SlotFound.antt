@@ -1,0 +1,130 @@
+-- The slot of a live cell, and what a change of its content is in the machine.
+use Rattle.std.proofs.Common.{◌≡◌, ◌≢◌, ℕ, ◌+◌, ◌<◌, Bool, true, false, cond, ◌&&◌, List, [], ◌∷◌, ◌++◌, length}
+use Rattle.std.proofs.Common.{Option, None, Some, IsSome, IfSome, refl, sym, ap, subst, ◌∙◌, arith, ⊎_elim, slice_get, slice_set}
+use Rattle.std.specs.Prelude.{is_some, not, nat_eq, option_copied}
+use Rattle.std.specs.List.{list_any, filter}
+use Rattle.std.specs.Cmp.{nat_eq_equiv}
+use Rattle.std.proofs.lemmas.Bool.{true≢false, false≢true, eqb-true, eq-eqb, and_parts}
+use Rattle.std.proofs.lemmas.Option.{slice_get_within}
+use Rattle.std.specs.FinMap as map
+use Rattle.generational_box.specs.declared.error.Location.{Location}
+use Rattle.generational_box.specs.declared.entry.Borrow.{Borrow}
+use Rattle.generational_box.specs.declared.boxes.GenerationalBoxId.{GenerationalBoxId}
+use Rattle.generational_box.specs.Names.{Name, changed}
+use Rattle.generational_box.specs.Cells.{Content, Cell, content_of, refilled}
+use Rattle.generational_box.specs.Cells.Content.{Here, Lent}
+use Rattle.generational_box.specs.Cells.Cell.{Value}
+use Rattle.generational_box.specs.Boxes.{name_in}
+use Rattle.generational_box.specs.State.{State}
+use Rattle.generational_box.specs.Borrowing.{content_at, filled, stamped}
+use Rattle.generational_box.specs.Machine.{read_at, next_borrow, has_reader, without_reader}
+use Rattle.generational_box.specs.Entry.{Entry, Kept, is_live, valid_at, with_reader, without_reader_in, content_in}
+use Rattle.generational_box.specs.Entry.Kept.{Empty, Live}
+use Rattle.generational_box.specs.Slotted.{cell_of, cell_in, cells_of, given_of, state_of, entry_in, entry_changed, cell_found, own_cell_at, is_here}
+use Rattle.generational_box.proofs.SlotCells.{get_cells, get_own, cells-changed}
+use Rattle.generational_box.proofs.SlotNames.{given-set}
+
+module _ {T : Type 0} where
+  -- the look-up of an id in the slots is the machine's
+  pub entry_cell : (g : ℕ) (o : Option (Entry T)) → cell_found (entry_in g o) ≡ cell_in o g
+  entry_cell g None = refl
+  entry_cell g (Some e) = rw (← nat_eq_equiv.symm e.generation g) (at (nat_eq e.generation g) e.kept)
+    where
+      at : (b : Bool) (k : Kept T)
+          → cell_found (cond (b && is_live k) (Some (record e { kept = k })) None) ≡ cond b (cell_of k) None
+      at true Empty = refl
+      at true (Live c l) = refl
+      at false k = refl
+
+  -- The slot of a live cell.
+  pub record IsFound (number : ℕ) (slots : List (Entry T)) (id : GenerationalBoxId) : Type 0 where
+    pub store : id.store ≡ number
+    pub entry : Entry T
+    pub there : slice_get slots id.slot ≡ Some entry
+    pub generation : id.generation ≡ entry.generation
+    pub content : Content T
+    pub created : Location
+    pub live : entry.kept ≡ Live content created
+
+  found_kept : (number : ℕ) (slots : List (Entry T)) (id : GenerationalBoxId) (e : Entry T)
+      → id.store ≡ number → slice_get slots id.slot ≡ Some e → id.generation ≡ e.generation
+      → (k : Kept T) → e.kept ≡ k → is_some (cell_of k) ≡ true → IsFound number slots id
+  found_kept number slots id e store there generation Empty is h = absurd (false≢true h)
+  found_kept number slots id e store there generation (Live c l) is h = record {
+    store = store;
+    entry = e;
+    there = there;
+    generation = generation;
+    content = c;
+    created = l;
+    live = is;
+  }
+
+  found_in : (number : ℕ) (slots : List (Entry T)) (id : GenerationalBoxId) → id.store ≡ number
+      → (o : Option (Entry T)) → slice_get slots id.slot ≡ o
+      → is_some (cell_in o id.generation) ≡ true → IsFound number slots id
+  found_in number slots id store None there h = absurd (false≢true h)
+  found_in number slots id store (Some e) there h = at (nat_eq id.generation e.generation) refl h
+    where
+      at : (b : Bool) → nat_eq id.generation e.generation ≡ b
+          → is_some (cond b (cell_of e.kept) None) ≡ true → IsFound number slots id
+      at true same live =
+          found_kept number slots id e store there (eqb-true id.generation e.generation same) e.kept refl live
+      at false same live = absurd (false≢true live)
+
+  -- a live cell has a slot
+  pub found : {S : State T} (number start next peak : ℕ) (slots : List (Entry T)) (id : GenerationalBoxId)
+      → state_of number start next peak slots ≡ S → is_some (own_cell_at S id) ≡ true
+      → IsFound number slots id
+  found number start next peak slots id view live =
+      at (nat_eq id.store number) refl (rw (← view) at live)
+    where
+      at : (b : Bool) → nat_eq id.store number ≡ b
+          → is_some (cond b (map.get (cells_of slots) (name_in id)) None) ≡ true
+          → IsFound number slots id
+      at true same live =
+          found_in number slots id (eqb-true id.store number same) (slice_get slots id.slot) refl
+          (ap is_some (sym (get_cells slots (name_in id))) ∙ live)
+      at false same live = absurd (false≢true live)
+
+  -- its name is its slot's own
+  pub found_name : {number : ℕ} {slots : List (Entry T)} {id : GenerationalBoxId}
+      (f : IsFound number slots id) → name_in id ≡ record { slot = id.slot; generation = f.entry.generation }
+  found_name {id = id} f = λ i. record { slot = id.slot; generation = f.generation i }
+
+  pub found_content : {number : ℕ} {slots : List (Entry T)} {id : GenerationalBoxId}
+      (f : IsFound number slots id) → content_of (map.get (cells_of slots) (name_in id)) ≡ Some f.content
+  found_content {slots = slots} {id = id} f =
+      ap (λ n. content_of (map.get (cells_of slots) n)) (found_name f)
+      ∙ (ap content_of (get_own slots id.slot f.entry f.there) ∙ ap (λ k. content_of (cell_of k)) f.live)
+
+  -- a change of a slot's kept cell to another content
+  entry_changed-there : (slots : List (Entry T)) (i : ℕ) (f : Entry T → Entry T) (e : Entry T)
+      → slice_get slots i ≡ Some e → entry_changed slots i f ≡ slice_set slots i (f e)
+  entry_changed-there slots i f e there = rw there refl
+
+  -- another content of a found cell is the machine's
+  pub state-filled : {number : ℕ} {slots : List (Entry T)} {id : GenerationalBoxId} (start next peak : ℕ)
+      (f : IsFound number slots id) (d : Content T) (g : Kept T → Kept T)
+      → g (Live f.content f.created) ≡ Live d f.created
+      → state_of number start next peak (entry_changed slots id.slot (λ e. record e { kept = g e.kept }))
+      ≡ filled (state_of number start next peak slots) (name_in id) d
+  state-filled {number} {slots} {id} start next peak f d g is =
+      ap (λ xs. state_of number start next peak xs)
+      (entry_changed-there slots id.slot (λ e. record e { kept = g e.kept }) f.entry f.there
+      ∙ ap (λ k. slice_set slots id.slot (record f.entry { kept = k })) (ap g f.live ∙ is))
+      ∙ (λ i. record {
+        number = number;
+        cells = cells i;
+        given = given-set start slots id.slot f.entry (Live d f.created) f.there i;
+        owners = map.empty;
+        next = next;
+        peak = peak;
+        start = start;
+      })
+    where
+      cells : cells_of (slice_set slots id.slot (record f.entry { kept = Live d f.created }))
+          ≡ changed (cells_of slots) (name_in id) (refilled d)
+      cells =
+          cells-changed slots id.slot f.entry f.content d f.created f.there f.live
+          ∙ ap (λ n. changed (cells_of slots) n (refilled d)) (sym (found_name f))

@@ -1,0 +1,10 @@
+use Rattle.generational_box.proofs.SlotStates.{new_state, slotted_new}
+use Rattle.generational_box.proofs.unsync.Store.new_at.Goals as goal
+
+pub invariant_of-result : goal.invariant_of-result
+invariant_of-result g c =
+    slotted_new _ _ c.args.numbers.generation _ c.new-2.ensures.empty c.new.ensures.items
+
+pub returns : goal.returns
+returns g c =
+    new_state c.args.number c.args.numbers.generation c.args.numbers.ticket _ c.new.ensures.items

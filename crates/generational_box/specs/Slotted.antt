@@ -1,0 +1,135 @@
+-- The state for which a vector of slots stands, and what holds of every such vector.
+use Rattle.std.specs.Prelude.{◌≡◌, ℕ, ◌+◌, ◌-◌, ◌≤◌, suc, zero, Bool, true, false, ◌&&◌, nat_eq}
+use Rattle.std.specs.Prelude.{nat_le, nat_lt, not, if◌then◌else◌, length}
+use Rattle.std.specs.Prelude.{List, [], ◌∷◌, ◌++◌, Option, None, Some, slice_get, slice_set}
+use Rattle.std.specs.Ordering.{nat_cmp}
+use Rattle.std.specs.FinMap as map
+use Rattle.std.specs.FinSet as set
+use Rattle.generational_box.specs.Names.{Name, NameMap, Names}
+use Rattle.generational_box.specs.declared.boxes.GenerationalBoxId.{GenerationalBoxId}
+use Rattle.generational_box.specs.Boxes.{name_in}
+use Rattle.generational_box.specs.Cells.{Content, Cell, is_shared}
+use Rattle.generational_box.specs.Cells.Content.{Here, Lent}
+use Rattle.generational_box.specs.Cells.Cell.{Value, Shared, Ref}
+use Rattle.generational_box.specs.State.{State}
+use Rattle.generational_box.specs.Entry.{Entry, Kept, is_live, valid_at}
+use Rattle.generational_box.specs.Entry.Kept.{Empty, Live}
+use Rattle.generational_box.specs.Slots.{last_generation}
+
+-- count names of a slot, upwards from a generation
+abbrev pub names_up : ℕ → ℕ → ℕ → List Name
+names_up slot from zero = []
+names_up slot from (suc count) =
+    record { slot = slot; generation = from + count } ∷ names_up slot from count
+
+module _ {T : Type 0} where
+  abbrev pub cell_of : Kept T → Option (Cell T)
+  cell_of Empty = None
+  cell_of (Live c l) = Some (Value c l)
+
+  abbrev pub with_cell : Name → Option (Cell T) → List (Name × Cell T) → List (Name × Cell T)
+  with_cell n None rest = rest
+  with_cell n (Some c) rest = (n, c) ∷ rest
+
+  -- the live cells of the slots from the i-th on
+  abbrev pub live_from : ℕ → List (Entry T) → List (Name × Cell T)
+  live_from i [] = []
+  live_from i (e ∷ slots) =
+      with_cell (record { slot = i; generation = e.generation }) (cell_of e.kept)
+      (live_from (i + 1) slots)
+
+  -- the live cells of the slots
+  unfoldable pub cells_of : List (Entry T) → NameMap (Cell T)
+  cells_of slots = map.from_entries (live_from 0 slots)
+
+  -- the names that were given in the slots from the i-th on: each slot's generations from the
+  -- first one to that of its last cell
+  abbrev pub given_from : ℕ → ℕ → List (Entry T) → List Name
+  given_from start i [] = []
+  given_from start i (e ∷ slots) =
+      names_up i start (e.generation + 1 - start) ++ given_from start (i + 1) slots
+
+  -- the names that were given in the slots
+  unfoldable pub given_of : ℕ → List (Entry T) → Names
+  given_of start slots = set.from_list (given_from start 0 slots)
+
+  -- the state for which a store's numbers and slots stand
+  abbrev pub state_of : ℕ → ℕ → ℕ → ℕ → List (Entry T) → State T
+  state_of number start next peak slots =
+      record {
+        number = number;
+        cells = cells_of slots;
+        given = given_of start slots;
+        owners = map.empty;
+        next = next;
+        peak = peak;
+        start = start;
+      }
+
+  -- what stands at a generation of a slot
+  abbrev pub cell_in : Option (Entry T) → ℕ → Option (Cell T)
+  cell_in None g = None
+  cell_in (Some e) g = if nat_eq g e.generation then cell_of e.kept else None
+
+  -- whether a generation of a slot was given
+  abbrev pub given_in : ℕ → Option (Entry T) → ℕ → Bool
+  given_in start None g = false
+  given_in start (Some e) g = nat_le start g && nat_le g e.generation
+
+  -- whether a slot is free: it has no cell, and its last generation wasn't the last of all
+  abbrev pub is_reusable : Option (Entry T) → Bool
+  is_reusable None = false
+  is_reusable (Some e) = not (is_live e.kept) && nat_lt e.generation last_generation
+
+  abbrev pub HasBegun : ℕ → Option (Entry T) → Type 0
+  HasBegun start None = Unit {0}
+  HasBegun start (Some e) = start ≤ e.generation
+
+  -- What holds of a store's slots and of the set of its free slots.
+  pub record IsSlotted
+      (free : set.FinSet nat_cmp) (rooms start live peak : ℕ) (slots : List (Entry T)) : Type 0 where
+    -- the free slots are those that may be used again
+    pub pooled : (k : ℕ) → set.contains free k ≡ is_reusable (slice_get slots k)
+    -- there is room for all of them
+    pub roomy : length slots ≤ rooms
+    -- no slot's generation is below the first one
+    pub begun : (k : ℕ) → HasBegun start (slice_get slots k)
+    -- the live cells are counted, there never were more than the peak, and that is no more than
+    -- there are slots
+    pub counted : live ≡ map.len (cells_of slots)
+    pub peaked : live ≤ peak
+    pub bounded : peak ≤ length slots
+
+  -- the slots with the i-th one changed by f, if there is one
+  abbrev pub entry_changed_if : List (Entry T) → ℕ → (Entry T → Entry T)
+      → Option (Entry T) → List (Entry T)
+  entry_changed_if slots i f None = slots
+  entry_changed_if slots i f (Some e) = slice_set slots i (f e)
+
+  abbrev pub entry_changed : List (Entry T) → ℕ → (Entry T → Entry T) → List (Entry T)
+  entry_changed slots i f = entry_changed_if slots i f (slice_get slots i)
+
+  -- the slot, if its live cell has this generation
+  abbrev pub entry_in : ℕ → Option (Entry T) → Option (Entry T)
+  entry_in g None = None
+  entry_in g (Some e) = if valid_at g e then Some e else None
+
+  abbrev pub cell_found : Option (Entry T) → Option (Cell T)
+  cell_found None = None
+  cell_found (Some e) = cell_of e.kept
+
+  -- the cell that an id names, if it is of this store
+  abbrev pub own_cell_at : State T → GenerationalBoxId → Option (Cell T)
+  own_cell_at S id = if nat_eq id.store S.number then map.get S.cells (name_in id) else None
+
+  -- whether a cell is a Value that isn't lent
+  abbrev pub is_here : Option (Cell T) → Bool
+  is_here None = false
+  is_here (Some (Value (Here v readers) l)) = true
+  is_here (Some (Value (Lent w) l)) = false
+  is_here (Some (Shared c l)) = false
+  is_here (Some (Ref m l)) = false
+
+  -- no cell is a Shared one
+  abbrev pub OnlyValues : State T → Type 0
+  OnlyValues S = (n : Name) → is_shared (map.get S.cells n) ≡ false

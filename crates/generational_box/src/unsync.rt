@@ -1,0 +1,404 @@
+//! The sequential store.
+
+ghost use Rattle.std.specs.Prelude.{◌≡◌, ℕ, ◌+◌, ◌-◌, ◌^◌, ◌<◌, ◌≤◌, ◌∷◌, ◌++◌, [], true, max, length, is_some, vec_len, vec_capacity, slice_get, slice_set, option_copied, Some, None, IsSome, IfSome, IfOk, OnOk, OnErr, IsTrue};
+ghost use Rattle.std.specs.FinMap as map;
+ghost use Rattle.generational_box.specs.declared.error.Refused.TheVariants as refused;
+ghost use Rattle.generational_box.specs.declared.error.BorrowError.TheVariants as reads;
+ghost use Rattle.generational_box.specs.Cells.Content.{Here};
+ghost use Rattle.generational_box.specs.Boxes.{name_in};
+ghost use Rattle.generational_box.specs.State.{fresh};
+ghost use Rattle.generational_box.specs.Borrowing.{content_at};
+ghost use Rattle.generational_box.specs.Machine.{read_at, has_reader, without_reader};
+ghost use Rattle.generational_box.specs.Machine.Action.{ReleaseReader};
+ghost use Rattle.generational_box.specs.Machine.Answer.{Flag};
+ghost use Rattle.generational_box.specs.Steps.{Meets, has_readers};
+ghost use Rattle.generational_box.specs.Entry.{content_in, is_live, valid_at, with_reader, without_reader_in};
+ghost use Rattle.generational_box.specs.Entry.Kept.{Empty, Live};
+ghost use Rattle.generational_box.specs.Slotted.{entry_changed, entry_in, cell_found, own_cell_at, is_here, OnlyValues};
+
+use crate::boxes::{GenerationalBoxId, GenerationalPointer};
+use crate::entry::{Borrow, StorageEntry};
+use crate::error::{
+    AlreadyBorrowedMutError, BorrowError, BorrowMutResult, BorrowResult, Location, Refusal,
+    Refused, StoreError, ValueDroppedError,
+};
+use crate::pool::{LastFirst, SlotPool};
+use crate::references::GenerationalRef;
+use crate::storage::{AnyStorage, Storage};
+use std::alloc::{AllocError, Global};
+use std::marker::Model;
+
+/// A store of values of one type in recycled slots. Contracts see it as the state of the abstract
+/// machine. `P` chooses which free slot is taken.
+///
+/// It isn't `Clone`, and whoever makes it hands it to each call.
+#[derive(Drop)]
+pub struct Store<T, P: SlotPool> {
+    alloc: Global,
+    number: u64,
+    // the first generation of a slot
+    start: u64,
+    // the next ticket
+    next: u64,
+    // how many cells are live, and the most that were live at once
+    live: usize,
+    peak: usize,
+    slots: Vec<StorageEntry<T>>,
+    pool: P,
+}
+
+/// The store that takes the slot that was freed last.
+pub type UnsyncStorage<T> = Store<T, LastFirst>;
+
+impl<T, P: SlotPool> Model for Store<T, P> {
+    ghost use Rattle.std.specs.Coded.{codes};
+    ghost use Rattle.std.specs.FinMap as map;
+    ghost use Rattle.generational_box.specs.State.{State};
+    ghost use Rattle.generational_box.specs.Slotted.{state_of, IsSlotted};
+
+    ghost Value = { State T };
+
+    ghost coded = { Prim.hlevel (codes, map.code) };
+
+    ghost view = { λ s. state_of s.number s.start s.next s.peak s.slots.items };
+
+    ghost invariant = { λ s. IsSlotted (P.members s.pool) (P.rooms s.pool) s.start s.live s.peak s.slots.items };
+}
+
+/// Where a store's numbers begin.
+#[derive(Clone, Copy, Debug, PartialEq, Eq)]
+pub struct Numbers {
+    /// The generation of a slot's first cell.
+    pub generation: u64,
+    /// The first ticket.
+    pub ticket: u64,
+}
+
+impl<T, P: SlotPool> Store<T, P> {
+    /// An empty store with this number, by which it tells its boxes from those of other stores:
+    /// its maker chooses it. Generations begin at 1, and tickets at 0. Takes no memory.
+    pub fn new(alloc: Global, number: u64) -> Self
+        ensures { result ≡ fresh number 1 0 }
+    {
+        Self::new_at(
+            alloc,
+            number,
+            Numbers {
+                generation: 1,
+                ticket: 0,
+            },
+        )
+    }
+
+    /// The same with other first numbers, to see what happens at their ends. Takes no memory.
+    pub fn new_at(alloc: Global, number: u64, numbers: Numbers) -> Self
+        requires { 1 ≤ numbers.generation }
+        ensures { result ≡ fresh number numbers.generation numbers.ticket }
+    {
+        Store {
+            alloc,
+            number,
+            start: numbers.generation,
+            next: numbers.ticket,
+            live: 0,
+            peak: 0,
+            slots: Vec::new(alloc),
+            pool: P::new(alloc),
+        }
+    }
+}
+
+impl<T: Drop, P: SlotPool> Store<T, P> {
+    // The slot whose live cell has this id.
+    #[inline(always)]
+    fn entry(&self, id: GenerationalBoxId) -> Option<&StorageEntry<T>>
+        ensures cell { own_cell_at self.now id ≡ cell_found (option_copied result) }
+        ensures live { IfSome result (λ entry. is_live entry.now.kept ≡ true) }
+        ensures values { OnlyValues self.now }
+    {
+        if id.store != self.number {
+            return None;
+        }
+        entry_at(self.slots.as_slice(), id.slot, id.generation)
+    }
+
+    // Begins a read of a live cell that isn't lent. Want of memory changes nothing.
+    #[inline(always)]
+    fn begin_read(&mut self, id: GenerationalBoxId, location: Location) -> Result<u64, AllocError>
+        requires here { is_here (own_cell_at self.old id) ≡ true }
+        requires numbers { self.old.next < 18446744073709551615 }
+        ensures ticket { IfOk result (λ ticket. ticket ≡ self.old.next) }
+        ensures ok { OnOk result (self.new ≡ (read_at self.old location (Some (name_in id)) (content_at self.old (name_in id))).1) }
+        ensures err { OnErr result (self.new ≡ self.old) }
+        ensures beside { OnErr result (has_readers (content_at self.old (name_in id)) ≡ true) }
+    {
+        let ticket = self.next;
+        let borrow = Borrow { ticket, location };
+        match add_reader(&mut self.slots, self.alloc, id.slot, borrow) {
+            Ok(()) => {
+                self.next = ticket + 1;
+                Ok(ticket)
+            }
+            Err(error) => Err(error),
+        }
+    }
+
+    // Takes a reader away from a live cell. The answer is whether it stood.
+    #[inline(always)]
+    fn end_read(&mut self, id: GenerationalBoxId, ticket: u64) -> bool
+        requires { IsSome (own_cell_at self.old id) }
+        ensures known { result ≡ has_reader (content_at self.old (name_in id)) ticket }
+        ensures after { self.new ≡ without_reader self.old (name_in id) ticket (content_at self.old (name_in id)) }
+    {
+        remove_reader(&mut self.slots, id.slot, ticket)
+    }
+
+    // Ends a live cell. Its slot is free from then on, unless its generation is the last.
+    #[inline(always)]
+    fn end(&mut self, id: GenerationalBoxId)
+        requires { IsSome (own_cell_at self.old id) }
+        ensures { self.new ≡ record self.old { cells = map.remove self.old.cells (name_in id) } }
+    {
+        end_cell(&mut self.slots, id.slot);
+        self.live -= 1;
+        if id.generation < u64::MAX {
+            self.pool.put(id.slot);
+        }
+    }
+}
+
+// The slot, if its live cell has this generation.
+#[inline(always)]
+fn entry_at<T>(slots: &[StorageEntry<T>], slot: usize, generation: u64) -> Option<&StorageEntry<T>>
+    ensures { option_copied result ≡ entry_in generation (slice_get slots.now slot) }
+{
+    match slots.get(slot) {
+        Some(entry) if entry.valid(generation) => Some(entry),
+        _ => None,
+    }
+}
+
+// Adds a reader to the cell of a slot. Want of memory changes nothing.
+#[inline(always)]
+fn add_reader<T>(
+    slots: &mut Vec<StorageEntry<T>>,
+    alloc: Global,
+    slot: usize,
+    borrow: Borrow,
+) -> Result<(), AllocError>
+    requires { slot < vec_len slots.old }
+    ensures ok { OnOk result (slots.new.items ≡ entry_changed slots.old.items slot (λ entry. record entry { kept = with_reader borrow entry.kept })) }
+    ensures err { OnErr result (slots.new.items ≡ slots.old.items) }
+    ensures beside { OnErr result (IfSome (slice_get slots.old.items slot) (λ entry. has_readers (content_in entry.kept) ≡ true)) }
+{
+    slots[slot].borrow(alloc, borrow)
+}
+
+// Takes a reader away from the cell of a slot. The answer is whether it stood.
+#[inline(always)]
+fn remove_reader<T>(slots: &mut Vec<StorageEntry<T>>, slot: usize, ticket: u64) -> bool
+    requires { slot < vec_len slots.old }
+    ensures known { IfSome (slice_get slots.old.items slot) (λ entry. result ≡ has_reader (content_in entry.kept) ticket) }
+    ensures after { slots.new.items ≡ entry_changed slots.old.items slot (λ entry. record entry { kept = without_reader_in ticket entry.kept }) }
+{
+    slots[slot].drop_borrow(ticket)
+}
+
+// Ends the cell of a slot.
+#[inline(always)]
+fn end_cell<T: Drop>(slots: &mut Vec<StorageEntry<T>>, slot: usize)
+    requires { slot < vec_len slots.old }
+    ensures { slots.new.items ≡ entry_changed slots.old.items slot (λ entry. record entry { kept = Empty }) }
+{
+    slots[slot].end();
+}
+
+// Puts a cell into a slot that has none, under the next generation, which is answered.
+#[inline(always)]
+fn refill<T: Drop>(
+    slots: &mut Vec<StorageEntry<T>>,
+    slot: usize,
+    value: T,
+    location: Location,
+) -> u64
+    requires within { slot < vec_len slots.old }
+    requires below { IfSome (slice_get slots.old.items slot) (λ entry. entry.generation < 18446744073709551615) }
+    ensures generation { IfSome (slice_get slots.old.items slot) (λ entry. result ≡ entry.generation + 1) }
+    ensures filled { slots.new.items ≡ slice_set slots.old.items slot (record { generation = result; kept = Live (Here value []) location }) }
+{
+    slots[slot].refill(value, location)
+}
+
+// Adds a slot with a cell. There is room for it.
+#[inline(always)]
+fn push_slot<T: Drop>(
+    slots: &mut Vec<StorageEntry<T>>,
+    generation: u64,
+    value: T,
+    location: Location,
+) -> usize
+    requires { vec_len slots.old < vec_capacity slots.old }
+    ensures slot { result ≡ length slots.old.items }
+    ensures pushed { slots.new.items ≡ slots.old.items ++ (record { generation = generation; kept = Live (Here value []) location }) ∷ [] }
+{
+    let slot = slots.len();
+    slots.push_reserved(StorageEntry::new(generation, value, location));
+    slot
+}
+
+// Makes room for one more slot, and for its number among the free ones. Want of memory changes no
+// slot.
+#[inline(always)]
+fn make_room<T, P: SlotPool>(
+    slots: &mut Vec<StorageEntry<T>>,
+    pool: &mut P,
+) -> Result<(), StoreError>
+    requires { vec_len slots.old ≤ P.rooms pool.old }
+    ensures slots { slots.new.items ≡ slots.old.items }
+    ensures pool { P.members pool.new ≡ P.members pool.old }
+    ensures rooms { P.rooms pool.old ≤ P.rooms pool.new }
+    ensures ok { OnOk result (vec_len slots.new < vec_capacity slots.new) }
+    ensures grown { OnOk result (vec_len slots.new < P.rooms pool.new) }
+{
+    if slots.len() < slots.capacity() && slots.len() < pool.room() {
+        return Ok(());
+    }
+    grow(slots, pool)
+}
+
+// The same where there is no room.
+#[cold]
+#[inline(never)]
+fn grow<T, P: SlotPool>(slots: &mut Vec<StorageEntry<T>>, pool: &mut P) -> Result<(), StoreError>
+    requires { vec_len slots.old ≤ P.rooms pool.old }
+    ensures slots { slots.new.items ≡ slots.old.items }
+    ensures pool { P.members pool.new ≡ P.members pool.old }
+    ensures rooms { P.rooms pool.old ≤ P.rooms pool.new }
+    ensures ok { OnOk result (vec_len slots.new < vec_capacity slots.new) }
+    ensures grown { OnOk result (vec_len slots.new < P.rooms pool.new) }
+{
+    if slots.reserve(1).is_err() {
+        return Err(StoreError::OutOfMemory);
+    }
+    if pool.room() == slots.len() {
+        pool.grow()?;
+    }
+    Ok(())
+}
+
+// One more cell is live.
+#[inline(always)]
+fn count_one(live: &mut usize, peak: &mut usize)
+    requires { live.old < 18446744073709551615 }
+    ensures live { live.new ≡ live.old + 1 }
+    ensures peak { peak.new ≡ max peak.old live.new }
+{
+    *live += 1;
+    if *peak < *live {
+        *peak = *live;
+    }
+}
+
+impl<T: Drop, P: SlotPool> AnyStorage<T> for Store<T, P> {
+    ghost state = { λ s. s };
+
+    #[inline(always)]
+    fn number(&self) -> u64 {
+        self.number
+    }
+
+    fn is_fresh(&self) -> bool {
+        self.slots.is_empty()
+    }
+
+    #[inline(always)]
+    fn recycle(&mut self, pointer: GenerationalPointer) -> BorrowMutResult<()> {
+        match self.entry(pointer.id) {
+            Some(entry) => match entry.borrow_mut_error(self.alloc) {
+                Ok(()) => {}
+                Err(refused) => return Err(refused),
+            },
+            None => return Ok(()),
+        }
+        self.end(pointer.id);
+        Ok(())
+    }
+}
+
+impl<T: Drop, P: SlotPool> Storage<T> for Store<T, P> {
+    #[inline(always)]
+    fn new(&mut self, value: T, location: Location) -> Result<GenerationalPointer, Refusal<T>> {
+        match self.pool.take() {
+            Some(slot) => {
+                let generation = refill(&mut self.slots, slot, value, location);
+                count_one(&mut self.live, &mut self.peak);
+                Ok(GenerationalPointer::new(self.number, slot, generation, location))
+            }
+            None => {
+                match make_room(&mut self.slots, &mut self.pool) {
+                    Ok(()) => {}
+                    Err(_) => {
+                        let cause = StoreError::OutOfMemory;
+                        return Err(Refusal { value, cause });
+                    }
+                }
+                let slot = push_slot(&mut self.slots, self.start, value, location);
+                count_one(&mut self.live, &mut self.peak);
+                Ok(GenerationalPointer::new(self.number, slot, self.start, location))
+            }
+        }
+    }
+
+    #[inline(always)]
+    fn try_read(
+        &mut self,
+        pointer: GenerationalPointer,
+        location: Location,
+    ) -> BorrowResult<GenerationalRef<T>> {
+        let id = pointer.id;
+        match self.entry(id) {
+            Some(entry) => match entry.borrow_error() {
+                None => {}
+                Some(writer) => return Err(lent(writer)),
+            },
+            None => return Err(dropped(pointer)),
+        }
+        if self.next == u64::MAX {
+            return Err(Refused::Store(StoreError::NumbersExhausted));
+        }
+        match self.begin_read(id, location) {
+            Ok(ticket) => Ok(GenerationalRef::new(id, ticket)),
+            Err(_) => Err(Refused::Store(StoreError::OutOfMemory)),
+        }
+    }
+
+    #[inline(always)]
+    fn open(&self, guard: &GenerationalRef<T>) -> Option<&T> {
+        self.entry(guard.id())?.open(guard.ticket())
+    }
+
+    #[inline(always)]
+    fn release_read(&mut self, guard: GenerationalRef<T>) -> bool
+        ensures { Meets self.old (ReleaseReader guard) (Flag result) self.new }
+    {
+        let (id, ticket) = guard.into_parts();
+        match self.entry(id) {
+            Some(_) => self.end_read(id, ticket),
+            None => false,
+        }
+    }
+}
+
+// The answer to a read of a value that is lent.
+fn lent(writer: AlreadyBorrowedMutError) -> Refused<BorrowError>
+    ensures { result ≡ refused.Borrow (reads.AlreadyBorrowedMut writer) }
+{
+    Refused::Borrow(BorrowError::AlreadyBorrowedMut(writer))
+}
+
+// The answer to a read of a box that reaches nothing.
+fn dropped(pointer: GenerationalPointer) -> Refused<BorrowError>
+    ensures { result ≡ refused.Borrow (reads.Dropped (record { created_at = pointer.created_at })) }
+{
+    Refused::Borrow(BorrowError::Dropped(ValueDroppedError::new(pointer.created_at)))
+}
