@@ -8,6 +8,8 @@ use Rattle.generational_box.specs.declared.error.Refused.{Refused}
 use Rattle.generational_box.specs.declared.error.Refused.TheVariants as refused
 use Rattle.generational_box.specs.declared.error.Refusal.{Refusal}
 use Rattle.generational_box.specs.declared.boxes.GenerationalPointer.{GenerationalPointer}
+use Rattle.generational_box.specs.declared.boxes.GenerationalBox.{GenerationalBox}
+use Rattle.generational_box.specs.Boxes.{pointer_of}
 use Rattle.generational_box.specs.Cells.{Content}
 use Rattle.generational_box.specs.Cells.Content.{Here, Lent}
 use Rattle.generational_box.specs.State.{State}
@@ -39,6 +41,10 @@ module _ {T : Type 0} where
   abbrev pub make_answer : Result GenerationalPointer (Refusal T) → Answer T
   make_answer (Ok b) = Made b
   make_answer (Err r) = refuses r.cause
+
+  abbrev pub box_answer : Result (GenerationalBox T) (Refusal T) → Answer T
+  box_answer (Ok b) = Made (pointer_of b)
+  box_answer (Err r) = refuses r.cause
 
   abbrev pub read_answer : Result Guard (Refused BorrowError) → Answer T
   read_answer (Ok g) = Reads g

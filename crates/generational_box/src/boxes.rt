@@ -4,7 +4,9 @@ ghost use Rattle.std.specs.Prelude.{◌≡◌, Some};
 ghost use Rattle.generational_box.specs.Boxes.{box_of};
 ghost use Rattle.generational_box.specs.Texts.{id_text};
 
-use crate::error::Location;
+use crate::error::{BorrowMutResult, BorrowResult, Location, Refusal};
+use crate::references::GenerationalRef;
+use crate::storage::Storage;
 use std::alloc::AllocError;
 use std::fmt;
 use std::marker::PhantomData;
@@ -118,5 +120,67 @@ impl<T> fmt::Debug for GenerationalBox<T> {
 
     fn fmt<W: fmt::Write>(&self, f: &mut fmt::Formatter<W>) -> fmt::Result {
         write!(f, "{:?}", self.raw)
+    }
+}
+
+impl<T> GenerationalBox<T> {
+    ghost use Rattle.std.specs.Prelude.{◌≡◌, IfErr, None};
+    ghost use Rattle.generational_box.specs.Boxes.{pointer_of};
+    ghost use Rattle.generational_box.specs.Machine.Action.{Make, Read, End};
+    ghost use Rattle.generational_box.specs.Steps.{Meets};
+    ghost use Rattle.generational_box.specs.Answers.{box_answer, read_answer, end_answer};
+
+    /// Makes a box of a value, which lives until it is ended by hand. Its id was never given
+    /// before.
+    ///
+    /// Refused by `OutOfMemory`, only where no slot is free: the value comes back, and the store
+    /// stays as it was. With a slot free the call takes no memory.
+    #[inline(always)]
+    pub fn leak<S: Storage<T>>(
+        store: &mut S,
+        value: T,
+        location: Location,
+    ) -> Result<GenerationalBox<T>, Refusal<T>>
+        ensures step { Meets (S.state store.old) (Make None value location) (box_answer result) (S.state store.new) }
+        ensures back { IfErr result (λ refusal. refusal.value ≡ value) }
+    {
+        let raw = store.new(value, location)?;
+        Ok(GenerationalBox {
+            raw,
+            marker: PhantomData,
+        })
+    }
+
+    /// Begins a read of the value, asked for at a location. The guard must be released; the value
+    /// is seen through its `deref`.
+    ///
+    /// Refused, in this order: `Dropped` with the box's own creation location, where its cell has
+    /// ended or is of another store; `AlreadyBorrowedMut` with the writer's location;
+    /// `NumbersExhausted`, where no ticket is left; `OutOfMemory`, only for a reader beside
+    /// another. A refused call leaves the store as it was.
+    #[inline(always)]
+    pub fn try_read<S: Storage<T>>(
+        self,
+        store: &mut S,
+        location: Location,
+    ) -> BorrowResult<GenerationalRef<T>>
+        ensures { Meets (S.state store.old) (Read (pointer_of self) location) (read_answer result) (S.state store.new) }
+    {
+        store.try_read(self.raw, location)
+    }
+
+    /// Ends the box's cell, and the value with it: every box of this id is `Dropped` from then on,
+    /// and no box ever has the id again. A box whose cell has ended or is of another store is Ok
+    /// and changes nothing.
+    ///
+    /// Refused, and nothing ends, where the value is borrowed: `AlreadyBorrowedMut` with the
+    /// writer's location, or `AlreadyBorrowed` with the readers' locations in the order in which
+    /// they began, in whose place `OutOfMemory` is answered if that list finds no memory. Nothing
+    /// else takes memory.
+    #[inline(always)]
+    pub fn manually_drop<S: Storage<T>>(self, store: &mut S) -> BorrowMutResult<()>
+        ensures { Meets (S.state store.old) (End (pointer_of self)) (end_answer result) (S.state store.new) }
+    {
+        store.recycle(self.raw)
     }
 }
