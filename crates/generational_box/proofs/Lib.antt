@@ -11,10 +11,13 @@ pub mod Lasts
 pub mod Lengths
 pub mod Maps
 pub mod Named
+pub mod Placing
 pub mod Saying
+pub mod Sessions
 pub mod SlotBound
 pub mod SoundCalls
 pub mod Soundness
 pub mod Staying
 pub mod Stepping
+pub mod Tables
 pub mod Tickets
