@@ -1,6 +1,12 @@
 pub mod ActBounded
 pub mod BoundSteps
 pub mod Bounding
+pub mod Carried
+pub mod CarriedBorrows
+pub mod CarriedCalls
+pub mod CarriedCells
+pub mod CarriedEnds
+pub mod CarriedOwners
 pub mod Ends
 pub mod Filled
 pub mod Fresh
@@ -10,10 +16,12 @@ pub mod Lasting
 pub mod Lasts
 pub mod Lengths
 pub mod Maps
+pub mod Moved
 pub mod Named
 pub mod Placing
 pub mod Saying
 pub mod Sessions
+pub mod Sizes
 pub mod SlotBound
 pub mod SoundCalls
 pub mod Soundness

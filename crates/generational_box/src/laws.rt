@@ -44,8 +44,7 @@ pub fn shared_values_live_by_references<T>()
         IsSound S → IsNamed S.cells m → is_shared (map.get S.cells m) ≡ true }
 {}
 
-/// A store never has more slots than there were live cells at once, and slots whose generations
-/// are used up.
+/// A store never has more slots than cells were live at once and generations of slots used up.
 pub fn slots_are_bounded<T>()
     ensures fresh { (number start next : ℕ) → IsBounded (fresh {T = T} number start next) }
     ensures step { (S R : State T) (call : Action T) (answer : Answer T) →
@@ -56,7 +55,8 @@ pub fn slots_are_bounded<T>()
 /// What holds of every session: of one of a fresh store, after each call, and so after each run.
 pub fn sessions_are_kept<T>()
     ensures fresh { (number start next : ℕ) →
-        let s : SessionState T = record { state = fresh number start next; table = [] } in IsKept s }
+        let s : SessionState T = record { state = fresh number start next; table = [] } in
+        IsKept s }
     ensures step { (s r : SessionState T) (c : Call T) (reply : Said T) →
         IsKept s → SessionStep s c reply r → IsKept r }
     ensures run { (calls : List (Call T)) (replies : List (Said T)) (s r : SessionState T) →
@@ -67,8 +67,8 @@ pub fn sessions_are_kept<T>()
 pub fn sessions_keep_names_ended<T>()
     ensures step { (s r : SessionState T) (c : Call T) (reply : Said T) (n : Name) →
         SessionStep s c reply r → IsEnded s.state n → IsEnded r.state n }
-    ensures run { (calls : List (Call T)) (replies : List (Said T)) (s r : SessionState T) (n : Name) →
-        Run s calls replies r → IsEnded s.state n → IsEnded r.state n }
+    ensures run { (calls : List (Call T)) (replies : List (Said T)) (s r : SessionState T)
+        (n : Name) → Run s calls replies r → IsEnded s.state n → IsEnded r.state n }
 {}
 
 /// The bound on slots holds after each call of a session, and after each run.
