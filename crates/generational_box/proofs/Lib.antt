@@ -19,12 +19,14 @@ pub mod Maps
 pub mod Moved
 pub mod Named
 pub mod Placing
+pub mod Plain
 pub mod Saying
 pub mod Sessions
 pub mod Sizes
 pub mod SlotBound
 pub mod SoundCalls
 pub mod Soundness
+pub mod Starting
 pub mod Staying
 pub mod Stepping
 pub mod Tables

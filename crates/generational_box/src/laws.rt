@@ -9,13 +9,14 @@ ghost use Rattle.generational_box.specs.State.{State, IsSound, IsEnded, IsNamed,
 ghost use Rattle.generational_box.specs.Boxes.{name_of};
 ghost use Rattle.generational_box.specs.Borrowing.{read_trouble, write_trouble};
 ghost use Rattle.generational_box.specs.Borrowing.Trouble.{Dropped};
-ghost use Rattle.generational_box.specs.Machine.{Action, Answer};
+ghost use Rattle.generational_box.specs.Machine.{Action, Answer, Fresh, act};
 ghost use Rattle.generational_box.specs.Steps.{Meets};
 ghost use Rattle.generational_box.specs.Slots.{slots, retired};
 ghost use Rattle.generational_box.specs.Bounds.{IsBounded};
 ghost use Rattle.generational_box.specs.declared.session.Call.{Call};
 ghost use Rattle.generational_box.specs.Session.{SessionState, Said, SessionStep, Run};
 ghost use Rattle.generational_box.specs.Holding.{IsKept};
+ghost use Rattle.generational_box.specs.History.{plain, plain_call, plain_answer};
 
 /// A state in which nothing was made is sound, and each call leads from a sound state to a sound
 /// one.
@@ -77,4 +78,12 @@ pub fn sessions_are_bounded<T>()
         IsSound s.state → IsBounded s.state → SessionStep s c reply r → IsBounded r.state }
     ensures run { (calls : List (Call T)) (replies : List (Said T)) (s r : SessionState T) →
         IsKept s → IsBounded s.state → Run s calls replies r → IsBounded r.state }
+{}
+
+/// The machine without values takes the very same steps: what is answered, and what is left, are
+/// those of the machine with values, without the values.
+pub fn plain_states_step<T>()
+    ensures step { (S : State T) (call : Action T) (new : Fresh) →
+        act (plain S) (plain_call call) new
+        ≡ (plain_answer (act S call new).0, plain (act S call new).1) }
 {}
