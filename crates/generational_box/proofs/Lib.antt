@@ -3,6 +3,12 @@ pub mod BoundSteps
 pub mod Bounding
 pub mod CallEnds
 pub mod Calls
+pub mod Carried
+pub mod CarriedBorrows
+pub mod CarriedCalls
+pub mod CarriedCells
+pub mod CarriedEnds
+pub mod CarriedOwners
 pub mod Ends
 pub mod Filled
 pub mod Fresh
@@ -12,9 +18,14 @@ pub mod Lasting
 pub mod Lasts
 pub mod Lengths
 pub mod Maps
+pub mod Moved
 pub mod Named
+pub mod Placing
+pub mod Plain
 pub mod PoolLemmas
 pub mod Saying
+pub mod Sessions
+pub mod Sizes
 pub mod SliceGet
 pub mod SlotBorrows
 pub mod SlotBound
@@ -27,6 +38,8 @@ pub mod SlotNames
 pub mod SlotStates
 pub mod SoundCalls
 pub mod Soundness
+pub mod Starting
 pub mod Staying
 pub mod Stepping
+pub mod Tables
 pub mod Tickets

@@ -1,6 +1,6 @@
 //! Laws of the machine, each the contract of a function that does nothing.
 
-ghost use Rattle.std.specs.Prelude.{◌≡◌, ◌≤◌, ◌+◌, true, ℕ, Some};
+ghost use Rattle.std.specs.Prelude.{◌≡◌, ◌≤◌, ◌+◌, true, ℕ, List, [], Some};
 ghost use Rattle.std.specs.FinMap as map;
 ghost use Rattle.generational_box.specs.declared.boxes.GenerationalPointer.{GenerationalPointer};
 ghost use Rattle.generational_box.specs.Names.{Name};
@@ -9,10 +9,14 @@ ghost use Rattle.generational_box.specs.State.{State, IsSound, IsEnded, IsNamed,
 ghost use Rattle.generational_box.specs.Boxes.{name_of};
 ghost use Rattle.generational_box.specs.Borrowing.{read_trouble, write_trouble};
 ghost use Rattle.generational_box.specs.Borrowing.Trouble.{Dropped};
-ghost use Rattle.generational_box.specs.Machine.{Action, Answer};
+ghost use Rattle.generational_box.specs.Machine.{Action, Answer, Fresh, act};
 ghost use Rattle.generational_box.specs.Steps.{Meets};
 ghost use Rattle.generational_box.specs.Slots.{slots, retired};
 ghost use Rattle.generational_box.specs.Bounds.{IsBounded};
+ghost use Rattle.generational_box.specs.declared.session.Call.{Call};
+ghost use Rattle.generational_box.specs.Session.{SessionState, Said, SessionStep, Run};
+ghost use Rattle.generational_box.specs.Holding.{IsKept};
+ghost use Rattle.generational_box.specs.History.{plain, plain_call, plain_answer};
 
 /// A state in which nothing was made is sound, and each call leads from a sound state to a sound
 /// one.
@@ -41,11 +45,45 @@ pub fn shared_values_live_by_references<T>()
         IsSound S → IsNamed S.cells m → is_shared (map.get S.cells m) ≡ true }
 {}
 
-/// A store never has more slots than there were live cells at once, and slots whose generations
-/// are used up.
+/// A store never has more slots than cells were live at once and generations of slots used up.
 pub fn slots_are_bounded<T>()
     ensures fresh { (number start next : ℕ) → IsBounded (fresh {T = T} number start next) }
     ensures step { (S R : State T) (call : Action T) (answer : Answer T) →
         IsSound S → IsBounded S → Meets S call answer R → IsBounded R }
     ensures few { (S : State T) → IsBounded S → slots S ≤ S.peak + retired S }
+{}
+
+/// What holds of every session: of one of a fresh store, after each call, and so after each run.
+pub fn sessions_are_kept<T>()
+    ensures fresh { (number start next : ℕ) →
+        let s : SessionState T = record { state = fresh number start next; table = [] } in
+        IsKept s }
+    ensures step { (s r : SessionState T) (c : Call T) (reply : Said T) →
+        IsKept s → SessionStep s c reply r → IsKept r }
+    ensures run { (calls : List (Call T)) (replies : List (Said T)) (s r : SessionState T) →
+        IsKept s → Run s calls replies r → IsKept r }
+{}
+
+/// No call of a session makes an ended name live again, and no run does.
+pub fn sessions_keep_names_ended<T>()
+    ensures step { (s r : SessionState T) (c : Call T) (reply : Said T) (n : Name) →
+        SessionStep s c reply r → IsEnded s.state n → IsEnded r.state n }
+    ensures run { (calls : List (Call T)) (replies : List (Said T)) (s r : SessionState T)
+        (n : Name) → Run s calls replies r → IsEnded s.state n → IsEnded r.state n }
+{}
+
+/// The bound on slots holds after each call of a session, and after each run.
+pub fn sessions_are_bounded<T>()
+    ensures step { (s r : SessionState T) (c : Call T) (reply : Said T) →
+        IsSound s.state → IsBounded s.state → SessionStep s c reply r → IsBounded r.state }
+    ensures run { (calls : List (Call T)) (replies : List (Said T)) (s r : SessionState T) →
+        IsKept s → IsBounded s.state → Run s calls replies r → IsBounded r.state }
+{}
+
+/// The machine without values takes the very same steps: what is answered, and what is left, are
+/// those of the machine with values, without the values.
+pub fn plain_states_step<T>()
+    ensures step { (S : State T) (call : Action T) (new : Fresh) →
+        act (plain S) (plain_call call) new
+        ≡ (plain_answer (act S call new).0, plain (act S call new).1) }
 {}

@@ -1,0 +1,181 @@
+-- Each call of a session keeps what holds of every session, and so does a whole run.
+use Rattle.std.proofs.Common.{◌≡◌, ◌≢◌, ℕ, false, List, [], ◌∷◌, ◌++◌}
+use Rattle.std.proofs.Common.{Option, None, Some, refl, sym, ap, subst, ◌∙◌, inl, inr, ⊎_elim}
+use Rattle.std.specs.Prelude.{◌⊎◌}
+use Rattle.std.proofs.lemmas.Bool.{eqb-true, false_from_ne_true}
+use Rattle.generational_box.specs.declared.boxes.GenerationalPointer.{GenerationalPointer}
+use Rattle.generational_box.specs.declared.session.Call.{Call}
+use Rattle.generational_box.specs.declared.session.Call.TheVariants as call
+use Rattle.generational_box.specs.Names.{Name}
+use Rattle.generational_box.specs.State.{State, IsSound, IsEnded, fresh}
+use Rattle.generational_box.specs.Machine.{Action, Answer}
+use Rattle.generational_box.specs.Machine.Action.{Make, Read, ReleaseReader, ReleaseWriter, End}
+use Rattle.generational_box.specs.Steps.{Meets}
+use Rattle.generational_box.specs.Session.{SessionState, Held, Said, Asked, Settles, SessionStep}
+use Rattle.generational_box.specs.Session.{Run, held, placed, spent, box_in, with_box}
+use Rattle.generational_box.specs.Session.{released}
+use Rattle.generational_box.specs.Session.Asked.{Asks, Tells}
+use Rattle.generational_box.specs.Session.Held.{Boxed, Reading, Writing, Nothing}
+use Rattle.generational_box.specs.Holding.{IsKept}
+use Rattle.generational_box.specs.Bounds.{IsBounded}
+use Rattle.generational_box.proofs.Bounding.{meets_bounded}
+use Rattle.generational_box.specs.Session.{asked}
+use Rattle.generational_box.proofs.Lasting.{fresh_sound}
+use Rattle.generational_box.proofs.Stepping.{meets_ended}
+use Rattle.generational_box.proofs.Stepping.{ends_reader, ends_writer}
+use Rattle.generational_box.proofs.Tables.{held_pushed, held_emptied}
+use Rattle.generational_box.proofs.Placing.{Unspent, Remains, kept_after}
+
+module _ {T : Type 0} where
+  -- ---- a call
+
+  -- a place more that holds nothing
+  kept_told : (s : SessionState T) → IsKept s → IsKept (placed s Nothing)
+  kept_told s kept = record {
+    sound = kept.sound;
+    number = λ p b is. kept.number p b (was p (Boxed b) is (λ none. cc));
+    given = λ p b is. kept.given p b (was p (Boxed b) is (λ none. cc));
+    apart = λ p q b c is at same.
+        kept.apart p q b c (was p (Boxed b) is (λ none. cc)) (was q (Boxed c) at (λ none. cc)) same;
+    readers = λ p g is. kept.readers p g (was p (Reading g) is (λ none. cc));
+    writers = λ p g v is. kept.writers p g v (was p (Writing g v) is (λ none. cc));
+    one_reader = λ p q g h is at same. kept.one_reader p q g h
+        (was p (Reading g) is (λ none. cc)) (was q (Reading h) at (λ none. cc)) same;
+    one_writer = λ p q g h v w is at same. kept.one_writer p q g h v w
+        (was p (Writing g v) is (λ none. cc)) (was q (Writing h w) at (λ none. cc)) same;
+  }
+    where
+      was : (p : ℕ) (x : Held T)
+          → held (s.table ++ Nothing ∷ []) p ≡ x → x ≢ Nothing → held s.table p ≡ x
+      was p x is some = ⊎_elim
+          (λ e. sym e ∙ is) (λ e. absurd (some (sym is ∙ e.1))) (held_pushed s.table Nothing p)
+
+  -- what the table must keep when a call is asked of the machine
+  abbrev Leaves : SessionState T → Call T → Asked T → Type 0
+  Leaves s c (Asks action) = (answer : Answer T) → Remains action s.table (spent c answer s.table)
+  Leaves s c (Tells x) = Unit {0}
+
+  settles_kept : (s r : SessionState T) (c : Call T) (x : Said T) (a : Asked T)
+      → IsKept s → Leaves s c a → Settles s c a x r → IsKept r
+  settles_kept s r c x (Asks action) kept leaves step =
+      subst (λ (o : Said T × SessionState T). IsKept o.1) (sym step.3)
+      (kept_after s kept action step.0 step.1 step.2 (spent c step.0 s.table) (leaves step.0))
+  settles_kept s r c x (Tells y) kept leaves step = subst IsKept (sym step.1) (kept_told s kept)
+
+  -- a call that gives back no guard spends nothing
+  unspent : (action : Action T) → ((t : ℕ) → ends_reader action t ≡ false)
+      → ((t : ℕ) → ends_writer action t ≡ false) → (x : Held T) → Unspent action x
+  unspent action reader writer (Reading g) = reader g.ticket
+  unspent action reader writer (Writing g v) = writer g.ticket
+  unspent action reader writer _ = tt
+
+  leaves_box : (s : SessionState T) (c : Call T)
+      (o : Option GenerationalPointer) (back : Option T) (next : GenerationalPointer → Asked T)
+      → ((b : GenerationalPointer) → Leaves s c (next b)) → Leaves s c (with_box o back next)
+  leaves_box s c None back next h = tt
+  leaves_box s c (Some b) back next h = h b
+
+  -- a guard that is given back leaves those at other places
+  leaves_released : (s : SessionState T) (p : ℕ) (x : Held T)
+      → IsKept s → held s.table p ≡ x → Leaves s (call.Release p) (released x)
+  leaves_released s p (Reading g) kept is = λ answer q.
+      ⊎_elim inl (λ e. inr (e.0, other q (held s.table q) refl e.1)) (held_emptied s.table p q)
+    where
+      other : (q : ℕ) (x : Held T) → held s.table q ≡ x → q ≢ p → Unspent (ReleaseReader g) x
+      other q (Reading h) at ne = false_from_ne_true _
+          (λ e. ne (sym (kept.one_reader p q g h is at (eqb-true g.ticket h.ticket e))))
+      other q (Writing h v) at ne = refl
+      other q _ at ne = tt
+  leaves_released s p (Writing g w) kept is = λ answer q.
+      ⊎_elim inl (λ e. inr (e.0, other q (held s.table q) refl e.1)) (held_emptied s.table p q)
+    where
+      other : (q : ℕ) (x : Held T) → held s.table q ≡ x → q ≢ p → Unspent (ReleaseWriter g w) x
+      other q (Reading h) at ne = refl
+      other q (Writing h v) at ne = false_from_ne_true _
+          (λ e. ne (sym (kept.one_writer p q g h w v is at (eqb-true g.ticket h.ticket e))))
+      other q _ at ne = tt
+  leaves_released s p _ kept is = tt
+
+  leaves_asked : (s : SessionState T) (c : Call T) → IsKept s → Leaves s c (asked s c)
+  leaves_asked s (call.Leak v l) kept =
+      λ answer p. inr (refl, unspent (Make None v l) (λ t. refl) (λ t. refl) (held s.table p))
+  leaves_asked s (call.TryRead b l) kept = leaves_box s (call.TryRead b l) (box_in s b) None _
+      (λ b answer p. inr (refl, unspent (Read b l) (λ t. refl) (λ t. refl) (held s.table p)))
+  leaves_asked s (call.Release p) kept = leaves_released s p (held s.table p) kept refl
+  leaves_asked s (call.ManuallyDrop b) kept = leaves_box s (call.ManuallyDrop b) (box_in s b) None _
+      (λ b answer p. inr (refl, unspent (End b) (λ t. refl) (λ t. refl) (held s.table p)))
+
+  pub session_kept : (s r : SessionState T) (c : Call T) (x : Said T)
+      → IsKept s → SessionStep s c x r → IsKept r
+  session_kept s r c x kept step =
+      settles_kept s r c x (asked s c) kept (leaves_asked s c kept) step
+
+  -- ---- what a call does to the store
+
+  -- it leaves the store as it was, or is one call of the machine
+  settles_meets : (s r : SessionState T) (c : Call T) (x : Said T) (a : Asked T)
+      → Settles s c a x r → (r.state ≡ s.state)
+      ⊎ ((action : Action T) × (answer : Answer T) × Meets s.state action answer r.state)
+  settles_meets s r c x (Asks action) step =
+      let same = ap (λ (o : Said T × SessionState T). o.1.state) step.3 in
+      inr (action, step.0, subst (Meets s.state action step.0) (sym same) step.2)
+  settles_meets s r c x (Tells y) step = inl (ap (λ (r : SessionState T). r.state) step.1)
+
+  pub session_ended : (s r : SessionState T) (c : Call T) (x : Said T)
+      → SessionStep s c x r → (n : Name) → IsEnded s.state n → IsEnded r.state n
+  session_ended s r c x step n ended =
+      ⊎_elim (λ e. subst (λ (S : State T). IsEnded S n) (sym e) ended)
+      (λ e. meets_ended s.state r.state e.0 e.1 e.2 n ended)
+      (settles_meets s r c x (asked s c) step)
+
+  pub session_bounded : (s r : SessionState T) (c : Call T) (x : Said T)
+      → IsSound s.state → IsBounded s.state → SessionStep s c x r → IsBounded r.state
+  session_bounded s r c x sound bounded step =
+      ⊎_elim (λ e. subst IsBounded (sym e) bounded)
+      (λ e. meets_bounded s.state r.state e.0 e.1 sound bounded e.2)
+      (settles_meets s r c x (asked s c) step)
+
+  -- ---- runs
+
+  -- a session of a fresh store, in which nothing was called
+  pub fresh_kept : (number start next : ℕ)
+      → IsKept (let s : SessionState T = record { state = fresh number start next; table = [] } in
+      s)
+  fresh_kept number start next = record {
+    sound = fresh_sound number start next;
+    number = λ p b is. cc;
+    given = λ p b is. cc;
+    apart = λ p q b c is at same. cc;
+    readers = λ p g is. cc;
+    writers = λ p g v is. cc;
+    one_reader = λ p q g h is at same. cc;
+    one_writer = λ p q g h v w is at same. cc;
+  }
+
+  -- what each call keeps, a run keeps
+  by_run : (P : SessionState T → Type 0)
+      → ((s r : SessionState T) (c : Call T) (x : Said T) → P s → SessionStep s c x r → P r)
+      → (calls : List (Call T)) (replies : List (Said T)) (s r : SessionState T)
+      → P s → Run s calls replies r → P r
+  by_run P each [] [] s r h run = subst P (sym run) h
+  by_run P each (c ∷ calls) (x ∷ replies) s r h run =
+      by_run P each calls replies run.0 r (each s run.0 c x h run.1) run.2
+  by_run P each [] (x ∷ replies) s r h run = absurd run
+  by_run P each (c ∷ calls) [] s r h run = absurd run
+
+  pub run_kept : (calls : List (Call T)) (replies : List (Said T)) (s r : SessionState T)
+      → IsKept s → Run s calls replies r → IsKept r
+  run_kept calls replies s r kept run = by_run IsKept session_kept calls replies s r kept run
+
+  pub run_ended : (calls : List (Call T)) (replies : List (Said T)) (s r : SessionState T)
+      → Run s calls replies r → (n : Name) → IsEnded s.state n → IsEnded r.state n
+  run_ended calls replies s r run n ended = by_run (λ s. IsEnded s.state n)
+      (λ s r c x h step. session_ended s r c x step n h) calls replies s r ended run
+
+  pub run_bounded : (calls : List (Call T)) (replies : List (Said T)) (s r : SessionState T)
+      → IsKept s → IsBounded s.state → Run s calls replies r → IsBounded r.state
+  run_bounded calls replies s r kept bounded run =
+      (by_run (λ s. IsKept s × IsBounded s.state) (λ s r c x h step. (
+        session_kept s r c x h.0 step,
+        session_bounded s r c x h.0.sound h.1 step,
+      )) calls replies s r (kept, bounded) run).1
