@@ -24,6 +24,7 @@ pub mod Placing
 pub mod Plain
 pub mod PoolLemmas
 pub mod Saying
+pub mod SessionCalls
 pub mod Sessions
 pub mod Sizes
 pub mod SliceGet

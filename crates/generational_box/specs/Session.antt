@@ -13,11 +13,12 @@ use Rattle.generational_box.specs.declared.session.Call.TheVariants as call
 use Rattle.generational_box.specs.Boxes.{pointer_of}
 use Rattle.generational_box.specs.State.{State}
 use Rattle.generational_box.specs.Borrowing.{Trouble, Guard}
-use Rattle.generational_box.specs.Machine.{Action, Answer, OwnerName, Outcome}
+use Rattle.generational_box.specs.Machine.{Action, Answer, OwnerName, Outcome, act}
 use Rattle.generational_box.specs.Machine.Action.{Make, Read, ReleaseReader, ReleaseWriter, End}
 use Rattle.generational_box.specs.Machine.Answer.{Made, Owned, Reads, Writes, Done, Old, Flag}
 use Rattle.generational_box.specs.Machine.Answer.{Back, Troubled, Refused}
-use Rattle.generational_box.specs.Steps.{Meets}
+use Rattle.generational_box.specs.Steps.{Meets, no_names}
+use Rattle.generational_box.specs.Answers.{opened}
 
 -- What a place holds.
 pub data Held (T : Type 0) : Type 0 where
@@ -151,3 +152,24 @@ module _ {T : Type 0} where
       (next : SessionState T) × SessionStep s c x next × Run next calls replies r
   Run s [] (x ∷ replies) r = ⊥
   Run s (c ∷ calls) [] r = ⊥
+
+  -- the value that what a place holds lends
+  abbrev pub lent_by : State T → Held T → Option T
+  lent_by S (Reading g) = opened S g
+  lent_by S (Writing g v) = Some v
+  lent_by S _ = None
+
+  -- the value that a place lends
+  abbrev pub viewed : SessionState T → ℕ → Option T
+  viewed s p = lent_by s.state (held s.table p)
+
+  -- the state after a held guard was released; an owner is leaked
+  abbrev pub let_go_of : State T → Held T → State T
+  let_go_of S (Reading g) = (act S (ReleaseReader g) no_names).1
+  let_go_of S (Writing g v) = (act S (ReleaseWriter g v) no_names).1
+  let_go_of S _ = S
+
+  -- the state after all guards of a table were released, in order of place
+  abbrev pub all_let_go : State T → List (Held T) → State T
+  all_let_go S [] = S
+  all_let_go S (h ∷ table) = all_let_go (let_go_of S h) table

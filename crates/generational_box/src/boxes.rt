@@ -100,7 +100,7 @@ impl fmt::Debug for GenerationalPointer {
 ///
 /// A box owns nothing and keeps nothing alive. It is Send where `T` is.
 pub struct GenerationalBox<T> {
-    raw: GenerationalPointer,
+    pub(crate) raw: GenerationalPointer,
     marker: PhantomData<T>,
 }
 

@@ -1,4 +1,14 @@
-//! Generational boxes: Copy boxes over recycled slots.
+//! Generational boxes: `Copy` boxes over recycled slots.
+//!
+//! A [`Store`] keeps values of one type. A [`GenerationalBox`] names one of them: it is copied
+//! freely, owns nothing, and may outlive its value, since a name is never given twice. A value is
+//! read under a guard, which names its borrow and is spent by `release`; a call that meets a
+//! borrow, or a value that is gone, is answered by an error that tells where the borrow began or
+//! where the box was made. [`Session`] runs lists of calls that name each other by their places.
+//!
+//! Every call is proved to be a step of a small abstract machine, for every element type and
+//! every storage: the clauses of [`AnyStorage`] and [`Storage`] say which step. The definitions
+//! stand in `specs/`, and in plain words in `docs/machine.md` at the repository's root.
 #![tactic(auto)]
 
 mod boxes;
@@ -11,3 +21,14 @@ mod references;
 mod session;
 mod storage;
 mod unsync;
+
+pub use crate::boxes::{GenerationalBox, GenerationalBoxId, GenerationalPointer};
+pub use crate::error::{
+    AlreadyBorrowedError, AlreadyBorrowedMutError, BorrowError, BorrowMutError, BorrowMutResult,
+    BorrowResult, Location, Refusal, Refused, StoreError, ValueDroppedError,
+};
+pub use crate::pool::{LastFirst, SlotPool};
+pub use crate::references::{GenerationalRef, Ref};
+pub use crate::session::{BoxAt, Call, Reply, Session};
+pub use crate::storage::{AnyStorage, Storage};
+pub use crate::unsync::{Numbers, Store, UnsyncStorage};

@@ -1,0 +1,124 @@
+-- What the code of a session leaves, as a session of the machine.
+use Rattle.std.proofs.Common.{◌≡◌, ℕ, Bool, List, [], ◌∷◌, ◌++◌, Option, None, Some, refl, sym, ap, subst, ◌∙◌, reverse, slice_get, slice_set, zero, suc, append_assoc}
+use Rattle.std.specs.Prelude.{map as list_map}
+use Rattle.std.proofs.lemmas.List.{map-append, map-set, reverse-append, reverse-reverse, append-nil}
+use Rattle.std.proofs.lemmas.Option.{none-some}
+use Rattle.generational_box.specs.declared.session.Call.{Call}
+use Rattle.generational_box.specs.declared.session.Call.TheVariants as call
+use Rattle.generational_box.specs.declared.session.Reply.{Reply}
+use Rattle.generational_box.specs.declared.session.Thing.{Thing}
+use Rattle.generational_box.specs.declared.session.Thing.TheVariants as thing
+use Rattle.generational_box.specs.State.{State, IsFresh, IsEnded, fresh}
+use Rattle.generational_box.specs.Borrowing.{Guard}
+use Rattle.generational_box.specs.Machine.Action.{ReleaseReader}
+use Rattle.generational_box.specs.Machine.Answer.{Flag}
+use Rattle.generational_box.specs.Steps.{Meets}
+use Rattle.generational_box.specs.Session.{SessionState, Held, Said, Asked, SessionStep, Settles, Run, asked, placed, held, released, let_go_of, all_let_go}
+use Rattle.generational_box.specs.Session.Held.{Reading, Nothing}
+use Rattle.generational_box.specs.Session.Said.{Ready}
+use Rattle.generational_box.specs.Session.Asked.{Asks, Tells}
+use Rattle.generational_box.specs.Holding.{IsKept}
+use Rattle.generational_box.specs.Places.{thing_held, said_by, replies_said, session_in, GivesAsked, Gives}
+use Rattle.generational_box.proofs.Sessions.{fresh_kept, session_kept, run_kept}
+
+pub reversed_push : {X : Type 0} (xs ys : List X) (x : X) → xs ≡ ys ++ x ∷ [] → reverse xs ≡ x ∷ reverse ys
+reversed_push xs ys x e = ap reverse e ∙ reverse-append ys (x ∷ [])
+
+module _ {T : Type 0} where
+  -- what a call gives, once it has its place, is a step of the session
+  asked_step : (s m : SessionState T) (c : Call T) (a : Asked T) (x : Said T) (h : Held T)
+      → GivesAsked s c a x h m → Settles s c a x (placed m h)
+  asked_step s m c (Asks action) x h g =
+      (g.0, m.state, g.1, λ i. (g.2 i, placed (record { state = m.state; table = g.4 i }) (g.3 i)))
+  asked_step s m c (Tells y) x h g = (g.0, λ i. placed (g.2 i) (g.1 i))
+
+  -- a thing at the end of the places
+  pub pushed : (S : State T) (items after : List (Thing T)) (t : Thing T) → after ≡ items ++ t ∷ []
+      → session_in S after ≡ placed (session_in S items) (thing_held t)
+  pushed S items after t e =
+      ap (session_in S) e
+      ∙ (λ i. record { state = S; table = map-append thing_held items (t ∷ []) i })
+
+  pub call_step : {s : SessionState T} (S R : State T) (items kept after : List (Thing T)) (c : Call T) (x : Said T) (t : Thing T)
+      → session_in S items ≡ s → Gives (session_in S items) c x (thing_held t) (session_in R kept)
+      → after ≡ kept ++ t ∷ [] → SessionStep s c x (session_in R after)
+  call_step {s} S R items kept after c x t view gives more =
+      subst (λ q. SessionStep q c x (session_in R after)) view
+      (subst (SessionStep (session_in S items) c x) (sym (pushed R kept after t more))
+      (asked_step (session_in S items) (session_in R kept) c (asked (session_in S items) c) x (thing_held t) gives))
+
+  -- a session over a fresh store
+  pub new_kept : (S : State T) (items : List (Thing T)) → IsFresh S → items ≡ [] → IsKept (session_in S items)
+  new_kept S items f none =
+      rw none (subst (λ X. IsKept (record { state = X; table = [] })) (sym f) (fresh_kept S.number S.start S.next))
+
+  -- what stands at a place
+  pub held_there : (items : List (Thing T)) (p : ℕ) (t : Thing T) → slice_get items p ≡ Some t
+      → held (list_map thing_held items) p ≡ thing_held t
+  held_there [] p t h = absurd (none-some t h)
+  held_there (z ∷ items) zero t h = cc
+  held_there (z ∷ items) (suc p) t h = held_there items p t h
+
+  -- a reader's guard at a place is released
+  pub release_gives : (S R : State T) (items after : List (Thing T)) (p : ℕ) (g : Guard) (known : Bool)
+      → slice_get items p ≡ Some (thing.Reader g) → Meets S (ReleaseReader g) (Flag known) R
+      → after ≡ slice_set items p thing.Nothing
+      → Gives (session_in S items) (call.Release p) Ready Nothing (session_in R after)
+  release_gives S R items after p g known there meets spends =
+      subst (λ h. GivesAsked (session_in S items) (call.Release p) (released h) Ready Nothing (session_in R after))
+      (sym (held_there items p (thing.Reader g) there))
+      (Flag known, meets, refl, refl, ap (list_map thing_held) spends ∙ map-set thing_held items p thing.Nothing)
+
+  -- what holds of the session before a call holds after it
+  pub call_kept : {s : SessionState T} (S : State T) (items : List (Thing T)) (r : SessionState T) (c : Call T) (x : Said T)
+      → session_in S items ≡ s → IsKept (session_in S items) → SessionStep s c x r → IsKept r
+  call_kept S items r c x view kept step = session_kept _ r c x (subst IsKept view kept) step
+
+  -- ---- runs, and the end
+
+  pub run_kept_in : {s : SessionState T} (S : State T) (items : List (Thing T)) (r : SessionState T) (calls : List (Call T)) (replies : List (Said T))
+      → session_in S items ≡ s → IsKept (session_in S items) → Run s calls replies r → IsKept r
+  run_kept_in {s} S items r calls replies view kept run = run_kept calls replies s r (subst IsKept view kept) run
+
+  -- the last of a reversed table is the first that is let go
+  pub let_go_next : (S R : State T) (items rest : List (Thing T)) (t : Thing T) → items ≡ rest ++ t ∷ []
+      → R ≡ let_go_of S (thing_held t)
+      → all_let_go S (list_map thing_held (reverse items)) ≡ all_let_go R (list_map thing_held (reverse rest))
+  let_go_next S R items rest t e leaves =
+      ap (λ xs. all_let_go S (list_map thing_held xs)) (reversed_push items rest t e)
+      ∙ ap (λ X. all_let_go X (list_map thing_held (reverse rest))) (sym leaves)
+
+  pub let_go_all : {s : SessionState T} (S : State T) (items : List (Thing T)) → session_in S items ≡ s
+      → (turned : List (Thing T)) → turned ≡ reverse items
+      → all_let_go S (list_map thing_held (reverse turned)) ≡ all_let_go s.state s.table
+  let_go_all S items view turned e =
+      ap (λ xs. all_let_go S (list_map thing_held xs)) (ap reverse e ∙ reverse-reverse items)
+      ∙ ap (λ (x : SessionState T). all_let_go x.state x.table) view
+
+  -- one call more of a run
+  pub run_goes : (s : SessionState T) (S R : State T) (items kept after : List (Thing T)) (all calls rest : List (Call T)) (c : Call T)
+      (x : Reply T) (t : Thing T) (replies more : List (Reply T))
+      → calls ≡ rest ++ c ∷ []
+      → Gives (session_in S items) c (said_by x) (thing_held t) (session_in R kept)
+      → after ≡ kept ++ t ∷ [] → more ≡ replies ++ x ∷ []
+      → ((rs : List (Said T)) (last : SessionState T) → Run (session_in S items) (reverse calls) rs last → Run s all (replies_said replies ++ rs) last)
+      → (rs : List (Said T)) (last : SessionState T) → Run (session_in R after) (reverse rest) rs last → Run s all (replies_said more ++ rs) last
+  run_goes s S R items kept after all calls rest c x t replies more front gives place said so_far rs last run =
+      subst (λ xs. Run s all xs last) (sym behind)
+      (so_far (said_by x ∷ rs) last
+      (subst (λ cs. Run (session_in S items) cs (said_by x ∷ rs) last) (sym (reversed_push calls rest c front))
+      (session_in R after, call_step S R items kept after c (said_by x) t refl gives place, run)))
+    where
+      behind : (replies_said more ++ rs) ≡ (replies_said replies ++ said_by x ∷ rs)
+      behind =
+          ap (λ xs. xs ++ rs) (ap replies_said said ∙ map-append said_by replies (x ∷ []))
+          ∙ append_assoc (replies_said replies) (said_by x ∷ []) rs
+
+  -- a run to its end
+  pub run_ends : (s : SessionState T) (S : State T) (items : List (Thing T)) (all calls : List (Call T)) (replies : List (Reply T))
+      → calls ≡ []
+      → ((rs : List (Said T)) (last : SessionState T) → Run (session_in S items) (reverse calls) rs last → Run s all (replies_said replies ++ rs) last)
+      → Run s all (replies_said replies) (session_in S items)
+  run_ends s S items all calls replies none so_far =
+      subst (λ xs. Run s all xs (session_in S items)) (append-nil (replies_said replies))
+      (so_far [] (session_in S items) (rw none refl))

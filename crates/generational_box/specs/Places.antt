@@ -1,0 +1,54 @@
+-- What a session's places and replies are in the machine.
+use Rattle.std.specs.Prelude.{◌≡◌, ℕ, List, map as list_map}
+use Rattle.generational_box.specs.declared.session.Thing.{Thing}
+use Rattle.generational_box.specs.declared.session.Thing.TheVariants as thing
+use Rattle.generational_box.specs.declared.session.Reply.{Reply}
+use Rattle.generational_box.specs.declared.session.Reply.TheVariants as reply
+use Rattle.generational_box.specs.Boxes.{pointer_of}
+use Rattle.generational_box.specs.declared.session.Call.{Call}
+use Rattle.generational_box.specs.State.{State}
+use Rattle.generational_box.specs.Machine.{Answer}
+use Rattle.generational_box.specs.Steps.{Meets}
+use Rattle.generational_box.specs.Session.{Held, Said, SessionState, Asked, asked, said, gives, spent}
+use Rattle.generational_box.specs.Session.Asked.{Asks, Tells}
+use Rattle.generational_box.specs.Session.Held.{Boxed, Reading, Nothing}
+use Rattle.generational_box.specs.Session.Said.{ABox, AReader, Ready, Error, Lacking, HandedBack, NoSuch}
+use Rattle.generational_box.specs.Answers.{trouble_of}
+
+module _ {T : Type 0} where
+  -- what a place holds
+  abbrev pub thing_held : Thing T → Held T
+  thing_held (thing.Box b) = Boxed (pointer_of b)
+  thing_held (thing.Reader g) = Reading g
+  thing_held thing.Nothing = Nothing
+
+  -- what a reply says
+  abbrev pub said_by : Reply T → Said T
+  said_by (reply.Box b) = ABox (pointer_of b)
+  said_by reply.Reader = AReader
+  said_by reply.Done = Ready
+  said_by (reply.Error e) = Error (trouble_of e)
+  said_by (reply.Store e) = Lacking e
+  said_by (reply.Back v e) = HandedBack v e
+  said_by (reply.NoSuch back) = NoSuch back
+
+  abbrev pub replies_said : List (Reply T) → List (Said T)
+  replies_said replies = list_map said_by replies
+
+  -- the session of a store's state and its places
+  abbrev pub session_in : State T → List (Thing T) → SessionState T
+  session_in S things = record { state = S; table = list_map thing_held things }
+
+  abbrev pub GivesAsked : SessionState T → Call T → Asked T
+      → Said T → Held T → SessionState T → Type 0
+  GivesAsked s c (Asks action) x h m =
+      (answer : Answer T)
+      × Meets s.state action answer m.state
+      × (x ≡ said c answer)
+      × (h ≡ gives answer)
+      × (m.table ≡ spent c answer s.table)
+  GivesAsked s c (Tells y) x h m = (x ≡ y) × (h ≡ Nothing) × (m ≡ s)
+
+  -- a call of a session is answered x and gives h, before h has its place
+  abbrev pub Gives : SessionState T → Call T → Said T → Held T → SessionState T → Type 0
+  Gives s c x h m = GivesAsked s c (asked s c) x h m
