@@ -1,0 +1,37 @@
+//! Why a run ends early.
+ghost use Rattle.std.specs.Prelude.{◌<◌};
+
+use thiserror::Error;
+
+/// Why a run ends before the end of its input. Its text is what standard error gets.
+#[derive(Clone, Copy, Debug, PartialEq, Eq, Error)]
+pub enum Fault {
+    /// There are arguments, and they are none that the program knows.
+    #[error("boxes: usage: boxes or boxes fuzz SEED COUNT")]
+    Usage,
+    /// A script has a line past the limit.
+    #[error("boxes: too many lines")]
+    TooManyLines,
+    /// A read failed.
+    #[error("boxes: input failed")]
+    Input,
+    /// A write failed.
+    #[error("boxes: output failed")]
+    Output,
+    /// Memory was refused for a buffer, a line, its value or the table of lines.
+    #[error("boxes: out of memory")]
+    Memory,
+}
+
+impl Fault {
+    /// The exit status of a run that ends so.
+    pub fn status(self) -> u8
+        ensures { 0 < result }
+    {
+        match self {
+            Fault::Input | Fault::Output => 1,
+            Fault::Usage | Fault::TooManyLines => 2,
+            Fault::Memory => 3,
+        }
+    }
+}

@@ -1,0 +1,63 @@
+//! `boxes` reads a script of calls over boxes from standard input, a command a line, and prints one
+//! reply a line.
+//!
+//! A line ends with the byte 0A alone, and a last line without it counts if it is not empty. The
+//! words of a line are parted by exactly one space, and a VALUE is all that follows the space after
+//! the last word, possibly nothing. Numbers name earlier lines: what `leak` or `try_read` gave is
+//! called by the number of its line, decimal, from 1 to 1000000, without sign or leading zeros.
+//!
+//! | line         | its reply                                          |
+//! |--------------|----------------------------------------------------|
+//! | `leak VALUE` | `box SLOT@GENERATION`                              |
+//! | `try_read B` | `reader`, of the box that line B gave              |
+//! | `show G`     | `value ` and the value that line G's guard lends   |
+//! | `release N`  | `ok`, and line N's guard is spent                  |
+//! | `end B`      | `ok`, and the value of the box of line B is gone   |
+//!
+//! Any other line, such as one that is not UTF-8, is answered `bad line`, and a number of a line
+//! that gave no such thing `no such`. A borrow that the store denies is answered `error: ` and its
+//! text, and a refusal, such as for want of memory, `refused: ` and its text; the script goes on.
+//!
+//! A script has at most 1000000 lines. The run ends at the input's end with status 0, or at the
+//! first fault, with status 1 for a stream that failed, 2 for arguments or a line too many, and 3
+//! for want of memory: then a text stands on standard error, and the replies to all earlier lines
+//! were written, unless writing is what failed.
+#![tactic(auto)]
+
+mod fault;
+mod lines;
+mod run;
+mod script;
+#[cfg(test)]
+mod tests;
+
+use crate::fault::Fault;
+use crate::run::{boxes_run, report};
+use std::env;
+use std::io::ErrorKind;
+use std::process::ExitCode;
+use std::rt::Env;
+
+fn main(rt: HostRuntime) -> ExitCode {
+    let mut faults = rt.stderr();
+    let status = match words(&rt) {
+        Ok(words) => boxes_run(
+            rt.alloc(),
+            words.as_slice(),
+            &mut rt.stdin(),
+            &mut rt.stdout(),
+            &mut faults,
+        ),
+        Err(fault) => report(fault, &mut faults),
+    };
+    ExitCode::from(status)
+}
+
+// The words after the program's name. One that is not UTF-8 is none that the program knows.
+fn words<R: Env + AllocGlobal>(rt: &R) -> Result<Vec<String>, Fault> {
+    match env::args(rt) {
+        Ok(words) => words.skip(1).collect(rt.alloc()).map_err(|_| Fault::Memory),
+        Err(error) if error.kind() == ErrorKind::OutOfMemory => Err(Fault::Memory),
+        Err(_) => Err(Fault::Usage),
+    }
+}

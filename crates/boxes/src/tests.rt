@@ -1,0 +1,386 @@
+//! Tests of whole runs, over streams in memory and streams that fail.
+use crate::run::boxes_run;
+use std::alloc::Global;
+use std::io::{Error, ErrorKind, Read, Write, repeat};
+use std::process::Abort;
+use std::test::Fail;
+use std::{io, str};
+
+/// What a run answered and wrote.
+#[derive(Drop)]
+struct Outcome {
+    status: u8,
+    output: Vec<u8>,
+    faults: Vec<u8>,
+}
+
+fn run_words<R: Read>(alloc: Global, words: &[String], input: &mut R) -> Outcome {
+    let mut output = Vec::new(alloc);
+    let mut faults = Vec::new(alloc);
+    let status = boxes_run(alloc, words, input, &mut output, &mut faults);
+    Outcome {
+        status,
+        output,
+        faults,
+    }
+}
+
+fn run<R: Read>(alloc: Global, input: &mut R) -> Outcome {
+    run_words(alloc, &[], input)
+}
+
+fn text(bytes: &Vec<u8>) -> &str {
+    str::from_utf8(bytes.as_slice()).unwrap_or("bytes that are not UTF-8")
+}
+
+/// Asserts how a run ended and what it wrote.
+fn assert_ended(rt: &impl Abort, outcome: &Outcome, status: u8, output: &str, faults: &str) {
+    assert_eq!(rt; text(&outcome.output), output);
+    assert_eq!(rt; text(&outcome.faults), faults);
+    assert_eq!(rt; outcome.status, status);
+}
+
+/// Asserts that the replies to a script are these, and that its run ends well.
+fn assert_replies(rt: &impl Abort, alloc: Global, script: &str, replies: &str) {
+    let mut input = script.as_bytes();
+    assert_ended(rt, &run(alloc, &mut input), 0, replies, "");
+}
+
+/// Gives a line a read, and fails once no read is left.
+#[derive(Drop)]
+struct LineByLine<'a> {
+    script: &'a [u8],
+    reads_left: usize,
+}
+
+impl Read for LineByLine<'_> {
+    fn read(&mut self, buf: &mut [u8]) -> io::Result<usize> {
+        if self.reads_left == 0 {
+            return Err(Error::from(ErrorKind::ConnectionReset));
+        }
+        self.reads_left -= 1;
+        let end = self.script.iter().position(|byte| *byte == b'\n');
+        let line = end.map_or(self.script.len(), |end| end + 1);
+        let most = line.min(buf.len());
+        self.script.read(&mut buf[..most])
+    }
+}
+
+/// Gives a byte a read, and is interrupted before each.
+#[derive(Drop)]
+struct Trickle<'a> {
+    script: &'a [u8],
+    is_interrupted: bool,
+}
+
+impl Read for Trickle<'_> {
+    fn read(&mut self, buf: &mut [u8]) -> io::Result<usize> {
+        self.is_interrupted = !self.is_interrupted;
+        if self.is_interrupted {
+            return Err(Error::from(ErrorKind::Interrupted));
+        }
+        let most = buf.len().min(1);
+        self.script.read(&mut buf[..most])
+    }
+}
+
+/// Takes so many bytes, and fails from then on. It may fail to flush, too.
+#[derive(Drop)]
+struct Narrow {
+    taken: Vec<u8>,
+    room: usize,
+    can_flush: bool,
+}
+
+impl Narrow {
+    fn new(alloc: Global, room: usize, can_flush: bool) -> Narrow {
+        Narrow {
+            taken: Vec::new(alloc),
+            room,
+            can_flush,
+        }
+    }
+}
+
+impl Write for Narrow {
+    fn write(&mut self, buf: &[u8]) -> io::Result<usize> {
+        let most = buf.len().min(self.room);
+        if most == 0 {
+            return Err(Error::from(ErrorKind::BrokenPipe));
+        }
+        self.taken.extend_from_slice(&buf[..most])?;
+        self.room -= most;
+        Ok(most)
+    }
+
+    fn flush(&mut self) -> io::Result<()> {
+        if self.can_flush {
+            Ok(())
+        } else {
+            Err(Error::from(ErrorKind::StorageFull))
+        }
+    }
+}
+
+const SIX_LINES: &str = "leak hello world\ntry_read 1\nshow 2\nrelease 2\nend 1\ntry_read 1\n";
+
+const SIX_REPLIES: &str =
+    "box 0@1\nreader\nvalue hello world\nok\nok\nerror: Failed to borrow because the value was dropped.created_at: script:1:1\n";
+
+#[test]
+fn a_value_is_read_and_ended(rt: HostRuntime) {
+    assert_replies(&rt, rt.alloc(), SIX_LINES, SIX_REPLIES);
+}
+
+#[test]
+fn lines_that_name_nothing_or_are_bad(rt: HostRuntime) {
+    assert_replies(
+        &rt,
+        rt.alloc(),
+        "leak a\nshow 1\nleek b\ntry_read 01\ntry_read 9\nleak\n",
+        "box 0@1\nno such\nbad line\nbad line\nno such\nbad line\n",
+    );
+}
+
+#[test]
+fn no_input_and_no_fault(rt: HostRuntime) {
+    assert_replies(&rt, rt.alloc(), "", "");
+}
+
+#[test]
+fn any_argument_is_a_fault(rt: HostRuntime) -> Result<(), Fail> {
+    let usage = "boxes: usage: boxes or boxes fuzz SEED COUNT\n";
+    for word in ["", "script", "fuzz"] {
+        let words = vec![in rt.alloc(); String::from_str(rt.alloc(), word)?]?;
+        let outcome = run_words(rt.alloc(), words.as_slice(), &mut SIX_LINES.as_bytes());
+        assert_ended(&rt, &outcome, 2, "", usage);
+    }
+    Ok(())
+}
+
+#[test]
+fn lines_are_named_and_not_places(rt: HostRuntime) {
+    assert_replies(
+        &rt,
+        rt.alloc(),
+        "leek\nleak a\nshow 2\ntry_read 2\ntry_read 9\nleak b\ntry_read 6\nshow 7\nshow 4\nend 6\nrelease 4\nrelease 4\nshow 4\nend 2\nleak c\ntry_read 15\nshow 16\nrelease 15\nend 5\n",
+        "bad line\nbox 0@1\nno such\nreader\nno such\nbox 1@1\nreader\nvalue b\nvalue a\nerror: Failed to borrow mutably because the value was already borrowed immutably.borrowed_at:\tscript:7:1\nok\nno such\nno such\nok\nbox 0@2\nreader\nvalue c\nno such\nno such\n",
+    );
+}
+
+#[test]
+fn forms_of_lines(rt: HostRuntime) {
+    let bad = [
+        "",
+        " ",
+        "leak",
+        " leak a",
+        "Leak a",
+        "leak\ta",
+        "try_read",
+        "try_read ",
+        "try_read 0",
+        "try_read 01",
+        "try_read +1",
+        "try_read -1",
+        "try_read  1",
+        "try_read 1 ",
+        "try_read 1\r",
+        "try_read 1x",
+        "try_read 1 1",
+        "try_read 1000001",
+        "try_read 4294967297",
+        "show",
+        "release",
+        "end one",
+        "end 1.",
+    ];
+    for line in bad {
+        assert_line(&rt, rt.alloc(), line, "bad line\n");
+    }
+    for line in ["try_read 2", "show 1", "release 1", "end 1000000", "end 2"] {
+        assert_line(&rt, rt.alloc(), line, "no such\n");
+    }
+}
+
+/// Asserts the reply to a line after a box.
+fn assert_line(rt: &impl Abort, alloc: Global, line: &str, reply: &str) {
+    let mut first: &[u8] = b"leak a\n";
+    let mut input = first
+        .by_ref()
+        .chain(line.as_bytes())
+        .chain(b"\n".as_slice());
+    let outcome = run(alloc, &mut input);
+    let replies = text(&outcome.output);
+    assert_eq!(rt;
+        replies.strip_prefix("box 0@1\n"),
+        Some(reply),
+        "at {line:?}"
+    );
+    assert_eq!(rt; outcome.status, 0);
+}
+
+#[test]
+fn bytes_are_content(rt: HostRuntime) {
+    let mut script: &[u8] =
+        b"leak a\r\nleak \0b\n\nleak \xff\n\xc3\nleak \nleak  \xc3\xa4\ntry_read 1\ntry_read 2\ntry_read 6\ntry_read 7\nshow 8\nshow 9\nshow 10\nshow 11\n\nleak last";
+    let replies =
+        "box 0@1\nbox 1@1\nbad line\nbad line\nbad line\nbox 2@1\nbox 3@1\nreader\nreader\nreader\nreader\nvalue a\r\nvalue \0b\nvalue \nvalue  \u{e4}\nbad line\nbox 4@1\n";
+    assert_ended(&rt, &run(rt.alloc(), &mut script), 0, replies, "");
+}
+
+#[test]
+fn a_byte_a_read(rt: HostRuntime) {
+    let mut input = Trickle {
+        script: b"leak \xc3\xa4\ntry_read 1\nshow 2",
+        is_interrupted: false,
+    };
+    let replies = "box 0@1\nreader\nvalue \u{e4}\n";
+    assert_ended(&rt, &run(rt.alloc(), &mut input), 0, replies, "");
+}
+
+/// The beginning of a text that has so many lines.
+fn first_lines(text: &str, count: usize) -> &str {
+    let mut rest = text;
+    for _ in 0..count {
+        rest = rest.split_once('\n').map_or("", |(_, after)| after);
+    }
+    text.strip_suffix(rest).unwrap_or("")
+}
+
+#[test]
+fn a_read_that_fails(rt: HostRuntime) {
+    for reads_left in 0..=6 {
+        let mut input = LineByLine {
+            script: SIX_LINES.as_bytes(),
+            reads_left,
+        };
+        let outcome = run(rt.alloc(), &mut input);
+        let replies = first_lines(SIX_REPLIES, reads_left);
+        assert_ended(&rt, &outcome, 1, replies, "boxes: input failed\n");
+    }
+}
+
+#[test]
+fn the_rest_of_a_line_that_fails(rt: HostRuntime) {
+    let mut input = LineByLine {
+        script: b"leak a\nleak b",
+        reads_left: 2,
+    };
+    let outcome = run(rt.alloc(), &mut input);
+    assert_ended(&rt, &outcome, 1, "box 0@1\n", "boxes: input failed\n");
+}
+
+#[test]
+fn the_end_is_read_once(rt: HostRuntime) {
+    let mut input = LineByLine {
+        script: b"leek\nleak a",
+        reads_left: 3,
+    };
+    let outcome = run(rt.alloc(), &mut input);
+    assert_ended(&rt, &outcome, 0, "bad line\nbox 0@1\n", "");
+}
+
+#[test]
+fn a_write_that_fails(rt: HostRuntime) {
+    let whole = SIX_REPLIES.as_bytes();
+    for room in 0..whole.len() {
+        let mut output = Narrow::new(rt.alloc(), room, true);
+        let mut faults = Vec::new(rt.alloc());
+        let mut input = SIX_LINES.as_bytes();
+        let status = boxes_run(rt.alloc(), &[], &mut input, &mut output, &mut faults);
+        assert_eq!(rt; status, 1);
+        assert_eq!(rt; text(&faults), "boxes: output failed\n");
+        assert!(rt; whole.starts_with(output.taken.as_slice()), "at {room}");
+    }
+}
+
+#[test]
+fn a_flush_that_fails(rt: HostRuntime) {
+    for script in [SIX_LINES, ""] {
+        let mut output = Narrow::new(rt.alloc(), 1000, false);
+        let mut faults = Vec::new(rt.alloc());
+        let status = boxes_run(
+            rt.alloc(),
+            &[],
+            &mut script.as_bytes(),
+            &mut output,
+            &mut faults,
+        );
+        assert_eq!(rt; status, 1);
+        assert_eq!(rt; text(&faults), "boxes: output failed\n");
+    }
+}
+
+#[test]
+fn the_earlier_fault_is_told(rt: HostRuntime) {
+    let mut input = LineByLine {
+        script: SIX_LINES.as_bytes(),
+        reads_left: 2,
+    };
+    let mut output = Narrow::new(rt.alloc(), 0, true);
+    let mut faults = Vec::new(rt.alloc());
+    let status = boxes_run(rt.alloc(), &[], &mut input, &mut output, &mut faults);
+    assert_eq!(rt; status, 1);
+    assert_eq!(rt; text(&faults), "boxes: output failed\n");
+}
+
+#[test]
+fn faults_that_cannot_be_told(rt: HostRuntime) -> Result<(), Fail> {
+    let mut faults = Narrow::new(rt.alloc(), 0, false);
+    let mut output = Vec::new(rt.alloc());
+    let words = vec![in rt.alloc(); String::from_str(rt.alloc(), "fuzz")?]?;
+    let mut input = SIX_LINES.as_bytes();
+    let status = boxes_run(
+        rt.alloc(),
+        words.as_slice(),
+        &mut input,
+        &mut output,
+        &mut faults,
+    );
+    assert_eq!(rt; status, 2);
+    let mut broken = LineByLine {
+        script: b"",
+        reads_left: 0,
+    };
+    let status = boxes_run(rt.alloc(), &[], &mut broken, &mut output, &mut faults);
+    assert_eq!(rt; status, 1);
+    Ok(())
+}
+
+#[test]
+fn a_million_lines(rt: HostRuntime) {
+    let outcome = run(rt.alloc(), &mut repeat(b'\n').take(1_000_000));
+    assert_eq!(rt; outcome.status, 0);
+    assert_eq!(rt; outcome.output.len(), 9_000_000);
+    assert_eq!(rt; outcome.faults.len(), 0);
+}
+
+#[test]
+fn a_line_past_the_limit(rt: HostRuntime) {
+    let broken = LineByLine {
+        script: b"x",
+        reads_left: 1,
+    };
+    let mut input = repeat(b'\n').take(1_000_000).chain(broken);
+    let outcome = run(rt.alloc(), &mut input);
+    assert_eq!(rt; outcome.status, 2);
+    assert_eq!(rt; text(&outcome.faults), "boxes: too many lines\n");
+    assert_eq!(rt; outcome.output.len(), 9_000_000);
+}
+
+#[test]
+fn a_very_long_line(rt: HostRuntime) {
+    let mut input = b"leak "
+        .as_slice()
+        .chain(repeat(b'y').take(100_000))
+        .chain(b"\ntry_read 1\nshow 2\n".as_slice())
+        .chain(repeat(b'z').take(100_000));
+    let outcome = run(rt.alloc(), &mut input);
+    let replies = text(&outcome.output);
+    let value = replies.strip_prefix("box 0@1\nreader\nvalue ");
+    let value = value.and_then(|rest| rest.strip_suffix("\nbad line\n"));
+    assert!(rt; value.is_some_and(|y| y.len() == 100_000));
+    assert!(rt; value.is_some_and(|y| y.bytes().all(|byte| byte == b'y')));
+    assert_eq!(rt; outcome.status, 0);
+}
