@@ -124,6 +124,18 @@ impl<T> fmt::Debug for GenerationalBox<T> {
 }
 
 impl<T> GenerationalBox<T> {
+    ghost use Rattle.std.specs.Prelude.{◌≡◌};
+    ghost use Rattle.generational_box.specs.Boxes.{pointer_of};
+
+    /// The box without its element type, as a recorded call names it.
+    pub fn pointer(&self) -> GenerationalPointer
+        ensures { result ≡ pointer_of self.now }
+    {
+        self.raw
+    }
+}
+
+impl<T> GenerationalBox<T> {
     ghost use Rattle.std.specs.Prelude.{◌≡◌, IfErr, None};
     ghost use Rattle.generational_box.specs.Boxes.{pointer_of};
     ghost use Rattle.generational_box.specs.Machine.Action.{Make, Read, End};

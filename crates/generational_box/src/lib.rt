@@ -19,6 +19,7 @@ mod pool;
 mod readers;
 mod references;
 mod session;
+mod steps;
 mod storage;
 mod unsync;
 
@@ -30,5 +31,6 @@ pub use crate::error::{
 pub use crate::pool::{LastFirst, SlotPool};
 pub use crate::references::{GenerationalRef, Ref};
 pub use crate::session::{BoxAt, Call, Reply, Session};
+pub use crate::steps::StepCall;
 pub use crate::storage::{AnyStorage, Storage};
 pub use crate::unsync::{Numbers, Store, UnsyncStorage};

@@ -53,8 +53,9 @@ impl<T> GenerationalRef<T> {
         self.id
     }
 
+    /// The number of the borrow, by which a recorded release names it.
     #[inline(always)]
-    pub(crate) fn ticket(&self) -> u64
+    pub fn ticket(&self) -> u64
         ensures { result ≡ self.now.ticket }
     {
         self.ticket
