@@ -7,6 +7,9 @@ pub mod CarriedCalls
 pub mod CarriedCells
 pub mod CarriedEnds
 pub mod CarriedOwners
+pub mod CarriedSession
+pub mod CarriedTables
+pub mod Choosing
 pub mod Ends
 pub mod Filled
 pub mod Fresh

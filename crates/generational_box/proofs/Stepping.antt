@@ -86,7 +86,7 @@ module _ {T : Type 0} where
   takes_referred S call f o b (Some m) (Some (Shared c l)) t = inl t
   takes_referred S call f o b to target t = inr (refl, refl)
 
-  takes_new : (S : State T) (call : Action T) (f : Fresh) → Takes S call (act S call f).0 f
+  pub takes_new : (S : State T) (call : Action T) (f : Fresh) → Takes S call (act S call f).0 f
       → AreNew S call f ⊎ IsRefused S (act S call f).0 (act S call f).1
   takes_new S (Make o v l) f t =
       takes_if S (Make o v l) f (is_known S o) (make_value S o v l f.first) _ inl (refl, refl) t
