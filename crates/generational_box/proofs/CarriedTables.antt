@@ -4,7 +4,6 @@ use Rattle.std.specs.Prelude.{map as list_map, slice_set}
 use Rattle.std.specs.List.{AllByRecursion}
 use Rattle.generational_box.specs.Names.{Name}
 use Rattle.generational_box.specs.Session.{Held, held}
-use Rattle.generational_box.specs.Session.Held.{Nothing}
 use Rattle.generational_box.specs.Numbered.{moved_held, KnowsHeld}
 
 module _ {T : Type 0} (f : Name → Name) (d : ℕ) (number : ℕ) where

@@ -20,7 +20,7 @@ use Rattle.generational_box.specs.Machine.{Action, Answer, Fresh, Outcome, Owner
 use Rattle.generational_box.specs.Machine.{is_known, referred, found, make_value, make_shared}
 use Rattle.generational_box.specs.Machine.Action.{Make, MakeShared, Refer}
 use Rattle.generational_box.specs.Machine.Answer.{Refused}
-use Rattle.generational_box.specs.Steps.{AreNew, Takes, Meets, limited, takes_ticket}
+use Rattle.generational_box.specs.Steps.{AreNew, Takes, Meets, takes_ticket}
 use Rattle.generational_box.specs.Numbered.{want}
 use Rattle.generational_box.proofs.Maps.{name_exact, name_total, key_same}
 use Rattle.generational_box.proofs.Fresh.{AreFresh, new_fresh}

@@ -18,9 +18,13 @@ pub mod Hindering
 pub mod Lasting
 pub mod Lasts
 pub mod Lengths
+pub mod Making
 pub mod Maps
 pub mod Moved
 pub mod Named
+pub mod NumberedCalls
+pub mod NumberedStep
+pub mod Numbering
 pub mod Placing
 pub mod Plain
 pub mod Saying

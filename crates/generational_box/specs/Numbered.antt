@@ -38,20 +38,20 @@ pub record AreNumbersBelow (n : ℕ) (given : Names) : Type 0 where
 abbrev pub named_by : List Name → Name → Name
 named_by order k = slice_index_or order k.slot k
 
-module _ {T : Type 0} (f : Name → Name) (d : ℕ) (number : ℕ) where
+module _ {T : Type 0} (f : Name → Name) (d : ℕ) (store : ℕ) where
   abbrev pub moved_held : Held T → Held T
-  moved_held (Boxed b) = Boxed (moved_box f d number b)
-  moved_held (Reading g) = Reading (moved_guard f d number g)
-  moved_held (Writing g v) = Writing (moved_guard f d number g) v
-  moved_held (Owning o) = Owning (moved_owner f d number o)
+  moved_held (Boxed b) = Boxed (moved_box f d store b)
+  moved_held (Reading g) = Reading (moved_guard f d store g)
+  moved_held (Writing g v) = Writing (moved_guard f d store g) v
+  moved_held (Owning o) = Owning (moved_owner f d store o)
   moved_held Nothing = Nothing
 
 abbrev pub KnowsHeld : {T : Type 0} → (Name → Type 0) → ℕ → Held T → Type 0
-KnowsHeld Knows number (Boxed b) = KnowsBox Knows number b
-KnowsHeld Knows number (Reading g) = KnowsGuard Knows number g
-KnowsHeld Knows number (Writing g v) = KnowsGuard Knows number g
-KnowsHeld Knows number (Owning o) = Unit {0}
-KnowsHeld Knows number Nothing = Unit {0}
+KnowsHeld Knows store (Boxed b) = KnowsBox Knows store b
+KnowsHeld Knows store (Reading g) = KnowsGuard Knows store g
+KnowsHeld Knows store (Writing g v) = KnowsGuard Knows store g
+KnowsHeld Knows store (Owning o) = Unit {0}
+KnowsHeld Knows store Nothing = Unit {0}
 
 -- a session's state and table are those of another, names and tickets aside
 pub record CarriesSession {T : Type 0}
