@@ -99,7 +99,7 @@ module _ {T U : Type 0} {f : Name → Name} {d : ℕ} {g : T → U}
       split true is = h is (k is)
       split false is = e is
 
-  pub reach_moved : (b : GenerationalPointer)
+  reach_moved : (b : GenerationalPointer)
       → KnowsBox Knows A.number b → reach S (moved_box f d A.number b) ≡ option_map f (reach A b)
   unfolding reach
   reach_moved b k =

@@ -87,7 +87,7 @@ module _ {T U : Type 0} {f : Name → Name} {d : ℕ} {g : T → U}
   known_moved (Some o) = ap is_some (holding_moved o) ∙ some_map (moved_holding f d) (holding A o)
 
   -- a record put in
-  pub with_record : (key : ℕ) (h : Holding) → AllByRecursion Knows h.names
+  with_record : (key : ℕ) (h : Holding) → AllByRecursion Knows h.names
       → Carries f d g Knows (with_owner S (key + d) (moved_holding f d h)) (with_owner A key h)
   with_record key h k =
       with_owners c _ _
@@ -105,7 +105,7 @@ module _ {T U : Type 0} {f : Name → Name} {d : ℕ} {g : T → U}
       same_some : (x y : Holding) → Some x ≡ Some y → x ≡ y
       same_some x y e = cc
 
-  pub without_record : (key : ℕ)
+  without_record : (key : ℕ)
       → Carries f d g Knows (record S { owners = map.remove S.owners (key + d) })
       (record A { owners = map.remove A.owners key })
   without_record key =

@@ -50,7 +50,7 @@ never_given given =
 
 module _ {T : Type 0} where
   -- there are always names that were never given
-  pub fresh_names : (S : State T) (call : Action T) → (new : Fresh) × AreFresh S call new
+  fresh_names : (S : State T) (call : Action T) → (new : Fresh) × AreFresh S call new
   fresh_names S call =
       let behind = never_given S.given in
       let one : Name = record { slot = behind.0; generation = 0 } in
@@ -84,7 +84,7 @@ module _ {T : Type 0} where
   unnamed_referred S o b to x m n h = refl
 
   -- a call that is refused doesn't depend on the names
-  pub unnamed : (S : State T) (call : Action T) (f h : Fresh)
+  unnamed : (S : State T) (call : Action T) (f h : Fresh)
       → is_refusal (act S call f).0 ≡ true → act S call f ≡ act S call h
   unnamed S (Make o v l) f h k = unnamed_if (is_known S o) (make_value S o v l f.first)
       (make_value S o v l h.first) _ (λ e. absurd (true≢false (sym e))) k

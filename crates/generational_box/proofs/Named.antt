@@ -14,20 +14,20 @@ use Rattle.generational_box.specs.State.{is_named, IsNamed}
 use Rattle.generational_box.proofs.Maps.{name_exact, name_total, name_here, name_same, key_same}
 
 -- some element of a list passes
-pub one_passes : {A : Type 0} (p : A → Bool) (xs : List A)
+one_passes : {A : Type 0} (p : A → Bool) (xs : List A)
     → list_any p xs ≡ true → (x : A) × (p x ≡ true)
 one_passes p [] h = absurd (true≢false (sym h))
 one_passes p (x ∷ xs) h = ⊎_elim (λ e. (x, e)) (λ e. one_passes p xs e) (or_cases _ _ h)
 
 -- an element that passes both
-pub passes_both : {A : Type 0} (p q : A → Bool) → ((x : A) → q x ≡ true → p x ≡ true)
+passes_both : {A : Type 0} (p q : A → Bool) → ((x : A) → q x ≡ true → p x ≡ true)
     → (xs : List A) → list_any q xs ≡ true → list_any p xs ≡ true
 passes_both p q f [] h = h
 passes_both p q f (x ∷ xs) h =
     ⊎_elim (λ e. or_left _ _ (f x e)) (λ e. or_right _ _ (passes_both p q f xs e)) (or_cases _ _ h)
 
 module _ {T : Type 0} where
-  pub is_ref : (m : Name) (c : Option (Cell T))
+  is_ref : (m : Name) (c : Option (Cell T))
       → refers_to m c ≡ true → (l : Location) × (c ≡ Some (Ref m l))
   is_ref m None h = absurd (true≢false (sym h))
   is_ref m (Some (Value c l)) h = absurd (true≢false (sym h))

@@ -135,7 +135,7 @@ module _ {T : Type 0} {s a : SessionState T} (m : Matches s a) where
   AlikeWith names out was = Matched
       (named_by (m.order ++ names)) m.difference (λ (v : T). v) (More names) a.state.number out was
 
-  abbrev pub CarriesWith : List Name → Type 0
+  abbrev CarriesWith : List Name → Type 0
   CarriesWith names =
       Carries (named_by (m.order ++ names)) m.difference (λ (v : T). v) (More names) s.state a.state
 
@@ -216,7 +216,7 @@ module _ {T : Type 0} {s a : SessionState T} (m : Matches s a) where
 
   -- ---- numbers
 
-  pub not_yet : (i : ℕ) → set.contains a.state.given (number (length m.order + i)) ≡ false
+  not_yet : (i : ℕ) → set.contains a.state.given (number (length m.order + i)) ≡ false
   not_yet i = false_from_ne_true _
       (λ e. let low = (m.numbers.only (number (length m.order + i)) e).1 in omega arith)
 

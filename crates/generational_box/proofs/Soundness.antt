@@ -100,7 +100,7 @@ module _ {T : Type 0} where
       (s.given q (sym (ap is_some (get-insert_apart name_total name_exact S.cells n c q ne)) ∙ h)))
       (name_cases q n)
 
-  pub shared_live : (o : Option (Cell T)) → is_shared o ≡ true → is_some o ≡ true
+  shared_live : (o : Option (Cell T)) → is_shared o ≡ true → is_some o ≡ true
   shared_live None h = h
   shared_live (Some c) h = refl
 

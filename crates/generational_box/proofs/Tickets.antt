@@ -12,7 +12,7 @@ use Rattle.generational_box.specs.declared.entry.Borrow.{Borrow}
 abbrev pub tickets : List Borrow → List ℕ
 tickets rs = list_map (λ r. r.ticket) rs
 
-pub tickets-append : (rs ss : List Borrow) → tickets (rs ++ ss) ≡ tickets rs ++ tickets ss
+tickets-append : (rs ss : List Borrow) → tickets (rs ++ ss) ≡ tickets rs ++ tickets ss
 tickets-append [] ss = refl
 tickets-append (r ∷ rs) ss = ap (λ ts. r.ticket ∷ ts) (tickets-append rs ss)
 
