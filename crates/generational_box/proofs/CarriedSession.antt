@@ -225,8 +225,7 @@ module _ {T : Type 0} {f : Name → Name} {d : ℕ} {Knows : Name → Type 0} {s
           table = subst
               (λ n. spent x out.0 s.table ++ gives out.0 ∷ [] ≡ list_map (moved_held f d n) after)
               (sym m.same)
-              ((λ i. spent x (m.answer i) (c.table i) ++ gives (m.answer i) ∷ [])
-              ∙ ((λ i.
+              ((λ i. spent x (m.answer i) (c.table i) ++ gives (m.answer i) ∷ []) ∙ ((λ i.
               spent_moved f d number x was.0 a.table i ++ gives_moved f d number was.0 i ∷ []) ∙ sym
               (map_append (moved_held f d number) (spent x was.0 a.table) (gives was.0 ∷ []))));
           known = subst (λ n. AllByRecursion (KnowsHeld Knows n) after) (sym m.same)

@@ -22,7 +22,7 @@ use Rattle.generational_box.specs.Machine.Action.{Make, MakeShared, Refer}
 use Rattle.generational_box.specs.Machine.Answer.{Refused}
 use Rattle.generational_box.specs.Steps.{AreNew, Takes, Meets, takes_ticket}
 use Rattle.generational_box.specs.Numbered.{want}
-use Rattle.generational_box.proofs.Maps.{name_exact, name_total, key_same}
+use Rattle.generational_box.proofs.Maps.{by_name, key_same}
 use Rattle.generational_box.proofs.Fresh.{AreFresh, new_fresh}
 use Rattle.generational_box.proofs.Stepping.{is_refusal, IsRefused, takes_new}
 
@@ -34,7 +34,7 @@ slot_behind (m ∷ names) =
     let rest = slot_behind names in (
       m.slot + rest.0 + 1,
       λ n h. ⊎_elim
-          (λ e. let same = ap (λ (x : Name). x.slot) (key_same name_total name_exact n m e) in
+          (λ e. let same = ap (λ (x : Name). x.slot) (key_same by_name n m e) in
           omega arith)
           (λ e. let below = rest.1 n e in omega arith) (or_cases _ _ h),
     )
@@ -91,8 +91,7 @@ module _ {T : Type 0} where
   unnamed S (MakeShared o v l) f h k = unnamed_if (is_known S o)
       (make_shared S o v l f) (make_shared S o v l h) _ (λ e. absurd (true≢false (sym e))) k
   unnamed S (Refer o b) f h k =
-      unnamed_if (is_known S o) _ _ _
-      (unnamed_unless S (read_trouble S b) _ _
+      unnamed_if (is_known S o) _ _ _ (unnamed_unless S (read_trouble S b) _ _
       (unnamed_referred S o b (reach S b) (found S (reach S b)) f.first h.first)) k
   unnamed S _ f h k = refl
 

@@ -11,7 +11,7 @@ use Rattle.generational_box.specs.Names.{Name, name_cmp, NameMap}
 use Rattle.generational_box.specs.Cells.{Cell, refers_to}
 use Rattle.generational_box.specs.Cells.Cell.{Value, Shared, Ref}
 use Rattle.generational_box.specs.State.{is_named, IsNamed}
-use Rattle.generational_box.proofs.Maps.{name_exact, name_total, name_here, name_same, key_same}
+use Rattle.generational_box.proofs.Maps.{by_name, name_here, name_same, key_same}
 
 -- some element of a list passes
 one_passes : {A : Type 0} (p : A → Bool) (xs : List A)
@@ -43,8 +43,7 @@ module _ {T : Type 0} where
 
   pub named_from : (cells : NameMap (Cell T)) (m : Name) → IsNamed cells m → is_named cells m ≡ true
   unfolding is_named
-  named_from cells m h =
-      passes_both (λ n. refers_to m (map.get cells n)) (eq_by_cmp name_cmp h.0)
-      (λ n e. ap (λ k. refers_to m (map.get cells k)) (sym (key_same name_total name_exact h.0 n e))
+  named_from cells m h = passes_both (λ n. refers_to m (map.get cells n)) (eq_by_cmp name_cmp h.0)
+      (λ n e. ap (λ k. refers_to m (map.get cells k)) (sym (key_same by_name h.0 n e))
       ∙ (ap (refers_to m) h.2 ∙ name_here m))
       (map.keys cells) (sym (map.contains_key-keys cells h.0) ∙ ap is_some h.2)

@@ -126,8 +126,7 @@ module _ {T : Type 0} {s a : SessionState T} (m : Matches s a) where
         → KnowsFresh (Knows m) action (next_numbers a) → is_making action ≡ false → StepMatches
         (settled s x (act s.state (mine action) (moved_fresh (named_by m.order) (next_numbers a))))
         (settled a x (act a.state action (next_numbers a)))
-    plain_asks x action k kn unmade =
-        settled_step m x
+    plain_asks x action k kn unmade = settled_step m x
         (act s.state (mine action) (moved_fresh (named_by m.order) (next_numbers a)))
         (act a.state action (next_numbers a))
         (act_matched m.carries.state action (next_numbers a) k kn)

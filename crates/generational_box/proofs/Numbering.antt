@@ -15,7 +15,7 @@ use Rattle.generational_box.specs.Cells.Cell.{Value, Shared, Ref}
 use Rattle.generational_box.specs.State.{State, Holding, IsSound}
 use Rattle.generational_box.specs.Carrying.{Carries, moved_cell, moved_holding}
 use Rattle.generational_box.specs.Numbered.{number, IsNumberBelow, AreNumbersBelow, named_by}
-use Rattle.generational_box.proofs.Maps.{name_exact, name_total, name_cases, contains-insert_here}
+use Rattle.generational_box.proofs.Maps.{by_name, name_total, name_cases, contains-insert_here}
 use Rattle.generational_box.proofs.Maps.{contains-insert_old, contains-insert_apart}
 
 -- ---- a renaming that agrees with another one on the names known
@@ -71,13 +71,10 @@ carries_more {f = f} {d = d} {g = g}
       next = c.next;
       peak = c.peak;
       cells = record {
-        at = λ k mk. ⊎_elim
-            (λ kk. ap (map.get S.cells) (agree k kk) ∙ (c.cells.at k kk
+        at = λ k mk. ⊎_elim (λ kk. ap (map.get S.cells) (agree k kk) ∙ (c.cells.at k kk
             ∙ sym (cell_agrees f h Knows agree d g (map.get A.cells k) (c.cells.leads k))))
-            (λ new. not_there (map.get S.cells (h k)) (λ e.
-            true≢false (sym (sound_S.given (h k) e) ∙ new.0))
-            ∙ sym
-            (ap (option_map (moved_cell h d g))
+            (λ new. not_there (map.get S.cells (h k)) (λ e. true≢false
+            (sym (sound_S.given (h k) e) ∙ new.0)) ∙ sym (ap (option_map (moved_cell h d g))
             (not_there (map.get A.cells k) (λ e. true≢false (sym (sound_A.given k e) ∙ new.1)))))
             (cases k mk);
         from = λ n e. let it = c.cells.from n e in (it.0, more it.0 it.1, agree it.0 it.1 ∙ it.2);
@@ -129,14 +126,14 @@ numbers_more given n h =
       count = set.len-insert name_total given (number n)
           ∙ (ap (λ b. cond b (set.len given) (set.len given + 1)) new ∙ ap (λ x. x + 1) h.count);
       all = λ k b. ⊎_elim
-          (λ lt. contains-insert_old name_total name_exact given (number n) k (h.all k (b.0, lt)))
+          (λ lt. contains-insert_old by_name given (number n) k (h.all k (b.0, lt)))
           (λ ge. subst (λ x. set.contains (set.insert given (number n)) x ≡ true)
           (sym (number_of n k b.0 (let lt = b.1 in omega arith)))
-          (contains-insert_here name_total name_exact given (number n))) (cases_lt k.slot n);
+          (contains-insert_here by_name given (number n))) (cases_lt k.slot n);
       only = λ k e. ⊎_elim (λ is.
           (ap (λ (x : Name). x.generation) is, let s = ap (λ (x : Name). x.slot) is in omega arith))
           (λ ne. let old = h.only k
-          (sym (contains-insert_apart name_total name_exact given (number n) k ne) ∙ e) in
+          (sym (contains-insert_apart by_name given (number n) k ne) ∙ e) in
           (old.0, let lt = old.1 in omega arith)) (name_cases k (number n));
     }
 

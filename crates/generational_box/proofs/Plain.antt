@@ -113,8 +113,7 @@ module _ {T : Type 0} where
   get_bare : (cells : NameMap (Cell T)) (n : Name)
       → map.get (bare_cells cells) n ≡ option_map (moved_cell same_name 0 bare) (map.get cells n)
   unfolding bare_cells
-  get_bare cells n =
-      map.get-from_sorted name_cmp _ n
+  get_bare cells n = map.get-from_sorted name_cmp _ n
       (subst IsTrue (sym (sorted_each name_cmp (moved_cell same_name 0 bare) (map.entries cells)))
       (map.entries_sorted cells))
       ∙ (find_each name_cmp (moved_cell same_name 0 bare) n (map.entries cells)

@@ -37,7 +37,7 @@ use Rattle.generational_box.specs.Machine.{is_known, make_value, make_shared}
 use Rattle.generational_box.specs.Borrowing.{read_trouble, is_same_box}
 use Rattle.generational_box.specs.Ending.{close, hindered, hindrance_at, swept}
 use Rattle.generational_box.proofs.Fresh.{AreFresh}
-use Rattle.generational_box.proofs.Maps.{name_exact, name_total, get-changed_here}
+use Rattle.generational_box.proofs.Maps.{by_name, get-changed_here}
 use Rattle.generational_box.proofs.Maps.{contains-insert_here}
 use Rattle.generational_box.proofs.Ends.{none≢some}
 
@@ -111,12 +111,12 @@ module _ {T : Type 0} where
   says_born S Q c None b number new = record {
     number = number;
     fresh = new;
-    given = contains-insert_here name_total name_exact Q.given (name_of b);
+    given = contains-insert_here by_name Q.given (name_of b);
   }
   says_born S Q c (Some o) b number new = record {
     number = number;
     fresh = new;
-    given = contains-insert_here name_total name_exact Q.given (name_of b);
+    given = contains-insert_here by_name Q.given (name_of b);
   }
 
   says_referred : (S : State T) (o : Option OwnerName) (b : GenerationalPointer) (to : Option Name)
@@ -126,13 +126,11 @@ module _ {T : Type 0} where
       record { so = says_born S S (Ref m l) o _ refl new; able = refl }
   says_referred S o b to target n new = record { so = tt; able = refl }
 
-  says_cloned : (S : State T) (o : OwnerName) (h : Option Holding)
-      → IsSaid S (cloned S o h)
+  says_cloned : (S : State T) (o : OwnerName) (h : Option Holding) → IsSaid S (cloned S o h)
   says_cloned S o None = record { so = tt; able = refl }
   says_cloned S o (Some h) = record { so = refl; able = refl }
 
-  says_let_go : (S : State T) (o : OwnerName) (h : Option Holding)
-      → IsSaid S (let_go S o h)
+  says_let_go : (S : State T) (o : OwnerName) (h : Option Holding) → IsSaid S (let_go S o h)
   says_let_go S o None = record { so = tt; able = refl }
   says_let_go S o (Some h) =
       let fewer = with_owner S o.key (record h { count = h.count - 1 }) in
@@ -150,9 +148,9 @@ module _ {T : Type 0} where
       by_cell None is = absurd (none≢some _ old (ap content_of is) had)
       by_cell (Some (Ref k l)) is = absurd (none≢some _ old (ap content_of is) had)
       by_cell (Some (Value d l)) is = ap content_of
-          (get-changed_here name_total name_exact S.cells m (refilled c) (Value d l) is)
+          (get-changed_here by_name S.cells m (refilled c) (Value d l) is)
       by_cell (Some (Shared d l)) is = ap content_of
-          (get-changed_here name_total name_exact S.cells m (refilled c) (Shared d l) is)
+          (get-changed_here by_name S.cells m (refilled c) (Shared d l) is)
 
   says_read : (S : State T) (l : Location) (m : Option Name) (c : Option (Content T))
       → contents S m ≡ c → IsSaid S (read_at S l m c)
@@ -179,8 +177,7 @@ module _ {T : Type 0} where
   says_set S v (Some m) (Some (Here old readers)) = record { so = tt; able = refl }
   says_set S v m c = record { so = tt; able = refl }
 
-  says_turned : (S : State T) (a old new : Name) (l : Location)
-      → IsSaid S (turned S a old new l)
+  says_turned : (S : State T) (a old new : Name) (l : Location) → IsSaid S (turned S a old new l)
   says_turned S a old new l =
       let left = swept (map.insert S.cells a (Ref new l)) in
       let after : State T = record S { cells = left } in
@@ -189,9 +186,8 @@ module _ {T : Type 0} where
       (unless hindrance S (Done, after))
       (record { so = tt; able = refl }) (says_done S after hindrance)
 
-  says_pointed : (S : State T) (a b : GenerationalPointer)
-      (cell : Option (Cell T)) (to : Option Name) (target : Option (Cell T))
-      → IsSaid S (pointed S a b cell to target)
+  says_pointed : (S : State T) (a b : GenerationalPointer) (cell : Option (Cell T))
+      (to : Option Name) (target : Option (Cell T)) → IsSaid S (pointed S a b cell to target)
   says_pointed S a b None to target = record { so = tt; able = refl }
   says_pointed S a b (Some (Ref old l)) (Some new) (Some (Shared c k)) =
       says_turned S (name_of a) old new l
@@ -206,8 +202,7 @@ module _ {T : Type 0} where
       let shared = born S f.first (Shared (Here v []) l) in
       says_known S (is_known S o) (make_shared S o v l f)
       (record { so = says_born S shared (Ref f.first l) o _ refl new.1; able = refl })
-  act_says S (Refer o b) f new =
-      says_known S (is_known S o)
+  act_says S (Refer o b) f new = says_known S (is_known S o)
       (unless (read_trouble S b) S (referred S o b (reach S b) (found S (reach S b)) f.first))
       (says_unless S
       (read_trouble S b) _ (says_referred S o b (reach S b) (found S (reach S b)) f.first new))

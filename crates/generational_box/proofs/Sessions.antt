@@ -130,14 +130,12 @@ module _ {T : Type 0} where
 
   pub session_sound : (s r : SessionState T) (c : Call T) (x : Said T)
       → IsSound s.state → SessionStep s c x r → IsSound r.state
-  session_sound s r c x sound step =
-      ⊎_elim (λ e. subst IsSound (sym e) sound)
+  session_sound s r c x sound step = ⊎_elim (λ e. subst IsSound (sym e) sound)
       (λ e. meets_sound s.state r.state e.0 e.1 sound e.2) (settles_meets s r c x (asked s c) step)
 
   pub session_bounded : (s r : SessionState T) (c : Call T) (x : Said T)
       → IsSound s.state → IsBounded s.state → SessionStep s c x r → IsBounded r.state
-  session_bounded s r c x sound bounded step =
-      ⊎_elim (λ e. subst IsBounded (sym e) bounded)
+  session_bounded s r c x sound bounded step = ⊎_elim (λ e. subst IsBounded (sym e) bounded)
       (λ e. meets_bounded s.state r.state e.0 e.1 sound bounded e.2)
       (settles_meets s r c x (asked s c) step)
 

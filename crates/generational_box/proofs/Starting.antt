@@ -74,8 +74,7 @@ module _ {T : Type 0} where
 
   begins_let_go : (S : State T) (o : OwnerName) (h : Option Holding) → Begins false S (let_go S o h)
   begins_let_go S o None = begins S _ _ refl refl
-  begins_let_go S o (Some h) =
-      begins_if S (nat_lt 1 h.count)
+  begins_let_go S o (Some h) = begins_if S (nat_lt 1 h.count)
       (begins S Done (with_owner S o.key (record h { count = h.count - 1 })) refl refl)
       (begins_unless S (hindered S h.names)
       (begins S Done (record (close S h.names) { owners = map.remove S.owners o.key }) refl refl))
@@ -130,8 +129,7 @@ module _ {T : Type 0} where
       begins_if S (is_known S o) (begins_made S (Made (box_of S.number f.second l)) _ (listed_start
       (born (born S f.first (Shared (Here v []) l)) f.second (Ref f.first l)) o f.second))
       (begins S (Refused UnknownOwner) S refl refl)
-  act_start S (Refer o b) f =
-      begins_if S (is_known S o) (begins_unless S
+  act_start S (Refer o b) f = begins_if S (is_known S o) (begins_unless S
       (read_trouble S b) (begins_referred S o b (reach S b) (found S (reach S b)) f.first))
       (begins S (Refused UnknownOwner) S refl refl)
   act_start S NewOwner f = begins S _ _ refl refl
@@ -144,8 +142,7 @@ module _ {T : Type 0} where
       begins_unless S (write_trouble S b) (begins_write S l (reach S b) (contents S (reach S b)))
   act_start S (ReleaseReader g) f = begins_if S (knows_reader S g)
       (begins S (Flag true) _ (without_start S g.cell g.ticket (content_at S g.cell))
-      (without_given S g.cell g.ticket (content_at S g.cell)))
-      (begins S (Flag false) S refl refl)
+      (without_given S g.cell g.ticket (content_at S g.cell))) (begins S (Flag false) S refl refl)
   act_start S (ReleaseWriter g v) f = begins_if S (knows_writer S g)
       (begins S Done (filled S g.cell (Here v [])) refl refl) (begins S (Back v) S refl refl)
   act_start S (SetValue b v) f = begins_set S v (reach S b) (contents S (reach S b))
