@@ -28,7 +28,7 @@ use Rattle.generational_box.specs.Machine.Action.{Point, CanRead, CanWrite}
 use Rattle.generational_box.specs.declared.error.StoreError.TheVariants.{UnknownOwner}
 use Rattle.generational_box.specs.Machine.Answer.{Made, Done, Flag, Back, Refused}
 use Rattle.generational_box.specs.Steps.{IsNew, AreNew}
-use Rattle.generational_box.proofs.Maps.{name_exact, name_total, name_cases, get-insert_apart}
+use Rattle.generational_box.proofs.Maps.{by_name, name_cases, get-insert_apart}
 use Rattle.generational_box.proofs.Maps.{contains-insert_here, contains-insert_old}
 use Rattle.generational_box.proofs.Soundness.{left_live}
 use Rattle.generational_box.proofs.Filled.{filled_live}
@@ -88,8 +88,7 @@ module _ {T : Type 0} where
       (unless (hindered S h.names) S
       (Done, record (close S h.names) { owners = map.remove S.owners o.key }))
       (same_bounded S (record S {
-        owners = map.insert S.owners o.key
-            (record h { count = h.count - 1 });
+        owners = map.insert S.owners o.key (record h { count = h.count - 1 });
       }) refl refl refl b)
       (unless_bounded S (hindered S h.names)
       (Done, record (close S h.names) { owners = map.remove S.owners o.key }) b
@@ -125,7 +124,7 @@ module _ {T : Type 0} where
       (unless_bounded S (hindrance_at S.cells left old)
       (Done, record S { cells = left }) b (kept_bounded S (record S { cells = left }) refl refl
       (λ q h. ⊎_elim (λ e. ⊎_elim (λ is. ap (λ x. is_some (map.get S.cells x)) is ∙ live) (λ ne. sym
-      (ap is_some (e.0 ∙ get-insert_apart name_total name_exact S.cells a (Ref new l) q ne)) ∙ h)
+      (ap is_some (e.0 ∙ get-insert_apart by_name S.cells a (Ref new l) q ne)) ∙ h)
       (name_cases q a))
       (λ e. absurd (true≢false (sym h ∙ ap is_some e.0)))
       (swept_view (map.insert S.cells a (Ref new l)) q)) b))
@@ -154,11 +153,9 @@ module _ {T : Type 0} where
       → (q : Name)
       → is_some (map.get (born S n c).cells q) ≡ true → set.contains (born S n c).given q ≡ true
   born_given S n c g q h =
-      ⊎_elim (λ is. subst (λ x. set.contains (set.insert S.given n) x ≡ true)
-      (sym is) (contains-insert_here name_total name_exact S.given n))
-      (λ ne. contains-insert_old name_total name_exact S.given n q
-      (g q (sym (ap is_some (get-insert_apart name_total name_exact S.cells n c q ne)) ∙ h)))
-      (name_cases q n)
+      ⊎_elim (λ is. subst (λ x. set.contains (set.insert S.given n) x ≡ true) (sym is)
+      (contains-insert_here by_name S.given n)) (λ ne. contains-insert_old by_name S.given n q
+      (g q (sym (ap is_some (get-insert_apart by_name S.cells n c q ne)) ∙ h))) (name_cases q n)
 
   -- each call that takes new names keeps the bound
   pub act_bounded : (S : State T) (call : Action T) (f : Fresh)
@@ -179,12 +176,11 @@ module _ {T : Type 0} where
       (listed_bounded (born one f.second (Ref f.first l)) o f.second (born_bounded one f.second
       (Ref f.first l) (born_given S f.first (Shared (Here v []) l) s.given) (born_bounded S f.first
       (Shared (Here v []) l) s.given b new.0.fresh new.0.fits) new.1.fresh new.1.fits)) b
-  act_bounded S (Refer o x) f s new b =
-      if_bounded (is_known S o)
+  act_bounded S (Refer o x) f s new b = if_bounded (is_known S o)
       (unless (read_trouble S x) S (referred S o x (reach S x) (found S (reach S x)) f.first))
-      (Refused UnknownOwner, S)
-      (unless_bounded S (read_trouble S x) (referred S o x (reach S x) (found S (reach S x))
-      f.first) b (referred_bounded S o x (reach S x) (found S (reach S x)) f.first s new b)) b
+      (Refused UnknownOwner, S) (unless_bounded S
+      (read_trouble S x) (referred S o x (reach S x) (found S (reach S x)) f.first) b
+      (referred_bounded S o x (reach S x) (found S (reach S x)) f.first s new b)) b
   act_bounded S NewOwner f s new b = same_bounded S (act S NewOwner f).1 refl refl refl b
   act_bounded S (CloneOwner o) f s new b = cloned_bounded S o (holding S o) b
   act_bounded S (ReleaseOwner o) f s new b = let_go_bounded S o (holding S o) b
@@ -204,10 +200,9 @@ module _ {T : Type 0} where
   act_bounded S (SetValue x v) f s new b = set_bounded S v (reach S x) (contents S (reach S x)) b
   act_bounded S (End x) f s new b = unless_bounded S (hindered S (own_name S x))
       (Done, close S (own_name S x)) b (close_bounded S (own_name S x) b)
-  act_bounded S (Point a x) f s new b =
-      if_bounded (is_same_box a x) (Done, S) (unless (read_trouble S x) S
-      (pointed S a x (own_cell S a) (reach S x) (found S (reach S x)))) b
-      (unless_bounded S (read_trouble S x)
+  act_bounded S (Point a x) f s new b = if_bounded (is_same_box a x) (Done, S)
+      (unless (read_trouble S x) S (pointed S a x (own_cell S a) (reach S x) (found S (reach S x))))
+      b (unless_bounded S (read_trouble S x)
       (pointed S a x (own_cell S a) (reach S x) (found S (reach S x))) b (point_bounded S a x b))
   act_bounded S (CanRead x) f s new b = b
   act_bounded S (CanWrite x) f s new b = b

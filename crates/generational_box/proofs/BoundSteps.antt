@@ -13,7 +13,7 @@ use Rattle.generational_box.specs.State.{State}
 use Rattle.generational_box.specs.Machine.{born}
 use Rattle.generational_box.specs.Slots.{lasts, slots_of, last_name, is_last_live, is_free}
 use Rattle.generational_box.specs.Slots.{is_retired, slots, free, retired, last_generation, Fits}
-use Rattle.generational_box.proofs.Maps.{name_exact, name_total, key_cases, keep_view}
+use Rattle.generational_box.proofs.Maps.{by_name, by_number, name_total, key_cases, keep_view}
 use Rattle.generational_box.proofs.Maps.{get-insert_apart}
 use Rattle.generational_box.specs.Bounds.{IsBounded}
 use Rattle.generational_box.proofs.Lengths.{len_within, kept_key}
@@ -26,7 +26,7 @@ module _ {T : Type 0} where
       → (map.contains_key (slots_of S) s ≡ true) × (is_retired S s ≡ true)
   retired_gives S s h = ⊎_elim
       (λ e. (sym (ap is_some e.0) ∙ h, e.1)) (λ e. absurd (true≢false (sym h ∙ ap is_some e.0)))
-      (keep_view nat_cmp_total map.nat_cmp-IsAntisymmetric (slots_of S) (is_retired S) s)
+      (keep_view by_number (slots_of S) (is_retired S) s)
 
   -- where nothing new is live and no name is given, no retired slot is lost
   pub kept_bounded : (S R : State T) → R.given ≡ S.given → R.peak ≡ S.peak
@@ -34,9 +34,9 @@ module _ {T : Type 0} where
       → IsBounded S → IsBounded R
   kept_bounded S R given peak live b =
       let same : slots_of R ≡ slots_of S = ap (λ g. lasts (set.items g)) given in
-      let more : retired S ≤ retired R = len_within nat_cmp_total _ _
+      let more : retired S ≤ retired R = len_within by_number _ _
       (λ s h. let it = retired_gives S s h in let p = and_parts _ _ it.1 in
-      kept_key nat_cmp_total map.nat_cmp-IsAntisymmetric
+      kept_key by_number
       (slots_of R) (is_retired R) s (ap (λ m. map.contains_key m s) same ∙ it.0)
       (let name : last_name R s ≡ last_name S s = ap (λ m.
       let n : Name = record { slot = s; generation = unwrap_or (map.get m s) 0 } in n) same in
@@ -46,7 +46,7 @@ module _ {T : Type 0} where
       (ap (λ (n : Name). not (nat_lt n.generation last_generation)) name ∙ p.1))) in
       record {
         few = let a = b.few in let c : slots R ≡ slots S = ap map.len same in omega arith;
-        live = let a = b.live in let c = len_within name_total R.cells S.cells live in omega arith;
+        live = let a = b.live in let c = len_within by_name R.cells S.cells live in omega arith;
         dense = λ s h. let a = b.dense s (sym (ap (λ m. map.contains_key m s) same) ∙ h) in
             let c : slots R ≡ slots S = ap map.len same in omega arith;
       }
@@ -83,25 +83,25 @@ module _ {T : Type 0} where
         let R = born S n c in
         let get_s : map.get (slots_of R) s ≡ map.get (slots_of S) s =
         ap (λ m. map.get m s) slots_after
-        ∙ get-insert_apart nat_cmp_total map.nat_cmp-IsAntisymmetric
+        ∙ get-insert_apart by_number
         (slots_of S) n.slot _ s ne in
         let name : last_name R s ≡ last_name S s =
         ap (λ x. let m : Name = record { slot = s; generation = unwrap_or x 0 } in m) get_s in
         let cell : map.get R.cells (last_name R s) ≡ map.get S.cells (last_name S s) =
-        ap (map.get R.cells) name ∙ get-insert_apart name_total name_exact S.cells n c
+        ap (map.get R.cells) name ∙ get-insert_apart by_name S.cells n c
         (last_name S s) (λ e. ne (ap (λ (m : Name). m.slot) e)) in
-        kept_key nat_cmp_total map.nat_cmp-IsAntisymmetric
+        kept_key by_number
         (slots_of R) (is_retired R) s (ap is_some get_s ∙ there)
         ((λ i. not (is_some (cell i)) && not (nat_lt (name i).generation last_generation)) ∙ gone)
 
     -- where the new name's slot isn't retired, no retired slot is lost
     retired_more : (is_retired S n.slot ≡ true → map.contains_key (slots_of S) n.slot ≡ true → ⊥)
         → retired S ≤ retired (born S n c)
-    retired_more no_ = len_within nat_cmp_total _ _ (λ s h. let it = retired_gives S s h in
+    retired_more no_ = len_within by_number _ _ (λ s h. let it = retired_gives S s h in
         ⊎_elim (λ is. absurd (no_ (subst (λ x. is_retired S x ≡ true) is it.1)
         (subst (λ x. map.contains_key (slots_of S) x ≡ true) is it.0)))
         (λ ne. retired_still s ne it.0 it.1)
-        (key_cases nat_cmp_total map.nat_cmp-IsAntisymmetric s n.slot))
+        (key_cases by_number s n.slot))
 
     slots_grow : slots (born S n c)
         ≡ cond (map.contains_key (slots_of S) n.slot) (slots S) (slots S + 1)
@@ -112,7 +112,7 @@ module _ {T : Type 0} where
         → s ≢ n.slot → map.contains_key (slots_of (born S n c)) s ≡ map.contains_key (slots_of S) s
     unfolding after
     contains_after s ne = ap (λ m. map.contains_key m s) slots_after ∙ ap is_some
-        (get-insert_apart nat_cmp_total map.nat_cmp-IsAntisymmetric (slots_of S) n.slot _ s ne)
+        (get-insert_apart by_number (slots_of S) n.slot _ s ne)
 
     pub born_bounded : Fits S n → IsBounded (born S n c)
     born_bounded fits = ⊎_elim fresh again fits
@@ -133,7 +133,7 @@ module _ {T : Type 0} where
               live = omega arith;
               dense = λ s h. ⊎_elim (λ is. let at = f.1 in omega arith)
                   (λ ne. let lt = b.dense s (sym (contains_after s ne) ∙ h) in omega arith)
-                  (key_cases nat_cmp_total map.nat_cmp-IsAntisymmetric s n.slot);
+                  (key_cases by_number s n.slot);
             }
 
         again : (map.contains_key (slots_of S) n.slot ≡ true) × (is_free S n.slot ≡ true)
@@ -155,5 +155,5 @@ module _ {T : Type 0} where
               live = omega arith;
               dense = λ s h. ⊎_elim (λ is. let lt = b.dense n.slot f.0 in omega arith)
                   (λ ne. let lt = b.dense s (sym (contains_after s ne) ∙ h) in omega arith)
-                  (key_cases nat_cmp_total map.nat_cmp-IsAntisymmetric s n.slot);
+                  (key_cases by_number s n.slot);
             }

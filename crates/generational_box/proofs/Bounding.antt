@@ -19,17 +19,13 @@ use Rattle.generational_box.proofs.Stepping.{meets_cases}
 -- where no name was given there is no slot
 no_slots : lasts (set.items (set.empty {R = name_cmp})) ≡ map.empty
 unfolding lasts
-no_slots =
-    lasts_same (set.items set.empty) []
-    (λ n h. sym (set.contains-empty name_cmp n)
-    ∙ (set.contains-items (set.empty {R = name_cmp}) n ∙ h))
-    (λ n h. absurd (true≢false (sym h)))
+no_slots = lasts_same (set.items set.empty) [] (λ n h. sym (set.contains-empty name_cmp n)
+    ∙ (set.contains-items (set.empty {R = name_cmp}) n ∙ h)) (λ n h. absurd (true≢false (sym h)))
 
 module _ {T : Type 0} where
   pub meets_bounded : (S R : State T) (call : Action T) (answer : Answer T)
       → IsSound S → IsBounded S → Meets S call answer R → IsBounded R
-  meets_bounded S R call answer s b m =
-      ⊎_elim (λ e. subst IsBounded (sym e.1) b)
+  meets_bounded S R call answer s b m = ⊎_elim (λ e. subst IsBounded (sym e.1) b)
       (λ e. subst (λ (o : Outcome T). IsBounded o.1) (sym e.2) (act_bounded S call e.0 s e.1 b))
       (meets_cases S R call answer m)
 

@@ -99,7 +99,7 @@ module _ {T U : Type 0} {f : Name → Name} {d : ℕ} {g : T → U}
       split true is = h is (k is)
       split false is = e is
 
-  pub reach_moved : (b : GenerationalPointer)
+  reach_moved : (b : GenerationalPointer)
       → KnowsBox Knows A.number b → reach S (moved_box f d A.number b) ≡ option_map f (reach A b)
   unfolding reach
   reach_moved b k =
@@ -147,16 +147,14 @@ module _ {T U : Type 0} {f : Name → Name} {d : ℕ} {g : T → U}
       → KnowsBox Knows A.number b → (P : Option Name → Option (Content U) → Type 0)
       → P (option_map f (reach A b)) (option_map (moved_content f d g) (contents A (reach A b)))
       → P (reach S (moved_box f d A.number b)) (contents S (reach S (moved_box f d A.number b)))
-  with_contents b k P h =
-      subst (λ to. P to (contents S to)) (sym (reach_moved b k))
+  with_contents b k P h = subst (λ to. P to (contents S to)) (sym (reach_moved b k))
       (subst (P (option_map f (reach A b))) (sym (contents_moved (reach A b) (reach_known b k))) h)
 
   pub with_found : (b : GenerationalPointer)
       → KnowsBox Knows A.number b → (P : Option Name → Option (Cell U) → Type 0)
       → P (option_map f (reach A b)) (option_map (moved_cell f d g) (found A (reach A b)))
       → P (reach S (moved_box f d A.number b)) (found S (reach S (moved_box f d A.number b)))
-  with_found b k P h =
-      subst (λ to. P to (found S to)) (sym (reach_moved b k))
+  with_found b k P h = subst (λ to. P to (found S to)) (sym (reach_moved b k))
       (subst (P (option_map f (reach A b))) (sym (found_moved (reach A b) (reach_known b k))) h)
 
   pub created_moved : (b : GenerationalPointer)

@@ -144,8 +144,7 @@ module _ {T U : Type 0} {f : Name → Name} {d : ℕ} {g : T → U}
         answer = refl;
         same = without_number A guard.cell guard.ticket (content_at A guard.cell);
         known = tt;
-        state =
-            subst (λ (x : Guard).
+        state = subst (λ (x : Guard).
             Carries f d g Knows (without_reader S x.cell x.ticket (content_at S x.cell)) after)
             (sym (guard_own f d A.number guard own))
             (subst (λ x. Carries f d g Knows (without_reader S (f guard.cell) (guard.ticket + d) x)
@@ -166,8 +165,7 @@ module _ {T U : Type 0} {f : Name → Name} {d : ℕ} {g : T → U}
         answer = refl;
         same = refl;
         known = tt;
-        state =
-            subst (λ (x : Guard). Carries f d g Knows (filled S x.cell (Here (g v) []))
+        state = subst (λ (x : Guard). Carries f d g Knows (filled S x.cell (Here (g v) []))
             (filled A guard.cell (Here v []))) (sym (guard_own f d A.number guard own))
             (with_content c guard.cell (Here (g v) []) (Here v []) (k own) refl);
       })

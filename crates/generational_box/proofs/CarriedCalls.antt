@@ -110,14 +110,10 @@ module _ {T U : Type 0} {f : Name → Name} {d : ℕ} {g : T → U}
       subst (λ h. Alike c (let_go S (moved_owner f d A.number o) h) (let_go A o (holding A o)))
       (sym (holding_moved c o)) (let_go_matched c o (holding A o) refl)
   act_matched (LeakOwner o) new k kn = stays c Done refl tt
-  act_matched (Read b l) new k kn =
-      unless_alike c (read_trouble_moved c b k)
-      (with_contents c b k
+  act_matched (Read b l) new k kn = unless_alike c (read_trouble_moved c b k) (with_contents c b k
       (λ to x. Alike c (read_at S l to x) (read_at A l (reach A b) (contents A (reach A b))))
       (read_at_matched c l (reach A b) (contents A (reach A b)) (reach_known c b k)))
-  act_matched (Write b l) new k kn =
-      unless_alike c (write_trouble_moved c b k)
-      (with_contents c b k
+  act_matched (Write b l) new k kn = unless_alike c (write_trouble_moved c b k) (with_contents c b k
       (λ to x. Alike c (written_at S l to x) (written_at A l (reach A b) (contents A (reach A b))))
       (written_at_matched c l (reach A b) (contents A (reach A b)) (reach_known c b k)))
   act_matched (ReleaseReader guard) new k kn = release_reader_matched c guard new k

@@ -16,7 +16,7 @@ use Rattle.generational_box.specs.Borrowing.{write_refusal}
 use Rattle.generational_box.specs.Ending.{swept, without, left_by, hindrance_at, hindrance_of}
 use Rattle.generational_box.specs.Ending.{or_else, first_hindrance}
 use Rattle.generational_box.specs.Carrying.{CarriesCells, moved_content, moved_cell}
-use Rattle.generational_box.proofs.Maps.{name_exact, name_total, name_cases, name_here, name_apart}
+use Rattle.generational_box.proofs.Maps.{by_name, name_cases, name_here, name_apart}
 use Rattle.generational_box.proofs.Maps.{get-keep, keep_view, get-insert_name, get-changed_name}
 use Rattle.generational_box.proofs.Named.{named_gives, named_from}
 use Rattle.generational_box.proofs.Ends.{none≢some}
@@ -27,7 +27,7 @@ use Rattle.generational_box.proofs.Moved.{write_moved, was_ref, refilled_moved, 
 kept_live : {X : Type 0} (m : NameMap X) (p : Name → Bool) (n : Name)
     → is_some (map.get (map.retain_keys m p) n) ≡ true → is_some (map.get m n) ≡ true
 kept_live m p n h = ⊎_elim (λ e. sym (ap is_some e.0) ∙ h)
-    (λ e. absurd (true≢false (sym h ∙ ap is_some e.0))) (keep_view name_total name_exact m p n)
+    (λ e. absurd (true≢false (sym h ∙ ap is_some e.0))) (keep_view by_name m p n)
 
 changed_some : {X : Type 0} (h : X → X) (b : Bool) (o : Option X)
     → is_some (cond b (option_map h o) o) ≡ is_some o
@@ -45,8 +45,7 @@ changed_live m n h q live =
 module _ {f : Name → Name} {Knows : Name → Type 0}
     (apart : (j k : Name) → Knows j → Knows k → f j ≡ f k → j ≡ k) where
   pub same_test : (j k : Name) → Knows j → Knows k → is_name (f j) (f k) ≡ is_name j k
-  same_test j k kj kk =
-      ⊎_elim (λ is. ap (λ x. is_name (f x) (f k)) is
+  same_test j k kj kk = ⊎_elim (λ is. ap (λ x. is_name (f x) (f k)) is
       ∙ name_here (f k) ∙ sym (ap (λ x. is_name x k) is ∙ name_here k))
       (λ ne. name_apart (f j) (f k) (λ e. ne (apart j k kj kk e)) ∙ sym (name_apart j k ne))
       (name_cases j k)
@@ -73,13 +72,8 @@ module _ {T U : Type 0} {f : Name → Name} {d : ℕ} {g : T → U} {Knows : Nam
             let k = c.from it.0 (ap is_some it.2) in
             let was = was_ref f d g
             (map.get A k.0) (f m) it.1 (sym (c.at k.0 k.1) ∙ (ap (map.get S) k.2 ∙ it.2)) in
-            named_from A m (
-              k.0,
-              it.1,
-              was.1
-                  ∙ ap
-                  (λ x. Some (Ref x it.1)) (apart was.0 m (c.leads k.0 was.0 it.1 was.1) km was.2),
-            )
+            let same = apart was.0 m (c.leads k.0 was.0 it.1 was.1) km was.2 in
+            named_from A m (k.0, it.1, was.1 ∙ ap (λ x. Some (Ref x it.1)) same)
 
         back : is_named A m ≡ true → is_named S (f m) ≡ true
         back h =
@@ -93,14 +87,13 @@ module _ {T U : Type 0} {f : Name → Name} {d : ℕ} {g : T → U} {Knows : Nam
     cells_keep : (p q : Name → Bool) → ((k : Name) → Knows k → p (f k) ≡ q k)
         → CarriesCells f d g Knows (map.retain_keys S p) (map.retain_keys A q)
     cells_keep p q same = record {
-      at = λ k kk. get-keep name_total name_exact S p (f k)
-          ∙ ((λ i. cond (same k kk i) (c.at k kk i) None)
-          ∙ (map_cond (moved_cell f d g) (q k) (map.get A k) None
-          ∙ sym (ap (option_map (moved_cell f d g)) (get-keep name_total name_exact A q k))));
+      at = λ k kk. get-keep by_name S p (f k)
+          ∙ ((λ i. cond (same k kk i) (c.at k kk i) None) ∙ (map_cond (moved_cell f d g) (q k)
+          (map.get A k) None ∙ sym (ap (option_map (moved_cell f d g)) (get-keep by_name A q k))));
       from = λ n h. c.from n (kept_live S p n h);
       known = λ k h. c.known k (kept_live A q k h);
       leads = λ k m l h. c.leads k m l (⊎_elim (λ e. sym e.0 ∙ h)
-          (λ e. absurd (none≢some _ _ e.0 h)) (keep_view name_total name_exact A q k));
+          (λ e. absurd (none≢some _ _ e.0 h)) (keep_view by_name A q k));
     }
 
     pub cells_swept : CarriesCells f d g Knows (swept S) (swept A)
@@ -148,16 +141,14 @@ module _ {T U : Type 0} {f : Name → Name} {d : ℕ} {g : T → U} {Knows : Nam
               ∙ ((λ i. cond (same_test apart k n kk kn i)
               (option_map (refilled (moved_content f d g x)) (c.at k kk i)) (c.at k kk i))
               ∙ ((λ i. cond (is_name k n) (refilled_moved f d g x (map.get A k) i)
-              (option_map (moved_cell f d g) (map.get A k)))
-              ∙ (map_cond (moved_cell f d g)
+              (option_map (moved_cell f d g) (map.get A k))) ∙ (map_cond (moved_cell f d g)
               (is_name k n) (option_map (refilled x) (map.get A k)) (map.get A k)
               ∙ sym (ap (option_map (moved_cell f d g)) (get-changed_name A n (refilled x) k)))));
           from = λ q h. c.from q (changed_live S (f n) _ q h);
           known = λ k h. c.known k (changed_live A n _ k h);
-          leads = λ k m l h. ⊎_elim
-              (λ is. c.leads k m l (refilled_leads x (map.get A k) m l (sym (get-changed_name A n
-              (refilled x) k ∙ ap (mine k) (ap (λ y. is_name y n) is ∙ name_here n)) ∙ h)))
-              (λ ne. c.leads k m l
+          leads = λ k m l h. ⊎_elim (λ is. c.leads k m l
+              (refilled_leads x (map.get A k) m l (sym (get-changed_name A n (refilled x) k
+              ∙ ap (mine k) (ap (λ y. is_name y n) is ∙ name_here n)) ∙ h))) (λ ne. c.leads k m l
               (sym (get-changed_name A n (refilled x) k ∙ ap (mine k) (name_apart k n ne)) ∙ h))
               (name_cases k n);
         }

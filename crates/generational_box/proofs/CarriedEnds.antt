@@ -78,13 +78,10 @@ module _ (f : Name → Name) (d : ℕ) {Knows : Name → Type 0}
           (λ i. itself i && same_test apart (name_of a) (name_of b) (ka own) (kb mine) i)
           ∙ sym (ap names (eq-eqb a.id.store b.id.store
           (eqb-true a.id.store number own ∙ sym (eqb-true b.id.store number mine))))
-      split true false own strange =
-          ap (λ t. t && is_name (f (name_of a)) (name_of b))
+      split true false own strange = ap (λ t. t && is_name (f (name_of a)) (name_of b))
           (apart_stores number b.id.store itself strange)
-          ∙ sym (ap names
-          (apart_stores a.id.store b.id.store own strange))
-      split false true strange own =
-          ap (λ t. t && is_name (name_of a) (f (name_of b)))
+          ∙ sym (ap names (apart_stores a.id.store b.id.store own strange))
+      split false true strange own = ap (λ t. t && is_name (name_of a) (f (name_of b)))
           (nat_eq_equiv.symm a.id.store number ∙ apart_stores number a.id.store itself strange)
           ∙ sym (ap names (nat_eq_equiv.symm a.id.store b.id.store
           ∙ apart_stores b.id.store a.id.store own strange))

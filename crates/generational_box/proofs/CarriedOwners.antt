@@ -19,7 +19,7 @@ use Rattle.generational_box.specs.Machine.Answer.{Owned, Done}
 use Rattle.generational_box.specs.Machine.Answer.{Refused}
 use Rattle.generational_box.specs.Carrying.{Carries}
 use Rattle.generational_box.specs.Carrying.{moved_holding, moved_owner}
-use Rattle.generational_box.proofs.Maps.{key_cases, get-insert_here}
+use Rattle.generational_box.proofs.Maps.{by_number, key_cases, get-insert_here}
 use Rattle.generational_box.proofs.Maps.{get-insert_apart, get-remove_here, get-remove_apart}
 use Rattle.generational_box.proofs.Maps.{changed_there}
 use Rattle.generational_box.proofs.Ends.{some_live, none≢some}
@@ -87,38 +87,32 @@ module _ {T U : Type 0} {f : Name → Name} {d : ℕ} {g : T → U}
   known_moved (Some o) = ap is_some (holding_moved o) ∙ some_map (moved_holding f d) (holding A o)
 
   -- a record put in
-  pub with_record : (key : ℕ) (h : Holding) → AllByRecursion Knows h.names
+  with_record : (key : ℕ) (h : Holding) → AllByRecursion Knows h.names
       → Carries f d g Knows (with_owner S (key + d) (moved_holding f d h)) (with_owner A key h)
   with_record key h k =
-      with_owners c _ _
-      (λ q. map.get-insert nat_cmp_total S.owners (key + d) (moved_holding f d h) (q + d)
-      ∙ ((λ i. cond (key_moved d q key i) (Some (moved_holding f d h)) (c.owners q i))
+      with_owners c _ _ (λ q. map.get-insert nat_cmp_total S.owners (key + d) (moved_holding f d h)
+      (q + d) ∙ ((λ i. cond (key_moved d q key i) (Some (moved_holding f d h)) (c.owners q i))
       ∙ (map_cond (moved_holding f d) (eq_by_cmp nat_cmp q key) (Some h) (map.get A.owners q)
       ∙ sym (ap (option_map (moved_holding f d)) (map.get-insert nat_cmp_total A.owners key h q)))))
-      (λ q x is. ⊎_elim (λ e. subst (λ (y : Holding). AllByRecursion Knows y.names) (same_some _ _
-      (sym (get-insert_here nat_cmp_total map.nat_cmp-IsAntisymmetric A.owners key h)
-      ∙ (ap (map.get (map.insert A.owners key h)) (sym e) ∙ is))) k)
-      (λ ne. c.listed q x
-      (sym (get-insert_apart nat_cmp_total map.nat_cmp-IsAntisymmetric A.owners key h q ne) ∙ is))
-      (key_cases nat_cmp_total map.nat_cmp-IsAntisymmetric q key))
+      (λ q x is. ⊎_elim (λ e. subst (λ (y : Holding). AllByRecursion Knows y.names)
+      (same_some _ _ (sym (get-insert_here by_number A.owners key h)
+      ∙ (ap (map.get (map.insert A.owners key h)) (sym e) ∙ is))) k) (λ ne. c.listed q x
+      (sym (get-insert_apart by_number A.owners key h q ne) ∙ is)) (key_cases by_number q key))
     where
       same_some : (x y : Holding) → Some x ≡ Some y → x ≡ y
       same_some x y e = cc
 
-  pub without_record : (key : ℕ)
+  without_record : (key : ℕ)
       → Carries f d g Knows (record S { owners = map.remove S.owners (key + d) })
       (record A { owners = map.remove A.owners key })
   without_record key =
-      with_owners c _ _
-      (λ q. map.get-remove nat_cmp_total S.owners (key + d) (q + d)
+      with_owners c _ _ (λ q. map.get-remove nat_cmp_total S.owners (key + d) (q + d)
       ∙ ((λ i. cond (key_moved d q key i) None (c.owners q i))
       ∙ (map_cond (moved_holding f d) (eq_by_cmp nat_cmp q key) None (map.get A.owners q)
       ∙ sym (ap (option_map (moved_holding f d)) (map.get-remove nat_cmp_total A.owners key q)))))
       (λ q x is. ⊎_elim (λ e. absurd (none≢some _ _ (ap (map.get (map.remove A.owners key)) e
-      ∙ get-remove_here nat_cmp_total map.nat_cmp-IsAntisymmetric A.owners key) is))
-      (λ ne. c.listed q x
-      (sym (get-remove_apart nat_cmp_total map.nat_cmp-IsAntisymmetric A.owners key q ne) ∙ is))
-      (key_cases nat_cmp_total map.nat_cmp-IsAntisymmetric q key))
+      ∙ get-remove_here by_number A.owners key) is)) (λ ne. c.listed q x
+      (sym (get-remove_apart by_number A.owners key q ne) ∙ is)) (key_cases by_number q key))
 
   pub listed_matched : (o : Option OwnerName) (n : Name)
       → is_known A o ≡ true → Knows n → Carries f d g Knows
@@ -130,9 +124,9 @@ module _ {T U : Type 0} {f : Name → Name} {d : ℕ} {g : T → U}
       let grow = λ (m : Name) (h : Holding). record h { names = h.names ++ m ∷ [] } in
       let there : map.get S.owners (o.key + d) ≡ Some (moved_holding f d it.0) =
       c.owners o.key ∙ ap (option_map (moved_holding f d)) own.1 in
-      let mine = changed_there nat_cmp_total map.nat_cmp-IsAntisymmetric A.owners o.key
+      let mine = changed_there by_number A.owners o.key
       (grow n) it.0 own.1 in
-      let other = changed_there nat_cmp_total map.nat_cmp-IsAntisymmetric S.owners
+      let other = changed_there by_number S.owners
       (o.key + d) (grow (f n)) (moved_holding f d it.0) there in
       let pushed = ap (λ ns. map.insert S.owners
       (o.key + d) (let h : Holding = record { names = ns; count = it.0.count } in h))

@@ -12,7 +12,7 @@ use Rattle.generational_box.specs.Cells.Cell.{Ref}
 use Rattle.generational_box.specs.State.{IsNamed, is_named}
 use Rattle.generational_box.specs.State.{tickets_of, tickets_at, Stands}
 use Rattle.generational_box.specs.Ending.{swept, without}
-use Rattle.generational_box.proofs.Maps.{name_exact, name_total, name_cases, get-insert_here}
+use Rattle.generational_box.proofs.Maps.{by_name, name_cases, get-insert_here}
 use Rattle.generational_box.proofs.Maps.{get-insert_apart, keep_view}
 use Rattle.generational_box.proofs.Named.{named_gives, named_from}
 
@@ -44,7 +44,7 @@ module _ {T : Type 0} where
       ⊎_elim (λ h. inl (h.0, ⊎_elim (λ e. inl (not-true _ e)) (λ e. inr e) (or_cases _ _ h.1)))
       (λ h. let p = or_parts (not (is_shared (map.get cells n))) (is_named cells n) h.1 in
       inr (h.0, not-false _ p.0, p.1))
-      (keep_view name_total name_exact cells
+      (keep_view by_name cells
       (λ n. not (is_shared (map.get cells n)) || is_named cells n) n)
 
   -- what is taken away wasn't Shared
@@ -52,11 +52,9 @@ module _ {T : Type 0} where
       → (map.get (without cells names) n ≡ map.get cells n)
       ⊎ ((map.get (without cells names) n ≡ None) × (is_shared (map.get cells n) ≡ false))
   unfolding without
-  without_view cells names n =
-      ⊎_elim (λ h. inl h.0)
+  without_view cells names n = ⊎_elim (λ h. inl h.0)
       (λ h. inr (h.0, (or_parts (is_shared (map.get cells n)) (not (among names n)) h.1).0))
-      (keep_view name_total name_exact cells
-      (λ n. is_shared (map.get cells n) || not (among names n)) n)
+      (keep_view by_name cells (λ n. is_shared (map.get cells n) || not (among names n)) n)
 
   none_not_shared : (o : Option (Cell T)) → o ≡ None → is_shared o ≡ true → ⊥
   none_not_shared o e h = true≢false (sym h ∙ ap is_shared e)
@@ -118,10 +116,9 @@ module _ {T : Type 0} where
   pub inserted_tickets : (cells : NameMap (Cell T)) (n : Name) (c : Cell T)
       → tickets_of (content_of (Some c)) ≡ [] → NoNewTickets cells (map.insert cells n c)
   inserted_tickets cells n c e q =
-      ⊎_elim (λ is. inr (ap (λ k. tickets_at (map.insert cells n c) k) is ∙ (ap
-      (λ x. tickets_of (content_of x)) (get-insert_here name_total name_exact cells n c) ∙ e)))
-      (λ ne. inl
-      (ap (λ x. tickets_of (content_of x)) (get-insert_apart name_total name_exact cells n c q ne)))
+      ⊎_elim (λ is. inr (ap (λ k. tickets_at (map.insert cells n c) k) is
+      ∙ (ap (λ x. tickets_of (content_of x)) (get-insert_here by_name cells n c) ∙ e)))
+      (λ ne. inl (ap (λ x. tickets_of (content_of x)) (get-insert_apart by_name cells n c q ne)))
       (name_cases q n)
 
   pub stands_before : (old new : NameMap (Cell T))

@@ -11,7 +11,7 @@ use Rattle.generational_box.specs.Cells.Cell.{Value, Shared, Ref}
 use Rattle.generational_box.specs.State.{State, IsSound}
 use Rattle.generational_box.specs.State.{tickets_of, tickets_at}
 use Rattle.generational_box.specs.Borrowing.{filled, content_at}
-use Rattle.generational_box.proofs.Maps.{name_exact, name_total}
+use Rattle.generational_box.proofs.Maps.{by_name}
 use Rattle.generational_box.proofs.Maps.{changed_view}
 
 module _ {T : Type 0} where
@@ -20,7 +20,7 @@ module _ {T : Type 0} where
   pub filled_view : (S : State T) (m : Name) (c : Content T) (q : Name)
       → (map.get (filled S m c).cells q ≡ map.get S.cells q) ⊎ ((q ≡ m) × (x : Cell T)
       × (map.get S.cells q ≡ Some x) × (map.get (filled S m c).cells q ≡ Some (refilled c x)))
-  filled_view S m c q = changed_view name_total name_exact S.cells m (refilled c) q
+  filled_view S m c q = changed_view by_name S.cells m (refilled c) q
 
   refilled_shared : (c : Content T) (x : Cell T)
       → is_shared (Some (refilled c x)) ≡ is_shared (Some x)

@@ -25,7 +25,7 @@ use Rattle.generational_box.specs.Machine.Action.{ReleaseOwner, LeakOwner, Read,
 use Rattle.generational_box.specs.Machine.Action.{ReleaseReader, ReleaseWriter, SetValue, End}
 use Rattle.generational_box.specs.Machine.Action.{Point, CanRead, CanWrite}
 use Rattle.generational_box.proofs.Fresh.{AreFresh}
-use Rattle.generational_box.proofs.Maps.{name_exact, name_total, name_cases, get-insert_apart}
+use Rattle.generational_box.proofs.Maps.{by_name, name_cases, get-insert_apart}
 use Rattle.generational_box.proofs.Maps.{get-keep, get-changed_apart, get-changed_none}
 use Rattle.generational_box.proofs.Maps.{contains-insert_old, contains-insert_apart}
 
@@ -86,8 +86,8 @@ module _ {T : Type 0} where
         number = refl;
         start = refl;
         next = omega arith;
-        given = λ q g. contains-insert_old name_total name_exact S.given n q g;
-        ended = λ q e. get-insert_apart name_total name_exact S.cells n c q (apart q e) ∙ e.1;
+        given = λ q g. contains-insert_old by_name S.given n q g;
+        ended = λ q e. get-insert_apart by_name S.cells n c q (apart q e) ∙ e.1;
       }
 
   follows_listed : (S R : State T) (o : Option OwnerName) (n : Name)
@@ -98,12 +98,9 @@ module _ {T : Type 0} where
 
   filled_none : (S : State T) (n : Name) (c : Content T) (q : Name)
       → map.get S.cells q ≡ None → map.get (filled S n c).cells q ≡ None
-  filled_none S n c q h =
-      ⊎_elim
-      (λ is. ap (λ m. map.get m q) (get-changed_none name_total name_exact S.cells n
-      (refilled c) (sym (ap (map.get S.cells) is) ∙ h)) ∙ h)
-      (λ ne. get-changed_apart name_total name_exact S.cells n (refilled c) q ne ∙ h)
-      (name_cases q n)
+  filled_none S n c q h = ⊎_elim (λ is. ap (λ m. map.get m q)
+      (get-changed_none by_name S.cells n (refilled c) (sym (ap (map.get S.cells) is) ∙ h)) ∙ h)
+      (λ ne. get-changed_apart by_name S.cells n (refilled c) q ne ∙ h) (name_cases q n)
 
   follows_filled : (S : State T) (n : Name) (c : Content T) (next : ℕ)
       → S.next ≤ next → Follows S (record (filled S n c) { next = next })
@@ -113,7 +110,7 @@ module _ {T : Type 0} where
   kept_none : (m : NameMap (Cell T)) (p : Name → Bool) (n : Name)
       → map.get m n ≡ None → map.get (map.retain_keys m p) n ≡ None
   kept_none m p n h =
-      get-keep name_total name_exact m p n ∙ (ap (λ o. cond (p n) o None) h ∙ cond_same (p n) None)
+      get-keep by_name m p n ∙ (ap (λ o. cond (p n) o None) h ∙ cond_same (p n) None)
 
   swept_none : (m : NameMap (Cell T)) (n : Name) → map.get m n ≡ None → map.get (swept m) n ≡ None
   unfolding swept
@@ -135,7 +132,7 @@ module _ {T : Type 0} where
       (sym live ∙ (ap (λ n. is_some (map.get S.cells n)) (sym is) ∙ ap is_some e.1)) in
       follows_if S (is_name old new) _ _ (follows_same S)
       (follows_unless S _ _ (follows_cells S _ S.next (omega arith) (λ q e. swept_none _ q
-      (get-insert_apart name_total name_exact S.cells a (Ref new l) q (apart q e) ∙ e.1))))
+      (get-insert_apart by_name S.cells a (Ref new l) q (apart q e) ∙ e.1))))
 
   follows_pointed : (S : State T) (a b : GenerationalPointer)
       (cell : Option (Cell T)) (to : Option Name) (target : Option (Cell T))
@@ -174,8 +171,7 @@ module _ {T : Type 0} where
 
   follows_let_go : (S : State T) (o : OwnerName) (h : Option Holding) → Follows S (let_go S o h).1
   follows_let_go S o None = follows_same S
-  follows_let_go S o (Some h) =
-      follows_if S _ _ _ (follows_owners S S.next _ (omega arith))
+  follows_let_go S o (Some h) = follows_if S _ _ _ (follows_owners S S.next _ (omega arith))
       (follows_unless S _ _ (follows_then S (close S h.names) _
       (follows_close S h.names) (follows_owners (close S h.names) S.next _ (omega arith))))
 
@@ -204,7 +200,7 @@ module _ {T : Type 0} where
   second_new : (S : State T) (f : Fresh) (c : Cell T) → set.contains S.given f.second ≡ false
       → f.first ≢ f.second → set.contains (born S f.first c).given f.second ≡ false
   second_new S f c new ne =
-      contains-insert_apart name_total name_exact S.given f.first f.second (λ is. ne (sym is)) ∙ new
+      contains-insert_apart by_name S.given f.first f.second (λ is. ne (sym is)) ∙ new
 
   -- after each call, nothing is taken back
   pub act_follows : (S : State T) (call : Action T) (f : Fresh)

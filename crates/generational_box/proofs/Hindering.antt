@@ -12,7 +12,7 @@ use Rattle.generational_box.specs.State.{State, IsSound, IsNamed}
 use Rattle.generational_box.specs.Borrowing.{Trouble, write_refusal}
 use Rattle.generational_box.specs.Ending.{swept, without, left_by, close, or_else, hindrance_at}
 use Rattle.generational_box.specs.Ending.{hindrance_of, first_hindrance, hindered}
-use Rattle.generational_box.proofs.Maps.{name_exact, name_total, name_cases, name_same}
+use Rattle.generational_box.proofs.Maps.{by_name, name_cases, name_same}
 use Rattle.generational_box.proofs.Maps.{get-insert_apart, keep_view}
 use Rattle.generational_box.proofs.Named.{named_from}
 use Rattle.generational_box.proofs.Ends.{none≢some, swept_view, without_view}
@@ -41,8 +41,7 @@ module _ {T : Type 0} where
   -- a cell that goes unhindered isn't borrowed
   not_borrowed : (cells left : NameMap (Cell T)) (n : Name)
       → hindrance_at cells left n ≡ None → map.get left n ≡ None → IsBorrowed (map.get cells n) → ⊥
-  not_borrowed cells left n h gone borrowed =
-      true≢false (sym borrowed ∙ (ap is_some (sym (ap
+  not_borrowed cells left n h gone borrowed = true≢false (sym borrowed ∙ (ap is_some (sym (ap
       (λ o. cond (not (is_some o)) (write_refusal (content_of (map.get cells n))) None) gone) ∙ h)))
 
   -- what goes with some names, but for Shared cells, is among them
@@ -53,8 +52,7 @@ module _ {T : Type 0} where
   without_among cells names n gone live =
       ⊎_elim (λ h. absurd (true≢false (sym live ∙ ap is_some (sym h.0 ∙ gone))))
       (λ h. not-false _ (or_parts (is_shared (map.get cells n)) (not (among names n)) h.1).1)
-      (keep_view name_total name_exact cells
-      (λ n. is_shared (map.get cells n) || not (among names n)) n)
+      (keep_view by_name cells (λ n. is_shared (map.get cells n) || not (among names n)) n)
 
   pub borrowed_live : (cell : Option (Cell T)) → IsBorrowed cell → is_some cell ≡ true
   borrowed_live None h = h
@@ -123,7 +121,7 @@ module _ {T : Type 0} where
   borrowed_turned S a old new l s at_a free n borrowed =
       let one = map.insert S.cells a (Ref new l) in
       let other = λ (q : Name) (ne : q ≢ a).
-      get-insert_apart name_total name_exact S.cells a (Ref new l) q ne in
+      get-insert_apart by_name S.cells a (Ref new l) q ne in
       let apart : n ≢ a = λ is. true≢false (sym borrowed
       ∙ ap (λ c. is_some (write_refusal (content_of c))) (ap (map.get S.cells) is ∙ at_a)) in
       ⊎_elim (λ e. e.0 ∙ other n apart)

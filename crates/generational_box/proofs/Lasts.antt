@@ -10,7 +10,8 @@ use Rattle.std.specs.FinMap as map
 use Rattle.std.specs.FinSet as set
 use Rattle.generational_box.specs.Names.{Name, Names, name_cmp}
 use Rattle.generational_box.specs.Slots.{lasts}
-use Rattle.generational_box.proofs.Maps.{name_exact, name_total, key_same, key_here, key_cases}
+use Rattle.generational_box.proofs.Maps.{by_name, by_number, name_total, key_same, key_here}
+use Rattle.generational_box.proofs.Maps.{key_cases}
 use Rattle.generational_box.proofs.Maps.{get-insert_here, get-insert_apart}
 
 abbrev pub IsIn : List Name → Name → Type 0
@@ -24,15 +25,13 @@ IsLast names s (Some g) = IsIn names (record { slot = s; generation = g })
     × ((n : Name) → IsIn names n → n.slot ≡ s → n.generation ≤ g)
 
 in_head : (n m : Name) (names : List Name) → n ≡ m → IsIn (m ∷ names) n
-in_head n m names e =
-    or_left _ _ (ap (λ x. eq_by_cmp name_cmp x m) e ∙ key_here name_total name_exact m)
+in_head n m names e = or_left _ _ (ap (λ x. eq_by_cmp name_cmp x m) e ∙ key_here by_name m)
 
 in_tail : (n m : Name) (names : List Name) → IsIn names n → IsIn (m ∷ names) n
 in_tail n m names h = or_right _ _ h
 
 in_cases : (n m : Name) (names : List Name) → IsIn (m ∷ names) n → (n ≡ m) ⊎ IsIn names n
-in_cases n m names h =
-    ⊎_elim (λ e. inl (key_same name_total name_exact n m e)) (λ e. inr e) (or_cases _ _ h)
+in_cases n m names h = ⊎_elim (λ e. inl (key_same by_name n m e)) (λ e. inr e) (or_cases _ _ h)
 
 -- the greater of a generation and what was there
 abbrev pub greater : ℕ → Option ℕ → ℕ
@@ -74,16 +73,14 @@ pub get_lasts : (names : List Name) (s : ℕ) → IsLast names s (map.get (lasts
 unfolding lasts
 get_lasts [] s = subst (IsLast [] s) (sym (map.get-empty nat_cmp s)) (λ n i is. true≢false (sym i))
 get_lasts (m ∷ names) s =
-    ⊎_elim
-    (λ is. subst (λ x. IsLast (m ∷ names) x (map.get (lasts (m ∷ names)) x)) (sym is) (subst
-    (IsLast (m ∷ names) m.slot) (sym (get-insert_here nat_cmp_total map.nat_cmp-IsAntisymmetric
+    ⊎_elim (λ is. subst (λ x. IsLast (m ∷ names) x (map.get (lasts (m ∷ names)) x))
+    (sym is) (subst (IsLast (m ∷ names) m.slot) (sym (get-insert_here by_number
     (lasts names) m.slot (greater m.generation (map.get (lasts names) m.slot))))
     (is_last_more m names (map.get (lasts names) m.slot) (get_lasts names m.slot))))
-    (λ ne.
-    subst (IsLast (m ∷ names) s) (sym (get-insert_apart nat_cmp_total map.nat_cmp-IsAntisymmetric
+    (λ ne. subst (IsLast (m ∷ names) s) (sym (get-insert_apart by_number
     (lasts names) m.slot (greater m.generation (map.get (lasts names) m.slot)) s ne))
     (other_slot m names s (map.get (lasts names) s) ne (get_lasts names s)))
-    (key_cases nat_cmp_total map.nat_cmp-IsAntisymmetric s m.slot)
+    (key_cases by_number s m.slot)
 
 -- two lists with the same names have the same last generations
 pub one_last : (xs ys : List Name) (s : ℕ)
@@ -108,9 +105,8 @@ pub lasts_insert : (given : Names) (n : Name)
     → lasts (set.items (set.insert given n)) ≡ map.insert (lasts (set.items given)) n.slot
     (greater n.generation (map.get (lasts (set.items given)) n.slot))
 unfolding lasts
-lasts_insert given n =
-    lasts_same (set.items (set.insert given n)) (n ∷ set.items given)
-    (λ q h. same q ∙ (set.contains-items (set.insert given n) q ∙ h))
+lasts_insert given n = lasts_same (set.items (set.insert given n))
+    (n ∷ set.items given) (λ q h. same q ∙ (set.contains-items (set.insert given n) q ∙ h))
     (λ q h. sym (set.contains-items (set.insert given n) q) ∙ (sym (same q) ∙ h))
   where
     same : (q : Name) → list_any (eq_by_cmp name_cmp q) (n ∷ set.items given)

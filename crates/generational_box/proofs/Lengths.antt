@@ -5,14 +5,14 @@ use Rattle.std.specs.Prelude.{is_some, ◌⊎◌, map as list_map, T}
 use Rattle.std.specs.declared.cmp.Ordering.{Ordering}
 use Rattle.std.specs.declared.cmp.Ordering.TheVariants.{Less, Equal, Greater}
 use Rattle.std.specs.Ordering.{eq_by_cmp, is_eq, is_lt}
-use Rattle.std.specs.Cmp.{IsTotalOrder, eq_by_cmp_equiv}
+use Rattle.std.specs.Cmp.{eq_by_cmp_equiv}
 use Rattle.std.specs.List.{AllByRecursion, IsDistinct, list_any}
 use Rattle.std.proofs.lemmas.Bool.{and_parts, or_left, or_right}
 use Rattle.std.proofs.lemmas.Map.Made.{length-le_from_is_member}
 use Rattle.std.proofs.lemmas.List.{length-map, length-append}
 use Rattle.std.proofs.lemmas.List.Folds.{list_any-append}
 use Rattle.std.specs.FinMap as map
-use Rattle.generational_box.proofs.Maps.{get-keep}
+use Rattle.generational_box.proofs.Maps.{IsKeyOrder, get-keep}
 
 less_apart : (r : Ordering) → is_lt r ≡ true → is_eq r ≡ false
 less_apart Less h = refl
@@ -45,12 +45,11 @@ module _ {K X : Type 0} (R : K → K → Ordering) where
   len_keys m = map.len-entries m ∙ sym (length-map (map.entries m) (λ e. e.0))
 
 module _ {K X : Type 0} {R : K → K → Ordering}
-    (o : IsTotalOrder R) (exact : map.IsAntisymmetric R) where
+    (o : IsKeyOrder R) where
   -- what passes is kept
   pub kept_key : (m : map.FinMap R X) (p : K → Bool) (q : K)
       → map.contains_key m q ≡ true → p q ≡ true → map.contains_key (map.retain_keys m p) q ≡ true
-  kept_key m p q h t =
-      ap is_some (get-keep o exact m p q ∙ ap (λ b. cond b (map.get m q) None) t) ∙ h
+  kept_key m p q h t = ap is_some (get-keep o m p q ∙ ap (λ b. cond b (map.get m q) None) t) ∙ h
 
   -- keys that pass one of three tests are no more than those that pass each
   pub len_three : (m : map.FinMap R X) (p q r : K → Bool)
@@ -62,7 +61,8 @@ module _ {K X : Type 0} {R : K → K → Ordering}
       let b = map.keys (map.retain_keys m q) in
       let c = map.keys (map.retain_keys m r) in
       let le =
-      length-le_from_is_member (eq_by_cmp_equiv o) (map.keys m) ((a ++ b) ++ c) (keys_apart R m)
+      length-le_from_is_member
+      (eq_by_cmp_equiv o.total) (map.keys m) ((a ++ b) ++ c) (keys_apart R m)
       (λ k h. let there : map.contains_key m k ≡ true = map.contains_key-keys m k ∙ h in
       list_any-append (eq_by_cmp R k) (a ++ b) c
       ∙ (ap (λ x. x || list_any (eq_by_cmp R k) c) (list_any-append (eq_by_cmp R k) a b)
@@ -78,13 +78,13 @@ module _ {K X : Type 0} {R : K → K → Ordering}
       let l2 = len_keys R (map.retain_keys m q) in let l3 = len_keys R (map.retain_keys m r) in
       omega arith
 
-module _ {K X Y : Type 0} {R : K → K → Ordering} (o : IsTotalOrder R) where
+module _ {K X Y : Type 0} {R : K → K → Ordering} (o : IsKeyOrder R) where
   -- a map whose keys are another's is no larger
   pub len_within : (m : map.FinMap R X) (n : map.FinMap R Y)
       → ((k : K) → map.contains_key m k ≡ true → map.contains_key n k ≡ true)
       → map.len m ≤ map.len n
   len_within m n h =
       let le =
-      length-le_from_is_member (eq_by_cmp_equiv o) (map.keys m) (map.keys n) (keys_apart R m)
+      length-le_from_is_member (eq_by_cmp_equiv o.total) (map.keys m) (map.keys n) (keys_apart R m)
       (λ k e. sym (map.contains_key-keys n k) ∙ h k (map.contains_key-keys m k ∙ e)) in
       let a = len_keys R m in let b = len_keys R n in omega arith

@@ -9,6 +9,9 @@ pub mod CarriedCalls
 pub mod CarriedCells
 pub mod CarriedEnds
 pub mod CarriedOwners
+pub mod CarriedSession
+pub mod CarriedTables
+pub mod Choosing
 pub mod Ends
 pub mod Filled
 pub mod Fresh
@@ -17,9 +20,13 @@ pub mod Hindering
 pub mod Lasting
 pub mod Lasts
 pub mod Lengths
+pub mod Making
 pub mod Maps
 pub mod Moved
 pub mod Named
+pub mod NumberedCalls
+pub mod NumberedStep
+pub mod Numbering
 pub mod Placing
 pub mod Plain
 pub mod PoolLemmas

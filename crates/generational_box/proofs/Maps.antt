@@ -22,15 +22,26 @@ pub name_total : IsTotalOrder name_cmp
 name_total = then_total (on_total (λ (s : Name). s.slot) nat_cmp_total)
     (on_total (λ (s : Name). s.generation) nat_cmp_total)
 
+-- an order of keys, which tells them apart
+pub record IsKeyOrder {K : Type 0} (R : K → K → Ordering) : Type 0 where
+  pub total : IsTotalOrder R
+  pub exact : map.IsAntisymmetric R
+
+-- the orders of names, and of numbers
+pub by_name : IsKeyOrder name_cmp
+by_name = record { total = name_total; exact = name_exact }
+
+pub by_number : IsKeyOrder nat_cmp
+by_number = record { total = nat_cmp_total; exact = map.nat_cmp-IsAntisymmetric }
+
 -- ---- keys of any kind
 
-module _ {K : Type 0} {R : K → K → Ordering}
-    (o : IsTotalOrder R) (exact : map.IsAntisymmetric R) where
+module _ {K : Type 0} {R : K → K → Ordering} (o : IsKeyOrder R) where
   pub key_here : (k : K) → eq_by_cmp R k k ≡ true
-  key_here k = ap is_eq (tied_itself o k)
+  key_here k = ap is_eq (tied_itself o.total k)
 
   pub key_same : (j k : K) → eq_by_cmp R j k ≡ true → j ≡ k
-  key_same j k h = exact j k ((Equal-is (R j k)).0 h)
+  key_same j k h = o.exact j k ((Equal-is (R j k)).0 h)
 
   pub key_apart : (j k : K) → j ≢ k → eq_by_cmp R j k ≡ false
   key_apart j k ne = false_from_ne_true _ (λ h. ne (key_same j k h))
@@ -47,24 +58,25 @@ module _ {K : Type 0} {R : K → K → Ordering}
     pub get-insert_here : (m : map.FinMap R X) (k : K) (v : X)
         → map.get (map.insert m k v) k ≡ Some v
     get-insert_here m k v =
-        map.get-insert o m k v k ∙ ap (λ b. cond b (Some v) (map.get m k)) (key_here k)
+        map.get-insert o.total m k v k ∙ ap (λ b. cond b (Some v) (map.get m k)) (key_here k)
 
     pub get-insert_apart : (m : map.FinMap R X) (k : K) (v : X) (q : K)
         → q ≢ k → map.get (map.insert m k v) q ≡ map.get m q
     get-insert_apart m k v q ne =
-        map.get-insert o m k v q ∙ ap (λ b. cond b (Some v) (map.get m q)) (key_apart q k ne)
+        map.get-insert o.total m k v q ∙ ap (λ b. cond b (Some v) (map.get m q)) (key_apart q k ne)
 
     pub get-remove_here : (m : map.FinMap R X) (k : K) → map.get (map.remove m k) k ≡ None
-    get-remove_here m k = map.get-remove o m k k ∙ ap (λ b. cond b None (map.get m k)) (key_here k)
+    get-remove_here m k =
+        map.get-remove o.total m k k ∙ ap (λ b. cond b None (map.get m k)) (key_here k)
 
     pub get-remove_apart : (m : map.FinMap R X) (k q : K)
         → q ≢ k → map.get (map.remove m k) q ≡ map.get m q
     get-remove_apart m k q ne =
-        map.get-remove o m k q ∙ ap (λ b. cond b None (map.get m q)) (key_apart q k ne)
+        map.get-remove o.total m k q ∙ ap (λ b. cond b None (map.get m q)) (key_apart q k ne)
 
     pub get-keep : (m : map.FinMap R X) (p : K → Bool) (q : K)
         → map.get (map.retain_keys m p) q ≡ cond (p q) (map.get m q) None
-    get-keep m p q = map.get-retain_keys m p q (λ x t. ap p (sym (exact q x t)))
+    get-keep m p q = map.get-retain_keys m p q (λ x t. ap p (sym (o.exact q x t)))
 
     -- a key is kept with what it had, or taken away
     pub keep_view : (m : map.FinMap R X) (p : K → Bool) (q : K)
@@ -146,12 +158,13 @@ module _ {K : Type 0} {R : K → K → Ordering}
 
   pub contains-insert_here : (s : set.FinSet R) (k : K) → set.contains (set.insert s k) k ≡ true
   contains-insert_here s k =
-      set.contains-insert o s k k ∙ ap (λ b. b || set.contains s k) (key_here k)
+      set.contains-insert o.total s k k ∙ ap (λ b. b || set.contains s k) (key_here k)
 
   pub contains-insert_old : (s : set.FinSet R) (k q : K)
       → set.contains s q ≡ true → set.contains (set.insert s k) q ≡ true
   contains-insert_old s k q h =
-      set.contains-insert o s k q ∙ (ap (λ b. eq_by_cmp R q k || b) h ∙ or_yes (eq_by_cmp R q k))
+      set.contains-insert o.total s k q
+      ∙ (ap (λ b. eq_by_cmp R q k || b) h ∙ or_yes (eq_by_cmp R q k))
     where
       or_yes : (b : Bool) → (b || true) ≡ true
       or_yes true = refl
@@ -160,24 +173,24 @@ module _ {K : Type 0} {R : K → K → Ordering}
   pub contains-insert_apart : (s : set.FinSet R) (k q : K)
       → q ≢ k → set.contains (set.insert s k) q ≡ set.contains s q
   contains-insert_apart s k q ne =
-      set.contains-insert o s k q ∙ ap (λ b. b || set.contains s q) (key_apart q k ne)
+      set.contains-insert o.total s k q ∙ ap (λ b. b || set.contains s q) (key_apart q k ne)
 
 -- ---- names
 
 pub name_here : (n : Name) → is_name n n ≡ true
 unfolding is_name
-name_here n = key_here name_total name_exact n
+name_here n = key_here by_name n
 
 pub name_same : (a b : Name) → is_name a b ≡ true → a ≡ b
 unfolding is_name
-name_same a b h = key_same name_total name_exact a b h
+name_same a b h = key_same by_name a b h
 
 pub name_apart : (a b : Name) → a ≢ b → is_name a b ≡ false
 unfolding is_name
-name_apart a b h = key_apart name_total name_exact a b h
+name_apart a b h = key_apart by_name a b h
 
 pub name_cases : (a b : Name) → (a ≡ b) ⊎ (a ≢ b)
-name_cases a b = key_cases name_total name_exact a b
+name_cases a b = key_cases by_name a b
 
 pub get-insert_name : {X : Type 0} (m : NameMap X) (k : Name) (v : X) (q : Name)
     → map.get (map.insert m k v) q ≡ cond (is_name q k) (Some v) (map.get m q)
@@ -187,7 +200,7 @@ get-insert_name m k v q = map.get-insert name_total m k v q
 pub get-changed_name : {X : Type 0} (m : NameMap X) (k : Name) (f : X → X) (q : Name)
     → map.get (changed m k f) q ≡ cond (is_name q k) (option_map f (map.get m q)) (map.get m q)
 unfolding is_name
-get-changed_name m k f q = get-changed name_total name_exact m k f q
+get-changed_name m k f q = get-changed by_name m k f q
 
 pub contains-insert_name : (s : Names) (k q : Name)
     → set.contains (set.insert s k) q ≡ (is_name q k || set.contains s q)

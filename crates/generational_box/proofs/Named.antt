@@ -11,23 +11,23 @@ use Rattle.generational_box.specs.Names.{Name, name_cmp, NameMap}
 use Rattle.generational_box.specs.Cells.{Cell, refers_to}
 use Rattle.generational_box.specs.Cells.Cell.{Value, Shared, Ref}
 use Rattle.generational_box.specs.State.{is_named, IsNamed}
-use Rattle.generational_box.proofs.Maps.{name_exact, name_total, name_here, name_same, key_same}
+use Rattle.generational_box.proofs.Maps.{by_name, name_here, name_same, key_same}
 
 -- some element of a list passes
-pub one_passes : {A : Type 0} (p : A → Bool) (xs : List A)
+one_passes : {A : Type 0} (p : A → Bool) (xs : List A)
     → list_any p xs ≡ true → (x : A) × (p x ≡ true)
 one_passes p [] h = absurd (true≢false (sym h))
 one_passes p (x ∷ xs) h = ⊎_elim (λ e. (x, e)) (λ e. one_passes p xs e) (or_cases _ _ h)
 
 -- an element that passes both
-pub passes_both : {A : Type 0} (p q : A → Bool) → ((x : A) → q x ≡ true → p x ≡ true)
+passes_both : {A : Type 0} (p q : A → Bool) → ((x : A) → q x ≡ true → p x ≡ true)
     → (xs : List A) → list_any q xs ≡ true → list_any p xs ≡ true
 passes_both p q f [] h = h
 passes_both p q f (x ∷ xs) h =
     ⊎_elim (λ e. or_left _ _ (f x e)) (λ e. or_right _ _ (passes_both p q f xs e)) (or_cases _ _ h)
 
 module _ {T : Type 0} where
-  pub is_ref : (m : Name) (c : Option (Cell T))
+  is_ref : (m : Name) (c : Option (Cell T))
       → refers_to m c ≡ true → (l : Location) × (c ≡ Some (Ref m l))
   is_ref m None h = absurd (true≢false (sym h))
   is_ref m (Some (Value c l)) h = absurd (true≢false (sym h))
@@ -43,8 +43,7 @@ module _ {T : Type 0} where
 
   pub named_from : (cells : NameMap (Cell T)) (m : Name) → IsNamed cells m → is_named cells m ≡ true
   unfolding is_named
-  named_from cells m h =
-      passes_both (λ n. refers_to m (map.get cells n)) (eq_by_cmp name_cmp h.0)
-      (λ n e. ap (λ k. refers_to m (map.get cells k)) (sym (key_same name_total name_exact h.0 n e))
+  named_from cells m h = passes_both (λ n. refers_to m (map.get cells n)) (eq_by_cmp name_cmp h.0)
+      (λ n e. ap (λ k. refers_to m (map.get cells k)) (sym (key_same by_name h.0 n e))
       ∙ (ap (refers_to m) h.2 ∙ name_here m))
       (map.keys cells) (sym (map.contains_key-keys cells h.0) ∙ ap is_some h.2)

@@ -184,23 +184,19 @@ module _ {T : Type 0} where
       given = λ p b is.
           ⊎_elim (λ e. meets_given s.state R action answer meets (name_of b) (kept.given p b e))
           (λ e. e.1.given) (box_place p b is);
-      apart = λ p q b c is at same.
-          ⊎_elim
-          (λ e. ⊎_elim (λ k. kept.apart p q b c e k same)
-          (λ k. absurd (old_box p b c e k.1 same)) (box_place q c at))
-          (λ e. ⊎_elim (λ k. absurd (old_box q c b k e.1 (sym same)))
+      apart = λ p q b c is at same. ⊎_elim
+          (λ e. ⊎_elim (λ k. kept.apart p q b c e k same) (λ k. absurd (old_box p b c e k.1 same))
+          (box_place q c at)) (λ e. ⊎_elim (λ k. absurd (old_box q c b k e.1 (sym same)))
           (λ k. e.0 ∙ sym k.0) (box_place q c at)) (box_place p b is);
       readers = λ p g is. ⊎_elim (λ e. e.1) (λ e. e.1.0) (reader_place p g is);
       writers = λ p g v is. ⊎_elim (λ e. e.1) (λ e. e.1.0) (writer_place p g v is);
-      one_reader = λ p q g h is at same.
-          ⊎_elim
-          (λ e. ⊎_elim (λ k. kept.one_reader p q g h e.0 k.0 same)
+      one_reader =
+          λ p q g h is at same. ⊎_elim (λ e. ⊎_elim (λ k. kept.one_reader p q g h e.0 k.0 same)
           (λ k. absurd (old_reader p g h e.0 k.1 same)) (reader_place q h at))
           (λ e. ⊎_elim (λ k. absurd (old_reader q h g k.0 e.1 (sym same)))
           (λ k. e.0 ∙ sym k.0) (reader_place q h at)) (reader_place p g is);
       one_writer = λ p q g h v w is at same.
-          ⊎_elim
-          (λ e. ⊎_elim (λ k. kept.one_writer p q g h v w e.0 k.0 same)
+          ⊎_elim (λ e. ⊎_elim (λ k. kept.one_writer p q g h v w e.0 k.0 same)
           (λ k. absurd (old_writer p g h v e.0 k.1 same)) (writer_place q h w at))
           (λ e. ⊎_elim (λ k. absurd (old_writer q h g w k.0 e.1 (sym same)))
           (λ k. e.0 ∙ sym k.0) (writer_place q h w at)) (writer_place p g v is);

@@ -113,14 +113,13 @@ module _ {T : Type 0} where
   get_bare : (cells : NameMap (Cell T)) (n : Name)
       → map.get (bare_cells cells) n ≡ option_map (moved_cell same_name 0 bare) (map.get cells n)
   unfolding bare_cells
-  get_bare cells n =
-      map.get-from_sorted name_cmp _ n
+  get_bare cells n = map.get-from_sorted name_cmp _ n
       (subst IsTrue (sym (sorted_each name_cmp (moved_cell same_name 0 bare) (map.entries cells)))
       (map.entries_sorted cells))
       ∙ (find_each name_cmp (moved_cell same_name 0 bare) n (map.entries cells)
       ∙ ap (option_map (moved_cell same_name 0 bare)) (sym (map.get-entries cells n)))
 
-  pub carries_plain : (S : State T) → Carries same_name 0 bare Any (plain S) S
+  carries_plain : (S : State T) → Carries same_name 0 bare Any (plain S) S
   carries_plain S = record {
     number = refl;
     next = omega arith;
@@ -139,7 +138,7 @@ module _ {T : Type 0} where
   }
 
   -- what carries so is the plain state
-  pub plain_from : (P : State (Unit {0})) (S : State T)
+  plain_from : (P : State (Unit {0})) (S : State T)
       → Carries same_name 0 bare Any P S → P.start ≡ S.start → P ≡ plain S
   plain_from P S c start =
       let cells : P.cells ≡ bare_cells S.cells = map.same_map name_total name_exact P.cells

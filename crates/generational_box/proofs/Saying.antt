@@ -30,12 +30,14 @@ use Rattle.generational_box.specs.Machine.Action.{Point, CanRead, CanWrite}
 use Rattle.generational_box.specs.Machine.{with_owner, own_name}
 use Rattle.generational_box.specs.Machine.Answer.{Made, Owned, Reads, Writes, Done, Flag, Back}
 use Rattle.generational_box.specs.Machine.Answer.{Refused}
+use Rattle.generational_box.specs.declared.error.StoreError.{StoreError}
 use Rattle.generational_box.specs.declared.error.StoreError.TheVariants.{UnknownOwner}
+use Rattle.generational_box.specs.Numbered.{want}
 use Rattle.generational_box.specs.Machine.{is_known, make_value, make_shared}
 use Rattle.generational_box.specs.Borrowing.{read_trouble, is_same_box}
 use Rattle.generational_box.specs.Ending.{close, hindered, hindrance_at, swept}
 use Rattle.generational_box.proofs.Fresh.{AreFresh}
-use Rattle.generational_box.proofs.Maps.{name_exact, name_total, get-changed_here}
+use Rattle.generational_box.proofs.Maps.{by_name, get-changed_here}
 use Rattle.generational_box.proofs.Maps.{contains-insert_here}
 use Rattle.generational_box.proofs.Ends.{none≢some}
 
@@ -72,9 +74,16 @@ module _ {T : Type 0} where
   Says S (Owned o) R = R.next ≡ S.next + 1
   Says S _ R = Unit {0}
 
+  -- the want that an answer tells
+  abbrev pub wants : Answer T → Option StoreError
+  wants (Refused e) = want e
+  wants _ = None
+
   -- what a call answers is so
   pub record IsSaid (S : State T) (out : Outcome T) : Type 0 where
     pub so : Says S out.0 out.1
+    -- the machine itself wants neither memory nor tickets
+    pub able : wants out.0 ≡ None
 
   says_if : (S : State T) (b : Bool) (x y : Outcome T)
       → IsSaid S x → IsSaid S y → IsSaid S (cond b x y)
@@ -84,16 +93,16 @@ module _ {T : Type 0} where
   says_known : (S : State T) (b : Bool) (x : Outcome T)
       → IsSaid S x → IsSaid S (cond b x (Refused UnknownOwner, S))
   says_known S true x h = h
-  says_known S false x h = record { so = tt }
+  says_known S false x h = record { so = tt; able = refl }
 
   says_unless : (S : State T) (o : Option Trouble) (x : Outcome T)
       → IsSaid S x → IsSaid S (unless o S x)
   says_unless S None x h = h
-  says_unless S (Some t) x h = record { so = tt }
+  says_unless S (Some t) x h = record { so = tt; able = refl }
 
   says_done : (S R : State T) (o : Option Trouble) → IsSaid S (unless o S (Done, R))
-  says_done S R None = record { so = tt }
-  says_done S R (Some t) = record { so = tt }
+  says_done S R None = record { so = tt; able = refl }
+  says_done S R (Some t) = record { so = tt; able = refl }
 
   -- the box of a new cell
   says_born : (S Q : State T) (c : Cell T) (o : Option OwnerName) (b : GenerationalPointer)
@@ -102,35 +111,33 @@ module _ {T : Type 0} where
   says_born S Q c None b number new = record {
     number = number;
     fresh = new;
-    given = contains-insert_here name_total name_exact Q.given (name_of b);
+    given = contains-insert_here by_name Q.given (name_of b);
   }
   says_born S Q c (Some o) b number new = record {
     number = number;
     fresh = new;
-    given = contains-insert_here name_total name_exact Q.given (name_of b);
+    given = contains-insert_here by_name Q.given (name_of b);
   }
 
   says_referred : (S : State T) (o : Option OwnerName) (b : GenerationalPointer) (to : Option Name)
       (target : Option (Cell T)) (n : Name)
       → set.contains S.given n ≡ false → IsSaid S (referred S o b to target n)
   says_referred S o b (Some m) (Some (Shared c l)) n new =
-      record { so = says_born S S (Ref m l) o _ refl new }
-  says_referred S o b to target n new = record { so = tt }
+      record { so = says_born S S (Ref m l) o _ refl new; able = refl }
+  says_referred S o b to target n new = record { so = tt; able = refl }
 
-  says_cloned : (S : State T) (o : OwnerName) (h : Option Holding)
-      → IsSaid S (cloned S o h)
-  says_cloned S o None = record { so = tt }
-  says_cloned S o (Some h) = record { so = refl }
+  says_cloned : (S : State T) (o : OwnerName) (h : Option Holding) → IsSaid S (cloned S o h)
+  says_cloned S o None = record { so = tt; able = refl }
+  says_cloned S o (Some h) = record { so = refl; able = refl }
 
-  says_let_go : (S : State T) (o : OwnerName) (h : Option Holding)
-      → IsSaid S (let_go S o h)
-  says_let_go S o None = record { so = tt }
+  says_let_go : (S : State T) (o : OwnerName) (h : Option Holding) → IsSaid S (let_go S o h)
+  says_let_go S o None = record { so = tt; able = refl }
   says_let_go S o (Some h) =
       let fewer = with_owner S o.key (record h { count = h.count - 1 }) in
       let left : State T = record (close S h.names) { owners = map.remove S.owners o.key } in
       let ends : Outcome T = unless (hindered S h.names) S (Done, left) in
       says_if S (nat_lt 1 h.count)
-      (Done, fewer) ends (record { so = tt }) (says_done S left (hindered S h.names))
+      (Done, fewer) ends (record { so = tt; able = refl }) (says_done S left (hindered S h.names))
 
   -- the content that a cell was given
   filled_content : (S : State T) (m : Name) (c : Content T) (old : Content T)
@@ -141,9 +148,9 @@ module _ {T : Type 0} where
       by_cell None is = absurd (none≢some _ old (ap content_of is) had)
       by_cell (Some (Ref k l)) is = absurd (none≢some _ old (ap content_of is) had)
       by_cell (Some (Value d l)) is = ap content_of
-          (get-changed_here name_total name_exact S.cells m (refilled c) (Value d l) is)
+          (get-changed_here by_name S.cells m (refilled c) (Value d l) is)
       by_cell (Some (Shared d l)) is = ap content_of
-          (get-changed_here name_total name_exact S.cells m (refilled c) (Shared d l) is)
+          (get-changed_here by_name S.cells m (refilled c) (Shared d l) is)
 
   says_read : (S : State T) (l : Location) (m : Option Name) (c : Option (Content T))
       → contents S m ≡ c → IsSaid S (read_at S l m c)
@@ -152,8 +159,8 @@ module _ {T : Type 0} where
       let there = ap (λ c. has_reader c S.next)
       (filled_content S m (Here v (readers ++ b ∷ [])) (Here v readers) had) in
       let known = both_true _ _ (same_number S.number) (there ∙ pushed_reads readers b) in
-      record { so = (record { is = refl; next = refl }, known) }
-  says_read S l m c had = record { so = tt }
+      record { so = (record { is = refl; next = refl }, known); able = refl }
+  says_read S l m c had = record { so = tt; able = refl }
 
   says_write : (S : State T) (l : Location) (m : Option Name) (c : Option (Content T))
       → contents S m ≡ c → IsSaid S (written_at S l m c)
@@ -161,50 +168,48 @@ module _ {T : Type 0} where
       let b : Borrow = record { ticket = S.next; location = l } in
       let filled = filled_content S m (Lent b) (Here v readers) had in
       let there = ap (λ c. has_writer c S.next) filled ∙ same_number S.next in
-      record
-      { so = (record { is = refl; next = refl }, both_true _ _ (same_number S.number) there) }
-  says_write S l m c had = record { so = tt }
+      let known = both_true _ _ (same_number S.number) there in
+      record { so = (record { is = refl; next = refl }, known); able = refl }
+  says_write S l m c had = record { so = tt; able = refl }
 
   says_set : (S : State T) (v : T) (m : Option Name) (c : Option (Content T))
       → IsSaid S (set_at S v m c)
-  says_set S v (Some m) (Some (Here old readers)) = record { so = tt }
-  says_set S v m c = record { so = tt }
+  says_set S v (Some m) (Some (Here old readers)) = record { so = tt; able = refl }
+  says_set S v m c = record { so = tt; able = refl }
 
-  says_turned : (S : State T) (a old new : Name) (l : Location)
-      → IsSaid S (turned S a old new l)
+  says_turned : (S : State T) (a old new : Name) (l : Location) → IsSaid S (turned S a old new l)
   says_turned S a old new l =
       let left = swept (map.insert S.cells a (Ref new l)) in
       let after : State T = record S { cells = left } in
       let hindrance = hindrance_at S.cells left old in
       says_if S (is_name old new) (Done, S)
-      (unless hindrance S (Done, after)) (record { so = tt }) (says_done S after hindrance)
+      (unless hindrance S (Done, after))
+      (record { so = tt; able = refl }) (says_done S after hindrance)
 
-  says_pointed : (S : State T) (a b : GenerationalPointer)
-      (cell : Option (Cell T)) (to : Option Name) (target : Option (Cell T))
-      → IsSaid S (pointed S a b cell to target)
-  says_pointed S a b None to target = record { so = tt }
+  says_pointed : (S : State T) (a b : GenerationalPointer) (cell : Option (Cell T))
+      (to : Option Name) (target : Option (Cell T)) → IsSaid S (pointed S a b cell to target)
+  says_pointed S a b None to target = record { so = tt; able = refl }
   says_pointed S a b (Some (Ref old l)) (Some new) (Some (Shared c k)) =
       says_turned S (name_of a) old new l
-  says_pointed S a b (Some _) to target = record { so = tt }
+  says_pointed S a b (Some _) to target = record { so = tt; able = refl }
 
   -- what each call answers is so
   pub act_says : (S : State T) (call : Action T) (f : Fresh)
       → AreFresh S call f → IsSaid S (act S call f)
   act_says S (Make o v l) f new = says_known S (is_known S o) (make_value S o v l f.first)
-      (record { so = says_born S S (Value (Here v []) l) o _ refl new })
+      (record { so = says_born S S (Value (Here v []) l) o _ refl new; able = refl })
   act_says S (MakeShared o v l) f new =
       let shared = born S f.first (Shared (Here v []) l) in
       says_known S (is_known S o) (make_shared S o v l f)
-      (record { so = says_born S shared (Ref f.first l) o _ refl new.1 })
-  act_says S (Refer o b) f new =
-      says_known S (is_known S o)
+      (record { so = says_born S shared (Ref f.first l) o _ refl new.1; able = refl })
+  act_says S (Refer o b) f new = says_known S (is_known S o)
       (unless (read_trouble S b) S (referred S o b (reach S b) (found S (reach S b)) f.first))
       (says_unless S
       (read_trouble S b) _ (says_referred S o b (reach S b) (found S (reach S b)) f.first new))
-  act_says S NewOwner f new = record { so = refl }
+  act_says S NewOwner f new = record { so = refl; able = refl }
   act_says S (CloneOwner o) f new = says_cloned S o (holding S o)
   act_says S (ReleaseOwner o) f new = says_let_go S o (holding S o)
-  act_says S (LeakOwner o) f new = record { so = tt }
+  act_says S (LeakOwner o) f new = record { so = tt; able = refl }
   act_says S (Read b l) f new =
       says_unless S _ _ (says_read S l (reach S b) (contents S (reach S b)) refl)
   act_says S (Write b l) f new =
@@ -212,17 +217,20 @@ module _ {T : Type 0} where
   act_says S (ReleaseReader g) f new =
       let after = without_reader S g.cell g.ticket (content_at S g.cell) in
       says_if S (knows_reader S g)
-      (Flag true, after) (Flag false, S) (record { so = tt }) (record { so = tt })
+      (Flag true, after)
+      (Flag false, S) (record { so = tt; able = refl }) (record { so = tt; able = refl })
   act_says S (ReleaseWriter g v) f new =
       let after = filled S g.cell (Here v []) in
       says_if S
-      (knows_writer S g) (Done, after) (Back v, S) (record { so = tt }) (record { so = tt })
+      (knows_writer S g) (Done, after)
+      (Back v, S) (record { so = tt; able = refl }) (record { so = tt; able = refl })
   act_says S (SetValue b v) f new = says_set S v (reach S b) (contents S (reach S b))
   act_says S (End b) f new = says_done S (close S (own_name S b)) (hindered S (own_name S b))
   act_says S (Point a b) f new =
       let out : Outcome T = pointed S a b (own_cell S a) (reach S b) (found S (reach S b)) in
-      says_if S (is_same_box a b) (Done, S) (unless (read_trouble S b) S out) (record { so = tt })
+      says_if S (is_same_box a b)
+      (Done, S) (unless (read_trouble S b) S out) (record { so = tt; able = refl })
       (says_unless S
       (read_trouble S b) out (says_pointed S a b (own_cell S a) (reach S b) (found S (reach S b))))
-  act_says S (CanRead b) f new = record { so = tt }
-  act_says S (CanWrite b) f new = record { so = tt }
+  act_says S (CanRead b) f new = record { so = tt; able = refl }
+  act_says S (CanWrite b) f new = record { so = tt; able = refl }

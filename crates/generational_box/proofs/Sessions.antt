@@ -21,7 +21,7 @@ use Rattle.generational_box.specs.Bounds.{IsBounded}
 use Rattle.generational_box.proofs.Bounding.{meets_bounded}
 use Rattle.generational_box.specs.Session.{asked}
 use Rattle.generational_box.proofs.Lasting.{fresh_sound}
-use Rattle.generational_box.proofs.Stepping.{meets_ended}
+use Rattle.generational_box.proofs.Stepping.{meets_sound, meets_ended}
 use Rattle.generational_box.proofs.Stepping.{ends_reader, ends_writer}
 use Rattle.generational_box.proofs.Tables.{held_pushed, held_emptied}
 use Rattle.generational_box.proofs.Placing.{Unspent, Remains, kept_after}
@@ -128,10 +128,14 @@ module _ {T : Type 0} where
       (λ e. meets_ended s.state r.state e.0 e.1 e.2 n ended)
       (settles_meets s r c x (asked s c) step)
 
+  pub session_sound : (s r : SessionState T) (c : Call T) (x : Said T)
+      → IsSound s.state → SessionStep s c x r → IsSound r.state
+  session_sound s r c x sound step = ⊎_elim (λ e. subst IsSound (sym e) sound)
+      (λ e. meets_sound s.state r.state e.0 e.1 sound e.2) (settles_meets s r c x (asked s c) step)
+
   pub session_bounded : (s r : SessionState T) (c : Call T) (x : Said T)
       → IsSound s.state → IsBounded s.state → SessionStep s c x r → IsBounded r.state
-  session_bounded s r c x sound bounded step =
-      ⊎_elim (λ e. subst IsBounded (sym e) bounded)
+  session_bounded s r c x sound bounded step = ⊎_elim (λ e. subst IsBounded (sym e) bounded)
       (λ e. meets_bounded s.state r.state e.0 e.1 sound bounded e.2)
       (settles_meets s r c x (asked s c) step)
 

@@ -12,7 +12,7 @@ use Rattle.std.specs.FinMap as map
 use Rattle.generational_box.specs.Names.{Name, NameMap, name_cmp}
 use Rattle.generational_box.specs.Cells.{Cell}
 use Rattle.generational_box.specs.Carrying.{CarriesCells, moved_cell}
-use Rattle.generational_box.proofs.Maps.{name_exact, name_total, key_same, key_here, key_apart}
+use Rattle.generational_box.proofs.Maps.{by_name, name_total, key_same, key_here, key_apart}
 use Rattle.generational_box.proofs.Moved.{some_map}
 use Rattle.generational_box.proofs.Lengths.{keys_apart, len_keys}
 
@@ -30,9 +30,8 @@ module _ {f : Name → Name} {Knows : Name → Type 0}
           → AllByRecursion (λ y. eq_by_cmp name_cmp (f n) y ≡ false) (list_map f names)
       go [] k d = tt
       go (m ∷ names) km d = (
-        key_apart name_total name_exact
-            (f n) (f m) (λ e. true≢false (sym (key_here name_total name_exact n)
-            ∙ (ap (eq_by_cmp name_cmp n) (apart n m k.0 km.0 e) ∙ d.0))),
+        key_apart by_name (f n) (f m) (λ e. true≢false
+            (sym (key_here by_name n) ∙ (ap (eq_by_cmp name_cmp n) (apart n m k.0 km.0 e) ∙ d.0))),
         go names km.1 d.1,
       )
 
@@ -42,7 +41,7 @@ module _ {f : Name → Name} {Knows : Name → Type 0}
   image_gives [] q h = absurd (true≢false (sym h))
   image_gives (n ∷ names) q h =
       ⊎_elim (λ e.
-      (n, or_left _ _ (key_here name_total name_exact n), key_same name_total name_exact q (f n) e))
+      (n, or_left _ _ (key_here by_name n), key_same by_name q (f n) e))
       (λ e. let it = image_gives names q e in (it.0, or_right _ _ it.1, it.2)) (or_cases _ _ h)
 
 module _ {T U : Type 0} {f : Name → Name} {d : ℕ} {g : T → U} {Knows : Name → Type 0}
@@ -53,7 +52,7 @@ module _ {T U : Type 0} {f : Name → Name} {d : ℕ} {g : T → U} {Knows : Nam
       → AllByRecursion Knows names
   all_known [] h = tt
   all_known (n ∷ names) h = (
-    h n (or_left _ _ (key_here name_total name_exact n)),
+    h n (or_left _ _ (key_here by_name n)),
     all_known names (λ m e. h m (or_right _ _ e)),
   )
 
@@ -73,10 +72,9 @@ module _ {T U : Type 0} {f : Name → Name} {d : ℕ} {g : T → U} {Knows : Nam
   image_from : (names : List Name) (n : Name) → list_any (eq_by_cmp name_cmp n) names ≡ true
       → list_any (eq_by_cmp name_cmp (f n)) (list_map f names) ≡ true
   image_from [] n h = h
-  image_from (m ∷ names) n h =
-      ⊎_elim (λ e. or_left _ _ (ap (λ x. eq_by_cmp name_cmp (f n) (f x))
-      (sym (key_same name_total name_exact n m e)) ∙ key_here name_total name_exact (f n)))
-      (λ e. or_right _ _ (image_from names n e)) (or_cases _ _ h)
+  image_from (m ∷ names) n h = ⊎_elim
+      (λ e. or_left _ _ (ap (λ x. eq_by_cmp name_cmp (f n) (f x)) (sym (key_same by_name n m e))
+      ∙ key_here by_name (f n))) (λ e. or_right _ _ (image_from names n e)) (or_cases _ _ h)
 
   no_more : length (map.keys S) ≤ length (map.keys A)
   no_more =

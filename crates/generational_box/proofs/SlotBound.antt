@@ -4,7 +4,7 @@ use Rattle.std.proofs.Common.{◌≡◌, ℕ, ◌+◌, ◌≤◌, true, false, L
 use Rattle.std.proofs.Common.{sym, ap, ◌∙◌, inl, inr, arith, ⊎_elim}
 use Rattle.std.specs.Prelude.{is_some, nat_lt, ◌⊎◌, map as list_map}
 use Rattle.std.specs.Ordering.{nat_cmp, eq_by_cmp}
-use Rattle.std.specs.Cmp.{nat_cmp_total, eq_by_cmp_equiv}
+use Rattle.std.specs.Cmp.{eq_by_cmp_equiv}
 use Rattle.std.specs.List.{AllByRecursion, IsDistinct, list_any}
 use Rattle.std.proofs.lemmas.Bool.{true≢false, and_from, or_cases, or_left, or_right, cases_Bool}
 use Rattle.std.proofs.lemmas.Bool.{not_from_false}
@@ -15,15 +15,15 @@ use Rattle.generational_box.specs.Names.{Name, name_cmp}
 use Rattle.generational_box.specs.State.{State}
 use Rattle.generational_box.specs.Slots.{slots_of, last_name, is_last_live, is_free, is_retired}
 use Rattle.generational_box.specs.Slots.{slots, free, retired, last_generation}
-use Rattle.generational_box.proofs.Maps.{name_exact, name_total, key_same, key_here, key_apart}
+use Rattle.generational_box.proofs.Maps.{by_name, by_number, name_total, key_same, key_here}
+use Rattle.generational_box.proofs.Maps.{key_apart}
 use Rattle.generational_box.proofs.Maps.{keep_view}
 use Rattle.generational_box.proofs.Lengths.{keys_apart, len_keys, len_three}
 
 module _ {T : Type 0} (S : State T) where
   each_slot : (s : ℕ) → (is_last_live S s ≡ true) ⊎ ((is_free S s ≡ true) ⊎ (is_retired S s ≡ true))
   each_slot s =
-      ⊎_elim (λ e. inl e)
-      (λ e. inr (⊎_elim (λ l. inl (and_from _ _ (not_from_false _ e) l))
+      ⊎_elim (λ e. inl e) (λ e. inr (⊎_elim (λ l. inl (and_from _ _ (not_from_false _ e) l))
       (λ l. inr (and_from _ _ (not_from_false _ e) (not_from_false _ l)))
       (cases_Bool (nat_lt (last_name S s).generation last_generation))))
       (cases_Bool (is_last_live S s))
@@ -38,9 +38,8 @@ module _ {T : Type 0} (S : State T) where
           (λ y. eq_by_cmp name_cmp (last_name S k) y ≡ false) (list_map (last_name S) js)
       go [] d = tt
       go (j ∷ js) d = (
-        key_apart name_total name_exact (last_name S k) (last_name S j)
-            (λ e. true≢false (sym (key_here nat_cmp_total map.nat_cmp-IsAntisymmetric k)
-            ∙ (ap (λ (n : Name). eq_by_cmp nat_cmp k n.slot) e ∙ d.0))),
+        key_apart by_name (last_name S k) (last_name S j) (λ e. true≢false
+            (sym (key_here by_number k) ∙ (ap (λ (n : Name). eq_by_cmp nat_cmp k n.slot) e ∙ d.0))),
         go js d.1,
       )
 
@@ -51,15 +50,15 @@ module _ {T : Type 0} (S : State T) where
   image_gives (k ∷ ks) q h =
       ⊎_elim (λ e. (
         k,
-        or_left _ _ (key_here nat_cmp_total map.nat_cmp-IsAntisymmetric k),
-        key_same name_total name_exact q (last_name S k) e,
+        or_left _ _ (key_here by_number k),
+        key_same by_name q (last_name S k) e,
       ))
       (λ e. let it = image_gives ks q e in (it.0, or_right _ _ it.1, it.2)) (or_cases _ _ h)
 
   is_live : (s : ℕ) → map.contains_key (map.retain_keys (slots_of S) (is_last_live S)) s ≡ true
       → is_last_live S s ≡ true
   is_live s h = ⊎_elim (λ e. e.1) (λ e. absurd (true≢false (sym h ∙ ap is_some e.0)))
-      (keep_view nat_cmp_total map.nat_cmp-IsAntisymmetric (slots_of S) (is_last_live S) s)
+      (keep_view by_number (slots_of S) (is_last_live S) s)
 
   -- slots whose last names are live are no more than the live cells
   live_cells : map.len (map.retain_keys (slots_of S) (is_last_live S)) ≤ map.len S.cells
@@ -77,5 +76,5 @@ module _ {T : Type 0} (S : State T) where
 
   -- every slot is live, free or retired
   pub slots_bounded : slots S ≤ map.len S.cells + free S + retired S
-  slots_bounded = let le = len_three nat_cmp_total map.nat_cmp-IsAntisymmetric (slots_of S)
+  slots_bounded = let le = len_three by_number (slots_of S)
       (is_last_live S) (is_free S) (is_retired S) each_slot in let live = live_cells in omega arith

@@ -3,7 +3,6 @@ use Rattle.std.proofs.Common.{◌≡◌, ℕ, ◌+◌, ◌-◌, ◌≤◌, ◌<�
 use Rattle.std.proofs.Common.{◌∷◌, ◌++◌, Option, None, Some, refl, sym, ap, subst, ◌∙◌, inl, inr}
 use Rattle.std.proofs.Common.{arith, ⊎_elim}
 use Rattle.std.specs.Prelude.{is_some, nat_eq, nat_lt}
-use Rattle.std.specs.Cmp.{nat_cmp_total}
 use Rattle.std.specs.List.{list_any, filter, IsDistinct, AllByRecursion}
 use Rattle.std.proofs.lemmas.Bool.{true≢false, or_cases, and_parts, eqb-true, false_from_ne_true}
 use Rattle.std.specs.FinMap as map
@@ -31,7 +30,7 @@ use Rattle.generational_box.specs.Machine.Action.{ReleaseOwner, LeakOwner, Read,
 use Rattle.generational_box.specs.Machine.Action.{ReleaseReader, ReleaseWriter, SetValue, End}
 use Rattle.generational_box.specs.Machine.Action.{Point, CanRead, CanWrite}
 use Rattle.generational_box.proofs.Fresh.{AreFresh}
-use Rattle.generational_box.proofs.Maps.{name_exact, name_total, name_cases, get-insert_here}
+use Rattle.generational_box.proofs.Maps.{by_name, by_number, name_cases, get-insert_here}
 use Rattle.generational_box.proofs.Maps.{get-insert_apart, get-remove_here, get-remove_apart}
 use Rattle.generational_box.proofs.Maps.{changed_view, key_cases, contains-insert_here}
 use Rattle.generational_box.proofs.Tickets.{in_filter, apart_filter, apart_push, in_push}
@@ -69,9 +68,9 @@ module _ {T : Type 0} where
       (λ k h is. ⊎_elim (λ e. s.owned k h (sym e ∙ is))
       (λ e. subst (λ (x : Holding). AllByRecursion (IsGiven S) x.names)
       (same_some _ _ (sym e.3 ∙ is)) (given_push S e.1.names n (s.owned k e.1 e.2) g))
-      (changed_view nat_cmp_total map.nat_cmp-IsAntisymmetric S.owners o.key grow k))
+      (changed_view by_number S.owners o.key grow k))
       (λ k live. ⊎_elim (λ e. s.keys k (sym (ap is_some e) ∙ live)) (λ e. s.keys k (ap is_some e.2))
-      (changed_view nat_cmp_total map.nat_cmp-IsAntisymmetric S.owners o.key grow k))
+      (changed_view by_number S.owners o.key grow k))
     where
       same_some : (x y : Holding) → Some x ≡ Some y → x ≡ y
       same_some x y e = cc
@@ -83,34 +82,29 @@ module _ {T : Type 0} where
   sound_recorded S key next h s up below names =
       sound_owners S (map.insert S.owners key h) next s up
       (λ k x is. ⊎_elim (λ e. subst (λ (y : Holding). AllByRecursion (IsGiven S) y.names)
-      (same_some _ _ (sym (get-insert_here nat_cmp_total map.nat_cmp-IsAntisymmetric
+      (same_some _ _ (sym (get-insert_here by_number
       S.owners key h) ∙ (ap (map.get (map.insert S.owners key h)) (sym e) ∙ is))) names)
       (λ ne. s.owned k x
-      (sym (get-insert_apart nat_cmp_total map.nat_cmp-IsAntisymmetric S.owners key h k ne) ∙ is))
-      (key_cases nat_cmp_total map.nat_cmp-IsAntisymmetric k key))
+      (sym (get-insert_apart by_number S.owners key h k ne) ∙ is))
+      (key_cases by_number k key))
       (λ k live. ⊎_elim (λ (e : k ≡ key). omega arith)
-      (λ ne. let b = s.keys k (sym (ap is_some (get-insert_apart nat_cmp_total
-      map.nat_cmp-IsAntisymmetric S.owners key h k ne)) ∙ live) in omega arith)
-      (key_cases nat_cmp_total map.nat_cmp-IsAntisymmetric k key))
+      (λ ne. let b = s.keys k
+      (sym (ap is_some (get-insert_apart by_number S.owners key h k ne)) ∙ live) in omega arith)
+      (key_cases by_number k key))
     where
       same_some : (x y : Holding) → Some x ≡ Some y → x ≡ y
       same_some x y e = cc
 
   sound_forgotten : (S : State T) (key : ℕ)
       → IsSound S → IsSound (record S { owners = map.remove S.owners key })
-  sound_forgotten S key s =
-      sound_owners S (map.remove S.owners key) S.next s (omega arith)
-      (λ k x is. ⊎_elim (λ e. absurd (none≢some _ _ (ap (map.get (map.remove S.owners key)) e
-      ∙ get-remove_here nat_cmp_total map.nat_cmp-IsAntisymmetric S.owners key) is))
-      (λ ne. s.owned k x
-      (sym (get-remove_apart nat_cmp_total map.nat_cmp-IsAntisymmetric S.owners key k ne) ∙ is))
-      (key_cases nat_cmp_total map.nat_cmp-IsAntisymmetric k key))
-      (λ k live. ⊎_elim
-      (λ e. absurd (true≢false (sym live ∙ ap is_some (ap (map.get (map.remove S.owners key)) e
-      ∙ get-remove_here nat_cmp_total map.nat_cmp-IsAntisymmetric S.owners key))))
-      (λ ne. s.keys k (sym (ap is_some
-      (get-remove_apart nat_cmp_total map.nat_cmp-IsAntisymmetric S.owners key k ne)) ∙ live))
-      (key_cases nat_cmp_total map.nat_cmp-IsAntisymmetric k key))
+  sound_forgotten S key s = sound_owners S
+      (map.remove S.owners key) S.next s (omega arith) (λ k x is. ⊎_elim (λ e. absurd (none≢some _ _
+      (ap (map.get (map.remove S.owners key)) e ∙ get-remove_here by_number S.owners key) is))
+      (λ ne. s.owned k x (sym (get-remove_apart by_number S.owners key k ne) ∙ is))
+      (key_cases by_number k key)) (λ k live. ⊎_elim (λ e. absurd (true≢false (sym live ∙ ap is_some
+      (ap (map.get (map.remove S.owners key)) e ∙ get-remove_here by_number S.owners key))))
+      (λ ne. s.keys k (sym (ap is_some (get-remove_apart by_number S.owners key k ne)) ∙ live))
+      (key_cases by_number k key))
 
   -- the record of an owner that the store knows
   held_record : (S : State T) (o : OwnerName) (h : Holding)
@@ -196,9 +190,8 @@ module _ {T : Type 0} where
       → set.contains S.given n ≡ false → IsSound (referred S o b to target n).1
   sound_referred S o b (Some m) (Some (Shared c l)) n s is new =
       sound_listed (born S n (Ref m l)) o n
-      (sound_born S n (Ref m l) s new refl refl (λ k j e.
-      ap (λ x. is_shared (map.get S.cells x)) (sym (target_of m k l j e)) ∙ ap is_shared is))
-      (contains-insert_here name_total name_exact S.given n)
+      (sound_born S n (Ref m l) s new refl refl (λ k j e. ap (λ x. is_shared (map.get S.cells x))
+      (sym (target_of m k l j e)) ∙ ap is_shared is)) (contains-insert_here by_name S.given n)
     where
       target_of : (m k : Name) (l j : Location)
           → ◌≡◌ {A = Option (Cell T)} (Some (Ref m l)) (Some (Ref k j)) → m ≡ k
@@ -210,13 +203,13 @@ module _ {T : Type 0} where
       → is_shared (map.get S.cells new) ≡ true → HasTargets (map.insert S.cells a (Ref new l))
   turned_targets S a old new l s at_a shared n m k h =
       let still = λ (q : Name) (sh : is_shared (map.get S.cells q) ≡ true). ap is_shared
-      (get-insert_apart name_total name_exact S.cells a (Ref new l) q (λ is. true≢false
+      (get-insert_apart by_name S.cells a (Ref new l) q (λ is. true≢false
       (sym sh ∙ (ap (λ x. is_shared (map.get S.cells x)) is ∙ ap is_shared at_a)))) ∙ sh in
       ⊎_elim (λ is. ap (λ x. is_shared (map.get (map.insert S.cells a (Ref new l)) x))
-      (sym (target_of new m l k (sym (get-insert_here name_total name_exact S.cells a (Ref new l))
+      (sym (target_of new m l k (sym (get-insert_here by_name S.cells a (Ref new l))
       ∙ (ap (map.get (map.insert S.cells a (Ref new l))) (sym is) ∙ h)))) ∙ still new shared)
       (λ ne. still m (s.targets n m k
-      (sym (get-insert_apart name_total name_exact S.cells a (Ref new l) n ne) ∙ h)))
+      (sym (get-insert_apart by_name S.cells a (Ref new l) n ne) ∙ h)))
       (name_cases n a)
     where
       target_of : (m k : Name) (l j : Location)
@@ -226,13 +219,10 @@ module _ {T : Type 0} where
   turned_live : (S : State T) (a old new : Name) (l : Location)
       → IsSound S → map.get S.cells a ≡ Some (Ref old l) → (q : Name)
       → is_some (map.get (swept (map.insert S.cells a (Ref new l))) q) ≡ true → IsGiven S q
-  turned_live S a old new l s at_a q h =
-      ⊎_elim
+  turned_live S a old new l s at_a q h = ⊎_elim
       (λ e. ⊎_elim (λ is. s.given q (ap (λ x. is_some (map.get S.cells x)) is ∙ ap is_some at_a))
-      (λ ne. s.given q (sym
-      (ap is_some (e.0 ∙ get-insert_apart name_total name_exact S.cells a (Ref new l) q ne)) ∙ h))
-      (name_cases q a))
-      (λ e. absurd (true≢false (sym h ∙ ap is_some e.0)))
+      (λ ne. s.given q (sym (ap is_some (e.0 ∙ get-insert_apart by_name S.cells a (Ref new l) q ne))
+      ∙ h)) (name_cases q a)) (λ e. absurd (true≢false (sym h ∙ ap is_some e.0)))
       (swept_view (map.insert S.cells a (Ref new l)) q)
 
   sound_turned : (S : State T) (a old new : Name) (l : Location)
@@ -266,22 +256,19 @@ module _ {T : Type 0} where
   -- each call, with names that were never given, leads from a sound state to a sound state
   pub act_sound : (S : State T) (call : Action T) (f : Fresh)
       → IsSound S → AreFresh S call f → IsSound (act S call f).1
-  act_sound S (Make o v l) f s new =
-      if_sound
+  act_sound S (Make o v l) f s new = if_sound
       (is_known S o) _ _ (λ _. sound_listed (born S f.first (Value (Here v []) l)) o f.first
       (sound_born S f.first (Value (Here v []) l) s new refl refl (λ m k e. absurd (not_ref v l e)))
-      (contains-insert_here name_total name_exact S.given f.first)) (λ _. s)
+      (contains-insert_here by_name S.given f.first)) (λ _. s)
     where
       not_ref : (v : T) (l : Location) {m : Name} {k : Location}
           → Some (Value (Here v []) l) ≡ Some (Ref m k) → ⊥
       not_ref v l e = cc
-  act_sound S (MakeShared o v l) f s new =
-      if_sound (is_known S o) _ _
+  act_sound S (MakeShared o v l) f s new = if_sound (is_known S o) _ _
       (λ _. sound_listed (born (born S f.first (Shared (Here v []) l)) f.second (Ref f.first l))
       o f.second (sound_pair S f.first f.second v l s new.0 new.1 new.2)
-      (contains-insert_here name_total name_exact _ f.second)) (λ _. s)
-  act_sound S (Refer o b) f s new =
-      if_sound (is_known S o) _ _ (λ _. unless_sound S
+      (contains-insert_here by_name _ f.second)) (λ _. s)
+  act_sound S (Refer o b) f s new = if_sound (is_known S o) _ _ (λ _. unless_sound S
       (read_trouble S b) _ s (λ _. sound_referred S o b (reach S b) _ f.first s refl new)) (λ _. s)
   act_sound S NewOwner f s new = sound_recorded S S.next
       (S.next + 1) (record { names = []; count = 1 }) s (omega arith) (omega arith) tt
@@ -300,11 +287,9 @@ module _ {T : Type 0} where
   act_sound S (SetValue b v) f s new = sound_set S v (reach S b) (contents S (reach S b)) s refl
   act_sound S (End b) f s new = unless_sound S (hindered S (own_name S b))
       (Done, close S (own_name S b)) s (λ _. sound_close S (own_name S b) s)
-  act_sound S (Point a b) f s new =
-      if_sound (is_same_box a b) (Done, S)
+  act_sound S (Point a b) f s new = if_sound (is_same_box a b) (Done, S)
       (unless (read_trouble S b) S (pointed S a b (own_cell S a) (reach S b) (found S (reach S b))))
-      (λ _. s)
-      (λ _. unless_sound S (read_trouble S b)
+      (λ _. s) (λ _. unless_sound S (read_trouble S b)
       (pointed S a b (own_cell S a) (reach S b) (found S (reach S b))) s (λ _. sound_point S a b s))
   act_sound S (CanRead b) f s new = s
   act_sound S (CanWrite b) f s new = s

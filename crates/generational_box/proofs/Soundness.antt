@@ -16,7 +16,7 @@ use Rattle.generational_box.specs.State.{State, Holding, IsSound, IsGiven}
 use Rattle.generational_box.specs.State.{tickets_of}
 use Rattle.generational_box.specs.Ending.{without, left_by, close}
 use Rattle.generational_box.specs.Machine.{born}
-use Rattle.generational_box.proofs.Maps.{name_exact, name_total, name_cases, get-insert_here}
+use Rattle.generational_box.proofs.Maps.{by_name, name_cases, get-insert_here}
 use Rattle.generational_box.proofs.Maps.{get-insert_apart}
 use Rattle.generational_box.proofs.Maps.{contains-insert_here, contains-insert_old}
 use Rattle.generational_box.proofs.Ends.{HasTargets, HasNamed, NoNewTickets, swept_view}
@@ -69,17 +69,14 @@ module _ {T : Type 0} where
   -- names end
   pub left_live : (S : State T) (names : List Name) (n : Name)
       → is_some (map.get (left_by S.cells names) n) ≡ true → is_some (map.get S.cells n) ≡ true
-  left_live S names n h =
-      ⊎_elim
-      (λ e. ⊎_elim (λ k. sym (ap is_some (e.0 ∙ k)) ∙ h)
+  left_live S names n h = ⊎_elim (λ e. ⊎_elim (λ k. sym (ap is_some (e.0 ∙ k)) ∙ h)
       (λ k. absurd (true≢false (sym h ∙ ap is_some (e.0 ∙ k.0)))) (without_view S.cells names n))
       (λ e. absurd (true≢false (sym h ∙ ap is_some e.0))) (swept_view (without S.cells names) n)
 
   pub sound_close : (S : State T) (names : List Name) → IsSound S → IsSound (close S names)
-  sound_close S names s =
-      sound_cells S (left_by S.cells names) S.given S.peak s
-      (swept_targets _ (without_targets S.cells names s.targets)) (swept_named _)
-      (no_more S.cells (without S.cells names) (left_by S.cells names)
+  sound_close S names s = sound_cells S (left_by S.cells names) S.given S.peak s
+      (swept_targets _ (without_targets S.cells names s.targets))
+      (swept_named _) (no_more S.cells (without S.cells names) (left_by S.cells names)
       (without_tickets S.cells names) (swept_tickets (without S.cells names)))
       (λ n h. s.given n (left_live S names n h)) (λ n h. h)
 
@@ -94,13 +91,12 @@ module _ {T : Type 0} where
       → (n : Name) (c : Cell T) (q : Name) → is_some (map.get (map.insert S.cells n c) q) ≡ true
       → set.contains (set.insert S.given n) q ≡ true
   inserted_live S s n c q h =
-      ⊎_elim (λ is. subst (λ x. set.contains (set.insert S.given n) x ≡ true)
-      (sym is) (contains-insert_here name_total name_exact S.given n))
-      (λ ne. contains-insert_old name_total name_exact S.given n q
-      (s.given q (sym (ap is_some (get-insert_apart name_total name_exact S.cells n c q ne)) ∙ h)))
+      ⊎_elim (λ is. subst (λ x. set.contains (set.insert S.given n) x ≡ true) (sym is)
+      (contains-insert_here by_name S.given n)) (λ ne. contains-insert_old by_name S.given n q
+      (s.given q (sym (ap is_some (get-insert_apart by_name S.cells n c q ne)) ∙ h)))
       (name_cases q n)
 
-  pub shared_live : (o : Option (Cell T)) → is_shared o ≡ true → is_some o ≡ true
+  shared_live : (o : Option (Cell T)) → is_shared o ≡ true → is_some o ≡ true
   shared_live None h = h
   shared_live (Some c) h = refl
 
@@ -113,8 +109,8 @@ module _ {T : Type 0} where
   sound_born S n c s new quiet plain leads =
       let cells = map.insert S.cells n c in
       let other =
-      λ (q : Name) (ne : q ≢ n). get-insert_apart name_total name_exact S.cells n c q ne in
-      let here = get-insert_here name_total name_exact S.cells n c in
+      λ (q : Name) (ne : q ≢ n). get-insert_apart by_name S.cells n c q ne in
+      let here = get-insert_here by_name S.cells n c in
       let stays = λ (m : Name) (h : is_shared (map.get S.cells m) ≡ true).
       ap is_shared (other m (new_apart S s n new m (shared_live _ h))) ∙ h in
       sound_cells S cells (set.insert S.given n) _ s
@@ -126,7 +122,7 @@ module _ {T : Type 0} where
       (it.0, it.1, other it.0 (new_apart S s n new it.0 (ap is_some it.2)) ∙ it.2))
       (name_cases m n))
       (inserted_tickets S.cells n c quiet)
-      (inserted_live S s n c) (λ q h. contains-insert_old name_total name_exact S.given n q h)
+      (inserted_live S s n c) (λ q h. contains-insert_old by_name S.given n q h)
 
   -- a Shared cell and a Ref to it, at two new names
   pub sound_pair : (S : State T) (m n : Name) (v : T) (l : Location)
@@ -136,12 +132,12 @@ module _ {T : Type 0} where
       let one = map.insert S.cells m (Shared (Here v []) l) in
       let cells = map.insert one n (Ref m l) in
       let given_one = set.insert S.given m in
-      let first_there = get-insert_apart name_total name_exact one n (Ref m l) m apart
-      ∙ get-insert_here name_total name_exact S.cells m (Shared (Here v []) l) in
-      let second_there = get-insert_here name_total name_exact one n (Ref m l) in
+      let first_there = get-insert_apart by_name one n (Ref m l) m apart
+      ∙ get-insert_here by_name S.cells m (Shared (Here v []) l) in
+      let second_there = get-insert_here by_name one n (Ref m l) in
       let other = λ (q : Name) (ne : q ≢ m) (no : q ≢ n).
-      get-insert_apart name_total name_exact one n (Ref m l) q no
-      ∙ get-insert_apart name_total name_exact S.cells m (Shared (Here v []) l) q ne in
+      get-insert_apart by_name one n (Ref m l) q no
+      ∙ get-insert_apart by_name S.cells m (Shared (Here v []) l) q ne in
       let stays = λ (q : Name) (h : is_some (map.get S.cells q) ≡ true).
       other q (new_apart S s m new_m q h) (new_apart S s n new_n q h) in
       sound_cells S cells (set.insert given_one n) _ s
@@ -163,13 +159,13 @@ module _ {T : Type 0} where
       (no_more S.cells one cells (inserted_tickets S.cells m (Shared (Here v []) l) refl)
       (inserted_tickets one n (Ref m l) refl))
       (λ q h. ⊎_elim (λ is. subst (λ x. set.contains (set.insert given_one n) x ≡ true)
-      (sym is) (contains-insert_here name_total name_exact given_one n))
-      (λ no. contains-insert_old name_total name_exact given_one n q
+      (sym is) (contains-insert_here by_name given_one n))
+      (λ no. contains-insert_old by_name given_one n q
       (inserted_live S s m (Shared (Here v []) l) q
-      (sym (ap is_some (get-insert_apart name_total name_exact one n (Ref m l) q no)) ∙ h)))
+      (sym (ap is_some (get-insert_apart by_name one n (Ref m l) q no)) ∙ h)))
       (name_cases q n))
-      (λ q h. contains-insert_old name_total name_exact given_one n q
-      (contains-insert_old name_total name_exact S.given m q h))
+      (λ q h. contains-insert_old by_name given_one n q
+      (contains-insert_old by_name S.given m q h))
     where
       target_of : (m k : Name) (l j : Location)
           → ◌≡◌ {A = Option (Cell T)} (Some (Ref m l)) (Some (Ref k j)) → m ≡ k

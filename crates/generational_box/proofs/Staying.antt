@@ -30,7 +30,7 @@ use Rattle.generational_box.specs.Machine.Action.{ReleaseReader, ReleaseWriter, 
 use Rattle.generational_box.specs.Machine.Action.{Point, CanRead, CanWrite}
 use Rattle.generational_box.specs.Machine.Answer.{Done}
 use Rattle.generational_box.proofs.Fresh.{AreFresh}
-use Rattle.generational_box.proofs.Maps.{name_exact, name_total}
+use Rattle.generational_box.proofs.Maps.{by_name}
 use Rattle.generational_box.proofs.Maps.{get-insert_apart}
 use Rattle.generational_box.proofs.Filled.{filled_view}
 use Rattle.generational_box.proofs.Hindering.{IsBorrowed, borrowed_live, borrowed_left}
@@ -90,16 +90,14 @@ module _ {T : Type 0} (p : Option (Content T) → Bool) (is : IsBorrow p) where
   stays_born : (S : State T) (n : Name) (c : Cell T)
       → IsSound S → set.contains S.given n ≡ false → Stays S (born S n c)
   stays_born S n c s new = stays_cells S (born S n c)
-      (λ q b. get-insert_apart name_total name_exact S.cells n c q (borrowed_apart S n s new q b))
+      (λ q b. get-insert_apart by_name S.cells n c q (borrowed_apart S n s new q b))
 
   stays_pair : (S : State T) (m n : Name) (c d : Cell T)
       → IsSound S → set.contains S.given m ≡ false
       → set.contains S.given n ≡ false → Stays S (born (born S m c) n d)
-  stays_pair S m n c d s new_m new_n =
-      stays_cells S (born (born S m c) n d) (λ q b.
-      get-insert_apart name_total name_exact
-      (map.insert S.cells m c) n d q (borrowed_apart S n s new_n q b)
-      ∙ get-insert_apart name_total name_exact S.cells m c q (borrowed_apart S m s new_m q b))
+  stays_pair S m n c d s new_m new_n = stays_cells S (born (born S m c) n d) (λ q b.
+      get-insert_apart by_name (map.insert S.cells m c) n d q (borrowed_apart S n s new_n q b)
+      ∙ get-insert_apart by_name S.cells m c q (borrowed_apart S m s new_m q b))
 
   stays_listed : (S R : State T) (o : Option OwnerName) (n : Name)
       → Stays S R → Stays S (listed R o n)
@@ -120,9 +118,8 @@ module _ {T : Type 0} (p : Option (Content T) → Bool) (is : IsBorrow p) where
   stays_let_go : (S : State T) (o : OwnerName) (h : Option Holding)
       → IsSound S → Stays S (let_go S o h).1
   stays_let_go S o None s = stays_same S
-  stays_let_go S o (Some h) s =
-      stays_if S (nat_lt 1 h.count) _ _ (λ _. stays_same S)
-      (λ _. stays_unless S (hindered S h.names) _
+  stays_let_go S o (Some h) s = stays_if S
+      (nat_lt 1 h.count) _ _ (λ _. stays_same S) (λ _. stays_unless S (hindered S h.names) _
       (λ free. stays_cells S (close S h.names) (borrowed_left S h.names s free)))
 
   -- another content in a cell, which passes if the one before did
@@ -170,8 +167,7 @@ module _ {T : Type 0} (p : Option (Content T) → Bool) (is : IsBorrow p) where
 
   stays_turned : (S : State T) (a old new : Name) (l : Location)
       → IsSound S → map.get S.cells a ≡ Some (Ref old l) → Stays S (turned S a old new l).1
-  stays_turned S a old new l s at_a =
-      stays_if S (is_name old new) _ _ (λ _. stays_same S)
+  stays_turned S a old new l s at_a = stays_if S (is_name old new) _ _ (λ _. stays_same S)
       (λ _. stays_unless S (hindrance_at S.cells (swept (map.insert S.cells a (Ref new l))) old) _
       (λ free. stays_cells S (record S { cells = swept (map.insert S.cells a (Ref new l)) })
       (borrowed_turned S a old new l s at_a free)))
@@ -228,8 +224,7 @@ module _ {T : Type 0} (p : Option (Content T) → Bool) (is : IsBorrow p) where
       (λ free. stays_write S l (reach S b) (contents S (reach S b)) refl (free_to_write S b free))
   act_stays S (ReleaseReader g) f s new spared = stays_if S (knows_reader S g) _ _
       (λ _. stays_without S g.cell g.ticket (content_at S g.cell) refl spared) (λ _. stays_same S)
-  act_stays S (ReleaseWriter g v) f s new spared =
-      stays_if S
+  act_stays S (ReleaseWriter g v) f s new spared = stays_if S
       (knows_writer S g) _ _ (λ known. stays_filled S g.cell (Here v []) (content_at S g.cell) refl
       (λ h. absurd (spared (content_at S g.cell) (and_parts _ _ known).1 h))) (λ _. stays_same S)
   act_stays S (SetValue b v) f s new spared =
@@ -238,8 +233,7 @@ module _ {T : Type 0} (p : Option (Content T) → Bool) (is : IsBorrow p) where
       stays_unless S (hindered S (own_name S b)) (Done, close S (own_name S b))
       (λ free. stays_cells S (close S (own_name S b)) (borrowed_left S (own_name S b) s free))
   act_stays S (Point a b) f s new spared =
-      stays_if S (is_same_box a b) _ _ (λ _. stays_same S)
-      (λ _. stays_unless S (read_trouble S b)
+      stays_if S (is_same_box a b) _ _ (λ _. stays_same S) (λ _. stays_unless S (read_trouble S b)
       (pointed S a b (own_cell S a) (reach S b) (found S (reach S b))) (λ _. stays_point S a b s))
   act_stays S (CanRead b) f s new spared = stays_same S
   act_stays S (CanWrite b) f s new spared = stays_same S

@@ -86,15 +86,14 @@ module _ {T : Type 0} where
   takes_referred S call f o b (Some m) (Some (Shared c l)) t = inl t
   takes_referred S call f o b to target t = inr (refl, refl)
 
-  takes_new : (S : State T) (call : Action T) (f : Fresh) → Takes S call (act S call f).0 f
+  pub takes_new : (S : State T) (call : Action T) (f : Fresh) → Takes S call (act S call f).0 f
       → AreNew S call f ⊎ IsRefused S (act S call f).0 (act S call f).1
   takes_new S (Make o v l) f t =
       takes_if S (Make o v l) f (is_known S o) (make_value S o v l f.first) _ inl (refl, refl) t
   takes_new S (MakeShared o v l) f t =
       takes_if S (MakeShared o v l) f (is_known S o) (make_shared S o v l f) _ inl (refl, refl) t
   takes_new S (Refer o b) f t =
-      takes_if S (Refer o b) f (is_known S o) _ _
-      (takes_unless S (Refer o b) f (read_trouble S b) _
+      takes_if S (Refer o b) f (is_known S o) _ _ (takes_unless S (Refer o b) f (read_trouble S b) _
       (takes_referred S (Refer o b) f o b (reach S b) (found S (reach S b)))) (refl, refl) t
   takes_new S _ f t = inl tt
 
@@ -124,8 +123,7 @@ module _ {T : Type 0} where
   by_cases : (P : State T → Type 0) (S R : State T) (call : Action T) (answer : Answer T)
       → Meets S call answer R
       → P S → ((new : Fresh) → AreFresh S call new → P (act S call new).1) → P R
-  by_cases P S R call answer m same step =
-      ⊎_elim (λ e. subst P (sym e.1) same)
+  by_cases P S R call answer m same step = ⊎_elim (λ e. subst P (sym e.1) same)
       (λ e. subst (λ (o : Outcome T). P o.1) (sym e.2) (step e.0 (new_fresh S call e.0 e.1)))
       (meets_cases S R call answer m)
 
@@ -177,9 +175,8 @@ module _ {T : Type 0} where
   pub meets_says : (S R : State T) (call : Action T) (answer : Answer T)
       → Meets S call answer R → Says S answer R
   meets_says S R call answer m =
-      ⊎_elim (λ e. says_refused S R answer e.0)
-      (λ e. subst (λ (o : Outcome T). Says S o.0 o.1) (sym e.2)
-      (act_says S call e.0 (new_fresh S call e.0 e.1)).so) (meets_cases S R call answer m)
+      ⊎_elim (λ e. says_refused S R answer e.0) (λ e. subst (λ (o : Outcome T). Says S o.0 o.1)
+      (sym e.2) (act_says S call e.0 (new_fresh S call e.0 e.1)).so) (meets_cases S R call answer m)
 
   pub made_new : (S R : State T) (call : Action T) (b : GenerationalPointer)
       → Meets S call (Made b) R → IsNewBox S R b

@@ -12,7 +12,7 @@ use Rattle.generational_box.specs.declared.entry.Borrow.{Borrow}
 abbrev pub tickets : List Borrow → List ℕ
 tickets rs = list_map (λ r. r.ticket) rs
 
-pub tickets-append : (rs ss : List Borrow) → tickets (rs ++ ss) ≡ tickets rs ++ tickets ss
+tickets-append : (rs ss : List Borrow) → tickets (rs ++ ss) ≡ tickets rs ++ tickets ss
 tickets-append [] ss = refl
 tickets-append (r ∷ rs) ss = ap (λ ts. r.ticket ∷ ts) (tickets-append rs ss)
 
@@ -58,8 +58,7 @@ apart_push rs r h new = subst (IsDistinct nat_eq)
 pub in_push : (rs : List Borrow) (r : Borrow) (t : ℕ)
     → list_any (nat_eq t) (tickets (rs ++ r ∷ [])) ≡ true
     → (list_any (nat_eq t) (tickets rs) ≡ true) ⊎ (t ≡ r.ticket)
-in_push rs r t h =
-    ⊎_elim inl
+in_push rs r t h = ⊎_elim inl
     (λ e. inr (⊎_elim (eqb-true t r.ticket) (λ e. absurd (true≢false (sym e))) (or_cases _ _ e)))
     (or_cases _ _ (sym (list_any-append (nat_eq t) (tickets rs) (r.ticket ∷ []))
     ∙ (sym (ap (list_any (nat_eq t)) (tickets-append rs (r ∷ []))) ∙ h)))

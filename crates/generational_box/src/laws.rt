@@ -1,6 +1,6 @@
 //! Laws of the machine, each the contract of a function that does nothing.
 
-ghost use Rattle.std.specs.Prelude.{◌≡◌, ◌≤◌, ◌+◌, true, ℕ, List, [], Some};
+ghost use Rattle.std.specs.Prelude.{◌≡◌, ◌≤◌, ◌+◌, true, ℕ, List, [], Some, map as map_list};
 ghost use Rattle.std.specs.FinMap as map;
 ghost use Rattle.generational_box.specs.declared.boxes.GenerationalPointer.{GenerationalPointer};
 ghost use Rattle.generational_box.specs.Names.{Name};
@@ -16,6 +16,7 @@ ghost use Rattle.generational_box.specs.Bounds.{IsBounded};
 ghost use Rattle.generational_box.specs.declared.session.Call.{Call};
 ghost use Rattle.generational_box.specs.Session.{SessionState, Said, SessionStep, Run};
 ghost use Rattle.generational_box.specs.Holding.{IsKept};
+ghost use Rattle.generational_box.specs.Numbered.{Matches, answers, erase, refusal_in};
 ghost use Rattle.generational_box.specs.History.{plain, plain_call, plain_answer};
 
 /// A state in which nothing was made is sound, and each call leads from a sound state to a sound
@@ -86,4 +87,18 @@ pub fn plain_states_step<T>()
     ensures step { (S : State T) (call : Action T) (new : Fresh) →
         act (plain S) (plain_call call) new
         ≡ (plain_answer (act S call new).0, plain (act S call new).1) }
+{}
+
+/// Ids aside, the replies of a run are those of the numbered machine, which has no choice: they
+/// depend on the calls alone, and on which of them wanted memory or numbers.
+pub fn replies_depend_on_calls<T>()
+    ensures fresh { (number start next : ℕ) (calls : List (Call T)) (replies : List (Said T))
+        (r : SessionState T) →
+        let s : SessionState T = record { state = fresh number start next; table = [] } in
+        let a : SessionState T = record { state = fresh number 0 0; table = [] } in
+        Run s calls replies r →
+        map_list erase replies ≡ map_list erase (answers a calls (map_list refusal_in replies)) }
+    ensures run { (calls : List (Call T)) (replies : List (Said T)) (s r a : SessionState T) →
+        Matches s a → IsSound s.state → IsSound a.state → Run s calls replies r →
+        map_list erase replies ≡ map_list erase (answers a calls (map_list refusal_in replies)) }
 {}

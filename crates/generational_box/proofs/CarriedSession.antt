@@ -1,0 +1,235 @@
+-- A call of a session comes to the same, ids aside, where one session carries another.
+use Rattle.std.proofs.Common.{◌≡◌, ℕ, Bool, true, false, cond, List, [], ◌∷◌, ◌++◌, Option, None}
+use Rattle.std.proofs.Common.{Some, refl, sym, ap, subst, ◌∙◌}
+use Rattle.std.specs.Prelude.{nat_eq, option_map, map as list_map}
+use Rattle.std.specs.List.{AllByRecursion}
+use Rattle.std.proofs.lemmas.Bool.{true≢false}
+use Rattle.generational_box.specs.declared.boxes.GenerationalPointer.{GenerationalPointer}
+use Rattle.generational_box.specs.declared.session.BoxAt.{BoxAt}
+use Rattle.generational_box.specs.declared.session.BoxAt.TheVariants.{Place, Foreign}
+use Rattle.generational_box.specs.declared.session.Call.{Call}
+use Rattle.generational_box.specs.declared.session.Call.TheVariants as call
+use Rattle.generational_box.specs.Names.{Name}
+use Rattle.generational_box.specs.Boxes.{name_of, box_of, pointer_of}
+use Rattle.generational_box.specs.Machine.{Action, Answer, Outcome}
+use Rattle.generational_box.specs.Machine.Action.{Make, Read, ReleaseReader, ReleaseWriter, End}
+use Rattle.generational_box.specs.Machine.Answer.{Made, Owned, Reads, Writes, Done, Old, Flag, Back}
+use Rattle.generational_box.specs.Machine.Answer.{Troubled, Refused}
+use Rattle.generational_box.specs.Carrying.{KnowsBox, KnowsCall, KnowsAnswer, moved_box}
+use Rattle.generational_box.specs.Carrying.{moved_action, moved_answer}
+use Rattle.generational_box.specs.Session.{Held, SessionState, Said, Asked, held, box_held, box_in}
+use Rattle.generational_box.specs.Session.{with_box, released, asked, said, gives, spent, settled}
+use Rattle.generational_box.specs.Session.{placed}
+use Rattle.generational_box.specs.Session.Held.{Boxed, Reading, Writing, Owning, Nothing}
+use Rattle.generational_box.specs.Session.Said.{NoSuch}
+use Rattle.generational_box.specs.Session.Asked.{Asks, Tells}
+use Rattle.generational_box.specs.Numbered.{moved_held, KnowsHeld, CarriesSession, erase}
+use Rattle.generational_box.specs.Numbered.{refusal_in}
+use Rattle.generational_box.proofs.Moved.{map_append}
+use Rattle.generational_box.proofs.Carried.{Matched}
+use Rattle.generational_box.proofs.CarriedTables.{held_moved, held_known, table_set, known_set}
+use Rattle.generational_box.proofs.CarriedTables.{known_push}
+
+-- what the calls of two sessions come to
+pub data AskedAlike {T : Type 0} (f : Name → Name)
+    (d : ℕ) (Knows : Name → Type 0) (number : ℕ) : Asked T → Asked T → Type 0 where
+  both_ask : (x : Action T) → KnowsCall Knows number x
+      → AskedAlike f d Knows number (Asks (moved_action f d (λ (v : T). v) number x)) (Asks x)
+  both_tell : (x y : Said T)
+      → erase x ≡ erase y → refusal_in x ≡ None → AskedAlike f d Knows number (Tells x) (Tells y)
+
+-- the replies of two calls are the same, ids aside, and one session carries the other after them
+pub record SessionsMatched {T : Type 0}
+    (f : Name → Name) (d : ℕ) (Knows : Name → Type 0) (s a : Said T × SessionState T) : Type 0 where
+  pub said : erase s.0 ≡ erase a.0
+  pub session : CarriesSession f d Knows s.1 a.1
+
+-- ---- boxes in calls
+
+-- what a call names is known
+abbrev IfBox : (Name → Type 0) → ℕ → Option GenerationalPointer → Type 0
+IfBox Knows number None = Unit {0}
+IfBox Knows number (Some b) = KnowsBox Knows number b
+
+module _ {T : Type 0} (f : Name → Name) (d : ℕ) (number : ℕ) where
+  box_held_moved : (h : Held T)
+      → box_held (moved_held f d number h) ≡ option_map (moved_box f d number) (box_held h)
+  box_held_moved (Boxed b) = refl
+  box_held_moved (Reading g) = refl
+  box_held_moved (Writing g v) = refl
+  box_held_moved (Owning o) = refl
+  box_held_moved Nothing = refl
+
+  gives_moved : (answer : Answer T)
+      → gives (moved_answer f d (λ (v : T). v) number answer) ≡ moved_held f d number (gives answer)
+  gives_moved (Made b) = refl
+  gives_moved (Owned o) = refl
+  gives_moved (Reads g) = refl
+  gives_moved (Writes g v) = refl
+  gives_moved Done = refl
+  gives_moved (Old v) = refl
+  gives_moved (Flag b) = refl
+  gives_moved (Back v) = refl
+  gives_moved (Troubled t) = refl
+  gives_moved (Refused e) = refl
+
+  -- what is said is the same, but for a box's id
+  said_moved : (x : Call T) (answer : Answer T)
+      → erase (said x (moved_answer f d (λ (v : T). v) number answer)) ≡ erase (said x answer)
+  said_moved x (Made b) = ap Said.Created (split (nat_eq b.id.store number))
+    where
+      split : (own : Bool)
+          → (cond own (box_of number (f (name_of b)) b.created_at) b).created_at ≡ b.created_at
+      split true = refl
+      split false = refl
+  said_moved x (Owned o) = refl
+  said_moved x (Reads g) = refl
+  said_moved x (Writes g v) = refl
+  said_moved x Done = refl
+  said_moved x (Old v) = refl
+  said_moved x (Flag b) = refl
+  said_moved x (Back v) = refl
+  said_moved x (Troubled t) = refl
+  said_moved x (Refused e) = refl
+
+  spent_moved : (x : Call T) (answer : Answer T) (table : List (Held T)) → spent x
+      (moved_answer f d (λ (v : T). v) number answer) (list_map (moved_held f d number) table)
+      ≡ list_map (moved_held f d number) (spent x answer table)
+  spent_moved (call.Release p) answer table = table_set f d number table p Nothing
+  spent_moved x answer table = refl
+
+-- a box of another store stays as it is
+foreign_moved : (f : Name → Name) (d number : ℕ) (b : GenerationalPointer) (own : Bool)
+    → nat_eq b.id.store number ≡ own
+    → cond own None (Some b) ≡ option_map (moved_box f d number) (cond own None (Some b))
+foreign_moved f d number b true e = refl
+foreign_moved f d number b false e =
+    ap Some (sym (ap (λ t. cond t (box_of number (f (name_of b)) b.created_at) b) e))
+
+module _ {T : Type 0} (Knows : Name → Type 0) (number : ℕ) where
+  box_held_known : (h : Held T) → KnowsHeld Knows number h → IfBox Knows number (box_held h)
+  box_held_known (Boxed b) k = k
+  box_held_known (Reading g) k = tt
+  box_held_known (Writing g v) k = tt
+  box_held_known (Owning o) k = tt
+  box_held_known Nothing k = tt
+
+  gives_known : (answer : Answer T)
+      → KnowsAnswer Knows number answer → KnowsHeld Knows number (gives answer)
+  gives_known (Made b) k = k
+  gives_known (Owned o) k = tt
+  gives_known (Reads g) k = k
+  gives_known (Writes g v) k = k
+  gives_known Done k = tt
+  gives_known (Old v) k = tt
+  gives_known (Flag b) k = tt
+  gives_known (Back v) k = tt
+  gives_known (Troubled t) k = tt
+  gives_known (Refused e) k = tt
+
+  spent_known : (x : Call T) (answer : Answer T) (table : List (Held T))
+      → AllByRecursion (KnowsHeld Knows number) table
+      → AllByRecursion (KnowsHeld Knows number) (spent x answer table)
+  spent_known (call.Release p) answer table h = known_set Knows number table p Nothing h tt
+  spent_known x answer table h = h
+
+-- of a box of another store nothing need be known
+foreign_known : (Knows : Name → Type 0) (number : ℕ) (b : GenerationalPointer) (own : Bool)
+    → nat_eq b.id.store number ≡ own → IfBox Knows number (cond own None (Some b))
+foreign_known Knows number b true e = tt
+foreign_known Knows number b false e = λ own. absurd (true≢false (sym own ∙ e))
+
+-- ---- sessions that are carried
+
+module _ {T : Type 0} {f : Name → Name} {d : ℕ} {Knows : Name → Type 0} {s a : SessionState T}
+    (c : CarriesSession f d Knows s a) where
+  abbrev Alike : Asked T → Asked T → Type 0
+  Alike x y = AskedAlike f d Knows a.state.number x y
+
+  place_moved : (p : ℕ) → held s.table p ≡ moved_held f d a.state.number (held a.table p)
+  place_moved p = ap (λ t. held t p) c.table ∙ held_moved f d a.state.number a.table p
+
+  place_known : (p : ℕ) → KnowsHeld Knows a.state.number (held a.table p)
+  place_known p = held_known Knows a.state.number a.table p c.known
+
+  box_moved : (b : BoxAt T) → box_in s b ≡ option_map (moved_box f d a.state.number) (box_in a b)
+  box_moved (Place p) =
+      ap box_held (place_moved p) ∙ box_held_moved f d a.state.number (held a.table p)
+  box_moved (Foreign b) =
+      let store = (pointer_of b).id.store in
+      ap (λ n. cond (nat_eq store n) None (Some (pointer_of b))) c.state.number
+      ∙ foreign_moved f d a.state.number (pointer_of b) (nat_eq store a.state.number) refl
+
+  box_known : (b : BoxAt T) → IfBox Knows a.state.number (box_in a b)
+  box_known (Place p) = box_held_known Knows a.state.number (held a.table p) (place_known p)
+  box_known (Foreign b) = foreign_known Knows a.state.number
+      (pointer_of b) (nat_eq (pointer_of b).id.store a.state.number) refl
+
+  -- a call of a box
+  with_box_alike : (b : BoxAt T) (back : Option T) (x y : GenerationalPointer → Asked T)
+      → ((b : GenerationalPointer)
+      → KnowsBox Knows a.state.number b → Alike (x (moved_box f d a.state.number b)) (y b))
+      → Alike (with_box (box_in s b) back x) (with_box (box_in a b) back y)
+  with_box_alike b back x y h =
+      subst (λ o. Alike (with_box o back x) (with_box (box_in a b) back y))
+      (sym (box_moved b)) (at (box_in a b) (box_known b))
+    where
+      at : (o : Option GenerationalPointer) → IfBox Knows a.state.number o → Alike
+          (with_box (option_map (moved_box f d a.state.number) o) back x) (with_box o back y)
+      at None k = both_tell (NoSuch back) (NoSuch back) refl refl
+      at (Some b) k = h b k
+
+  released_alike : (p : ℕ) → Alike (released (held s.table p)) (released (held a.table p))
+  released_alike p = subst (λ h. Alike (released h) (released (held a.table p)))
+      (sym (place_moved p)) (at (held a.table p) (place_known p))
+    where
+      at : (h : Held T) → KnowsHeld Knows a.state.number h
+          → Alike (released (moved_held f d a.state.number h)) (released h)
+      at (Boxed b) k = both_tell (NoSuch None) (NoSuch None) refl refl
+      at (Reading g) k = both_ask (ReleaseReader g) k
+      at (Writing g v) k = both_ask (ReleaseWriter g v) k
+      at (Owning o) k = both_tell (NoSuch None) (NoSuch None) refl refl
+      at Nothing k = both_tell (NoSuch None) (NoSuch None) refl refl
+
+  -- each call comes to the same
+  pub asked_alike : (x : Call T) → Alike (asked s x) (asked a x)
+  asked_alike (call.Leak v l) = both_ask (Make None v l) tt
+  asked_alike (call.TryRead b l) = with_box_alike b None
+      (λ b. Asks (Read b l)) (λ b. Asks (Read b l)) (λ b k. both_ask (Read b l) k)
+  asked_alike (call.Release p) = released_alike p
+  asked_alike (call.ManuallyDrop b) =
+      with_box_alike b None (λ b. Asks (End b)) (λ b. Asks (End b)) (λ b k. both_ask (End b) k)
+
+  -- ---- after a call
+
+  -- a reply by the table alone
+  pub placed_alike : CarriesSession f d Knows (placed s Nothing) (placed a Nothing)
+  placed_alike = record {
+    state = c.state;
+    table = ap (λ t. t ++ Nothing ∷ []) c.table
+        ∙ sym (map_append (moved_held f d a.state.number) a.table (Nothing ∷ []));
+    known = known_push Knows a.state.number a.table Nothing c.known tt;
+  }
+
+  -- an answer of the machine
+  pub settled_alike : (x : Call T) (out was : Outcome T)
+      → Matched f d (λ (v : T). v) Knows a.state.number out was
+      → SessionsMatched f d Knows (settled s x out) (settled a x was)
+  settled_alike x out was m =
+      let number = a.state.number in
+      let after = spent x was.0 a.table ++ gives was.0 ∷ [] in
+      record {
+        said = ap (λ w. erase (said x w)) m.answer ∙ said_moved f d number x was.0;
+        session = record {
+          state = m.state;
+          table = subst
+              (λ n. spent x out.0 s.table ++ gives out.0 ∷ [] ≡ list_map (moved_held f d n) after)
+              (sym m.same)
+              ((λ i. spent x (m.answer i) (c.table i) ++ gives (m.answer i) ∷ []) ∙ ((λ i.
+              spent_moved f d number x was.0 a.table i ++ gives_moved f d number was.0 i ∷ []) ∙ sym
+              (map_append (moved_held f d number) (spent x was.0 a.table) (gives was.0 ∷ []))));
+          known = subst (λ n. AllByRecursion (KnowsHeld Knows n) after) (sym m.same)
+              (known_push Knows number (spent x was.0 a.table) (gives was.0) (spent_known Knows
+              number x was.0 a.table c.known) (gives_known Knows number was.0 m.known));
+        };
+      }

@@ -1,0 +1,122 @@
+-- The numbered machine: the k-th name given is the number k, tickets count without end, and there
+-- are no slots. What it answers depends on the calls, and on the refusals that they met.
+use Rattle.std.specs.Prelude.{◌≡◌, ℕ, ◌+◌, ◌<◌, true, List, [], ◌∷◌, Option, None, Some, length}
+use Rattle.std.specs.Prelude.{map as list_map}
+use Rattle.std.specs.List.{slice_index_or, AllByRecursion}
+use Rattle.std.specs.FinSet as set
+use Rattle.generational_box.specs.declared.error.StoreError.{StoreError}
+use Rattle.generational_box.specs.declared.error.StoreError.TheVariants.{OutOfMemory}
+use Rattle.generational_box.specs.declared.error.StoreError.TheVariants.{NumbersExhausted}
+use Rattle.generational_box.specs.declared.error.StoreError.TheVariants.{UnknownOwner}
+use Rattle.generational_box.specs.declared.session.Call.{Call}
+use Rattle.generational_box.specs.Names.{Name, Names}
+use Rattle.generational_box.specs.Machine.{Fresh, act}
+use Rattle.generational_box.specs.Machine.Answer.{Refused}
+use Rattle.generational_box.specs.Session.{SessionState, Held, Said, Asked, asked, settled, placed}
+use Rattle.generational_box.specs.Session.Asked.{Asks, Tells}
+use Rattle.generational_box.specs.Session.Held.{Boxed, Reading, Writing, Owning, Nothing}
+use Rattle.generational_box.specs.Session.Said.{ABox, AnOwner, AReader, AWriter, Ready, TheOld, Yes}
+use Rattle.generational_box.specs.Session.Said.{TheId, TheSlot, Created, Error, Lacking, HandedBack}
+use Rattle.generational_box.specs.Session.Said.{Unready, NoSuch}
+use Rattle.generational_box.specs.Carrying.{Carries, KnowsBox, KnowsGuard, moved_box, moved_guard}
+use Rattle.generational_box.specs.Carrying.{moved_owner}
+
+-- a name of the numbered machine
+abbrev pub number : ℕ → Name
+number k = record { slot = k; generation = 0 }
+
+abbrev pub IsNumberBelow : ℕ → Name → Type 0
+IsNumberBelow n k = (k.generation ≡ 0) × (k.slot < n)
+
+-- the numbers given are those below n
+pub record AreNumbersBelow (n : ℕ) (given : Names) : Type 0 where
+  pub count : set.len given ≡ n
+  pub all : (k : Name) → IsNumberBelow n k → set.contains given k ≡ true
+  pub only : (k : Name) → set.contains given k ≡ true → IsNumberBelow n k
+
+-- the name in a list for which a number stands
+abbrev pub named_by : List Name → Name → Name
+named_by order k = slice_index_or order k.slot k
+
+module _ {T : Type 0} (f : Name → Name) (d : ℕ) (store : ℕ) where
+  abbrev pub moved_held : Held T → Held T
+  moved_held (Boxed b) = Boxed (moved_box f d store b)
+  moved_held (Reading g) = Reading (moved_guard f d store g)
+  moved_held (Writing g v) = Writing (moved_guard f d store g) v
+  moved_held (Owning o) = Owning (moved_owner f d store o)
+  moved_held Nothing = Nothing
+
+abbrev pub KnowsHeld : {T : Type 0} → (Name → Type 0) → ℕ → Held T → Type 0
+KnowsHeld Knows store (Boxed b) = KnowsBox Knows store b
+KnowsHeld Knows store (Reading g) = KnowsGuard Knows store g
+KnowsHeld Knows store (Writing g v) = KnowsGuard Knows store g
+KnowsHeld Knows store (Owning o) = Unit {0}
+KnowsHeld Knows store Nothing = Unit {0}
+
+-- a session's state and table are those of another, names and tickets aside
+pub record CarriesSession {T : Type 0}
+    (f : Name → Name) (d : ℕ) (Knows : Name → Type 0) (s a : SessionState T) : Type 0 where
+  pub state : Carries f d (λ v. v) Knows s.state a.state
+  pub table : s.table ≡ list_map (moved_held f d a.state.number) a.table
+  pub known : AllByRecursion (KnowsHeld Knows a.state.number) a.table
+
+-- A session matches a numbered one: a list of all names given carries the one into the other.
+pub record Matches {T : Type 0} (s a : SessionState T) : Type 0 where
+  pub order : List Name
+  pub difference : ℕ
+  pub carries : CarriesSession (named_by order) difference (IsNumberBelow (length order)) s a
+  pub numbers : AreNumbersBelow (length order) a.state.given
+
+-- the refusal of a store that can't go on, which the numbered machine doesn't know of itself
+abbrev pub want : StoreError → Option StoreError
+want OutOfMemory = Some OutOfMemory
+want NumbersExhausted = Some NumbersExhausted
+want UnknownOwner = None
+
+module _ {T : Type 0} where
+  -- a reply with ids and slot numbers set aside
+  abbrev pub erase : Said T → Said T
+  erase (ABox b) = Created b.created_at
+  erase (TheId id) = Ready
+  erase (TheSlot n) = Ready
+  erase AnOwner = AnOwner
+  erase AReader = AReader
+  erase AWriter = AWriter
+  erase Ready = Ready
+  erase (TheOld v) = TheOld v
+  erase (Yes b) = Yes b
+  erase (Created l) = Created l
+  erase (Error t) = Error t
+  erase (Lacking e) = Lacking e
+  erase (HandedBack v e) = HandedBack v e
+  erase (Unready o) = Unready o
+  erase (NoSuch o) = NoSuch o
+
+  -- the want of memory or of numbers that a reply tells
+  abbrev pub refusal_in : Said T → Option StoreError
+  refusal_in (Lacking e) = want e
+  refusal_in (HandedBack v e) = want e
+  refusal_in _ = None
+
+  -- the numbers behind all that were given
+  abbrev pub next_numbers : SessionState T → Fresh
+  next_numbers a =
+      let count = set.len a.state.given in
+      record { first = number count; second = number (count + 1) }
+
+  -- what a call comes to in the numbered machine, where it meets no refusal, or this one
+  abbrev pub numbered : SessionState T
+      → Call T → Asked T → Option StoreError → Said T × SessionState T
+  numbered a c (Asks action) None = settled a c (act a.state action (next_numbers a))
+  numbered a c (Tells x) None = (x, placed a Nothing)
+  numbered a c _ (Some e) = settled a c (Refused e, a.state)
+
+  -- a call of the numbered machine
+  abbrev pub numbered_act : SessionState T → Call T → Option StoreError → Said T × SessionState T
+  numbered_act a c e = numbered a c (asked a c) e
+
+  -- the replies to calls, with the refusals that they met
+  abbrev pub answers : SessionState T → List (Call T) → List (Option StoreError) → List (Said T)
+  answers a (c ∷ calls) (e ∷ refusals) =
+      let out = numbered_act a c e in out.0 ∷ answers out.1 calls refusals
+  answers a _ _ = []
