@@ -26,7 +26,7 @@ use Rattle.generational_box.specs.Entry.{IsBeingRead, FoundBorrowed, Kept, conte
 use Rattle.generational_box.specs.Entry.Kept.{Empty, Live}
 use Rattle.generational_box.specs.Answers.{trouble_of, end_refused}
 use Rattle.generational_box.specs.Slotted.{own_cell_at, cell_of, OnlyValues}
-use Rattle.generational_box.proofs.Maps.{name_exact, name_total, name_same, get-keep, get-remove_here}
+use Rattle.generational_box.proofs.Maps.{by_name, name_exact, name_total, name_same, get-keep, get-remove_here}
 use Rattle.generational_box.proofs.SlotCells.{cond_same}
 
 module _ {T : Type 0} (S : State T) (values : OnlyValues S) where
@@ -34,7 +34,7 @@ module _ {T : Type 0} (S : State T) (values : OnlyValues S) where
       → map.get (without S.cells names) q ≡ cond (not (among names q)) (map.get S.cells q) None
   unfolding without
   without_get names q =
-      get-keep name_total name_exact S.cells _ q
+      get-keep by_name S.cells _ q
       ∙ ap (λ b. cond (b || not (among names q)) (map.get S.cells q) None) (values q)
 
   without_values : (names : List Name) (q : Name) → is_shared (map.get (without S.cells names) q) ≡ false
@@ -49,7 +49,7 @@ module _ {T : Type 0} (S : State T) (values : OnlyValues S) where
       → map.get (left_by S.cells names) q ≡ cond (not (among names q)) (map.get S.cells q) None
   unfolding swept
   left_get names q =
-      get-keep name_total name_exact (without S.cells names) _ q
+      get-keep by_name (without S.cells names) _ q
       ∙ (ap (λ b. cond (not b || is_named (without S.cells names) q) (map.get (without S.cells names) q) None) (without_values names q)
       ∙ without_get names q)
 
@@ -94,7 +94,7 @@ module _ {T : Type 0} (S : State T) (values : OnlyValues S) where
   hindrance_value n c k is =
       hindrance_one n (Some (Value c k)) is
       ∙ (ap (λ o. cond (not (is_some o)) (write_refusal (content_of (map.get S.cells n))) None)
-      (get-remove_here name_total name_exact S.cells n)
+      (get-remove_here by_name S.cells n)
       ∙ ap (λ o. write_refusal (content_of o)) is)
 
   nothing_hinders : hindered S [] ≡ None

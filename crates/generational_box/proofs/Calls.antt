@@ -26,7 +26,7 @@ use Rattle.generational_box.specs.Steps.{Meets, limited, no_names, has_readers, 
 use Rattle.generational_box.specs.Entry.{Kept, content_in, is_live}
 use Rattle.generational_box.specs.Entry.Kept.{Empty, Live}
 use Rattle.generational_box.specs.Slotted.{own_cell_at, cell_of}
-use Rattle.generational_box.proofs.Maps.{name_exact, name_total, name_here, name_same, get-keep, changed_view}
+use Rattle.generational_box.proofs.Maps.{by_name, name_exact, name_total, name_here, name_same, get-keep, changed_view}
 
 -- a list without the ticket stays as it is
 nothing_left : (t : ℕ) (rs : List Borrow) → list_any (λ r. nat_eq r.ticket t) rs ≡ false
@@ -174,7 +174,7 @@ module _ {T : Type 0} where
       same = map.same_map name_total name_exact _ _ (λ q.
           ⊎_elim (λ e. e)
           (λ e. e.3 ∙ (ap Some (kept e.1 (sym (ap content_of (sym (ap (map.get S.cells) e.0) ∙ e.2)) ∙ is)) ∙ sym e.2))
-          (changed_view name_total name_exact S.cells n (refilled c) q))
+          (changed_view by_name S.cells n (refilled c) q))
 
   unread : (S : State T) (n : Name) (t : ℕ) (o : Option (Content T)) → content_at S n ≡ o
       → has_reader o t ≡ false → without_reader S n t o ≡ S

@@ -10,7 +10,7 @@ use Rattle.std.specs.List.{list_any, IsDistinct, AllByRecursion}
 use Rattle.std.specs.FinMap.{nat_cmp-IsAntisymmetric}
 use Rattle.std.specs.FinSet as set
 use Rattle.generational_box.specs.Pools.{IsPool}
-use Rattle.generational_box.proofs.Maps.{key_same}
+use Rattle.generational_box.proofs.Maps.{by_number, key_same}
 
 -- whether a slot is in the list
 abbrev pub holds : List ℕ → ℕ → Bool
@@ -74,7 +74,7 @@ remove-insert_new : (s : set.FinSet nat_cmp) (k : ℕ)
 remove-insert_new s k absent = set.same_set nat_cmp_total nat_cmp-IsAntisymmetric _ _ each
   where
     at : (q : ℕ) (b : Bool) → eq_by_cmp nat_cmp q k ≡ b → set.contains s q ≡ (not b && (b || set.contains s q))
-    at q true e = ap (set.contains s) (key_same nat_cmp_total nat_cmp-IsAntisymmetric q k e) ∙ absent
+    at q true e = ap (set.contains s) (key_same by_number q k e) ∙ absent
     at q false e = refl
 
     each : (q : ℕ) → set.contains (set.remove (set.insert s k) k) q ≡ set.contains s q

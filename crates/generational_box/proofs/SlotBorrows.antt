@@ -24,7 +24,7 @@ use Rattle.generational_box.specs.Machine.{read_at, next_borrow, has_reader, wit
 use Rattle.generational_box.specs.Entry.{Entry, Kept, with_reader, without_reader_in, content_in}
 use Rattle.generational_box.specs.Entry.Kept.{Live}
 use Rattle.generational_box.specs.Slotted.{cell_of, cells_of, state_of, entry_changed, own_cell_at, is_here, is_reusable, HasBegun, IsSlotted}
-use Rattle.generational_box.proofs.Maps.{name_exact, name_total, changed_there}
+use Rattle.generational_box.proofs.Maps.{by_name, name_exact, name_total, changed_there}
 use Rattle.generational_box.proofs.SliceGet.{get-set_same, get-set_other, set-own}
 use Rattle.generational_box.proofs.SlotCells.{get_own, cells-changed}
 use Rattle.generational_box.proofs.SlotFound.{IsFound, found, found_name, found_content, state-filled}
@@ -75,7 +75,7 @@ module _ {T : Type 0} where
           let name : Name = record { slot = id.slot; generation = f.entry.generation } in
           let own : map.get (cells_of slots) name ≡ Some (Value f.content f.created) = get_own slots id.slot f.entry f.there ∙ ap cell_of f.live in
           ap map.len (cells-changed slots id.slot f.entry f.content d f.created f.there f.live
-          ∙ changed_there name_total name_exact (cells_of slots) name (refilled d) (Value f.content f.created) own)
+          ∙ changed_there by_name (cells_of slots) name (refilled d) (Value f.content f.created) own)
           ∙ (map.len-insert name_total (cells_of slots) name (Value d f.created)
           ∙ ap (λ o. cond (is_some o) (map.len (cells_of slots)) (map.len (cells_of slots) + 1)) own)
 

@@ -13,7 +13,7 @@ use Rattle.generational_box.specs.Cells.Cell.{Value}
 use Rattle.generational_box.specs.Entry.{Entry, Kept}
 use Rattle.generational_box.specs.Entry.Kept.{Empty, Live}
 use Rattle.generational_box.specs.Slotted.{cell_of, with_cell, live_from, cells_of, cell_in}
-use Rattle.generational_box.proofs.Maps.{name_exact, name_total, name_here, name_same, get-insert_name, changed_there}
+use Rattle.generational_box.proofs.Maps.{by_name, name_exact, name_total, name_here, name_same, get-insert_name, changed_there}
 use Rattle.generational_box.proofs.SliceGet.{get-set_same, get-set_other, get-push_last, get-push_other}
 
 -- two names are the same if both their numbers are
@@ -166,7 +166,7 @@ module _ {T : Type 0} where
       ≡ changed (cells_of slots) (record { slot = i; generation = s.generation }) (refilled d)
   cells-changed slots i s c d l there live =
       cells-set slots i s (record s { kept = Live d l }) (Value d l) there refl (inr refl)
-      ∙ sym (changed_there name_total name_exact (cells_of slots) (record { slot = i; generation = s.generation }) (refilled d) (Value c l) (get_own slots i s there ∙ ap cell_of live))
+      ∙ sym (changed_there by_name (cells_of slots) (record { slot = i; generation = s.generation }) (refilled d) (Value c l) (get_own slots i s there ∙ ap cell_of live))
 
   -- an end
   pub cells-ended : (slots : List (Entry T)) (i : ℕ) (s : Entry T) → slice_get slots i ≡ Some s

@@ -18,7 +18,7 @@ use Rattle.generational_box.specs.Steps.{IsNew}
 use Rattle.generational_box.specs.Entry.{Entry, Kept, is_live}
 use Rattle.generational_box.specs.Entry.Kept.{Empty, Live}
 use Rattle.generational_box.specs.Slotted.{cell_of, with_cell, live_from, cells_of, given_of, state_of, is_reusable, HasBegun, IsSlotted}
-use Rattle.generational_box.proofs.Maps.{name_exact, name_total, get-keep, get-remove_here, get-remove_apart}
+use Rattle.generational_box.proofs.Maps.{by_number, name_exact, name_total, get-keep, get-remove_here, get-remove_apart}
 use Rattle.generational_box.proofs.Lasts.{IsIn, IsLast, get_lasts, one_last}
 use Rattle.generational_box.proofs.SlotCells.{get_own, cond_same}
 use Rattle.generational_box.proofs.SlotNames.{get_given}
@@ -53,7 +53,7 @@ module _ {X : Type 0} where
     where
       gone : map.contains_key (map.remove m n) n ≡ nat_lt n n
       gone =
-          ap is_some (get-remove_here nat_cmp_total nat_cmp-IsAntisymmetric m n)
+          ap is_some (get-remove_here by_number m n)
           ∙ sym (le-ltb n n (omega arith))
 
       stays : (k : ℕ) → k ≢ n → nat_lt k (suc n) ≡ nat_lt k n
@@ -62,7 +62,7 @@ module _ {X : Type 0} where
       less : (k : ℕ) → map.contains_key (map.remove m n) k ≡ nat_lt k n
       less k =
           ⊎_elim (λ e. subst (λ x. map.contains_key (map.remove m n) x ≡ nat_lt x n) (sym e) gone)
-          (λ ne. ap is_some (get-remove_apart nat_cmp_total nat_cmp-IsAntisymmetric m n k ne)
+          (λ ne. ap is_some (get-remove_apart by_number m n k ne)
           ∙ (below k ∙ stays k ne))
           (cases_eq k n)
 
@@ -137,7 +137,7 @@ module _ {T : Type 0} (number start next peak : ℕ) (slots' : List (Entry T))
   pub none_free : ((k : ℕ) → is_reusable (slice_get slots' k) ≡ false) → free here ≡ 0
   none_free none =
       no_keys (map.retain_keys (slots_of here) (is_free here)) (λ k.
-      get-keep nat_cmp_total nat_cmp-IsAntisymmetric (slots_of here) (is_free here) k
+      get-keep by_number (slots_of here) (is_free here) k
       ∙ at k (slice_get slots' k) refl)
     where
       at : (k : ℕ) (o : Option (Entry T)) → slice_get slots' k ≡ o

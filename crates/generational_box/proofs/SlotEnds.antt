@@ -17,7 +17,7 @@ use Rattle.generational_box.specs.Slots.{last_generation}
 use Rattle.generational_box.specs.Entry.{Entry, Kept}
 use Rattle.generational_box.specs.Entry.Kept.{Empty, Live}
 use Rattle.generational_box.specs.Slotted.{cell_of, cells_of, state_of, entry_changed, is_reusable, HasBegun, IsSlotted}
-use Rattle.generational_box.proofs.Maps.{name_exact, name_total, contains-insert_here, contains-insert_apart}
+use Rattle.generational_box.proofs.Maps.{by_number, name_exact, name_total, contains-insert_here, contains-insert_apart}
 use Rattle.generational_box.proofs.SliceGet.{get-set_same, get-set_other}
 use Rattle.generational_box.proofs.SlotCells.{get_own, cells-ended}
 use Rattle.generational_box.proofs.SlotNames.{given-set}
@@ -116,9 +116,9 @@ module _ {T : Type 0} {number : ℕ} {slots : List (Entry T)} {id : Generational
         each k =
             ⊎_elim
             (λ e. subst (λ x. set.contains (set.insert free id.slot) x ≡ is_reusable (slice_get (slice_set slots id.slot empty_entry) x)) (sym e)
-            (contains-insert_here nat_cmp_total nat_cmp-IsAntisymmetric free id.slot
+            (contains-insert_here by_number free id.slot
             ∙ use_here true (lt-ltb f.entry.generation last_generation (let same = f.generation in omega arith))))
-            (λ ne. contains-insert_apart nat_cmp_total nat_cmp-IsAntisymmetric free id.slot k ne
+            (λ ne. contains-insert_apart by_number free id.slot k ne
             ∙ (s.pooled k ∙ use_apart k ne))
             (cases_eq k id.slot)
 

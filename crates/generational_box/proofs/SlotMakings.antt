@@ -27,7 +27,7 @@ use Rattle.generational_box.specs.Steps.{Meets, IsNew}
 use Rattle.generational_box.specs.Entry.{Entry, Kept, is_live}
 use Rattle.generational_box.specs.Entry.Kept.{Empty, Live}
 use Rattle.generational_box.specs.Slotted.{cell_of, cells_of, given_of, state_of, is_reusable, HasBegun, IsSlotted}
-use Rattle.generational_box.proofs.Maps.{name_exact, name_total, key_here, key_apart}
+use Rattle.generational_box.proofs.Maps.{by_number, name_exact, name_total, key_here, key_apart}
 use Rattle.generational_box.proofs.SliceGet.{get-set_same, get-set_other, get-push_last, get-push_other}
 use Rattle.generational_box.proofs.SlotCells.{cond_same, get_cells, cells-set, cells-push}
 use Rattle.generational_box.proofs.SlotNames.{given-next, given-push}
@@ -138,13 +138,13 @@ module _ {T : Type 0} where
         here k e =
             rw (e, get-set_same slots i next_entry reused.entry reused.there)
             (set.contains-remove nat_cmp_total free i i
-            ∙ ap (λ b. not b && set.contains free i) (key_here nat_cmp_total nat_cmp-IsAntisymmetric i))
+            ∙ ap (λ b. not b && set.contains free i) (key_here by_number i))
 
         other : (k : ℕ) → k ≢ i → set.contains (set.remove free i) k ≡ is_reusable (slice_get (slice_set slots i next_entry) k)
         other k ne =
             rw (get-set_other slots i k next_entry ne)
             (set.contains-remove nat_cmp_total free i k
-            ∙ (ap (λ b. not b && set.contains free k) (key_apart nat_cmp_total nat_cmp-IsAntisymmetric k i ne)
+            ∙ (ap (λ b. not b && set.contains free k) (key_apart by_number k i ne)
             ∙ s.pooled k))
 
         begun_at : (k : ℕ) → k ≡ i → HasBegun start (slice_get (slice_set slots i next_entry) k)
