@@ -34,10 +34,10 @@ pub record Entry (T : Type 0) : Type 0 where
   pub kept : Kept T
 
 module _ {T : Type 0} where
-  abbrev pub kept_data : StorageEntryData T → Kept T
-  kept_data slot.Empty = Empty
-  kept_data (slot.Data v readers l) = Live (Here v readers) l
-  kept_data (slot.Lent w l) = Live (Lent w) l
+  abbrev pub kept_data : Location → StorageEntryData T → Kept T
+  kept_data l slot.Empty = Empty
+  kept_data l (slot.Data v readers) = Live (Here v readers) l
+  kept_data l (slot.Lent w) = Live (Lent w) l
 
   abbrev pub content_in : Kept T → Option (Content T)
   content_in Empty = None
@@ -61,6 +61,23 @@ module _ {T : Type 0} where
   without_reader_in t (Live (Here v readers) l) =
       Live (Here v (filter (λ r. not (nat_eq r.ticket t)) readers)) l
   without_reader_in t other = other
+
+  -- whether a content has no borrows
+  abbrev pub is_free : Option (Content T) → Bool
+  is_free None = false
+  is_free (Some (Here v [])) = true
+  is_free (Some (Here v (r ∷ readers))) = false
+  is_free (Some (Lent w)) = false
+
+  -- the content lent to a writer
+  abbrev pub lent_to : Borrow → Kept T → Kept T
+  lent_to w Empty = Empty
+  lent_to w (Live c l) = Live (Lent w) l
+
+  -- a value without borrows
+  abbrev pub with_value : T → Kept T → Kept T
+  with_value v Empty = Empty
+  with_value v (Live c l) = Live (Here v []) l
 
   -- the value, where the ticket is a reader's
   abbrev pub value_for : ℕ → Option (Content T) → Option T

@@ -12,6 +12,7 @@ use crate::error::{
 use crate::readers::Readers;
 use std::alloc::{AllocError, Global};
 use std::marker::Model;
+use std::mem;
 
 /// A borrow that stands: its ticket, and the location where it was asked for.
 #[derive(Clone, Copy, Debug, PartialEq, Eq)]
@@ -24,15 +25,17 @@ pub(crate) struct Borrow {
 #[derive(Drop)]
 pub(crate) struct StorageEntry<T> {
     generation: u64,
+    // where the last cell was made
+    created_at: Location,
     data: StorageEntryData<T>,
 }
 
-/// A live cell with its borrows and the location at which it was made, or nothing.
+/// A live cell's value with its readers, or its writer while the value is lent; or nothing.
 #[derive(Drop)]
 enum StorageEntryData<T> {
     Empty,
-    Data(T, Readers, Location),
-    Lent(Borrow, Location),
+    Data(T, Readers),
+    Lent(Borrow),
 }
 
 impl<T> Model for StorageEntry<T> {
@@ -40,18 +43,18 @@ impl<T> Model for StorageEntry<T> {
 
     ghost Value = { Entry T };
 
-    ghost view = { λ e. record { generation = e.generation; kept = kept_data e.data } };
+    ghost view = { λ e. record { generation = e.generation; kept = kept_data e.created_at e.data } };
 }
 
 impl<T> StorageEntry<T> {
-    ghost use Rattle.std.specs.Prelude.{◌≡◌, ◌<◌, ◌+◌, [], true, option_copied, option_map, OnOk, OnErr};
+    ghost use Rattle.std.specs.Prelude.{◌≡◌, ◌<◌, ◌+◌, [], true, ◌↔◌, IsTrue, Some, is_ok, option_copied, option_map, OnOk, OnErr, IfErr};
     ghost use Rattle.generational_box.specs.Cells.Content.{Here, Lent};
     ghost use Rattle.generational_box.specs.Borrowing.{read_refusal, write_refusal};
     ghost use Rattle.generational_box.specs.Borrowing.Trouble.{BeingWritten};
-    ghost use Rattle.generational_box.specs.Machine.{has_reader};
+    ghost use Rattle.generational_box.specs.Machine.{has_reader, has_writer};
     ghost use Rattle.generational_box.specs.Steps.{has_readers};
     ghost use Rattle.generational_box.specs.Entry.Kept.{Empty, Live};
-    ghost use Rattle.generational_box.specs.Entry.{content_in, valid_at, with_reader, without_reader_in, value_for, FoundBorrowed};
+    ghost use Rattle.generational_box.specs.Entry.{content_in, valid_at, is_free, with_reader, without_reader_in, lent_to, with_value, value_for, FoundBorrowed};
 
     // The first cell of a slot.
     #[inline(always)]
@@ -60,7 +63,8 @@ impl<T> StorageEntry<T> {
     {
         StorageEntry {
             generation,
-            data: StorageEntryData::Data(value, Readers::new(), location),
+            created_at: location,
+            data: StorageEntryData::Data(value, Readers::new()),
         }
     }
 
@@ -86,8 +90,8 @@ impl<T> StorageEntry<T> {
         ensures { option_map (λ e. BeingWritten e.borrowed_mut_at) result ≡ read_refusal (content_in self.now.kept) }
     {
         match &self.data {
-            StorageEntryData::Data(_, _, _) | StorageEntryData::Empty => None,
-            StorageEntryData::Lent(writer, _) => {
+            StorageEntryData::Data(_, _) | StorageEntryData::Empty => None,
+            StorageEntryData::Lent(writer) => {
                 Some(AlreadyBorrowedMutError::new(writer.location))
             }
         }
@@ -99,14 +103,14 @@ impl<T> StorageEntry<T> {
         ensures { FoundBorrowed (write_refusal (content_in self.now.kept)) result }
     {
         match &self.data {
-            StorageEntryData::Data(_, readers, _) => {
+            StorageEntryData::Data(_, readers) => {
                 if readers.is_empty() {
                     return Ok(());
                 }
                 Err(readers_error(readers, alloc))
             }
             StorageEntryData::Empty => Ok(()),
-            StorageEntryData::Lent(writer, _) => Err(writer_error(writer)),
+            StorageEntryData::Lent(writer) => Err(writer_error(writer)),
         }
     }
 
@@ -119,7 +123,7 @@ impl<T> StorageEntry<T> {
         ensures first { OnErr result (has_readers (content_in self.old.kept) ≡ true) }
     {
         match &mut self.data {
-            StorageEntryData::Data(_, readers, _) => readers.push(alloc, borrow),
+            StorageEntryData::Data(_, readers) => readers.push(alloc, borrow),
             _ => Ok(()),
         }
     }
@@ -131,7 +135,7 @@ impl<T> StorageEntry<T> {
         ensures after { self.new ≡ record self.old { kept = without_reader_in ticket self.old.kept } }
     {
         match &mut self.data {
-            StorageEntryData::Data(_, readers, _) => readers.remove(ticket),
+            StorageEntryData::Data(_, readers) => readers.remove(ticket),
             _ => false,
         }
     }
@@ -142,7 +146,7 @@ impl<T> StorageEntry<T> {
         ensures { option_copied result ≡ value_for ticket (content_in self.now.kept) }
     {
         match &self.data {
-            StorageEntryData::Data(value, readers, _) if readers.contains(ticket) => Some(value),
+            StorageEntryData::Data(value, readers) if readers.contains(ticket) => Some(value),
             _ => None,
         }
     }
@@ -167,8 +171,43 @@ impl<T> StorageEntry<T> {
         ensures filled { self.new ≡ record { generation = result; kept = Live (Here value []) location } }
     {
         self.generation += 1;
-        self.data = StorageEntryData::Data(value, Readers::new(), location);
+        self.created_at = location;
+        self.data = StorageEntryData::Data(value, Readers::new());
         self.generation
+    }
+
+    // Lends the value of a cell without borrows to a writer.
+    #[inline(always)]
+    pub(crate) fn lend(&mut self, writer: Borrow) -> T
+    where
+        T: Drop,
+        requires { is_free (content_in self.old.kept) ≡ true }
+        ensures value { content_in self.old.kept ≡ Some (Here result []) }
+        ensures after { self.new ≡ record self.old { kept = lent_to writer self.old.kept } }
+    {
+        match mem::replace(&mut self.data, StorageEntryData::Lent(writer)) {
+            StorageEntryData::Data(value, _) => value,
+            _ => unreachable!(),
+        }
+    }
+
+    // Puts a writer's value back, or hands it back where the writer doesn't stand, which changes
+    // nothing.
+    #[inline(always)]
+    pub(crate) fn put_back(&mut self, ticket: u64, value: T) -> Result<(), T>
+    where
+        T: Drop,
+        ensures known { IsTrue (is_ok result) ↔ (has_writer (content_in self.old.kept) ticket ≡ true) }
+        ensures ok { OnOk result (self.new ≡ record self.old { kept = with_value value self.old.kept }) }
+        ensures err { IfErr result (λ back. (back ≡ value) × (self.new ≡ self.old)) }
+    {
+        match &self.data {
+            StorageEntryData::Lent(writer) if writer.ticket == ticket => {
+                self.data = StorageEntryData::Data(value, Readers::new());
+                Ok(())
+            }
+            _ => Err(value),
+        }
     }
 }
 
