@@ -44,7 +44,7 @@ module _ {T : Type 0} where
   -- ---- reads
 
   -- a box whose cell is live is of this store
-  own_store : (S : State T) (b : GenerationalPointer) (x : Cell T) → own_cell_at S b.id ≡ Some x
+  pub own_store : (S : State T) (b : GenerationalPointer) (x : Cell T) → own_cell_at S b.id ≡ Some x
       → b.id.store ≡ S.number
   own_store S b x is = at (nat_eq b.id.store S.number) refl is
     where
@@ -53,7 +53,7 @@ module _ {T : Type 0} where
       at false h e = cc
 
   -- what a box of a Value reaches, and how a read of it is answered
-  reach_is : (S : State T) (b : GenerationalPointer) (o : Option (Cell T)) → own_cell_at S b.id ≡ o
+  pub reach_is : (S : State T) (b : GenerationalPointer) (o : Option (Cell T)) → own_cell_at S b.id ≡ o
       → reach S b ≡ reached o (name_of b)
   unfolding reach
   reach_is S b o is = at (nat_eq b.id.store S.number) refl ∙ ap (λ c. reached c (name_of b)) is
@@ -64,7 +64,7 @@ module _ {T : Type 0} where
       at true h = refl
       at false h = refl
 
-  own_content : (S : State T) (b : GenerationalPointer) (c : Content T) (k : Location)
+  pub own_content : (S : State T) (b : GenerationalPointer) (c : Content T) (k : Location)
       → own_cell_at S b.id ≡ Some (Value c k) → content_at S (name_of b) ≡ Some c
   own_content S b c k is = at (nat_eq b.id.store S.number) is
     where

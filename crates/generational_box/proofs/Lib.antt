@@ -2,6 +2,7 @@ pub mod ActBounded
 pub mod BoundSteps
 pub mod Bounding
 pub mod CallEnds
+pub mod CallWrites
 pub mod Calls
 pub mod Carried
 pub mod CarriedBorrows
@@ -44,6 +45,7 @@ pub mod SlotFound
 pub mod SlotMakings
 pub mod SlotNames
 pub mod SlotStates
+pub mod SlotWrites
 pub mod SoundCalls
 pub mod Soundness
 pub mod Starting

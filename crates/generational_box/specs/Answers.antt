@@ -15,8 +15,9 @@ use Rattle.generational_box.specs.Cells.Content.{Here, Lent}
 use Rattle.generational_box.specs.State.{State}
 use Rattle.generational_box.specs.Borrowing.{Trouble, Guard, content_at}
 use Rattle.generational_box.specs.Borrowing.Trouble.{Dropped, BeingRead, BeingWritten}
+use Rattle.generational_box.specs.Writing.{WriteGuard}
 use Rattle.generational_box.specs.Machine.{Answer, knows_reader}
-use Rattle.generational_box.specs.Machine.Answer.{Made, Reads, Done, Troubled, Refused as refuses}
+use Rattle.generational_box.specs.Machine.Answer.{Made, Reads, Writes, Back, Done, Troubled, Refused as refuses}
 
 -- why a read, and why a write or an end, was refused
 abbrev pub read_trouble_of : BorrowError → Trouble
@@ -49,6 +50,15 @@ module _ {T : Type 0} where
   abbrev pub read_answer : Result Guard (Refused BorrowError) → Answer T
   read_answer (Ok g) = Reads g
   read_answer (Err e) = read_refused e
+
+  abbrev pub write_answer : Result (WriteGuard T) (Refused BorrowMutError) → Answer T
+  write_answer (Ok g) = Writes g.guard g.value
+  write_answer (Err e) = end_refused e
+
+  -- what the release of a writer answers
+  abbrev pub back_answer : {U : Type 0} → Result U T → Answer T
+  back_answer (Ok u) = Done
+  back_answer (Err v) = Back v
 
   abbrev pub end_answer : {U : Type 0} → Result U (Refused BorrowMutError) → Answer T
   end_answer (Ok u) = Done

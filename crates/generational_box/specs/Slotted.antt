@@ -12,7 +12,7 @@ use Rattle.generational_box.specs.Cells.{Content, Cell, is_shared}
 use Rattle.generational_box.specs.Cells.Content.{Here, Lent}
 use Rattle.generational_box.specs.Cells.Cell.{Value, Shared, Ref}
 use Rattle.generational_box.specs.State.{State}
-use Rattle.generational_box.specs.Entry.{Entry, Kept, is_live, valid_at}
+use Rattle.generational_box.specs.Entry.{Entry, Kept, is_live, valid_at, is_free}
 use Rattle.generational_box.specs.Entry.Kept.{Empty, Live}
 use Rattle.generational_box.specs.Slots.{last_generation}
 
@@ -129,6 +129,13 @@ module _ {T : Type 0} where
   is_here (Some (Value (Lent w) l)) = false
   is_here (Some (Shared c l)) = false
   is_here (Some (Ref m l)) = false
+
+  -- whether a cell is a Value without borrows
+  abbrev pub is_unborrowed : Option (Cell T) → Bool
+  is_unborrowed None = false
+  is_unborrowed (Some (Value c l)) = is_free (Some c)
+  is_unborrowed (Some (Shared c l)) = false
+  is_unborrowed (Some (Ref m l)) = false
 
   -- no cell is a Shared one
   abbrev pub OnlyValues : State T → Type 0

@@ -5,7 +5,7 @@ ghost use Rattle.generational_box.specs.Boxes.{box_of};
 ghost use Rattle.generational_box.specs.Texts.{id_text};
 
 use crate::error::{BorrowMutResult, BorrowResult, Location, Refusal};
-use crate::references::GenerationalRef;
+use crate::references::{GenerationalRef, GenerationalRefMut};
 use crate::storage::Storage;
 use std::alloc::AllocError;
 use std::fmt;
@@ -138,9 +138,9 @@ impl<T> GenerationalBox<T> {
 impl<T> GenerationalBox<T> {
     ghost use Rattle.std.specs.Prelude.{◌≡◌, IfErr, None};
     ghost use Rattle.generational_box.specs.Boxes.{pointer_of};
-    ghost use Rattle.generational_box.specs.Machine.Action.{Make, Read, End};
+    ghost use Rattle.generational_box.specs.Machine.Action.{Make, Read, Write, End};
     ghost use Rattle.generational_box.specs.Steps.{Meets};
-    ghost use Rattle.generational_box.specs.Answers.{box_answer, read_answer, end_answer};
+    ghost use Rattle.generational_box.specs.Answers.{box_answer, read_answer, write_answer, end_answer};
 
     /// Makes a box of a value, which lives until it is ended by hand. Its id was never given
     /// before.
@@ -179,6 +179,25 @@ impl<T> GenerationalBox<T> {
         ensures { Meets (S.state store.old) (Read (pointer_of self) location) (read_answer result) (S.state store.new) }
     {
         store.try_read(self.raw, location)
+    }
+
+    /// Begins a write of the value, asked for at a location. The guard owns the value until it is
+    /// released.
+    ///
+    /// Refused, in this order: `Dropped` with the box's own creation location, where its cell has
+    /// ended or is of another store; `AlreadyBorrowedMut` with the writer's location;
+    /// `AlreadyBorrowed` with the readers' locations in the order in which they began, in whose
+    /// place `OutOfMemory` is answered if that list finds no memory; `NumbersExhausted`, where no
+    /// ticket is left. A refused call leaves the store as it was. Nothing else takes memory.
+    #[inline(always)]
+    pub fn try_write<S: Storage<T>>(
+        self,
+        store: &mut S,
+        location: Location,
+    ) -> BorrowMutResult<GenerationalRefMut<T>>
+        ensures { Meets (S.state store.old) (Write (pointer_of self) location) (write_answer result) (S.state store.new) }
+    {
+        store.try_write(self.raw, location)
     }
 
     /// Ends the box's cell, and the value with it: every box of this id is `Dropped` from then on,

@@ -29,7 +29,7 @@ pub use crate::error::{
     BorrowResult, Location, Refusal, Refused, StoreError, ValueDroppedError,
 };
 pub use crate::pool::{LastFirst, SlotPool};
-pub use crate::references::{GenerationalRef, Ref};
+pub use crate::references::{GenerationalRef, GenerationalRefMut, Mut, Ref};
 pub use crate::session::{BoxAt, Call, Reply, Session};
 pub use crate::steps::StepCall;
 pub use crate::storage::{AnyStorage, Storage};

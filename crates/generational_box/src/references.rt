@@ -1,11 +1,13 @@
 //! Guards and views.
 
 ghost use Rattle.std.specs.Prelude.{◌≡◌};
+ghost use Rattle.std.specs.Borrow.{sem};
 
 use crate::boxes::GenerationalBoxId;
 use crate::storage::Storage;
 use std::marker::{Model, PhantomData};
-use std::ops::Deref;
+use std::mem;
+use std::ops::{Deref, DerefMut};
 
 /// A reader's guard. Contracts see it as its store's number, its cell's name and its ticket.
 ///
@@ -119,5 +121,118 @@ impl<'a, T> Deref for Ref<'a, T> {
     #[inline(always)]
     fn deref(&self) -> &T {
         self.value
+    }
+}
+
+/// A writer's guard, which owns the value meanwhile. Contracts see it as a guard and the value.
+///
+/// The value is read and written without the store. The guard has no `Drop`: `release` must spend
+/// it, which puts the value back.
+pub struct GenerationalRefMut<T> {
+    id: GenerationalBoxId,
+    ticket: u64,
+    value: T,
+}
+
+impl<T> Model for GenerationalRefMut<T> {
+    ghost use Rattle.generational_box.specs.Writing.{WriteGuard};
+    ghost use Rattle.generational_box.specs.Boxes.{name_in};
+
+    ghost Value = { WriteGuard T };
+
+    ghost view = { λ g. record { guard = record { store = g.id.store; cell = name_in g.id; ticket = g.ticket }; value = g.value } };
+}
+
+impl<T> GenerationalRefMut<T> {
+    ghost use Rattle.std.specs.Prelude.{◌≡◌};
+    ghost use Rattle.std.specs.Borrow.{sem};
+    ghost use Rattle.generational_box.specs.Boxes.{name_in};
+    ghost use Rattle.generational_box.specs.Guards.{LendsValue};
+    ghost use Rattle.generational_box.specs.Machine.Action.{ReleaseWriter};
+    ghost use Rattle.generational_box.specs.Answers.{back_answer};
+    ghost use Rattle.generational_box.specs.Steps.{Meets};
+
+    // The guard of a writer.
+    #[inline(always)]
+    pub(crate) fn new(id: GenerationalBoxId, ticket: u64, value: T) -> GenerationalRefMut<T>
+        ensures guard { result.guard ≡ record { store = id.store; cell = name_in id; ticket = ticket } }
+        ensures value { result.value ≡ value }
+    {
+        GenerationalRefMut { id, ticket, value }
+    }
+
+    // The cell, the ticket and the value of a guard that is spent.
+    #[inline(always)]
+    pub(crate) fn into_parts(self) -> (GenerationalBoxId, u64, T)
+        ensures guard { self.guard ≡ record { store = result.0.store; cell = name_in result.0; ticket = result.1 } }
+        ensures value { self.value ≡ result.2 }
+    {
+        let GenerationalRefMut { id, ticket, value } = self;
+        (id, ticket, value)
+    }
+
+    /// The value. Takes no memory.
+    #[inline(always)]
+    pub fn deref(&self) -> &T
+        ensures { result.now ≡ self.now.value }
+    {
+        &self.value
+    }
+
+    /// A view of the value for writing: what is written through it is the guard's value from then
+    /// on. Takes no memory.
+    #[inline(always)]
+    pub fn deref_mut(&mut self) -> Mut<'_, T>
+        ensures* writes_back { sem 𝓛 (LendsValue T.row self.entry result.value) }
+        ensures value { result.value.now ≡ self.old.value }
+    {
+        Mut {
+            value: &mut self.value,
+        }
+    }
+
+    /// Puts another value in the place of the guard's, and answers the old one. Takes no memory.
+    #[inline(always)]
+    pub fn replace(&mut self, value: T) -> T
+        ensures old { result ≡ self.old.value }
+        ensures after { self.new ≡ record self.old { value = value } }
+    {
+        mem::replace(&mut self.value, value)
+    }
+
+    /// Ends the write, and puts the value into the cell. A store that doesn't know the guard hands
+    /// the value back and stays as it was; the guard is spent all the same, and its own cell stays
+    /// borrowed. Takes no memory.
+    #[inline(always)]
+    pub fn release<S: Storage<T>>(self, store: &mut S) -> Result<(), T>
+        ensures { Meets (S.state store.old) (ReleaseWriter self.guard self.value) (back_answer result) (S.state store.new) }
+    {
+        store.release_write(self)
+    }
+}
+
+/// A view of a value that is written.
+#[derive(Drop)]
+pub struct Mut<'a, T> {
+    value: &'a mut T,
+}
+
+impl<'a, T> Deref for Mut<'a, T> {
+    type Target = T;
+
+    ghost deref_gives = { λ m x. x ≡ m.value.now };
+
+    #[inline(always)]
+    fn deref(&self) -> &T {
+        &*self.value
+    }
+}
+
+impl<'a, T> DerefMut for Mut<'a, T> {
+    ghost deref_mut_gives = { λ m x. x ≡ m.value.now };
+
+    #[inline(always)]
+    fn deref_mut(&mut self) -> &mut T {
+        &mut *self.value
     }
 }

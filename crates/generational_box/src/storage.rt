@@ -2,14 +2,14 @@
 
 ghost use Rattle.std.specs.Prelude.{◌≡◌, ◌↔◌, IsTrue, IfErr, None, option_copied};
 ghost use Rattle.generational_box.specs.State.{State, IsFresh};
-ghost use Rattle.generational_box.specs.Machine.Action.{Make, Read, ReleaseReader, End};
+ghost use Rattle.generational_box.specs.Machine.Action.{Make, Read, Write, ReleaseReader, ReleaseWriter, End};
 ghost use Rattle.generational_box.specs.Machine.Answer.{Flag};
 ghost use Rattle.generational_box.specs.Steps.{Meets};
-ghost use Rattle.generational_box.specs.Answers.{make_answer, read_answer, end_answer, opened};
+ghost use Rattle.generational_box.specs.Answers.{make_answer, read_answer, write_answer, back_answer, end_answer, opened};
 
 use crate::boxes::GenerationalPointer;
 use crate::error::{BorrowMutResult, BorrowResult, Location, Refusal};
-use crate::references::GenerationalRef;
+use crate::references::{GenerationalRef, GenerationalRefMut};
 
 /// What a store of values of one type does, whatever it keeps.
 ///
@@ -64,6 +64,25 @@ pub trait Storage<T>: AnyStorage<T> {
     /// The value that a reader's guard opens, exactly where the store knows the guard.
     fn open(&self, guard: &GenerationalRef<T>) -> Option<&T>
         ensures { option_copied result ≡ opened (Self.state self.now) guard.now };
+
+    /// Begins a write, which takes the value out of the cell and into the guard.
+    ///
+    /// Refused, in this order: `Dropped` with the pointer's own location, where it reaches no
+    /// value; `AlreadyBorrowedMut` with the writer's location; `AlreadyBorrowed` with the readers'
+    /// locations in the order in which they began, in whose place `OutOfMemory` is answered if that
+    /// list finds no memory; `NumbersExhausted`, where no ticket is left. A refused call changes
+    /// nothing, and nothing else takes memory.
+    fn try_write(
+        &mut self,
+        pointer: GenerationalPointer,
+        location: Location,
+    ) -> BorrowMutResult<GenerationalRefMut<T>>
+        ensures { Meets (Self.state self.old) (Write pointer location) (write_answer result) (Self.state self.new) };
+
+    /// Ends a write, and puts the guard's value into the cell. Where the store doesn't know the
+    /// guard, the value comes back and nothing changes. Takes no memory.
+    fn release_write(&mut self, guard: GenerationalRefMut<T>) -> Result<(), T>
+        ensures { Meets (Self.state self.old) (ReleaseWriter guard.guard guard.value) (back_answer result) (Self.state self.new) };
 
     /// Ends a read. The answer is whether the store knew the guard; where it didn't, nothing
     /// changes. Takes no memory.

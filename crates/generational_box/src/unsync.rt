@@ -1,29 +1,31 @@
 //! The sequential store.
 
-ghost use Rattle.std.specs.Prelude.{◌≡◌, ℕ, ◌+◌, ◌-◌, ◌^◌, ◌<◌, ◌≤◌, ◌∷◌, ◌++◌, [], true, max, length, is_some, vec_len, vec_capacity, slice_get, slice_set, option_copied, Some, None, IsSome, IfSome, IfOk, OnOk, OnErr, IsTrue};
+ghost use Rattle.std.specs.Prelude.{◌≡◌, ℕ, ◌+◌, ◌-◌, ◌^◌, ◌<◌, ◌≤◌, ◌∷◌, ◌++◌, [], true, max, length, is_some, vec_len, vec_capacity, slice_get, slice_set, option_copied, Some, None, IsSome, IfSome, IfOk, IfErr, OnOk, OnErr, IsTrue, is_ok, ◌↔◌};
 ghost use Rattle.std.specs.FinMap as map;
 ghost use Rattle.generational_box.specs.declared.error.Refused.TheVariants as refused;
 ghost use Rattle.generational_box.specs.declared.error.BorrowError.TheVariants as reads;
+ghost use Rattle.generational_box.specs.declared.error.BorrowMutError.TheVariants as writes;
 ghost use Rattle.generational_box.specs.Cells.Content.{Here};
 ghost use Rattle.generational_box.specs.Boxes.{name_in};
 ghost use Rattle.generational_box.specs.State.{fresh};
-ghost use Rattle.generational_box.specs.Borrowing.{content_at};
-ghost use Rattle.generational_box.specs.Machine.{read_at, has_reader, without_reader};
-ghost use Rattle.generational_box.specs.Machine.Action.{ReleaseReader};
+ghost use Rattle.generational_box.specs.Borrowing.{content_at, filled};
+ghost use Rattle.generational_box.specs.Machine.{read_at, written_at, has_reader, has_writer, without_reader};
+ghost use Rattle.generational_box.specs.Machine.Action.{ReleaseReader, ReleaseWriter};
 ghost use Rattle.generational_box.specs.Machine.Answer.{Flag};
 ghost use Rattle.generational_box.specs.Steps.{Meets, has_readers};
-ghost use Rattle.generational_box.specs.Entry.{content_in, is_live, valid_at, with_reader, without_reader_in};
+ghost use Rattle.generational_box.specs.Entry.{content_in, is_live, valid_at, is_free, with_reader, without_reader_in, lent_to, with_value};
+ghost use Rattle.generational_box.specs.Answers.{back_answer};
 ghost use Rattle.generational_box.specs.Entry.Kept.{Empty, Live};
-ghost use Rattle.generational_box.specs.Slotted.{entry_changed, entry_in, cell_found, own_cell_at, is_here, OnlyValues};
+ghost use Rattle.generational_box.specs.Slotted.{entry_changed, entry_in, cell_found, own_cell_at, is_here, is_unborrowed, OnlyValues};
 
 use crate::boxes::{GenerationalBoxId, GenerationalPointer};
 use crate::entry::{Borrow, StorageEntry};
 use crate::error::{
-    AlreadyBorrowedMutError, BorrowError, BorrowMutResult, BorrowResult, Location, Refusal,
-    Refused, StoreError, ValueDroppedError,
+    AlreadyBorrowedMutError, BorrowError, BorrowMutError, BorrowMutResult, BorrowResult, Location,
+    Refusal, Refused, StoreError, ValueDroppedError,
 };
 use crate::pool::{LastFirst, SlotPool};
-use crate::references::GenerationalRef;
+use crate::references::{GenerationalRef, GenerationalRefMut};
 use crate::storage::{AnyStorage, Storage};
 use std::alloc::{AllocError, Global};
 use std::marker::Model;
@@ -153,6 +155,31 @@ impl<T: Drop, P: SlotPool> Store<T, P> {
         remove_reader(&mut self.slots, id.slot, ticket)
     }
 
+    // Lends the value of a cell without borrows to a writer.
+    #[inline(always)]
+    fn begin_write(&mut self, id: GenerationalBoxId, location: Location) -> T
+        requires free { is_unborrowed (own_cell_at self.old id) ≡ true }
+        requires numbers { self.old.next < 18446744073709551615 }
+        ensures value { content_at self.old (name_in id) ≡ Some (Here result []) }
+        ensures after { self.new ≡ (written_at self.old location (Some (name_in id)) (content_at self.old (name_in id))).1 }
+    {
+        let ticket = self.next;
+        self.next = ticket + 1;
+        lend_value(&mut self.slots, id.slot, Borrow { ticket, location })
+    }
+
+    // Puts a writer's value back into a live cell, or hands it back where the writer doesn't
+    // stand, which changes nothing.
+    #[inline(always)]
+    fn end_write(&mut self, id: GenerationalBoxId, ticket: u64, value: T) -> Result<(), T>
+        requires { IsSome (own_cell_at self.old id) }
+        ensures known { IsTrue (is_ok result) ↔ (has_writer (content_at self.old (name_in id)) ticket ≡ true) }
+        ensures ok { OnOk result (self.new ≡ filled self.old (name_in id) (Here value [])) }
+        ensures err { IfErr result (λ back. (back ≡ value) × (self.new ≡ self.old)) }
+    {
+        put_value_back(&mut self.slots, id.slot, ticket, value)
+    }
+
     // Ends a live cell. Its slot is free from then on, unless its generation is the last.
     #[inline(always)]
     fn end(&mut self, id: GenerationalBoxId)
@@ -202,6 +229,34 @@ fn remove_reader<T>(slots: &mut Vec<StorageEntry<T>>, slot: usize, ticket: u64) 
     ensures after { slots.new.items ≡ entry_changed slots.old.items slot (λ entry. record entry { kept = without_reader_in ticket entry.kept }) }
 {
     slots[slot].drop_borrow(ticket)
+}
+
+// Lends the value of the cell of a slot, which has no borrows, to a writer.
+#[inline(always)]
+fn lend_value<T: Drop>(slots: &mut Vec<StorageEntry<T>>, slot: usize, writer: Borrow) -> T
+    requires within { slot < vec_len slots.old }
+    requires free { IfSome (slice_get slots.old.items slot) (λ entry. is_free (content_in entry.kept) ≡ true) }
+    ensures value { IfSome (slice_get slots.old.items slot) (λ entry. content_in entry.kept ≡ Some (Here result [])) }
+    ensures after { slots.new.items ≡ entry_changed slots.old.items slot (λ entry. record entry { kept = lent_to writer entry.kept }) }
+{
+    slots[slot].lend(writer)
+}
+
+// Puts a writer's value back into the cell of a slot, or hands it back where the writer doesn't
+// stand, which changes nothing.
+#[inline(always)]
+fn put_value_back<T: Drop>(
+    slots: &mut Vec<StorageEntry<T>>,
+    slot: usize,
+    ticket: u64,
+    value: T,
+) -> Result<(), T>
+    requires { slot < vec_len slots.old }
+    ensures known { IfSome (slice_get slots.old.items slot) (λ entry. IsTrue (is_ok result) ↔ (has_writer (content_in entry.kept) ticket ≡ true)) }
+    ensures ok { OnOk result (slots.new.items ≡ entry_changed slots.old.items slot (λ entry. record entry { kept = with_value value entry.kept })) }
+    ensures err { IfErr result (λ back. (back ≡ value) × (slots.new.items ≡ slots.old.items)) }
+{
+    slots[slot].put_back(ticket, value)
 }
 
 // Ends the cell of a slot.
@@ -373,6 +428,39 @@ impl<T: Drop, P: SlotPool> Storage<T> for Store<T, P> {
     }
 
     #[inline(always)]
+    fn try_write(
+        &mut self,
+        pointer: GenerationalPointer,
+        location: Location,
+    ) -> BorrowMutResult<GenerationalRefMut<T>> {
+        let id = pointer.id;
+        match self.entry(id) {
+            Some(entry) => match entry.borrow_mut_error(self.alloc) {
+                Ok(()) => {}
+                Err(refused) => return Err(refused),
+            },
+            None => return Err(dropped_mut(pointer)),
+        }
+        if self.next == u64::MAX {
+            return Err(Refused::Store(StoreError::NumbersExhausted));
+        }
+        let ticket = self.next;
+        let value = self.begin_write(id, location);
+        Ok(GenerationalRefMut::new(id, ticket, value))
+    }
+
+    #[inline(always)]
+    fn release_write(&mut self, guard: GenerationalRefMut<T>) -> Result<(), T>
+        ensures { Meets self.old (ReleaseWriter guard.guard guard.value) (back_answer result) self.new }
+    {
+        let (id, ticket, value) = guard.into_parts();
+        match self.entry(id) {
+            Some(_) => self.end_write(id, ticket, value),
+            None => Err(value),
+        }
+    }
+
+    #[inline(always)]
     fn open(&self, guard: &GenerationalRef<T>) -> Option<&T> {
         self.entry(guard.id())?.open(guard.ticket())
     }
@@ -401,4 +489,11 @@ fn dropped(pointer: GenerationalPointer) -> Refused<BorrowError>
     ensures { result ≡ refused.Borrow (reads.Dropped (record { created_at = pointer.created_at })) }
 {
     Refused::Borrow(BorrowError::Dropped(ValueDroppedError::new(pointer.created_at)))
+}
+
+// The answer to a write of a box that reaches nothing.
+fn dropped_mut(pointer: GenerationalPointer) -> Refused<BorrowMutError>
+    ensures { result ≡ refused.Borrow (writes.Dropped (record { created_at = pointer.created_at })) }
+{
+    Refused::Borrow(BorrowMutError::Dropped(ValueDroppedError::new(pointer.created_at)))
 }
