@@ -27,6 +27,7 @@ pub mod NumberedStep
 pub mod Numbering
 pub mod Placing
 pub mod Plain
+pub mod PlainSteps
 pub mod Saying
 pub mod Sessions
 pub mod Sizes

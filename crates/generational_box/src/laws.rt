@@ -87,6 +87,9 @@ pub fn plain_states_step<T>()
     ensures step { (S : State T) (call : Action T) (new : Fresh) →
         act (plain S) (plain_call call) new
         ≡ (plain_answer (act S call new).0, plain (act S call new).1) }
+    ensures meets { (S R : State T) (call : Action T) (answer : Answer T) →
+        Meets S call answer R →
+        Meets (plain S) (plain_call call) (plain_answer answer) (plain R) }
 {}
 
 /// Ids aside, the replies of a run are those of the numbered machine, which has no choice: they
