@@ -46,7 +46,8 @@ pub fn shared_values_live_by_references<T>()
         IsSound S → IsNamed S.cells m → is_shared (map.get S.cells m) ≡ true }
 {}
 
-/// A store never has more slots than cells were live at once and generations of slots used up.
+/// The slots of a store are never more than the most cells that were live at once and the slots
+/// whose generations are used up.
 pub fn slots_are_bounded<T>()
     ensures fresh { (number start next : ℕ) → IsBounded (fresh {T = T} number start next) }
     ensures step { (S R : State T) (call : Action T) (answer : Answer T) →
