@@ -23,6 +23,7 @@ no_slots = lasts_same (set.items set.empty) [] (λ n h. sym (set.contains-empty 
     ∙ (set.contains-items (set.empty {R = name_cmp}) n ∙ h)) (λ n h. absurd (true≢false (sym h)))
 
 module _ {T : Type 0} where
+  -- each call of a sound store keeps the bound
   pub meets_bounded : (S R : State T) (call : Action T) (answer : Answer T)
       → IsSound S → IsBounded S → Meets S call answer R → IsBounded R
   meets_bounded S R call answer s b m = ⊎_elim (λ e. subst IsBounded (sym e.1) b)

@@ -50,6 +50,7 @@ module _ {T U : Type 0} {f : Name → Name} {d : ℕ} {g : T → U}
   abbrev pub Alike : Outcome U → Outcome T → Type 0
   Alike out was = Matched f d g Knows A.number out was
 
+  -- two outcomes by the same test
   pub if_alike : {b e : Bool} {x y : Outcome U} {v w : Outcome T}
       → b ≡ e → (e ≡ true → Alike x v) → (e ≡ false → Alike y w) → Alike (cond b x y) (cond e v w)
   if_alike {e = e} {x = x} {y = y} {v = v} {w = w} is h k =
@@ -65,6 +66,7 @@ module _ {T U : Type 0} {f : Name → Name} {d : ℕ} {g : T → U}
       → a ≡ moved_answer f d g A.number b → KnowsAnswer Knows A.number b → Alike (a, S) (b, A)
   stays b e k = record { answer = e; state = c; same = refl; known = k }
 
+  -- two outcomes by the same trouble
   pub unless_alike : {t u : Option Trouble} {x : Outcome U} {v : Outcome T}
       → t ≡ u → Alike x v → Alike (unless t S x) (unless u A v)
   unless_alike {u = u} {x = x} {v = v} e h =
@@ -76,10 +78,12 @@ module _ {T U : Type 0} {f : Name → Name} {d : ℕ} {g : T → U}
 
   -- ---- what a box reaches
 
+  -- the content under a known name
   pub content_there : (n : Name)
       → Knows n → content_at S (f n) ≡ option_map (moved_content f d g) (content_at A n)
   content_there n kn = ap content_of (c.cells.at n kn) ∙ content_moved f d g (map.get A.cells n)
 
+  -- the two stores have one number
   pub own_number : nat_eq A.number S.number ≡ true
   own_number = eq-eqb A.number S.number (sym c.number)
 
@@ -157,11 +161,13 @@ module _ {T U : Type 0} {f : Name → Name} {d : ℕ} {g : T → U}
   with_found b k P h = subst (λ to. P to (found S to)) (sym (reach_moved b k))
       (subst (P (option_map f (reach A b))) (sym (found_moved (reach A b) (reach_known b k))) h)
 
+  -- a box keeps its location
   pub created_moved : (b : GenerationalPointer)
       → KnowsBox Knows A.number b → (moved_box f d A.number b).created_at ≡ b.created_at
   created_moved b k =
       box_cases b k (λ x. x.created_at ≡ b.created_at) (λ own kn. refl) (λ strange. refl)
 
+  -- a read is refused alike, and so is a write
   pub read_trouble_moved : (b : GenerationalPointer)
       → KnowsBox Knows A.number b → read_trouble S (moved_box f d A.number b) ≡ read_trouble A b
   unfolding read_trouble
@@ -188,6 +194,7 @@ module _ {T U : Type 0} {f : Name → Name} {d : ℕ} {g : T → U}
 
   -- ---- the states after
 
+  -- a new box, and a new guard
   pub made_box : (n : Name) (l : Location)
       → box_of S.number (f n) l ≡ moved_box f d A.number (box_of A.number n l)
   made_box n l = ap (λ number. box_of number (f n) l) c.number
@@ -200,6 +207,7 @@ module _ {T U : Type 0} {f : Name → Name} {d : ℕ} {g : T → U}
       (λ i. record { store = c.number i; cell = f n; ticket = c.next i })
       ∙ sym (ap (λ t. cond t moved (next_guard A n)) (nat_eq_equiv.refl A.number))
 
+  -- other cells, which are carried too
   pub with_cells : (new : NameMap (Cell U)) (old : NameMap (Cell T))
       → CarriesCells f d g Knows new old
       → Carries f d g Knows (record S { cells = new }) (record A { cells = old })
@@ -214,12 +222,14 @@ module _ {T U : Type 0} {f : Name → Name} {d : ℕ} {g : T → U}
     apart = c.apart;
   }
 
+  -- another content in a known cell
   pub with_content : (n : Name) (x : Content U) (y : Content T)
       → Knows n → x ≡ moved_content f d g y → Carries f d g Knows (filled S (f n) x) (filled A n y)
   with_content n x y kn e =
       with_cells _ _ (subst (λ z. CarriesCells f d g Knows (changed S.cells (f n) (refilled z))
       (changed A.cells n (refilled y))) (sym e) (cells_refilled c.apart c.cells n y kn))
 
+  -- a new cell at a known name
   pub with_born : (n : Name) (x : Cell T)
       → Knows n → ((m : Name) (l : Location) → Some x ≡ Some (Ref m l) → Knows m)
       → Carries f d g Knows (born S (f n) (moved_cell f d g x)) (born A n x)
@@ -238,6 +248,7 @@ module _ {T U : Type 0} {f : Name → Name} {d : ℕ} {g : T → U}
         apart = c.apart;
       }
 
+  -- other owners, whose records are carried too
   pub with_owners : (new : map.FinMap nat_cmp Holding) (old : map.FinMap nat_cmp Holding)
       → ((key : ℕ) → map.get new (key + d) ≡ option_map (moved_holding f d) (map.get old key))
       → ((key : ℕ) (h : Holding) → map.get old key ≡ Some h → AllByRecursion Knows h.names)
@@ -253,6 +264,7 @@ module _ {T U : Type 0} {f : Name → Name} {d : ℕ} {g : T → U}
     apart = c.apart;
   }
 
+  -- a ticket more in both
   pub next_moved : Carries f d g Knows (stamped S) (stamped A)
   next_moved = record {
     number = c.number;

@@ -59,6 +59,7 @@ guard_cases f d Knows number guard k P h e = split (nat_eq guard.store number) r
 
 module _ {T U : Type 0} {f : Name → Name} {d : ℕ} {g : T → U}
     {Knows : Name → Type 0} {S : State U} {A : State T} (c : Carries f d g Knows S A) where
+  -- a new reader, and a new writer
   pub read_at_matched : (l : Location) (m : Option Name) (x : Option (Content T))
       → IfThere m Knows → Alike c
       (read_at S l (option_map f m) (option_map (moved_content f d g) x)) (read_at A l m x)
@@ -91,6 +92,7 @@ module _ {T U : Type 0} {f : Name → Name} {d : ℕ} {g : T → U}
         (Lent (next_borrow A l)) k (λ i. Lent (record { ticket = c.next i; location = l })));
   }
 
+  -- a value that is replaced
   pub set_at_matched : (v : T) (m : Option Name) (x : Option (Content T))
       → IfThere m Knows → Alike c
       (set_at S (g v) (option_map f m) (option_map (moved_content f d g) x)) (set_at A v m x)
@@ -132,6 +134,7 @@ module _ {T U : Type 0} {f : Name → Name} {d : ℕ} {g : T → U}
       with_content c n _ (Here v (filter (λ r. not (nat_eq r.ticket t)) readers)) k
       (ap (Here (g v)) (others_moved f d readers t))
 
+  -- a guard that is given back
   pub release_reader_matched : (guard : Guard) (new : Fresh) → KnowsGuard Knows A.number guard
       → Alike c (act S (ReleaseReader (moved_guard f d A.number guard)) (moved_fresh f new))
       (act A (ReleaseReader guard) new)

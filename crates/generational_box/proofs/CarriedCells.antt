@@ -44,6 +44,7 @@ changed_live m n h q live =
 
 module _ {f : Name → Name} {Knows : Name → Type 0}
     (apart : (j k : Name) → Knows j → Knows k → f j ≡ f k → j ≡ k) where
+  -- known names are told apart as before
   pub same_test : (j k : Name) → Knows j → Knows k → is_name (f j) (f k) ≡ is_name j k
   same_test j k kj kk = ⊎_elim (λ is. ap (λ x. is_name (f x) (f k)) is
       ∙ name_here (f k) ∙ sym (ap (λ x. is_name x k) is ∙ name_here k))
@@ -153,6 +154,7 @@ module _ {T U : Type 0} {f : Name → Name} {d : ℕ} {g : T → U} {Knows : Nam
               (name_cases k n);
         }
 
+  -- what is left when known names end
   pub cells_left : {S : NameMap (Cell U)} {A : NameMap (Cell T)}
       (c : CarriesCells f d g Knows S A) (names : List Name) → AllByRecursion Knows names
       → CarriesCells f d g Knows (left_by S (list_map f names)) (left_by A names)

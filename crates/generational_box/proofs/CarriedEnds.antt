@@ -54,6 +54,7 @@ ref_known Knows n i k m l e = subst Knows (target_of n m i l e) k
 
 module _ (f : Name → Name) (d : ℕ) {Knows : Name → Type 0}
     (apart : (j k : Name) → Knows j → Knows k → f j ≡ f k → j ≡ k) where
+  -- two boxes are the same as before
   pub same_box_moved : (number : ℕ) (a b : GenerationalPointer)
       → KnowsBox Knows number a → KnowsBox Knows number b
       → is_same_box (moved_box f d number a) (moved_box f d number b) ≡ is_same_box a b
@@ -109,6 +110,7 @@ module _ {T U : Type 0} {f : Name → Name} {d : ℕ} {g : T → U}
   dropped b k = stays c
       (Troubled (Dropped b.created_at)) (ap (λ l. Troubled (Dropped l)) (created_moved c b k)) tt
 
+  -- a new Ref to what was reached
   pub referred_matched : (o : Option OwnerName)
       (b : GenerationalPointer) (to : Option Name) (x : Option (Cell T)) (n : Name)
       → KnowsBox Knows A.number b → is_known A o ≡ true → IfThere to Knows → Knows n
@@ -175,6 +177,7 @@ module _ {T U : Type 0} {f : Name → Name} {d : ℕ} {g : T → U}
   pointed_own a b (Some (Ref old l)) (Some new) (Some (Shared y j)) kb k ka is =
       turned_matched (name_of a) old new l ka (c.cells.leads (name_of a) old l is) k
 
+  -- a Ref that is pointed to what was reached
   pub point_matched : (a b : GenerationalPointer) (to : Option Name) (x : Option (Cell T))
       → KnowsBox Knows A.number a → KnowsBox Knows A.number b → IfThere to Knows
       → Alike c (pointed S (moved_box f d A.number a) (moved_box f d A.number b)
@@ -214,6 +217,7 @@ module _ {T U : Type 0} {f : Name → Name} {d : ℕ} {g : T → U}
       (λ strange. ap (λ t. cond t (name_of b ∷ []) []) (strange_number c b.id.store strange)
       ∙ sym (ap mine strange))
 
+  -- an end of a box's name
   pub end_matched : (b : GenerationalPointer) (new : Fresh) → KnowsBox Knows A.number b
       → Alike c (act S (End (moved_box f d A.number b)) (moved_fresh f new)) (act A (End b) new)
   end_matched b new k =

@@ -70,6 +70,7 @@ held_own A o h = split (nat_eq o.store A.number) refl
 
 module _ {T U : Type 0} {f : Name → Name} {d : ℕ} {g : T → U}
     {Knows : Name → Type 0} {S : State U} {A : State T} (c : Carries f d g Knows S A) where
+  -- an owner's record
   pub holding_moved : (o : OwnerName)
       → holding S (moved_owner f d A.number o) ≡ option_map (moved_holding f d) (holding A o)
   holding_moved o =
@@ -114,6 +115,7 @@ module _ {T U : Type 0} {f : Name → Name} {d : ℕ} {g : T → U}
       ∙ get-remove_here by_number A.owners key) is)) (λ ne. c.listed q x
       (sym (get-remove_apart by_number A.owners key q ne) ∙ is)) (key_cases by_number q key))
 
+  -- a name at the end of an owner's list
   pub listed_matched : (o : Option OwnerName) (n : Name)
       → is_known A o ≡ true → Knows n → Carries f d g Knows
       (listed S (option_map (moved_owner f d A.number) o) (f n)) (listed A o n)
@@ -147,6 +149,7 @@ module _ {T U : Type 0} {f : Name → Name} {d : ℕ} {g : T → U}
       (λ i. record { store = c.number i; key = c.next i })
       ∙ sym (ap (λ t. cond t (own_owner d A.number mine) mine) (nat_eq_equiv.refl A.number))
 
+  -- a new owner, a clone of one, and one that is let go
   pub new_owner_matched : Alike c (new_owner S) (new_owner A)
   new_owner_matched =
       let first : Holding = record { names = []; count = 1 } in
@@ -176,6 +179,7 @@ module _ {T U : Type 0} {f : Name → Name} {d : ℕ} {g : T → U}
 
   -- ---- names that end
 
+  -- known names end alike, and are hindered alike
   pub closed_matched : (names : List Name) → AllByRecursion Knows names
       → Carries f d g Knows (close S (list_map f names)) (close A names)
   closed_matched names k = with_cells c _ _ (cells_left c.apart c.cells names k)

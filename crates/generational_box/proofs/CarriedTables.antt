@@ -7,6 +7,7 @@ use Rattle.generational_box.specs.Session.{Held, held}
 use Rattle.generational_box.specs.Numbered.{moved_held, KnowsHeld}
 
 module _ {T : Type 0} (f : Name → Name) (d : ℕ) (number : ℕ) where
+  -- what a place holds is what it held, moved
   pub held_moved : (table : List (Held T)) (p : ℕ)
       → held (list_map (moved_held f d number) table) p ≡ moved_held f d number (held table p)
   held_moved [] zero = refl
@@ -14,6 +15,7 @@ module _ {T : Type 0} (f : Name → Name) (d : ℕ) (number : ℕ) where
   held_moved (h ∷ table) zero = refl
   held_moved (h ∷ table) (suc p) = held_moved table p
 
+  -- a place that holds something else
   pub table_set : (table : List (Held T)) (p : ℕ) (x : Held T)
       → slice_set (list_map (moved_held f d number) table) p (moved_held f d number x)
       ≡ list_map (moved_held f d number) (slice_set table p x)
@@ -22,6 +24,7 @@ module _ {T : Type 0} (f : Name → Name) (d : ℕ) (number : ℕ) where
   table_set (h ∷ table) (suc p) x = ap (λ t. moved_held f d number h ∷ t) (table_set table p x)
 
 module _ {T : Type 0} (Knows : Name → Type 0) (number : ℕ) where
+  -- of what a place holds all is known
   pub held_known : (table : List (Held T)) (p : ℕ)
       → AllByRecursion (KnowsHeld Knows number) table → KnowsHeld Knows number (held table p)
   held_known [] zero h = tt
@@ -29,6 +32,7 @@ module _ {T : Type 0} (Knows : Name → Type 0) (number : ℕ) where
   held_known (x ∷ table) zero h = h.0
   held_known (x ∷ table) (suc p) h = held_known table p h.1
 
+  -- places that change are known still
   pub known_set : (table : List (Held T)) (p : ℕ) (x : Held T)
       → AllByRecursion (KnowsHeld Knows number) table
       → KnowsHeld Knows number x → AllByRecursion (KnowsHeld Knows number) (slice_set table p x)

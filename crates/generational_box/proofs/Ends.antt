@@ -16,16 +16,19 @@ use Rattle.generational_box.proofs.Maps.{by_name, name_cases, get-insert_here}
 use Rattle.generational_box.proofs.Maps.{get-insert_apart, keep_view}
 use Rattle.generational_box.proofs.Named.{named_gives, named_from}
 
+-- what is there
 pub some_live : {A : Type 0} (o : Option A) → is_some o ≡ true → (x : A) × (o ≡ Some x)
 some_live None h = absurd (true≢false (sym h))
 some_live (Some x) h = (x, refl)
 
+-- nothing is not something
 pub none≢some : {A : Type 0} (o : Option A) (x : A) → o ≡ None → o ≡ Some x → ⊥
 none≢some o x e h = true≢false (sym (ap is_some h) ∙ ap is_some e)
 
 module _ {T : Type 0} where
   -- ---- the cells alone
 
+  -- each Ref names a Shared cell, and each Shared cell is named
   abbrev pub HasTargets : NameMap (Cell T) → Type 0
   HasTargets cells = (n m : Name) (l : Location)
       → map.get cells n ≡ Some (Ref m l) → is_shared (map.get cells m) ≡ true
@@ -70,6 +73,7 @@ module _ {T : Type 0} where
   swept_was cells n m l h =
       ⊎_elim (λ e. sym e.0 ∙ h) (λ e. absurd (none≢some _ _ e.0 h)) (swept_view cells n)
 
+  -- each Ref that is left names a Shared cell that is left
   pub swept_targets : (cells : NameMap (Cell T)) → HasTargets cells → HasTargets (swept cells)
   swept_targets cells t n m l h =
       let was = swept_was cells n m l h in
@@ -83,6 +87,7 @@ module _ {T : Type 0} where
       let it = named_gives cells m k in (it.0, it.1, swept_ref cells it.0 m it.1 it.2)) e.1)
       (λ e. absurd (none_not_shared _ e.0 h)) (swept_view cells m)
 
+  -- where names end, each Ref names a Shared cell still
   pub without_targets : (cells : NameMap (Cell T)) (names : List Name)
       → HasTargets cells → HasTargets (without cells names)
   without_targets cells names t n m l h =
@@ -113,6 +118,7 @@ module _ {T : Type 0} where
   pub no_more : (a b c : NameMap (Cell T)) → NoNewTickets a b → NoNewTickets b c → NoNewTickets a c
   no_more a b c h k n = ⊎_elim (λ e. ⊎_elim (λ f. inl (e ∙ f)) (λ f. inr (e ∙ f)) (h n)) inr (k n)
 
+  -- a new cell without borrows brings no ticket
   pub inserted_tickets : (cells : NameMap (Cell T)) (n : Name) (c : Cell T)
       → tickets_of (content_of (Some c)) ≡ [] → NoNewTickets cells (map.insert cells n c)
   inserted_tickets cells n c e q =
@@ -121,6 +127,7 @@ module _ {T : Type 0} where
       (λ ne. inl (ap (λ x. tickets_of (content_of x)) (get-insert_apart by_name cells n c q ne)))
       (name_cases q n)
 
+  -- a ticket that stands stood before, and stands apart from others still
   pub stands_before : (old new : NameMap (Cell T))
       → NoNewTickets old new → (n : Name) (t : ℕ) → Stands new n t → Stands old n t
   stands_before old new h n t s = ⊎_elim (λ e. sym (ap (list_any (nat_eq t)) e) ∙ s)

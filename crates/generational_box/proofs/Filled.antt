@@ -17,6 +17,7 @@ use Rattle.generational_box.proofs.Maps.{changed_view}
 module _ {T : Type 0} where
   -- ---- another content in a cell
 
+  -- a cell is as it was, or the one with the new content
   pub filled_view : (S : State T) (m : Name) (c : Content T) (q : Name)
       → (map.get (filled S m c).cells q ≡ map.get S.cells q) ⊎ ((q ≡ m) × (x : Cell T)
       × (map.get S.cells q ≡ Some x) × (map.get (filled S m c).cells q ≡ Some (refilled c x)))
@@ -45,6 +46,7 @@ module _ {T : Type 0} where
   filled_shared S m c q = ⊎_elim (λ e. ap is_shared e) (λ e. ap is_shared e.3
       ∙ (refilled_shared c e.1 ∙ sym (ap is_shared e.2))) (filled_view S m c q)
 
+  -- the same names are live
   pub filled_live : (S : State T) (m : Name) (c : Content T) (q : Name)
       → is_some (map.get (filled S m c).cells q) ≡ is_some (map.get S.cells q)
   filled_live S m c q =

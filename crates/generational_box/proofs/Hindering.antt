@@ -54,6 +54,7 @@ module _ {T : Type 0} where
       (λ h. not-false _ (or_parts (is_shared (map.get cells n)) (not (among names n)) h.1).1)
       (keep_view by_name cells (λ n. is_shared (map.get cells n) || not (among names n)) n)
 
+  -- a borrowed cell is there
   pub borrowed_live : (cell : Option (Cell T)) → IsBorrowed cell → is_some cell ≡ true
   borrowed_live None h = h
   borrowed_live (Some c) h = refl

@@ -95,6 +95,7 @@ one_last xs ys s f b (Some g) (Some j) h k =
     let x : g ≤ j = k.1 (record { slot = s; generation = g }) (f _ h.0) refl in let y : j ≤ g =
     h.1 (record { slot = s; generation = j }) (b _ k.0) refl in ap Some (omega arith)
 
+-- lists with the same names have the same last generations
 pub lasts_same : (xs ys : List Name) → ((n : Name) → IsIn xs n → IsIn ys n)
     → ((n : Name) → IsIn ys n → IsIn xs n) → lasts xs ≡ lasts ys
 lasts_same xs ys f b = map.same_map nat_cmp_total map.nat_cmp-IsAntisymmetric

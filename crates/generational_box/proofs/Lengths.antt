@@ -38,9 +38,11 @@ module _ {K X : Type 0} (R : K → K → Ordering) where
   sorted_apart (e ∷ es) h = let p = and_parts (map.Entries.below_all R e.0 es) _ h in
       (below_apart e.0 es p.0, sorted_apart es p.1)
 
+  -- the keys of a map are distinct
   pub keys_apart : (m : map.FinMap R X) → IsDistinct (eq_by_cmp R) (map.keys m)
   keys_apart m = sorted_apart (map.entries m) (is_true _ (map.entries_sorted m))
 
+  -- and as many as the map says
   pub len_keys : (m : map.FinMap R X) → map.len m ≡ length (map.keys m)
   len_keys m = map.len-entries m ∙ sym (length-map (map.entries m) (λ e. e.0))
 

@@ -30,6 +30,7 @@ pub mod NumberedStep
 pub mod Numbering
 pub mod Placing
 pub mod Plain
+pub mod PlainSteps
 pub mod PoolLemmas
 pub mod Saying
 pub mod SessionCalls

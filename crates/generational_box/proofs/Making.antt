@@ -25,6 +25,7 @@ module _ {T : Type 0} where
   abbrev pub IsMade : Names → Outcome T → Type 0
   IsMade given out = (b : GenerationalPointer) × (out.0 ≡ Made b) × (out.1.given ≡ given)
 
+  -- a box is made, or nothing changes
   abbrev pub MadeOrRefused : State T → Names → Outcome T → Type 0
   MadeOrRefused S given out = IsRefused S out.0 out.1 ⊎ IsMade given out
 
@@ -43,6 +44,7 @@ module _ {T : Type 0} where
   listed_given S None n = refl
   listed_given S (Some o) n = refl
 
+  -- a value
   pub made_value : (S : State T) (o : Option OwnerName) (v : T) (l : Location) (new : Fresh)
       → MadeOrRefused S (set.insert S.given new.first) (act S (Make o v l) new)
   made_value S o v l new =
@@ -50,6 +52,7 @@ module _ {T : Type 0} where
       made_if S (set.insert S.given new.first)
       (is_known S o) (make_value S o v l new.first) (inr (box_of S.number new.first l, refl, made))
 
+  -- a shared value
   pub made_shared : (S : State T) (o : Option OwnerName) (v : T) (l : Location) (new : Fresh)
       → MadeOrRefused S
       (set.insert (set.insert S.given new.first) new.second) (act S (MakeShared o v l) new)
@@ -66,6 +69,7 @@ module _ {T : Type 0} where
       inr (box_of S.number n l, refl, listed_given (born S n (Ref m l)) o n)
   made_referred S o b to x n = inl (refl, refl)
 
+  -- a reference
   pub made_reference : (S : State T) (o : Option OwnerName) (b : GenerationalPointer) (new : Fresh)
       → MadeOrRefused S (set.insert S.given new.first) (act S (Refer o b) new)
   made_reference S o b new =

@@ -18,6 +18,7 @@ pub name_exact : map.IsAntisymmetric name_cmp
 name_exact a b h = ap (λ (p : ℕ × ℕ). record { slot = p.0; generation = p.1 }) (exact_pairs nat_cmp
     nat_cmp exact_unsigned exact_unsigned (a.slot, a.generation) (b.slot, b.generation) h)
 
+-- names are ordered
 pub name_total : IsTotalOrder name_cmp
 name_total = then_total (on_total (λ (s : Name). s.slot) nat_cmp_total)
     (on_total (λ (s : Name). s.generation) nat_cmp_total)
@@ -37,6 +38,7 @@ by_number = record { total = nat_cmp_total; exact = map.nat_cmp-IsAntisymmetric 
 -- ---- keys of any kind
 
 module _ {K : Type 0} {R : K → K → Ordering} (o : IsKeyOrder R) where
+  -- keys that compare alike are one
   pub key_here : (k : K) → eq_by_cmp R k k ≡ true
   key_here k = ap is_eq (tied_itself o.total k)
 
@@ -46,6 +48,7 @@ module _ {K : Type 0} {R : K → K → Ordering} (o : IsKeyOrder R) where
   pub key_apart : (j k : K) → j ≢ k → eq_by_cmp R j k ≡ false
   key_apart j k ne = false_from_ne_true _ (λ h. ne (key_same j k h))
 
+  -- two keys are one, or apart
   pub key_cases : (j k : K) → (j ≡ k) ⊎ (j ≢ k)
   key_cases j k = split (eq_by_cmp R j k) refl
     where
@@ -156,6 +159,7 @@ module _ {K : Type 0} {R : K → K → Ordering} (o : IsKeyOrder R) where
         join (inl is) = at is (map.get m k) refl
         join (inr ne) = inl (get-changed_apart m k f q ne)
 
+  -- what is in a set with one key more
   pub contains-insert_here : (s : set.FinSet R) (k : K) → set.contains (set.insert s k) k ≡ true
   contains-insert_here s k =
       set.contains-insert o.total s k k ∙ ap (λ b. b || set.contains s k) (key_here k)
@@ -177,6 +181,7 @@ module _ {K : Type 0} {R : K → K → Ordering} (o : IsKeyOrder R) where
 
 -- ---- names
 
+-- names that are told to be the same are one
 pub name_here : (n : Name) → is_name n n ≡ true
 unfolding is_name
 name_here n = key_here by_name n
@@ -189,9 +194,11 @@ pub name_apart : (a b : Name) → a ≢ b → is_name a b ≡ false
 unfolding is_name
 name_apart a b h = key_apart by_name a b h
 
+-- two names are one, or apart
 pub name_cases : (a b : Name) → (a ≡ b) ⊎ (a ≢ b)
 name_cases a b = key_cases by_name a b
 
+-- maps and sets under names, by the test of names
 pub get-insert_name : {X : Type 0} (m : NameMap X) (k : Name) (v : X) (q : Name)
     → map.get (map.insert m k v) q ≡ cond (is_name q k) (Some v) (map.get m q)
 unfolding is_name

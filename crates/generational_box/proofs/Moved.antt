@@ -16,6 +16,7 @@ use Rattle.generational_box.specs.Borrowing.{Trouble, read_refusal, write_refusa
 use Rattle.generational_box.specs.Machine.{has_reader, has_writer}
 use Rattle.generational_box.specs.Carrying.{moved_borrow, moved_content, moved_cell}
 
+-- options and lists, moved
 pub map_cond : {A B : Type 0} (h : A → B) (b : Bool) (x y : Option A)
     → cond b (option_map h x) (option_map h y) ≡ option_map h (cond b x y)
 map_cond h true x y = refl
@@ -38,6 +39,7 @@ module _ (d : ℕ) where
       both_ways _ _ (λ h. let e = eqb-true (a + d) (t + d) h in eq-eqb a t (omega arith))
       (λ h. let e = eqb-true a t h in eq-eqb (a + d) (t + d) (omega arith))
 
+  -- keys compare as before
   pub key_moved : (a b : ℕ) → eq_by_cmp nat_cmp (a + d) (b + d) ≡ eq_by_cmp nat_cmp a b
   key_moved a b = unsigned_tied (a + d) (b + d) ∙ (ticket_moved a b ∙ sym (unsigned_tied a b))
 
@@ -65,6 +67,7 @@ locations_moved f d (r ∷ readers) = ap (λ ls. r.location ∷ ls) (locations_m
 -- ---- contents and cells
 
 module _ {T U : Type 0} (f : Name → Name) (d : ℕ) (g : T → U) where
+  -- a cell's content
   pub content_moved : (o : Option (Cell T)) → content_of (option_map (moved_cell f d g) o)
       ≡ option_map (moved_content f d g) (content_of o)
   content_moved None = refl
@@ -72,6 +75,7 @@ module _ {T U : Type 0} (f : Name → Name) (d : ℕ) (g : T → U) where
   content_moved (Some (Shared c l)) = refl
   content_moved (Some (Ref m l)) = refl
 
+  -- whether a cell is Shared
   pub shared_moved : (o : Option (Cell T))
       → is_shared (option_map (moved_cell f d g) o) ≡ is_shared o
   shared_moved None = refl
@@ -79,6 +83,7 @@ module _ {T U : Type 0} (f : Name → Name) (d : ℕ) (g : T → U) where
   shared_moved (Some (Shared c l)) = refl
   shared_moved (Some (Ref m l)) = refl
 
+  -- where a cell leads
   pub reached_moved : (x : Option (Cell T)) (n : Name)
       → reached (option_map (moved_cell f d g) x) (f n) ≡ option_map f (reached x n)
   reached_moved None n = refl
@@ -86,6 +91,7 @@ module _ {T U : Type 0} (f : Name → Name) (d : ℕ) (g : T → U) where
   reached_moved (Some (Shared o l)) n = refl
   reached_moved (Some (Ref m l)) n = refl
 
+  -- how a read, and a write, of a content is refused
   pub read_moved : (c : Option (Content T))
       → read_refusal (option_map (moved_content f d g) c) ≡ read_refusal c
   read_moved None = refl
@@ -100,6 +106,7 @@ module _ {T U : Type 0} (f : Name → Name) (d : ℕ) (g : T → U) where
       ap (λ ls. Some (Trouble.BeingRead (r.location ∷ ls))) (locations_moved f d readers)
   write_moved (Some (Lent w)) = refl
 
+  -- whether a content has a ticket as a reader's, or as its writer's
   pub reader_moved : (x : Option (Content T)) (t : ℕ)
       → has_reader (option_map (moved_content f d g) x) (t + d) ≡ has_reader x t
   reader_moved None t = refl
@@ -127,6 +134,7 @@ module _ {T U : Type 0} (f : Name → Name) (d : ℕ) (g : T → U) where
   was_ref (Some (Shared c k)) n l h = cc
   was_ref (Some (Ref m k)) n l h = (m, (let e : k ≡ l = cc in ap (λ x. Some (Ref m x)) e), cc)
 
+  -- a cell with another content
   pub refilled_moved : (c : Content T) (x : Option (Cell T))
       → option_map (refilled (moved_content f d g c)) (option_map (moved_cell f d g) x)
       ≡ option_map (moved_cell f d g) (option_map (refilled c) x)
@@ -135,6 +143,7 @@ module _ {T U : Type 0} (f : Name → Name) (d : ℕ) (g : T → U) where
   refilled_moved c (Some (Shared o l)) = refl
   refilled_moved c (Some (Ref m l)) = refl
 
+-- a cell with another content is a Ref only if it was that Ref
 pub refilled_leads : {T : Type 0} (c : Content T) (x : Option (Cell T)) (m : Name) (l : Location)
     → option_map (refilled c) x ≡ Some (Ref m l) → x ≡ Some (Ref m l)
 refilled_leads c None m l h = cc

@@ -34,6 +34,7 @@ module _ {T : Type 0} where
   is_ref m (Some (Shared c l)) h = absurd (true≢false (sym h))
   is_ref m (Some (Ref k l)) h = (l, ap (λ n. Some (Ref n l)) (sym (name_same m k h)))
 
+  -- the test gives a Ref, and a Ref passes it
   pub named_gives : (cells : NameMap (Cell T)) (m : Name)
       → is_named cells m ≡ true → IsNamed cells m
   unfolding is_named

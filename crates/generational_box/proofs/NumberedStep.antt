@@ -35,6 +35,7 @@ use Rattle.generational_box.proofs.Numbering.{named_front, named_back, numbers_m
 
 module _ (f h : Name → Name)
     (d n : ℕ) (Knows : Name → Type 0) (agree : (k : Name) → Knows k → h k ≡ f k) where
+  -- boxes, guards and tables of known names
   pub box_agrees : (b : GenerationalPointer)
       → KnowsBox Knows n b → moved_box h d n b ≡ moved_box f d n b
   box_agrees b k = split (nat_eq b.id.store n) refl
@@ -153,11 +154,13 @@ module _ {T : Type 0} {s a : SessionState T} (m : Matches s a) where
     };
   }
 
+  -- an answer for which no names were given
   pub settled_step : (x : Call T) (out was : Outcome T) → Alike out was
       → was.1.given ≡ a.state.given → StepMatches (settled s x out) (settled a x was)
   settled_step x out was h e =
       kept_step (settled s x out) (settled a x was) (settled_alike m.carries x out was h) e
 
+  -- what was known is known still
   pub still_known : (names : List Name) (k : Name) → Knows k → More names k
   still_known names k b = (b.0, let lt = b.1 in let le = length-append m.order names in omega arith)
 
@@ -227,6 +230,7 @@ module _ {T : Type 0} {s a : SessionState T} (m : Matches s a) where
   abbrev pub second : Name
   second = (next_numbers a).second
 
+  -- the numbers given after one name more, and after two
   pub one_numbers : (y : Name)
       → AreNumbersBelow (length (m.order ++ y ∷ [])) (set.insert a.state.given first)
   one_numbers y =
@@ -246,12 +250,14 @@ module _ {T : Type 0} {s a : SessionState T} (m : Matches s a) where
       (subst (λ n. AreNumbersBelow (length m.order + 1 + 1) (set.insert
       (set.insert a.state.given (number n)) (number (n + 1)))) (sym m.numbers.count) two)
 
+  -- the next numbers stand for the new names
   pub first_at : (y : Name) (names : List Name) → named_by (m.order ++ y ∷ names) first ≡ y
   first_at y names = named_back m.order (y ∷ names) first 0 (let c = m.numbers.count in omega arith)
 
   pub second_at : (y z : Name) → named_by (m.order ++ y ∷ z ∷ []) second ≡ z
   second_at y z = named_back m.order (y ∷ z ∷ []) second 1 (let c = m.numbers.count in omega arith)
 
+  -- and are known then
   pub first_known : (y : Name) (names : List Name) → More (y ∷ names) first
   first_known y names =
       (refl, let c = m.numbers.count in let le = length-append m.order (y ∷ names) in omega arith)

@@ -91,6 +91,7 @@ carries_more {f = f} {d = d} {g = g}
 
 -- ---- lists of names
 
+-- the names before others in a list keep their numbers
 pub named_front : (order more : List Name) (k : Name)
     → k.slot < length order → named_by (order ++ more) k ≡ named_by order k
 named_front order more k = go order k.slot
@@ -101,6 +102,7 @@ named_front order more k = go order k.slot
     go (n ∷ order) zero h = refl
     go (n ∷ order) (suc i) h = go order i (omega arith)
 
+-- the names behind others have the numbers behind theirs
 pub named_back : (order more : List Name) (k : Name) (i : ℕ)
     → k.slot ≡ length order + i → named_by (order ++ more) k ≡ slice_index_or more i k
 named_back order more k i e = ap (λ s. slice_index_or (order ++ more) s k) e ∙ go order
@@ -117,6 +119,7 @@ named_back order more k i e = ap (λ s. slice_index_or (order ++ more) s k) e �
 number_of : (n : ℕ) (k : Name) → k.generation ≡ 0 → k.slot ≡ n → k ≡ number n
 number_of n k g s = λ i. record { slot = s i; generation = g i }
 
+-- the next number is given
 pub numbers_more : (given : Names) (n : ℕ)
     → AreNumbersBelow n given → AreNumbersBelow (n + 1) (set.insert given (number n))
 numbers_more given n h =

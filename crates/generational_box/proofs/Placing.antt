@@ -24,7 +24,7 @@ use Rattle.generational_box.specs.Session.Held.{Boxed, Reading, Writing, Nothing
 use Rattle.generational_box.specs.Holding.{IsKept}
 use Rattle.generational_box.proofs.Saying.{IsNewBox}
 use Rattle.generational_box.proofs.Stepping.{meets_sound, meets_number, meets_given}
-use Rattle.generational_box.proofs.Stepping.{made_new, reads_known, writes_known, reader_stays}
+use Rattle.generational_box.proofs.Stepping.{meets_says, reads_known, writes_known, reader_stays}
 use Rattle.generational_box.proofs.Stepping.{writer_stays, ends_reader, ends_writer}
 use Rattle.generational_box.proofs.Tables.{held_pushed}
 
@@ -115,7 +115,7 @@ module _ {T : Type 0} where
         ⊎_elim (λ e. inl e.0)
         (λ e. inr (
           e.0,
-          made_new s.state R action b
+          meets_says s.state R action (Made b)
               (subst (λ a. Meets s.state action a R) (gives_box answer b e.1) meets),
         ))
         (place p (Boxed b) is (λ none. cc))

@@ -55,10 +55,10 @@ module _ {K X Y : Type 0} (R : K → K → Ordering) (h : X → Y) where
   sorted_each [] = refl
   sorted_each (e ∷ es) = λ i. below_each e.0 es i && sorted_each es i
 
-abbrev same_name : Name → Name
+abbrev pub same_name : Name → Name
 same_name n = n
 
-abbrev Any : Name → Type 0
+abbrev pub Any : Name → Type 0
 Any n = Unit {0}
 
 same_names : (names : List Name) → list_map same_name names ≡ names
@@ -74,7 +74,7 @@ same_holding None = refl
 same_holding (Some h) = ap (λ ns. Some (record h { names = ns })) (same_names h.names)
 
 -- a box, a guard and an owner that are moved to the same names are the same
-same_box : (number : ℕ) (b : GenerationalPointer) → moved_box same_name 0 number b ≡ b
+pub same_box : (number : ℕ) (b : GenerationalPointer) → moved_box same_name 0 number b ≡ b
 same_box number b = split (nat_eq b.id.store number) refl
   where
     split : (t : Bool)
@@ -110,7 +110,7 @@ same_maybe number None = refl
 same_maybe number (Some o) = ap Some (same_owner number o)
 
 module _ {T : Type 0} where
-  get_bare : (cells : NameMap (Cell T)) (n : Name)
+  pub get_bare : (cells : NameMap (Cell T)) (n : Name)
       → map.get (bare_cells cells) n ≡ option_map (moved_cell same_name 0 bare) (map.get cells n)
   unfolding bare_cells
   get_bare cells n = map.get-from_sorted name_cmp _ n
@@ -119,7 +119,7 @@ module _ {T : Type 0} where
       ∙ (find_each name_cmp (moved_cell same_name 0 bare) n (map.entries cells)
       ∙ ap (option_map (moved_cell same_name 0 bare)) (sym (map.get-entries cells n)))
 
-  carries_plain : (S : State T) → Carries same_name 0 bare Any (plain S) S
+  pub carries_plain : (S : State T) → Carries same_name 0 bare Any (plain S) S
   carries_plain S = record {
     number = refl;
     next = omega arith;
@@ -138,7 +138,7 @@ module _ {T : Type 0} where
   }
 
   -- what carries so is the plain state
-  plain_from : (P : State (Unit {0})) (S : State T)
+  pub plain_from : (P : State (Unit {0})) (S : State T)
       → Carries same_name 0 bare Any P S → P.start ≡ S.start → P ≡ plain S
   plain_from P S c start =
       let cells : P.cells ≡ bare_cells S.cells = map.same_map name_total name_exact P.cells

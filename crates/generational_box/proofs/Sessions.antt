@@ -105,6 +105,7 @@ module _ {T : Type 0} where
   leaves_asked s (call.ManuallyDrop b) kept = leaves_box s (call.ManuallyDrop b) (box_in s b) None _
       (λ b answer p. inr (refl, unspent (End b) (λ t. refl) (λ t. refl) (held s.table p)))
 
+  -- each call of a session keeps what holds of every session
   pub session_kept : (s r : SessionState T) (c : Call T) (x : Said T)
       → IsKept s → SessionStep s c x r → IsKept r
   session_kept s r c x kept step =
@@ -121,6 +122,7 @@ module _ {T : Type 0} where
       inr (action, step.0, subst (Meets s.state action step.0) (sym same) step.2)
   settles_meets s r c x (Tells y) step = inl (ap (λ (r : SessionState T). r.state) step.1)
 
+  -- an ended name is never live again
   pub session_ended : (s r : SessionState T) (c : Call T) (x : Said T)
       → SessionStep s c x r → (n : Name) → IsEnded s.state n → IsEnded r.state n
   session_ended s r c x step n ended =
@@ -128,11 +130,13 @@ module _ {T : Type 0} where
       (λ e. meets_ended s.state r.state e.0 e.1 e.2 n ended)
       (settles_meets s r c x (asked s c) step)
 
+  -- each call keeps soundness
   pub session_sound : (s r : SessionState T) (c : Call T) (x : Said T)
       → IsSound s.state → SessionStep s c x r → IsSound r.state
   session_sound s r c x sound step = ⊎_elim (λ e. subst IsSound (sym e) sound)
       (λ e. meets_sound s.state r.state e.0 e.1 sound e.2) (settles_meets s r c x (asked s c) step)
 
+  -- each call keeps the bound on slots
   pub session_bounded : (s r : SessionState T) (c : Call T) (x : Said T)
       → IsSound s.state → IsBounded s.state → SessionStep s c x r → IsBounded r.state
   session_bounded s r c x sound bounded step = ⊎_elim (λ e. subst IsBounded (sym e) bounded)
@@ -167,15 +171,18 @@ module _ {T : Type 0} where
   by_run P each [] (x ∷ replies) s r h run = absurd run
   by_run P each (c ∷ calls) [] s r h run = absurd run
 
+  -- a run keeps what holds of every session
   pub run_kept : (calls : List (Call T)) (replies : List (Said T)) (s r : SessionState T)
       → IsKept s → Run s calls replies r → IsKept r
   run_kept calls replies s r kept run = by_run IsKept session_kept calls replies s r kept run
 
+  -- a name that has ended is ended after each run
   pub run_ended : (calls : List (Call T)) (replies : List (Said T)) (s r : SessionState T)
       → Run s calls replies r → (n : Name) → IsEnded s.state n → IsEnded r.state n
   run_ended calls replies s r run n ended = by_run (λ s. IsEnded s.state n)
       (λ s r c x h step. session_ended s r c x step n h) calls replies s r ended run
 
+  -- a run keeps the bound on slots
   pub run_bounded : (calls : List (Call T)) (replies : List (Said T)) (s r : SessionState T)
       → IsKept s → IsBounded s.state → Run s calls replies r → IsBounded r.state
   run_bounded calls replies s r kept bounded run =

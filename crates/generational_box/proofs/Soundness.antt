@@ -32,6 +32,7 @@ module _ {T : Type 0} where
   each_given S R f [] h = tt
   each_given S R f (n ∷ names) h = (f n h.0, each_given S R f names h.1)
 
+  -- other cells, names and peak
   pub sound_cells : (S : State T) (cells : NameMap (Cell T)) (given : Names) (peak : ℕ)
       → IsSound S → HasTargets cells → HasNamed cells → NoNewTickets S.cells cells
       → ((n : Name) → is_some (map.get cells n) ≡ true → set.contains given n ≡ true)
@@ -50,6 +51,7 @@ module _ {T : Type 0} where
     keys = s.keys;
   }
 
+  -- other owners, and more tickets
   pub sound_owners : (S : State T) (owners : map.FinMap nat_cmp Holding) (next : ℕ)
       → IsSound S → S.next ≤ next
       → ((k : ℕ) (h : Holding) → map.get owners k ≡ Some h → AllByRecursion (IsGiven S) h.names)
@@ -73,6 +75,7 @@ module _ {T : Type 0} where
       (λ k. absurd (true≢false (sym h ∙ ap is_some (e.0 ∙ k.0)))) (without_view S.cells names n))
       (λ e. absurd (true≢false (sym h ∙ ap is_some e.0))) (swept_view (without S.cells names) n)
 
+  -- a state in which names end
   pub sound_close : (S : State T) (names : List Name) → IsSound S → IsSound (close S names)
   sound_close S names s = sound_cells S (left_by S.cells names) S.given S.peak s
       (swept_targets _ (without_targets S.cells names s.targets))

@@ -119,6 +119,7 @@ module _ {T : Type 0} where
       begins_turned S (name_of a) old new l
   begins_pointed S a b (Some _) to x = begins S _ _ refl refl
 
+  -- each call leaves the first generation, and none but a making gives names
   pub act_start : (S : State T) (call : Action T) (f : Fresh)
       → Begins (is_making call) S (act S call f)
   act_start S (Make o v l) f =

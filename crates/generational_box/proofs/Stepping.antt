@@ -3,6 +3,7 @@ use Rattle.std.proofs.Common.{◌≡◌, ℕ, ◌+◌, ◌≤◌, Bool, true, fa
 use Rattle.std.proofs.Common.{Option, None, Some, refl, sym, ap, subst, ◌∙◌, inl, inr, ⊎_elim}
 use Rattle.std.specs.Prelude.{is_some, nat_eq, ◌&&◌, ◌-◌, ◌^◌, ◌⊎◌}
 use Rattle.std.specs.List.{list_any}
+use Rattle.std.specs.FinSet as set
 use Rattle.std.proofs.lemmas.Bool.{true≢false, or_cases, or_right, or_left, and_parts, eqb-true}
 use Rattle.std.proofs.lemmas.List.Folds.{list_any-append}
 use Rattle.generational_box.specs.declared.error.StoreError.TheVariants.{NumbersExhausted}
@@ -13,6 +14,7 @@ use Rattle.generational_box.specs.Cells.{Content, Cell}
 use Rattle.generational_box.specs.Cells.Content.{Here, Lent}
 use Rattle.generational_box.specs.Cells.Cell.{Shared}
 use Rattle.generational_box.specs.State.{State, IsSound, IsGiven, IsEnded}
+use Rattle.generational_box.specs.Boxes.{name_of}
 use Rattle.generational_box.specs.Borrowing.{Trouble, Guard, read_trouble, reach, content_at}
 use Rattle.generational_box.specs.Borrowing.{write_refusal}
 use Rattle.generational_box.specs.Machine.{Action, Answer, Fresh, Outcome, OwnerName, act, unless}
@@ -26,7 +28,7 @@ use Rattle.generational_box.proofs.Fresh.{AreFresh, new_fresh}
 use Rattle.generational_box.proofs.Growing.{Follows, act_follows, follows_same}
 use Rattle.generational_box.proofs.SoundCalls.{act_sound}
 use Rattle.generational_box.proofs.Staying.{IsBorrow, Spares, Stays, unread, act_stays}
-use Rattle.generational_box.proofs.Saying.{Says, IsNewBox, act_says}
+use Rattle.generational_box.proofs.Saying.{Says, act_says}
 
 -- a reader stays when another ticket goes
 unread_stays : (u t : ℕ) (readers : List Borrow)
@@ -86,6 +88,7 @@ module _ {T : Type 0} where
   takes_referred S call f o b (Some m) (Some (Shared c l)) t = inl t
   takes_referred S call f o b to target t = inr (refl, refl)
 
+  -- a call takes new names, or is refused
   pub takes_new : (S : State T) (call : Action T) (f : Fresh) → Takes S call (act S call f).0 f
       → AreNew S call f ⊎ IsRefused S (act S call f).0 (act S call f).1
   takes_new S (Make o v l) f t =
@@ -129,11 +132,13 @@ module _ {T : Type 0} where
 
   -- ---- soundness, and what nothing takes back
 
+  -- each call of a sound store leaves it sound
   pub meets_sound : (S R : State T) (call : Action T) (answer : Answer T)
       → IsSound S → Meets S call answer R → IsSound R
   meets_sound S R call answer s m =
       by_cases IsSound S R call answer m s (λ new f. act_sound S call new s f)
 
+  -- nothing is taken back
   pub meets_follows : (S R : State T) (call : Action T) (answer : Answer T)
       → Meets S call answer R → Follows S R
   meets_follows S R call answer m =
@@ -178,10 +183,14 @@ module _ {T : Type 0} where
       ⊎_elim (λ e. says_refused S R answer e.0) (λ e. subst (λ (o : Outcome T). Says S o.0 o.1)
       (sym e.2) (act_says S call e.0 (new_fresh S call e.0 e.1)).so) (meets_cases S R call answer m)
 
+  -- a box that is made is a new one of the store
   pub made_new : (S R : State T) (call : Action T) (b : GenerationalPointer)
-      → Meets S call (Made b) R → IsNewBox S R b
-  made_new S R call b m = meets_says S R call (Made b) m
+      → Meets S call (Made b) R
+      → (b.id.store ≡ S.number) × (set.contains S.given (name_of b) ≡ false) × IsGiven R (name_of b)
+  made_new S R call b m =
+      let it = meets_says S R call (Made b) m in (it.number, it.fresh, it.given)
 
+  -- a new reader is known, with the next ticket; so is a new writer
   pub reads_known : (S R : State T) (call : Action T) (g : Guard) → Meets S call (Reads g) R
       → (knows_reader R g ≡ true) × (g.ticket ≡ S.next) × (R.next ≡ S.next + 1)
   reads_known S R call g m = let it = meets_says S R call (Reads g) m in (it.1, it.0.is, it.0.next)

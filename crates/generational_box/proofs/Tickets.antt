@@ -9,6 +9,7 @@ use Rattle.std.proofs.lemmas.Map.Keys.{IsDistinct-push}
 use Rattle.std.proofs.lemmas.List.Folds.{list_any-append}
 use Rattle.generational_box.specs.declared.entry.Borrow.{Borrow}
 
+-- the tickets of borrows
 abbrev pub tickets : List Borrow → List ℕ
 tickets rs = list_map (λ r. r.ticket) rs
 
@@ -16,6 +17,7 @@ tickets-append : (rs ss : List Borrow) → tickets (rs ++ ss) ≡ tickets rs ++ 
 tickets-append [] ss = refl
 tickets-append (r ∷ rs) ss = ap (λ ts. r.ticket ∷ ts) (tickets-append rs ss)
 
+-- what passes a filter was there, and stands apart still
 pub in_filter : (p : Borrow → Bool) (q : ℕ → Bool) (rs : List Borrow)
     → list_any q (tickets (filter p rs)) ≡ true → list_any q (tickets rs) ≡ true
 in_filter p q [] h = h
@@ -50,6 +52,7 @@ apart_filter p (r ∷ rs) h = split (apart_filter p rs h.1) (p r)
     split ih true = (none_after p r.ticket rs h.0, ih)
     split ih false = ih
 
+-- a new ticket at the end
 pub apart_push : (rs : List Borrow) (r : Borrow) → IsDistinct nat_eq (tickets rs)
     → list_any (nat_eq r.ticket) (tickets rs) ≡ false → IsDistinct nat_eq (tickets (rs ++ r ∷ []))
 apart_push rs r h new = subst (IsDistinct nat_eq)

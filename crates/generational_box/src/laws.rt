@@ -46,7 +46,8 @@ pub fn shared_values_live_by_references<T>()
         IsSound S → IsNamed S.cells m → is_shared (map.get S.cells m) ≡ true }
 {}
 
-/// A store never has more slots than cells were live at once and generations of slots used up.
+/// The slots of a store are never more than the most cells that were live at once and the slots
+/// whose generations are used up.
 pub fn slots_are_bounded<T>()
     ensures fresh { (number start next : ℕ) → IsBounded (fresh {T = T} number start next) }
     ensures step { (S R : State T) (call : Action T) (answer : Answer T) →
@@ -87,6 +88,9 @@ pub fn plain_states_step<T>()
     ensures step { (S : State T) (call : Action T) (new : Fresh) →
         act (plain S) (plain_call call) new
         ≡ (plain_answer (act S call new).0, plain (act S call new).1) }
+    ensures meets { (S R : State T) (call : Action T) (answer : Answer T) →
+        Meets S call answer R →
+        Meets (plain S) (plain_call call) (plain_answer answer) (plain R) }
 {}
 
 /// Ids aside, the replies of a run are those of the numbered machine, which has no choice: they
