@@ -28,6 +28,7 @@ pub mod Named
 pub mod NumberedCalls
 pub mod NumberedStep
 pub mod Numbering
+pub mod OwnerMaps
 pub mod Placing
 pub mod Plain
 pub mod PlainSteps

@@ -17,7 +17,7 @@ use Rattle.generational_box.specs.Cells.{Content, Cell, content_of, refilled}
 use Rattle.generational_box.specs.Cells.Content.{Here, Lent}
 use Rattle.generational_box.specs.Cells.Cell.{Value}
 use Rattle.generational_box.specs.Boxes.{name_in}
-use Rattle.generational_box.specs.State.{State}
+use Rattle.generational_box.specs.State.{State, Owners}
 use Rattle.generational_box.specs.Borrowing.{content_at, filled}
 use Rattle.generational_box.specs.Steps.{has_readers}
 use Rattle.generational_box.specs.Machine.{read_at, next_borrow, has_reader, without_reader}
@@ -86,8 +86,8 @@ module _ {T : Type 0} where
   is_live_here (Some c) h = refl
 
   -- the slot of a cell that isn't lent
-  pub found_here : {S : State T} (number start next peak : ℕ) (slots : List (Entry T)) (id : GenerationalBoxId)
-      → state_of number start next peak slots ≡ S → is_here (own_cell_at S id) ≡ true
+  pub found_here : {S : State T} {owners : Owners} (number start next peak : ℕ) (slots : List (Entry T)) (id : GenerationalBoxId)
+      → state_of owners number start next peak slots ≡ S → is_here (own_cell_at S id) ≡ true
       → IsFound number slots id
   found_here {S} number start next peak slots id view here =
       found number start next peak slots id view (is_live_here (own_cell_at S id) here)
@@ -97,14 +97,14 @@ module _ {T : Type 0} where
   found_within {slots = slots} {id = id} f = slice_get_within slots id.slot f.entry f.there
 
   -- the content as the state sees it
-  pub content_seen : {S : State T} (number start next peak : ℕ) (slots : List (Entry T)) (id : GenerationalBoxId)
-      → state_of number start next peak slots ≡ S → (f : IsFound number slots id)
+  pub content_seen : {S : State T} {owners : Owners} (number start next peak : ℕ) (slots : List (Entry T)) (id : GenerationalBoxId)
+      → state_of owners number start next peak slots ≡ S → (f : IsFound number slots id)
       → content_at S (name_in id) ≡ Some f.content
   content_seen number start next peak slots id view f = rw (← view) (found_content f)
 
   -- the cell as the state sees it
-  pub own_seen : {S : State T} (number start next peak : ℕ) (slots : List (Entry T)) (id : GenerationalBoxId)
-      → state_of number start next peak slots ≡ S → (f : IsFound number slots id)
+  pub own_seen : {S : State T} {owners : Owners} (number start next peak : ℕ) (slots : List (Entry T)) (id : GenerationalBoxId)
+      → state_of owners number start next peak slots ≡ S → (f : IsFound number slots id)
       → own_cell_at S id ≡ Some (Value f.content f.created)
   own_seen number start next peak slots id view f =
       rw (← view, eq-eqb id.store number f.store)
@@ -122,12 +122,12 @@ module _ {T : Type 0} where
   with_reader-live b (Lent w) l = refl
 
   -- a reader more is the machine's read
-  pub begin_state : {S : State T} (number start next peak : ℕ) (slots : List (Entry T)) (id : GenerationalBoxId) (l : Location)
-      → state_of number start next peak slots ≡ S → is_here (own_cell_at S id) ≡ true
-      → state_of number start (next + 1) peak (entry_changed slots id.slot (λ e. record e { kept = with_reader (record { ticket = next; location = l }) e.kept }))
+  pub begin_state : {S : State T} {owners : Owners} (number start next peak : ℕ) (slots : List (Entry T)) (id : GenerationalBoxId) (l : Location)
+      → state_of owners number start next peak slots ≡ S → is_here (own_cell_at S id) ≡ true
+      → state_of owners number start (next + 1) peak (entry_changed slots id.slot (λ e. record e { kept = with_reader (record { ticket = next; location = l }) e.kept }))
       ≡ (read_at S l (Some (name_in id)) (content_at S (name_in id))).1
-  begin_state {S} number start next peak slots id l view here =
-      state-filled start (next + 1) peak f (more_read b f.content) (with_reader b) (with_reader-live b f.content f.created)
+  begin_state {S} {owners} number start next peak slots id l view here =
+      state-filled owners start (next + 1) peak f (more_read b f.content) (with_reader b) (with_reader-live b f.content f.created)
       ∙ at f.content not_lent (content_seen number start next peak slots id view f)
     where
       f : IsFound number slots id
@@ -140,21 +140,21 @@ module _ {T : Type 0} where
       not_lent = ap is_here (sym (own_seen number start next peak slots id view f)) ∙ here
 
       at : (c : Content T) → is_here (Some (Value c f.created)) ≡ true → content_at S (name_in id) ≡ Some c
-          → filled (state_of number start (next + 1) peak slots) (name_in id) (more_read b c)
+          → filled (state_of owners number start (next + 1) peak slots) (name_in id) (more_read b c)
           ≡ (read_at S l (Some (name_in id)) (content_at S (name_in id))).1
       at (Here v rs) h seen = rw (seen, ← view) refl
       at (Lent w) h seen = absurd (false≢true h)
 
   -- what the slot says of its readers is what the state sees
-  pub beside_seen : {S : State T} (number start next peak : ℕ) (slots : List (Entry T)) (id : GenerationalBoxId)
-      → state_of number start next peak slots ≡ S → IsFound number slots id
+  pub beside_seen : {S : State T} {owners : Owners} (number start next peak : ℕ) (slots : List (Entry T)) (id : GenerationalBoxId)
+      → state_of owners number start next peak slots ≡ S → IsFound number slots id
       → IfSome (slice_get slots id.slot) (λ e. has_readers (content_in e.kept) ≡ true)
       → has_readers (content_at S (name_in id)) ≡ true
   beside_seen number start next peak slots id view f h =
       ap has_readers (content_seen number start next peak slots id view f) ∙ (rw (f.there, f.live) at h)
 
-  pub known_seen : {S : State T} (number start next peak : ℕ) (slots : List (Entry T)) (id : GenerationalBoxId) (known : Bool) (t : ℕ)
-      → state_of number start next peak slots ≡ S → IsFound number slots id
+  pub known_seen : {S : State T} {owners : Owners} (number start next peak : ℕ) (slots : List (Entry T)) (id : GenerationalBoxId) (known : Bool) (t : ℕ)
+      → state_of owners number start next peak slots ≡ S → IsFound number slots id
       → IfSome (slice_get slots id.slot) (λ e. known ≡ has_reader (content_in e.kept) t)
       → known ≡ has_reader (content_at S (name_in id)) t
   known_seen number start next peak slots id known t view f h =
@@ -172,22 +172,22 @@ module _ {T : Type 0} where
   without_reader_in-live t (Lent w) l = refl
 
   -- a reader less is the machine's release
-  pub end_state : {S : State T} (number start next peak : ℕ) (slots : List (Entry T)) (id : GenerationalBoxId) (t : ℕ)
-      → state_of number start next peak slots ≡ S → IsFound number slots id
-      → state_of number start next peak (entry_changed slots id.slot (λ e. record e { kept = without_reader_in t e.kept }))
+  pub end_state : {S : State T} {owners : Owners} (number start next peak : ℕ) (slots : List (Entry T)) (id : GenerationalBoxId) (t : ℕ)
+      → state_of owners number start next peak slots ≡ S → IsFound number slots id
+      → state_of owners number start next peak (entry_changed slots id.slot (λ e. record e { kept = without_reader_in t e.kept }))
       ≡ without_reader S (name_in id) t (content_at S (name_in id))
-  end_state {S} number start next peak slots id t view f =
+  end_state {S} {owners} number start next peak slots id t view f =
       at f.content f.live (content_seen number start next peak slots id view f)
     where
       at : (c : Content T) → f.entry.kept ≡ Live c f.created → content_at S (name_in id) ≡ Some c
-          → state_of number start next peak (entry_changed slots id.slot (λ e. record e { kept = without_reader_in t e.kept }))
+          → state_of owners number start next peak (entry_changed slots id.slot (λ e. record e { kept = without_reader_in t e.kept }))
           ≡ without_reader S (name_in id) t (content_at S (name_in id))
       at (Here v rs) live seen =
           rw (seen, ← view)
-          (state-filled start next peak (record f { content = Here v rs; live = live }) (less_read t (Here v rs)) (without_reader_in t) refl)
+          (state-filled owners start next peak (record f { content = Here v rs; live = live }) (less_read t (Here v rs)) (without_reader_in t) refl)
       at (Lent w) live seen =
           rw (seen, ← view)
-          (ap (state_of number start next peak) same)
+          (ap (state_of owners number start next peak) same)
         where
           same : entry_changed slots id.slot (λ e. record e { kept = without_reader_in t e.kept }) ≡ slots
           same =

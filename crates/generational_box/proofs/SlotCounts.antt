@@ -12,7 +12,7 @@ use Rattle.std.specs.FinMap.{nat_cmp-IsAntisymmetric}
 use Rattle.std.specs.FinSet as set
 use Rattle.generational_box.specs.Names.{Name, name_cmp}
 use Rattle.generational_box.specs.Cells.{Cell}
-use Rattle.generational_box.specs.State.{State}
+use Rattle.generational_box.specs.State.{State, Owners}
 use Rattle.generational_box.specs.Slots.{lasts, slots_of, is_free, slots, free, Fits, last_name, last_generation}
 use Rattle.generational_box.specs.Steps.{IsNew}
 use Rattle.generational_box.specs.Entry.{Entry, Kept, is_live}
@@ -68,10 +68,10 @@ module _ {X : Type 0} where
 
 -- ---- last generations, and free slots
 
-module _ {T : Type 0} (number start next peak : ℕ) (slots' : List (Entry T))
+module _ {T : Type 0} (owners : Owners) (number start next peak : ℕ) (slots' : List (Entry T))
     (begun : (k : ℕ) → HasBegun start (slice_get slots' k)) where
   abbrev here : State T
-  here = state_of number start next peak slots'
+  here = state_of owners number start next peak slots'
 
   was_given : (n : Name) → IsIn (set.items here.given) n → set.contains here.given n ≡ true
   was_given n h = set.contains-items here.given n ∙ h

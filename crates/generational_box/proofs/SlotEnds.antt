@@ -12,7 +12,7 @@ use Rattle.std.specs.FinSet as set
 use Rattle.generational_box.specs.declared.boxes.GenerationalBoxId.{GenerationalBoxId}
 use Rattle.generational_box.specs.Names.{Name}
 use Rattle.generational_box.specs.Boxes.{name_in}
-use Rattle.generational_box.specs.State.{State}
+use Rattle.generational_box.specs.State.{State, Owners}
 use Rattle.generational_box.specs.Slots.{last_generation}
 use Rattle.generational_box.specs.Entry.{Entry, Kept}
 use Rattle.generational_box.specs.Entry.Kept.{Empty, Live}
@@ -37,16 +37,16 @@ module _ {T : Type 0} {number : ℕ} {slots : List (Entry T)} {id : Generational
   ended_is = rw f.there refl
 
   -- an end of a slot's cell takes its name out of the machine's map
-  pub end_state : {S : State T} (start next peak : ℕ) → state_of number start next peak slots ≡ S
-      → state_of number start next peak ended ≡ record S { cells = map.remove S.cells (name_in id) }
-  end_state start next peak view =
+  pub end_state : {S : State T} {owners : Owners} (start next peak : ℕ) → state_of owners number start next peak slots ≡ S
+      → state_of owners number start next peak ended ≡ record S { cells = map.remove S.cells (name_in id) }
+  end_state {owners = owners} start next peak view =
       rw (← view)
-      (ap (state_of number start next peak) ended_is
+      (ap (state_of owners number start next peak) ended_is
       ∙ (λ i. record {
         number = number;
         cells = (cells-ended slots id.slot f.entry f.there ∙ ap (map.remove (cells_of slots)) (sym (found_name f))) i;
         given = given-set start slots id.slot f.entry Empty f.there i;
-        owners = map.empty;
+        owners = owners;
         next = next;
         peak = peak;
         start = start;

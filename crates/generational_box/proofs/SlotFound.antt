@@ -15,7 +15,7 @@ use Rattle.generational_box.specs.Cells.{Content, Cell, content_of, refilled}
 use Rattle.generational_box.specs.Cells.Content.{Here, Lent}
 use Rattle.generational_box.specs.Cells.Cell.{Value}
 use Rattle.generational_box.specs.Boxes.{name_in}
-use Rattle.generational_box.specs.State.{State}
+use Rattle.generational_box.specs.State.{State, Owners}
 use Rattle.generational_box.specs.Borrowing.{content_at, filled, stamped}
 use Rattle.generational_box.specs.Machine.{read_at, next_borrow, has_reader, without_reader}
 use Rattle.generational_box.specs.Entry.{Entry, Kept, is_live, valid_at, with_reader, without_reader_in, content_in}
@@ -73,8 +73,8 @@ module _ {T : Type 0} where
       at false same live = absurd (false≢true live)
 
   -- a live cell has a slot
-  pub found : {S : State T} (number start next peak : ℕ) (slots : List (Entry T)) (id : GenerationalBoxId)
-      → state_of number start next peak slots ≡ S → is_some (own_cell_at S id) ≡ true
+  pub found : {S : State T} {owners : Owners} (number start next peak : ℕ) (slots : List (Entry T)) (id : GenerationalBoxId)
+      → state_of owners number start next peak slots ≡ S → is_some (own_cell_at S id) ≡ true
       → IsFound number slots id
   found number start next peak slots id view live =
       at (nat_eq id.store number) refl (rw (← view) at live)
@@ -104,20 +104,20 @@ module _ {T : Type 0} where
   entry_changed-there slots i f e there = rw there refl
 
   -- another content of a found cell is the machine's
-  pub state-filled : {number : ℕ} {slots : List (Entry T)} {id : GenerationalBoxId} (start next peak : ℕ)
+  pub state-filled : {number : ℕ} {slots : List (Entry T)} {id : GenerationalBoxId} (owners : Owners) (start next peak : ℕ)
       (f : IsFound number slots id) (d : Content T) (g : Kept T → Kept T)
       → g (Live f.content f.created) ≡ Live d f.created
-      → state_of number start next peak (entry_changed slots id.slot (λ e. record e { kept = g e.kept }))
-      ≡ filled (state_of number start next peak slots) (name_in id) d
-  state-filled {number} {slots} {id} start next peak f d g is =
-      ap (λ xs. state_of number start next peak xs)
+      → state_of owners number start next peak (entry_changed slots id.slot (λ e. record e { kept = g e.kept }))
+      ≡ filled (state_of owners number start next peak slots) (name_in id) d
+  state-filled {number} {slots} {id} owners start next peak f d g is =
+      ap (λ xs. state_of owners number start next peak xs)
       (entry_changed-there slots id.slot (λ e. record e { kept = g e.kept }) f.entry f.there
       ∙ ap (λ k. slice_set slots id.slot (record f.entry { kept = k })) (ap g f.live ∙ is))
       ∙ (λ i. record {
         number = number;
         cells = cells i;
         given = given-set start slots id.slot f.entry (Live d f.created) f.there i;
-        owners = map.empty;
+        owners = owners;
         next = next;
         peak = peak;
         start = start;

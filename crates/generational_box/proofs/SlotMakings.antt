@@ -18,7 +18,7 @@ use Rattle.generational_box.specs.Cells.{Cell}
 use Rattle.generational_box.specs.Cells.Content.{Here}
 use Rattle.generational_box.specs.Cells.Cell.{Value}
 use Rattle.generational_box.specs.Boxes.{box_of}
-use Rattle.generational_box.specs.State.{State}
+use Rattle.generational_box.specs.State.{State, Owners}
 use Rattle.generational_box.specs.Machine.{born}
 use Rattle.generational_box.specs.Machine.Action.{Make}
 use Rattle.generational_box.specs.Machine.Answer.{Made, Refused}
@@ -41,7 +41,7 @@ module _ {T : Type 0} where
 
   -- ---- a slot that is used again
 
-  module _ (number start next live peak : ℕ) (slots : List (Entry T)) (free : set.FinSet nat_cmp) (rooms : ℕ)
+  module _ (owners : Owners) (number start next live peak : ℕ) (slots : List (Entry T)) (free : set.FinSet nat_cmp) (rooms : ℕ)
       (s : IsSlotted free rooms start live peak slots) (i : ℕ) (member : set.contains free i ≡ true) (v : T) (l : Location) where
     pub record IsReused : Type 0 where
       pub entry : Entry T
@@ -104,21 +104,21 @@ module _ {T : Type 0} where
         let same : length (slice_set slots i next_entry) ≡ length slots = rw length-set refl in
         let one = count in omega arith
 
-    pub reuse_meets : {S : State T} → state_of number start next peak slots ≡ S
+    pub reuse_meets : {S : State T} → state_of owners number start next peak slots ≡ S
         → Meets S (Make None v l) (Made (box_of number next_name l))
-        (state_of number start next (max peak (live + 1)) (slice_set slots i next_entry))
+        (state_of owners number start next (max peak (live + 1)) (slice_set slots i next_entry))
     reuse_meets {S} view =
-        subst (λ X. Meets X (Make None v l) (Made (box_of number next_name l)) (state_of number start next (max peak (live + 1)) (slice_set slots i next_entry))) view
-        (subst (Meets (state_of number start next peak slots) (Make None v l) (Made (box_of number next_name l))) (sym after)
-        (making (state_of number start next peak slots) next_name v l (new_reused number start next peak slots s.begun i reused.entry reused.there free_to_use)))
+        subst (λ X. Meets X (Make None v l) (Made (box_of number next_name l)) (state_of owners number start next (max peak (live + 1)) (slice_set slots i next_entry))) view
+        (subst (Meets (state_of owners number start next peak slots) (Make None v l) (Made (box_of number next_name l))) (sym after)
+        (making (state_of owners number start next peak slots) next_name v l (new_reused owners number start next peak slots s.begun i reused.entry reused.there free_to_use)))
       where
-        after : state_of number start next (max peak (live + 1)) (slice_set slots i next_entry)
-            ≡ born (state_of number start next peak slots) next_name (Value (Here v []) l)
+        after : state_of owners number start next (max peak (live + 1)) (slice_set slots i next_entry)
+            ≡ born (state_of owners number start next peak slots) next_name (Value (Here v []) l)
         after = λ j. record {
           number = number;
           cells = cells j;
           given = given-next start slots i reused.entry (Live (Here v []) l) reused.there (let le = begun_here in omega arith) j;
-          owners = map.empty;
+          owners = owners;
           next = next;
           peak = max peak ((sym count ∙ ap map.len cells) j);
           start = start;
@@ -164,9 +164,9 @@ module _ {T : Type 0} where
       gen_is = rw reused.there at next_gen
 
       pub reuse_step : {S : State T} (b : GenerationalPointer)
-          → state_of number start next peak slots ≡ S
+          → state_of owners number start next peak slots ≡ S
           → b ≡ box_of number (record { slot = i; generation = gen }) l
-          → Meets S (Make None v l) (Made b) (state_of number start next peak' after)
+          → Meets S (Make None v l) (Made b) (state_of owners number start next peak' after)
       reuse_step b view is = rw (is, filled, most, one, gen_is) (reuse_meets view)
 
       pub reuse_kept : (free' : set.FinSet nat_cmp) (rooms' : ℕ) → free' ≡ set.remove free i
@@ -175,7 +175,7 @@ module _ {T : Type 0} where
 
   -- ---- a slot more
 
-  module _ (number start next live peak : ℕ) (slots : List (Entry T)) (rooms : ℕ)
+  module _ (owners : Owners) (number start next live peak : ℕ) (slots : List (Entry T)) (rooms : ℕ)
       (s : IsSlotted (set.empty {R = nat_cmp}) rooms start live peak slots) (v : T) (l : Location) where
     none_reusable : (k : ℕ) → is_reusable (slice_get slots k) ≡ false
     none_reusable k = sym (s.pooled k) ∙ set.contains-empty nat_cmp k
@@ -202,21 +202,21 @@ module _ {T : Type 0} where
     pub push_within : live ≤ length slots
     push_within = let le = live_within slots in let c = s.counted in omega arith
 
-    pub push_meets : {S : State T} → state_of number start next peak slots ≡ S
+    pub push_meets : {S : State T} → state_of owners number start next peak slots ≡ S
         → Meets S (Make None v l) (Made (box_of number first_name l))
-        (state_of number start next (max peak (live + 1)) (slots ++ first_entry ∷ []))
+        (state_of owners number start next (max peak (live + 1)) (slots ++ first_entry ∷ []))
     push_meets {S} view =
-        subst (λ X. Meets X (Make None v l) (Made (box_of number first_name l)) (state_of number start next (max peak (live + 1)) (slots ++ first_entry ∷ []))) view
-        (subst (Meets (state_of number start next peak slots) (Make None v l) (Made (box_of number first_name l))) (sym after)
-        (making (state_of number start next peak slots) first_name v l (new_pushed number start next peak slots s.begun none_reusable)))
+        subst (λ X. Meets X (Make None v l) (Made (box_of number first_name l)) (state_of owners number start next (max peak (live + 1)) (slots ++ first_entry ∷ []))) view
+        (subst (Meets (state_of owners number start next peak slots) (Make None v l) (Made (box_of number first_name l))) (sym after)
+        (making (state_of owners number start next peak slots) first_name v l (new_pushed owners number start next peak slots s.begun none_reusable)))
       where
-        after : state_of number start next (max peak (live + 1)) (slots ++ first_entry ∷ [])
-            ≡ born (state_of number start next peak slots) first_name (Value (Here v []) l)
+        after : state_of owners number start next (max peak (live + 1)) (slots ++ first_entry ∷ [])
+            ≡ born (state_of owners number start next peak slots) first_name (Value (Here v []) l)
         after = λ j. record {
           number = number;
           cells = pushed_cells j;
           given = given-push start slots (Live (Here v []) l) j;
-          owners = map.empty;
+          owners = owners;
           next = next;
           peak = max peak ((sym pushed_count ∙ ap map.len pushed_cells) j);
           start = start;
@@ -246,15 +246,15 @@ module _ {T : Type 0} where
         begun_other k ne = rw (get-push_other slots k first_entry ne) (s.begun k)
 
     -- memory may lack, since no slot is free
-    pub push_lacks : {S : State T} → state_of number start next peak slots ≡ S
+    pub push_lacks : {S : State T} → state_of owners number start next peak slots ≡ S
         → Meets S (Make None v l) (Refused OutOfMemory) S
     push_lacks {S} view =
         subst (λ X. Meets X (Make None v l) (Refused OutOfMemory) X) view
-        (inr (rw (none_free number start next peak slots s.begun none_reusable) refl, refl, refl))
+        (inr (rw (none_free owners number start next peak slots s.begun none_reusable) refl, refl, refl))
 
     pub push_refused : {S : State T} (after : List (Entry T))
-        → state_of number start next peak slots ≡ S → after ≡ slots
-        → Meets S (Make None v l) (Refused OutOfMemory) (state_of number start next peak after)
+        → state_of owners number start next peak slots ≡ S → after ≡ slots
+        → Meets S (Make None v l) (Refused OutOfMemory) (state_of owners number start next peak after)
     push_refused after view same = rw (same, view) (push_lacks view)
 
     -- the same of what the code has left
@@ -262,9 +262,9 @@ module _ {T : Type 0} where
         (pushed : after ≡ slots ++ first_entry ∷ [])
         (one : live' ≡ live + 1) (most : peak' ≡ max peak live') where
       pub push_step : {S : State T} (b : GenerationalPointer) (slot : ℕ)
-          → state_of number start next peak slots ≡ S
+          → state_of owners number start next peak slots ≡ S
           → b ≡ box_of number (record { slot = slot; generation = start }) l → slot ≡ length slots
-          → Meets S (Make None v l) (Made b) (state_of number start next peak' after)
+          → Meets S (Make None v l) (Made b) (state_of owners number start next peak' after)
       push_step b slot view is at = rw (is, at, pushed, most, one) (push_meets view)
 
       pub push_kept : (free : set.FinSet nat_cmp) (more : ℕ) → free ≡ set.empty → length slots < more

@@ -9,7 +9,7 @@ use Rattle.std.specs.FinSet as set
 use Rattle.generational_box.specs.declared.boxes.GenerationalBoxId.{GenerationalBoxId}
 use Rattle.generational_box.specs.Names.{Name, name_cmp}
 use Rattle.generational_box.specs.Boxes.{name_in}
-use Rattle.generational_box.specs.State.{State, fresh, IsFresh}
+use Rattle.generational_box.specs.State.{State, fresh, IsFresh, Owners}
 use Rattle.generational_box.specs.Entry.{Entry}
 use Rattle.generational_box.specs.Slotted.{cells_of, given_of, state_of, HasBegun, IsSlotted, entry_in, cell_found, own_cell_at, OnlyValues}
 use Rattle.generational_box.proofs.SlotCells.{get_cells, values_alone}
@@ -17,15 +17,15 @@ use Rattle.generational_box.proofs.SlotNames.{get_given}
 use Rattle.generational_box.proofs.SlotFound.{entry_cell}
 
 module _ {T : Type 0} where
-  empty_state : (number start next : ℕ) → state_of {T = T} number start next 0 [] ≡ fresh number start next
+  empty_state : (number start next : ℕ) → state_of {T = T} map.empty number start next 0 [] ≡ fresh number start next
   unfolding cells_of given_of
   empty_state number start next = refl
 
   -- a store without slots is fresh
   pub new_state : (number start next : ℕ) (slots : List (Entry T)) → slots ≡ []
-      → state_of number start next 0 slots ≡ fresh number start next
+      → state_of map.empty number start next 0 slots ≡ fresh number start next
   new_state number start next slots none =
-      ap (state_of number start next 0) none ∙ empty_state number start next
+      ap (state_of map.empty number start next 0) none ∙ empty_state number start next
 
   pub slotted_new : (free : set.FinSet nat_cmp) (rooms start : ℕ) (slots : List (Entry T))
       → free ≡ set.empty → slots ≡ [] → IsSlotted free rooms start 0 0 slots
@@ -40,16 +40,17 @@ module _ {T : Type 0} where
         bounded = omega arith;
       })
 
-  module _ {S : State T} (number start next peak : ℕ) (slots : List (Entry T))
-      (view : state_of number start next peak slots ≡ S) where
+  module _ {S : State T} {owners : Owners} (number start next peak : ℕ) (slots : List (Entry T))
+      (view : state_of owners number start next peak slots ≡ S) where
     no_slots : (xs : List (Entry T)) → length xs ≡ 0 → xs ≡ []
     no_slots [] e = refl
     no_slots (x ∷ xs) e = cc
 
-    pub fresh_of : peak ≤ length slots → length slots ≡ 0 → IsFresh S
-    fresh_of bounded none =
+    pub fresh_of : peak ≤ length slots → length slots ≡ 0 → owners ≡ map.empty → IsFresh S
+    fresh_of bounded none nobody =
         subst IsFresh view
-        (subst (λ p. IsFresh (state_of number start next p slots)) (sym unused) (new_state number start next slots (no_slots slots none)))
+        (subst (λ o. IsFresh (state_of o number start next peak slots)) (sym nobody)
+        (subst (λ p. IsFresh (state_of map.empty number start next p slots)) (sym unused) (new_state number start next slots (no_slots slots none))))
       where
         unused : peak ≡ 0
         unused = omega arith

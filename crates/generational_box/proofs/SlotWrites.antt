@@ -13,7 +13,7 @@ use Rattle.generational_box.specs.Cells.{Content, Cell}
 use Rattle.generational_box.specs.Cells.Content.{Here, Lent}
 use Rattle.generational_box.specs.Cells.Cell.{Value, Shared, Ref}
 use Rattle.generational_box.specs.Boxes.{name_in}
-use Rattle.generational_box.specs.State.{State}
+use Rattle.generational_box.specs.State.{State, Owners}
 use Rattle.generational_box.specs.Borrowing.{content_at, filled}
 use Rattle.generational_box.specs.Machine.{written_at, has_writer}
 use Rattle.generational_box.specs.Entry.{Entry, Kept, is_free, lent_to, with_value, content_in}
@@ -28,14 +28,14 @@ module _ {T : Type 0} where
   unborrowed_some (Some c) h = refl
 
   -- the slot of a cell without borrows
-  pub found_unborrowed : {S : State T} (number start next peak : ℕ) (slots : List (Entry T))
-      (id : GenerationalBoxId) → state_of number start next peak slots ≡ S
+  pub found_unborrowed : {S : State T} {owners : Owners} (number start next peak : ℕ) (slots : List (Entry T))
+      (id : GenerationalBoxId) → state_of owners number start next peak slots ≡ S
       → is_unborrowed (own_cell_at S id) ≡ true → IsFound number slots id
   found_unborrowed {S} number start next peak slots id view free =
       found number start next peak slots id view (unborrowed_some (own_cell_at S id) free)
 
-  module _ {S : State T} (number start next peak : ℕ) (slots : List (Entry T)) (id : GenerationalBoxId)
-      (view : state_of number start next peak slots ≡ S) where
+  module _ {S : State T} {owners : Owners} (number start next peak : ℕ) (slots : List (Entry T)) (id : GenerationalBoxId)
+      (view : state_of owners number start next peak slots ≡ S) where
     free_content : (free : is_unborrowed (own_cell_at S id) ≡ true) (f : IsFound number slots id)
         → is_free (Some f.content) ≡ true
     free_content free f =
@@ -55,11 +55,11 @@ module _ {T : Type 0} where
 
     -- a lent value is the machine's write
     pub write_state : (l : Location) (free : is_unborrowed (own_cell_at S id) ≡ true)
-        → state_of number start (next + 1) peak (entry_changed slots id.slot
+        → state_of owners number start (next + 1) peak (entry_changed slots id.slot
         (λ e. record e { kept = lent_to (record { ticket = next; location = l }) e.kept }))
         ≡ (written_at S l (Some (name_in id)) (content_at S (name_in id))).1
     write_state l free =
-        state-filled start (next + 1) peak f (Lent b) (lent_to b) refl
+        state-filled owners start (next + 1) peak f (Lent b) (lent_to b) refl
         ∙ at f.content (free_content free f) (content_seen number start next peak slots id view f)
       where
         f : IsFound number slots id
@@ -69,17 +69,17 @@ module _ {T : Type 0} where
         b = record { ticket = next; location = l }
 
         at : (c : Content T) → is_free (Some c) ≡ true → content_at S (name_in id) ≡ Some c
-            → filled (state_of number start (next + 1) peak slots) (name_in id) (Lent b)
+            → filled (state_of owners number start (next + 1) peak slots) (name_in id) (Lent b)
             ≡ (written_at S l (Some (name_in id)) (content_at S (name_in id))).1
         at (Here v rs) h seen = rw (seen, ← view) refl
         at (Lent w) h seen = absurd (false≢true h)
 
     -- a value that was put back is the machine's release
     pub back_state : (f : IsFound number slots id) (v : T)
-        → state_of number start next peak (entry_changed slots id.slot
+        → state_of owners number start next peak (entry_changed slots id.slot
         (λ e. record e { kept = with_value v e.kept })) ≡ filled S (name_in id) (Here v [])
     back_state f v =
-        state-filled start next peak f (Here v []) (with_value v) refl
+        state-filled owners start next peak f (Here v []) (with_value v) refl
         ∙ ap (λ (X : State T). filled X (name_in id) (Here v [])) view
 
     -- whether the writer stands
@@ -102,6 +102,6 @@ module _ {T : Type 0} where
 
     pub state_back : (f : IsFound number slots id) (v : T) (after : List (Entry T)) (r : Result (Unit {0}) T)
         → OnOk r (after ≡ entry_changed slots id.slot (λ e. record e { kept = with_value v e.kept }))
-        → OnOk r (state_of number start next peak after ≡ filled S (name_in id) (Here v []))
-    state_back f v after (Ok u) ok = ap (state_of number start next peak) ok ∙ back_state f v
+        → OnOk r (state_of owners number start next peak after ≡ filled S (name_in id) (Here v []))
+    state_back f v after (Ok u) ok = ap (state_of owners number start next peak) ok ∙ back_state f v
     state_back f v after (Err back) ok = tt

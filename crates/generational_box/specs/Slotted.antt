@@ -11,7 +11,7 @@ use Rattle.generational_box.specs.Boxes.{name_in}
 use Rattle.generational_box.specs.Cells.{Content, Cell, is_shared}
 use Rattle.generational_box.specs.Cells.Content.{Here, Lent}
 use Rattle.generational_box.specs.Cells.Cell.{Value, Shared, Ref}
-use Rattle.generational_box.specs.State.{State}
+use Rattle.generational_box.specs.State.{State, Owners}
 use Rattle.generational_box.specs.Entry.{Entry, Kept, is_live, valid_at, is_free}
 use Rattle.generational_box.specs.Entry.Kept.{Empty, Live}
 use Rattle.generational_box.specs.Slots.{last_generation}
@@ -53,14 +53,14 @@ module _ {T : Type 0} where
   unfoldable pub given_of : ℕ → List (Entry T) → Names
   given_of start slots = set.from_list (given_from start 0 slots)
 
-  -- the state for which a store's numbers and slots stand
-  abbrev pub state_of : ℕ → ℕ → ℕ → ℕ → List (Entry T) → State T
-  state_of number start next peak slots =
+  -- the state for which a store's owners, numbers and slots stand
+  abbrev pub state_of : Owners → ℕ → ℕ → ℕ → ℕ → List (Entry T) → State T
+  state_of owners number start next peak slots =
       record {
         number = number;
         cells = cells_of slots;
         given = given_of start slots;
-        owners = map.empty;
+        owners = owners;
         next = next;
         peak = peak;
         start = start;

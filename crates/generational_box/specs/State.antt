@@ -16,6 +16,11 @@ pub record Holding : Type 0 where
   pub names : List Name
   pub count : ℕ
 
+-- owners' records by their keys
+abbrev pub Owners : Type 0
+Owners = map.FinMap nat_cmp Holding
+
+-- What a store stands for.
 pub record State (T : Type 0) : Type 0 where
   -- the number by which stores tell their boxes apart
   pub number : ℕ
@@ -24,7 +29,7 @@ pub record State (T : Type 0) : Type 0 where
   -- all names ever given
   pub given : Names
   -- the records of owners, by their keys
-  pub owners : map.FinMap nat_cmp Holding
+  pub owners : Owners
   -- the next ticket
   pub next : ℕ
   -- the most cells that were live at once

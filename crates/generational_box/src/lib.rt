@@ -15,6 +15,7 @@ mod boxes;
 mod entry;
 mod error;
 mod laws;
+mod owners;
 mod pool;
 mod readers;
 mod references;

@@ -62,7 +62,7 @@ impl<T, P: SlotPool> Model for Store<T, P> {
 
     ghost coded = { Prim.hlevel (codes, map.code) };
 
-    ghost view = { λ s. state_of s.number s.start s.next s.peak s.slots.items };
+    ghost view = { λ s. state_of map.empty s.number s.start s.next s.peak s.slots.items };
 
     ghost invariant = { λ s. IsSlotted (P.members s.pool) (P.rooms s.pool) s.start s.live s.peak s.slots.items };
 }

@@ -1,0 +1,81 @@
+-- The records of owners, read at a key.
+use Rattle.std.proofs.Common.{◌≡◌, ℕ, ◌+◌, Bool, true, false, cond, List, [], ◌∷◌, ◌++◌, Option, None, Some, IfSome, IsSome, refl, sym, ap, ◌∙◌}
+use Rattle.std.specs.Prelude.{is_some, option_map, map as list_map}
+use Rattle.std.specs.Ordering.{nat_cmp, eq_by_cmp, is_eq}
+use Rattle.std.specs.Cmp.{nat_cmp_total}
+use Rattle.std.proofs.lemmas.Cmp.{eq_by_cmp_equiv}
+use Rattle.std.specs.FinMap as map
+use Rattle.std.specs.BTreeMap.{BTreeMap, get, is_at}
+use Rattle.std.specs.Map.{lookup}
+use Rattle.generational_box.specs.declared.owners.OwnerRecord.{OwnerRecord}
+use Rattle.generational_box.specs.Names.{changed, changed_if}
+use Rattle.generational_box.specs.State.{Holding, Owners}
+use Rattle.generational_box.specs.Records.{owners_of, holding_of}
+use Rattle.generational_box.proofs.Maps.{by_number, changed_there, get-changed_none}
+
+find_is : (q : ℕ) (es : List (ℕ × OwnerRecord))
+    → map.find nat_cmp q (list_map (λ (e : ℕ × OwnerRecord). (e.0, holding_of e.1)) es)
+    ≡ option_map holding_of (lookup (is_at (nat_cmp q)) es)
+find_is q [] = refl
+find_is q (e ∷ es) = at (is_eq (nat_cmp q e.0)) (find_is q es)
+  where
+    at : (b : Bool) → map.find nat_cmp q (list_map (λ (e : ℕ × OwnerRecord). (e.0, holding_of e.1)) es)
+        ≡ option_map holding_of (lookup (is_at (nat_cmp q)) es)
+        → cond b (Some (holding_of e.1)) (map.find nat_cmp q (list_map (λ (e : ℕ × OwnerRecord). (e.0, holding_of e.1)) es))
+        ≡ option_map holding_of (cond b (Some e.1) (lookup (is_at (nat_cmp q)) es))
+    at true rest = refl
+    at false rest = rest
+
+-- what the machine's map has under a key
+pub owners_get : (m : BTreeMap ℕ OwnerRecord) (q : ℕ)
+    → map.get (owners_of m) q ≡ option_map holding_of (get nat_cmp m q)
+owners_get m q =
+    map.get-from_entries nat_cmp_total (list_map (λ (e : ℕ × OwnerRecord). (e.0, holding_of e.1)) m.entries) q
+    ∙ find_is q m.entries
+
+module _ (m n : BTreeMap ℕ OwnerRecord) (k : ℕ) (v : Option OwnerRecord)
+    (updates : (q : ℕ) → get nat_cmp n q ≡ cond (is_at (nat_cmp k) q) v (get nat_cmp m q)) where
+  -- a change at one key
+  updated : (q : ℕ) → map.get (owners_of n) q
+      ≡ cond (eq_by_cmp nat_cmp q k) (option_map holding_of v) (map.get (owners_of m) q)
+  updated q =
+      owners_get n q
+      ∙ (ap (option_map holding_of) (updates q)
+      ∙ (at (is_at (nat_cmp k) q)
+      ∙ ap (λ b. cond b (option_map holding_of v) (map.get (owners_of m) q))
+      ((eq_by_cmp_equiv nat_cmp_total).symm k q)))
+    where
+      at : (b : Bool) → option_map holding_of (cond b v (get nat_cmp m q))
+          ≡ cond b (option_map holding_of v) (map.get (owners_of m) q)
+      at true = refl
+      at false = sym (owners_get m q)
+
+pub owners_insert : (m n : BTreeMap ℕ OwnerRecord) (k : ℕ) (r : OwnerRecord)
+    → ((q : ℕ) → get nat_cmp n q ≡ cond (is_at (nat_cmp k) q) (Some r) (get nat_cmp m q))
+    → owners_of n ≡ map.insert (owners_of m) k (holding_of r)
+owners_insert m n k r updates =
+    map.same_map nat_cmp_total map.nat_cmp-IsAntisymmetric _ _ (λ q.
+    updated m n k (Some r) updates q ∙ sym (map.get-insert nat_cmp_total (owners_of m) k (holding_of r) q))
+
+pub owners_remove : (m n : BTreeMap ℕ OwnerRecord) (k : ℕ)
+    → ((q : ℕ) → get nat_cmp n q ≡ cond (is_at (nat_cmp k) q) None (get nat_cmp m q))
+    → owners_of n ≡ map.remove (owners_of m) k
+owners_remove m n k updates =
+    map.same_map nat_cmp_total map.nat_cmp-IsAntisymmetric _ _ (λ q.
+    updated m n k None updates q ∙ sym (map.get-remove nat_cmp_total (owners_of m) k q))
+
+-- a record that is there is changed
+pub owners_changed : (m n : BTreeMap ℕ OwnerRecord) (k : ℕ) (r s : OwnerRecord) (f : Holding → Holding)
+    → Some r ≡ get nat_cmp m k
+    → ((q : ℕ) → get nat_cmp n q ≡ cond (is_at (nat_cmp k) q) (Some s) (get nat_cmp m q))
+    → holding_of s ≡ f (holding_of r)
+    → owners_of n ≡ changed (owners_of m) k f
+owners_changed m n k r s f there updates is =
+    owners_insert m n k s updates
+    ∙ (ap (map.insert (owners_of m) k) is
+    ∙ sym (changed_there by_number (owners_of m) k f (holding_of r)
+    (owners_get m k ∙ ap (option_map holding_of) (sym there))))
+
+pub owners_same : (m n : BTreeMap ℕ OwnerRecord) → n.entries ≡ m.entries → owners_of n ≡ owners_of m
+owners_same m n e =
+    ap (λ es. map.from_entries (list_map (λ (e : ℕ × OwnerRecord). (e.0, holding_of e.1)) es)) e

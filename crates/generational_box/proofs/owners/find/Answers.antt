@@ -1,0 +1,8 @@
+use Rattle.std.proofs.Common.{ap, sym, ◌∙◌}
+use Rattle.std.specs.Prelude.{option_map}
+use Rattle.generational_box.specs.Records.{holding_of}
+use Rattle.generational_box.proofs.OwnerMaps.{owners_get}
+use Rattle.generational_box.proofs.owners.find.Goals as goal
+
+pub returns : goal.returns
+returns c = ap (option_map holding_of) c.get.ensures.value ∙ sym (owners_get _ c.args.key)

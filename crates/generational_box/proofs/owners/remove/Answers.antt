@@ -1,0 +1,5 @@
+use Rattle.generational_box.proofs.OwnerMaps.{owners_remove}
+use Rattle.generational_box.proofs.owners.remove.Goals as goal
+
+pub returns : goal.returns
+returns c = owners_remove _ _ c.args.key c.remove.ensures.updates.0
