@@ -172,10 +172,19 @@ impl<T> StorageEntry<T> {
     }
 }
 
-// The answer to a write or an end where these readers stand.
+// The answer to a write or an end where these readers stand. Here the room for the answer is set
+// up, and so only where there is one.
+#[inline(always)]
+fn readers_error(readers: &Readers, alloc: Global) -> Refused<BorrowMutError>
+    requires { readers.now ≢ [] }
+    ensures { FoundReaders readers.now result }
+{
+    readers_error_apart(readers, alloc)
+}
+
 #[cold]
 #[inline(never)]
-fn readers_error(readers: &Readers, alloc: Global) -> Refused<BorrowMutError>
+fn readers_error_apart(readers: &Readers, alloc: Global) -> Refused<BorrowMutError>
     requires { readers.now ≢ [] }
     ensures { FoundReaders readers.now result }
 {
@@ -188,9 +197,16 @@ fn readers_error(readers: &Readers, alloc: Global) -> Refused<BorrowMutError>
 }
 
 // The answer to a write or an end where a writer stands.
+#[inline(always)]
+fn writer_error(writer: &Borrow) -> Refused<BorrowMutError>
+    ensures { result ≡ refused.Borrow (writes.AlreadyBorrowedMut (record { borrowed_mut_at = writer.now.location })) }
+{
+    writer_error_apart(writer)
+}
+
 #[cold]
 #[inline(never)]
-fn writer_error(writer: &Borrow) -> Refused<BorrowMutError>
+fn writer_error_apart(writer: &Borrow) -> Refused<BorrowMutError>
     ensures { result ≡ refused.Borrow (writes.AlreadyBorrowedMut (record { borrowed_mut_at = writer.now.location })) }
 {
     Refused::Borrow(BorrowMutError::AlreadyBorrowedMut(AlreadyBorrowedMutError::new(
