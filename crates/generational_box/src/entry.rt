@@ -77,7 +77,12 @@ impl<T> StorageEntry<T> {
     pub(crate) fn valid(&self, generation: u64) -> bool
         ensures { result ≡ valid_at generation self.now }
     {
-        self.generation == generation && !matches!(&self.data, StorageEntryData::Empty)
+        // an arm for each content: what is learnt here isn't asked again
+        match &self.data {
+            StorageEntryData::Data(_, _, _) => self.generation == generation,
+            StorageEntryData::Lent(_, _) => self.generation == generation,
+            StorageEntryData::Empty => false,
+        }
     }
 
     // The writer that stands in the way of a read.
