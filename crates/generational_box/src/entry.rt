@@ -83,8 +83,8 @@ impl<T> StorageEntry<T> {
     {
         // an arm for each content: what is learnt here isn't asked again
         match &self.data {
-            StorageEntryData::Data(_, _, _) => self.generation == generation,
-            StorageEntryData::Lent(_, _) => self.generation == generation,
+            StorageEntryData::Data(_, _) => self.generation == generation,
+            StorageEntryData::Lent(_) => self.generation == generation,
             StorageEntryData::Empty => false,
         }
     }
