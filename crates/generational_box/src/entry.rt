@@ -81,7 +81,12 @@ impl<T> StorageEntry<T> {
     pub(crate) fn valid(&self, generation: u64) -> bool
         ensures { result ≡ valid_at generation self.now }
     {
-        self.generation == generation && !matches!(&self.data, StorageEntryData::Empty)
+        // an arm for each content: what is learnt here isn't asked again
+        match &self.data {
+            StorageEntryData::Data(_, _) => self.generation == generation,
+            StorageEntryData::Lent(_) => self.generation == generation,
+            StorageEntryData::Empty => false,
+        }
     }
 
     // The writer that stands in the way of a read.
@@ -211,10 +216,19 @@ impl<T> StorageEntry<T> {
     }
 }
 
-// The answer to a write or an end where these readers stand.
+// The answer to a write or an end where these readers stand. Here the room for the answer is set
+// up, and so only where there is one.
+#[inline(always)]
+fn readers_error(readers: &Readers, alloc: Global) -> Refused<BorrowMutError>
+    requires { readers.now ≢ [] }
+    ensures { FoundReaders readers.now result }
+{
+    readers_error_apart(readers, alloc)
+}
+
 #[cold]
 #[inline(never)]
-fn readers_error(readers: &Readers, alloc: Global) -> Refused<BorrowMutError>
+fn readers_error_apart(readers: &Readers, alloc: Global) -> Refused<BorrowMutError>
     requires { readers.now ≢ [] }
     ensures { FoundReaders readers.now result }
 {
@@ -227,9 +241,16 @@ fn readers_error(readers: &Readers, alloc: Global) -> Refused<BorrowMutError>
 }
 
 // The answer to a write or an end where a writer stands.
+#[inline(always)]
+fn writer_error(writer: &Borrow) -> Refused<BorrowMutError>
+    ensures { result ≡ refused.Borrow (writes.AlreadyBorrowedMut (record { borrowed_mut_at = writer.now.location })) }
+{
+    writer_error_apart(writer)
+}
+
 #[cold]
 #[inline(never)]
-fn writer_error(writer: &Borrow) -> Refused<BorrowMutError>
+fn writer_error_apart(writer: &Borrow) -> Refused<BorrowMutError>
     ensures { result ≡ refused.Borrow (writes.AlreadyBorrowedMut (record { borrowed_mut_at = writer.now.location })) }
 {
     Refused::Borrow(BorrowMutError::AlreadyBorrowedMut(AlreadyBorrowedMutError::new(

@@ -1,6 +1,6 @@
 //! Free slots.
 
-ghost use Rattle.std.specs.Prelude.{◌≡◌, ℕ, ◌+◌, ◌<◌, true, false, IfSome, IfNone, OnOk, OnErr};
+ghost use Rattle.std.specs.Prelude.{◌≡◌, ℕ, ◌+◌, ◌<◌, ◌≤◌, true, false, IfSome, IfNone, OnOk, OnErr, vec_capacity};
 ghost use Rattle.std.specs.Ordering.{nat_cmp};
 ghost use Rattle.std.specs.FinSet as set;
 
@@ -81,10 +81,10 @@ impl SlotPool for LastFirst {
         }
     }
 
+    #[inline(always)]
     fn grow(&mut self) -> Result<(), StoreError> {
-        let more = self.room - self.slots.len() + 1;
-        if self.slots.reserve(more).is_err() {
-            return Err(StoreError::OutOfMemory);
+        if self.room == self.slots.capacity() {
+            reserve_more(&mut self.slots)?;
         }
         self.room += 1;
         Ok(())
@@ -105,4 +105,19 @@ impl SlotPool for LastFirst {
     fn room(&self) -> usize {
         self.room
     }
+}
+
+// Makes the buffer larger. Want of memory changes no slot.
+#[cold]
+#[inline(never)]
+fn reserve_more(slots: &mut Vec<usize>) -> Result<(), StoreError>
+    ensures slots { slots.new.items ≡ slots.old.items }
+    ensures capacity { vec_capacity slots.old ≤ vec_capacity slots.new }
+    ensures ok { OnOk result (vec_capacity slots.old < vec_capacity slots.new) }
+{
+    let spare = slots.capacity() - slots.len();
+    if slots.reserve(spare + 1).is_err() {
+        return Err(StoreError::OutOfMemory);
+    }
+    Ok(())
 }

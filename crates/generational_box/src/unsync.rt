@@ -315,8 +315,11 @@ fn make_room<T, P: SlotPool>(
     ensures ok { OnOk result (vec_len slots.new < vec_capacity slots.new) }
     ensures grown { OnOk result (vec_len slots.new < P.rooms pool.new) }
 {
-    if slots.len() < slots.capacity() && slots.len() < pool.room() {
-        return Ok(());
+    if slots.len() < slots.capacity() {
+        if slots.len() < pool.room() {
+            return Ok(());
+        }
+        return pool.grow();
     }
     grow(slots, pool)
 }

@@ -1,0 +1,65 @@
+//! The calls of the store that are measured, from the borrow to its release.
+
+use crate::element::Element;
+use generational_box::{GenerationalBox, Location, Refusal, Refused, Storage};
+use std::alloc::AllocError;
+
+/// The workload can't go on: a call was refused, as for want of memory.
+#[derive(Clone, Copy)]
+pub(crate) struct Stopped;
+
+impl From<AllocError> for Stopped {
+    fn from(_: AllocError) -> Stopped {
+        Stopped
+    }
+}
+
+impl<E: Drop> From<Refusal<E>> for Stopped {
+    fn from(_: Refusal<E>) -> Stopped {
+        Stopped
+    }
+}
+
+impl<E: Drop> From<Refused<E>> for Stopped {
+    fn from(_: Refused<E>) -> Stopped {
+        Stopped
+    }
+}
+
+// The place that every call names.
+#[inline(always)]
+fn here() -> Location {
+    Location::new("workload", 1, 1)
+}
+
+/// A box of a value.
+#[inline(always)]
+pub(crate) fn make<E: Element, S: Storage<E>>(
+    store: &mut S,
+    value: E,
+) -> Result<GenerationalBox<E>, Stopped> {
+    let made = GenerationalBox::leak(store, value, here())?;
+    Ok(made)
+}
+
+/// The digest of a box's value, which is borrowed and released.
+#[inline(always)]
+pub(crate) fn read<E: Element, S: Storage<E>>(
+    store: &mut S,
+    key: GenerationalBox<E>,
+) -> Result<u64, Stopped> {
+    let guard = key.try_read(store, here())?;
+    let digest = guard.deref(store).map(|value| value.digest());
+    guard.release(store);
+    digest.ok_or(Stopped)
+}
+
+/// Ends a box's value.
+#[inline(always)]
+pub(crate) fn end<E: Element, S: Storage<E>>(
+    store: &mut S,
+    key: GenerationalBox<E>,
+) -> Result<(), Stopped> {
+    key.manually_drop(store)?;
+    Ok(())
+}

@@ -1,0 +1,110 @@
+//! Whole workloads over a store, for C: what the store is measured by.
+//!
+//! Guards can't cross C, and a call is too short to be timed alone. So each export runs a workload
+//! of many calls and answers a checksum of the values that were seen, which is the same for every
+//! store that does the same work. Each workload has an export for `u64` and one for `String`; they
+//! are described in `docs/PERFORMANCE.md` at the repository's root.
+//!
+//! An export answers 1 where memory was refused, and 0 for a workload that isn't there yet.
+#![tactic(auto)]
+
+mod calls;
+mod element;
+mod random;
+mod workloads;
+
+ghost use Rattle.std.specs.Prelude.{◌≡◌};
+
+use crate::workloads::{answer, churn, insert_and_read, read_often};
+use generational_box::UnsyncStorage;
+use std::alloc::Global;
+
+/// w1 over numbers: values are made, read once in a shuffled order, and ended.
+#[unsafe(no_mangle)]
+pub extern "C" fn gbox_w1_u64(alloc: Global, n: u64, seed: u64) -> u64 {
+    let mut store = UnsyncStorage::<u64>::new(alloc, 1);
+    answer(insert_and_read(alloc, &mut store, n, seed))
+}
+
+/// w1 over texts.
+#[unsafe(no_mangle)]
+pub extern "C" fn gbox_w1_text(alloc: Global, n: u64, seed: u64) -> u64 {
+    let mut store = UnsyncStorage::<String>::new(alloc, 1);
+    answer(insert_and_read(alloc, &mut store, n, seed))
+}
+
+/// w2 over numbers: values are ended, and others made in their place.
+#[unsafe(no_mangle)]
+pub extern "C" fn gbox_w2_u64(alloc: Global, n: u64, seed: u64) -> u64 {
+    let mut store = UnsyncStorage::<u64>::new(alloc, 1);
+    answer(churn(alloc, &mut store, n, seed))
+}
+
+/// w2 over texts.
+#[unsafe(no_mangle)]
+pub extern "C" fn gbox_w2_text(alloc: Global, n: u64, seed: u64) -> u64 {
+    let mut store = UnsyncStorage::<String>::new(alloc, 1);
+    answer(churn(alloc, &mut store, n, seed))
+}
+
+/// w3 over numbers: values are read, ten times each on average.
+#[unsafe(no_mangle)]
+pub extern "C" fn gbox_w3_u64(alloc: Global, n: u64, seed: u64) -> u64 {
+    let mut store = UnsyncStorage::<u64>::new(alloc, 1);
+    answer(read_often(alloc, &mut store, n, seed))
+}
+
+/// w3 over texts.
+#[unsafe(no_mangle)]
+pub extern "C" fn gbox_w3_text(alloc: Global, n: u64, seed: u64) -> u64 {
+    let mut store = UnsyncStorage::<String>::new(alloc, 1);
+    answer(read_often(alloc, &mut store, n, seed))
+}
+
+/// w4 over numbers: values are replaced by others.
+#[unsafe(no_mangle)]
+pub extern "C" fn gbox_w4_u64(_alloc: Global, _n: u64, _seed: u64) -> u64
+    ensures { result ≡ 0 }
+{
+    0
+}
+
+/// w4 over texts.
+#[unsafe(no_mangle)]
+pub extern "C" fn gbox_w4_text(_alloc: Global, _n: u64, _seed: u64) -> u64
+    ensures { result ≡ 0 }
+{
+    0
+}
+
+/// w5 over numbers: owners are made, and end their values.
+#[unsafe(no_mangle)]
+pub extern "C" fn gbox_w5_u64(_alloc: Global, _n: u64, _seed: u64) -> u64
+    ensures { result ≡ 0 }
+{
+    0
+}
+
+/// w5 over texts.
+#[unsafe(no_mangle)]
+pub extern "C" fn gbox_w5_text(_alloc: Global, _n: u64, _seed: u64) -> u64
+    ensures { result ≡ 0 }
+{
+    0
+}
+
+/// w6 over numbers: references to shared values are pointed at others.
+#[unsafe(no_mangle)]
+pub extern "C" fn gbox_w6_u64(_alloc: Global, _n: u64, _seed: u64) -> u64
+    ensures { result ≡ 0 }
+{
+    0
+}
+
+/// w6 over texts.
+#[unsafe(no_mangle)]
+pub extern "C" fn gbox_w6_text(_alloc: Global, _n: u64, _seed: u64) -> u64
+    ensures { result ≡ 0 }
+{
+    0
+}

@@ -1,0 +1,183 @@
+//! The workloads, each over an empty store.
+
+ghost use Rattle.std.specs.Prelude.{◌<◌, ◌≡◌, IfOk, length, vec_len};
+
+use crate::calls::{Stopped, end, make, read};
+use crate::element::Element;
+use crate::random::Random;
+use generational_box::{GenerationalBox, Storage};
+use std::alloc::Global;
+
+// A checksum before any value was seen.
+const START: u64 = 0xcbf2_9ce4_8422_2325;
+
+// The number that each step of a checksum multiplies by.
+const FACTOR: u64 = 0x100_0000_01b3;
+
+/// What an export answers.
+pub(crate) fn answer(outcome: Result<u64, Stopped>) -> u64 {
+    outcome.unwrap_or(1)
+}
+
+/// w1: values are made, read once in a shuffled order, and ended.
+#[inline(always)]
+pub(crate) fn insert_and_read<E: Element, S: Storage<E>>(
+    alloc: Global,
+    store: &mut S,
+    n: u64,
+    seed: u64,
+) -> Result<u64, Stopped> {
+    let n = count(n)?;
+    let mut random = Random::new(seed);
+    let mut keys = make_many(alloc, store, &mut random, n)?;
+    shuffle(&mut random, &mut keys);
+    let checksum = read_each(store, &keys)?;
+    end_each(store, &keys)?;
+    Ok(checksum)
+}
+
+/// w2: values are made; 10n times one is ended and another made in its place; each is read, and
+/// ended.
+#[inline(always)]
+pub(crate) fn churn<E: Element, S: Storage<E>>(
+    alloc: Global,
+    store: &mut S,
+    n: u64,
+    seed: u64,
+) -> Result<u64, Stopped> {
+    let n = count(n)?;
+    let mut random = Random::new(seed);
+    let mut keys = make_many(alloc, store, &mut random, n)?;
+    for _round in 0..10 {
+        replace_some(alloc, store, &mut random, &mut keys)?;
+    }
+    let checksum = read_each(store, &keys)?;
+    end_each(store, &keys)?;
+    Ok(checksum)
+}
+
+/// w3: values are made; 10n times one is read; each is ended.
+#[inline(always)]
+pub(crate) fn read_often<E: Element, S: Storage<E>>(
+    alloc: Global,
+    store: &mut S,
+    n: u64,
+    seed: u64,
+) -> Result<u64, Stopped> {
+    let n = count(n)?;
+    let mut random = Random::new(seed);
+    let keys = make_many(alloc, store, &mut random, n)?;
+    let mut checksum = START;
+    for _round in 0..10 {
+        checksum = read_some(store, &mut random, &keys, checksum)?;
+    }
+    end_each(store, &keys)?;
+    Ok(checksum)
+}
+
+// How many values there are to be. For more than so many no memory would be found.
+fn count(n: u64) -> Result<usize, Stopped>
+    ensures { IfOk result (λ count. count < 4294967296) }
+{
+    match u32::try_from(n) {
+        Ok(few) => Ok(few as usize),
+        Err(_) => Err(Stopped),
+    }
+}
+
+// The checksum after one more value was seen.
+#[inline(always)]
+fn mix(checksum: u64, digest: u64) -> u64 {
+    (checksum ^ digest).wrapping_mul(FACTOR)
+}
+
+// Boxes of `n` values, in the order of making.
+#[inline(always)]
+fn make_many<E: Element, S: Storage<E>>(
+    alloc: Global,
+    store: &mut S,
+    random: &mut Random,
+    n: usize,
+) -> Result<Vec<GenerationalBox<E>>, Stopped>
+    ensures { IfOk result (λ keys. vec_len keys ≡ n) }
+{
+    let mut keys = Vec::with_capacity(alloc, n)?;
+    for _made in 0..n {
+        let value = E::of_word(alloc, random.word())?;
+        keys.push_reserved(make(store, value)?);
+    }
+    Ok(keys)
+}
+
+// Puts the keys into an order that is drawn.
+#[inline(always)]
+fn shuffle<K>(random: &mut Random, keys: &mut [K])
+    requires { length keys.old < 4294967296 }
+{
+    for i in (1..keys.len()).rev() {
+        let other = random.below(i + 1);
+        keys.swap(i, other);
+    }
+}
+
+// Reads each value, in the order of the keys.
+#[inline(always)]
+fn read_each<E: Element, S: Storage<E>>(
+    store: &mut S,
+    keys: &[GenerationalBox<E>],
+) -> Result<u64, Stopped> {
+    let mut checksum = START;
+    for key in keys {
+        checksum = mix(checksum, read(store, *key)?);
+    }
+    Ok(checksum)
+}
+
+// Reads values that are drawn, as many as there are keys.
+#[inline(always)]
+fn read_some<E: Element, S: Storage<E>>(
+    store: &mut S,
+    random: &mut Random,
+    keys: &[GenerationalBox<E>],
+    checksum: u64,
+) -> Result<u64, Stopped>
+    requires { length keys.now < 4294967296 }
+{
+    let mut checksum = checksum;
+    for _read in 0..keys.len() {
+        let key = keys[random.below(keys.len())];
+        checksum = mix(checksum, read(store, key)?);
+    }
+    Ok(checksum)
+}
+
+// Ends values that are drawn, as many as there are keys, and makes others in their place.
+#[inline(always)]
+fn replace_some<E: Element, S: Storage<E>>(
+    alloc: Global,
+    store: &mut S,
+    random: &mut Random,
+    keys: &mut [GenerationalBox<E>],
+) -> Result<(), Stopped>
+    requires { length keys.old < 4294967296 }
+{
+    for _replaced in 0..keys.len() {
+        let i = random.below(keys.len());
+        end(store, keys[i])?;
+        let value = E::of_word(alloc, random.word())?;
+        keys[i] = make(store, value)?;
+    }
+    Ok(())
+}
+
+// Ends each value, in the order of the keys.
+#[inline(always)]
+fn end_each<E: Element, S: Storage<E>>(
+    store: &mut S,
+    keys: &[GenerationalBox<E>],
+) -> Result<(), Stopped> {
+    for key in keys {
+        end(store, *key)?;
+    }
+    Ok(())
+}
