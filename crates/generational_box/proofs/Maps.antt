@@ -104,6 +104,19 @@ module _ {K : Type 0} {R : K → K → Ordering} (o : IsKeyOrder R) where
     unfolding changed
     changed_there m k f x h = ap (changed_if m k f) h
 
+    -- what stands at a key, put there again
+    pub insert_there : (m : map.FinMap R X) (k : K) (x : X) → map.get m k ≡ Some x
+        → map.insert m k x ≡ m
+    insert_there m k x there = map.same_map o.total o.exact _ _ same
+      where
+        at : (q : K) → (q ≡ k) ⊎ (q ≢ k) → map.get (map.insert m k x) q ≡ map.get m q
+        at q (inl e) =
+            ap (map.get (map.insert m k x)) e
+            ∙ (get-insert_here m k x ∙ (sym there ∙ ap (map.get m) (sym e)))
+        at q (inr ne) = get-insert_apart m k x q ne
+        same : (q : K) → map.get (map.insert m k x) q ≡ map.get m q
+        same q = at q (key_cases q k)
+
     pub get-changed_none : (m : map.FinMap R X) (k : K) (f : X → X)
         → map.get m k ≡ None → changed m k f ≡ m
     unfolding changed

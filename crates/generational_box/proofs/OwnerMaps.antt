@@ -1,17 +1,17 @@
 -- The records of owners, read at a key.
-use Rattle.std.proofs.Common.{◌≡◌, ℕ, ◌+◌, Bool, true, false, cond, List, [], ◌∷◌, ◌++◌, Option, None, Some, IfSome, IsSome, refl, sym, ap, ◌∙◌}
+use Rattle.std.proofs.Common.{◌≡◌, ℕ, ◌+◌, Bool, true, false, cond, List, [], ◌∷◌, ◌++◌, Option, None, Some, IfSome, IsSome, refl, sym, ap, subst, ◌∙◌}
 use Rattle.std.specs.Prelude.{is_some, option_map, map as list_map}
 use Rattle.std.specs.Ordering.{nat_cmp, eq_by_cmp, is_eq}
 use Rattle.std.specs.Cmp.{nat_cmp_total}
 use Rattle.std.proofs.lemmas.Cmp.{eq_by_cmp_equiv}
 use Rattle.std.specs.FinMap as map
-use Rattle.std.specs.BTreeMap.{BTreeMap, get, is_at}
+use Rattle.std.specs.BTreeMap.{BTreeMap, get, is_at, WritesThrough}
 use Rattle.std.specs.Map.{lookup}
 use Rattle.generational_box.specs.declared.owners.OwnerRecord.{OwnerRecord}
 use Rattle.generational_box.specs.Names.{changed, changed_if}
 use Rattle.generational_box.specs.State.{Holding, Owners}
 use Rattle.generational_box.specs.Records.{owners_of, holding_of}
-use Rattle.generational_box.proofs.Maps.{by_number, changed_there, get-changed_none}
+use Rattle.generational_box.proofs.Maps.{by_number, changed_there, insert_there}
 
 find_is : (q : ℕ) (es : List (ℕ × OwnerRecord))
     → map.find nat_cmp q (list_map (λ (e : ℕ × OwnerRecord). (e.0, holding_of e.1)) es)
@@ -79,3 +79,34 @@ owners_changed m n k r s f there updates is =
 pub owners_same : (m n : BTreeMap ℕ OwnerRecord) → n.entries ≡ m.entries → owners_of n ≡ owners_of m
 owners_same m n e =
     ap (λ es. map.from_entries (list_map (λ (e : ℕ × OwnerRecord). (e.0, holding_of e.1)) es)) e
+
+-- a record is written through what `get_mut` lent
+pub owners_written : (m n : BTreeMap ℕ OwnerRecord) (k : ℕ) (r s : OwnerRecord) (f : Holding → Holding)
+    → Some r ≡ get nat_cmp m k → WritesThrough nat_cmp (nat_cmp k) m s n
+    → holding_of s ≡ f (holding_of r) → owners_of n ≡ changed (owners_of m) k f
+owners_written m n k r s f there through is =
+    owners_changed m n k r s f there (through.3 (subst IsSome there refl)).0 is
+
+-- nothing is changed where there is no record
+pub owners_absent : (m n : BTreeMap ℕ OwnerRecord) (k : ℕ) (f : Holding → Holding)
+    → None ≡ get nat_cmp m k → n ≡ m → owners_of n ≡ changed (owners_of m) k f
+unfolding changed
+owners_absent m n k f absent same =
+    ap owners_of same
+    ∙ sym (ap (changed_if (owners_of m) k f) (owners_get m k ∙ ap (option_map holding_of) (sym absent)))
+
+-- what holds of the machine's record holds of the one that is there
+pub owners_hold : (P : Holding → Type 0) (m : BTreeMap ℕ OwnerRecord) (k : ℕ) (r : OwnerRecord)
+    → IfSome (map.get (owners_of m) k) P → Some r ≡ get nat_cmp m k → P (holding_of r)
+owners_hold P m k r holds there =
+    subst (λ o. IfSome o P) (owners_get m k ∙ ap (option_map holding_of) (sym there)) holds
+
+-- a record is written as it was
+pub owners_kept : (m n : BTreeMap ℕ OwnerRecord) (k : ℕ) (r s : OwnerRecord)
+    → Some r ≡ get nat_cmp m k → WritesThrough nat_cmp (nat_cmp k) m s n
+    → holding_of s ≡ holding_of r → owners_of n ≡ owners_of m
+owners_kept m n k r s there through is =
+    owners_insert m n k s (through.3 (subst IsSome there refl)).0
+    ∙ (ap (map.insert (owners_of m) k) is
+    ∙ insert_there by_number (owners_of m) k (holding_of r)
+    (owners_get m k ∙ ap (option_map holding_of) (sym there)))

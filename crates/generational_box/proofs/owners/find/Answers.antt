@@ -5,4 +5,4 @@ use Rattle.generational_box.proofs.OwnerMaps.{owners_get}
 use Rattle.generational_box.proofs.owners.find.Goals as goal
 
 pub returns : goal.returns
-returns c = ap (option_map holding_of) c.get.ensures.value ∙ sym (owners_get _ c.args.key)
+returns c = ap (option_map holding_of) c.get.ensures.value ∙ sym (owners_get c.args.owners.now c.args.key)
