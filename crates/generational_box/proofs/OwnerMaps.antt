@@ -1,17 +1,18 @@
 -- The records of owners, read at a key.
-use Rattle.std.proofs.Common.{◌≡◌, ℕ, ◌+◌, Bool, true, false, cond, List, [], ◌∷◌, ◌++◌, Option, None, Some, IfSome, IsSome, refl, sym, ap, subst, ◌∙◌}
+use Rattle.std.proofs.Common.{◌≡◌, ℕ, ◌+◌, Bool, true, false, cond, List, [], ◌∷◌, ◌++◌, Option, None, Some, IfSome, IsSome, arith, refl, sym, ap, subst, ◌∙◌}
 use Rattle.std.specs.Prelude.{is_some, option_map, map as list_map}
 use Rattle.std.specs.Ordering.{nat_cmp, eq_by_cmp, is_eq}
 use Rattle.std.specs.Cmp.{nat_cmp_total}
 use Rattle.std.proofs.lemmas.Cmp.{eq_by_cmp_equiv}
+use Rattle.std.proofs.lemmas.Option.{none-some}
 use Rattle.std.specs.FinMap as map
 use Rattle.std.specs.BTreeMap.{BTreeMap, get, is_at, WritesThrough}
 use Rattle.std.specs.Map.{lookup}
 use Rattle.generational_box.specs.declared.owners.OwnerRecord.{OwnerRecord}
 use Rattle.generational_box.specs.Names.{changed, changed_if}
 use Rattle.generational_box.specs.State.{Holding, Owners}
-use Rattle.generational_box.specs.Records.{owners_of, holding_of}
-use Rattle.generational_box.proofs.Maps.{by_number, changed_there, insert_there}
+use Rattle.generational_box.specs.Records.{owners_of, holding_of, AreCounted, IsCounted}
+use Rattle.generational_box.proofs.Maps.{by_number, key_here, changed_there, insert_there}
 
 find_is : (q : ℕ) (es : List (ℕ × OwnerRecord))
     → map.find nat_cmp q (list_map (λ (e : ℕ × OwnerRecord). (e.0, holding_of e.1)) es)
@@ -110,3 +111,40 @@ owners_kept m n k r s there through is =
     ∙ (ap (map.insert (owners_of m) k) is
     ∙ insert_there by_number (owners_of m) k (holding_of r)
     (owners_get m k ∙ ap (option_map holding_of) (sym there)))
+
+-- ---- no records
+
+pub owners_empty : (m : BTreeMap ℕ OwnerRecord) → m.entries ≡ [] → owners_of m ≡ map.empty
+owners_empty m none =
+    map.same_map nat_cmp_total map.nat_cmp-IsAntisymmetric _ _ (λ q.
+    owners_get m q
+    ∙ (ap (λ es. option_map holding_of (lookup (is_at (nat_cmp q)) es)) none
+    ∙ sym (map.get-empty nat_cmp q)))
+
+pub owners_none : (m : BTreeMap ℕ OwnerRecord) → owners_of m ≡ map.empty → m.entries ≡ []
+owners_none m nobody = at m.entries refl
+  where
+    first : (e : ℕ × OwnerRecord) (es : List (ℕ × OwnerRecord)) → m.entries ≡ e ∷ es
+        → None ≡ Some (holding_of e.1)
+    first e es is =
+        sym (map.get-empty nat_cmp e.0)
+        ∙ (ap (λ o. map.get o e.0) (sym nobody)
+        ∙ (owners_get m e.0
+        ∙ (ap (λ xs. option_map holding_of (lookup (is_at (nat_cmp e.0)) xs)) is
+        ∙ ap (λ b. option_map holding_of (cond b (Some e.1) (lookup (is_at (nat_cmp e.0)) es))) (key_here by_number e.0))))
+    at : (es : List (ℕ × OwnerRecord)) → m.entries ≡ es → m.entries ≡ []
+    at [] is = is
+    at (e ∷ es) is = absurd (none-some (holding_of e.1) (first e es is))
+
+-- ---- counts
+
+pub counted_empty : (next : ℕ) (m : BTreeMap ℕ OwnerRecord) → m.entries ≡ [] → AreCounted next m
+counted_empty next m none k =
+    subst (IsCounted next) (sym (ap (lookup (is_at (nat_cmp k))) none)) tt
+
+pub counted_more : (next : ℕ) (m : BTreeMap ℕ OwnerRecord) → AreCounted next m → AreCounted (next + 1) m
+counted_more next m counted k = at (get nat_cmp m k) (counted k)
+  where
+    at : (o : Option OwnerRecord) → IsCounted next o → IsCounted (next + 1) o
+    at None c = tt
+    at (Some r) c = (c.0, omega (arith, c.1))

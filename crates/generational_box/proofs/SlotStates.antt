@@ -22,10 +22,12 @@ module _ {T : Type 0} where
   empty_state number start next = refl
 
   -- a store without slots is fresh
-  pub new_state : (number start next : ℕ) (slots : List (Entry T)) → slots ≡ []
-      → state_of map.empty number start next 0 slots ≡ fresh number start next
-  new_state number start next slots none =
-      ap (state_of map.empty number start next 0) none ∙ empty_state number start next
+  pub new_state : (owners : Owners) (number start next : ℕ) (slots : List (Entry T))
+      → owners ≡ map.empty → slots ≡ []
+      → state_of owners number start next 0 slots ≡ fresh number start next
+  new_state owners number start next slots nobody none =
+      ap (λ o. state_of o number start next 0 slots) nobody
+      ∙ (ap (state_of map.empty number start next 0) none ∙ empty_state number start next)
 
   pub slotted_new : (free : set.FinSet nat_cmp) (rooms start : ℕ) (slots : List (Entry T))
       → free ≡ set.empty → slots ≡ [] → IsSlotted free rooms start 0 0 slots
@@ -50,7 +52,8 @@ module _ {T : Type 0} where
     fresh_of bounded none nobody =
         subst IsFresh view
         (subst (λ o. IsFresh (state_of o number start next peak slots)) (sym nobody)
-        (subst (λ p. IsFresh (state_of map.empty number start next p slots)) (sym unused) (new_state number start next slots (no_slots slots none))))
+        (subst (λ p. IsFresh (state_of map.empty number start next p slots)) (sym unused)
+        (new_state map.empty number start next slots refl (no_slots slots none))))
       where
         unused : peak ≡ 0
         unused = omega arith

@@ -1,5 +1,5 @@
 -- The records of owners, as the machine sees them.
-use Rattle.std.specs.Prelude.{ℕ, ◌+◌, ◌-◌, ◌<◌, List, [], ◌∷◌, ◌++◌, IfSome, vec_len, vec_capacity, map as list_map}
+use Rattle.std.specs.Prelude.{ℕ, ◌+◌, ◌-◌, ◌<◌, ◌≤◌, Option, None, Some, List, [], ◌∷◌, ◌++◌, IfSome, vec_len, vec_capacity, map as list_map}
 use Rattle.std.specs.Ordering.{nat_cmp}
 use Rattle.std.specs.FinMap as map
 use Rattle.std.specs.BTreeMap.{BTreeMap, get}
@@ -32,3 +32,11 @@ one_listed n h = record h { names = h.names ++ n ∷ [] }
 -- the list under a key has room for one box more
 abbrev pub HasRoom : BTreeMap ℕ OwnerRecord → ℕ → Type 0
 HasRoom m key = IfSome (get nat_cmp m key) (λ r. vec_len r.boxes < vec_capacity r.boxes)
+
+-- Each record stands for an owner value at least, and for no more than tickets were given.
+abbrev pub IsCounted : ℕ → Option OwnerRecord → Type 0
+IsCounted next None = Unit {0}
+IsCounted next (Some r) = (0 < r.count) × (r.count ≤ next)
+
+abbrev pub AreCounted : ℕ → BTreeMap ℕ OwnerRecord → Type 0
+AreCounted next m = (key : ℕ) → IsCounted next (get nat_cmp m key)

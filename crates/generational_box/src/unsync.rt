@@ -24,10 +24,12 @@ use crate::error::{
     AlreadyBorrowedMutError, BorrowError, BorrowMutError, BorrowMutResult, BorrowResult, Location,
     Refusal, Refused, StoreError, ValueDroppedError,
 };
+use crate::owners::OwnerRecord;
 use crate::pool::{LastFirst, SlotPool};
 use crate::references::{GenerationalRef, GenerationalRefMut};
 use crate::storage::{AnyStorage, Storage};
 use std::alloc::{AllocError, Global};
+use std::collections::BTreeMap;
 use std::marker::Model;
 
 /// A store of values of one type in recycled slots. Contracts see it as the state of the abstract
@@ -47,6 +49,8 @@ pub struct Store<T, P: SlotPool> {
     peak: usize,
     slots: Vec<StorageEntry<T>>,
     pool: P,
+    // the records of owners, by their keys
+    owners: BTreeMap<u64, OwnerRecord>,
 }
 
 /// The store that takes the slot that was freed last.
@@ -57,14 +61,15 @@ impl<T, P: SlotPool> Model for Store<T, P> {
     ghost use Rattle.std.specs.FinMap as map;
     ghost use Rattle.generational_box.specs.State.{State};
     ghost use Rattle.generational_box.specs.Slotted.{state_of, IsSlotted};
+    ghost use Rattle.generational_box.specs.Records.{owners_of, AreCounted};
 
     ghost Value = { State T };
 
     ghost coded = { Prim.hlevel (codes, map.code) };
 
-    ghost view = { λ s. state_of map.empty s.number s.start s.next s.peak s.slots.items };
+    ghost view = { λ s. state_of (owners_of s.owners) s.number s.start s.next s.peak s.slots.items };
 
-    ghost invariant = { λ s. IsSlotted (P.members s.pool) (P.rooms s.pool) s.start s.live s.peak s.slots.items };
+    ghost invariant = { λ s. IsSlotted (P.members s.pool) (P.rooms s.pool) s.start s.live s.peak s.slots.items × AreCounted s.next s.owners };
 }
 
 /// Where a store's numbers begin.
@@ -106,6 +111,7 @@ impl<T, P: SlotPool> Store<T, P> {
             peak: 0,
             slots: Vec::new(alloc),
             pool: P::new(alloc),
+            owners: BTreeMap::new(alloc),
         }
     }
 }
@@ -366,7 +372,7 @@ impl<T: Drop, P: SlotPool> AnyStorage<T> for Store<T, P> {
     }
 
     fn is_fresh(&self) -> bool {
-        self.slots.is_empty()
+        self.slots.is_empty() && self.owners.is_empty()
     }
 
     #[inline(always)]

@@ -3,6 +3,7 @@ use Rattle.generational_box.specs.Cells.Content.{Lent}
 use Rattle.generational_box.specs.Entry.{lent_to}
 use Rattle.generational_box.proofs.SlotBorrows.{found_within, slotted-filled}
 use Rattle.generational_box.proofs.SlotWrites.{found_unborrowed, free_seen, lent_seen, write_state}
+use Rattle.generational_box.proofs.OwnerMaps.{counted_more}
 use Rattle.generational_box.proofs.unsync.Store.begin_write.Goals as goal
 
 pub lend_value-requires-clause-within : goal.lend_value-requires-clause-within
@@ -17,8 +18,9 @@ lend_value-requires-clause-free g c =
 pub invariant_of-self : goal.invariant_of-self
 invariant_of-self g c =
     let f = found_unborrowed _ _ _ _ _ c.args.id c.self.view_is c.requires.free in
-    rw c.lend_value.ensures.after
-    (slotted-filled _ _ _ _ _ f (Lent _) (lent_to _) refl c.self.invariant)
+    (rw c.lend_value.ensures.after
+    (slotted-filled _ _ _ _ _ f (Lent _) (lent_to _) refl c.self.invariant.0),
+    counted_more _ c.self.inside.owners c.self.invariant.1)
 
 pub returns-clause-value : goal.returns-clause-value
 returns-clause-value g c =
