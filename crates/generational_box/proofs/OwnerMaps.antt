@@ -1,5 +1,5 @@
 -- The records of owners, read at a key.
-use Rattle.std.proofs.Common.{◌≡◌, ℕ, ◌+◌, Bool, true, false, cond, List, [], ◌∷◌, ◌++◌, Option, None, Some, IfSome, IsSome, arith, refl, sym, ap, subst, ◌∙◌}
+use Rattle.std.proofs.Common.{◌≡◌, ◌≢◌, ◌⊎◌, inl, inr, ℕ, ◌+◌, Bool, true, false, cond, List, [], ◌∷◌, ◌++◌, Option, None, Some, IfSome, IsSome, arith, refl, sym, ap, subst, ◌∙◌}
 use Rattle.std.specs.Prelude.{is_some, option_map, map as list_map}
 use Rattle.std.specs.Ordering.{nat_cmp, eq_by_cmp, is_eq}
 use Rattle.std.specs.Cmp.{nat_cmp_total}
@@ -12,7 +12,7 @@ use Rattle.generational_box.specs.declared.owners.OwnerRecord.{OwnerRecord}
 use Rattle.generational_box.specs.Names.{changed, changed_if}
 use Rattle.generational_box.specs.State.{Holding, Owners}
 use Rattle.generational_box.specs.Records.{owners_of, holding_of, AreCounted, IsCounted}
-use Rattle.generational_box.proofs.Maps.{by_number, key_here, changed_there, insert_there}
+use Rattle.generational_box.proofs.Maps.{by_number, key_here, key_cases, changed_there, insert_there, get-insert_here, get-insert_apart, get-remove_here, get-remove_apart}
 
 find_is : (q : ℕ) (es : List (ℕ × OwnerRecord))
     → map.find nat_cmp q (list_map (λ (e : ℕ × OwnerRecord). (e.0, holding_of e.1)) es)
@@ -138,13 +138,40 @@ owners_none m nobody = at m.entries refl
 
 -- ---- counts
 
-pub counted_empty : (next : ℕ) (m : BTreeMap ℕ OwnerRecord) → m.entries ≡ [] → AreCounted next m
-counted_empty next m none k =
-    subst (IsCounted next) (sym (ap (lookup (is_at (nat_cmp k))) none)) tt
+pub counted_empty : (next : ℕ) → AreCounted next map.empty
+counted_empty next k = subst (IsCounted next) (sym (map.get-empty nat_cmp k)) tt
 
-pub counted_more : (next : ℕ) (m : BTreeMap ℕ OwnerRecord) → AreCounted next m → AreCounted (next + 1) m
-counted_more next m counted k = at (get nat_cmp m k) (counted k)
+more : (next : ℕ) (o : Option Holding) → IsCounted next o → IsCounted (next + 1) o
+more next None c = tt
+more next (Some h) c = (c.0, omega (arith, c.1))
+
+pub counted_more : (next : ℕ) (owners : Owners) → AreCounted next owners → AreCounted (next + 1) owners
+counted_more next owners counted k = more next (map.get owners k) (counted k)
+
+pub counted_insert : (next : ℕ) (owners : Owners) (k : ℕ) (h : Holding) → AreCounted next owners
+    → IsCounted next (Some h) → AreCounted next (map.insert owners k h)
+counted_insert next owners k h counted one q = at (key_cases by_number q k)
   where
-    at : (o : Option OwnerRecord) → IsCounted next o → IsCounted (next + 1) o
-    at None c = tt
-    at (Some r) c = (c.0, omega (arith, c.1))
+    at : (q ≡ k) ⊎ (q ≢ k) → IsCounted next (map.get (map.insert owners k h) q)
+    at (inl e) = subst (IsCounted next) (sym (ap (map.get (map.insert owners k h)) e ∙ get-insert_here by_number owners k h)) one
+    at (inr ne) = subst (IsCounted next) (sym (get-insert_apart by_number owners k h q ne)) (counted q)
+
+pub counted_remove : (next : ℕ) (owners : Owners) (k : ℕ) → AreCounted next owners
+    → AreCounted next (map.remove owners k)
+counted_remove next owners k counted q = at (key_cases by_number q k)
+  where
+    at : (q ≡ k) ⊎ (q ≢ k) → IsCounted next (map.get (map.remove owners k) q)
+    at (inl e) = subst (IsCounted next) (sym (ap (map.get (map.remove owners k)) e ∙ get-remove_here by_number owners k)) tt
+    at (inr ne) = subst (IsCounted next) (sym (get-remove_apart by_number owners k q ne)) (counted q)
+
+-- a record is changed and stays counted
+pub counted_changed : (next : ℕ) (owners : Owners) (k : ℕ) (f : Holding → Holding) → AreCounted next owners
+    → ((h : Holding) → map.get owners k ≡ Some h → IsCounted next (Some h) → IsCounted next (Some (f h)))
+    → AreCounted next (changed owners k f)
+unfolding changed
+counted_changed next owners k f counted keeps = at (map.get owners k) refl
+  where
+    at : (o : Option Holding) → map.get owners k ≡ o → AreCounted next (changed_if owners k f o)
+    at None is = counted
+    at (Some h) is =
+        counted_insert next owners k (f h) counted (keeps h is (subst (IsCounted next) is (counted k)))

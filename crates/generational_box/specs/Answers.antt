@@ -16,8 +16,9 @@ use Rattle.generational_box.specs.State.{State}
 use Rattle.generational_box.specs.Borrowing.{Trouble, Guard, content_at}
 use Rattle.generational_box.specs.Borrowing.Trouble.{Dropped, BeingRead, BeingWritten}
 use Rattle.generational_box.specs.Writing.{WriteGuard}
-use Rattle.generational_box.specs.Machine.{Answer, knows_reader}
-use Rattle.generational_box.specs.Machine.Answer.{Made, Reads, Writes, Back, Done, Troubled, Refused as refuses}
+use Rattle.generational_box.specs.declared.error.StoreError.{StoreError}
+use Rattle.generational_box.specs.Machine.{Answer, OwnerName, knows_reader}
+use Rattle.generational_box.specs.Machine.Answer.{Made, Owned, Reads, Writes, Back, Done, Troubled, Refused as refuses}
 
 -- why a read, and why a write or an end, was refused
 abbrev pub read_trouble_of : BorrowError → Trouble
@@ -63,6 +64,15 @@ module _ {T : Type 0} where
   abbrev pub end_answer : {U : Type 0} → Result U (Refused BorrowMutError) → Answer T
   end_answer (Ok u) = Done
   end_answer (Err e) = end_refused e
+
+  -- what a making of an owner, and its release, answer
+  abbrev pub owner_answer : Result OwnerName StoreError → Answer T
+  owner_answer (Ok o) = Owned o
+  owner_answer (Err e) = refuses e
+
+  abbrev pub release_answer : {U V : Type 0} → Result U (V × Refused BorrowMutError) → Answer T
+  release_answer (Ok u) = Done
+  release_answer (Err e) = end_refused e.1
 
   abbrev pub value_of : Option (Content T) → Option T
   value_of None = None

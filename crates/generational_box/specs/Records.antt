@@ -1,11 +1,18 @@
 -- The records of owners, as the machine sees them.
+use Rattle.std.specs.Prelude.{◌≡◌, Bool, true, false, nat_eq, ◌&&◌, is_some, IsSome}
 use Rattle.std.specs.Prelude.{ℕ, ◌+◌, ◌-◌, ◌<◌, ◌≤◌, Option, None, Some, List, [], ◌∷◌, ◌++◌, IfSome, vec_len, vec_capacity, map as list_map}
 use Rattle.std.specs.Ordering.{nat_cmp}
 use Rattle.std.specs.FinMap as map
 use Rattle.std.specs.BTreeMap.{BTreeMap, get}
 use Rattle.generational_box.specs.declared.owners.CellName.{CellName}
 use Rattle.generational_box.specs.declared.owners.OwnerRecord.{OwnerRecord}
-use Rattle.generational_box.specs.Names.{Name}
+use Rattle.generational_box.specs.declared.error.StoreError.{StoreError}
+use Rattle.generational_box.specs.declared.error.StoreError.TheVariants.{UnknownOwner, OutOfMemory, NumbersExhausted}
+use Rattle.generational_box.specs.Names.{Name, NameMap, changed}
+use Rattle.generational_box.specs.Cells.{Cell, content_of}
+use Rattle.generational_box.specs.Borrowing.{Trouble, write_refusal}
+use Rattle.generational_box.specs.Ending.{or_else}
+use Rattle.generational_box.specs.Machine.{OwnerName}
 use Rattle.generational_box.specs.State.{Holding, Owners}
 
 abbrev pub name_seen : CellName → Name
@@ -17,6 +24,27 @@ holding_of r = record { names = list_map name_seen r.boxes.items; count = r.coun
 -- the records under their keys
 abbrev pub owners_of : BTreeMap ℕ OwnerRecord → Owners
 owners_of m = map.from_entries (list_map (λ (e : ℕ × OwnerRecord). (e.0, holding_of e.1)) m.entries)
+
+-- a record's boxes, and how many owner values are held: none where there is no record
+abbrev pub names_in : Option Holding → List Name
+names_in None = []
+names_in (Some h) = h.names
+
+abbrev pub names_under : Owners → ℕ → List Name
+names_under owners key = names_in (map.get owners key)
+
+abbrev pub count_in : Option Holding → ℕ
+count_in None = 0
+count_in (Some h) = h.count
+
+abbrev pub count_under : Owners → ℕ → ℕ
+count_under owners key = count_in (map.get owners key)
+
+-- what stands in the way of an end of these cells, at the first of them that is borrowed
+abbrev pub first_borrowed : {T : Type 0} → NameMap (Cell T) → List Name → Option Trouble
+first_borrowed cells [] = None
+first_borrowed cells (n ∷ names) =
+    or_else (write_refusal (content_of (map.get cells n))) (first_borrowed cells names)
 
 -- one owner value more, and one less
 abbrev pub one_more : Holding → Holding
@@ -33,10 +61,36 @@ one_listed n h = record h { names = h.names ++ n ∷ [] }
 abbrev pub HasRoom : BTreeMap ℕ OwnerRecord → ℕ → Type 0
 HasRoom m key = IfSome (get nat_cmp m key) (λ r. vec_len r.boxes < vec_capacity r.boxes)
 
--- Each record stands for an owner value at least, and for no more than tickets were given.
-abbrev pub IsCounted : ℕ → Option OwnerRecord → Type 0
-IsCounted next None = Unit {0}
-IsCounted next (Some r) = (0 < r.count) × (r.count ≤ next)
+-- the same for an owner, if there is one
+abbrev pub HasRoomFor : BTreeMap ℕ OwnerRecord → Option OwnerName → Type 0
+HasRoomFor m None = Unit {0}
+HasRoomFor m (Some o) = HasRoom m o.key
 
-abbrev pub AreCounted : ℕ → BTreeMap ℕ OwnerRecord → Type 0
-AreCounted next m = (key : ℕ) → IsCounted next (get nat_cmp m key)
+-- whether an owner is of a store with this number and these records
+abbrev pub knows : ℕ → Owners → OwnerName → Bool
+knows number owners o = nat_eq o.store number && is_some (map.get owners o.key)
+
+-- the same of an owner, if there is one
+abbrev pub knows_any : ℕ → Owners → Option OwnerName → Bool
+knows_any number owners None = true
+knows_any number owners (Some o) = knows number owners o
+
+-- why a box isn't put on a list: the owner isn't known, or there is no memory for one that is
+abbrev pub IsRefusal : ℕ → Owners → Option OwnerName → StoreError → Type 0
+IsRefusal number owners o UnknownOwner = knows_any number owners o ≡ false
+IsRefusal number owners o OutOfMemory =
+    IsSome o × (knows_any number owners o ≡ true)
+IsRefusal number owners o NumbersExhausted = ⊥
+
+-- the records with a name at the end of the owner's list
+abbrev pub listed_in : Owners → Option OwnerName → Name → Owners
+listed_in owners None n = owners
+listed_in owners (Some o) n = changed owners o.key (one_listed n)
+
+-- Each record stands for an owner value at least, and for no more than tickets were given.
+abbrev pub IsCounted : ℕ → Option Holding → Type 0
+IsCounted next None = Unit {0}
+IsCounted next (Some h) = (0 < h.count) × (h.count ≤ next)
+
+abbrev pub AreCounted : ℕ → Owners → Type 0
+AreCounted next owners = (key : ℕ) → IsCounted next (map.get owners key)

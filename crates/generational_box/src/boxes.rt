@@ -156,11 +156,19 @@ impl<T> GenerationalBox<T> {
         ensures step { Meets (S.state store.old) (Make None value location) (box_answer result) (S.state store.new) }
         ensures back { IfErr result (λ refusal. refusal.value ≡ value) }
     {
-        let raw = store.new(value, location)?;
-        Ok(GenerationalBox {
+        let raw = store.new(value, location, None)?;
+        Ok(Self::from_pointer(raw))
+    }
+
+    // The box of a pointer.
+    #[inline(always)]
+    pub(crate) fn from_pointer(raw: GenerationalPointer) -> GenerationalBox<T>
+        ensures { pointer_of result ≡ raw }
+    {
+        GenerationalBox {
             raw,
             marker: PhantomData,
-        })
+        }
     }
 
     /// Begins a read of the value, asked for at a location. The guard must be released; the value

@@ -29,6 +29,7 @@ pub use crate::error::{
     AlreadyBorrowedError, AlreadyBorrowedMutError, BorrowError, BorrowMutError, BorrowMutResult,
     BorrowResult, Location, Refusal, Refused, StoreError, ValueDroppedError,
 };
+pub use crate::owners::Owner;
 pub use crate::pool::{LastFirst, SlotPool};
 pub use crate::references::{GenerationalRef, GenerationalRefMut, Mut, Ref};
 pub use crate::session::{BoxAt, Call, Reply, Session};

@@ -1,12 +1,116 @@
-//! The records of owners.
+//! Owners, and the records that a store keeps of them.
 
-ghost use Rattle.std.specs.Prelude.{◌≡◌, ℕ, ◌+◌, ◌-◌, ◌<◌, [], Some, None, IsSome, IfSome, OnOk, OnErr, option_copied, option_map};
+ghost use Rattle.std.specs.Prelude.{◌≡◌, ℕ, ◌+◌, ◌-◌, ◌<◌, [], true, Some, None, IsSome, IfSome, IfErr, OnOk, OnErr, option_copied, option_map, map as list_map};
 ghost use Rattle.std.specs.FinMap as map;
-ghost use Rattle.generational_box.specs.Records.{owners_of, holding_of, name_seen, one_more, one_less, one_listed, HasRoom};
+ghost use Rattle.generational_box.specs.Records.{owners_of, holding_of, name_seen, one_more, one_less, one_listed, count_under, names_under, knows, knows_any, listed_in, IsRefusal, HasRoom, HasRoomFor};
 ghost use Rattle.generational_box.specs.Names.{changed};
 
-use std::alloc::AllocError;
+use crate::boxes::GenerationalBox;
+use crate::error::{BorrowMutError, Location, Refusal, Refused, StoreError};
+use crate::storage::{AnyStorage, Storage};
+use std::alloc::{AllocError, Global};
 use std::collections::BTreeMap;
+use std::marker::Model;
+
+/// An owner of boxes. Contracts see it as its store's number and its key.
+///
+/// It names a record in its store and holds no reference. It has no `Drop`: `release` or `leak`
+/// must spend it.
+pub struct Owner {
+    store: u64,
+    key: u64,
+}
+
+impl Model for Owner {
+    ghost use Rattle.generational_box.specs.Machine.{OwnerName};
+
+    ghost Value = { OwnerName };
+
+    ghost view = { λ o. record { store = o.store; key = o.key } };
+}
+
+impl Owner {
+    ghost use Rattle.generational_box.specs.Machine.Action.{Make, CloneOwner, ReleaseOwner};
+    ghost use Rattle.generational_box.specs.Steps.{Meets};
+    ghost use Rattle.generational_box.specs.Answers.{box_answer, owner_answer, release_answer};
+
+    // The owner whose record has this key.
+    pub(crate) fn new(store: u64, key: u64) -> Owner
+        ensures { result ≡ record { store = store; key = key } }
+    {
+        Owner { store, key }
+    }
+
+    // The number of the owner's store.
+    pub(crate) fn store(&self) -> u64
+        ensures { result ≡ self.now.store }
+    {
+        self.store
+    }
+
+    // The key of the owner's record.
+    pub(crate) fn key(&self) -> u64
+        ensures { result ≡ self.now.key }
+    {
+        self.key
+    }
+
+    /// Makes a box of a value, which ends when the last owner value of this record is released.
+    /// Its id was never given before, and it stands at the end of the record's list.
+    ///
+    /// Refused, in this order: `UnknownOwner`, where the store has no such record; `OutOfMemory`,
+    /// where neither a slot nor the list has room. The value comes back then, and the store stays
+    /// as it was.
+    pub fn insert<T, S: Storage<T>>(
+        &self,
+        store: &mut S,
+        value: T,
+        location: Location,
+    ) -> Result<GenerationalBox<T>, Refusal<T>>
+        ensures step { Meets (S.state store.old) (Make (Some self.now) value location) (box_answer result) (S.state store.new) }
+        ensures back { IfErr result (λ refusal. refusal.value ≡ value) }
+    {
+        let raw = store.new(value, location, Some(self))?;
+        Ok(GenerationalBox::from_pointer(raw))
+    }
+
+    /// Another owner value of the same record: its boxes live until both are released.
+    ///
+    /// Refused, in this order: `UnknownOwner`, where the store has no such record;
+    /// `NumbersExhausted`, where no ticket is left. Takes no memory.
+    ///
+    /// Upstream's `Clone`.
+    pub fn clone<T, S: AnyStorage<T>>(&self, store: &mut S) -> Result<Owner, StoreError>
+        ensures { Meets (S.state store.old) (CloneOwner self.now) (owner_answer result) (S.state store.new) }
+    {
+        store.clone_owner(self)
+    }
+
+    /// Spends the owner value. With the last one of its record all live boxes of the list end, or
+    /// nothing does.
+    ///
+    /// Refused, in this order: `UnknownOwner`, where the store has no such record; the answer of a
+    /// write at the first box of the list, in order of insertion, that would end and is borrowed:
+    /// `AlreadyBorrowedMut`, or `AlreadyBorrowed`, in whose place `OutOfMemory` is answered if its
+    /// list finds no memory. The owner comes back then, and the store stays as it was.
+    ///
+    /// Upstream's owners end their boxes by their Drop.
+    pub fn release<T, S: AnyStorage<T>>(
+        self,
+        store: &mut S,
+    ) -> Result<(), (Owner, Refused<BorrowMutError>)>
+        ensures step { Meets (S.state store.old) (ReleaseOwner self) (release_answer result) (S.state store.new) }
+        ensures back { IfErr result (λ refusal. refusal.0 ≡ self) }
+    {
+        store.release_owner(self)
+    }
+
+    /// Spends the owner value and leaves its record as it is: the record's boxes never end by an
+    /// owner from then on.
+    pub fn leak(self) {
+        let Owner { store: _, key: _ } = self;
+    }
+}
 
 /// The name of a cell of the store that keeps it.
 #[derive(Clone, Copy)]
@@ -22,11 +126,95 @@ pub(crate) struct OwnerRecord {
     pub(crate) count: u64,
 }
 
+impl OwnerRecord {
+    // A record without boxes, for one owner value. Takes no memory.
+    pub(crate) fn new(alloc: Global) -> OwnerRecord
+        ensures { holding_of result ≡ record { names = []; count = 1 } }
+    {
+        OwnerRecord {
+            boxes: Vec::new(alloc),
+            count: 1,
+        }
+    }
+}
+
+// How many owner values a record stands for.
+pub(crate) fn count(owners: &BTreeMap<u64, OwnerRecord>, key: u64) -> u64
+    ensures { result ≡ count_under (owners_of owners.now) key }
+{
+    match find(owners, key) {
+        Some(found) => found.count,
+        None => 0,
+    }
+}
+
 // The record under a key.
 pub(crate) fn find(owners: &BTreeMap<u64, OwnerRecord>, key: u64) -> Option<&OwnerRecord>
     ensures { option_map holding_of (option_copied result) ≡ map.get (owners_of owners.now) key }
 {
     owners.get(&key)
+}
+
+// Whether the owner, if there is one, is of a store with this number and these records.
+pub(crate) fn is_known(owners: &BTreeMap<u64, OwnerRecord>, number: u64, owner: &Owner) -> bool
+    ensures { result ≡ knows number (owners_of owners.now) owner.now }
+{
+    owner.store() == number && find(owners, owner.key()).is_some()
+}
+
+// Makes room for one box more in the owner's list, if there is an owner. Want of memory changes no
+// record.
+#[inline(always)]
+pub(crate) fn make_room_for(
+    owners: &mut BTreeMap<u64, OwnerRecord>,
+    number: u64,
+    owner: Option<&Owner>,
+) -> Result<(), StoreError>
+    ensures same { owners_of owners.new ≡ owners_of owners.old }
+    ensures known { OnOk result (knows_any number (owners_of owners.old) (option_copied owner.entry) ≡ true) }
+    ensures room { OnOk result (HasRoomFor owners.new (option_copied owner.entry)) }
+    ensures refused { IfErr result (λ cause. IsRefusal number (owners_of owners.old) (option_copied owner.entry) cause) }
+{
+    match owner {
+        None => Ok(()),
+        Some(owner) => make_room(owners, number, owner),
+    }
+}
+
+// The same for an owner.
+fn make_room(
+    owners: &mut BTreeMap<u64, OwnerRecord>,
+    number: u64,
+    owner: &Owner,
+) -> Result<(), StoreError>
+    ensures same { owners_of owners.new ≡ owners_of owners.old }
+    ensures known { OnOk result (knows number (owners_of owners.old) owner.now ≡ true) }
+    ensures room { OnOk result (HasRoom owners.new owner.now.key) }
+    ensures refused { IfErr result (λ cause. IsRefusal number (owners_of owners.old) (Some owner.now) cause) }
+{
+    if !is_known(owners, number, owner) {
+        return Err(StoreError::UnknownOwner);
+    }
+    match reserve(owners, owner.key()) {
+        Ok(()) => Ok(()),
+        Err(_) => Err(StoreError::OutOfMemory),
+    }
+}
+
+// Puts a box at the end of the owner's list, if there is an owner. There is room for it.
+#[inline(always)]
+pub(crate) fn list_for(
+    owners: &mut BTreeMap<u64, OwnerRecord>,
+    owner: Option<&Owner>,
+    name: CellName,
+)
+    requires { HasRoomFor owners.old (option_copied owner) }
+    ensures { owners_of owners.new ≡ listed_in (owners_of owners.old) (option_copied owner.entry) (name_seen name) }
+{
+    match owner {
+        None => {}
+        Some(owner) => list(owners, owner.key(), name),
+    }
 }
 
 // Adds a record under a key. Want of memory changes nothing.
@@ -44,11 +232,22 @@ pub(crate) fn add(
     }
 }
 
-// Takes a record away.
-pub(crate) fn remove(owners: &mut BTreeMap<u64, OwnerRecord>, key: u64)
-    ensures { owners_of owners.new ≡ map.remove (owners_of owners.old) key }
+// Takes a record away: its boxes.
+pub(crate) fn take(
+    owners: &mut BTreeMap<u64, OwnerRecord>,
+    key: u64,
+    alloc: Global,
+) -> Vec<CellName>
+    ensures after { owners_of owners.new ≡ map.remove (owners_of owners.old) key }
+    ensures names { list_map name_seen result.items ≡ names_under (owners_of owners.old) key }
 {
-    let _ = owners.remove(&key);
+    match owners.remove(&key) {
+        Some(found) => {
+            let OwnerRecord { boxes, count: _ } = found;
+            boxes
+        }
+        None => Vec::new(alloc),
+    }
 }
 
 // One owner value more of a record.

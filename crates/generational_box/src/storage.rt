@@ -2,13 +2,16 @@
 
 ghost use Rattle.std.specs.Prelude.{◌≡◌, ◌↔◌, IsTrue, IfErr, None, option_copied};
 ghost use Rattle.generational_box.specs.State.{State, IsFresh};
-ghost use Rattle.generational_box.specs.Machine.Action.{Make, Read, Write, ReleaseReader, ReleaseWriter, End};
+ghost use Rattle.generational_box.specs.Machine.Action.{Make, NewOwner, CloneOwner, ReleaseOwner, Read, Write, ReleaseReader, ReleaseWriter, End};
 ghost use Rattle.generational_box.specs.Machine.Answer.{Flag};
 ghost use Rattle.generational_box.specs.Steps.{Meets};
-ghost use Rattle.generational_box.specs.Answers.{make_answer, read_answer, write_answer, back_answer, end_answer, opened};
+ghost use Rattle.generational_box.specs.Answers.{make_answer, owner_answer, release_answer, read_answer, write_answer, back_answer, end_answer, opened};
 
 use crate::boxes::GenerationalPointer;
-use crate::error::{BorrowMutResult, BorrowResult, Location, Refusal};
+use crate::error::{
+    BorrowMutError, BorrowMutResult, BorrowResult, Location, Refusal, Refused, StoreError,
+};
+use crate::owners::Owner;
 use crate::references::{GenerationalRef, GenerationalRefMut};
 
 /// What a store of values of one type does, whatever it keeps.
@@ -27,6 +30,32 @@ pub trait AnyStorage<T> {
     fn is_fresh(&self) -> bool
         ensures { IsTrue result ↔ IsFresh (state self.now) };
 
+    /// An owner without boxes, of a record of its own.
+    ///
+    /// Refused, in this order: `NumbersExhausted`, where no ticket is left; `OutOfMemory`. A
+    /// refused call changes nothing.
+    fn owner(&mut self) -> Result<Owner, StoreError>
+        ensures { Meets (state self.old) NewOwner (owner_answer result) (state self.new) };
+
+    /// Another owner value of the same record.
+    ///
+    /// Refused, in this order: `UnknownOwner`, where the owner is of another store;
+    /// `NumbersExhausted`, where no ticket is left. A refused call changes nothing, and no call
+    /// takes memory.
+    fn clone_owner(&mut self, owner: &Owner) -> Result<Owner, StoreError>
+        ensures { Meets (state self.old) (CloneOwner owner.now) (owner_answer result) (state self.new) };
+
+    /// Spends an owner value. With the last one of its record all live boxes of the list end, or
+    /// nothing does.
+    ///
+    /// Refused, in this order: `UnknownOwner`, where the owner is of another store; the answer of a
+    /// write at the first box of the list, in order of insertion, that would end and is borrowed,
+    /// in whose place `OutOfMemory` is answered if its list of locations finds no memory. The owner
+    /// comes back then, and nothing changes.
+    fn release_owner(&mut self, owner: Owner) -> Result<(), (Owner, Refused<BorrowMutError>)>
+        ensures step { Meets (state self.old) (ReleaseOwner owner) (release_answer result) (state self.new) }
+        ensures back { IfErr result (λ refusal. refusal.0 ≡ owner) };
+
     /// Ends the cell that the pointer names, and its slot is free from then on; a slot whose cell
     /// ends at the last generation is retired instead. A pointer that names no live cell of this
     /// store is Ok and changes nothing.
@@ -41,12 +70,19 @@ pub trait AnyStorage<T> {
 
 /// What a store of values of one type does with values.
 pub trait Storage<T>: AnyStorage<T> {
-    /// Makes a cell of a value, under a name that was never given before.
+    /// Makes a cell of a value, under a name that was never given before. With an owner it stands
+    /// at the end of the owner's list.
     ///
-    /// Refused by `OutOfMemory`, only where no slot is free: the value comes back, and nothing
-    /// changes.
-    fn new(&mut self, value: T, location: Location) -> Result<GenerationalPointer, Refusal<T>>
-        ensures step { Meets (Self.state self.old) (Make None value location) (make_answer result) (Self.state self.new) }
+    /// Refused, in this order: `UnknownOwner`, where there is an owner that the store doesn't know;
+    /// `OutOfMemory`, only where no slot is free or the owner's list has no room. The value comes
+    /// back, and nothing changes.
+    fn new(
+        &mut self,
+        value: T,
+        location: Location,
+        owner: Option<&Owner>,
+    ) -> Result<GenerationalPointer, Refusal<T>>
+        ensures step { Meets (Self.state self.old) (Make (option_copied owner.entry) value location) (make_answer result) (Self.state self.new) }
         ensures back { IfErr result (λ refusal. refusal.value ≡ value) };
 
     /// Begins a read.

@@ -1,6 +1,6 @@
 //! The sequential store.
 
-ghost use Rattle.std.specs.Prelude.{◌≡◌, ℕ, ◌+◌, ◌-◌, ◌^◌, ◌<◌, ◌≤◌, ◌∷◌, ◌++◌, [], true, max, length, is_some, vec_len, vec_capacity, slice_get, slice_set, option_copied, Some, None, IsSome, IfSome, IfOk, IfErr, OnOk, OnErr, IsTrue, is_ok, ◌↔◌};
+ghost use Rattle.std.specs.Prelude.{◌≡◌, ℕ, ◌+◌, ◌-◌, ◌^◌, ◌<◌, ◌≤◌, ◌∷◌, ◌++◌, [], true, max, length, is_some, vec_len, vec_capacity, slice_get, slice_set, option_copied, Some, None, IsSome, IfSome, IfOk, IfErr, OnOk, OnErr, IsTrue, is_ok, ◌↔◌, map as list_map};
 ghost use Rattle.std.specs.FinMap as map;
 ghost use Rattle.generational_box.specs.declared.error.Refused.TheVariants as refused;
 ghost use Rattle.generational_box.specs.declared.error.BorrowError.TheVariants as reads;
@@ -13,10 +13,12 @@ ghost use Rattle.generational_box.specs.Machine.{read_at, written_at, has_reader
 ghost use Rattle.generational_box.specs.Machine.Action.{ReleaseReader, ReleaseWriter};
 ghost use Rattle.generational_box.specs.Machine.Answer.{Flag};
 ghost use Rattle.generational_box.specs.Steps.{Meets, has_readers};
-ghost use Rattle.generational_box.specs.Entry.{content_in, is_live, valid_at, is_free, with_reader, without_reader_in, lent_to, with_value};
+ghost use Rattle.generational_box.specs.Ending.{close};
+ghost use Rattle.generational_box.specs.Records.{first_borrowed, names_under, name_seen};
+ghost use Rattle.generational_box.specs.Entry.{FoundBorrowed, content_in, is_live, valid_at, is_free, with_reader, without_reader_in, lent_to, with_value};
 ghost use Rattle.generational_box.specs.Answers.{back_answer};
 ghost use Rattle.generational_box.specs.Entry.Kept.{Empty, Live};
-ghost use Rattle.generational_box.specs.Slotted.{entry_changed, entry_in, cell_found, own_cell_at, is_here, is_unborrowed, OnlyValues};
+ghost use Rattle.generational_box.specs.Slotted.{cells_of, entry_changed, entry_in, cell_found, own_cell_at, is_here, is_unborrowed, OnlyValues};
 
 use crate::boxes::{GenerationalBoxId, GenerationalPointer};
 use crate::entry::{Borrow, StorageEntry};
@@ -24,7 +26,7 @@ use crate::error::{
     AlreadyBorrowedMutError, BorrowError, BorrowMutError, BorrowMutResult, BorrowResult, Location,
     Refusal, Refused, StoreError, ValueDroppedError,
 };
-use crate::owners::OwnerRecord;
+use crate::owners::{self, CellName, Owner, OwnerRecord};
 use crate::pool::{LastFirst, SlotPool};
 use crate::references::{GenerationalRef, GenerationalRefMut};
 use crate::storage::{AnyStorage, Storage};
@@ -69,7 +71,7 @@ impl<T, P: SlotPool> Model for Store<T, P> {
 
     ghost view = { λ s. state_of (owners_of s.owners) s.number s.start s.next s.peak s.slots.items };
 
-    ghost invariant = { λ s. IsSlotted (P.members s.pool) (P.rooms s.pool) s.start s.live s.peak s.slots.items × AreCounted s.next s.owners };
+    ghost invariant = { λ s. IsSlotted (P.members s.pool) (P.rooms s.pool) s.start s.live s.peak s.slots.items × AreCounted s.next (owners_of s.owners) };
 }
 
 /// Where a store's numbers begin.
@@ -198,6 +200,69 @@ impl<T: Drop, P: SlotPool> Store<T, P> {
             self.pool.put(id.slot);
         }
     }
+
+    // What hinders the end of the boxes of a record, at the first of them that is hindered.
+    fn hindrance(&self, key: u64) -> BorrowMutResult<()>
+        ensures { FoundBorrowed (first_borrowed self.now.cells (names_under self.now.owners key)) result }
+    {
+        match owners::find(&self.owners, key) {
+            Some(record) => {
+                first_borrowed(self.slots.as_slice(), record.boxes.as_slice(), self.alloc)
+            }
+            None => Ok(()),
+        }
+    }
+
+    // Takes a record away: its boxes.
+    fn take_boxes(&mut self, key: u64) -> Vec<CellName>
+        ensures names { list_map name_seen result.items ≡ names_under self.old.owners key }
+        ensures after { self.new ≡ record self.old { owners = map.remove self.old.owners key } }
+        ensures values { OnlyValues self.new }
+    {
+        owners::take(&mut self.owners, key, self.alloc)
+    }
+
+    // Ends the live cells among these.
+    fn end_all(&mut self, boxes: Vec<CellName>)
+        requires { OnlyValues self.old }
+        ensures { self.new ≡ close self.old (list_map name_seen boxes.items) }
+    {
+        let mut boxes = boxes;
+        while let Some(name) = boxes.pop() {
+            self.end_named(name);
+        }
+        boxes.destroy_empty();
+    }
+
+    // Ends a cell, if it is live.
+    fn end_named(&mut self, name: CellName)
+        ensures { self.new ≡ record self.old { cells = map.remove self.old.cells (name_seen name) } }
+    {
+        let id = GenerationalBoxId::new(self.number, name.slot, name.generation);
+        if self.entry(id).is_some() {
+            self.end(id);
+        }
+    }
+}
+
+// What hinders the end of these cells, at the first of them that is hindered.
+fn first_borrowed<T>(
+    slots: &[StorageEntry<T>],
+    names: &[CellName],
+    alloc: Global,
+) -> BorrowMutResult<()>
+    ensures { FoundBorrowed (first_borrowed (cells_of slots.now) (list_map name_seen names.now)) result }
+{
+    for name in names {
+        match entry_at(slots, name.slot, name.generation) {
+            Some(entry) => match entry.borrow_mut_error(alloc) {
+                Ok(()) => {}
+                Err(refused) => return Err(refused),
+            },
+            None => {}
+        }
+    }
+    Ok(())
 }
 
 // The slot, if its live cell has this generation.
@@ -375,6 +440,51 @@ impl<T: Drop, P: SlotPool> AnyStorage<T> for Store<T, P> {
         self.slots.is_empty() && self.owners.is_empty()
     }
 
+    fn owner(&mut self) -> Result<Owner, StoreError> {
+        let key = self.next;
+        if key == u64::MAX {
+            return Err(StoreError::NumbersExhausted);
+        }
+        let record = OwnerRecord::new(self.alloc);
+        if owners::add(&mut self.owners, key, record).is_err() {
+            return Err(StoreError::OutOfMemory);
+        }
+        self.next = key + 1;
+        Ok(Owner::new(self.number, key))
+    }
+
+    fn clone_owner(&mut self, owner: &Owner) -> Result<Owner, StoreError> {
+        if !owners::is_known(&self.owners, self.number, owner) {
+            return Err(StoreError::UnknownOwner);
+        }
+        if self.next == u64::MAX {
+            return Err(StoreError::NumbersExhausted);
+        }
+        owners::count_up(&mut self.owners, owner.key());
+        self.next += 1;
+        Ok(Owner::new(self.number, owner.key()))
+    }
+
+    fn release_owner(&mut self, owner: Owner) -> Result<(), (Owner, Refused<BorrowMutError>)> {
+        if !owners::is_known(&self.owners, self.number, &owner) {
+            return Err((owner, Refused::Store(StoreError::UnknownOwner)));
+        }
+        let key = owner.key();
+        if owners::count(&self.owners, key) > 1 {
+            owners::count_down(&mut self.owners, key);
+            owner.leak();
+            return Ok(());
+        }
+        match self.hindrance(key) {
+            Ok(()) => {}
+            Err(refused) => return Err((owner, refused)),
+        }
+        let boxes = self.take_boxes(key);
+        self.end_all(boxes);
+        owner.leak();
+        Ok(())
+    }
+
     #[inline(always)]
     fn recycle(&mut self, pointer: GenerationalPointer) -> BorrowMutResult<()> {
         match self.entry(pointer.id) {
@@ -391,12 +501,20 @@ impl<T: Drop, P: SlotPool> AnyStorage<T> for Store<T, P> {
 
 impl<T: Drop, P: SlotPool> Storage<T> for Store<T, P> {
     #[inline(always)]
-    fn new(&mut self, value: T, location: Location) -> Result<GenerationalPointer, Refusal<T>> {
-        match self.pool.take() {
+    fn new(
+        &mut self,
+        value: T,
+        location: Location,
+        owner: Option<&Owner>,
+    ) -> Result<GenerationalPointer, Refusal<T>> {
+        match owners::make_room_for(&mut self.owners, self.number, owner) {
+            Ok(()) => {}
+            Err(cause) => return Err(Refusal { value, cause }),
+        }
+        let name = match self.pool.take() {
             Some(slot) => {
                 let generation = refill(&mut self.slots, slot, value, location);
-                count_one(&mut self.live, &mut self.peak);
-                Ok(GenerationalPointer::new(self.number, slot, generation, location))
+                CellName { slot, generation }
             }
             None => {
                 match make_room(&mut self.slots, &mut self.pool) {
@@ -407,10 +525,13 @@ impl<T: Drop, P: SlotPool> Storage<T> for Store<T, P> {
                     }
                 }
                 let slot = push_slot(&mut self.slots, self.start, value, location);
-                count_one(&mut self.live, &mut self.peak);
-                Ok(GenerationalPointer::new(self.number, slot, self.start, location))
+                let generation = self.start;
+                CellName { slot, generation }
             }
-        }
+        };
+        count_one(&mut self.live, &mut self.peak);
+        owners::list_for(&mut self.owners, owner, name);
+        Ok(GenerationalPointer::new(self.number, name.slot, name.generation, location))
     }
 
     #[inline(always)]
