@@ -45,7 +45,7 @@ module _ {T : Type 0} (S : State T) (values : OnlyValues S) where
       at false = refl
 
   -- where no cell is a Shared one, just the names' own cells go
-  left_get : (names : List Name) (q : Name)
+  pub left_get : (names : List Name) (q : Name)
       → map.get (left_by S.cells names) q ≡ cond (not (among names q)) (map.get S.cells q) None
   unfolding swept
   left_get names q =
@@ -53,7 +53,7 @@ module _ {T : Type 0} (S : State T) (values : OnlyValues S) where
       ∙ (ap (λ b. cond (not b || is_named (without S.cells names) q) (map.get (without S.cells names) q) None) (without_values names q)
       ∙ without_get names q)
 
-  left_none : left_by S.cells [] ≡ S.cells
+  pub left_none : left_by S.cells [] ≡ S.cells
   left_none = map.same_map name_total name_exact _ _ (λ q. left_get [] q)
 
   left_one : (n : Name) → left_by S.cells (n ∷ []) ≡ map.remove S.cells n
@@ -67,7 +67,7 @@ module _ {T : Type 0} (S : State T) (values : OnlyValues S) where
       at q true = refl
       at q false = refl
 
-  removed_none : (n : Name) → map.get S.cells n ≡ None → map.remove S.cells n ≡ S.cells
+  pub removed_none : (n : Name) → map.get S.cells n ≡ None → map.remove S.cells n ≡ S.cells
   unfolding is_name
   removed_none n none =
       map.same_map name_total name_exact _ _ (λ q. map.get-remove name_total S.cells n q ∙ at q (is_name q n) refl)

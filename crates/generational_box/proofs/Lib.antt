@@ -28,7 +28,10 @@ pub mod Named
 pub mod NumberedCalls
 pub mod NumberedStep
 pub mod Numbering
+pub mod OwnerCalls
+pub mod OwnerEnds
 pub mod OwnerMaps
+pub mod OwnerScans
 pub mod Placing
 pub mod Plain
 pub mod PlainSteps

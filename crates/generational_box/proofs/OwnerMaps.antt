@@ -1,5 +1,5 @@
 -- The records of owners, read at a key.
-use Rattle.std.proofs.Common.{◌≡◌, ◌≢◌, ◌⊎◌, inl, inr, ℕ, ◌+◌, Bool, true, false, cond, List, [], ◌∷◌, ◌++◌, Option, None, Some, IfSome, IsSome, arith, refl, sym, ap, subst, ◌∙◌}
+use Rattle.std.proofs.Common.{◌≡◌, ◌≢◌, ◌⊎◌, inl, inr, ℕ, ◌+◌, ◌-◌, ◌<◌, Bool, true, false, cond, List, [], ◌∷◌, ◌++◌, Option, None, Some, IfSome, IsSome, arith, refl, sym, ap, subst, ◌∙◌}
 use Rattle.std.specs.Prelude.{is_some, option_map, map as list_map}
 use Rattle.std.specs.Ordering.{nat_cmp, eq_by_cmp, is_eq}
 use Rattle.std.specs.Cmp.{nat_cmp_total}
@@ -9,9 +9,10 @@ use Rattle.std.specs.FinMap as map
 use Rattle.std.specs.BTreeMap.{BTreeMap, get, is_at, WritesThrough}
 use Rattle.std.specs.Map.{lookup}
 use Rattle.generational_box.specs.declared.owners.OwnerRecord.{OwnerRecord}
-use Rattle.generational_box.specs.Names.{changed, changed_if}
+use Rattle.generational_box.specs.Names.{Name, changed, changed_if}
 use Rattle.generational_box.specs.State.{Holding, Owners}
-use Rattle.generational_box.specs.Records.{owners_of, holding_of, AreCounted, IsCounted}
+use Rattle.generational_box.specs.Records.{owners_of, holding_of, one_more, one_less, one_listed, count_in, count_under, listed_in, AreCounted, IsCounted}
+use Rattle.generational_box.specs.Machine.{OwnerName}
 use Rattle.generational_box.proofs.Maps.{by_number, key_here, key_cases, changed_there, insert_there, get-insert_here, get-insert_apart, get-remove_here, get-remove_apart}
 
 find_is : (q : ℕ) (es : List (ℕ × OwnerRecord))
@@ -175,3 +176,27 @@ counted_changed next owners k f counted keeps = at (map.get owners k) refl
     at None is = counted
     at (Some h) is =
         counted_insert next owners k (f h) counted (keeps h is (subst (IsCounted next) is (counted k)))
+
+pub counted_new : (next : ℕ) (owners : Owners) (k : ℕ) (h : Holding) → AreCounted next owners
+    → h.count ≡ 1 → AreCounted (next + 1) (map.insert owners k h)
+counted_new next owners k h counted one =
+    counted_insert (next + 1) owners k h (counted_more next owners counted) (omega (arith, one), omega (arith, one))
+
+pub counted_up : (next : ℕ) (owners : Owners) (k : ℕ) → AreCounted next owners
+    → AreCounted (next + 1) (changed owners k one_more)
+counted_up next owners k counted =
+    counted_changed (next + 1) owners k one_more (counted_more next owners counted)
+    (λ h is c. let old : IsCounted next (Some h) = subst (IsCounted next) is (counted k) in (omega arith, omega (arith, old.1)))
+
+pub counted_down : (next : ℕ) (owners : Owners) (k : ℕ) → AreCounted next owners
+    → 1 < count_under owners k → AreCounted next (changed owners k one_less)
+counted_down next owners k counted several =
+    counted_changed next owners k one_less counted
+    (λ h is c. let more : 1 < h.count = subst (λ r. 1 < count_in r) is several in (omega (arith, more), omega (arith, c.1)))
+
+-- the records after a listing are as counted
+pub counted_listed : (next : ℕ) (owners : Owners) (o : Option OwnerName) (n : Name) → AreCounted next owners
+    → AreCounted next (listed_in owners o n)
+counted_listed next owners None n counted = counted
+counted_listed next owners (Some o) n counted =
+    counted_changed next owners o.key (one_listed n) counted (λ h is c. c)

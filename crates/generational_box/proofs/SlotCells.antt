@@ -12,7 +12,7 @@ use Rattle.generational_box.specs.Cells.{Content, Cell, refilled, is_shared}
 use Rattle.generational_box.specs.Cells.Cell.{Value}
 use Rattle.generational_box.specs.Entry.{Entry, Kept}
 use Rattle.generational_box.specs.Entry.Kept.{Empty, Live}
-use Rattle.generational_box.specs.Slotted.{cell_of, with_cell, live_from, cells_of, cell_in}
+use Rattle.generational_box.specs.Slotted.{is_value, cell_of, with_cell, live_from, cells_of, cell_in}
 use Rattle.generational_box.proofs.Maps.{by_name, name_exact, name_total, name_here, name_same, get-insert_name, changed_there}
 use Rattle.generational_box.proofs.SliceGet.{get-set_same, get-set_other, get-push_last, get-push_other}
 
@@ -203,3 +203,15 @@ module _ {T : Type 0} where
           ≡ cond (nat_eq q.slot (length slots) && nat_eq q.generation t.generation) (Some c)
           (cell_in (slice_get slots q.slot) q.generation)
       other q e = rw (get-push_other slots q.slot t e, ne_eqb q.slot (length slots) e) refl
+
+  -- the cells of slots are Values
+  pub values_all : (slots : List (Entry T)) (n : Name) → is_value (map.get (cells_of slots) n) ≡ true
+  values_all slots n = ap is_value (get_cells slots n) ∙ at (slice_get slots n.slot)
+    where
+      kept : (b : Bool) (k : Kept T) → is_value (cond b (cell_of k) None) ≡ true
+      kept true Empty = refl
+      kept true (Live c l) = refl
+      kept false k = refl
+      at : (o : Option (Entry T)) → is_value (cell_in o n.generation) ≡ true
+      at None = refl
+      at (Some e) = kept (nat_eq n.generation e.generation) e.kept

@@ -74,6 +74,9 @@ module _ {T : Type 0} where
     abbrev next_name : Name
     next_name = record { slot = i; generation = reused.entry.generation + 1 }
 
+    pub taken_within : i < length slots
+    taken_within = slice_get_within slots i reused.entry reused.there
+
     free_to_use : is_reusable (Some reused.entry) ≡ true
     free_to_use = sym (ap is_reusable reused.there) ∙ (sym (s.pooled i) ∙ member)
 

@@ -140,3 +140,10 @@ module _ {T : Type 0} where
   -- no cell is a Shared one
   abbrev pub OnlyValues : State T → Type 0
   OnlyValues S = (n : Name) → is_shared (map.get S.cells n) ≡ false
+
+  -- whether a cell is no other than a Value
+  abbrev pub is_value : Option (Cell T) → Bool
+  is_value None = true
+  is_value (Some (Value c l)) = true
+  is_value (Some (Shared c l)) = false
+  is_value (Some (Ref m l)) = false

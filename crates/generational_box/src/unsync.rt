@@ -239,8 +239,9 @@ impl<T: Drop, P: SlotPool> Store<T, P> {
         ensures { self.new ≡ record self.old { cells = map.remove self.old.cells (name_seen name) } }
     {
         let id = GenerationalBoxId::new(self.number, name.slot, name.generation);
-        if self.entry(id).is_some() {
-            self.end(id);
+        match self.entry(id) {
+            Some(_) => self.end(id),
+            None => {}
         }
     }
 }
@@ -446,8 +447,9 @@ impl<T: Drop, P: SlotPool> AnyStorage<T> for Store<T, P> {
             return Err(StoreError::NumbersExhausted);
         }
         let record = OwnerRecord::new(self.alloc);
-        if owners::add(&mut self.owners, key, record).is_err() {
-            return Err(StoreError::OutOfMemory);
+        match owners::add(&mut self.owners, key, record) {
+            Ok(()) => {}
+            Err(_) => return Err(StoreError::OutOfMemory),
         }
         self.next = key + 1;
         Ok(Owner::new(self.number, key))
@@ -511,10 +513,12 @@ impl<T: Drop, P: SlotPool> Storage<T> for Store<T, P> {
             Ok(()) => {}
             Err(cause) => return Err(Refusal { value, cause }),
         }
-        let name = match self.pool.take() {
+        match self.pool.take() {
             Some(slot) => {
                 let generation = refill(&mut self.slots, slot, value, location);
-                CellName { slot, generation }
+                count_one(&mut self.live, &mut self.peak);
+                owners::list_for(&mut self.owners, owner, CellName { slot, generation });
+                Ok(GenerationalPointer::new(self.number, slot, generation, location))
             }
             None => {
                 match make_room(&mut self.slots, &mut self.pool) {
@@ -524,14 +528,13 @@ impl<T: Drop, P: SlotPool> Storage<T> for Store<T, P> {
                         return Err(Refusal { value, cause });
                     }
                 }
-                let slot = push_slot(&mut self.slots, self.start, value, location);
                 let generation = self.start;
-                CellName { slot, generation }
+                let slot = push_slot(&mut self.slots, generation, value, location);
+                count_one(&mut self.live, &mut self.peak);
+                owners::list_for(&mut self.owners, owner, CellName { slot, generation });
+                Ok(GenerationalPointer::new(self.number, slot, generation, location))
             }
-        };
-        count_one(&mut self.live, &mut self.peak);
-        owners::list_for(&mut self.owners, owner, name);
-        Ok(GenerationalPointer::new(self.number, name.slot, name.generation, location))
+        }
     }
 
     #[inline(always)]

@@ -2,6 +2,7 @@ use Rattle.std.proofs.Common.{arith}
 use Rattle.generational_box.specs.Entry.{with_reader}
 use Rattle.generational_box.proofs.SlotBorrows.{found_here, found_within, begin_state, slotted-filled}
 use Rattle.generational_box.proofs.SlotBorrows.{more_read, with_reader-live, beside_seen}
+use Rattle.generational_box.specs.Records.{owners_of}
 use Rattle.generational_box.proofs.OwnerMaps.{counted_more}
 use Rattle.generational_box.proofs.unsync.Store.begin_read.Goals as goal
 
@@ -14,7 +15,7 @@ invariant_of-self g c =
     let f = found_here _ _ _ _ _ c.args.id c.self.view_is c.requires.here in
     (rw c.in-Ok.ensures.ok
     (slotted-filled _ _ _ _ _ f (more_read _ f.content) (with_reader _) (with_reader-live _ f.content f.created) c.self.invariant.0),
-    counted_more _ c.self.inside.owners c.self.invariant.1)
+    counted_more c.self.inside.next (owners_of c.self.inside.owners) c.self.invariant.1)
 
 pub returns-in-Ok-clause-ok : goal.returns-in-Ok-clause-ok
 returns-in-Ok-clause-ok g c =

@@ -3,6 +3,7 @@ use Rattle.generational_box.specs.Cells.Content.{Lent}
 use Rattle.generational_box.specs.Entry.{lent_to}
 use Rattle.generational_box.proofs.SlotBorrows.{found_within, slotted-filled}
 use Rattle.generational_box.proofs.SlotWrites.{found_unborrowed, free_seen, lent_seen, write_state}
+use Rattle.generational_box.specs.Records.{owners_of}
 use Rattle.generational_box.proofs.OwnerMaps.{counted_more}
 use Rattle.generational_box.proofs.unsync.Store.begin_write.Goals as goal
 
@@ -20,7 +21,7 @@ invariant_of-self g c =
     let f = found_unborrowed _ _ _ _ _ c.args.id c.self.view_is c.requires.free in
     (rw c.lend_value.ensures.after
     (slotted-filled _ _ _ _ _ f (Lent _) (lent_to _) refl c.self.invariant.0),
-    counted_more _ c.self.inside.owners c.self.invariant.1)
+    counted_more c.self.inside.next (owners_of c.self.inside.owners) c.self.invariant.1)
 
 pub returns-clause-value : goal.returns-clause-value
 returns-clause-value g c =
