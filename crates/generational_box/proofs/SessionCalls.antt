@@ -1,7 +1,7 @@
 -- What the code of a session leaves, as a session of the machine.
-use Rattle.std.proofs.Common.{◌≡◌, ℕ, Bool, List, [], ◌∷◌, ◌++◌, Option, None, Some, refl, sym, ap, subst, ◌∙◌, reverse, slice_get, slice_set, zero, suc, append_assoc}
+use Rattle.std.proofs.Common.{◌≡◌, ℕ, Bool, List, [], ◌∷◌, ◌++◌, Option, None, Some, Result, Ok, Err, refl, sym, ap, subst, ◌∙◌, reverse, slice_get, slice_set, zero, suc, append_assoc}
 use Rattle.std.specs.Prelude.{map as list_map}
-use Rattle.std.proofs.lemmas.List.{map-append, map-set, reverse-append, reverse-reverse, append-nil}
+use Rattle.std.proofs.lemmas.List.{map-append, map-set, reverse-append, reverse-reverse, append-nil, set-get_or}
 use Rattle.std.proofs.lemmas.Option.{none-some}
 use Rattle.generational_box.specs.declared.session.Call.{Call}
 use Rattle.generational_box.specs.declared.session.Call.TheVariants as call
@@ -10,15 +10,17 @@ use Rattle.generational_box.specs.declared.session.Thing.{Thing}
 use Rattle.generational_box.specs.declared.session.Thing.TheVariants as thing
 use Rattle.generational_box.specs.State.{State, IsFresh, IsEnded, fresh}
 use Rattle.generational_box.specs.Borrowing.{Guard}
-use Rattle.generational_box.specs.Machine.Action.{ReleaseReader}
+use Rattle.generational_box.specs.Writing.{WriteGuard}
+use Rattle.generational_box.specs.Answers.{back_answer}
+use Rattle.generational_box.specs.Machine.Action.{ReleaseReader, ReleaseWriter}
 use Rattle.generational_box.specs.Machine.Answer.{Flag}
 use Rattle.generational_box.specs.Steps.{Meets}
-use Rattle.generational_box.specs.Session.{SessionState, Held, Said, Asked, SessionStep, Settles, Run, asked, placed, held, released, let_go_of, all_let_go}
-use Rattle.generational_box.specs.Session.Held.{Reading, Nothing}
+use Rattle.generational_box.specs.Session.{SessionState, Held, Said, Asked, SessionStep, Settles, Run, asked, said, gives, placed, held, released, replaced, let_go_of, all_let_go}
+use Rattle.generational_box.specs.Session.Held.{Boxed, Reading, Writing, Owning, Nothing}
 use Rattle.generational_box.specs.Session.Said.{Ready}
-use Rattle.generational_box.specs.Session.Asked.{Asks, Tells}
+use Rattle.generational_box.specs.Session.Asked.{Asks, Tells, Swaps}
 use Rattle.generational_box.specs.Holding.{IsKept}
-use Rattle.generational_box.specs.Places.{thing_held, said_by, replies_said, session_in, GivesAsked, Gives}
+use Rattle.generational_box.specs.Places.{thing_held, said_by, replies_said, session_in, exchanged, GivesAsked, Gives}
 use Rattle.generational_box.proofs.Sessions.{fresh_kept, session_kept, run_kept}
 
 pub reversed_push : {X : Type 0} (xs ys : List X) (x : X) → xs ≡ ys ++ x ∷ [] → reverse xs ≡ x ∷ reverse ys
@@ -31,6 +33,7 @@ module _ {T : Type 0} where
   asked_step s m c (Asks action) x h g =
       (g.0, m.state, g.1, λ i. (g.2 i, placed (record { state = m.state; table = g.4 i }) (g.3 i)))
   asked_step s m c (Tells y) x h g = (g.0, λ i. placed (g.2 i) (g.1 i))
+  asked_step s m c (Swaps p k v old) x h g = (g.0, λ i. placed (g.2 i) (g.1 i))
 
   -- a thing at the end of the places
   pub pushed : (S : State T) (items after : List (Thing T)) (t : Thing T) → after ≡ items ++ t ∷ []
@@ -68,6 +71,62 @@ module _ {T : Type 0} where
       subst (λ h. GivesAsked (session_in S items) (call.Release p) (released h) Ready Nothing (session_in R after))
       (sym (held_there items p (thing.Reader g) there))
       (Flag known, meets, refl, refl, ap (list_map thing_held) spends ∙ map-set thing_held items p thing.Nothing)
+
+  -- a writer's guard at a place is released: what the store answers, the reply is the same
+  pub writer_release_gives : {U : Type 0} (S R : State T) (items after : List (Thing T)) (p : ℕ)
+      (g : WriteGuard T) (back : Result U T) → slice_get items p ≡ Some (thing.Writer g)
+      → Meets S (ReleaseWriter g.guard g.value) (back_answer back) R
+      → after ≡ slice_set items p thing.Nothing
+      → Gives (session_in S items) (call.Release p) Ready Nothing (session_in R after)
+  writer_release_gives S R items after p g back there meets spends =
+      subst (λ h. GivesAsked (session_in S items) (call.Release p) (released h) Ready Nothing
+      (session_in R after)) (sym (held_there items p (thing.Writer g) there)) (
+        back_answer back, meets, tells back, gives_none back,
+        ap (list_map thing_held) spends ∙ map-set thing_held items p thing.Nothing,
+      )
+    where
+      tells : {U : Type 0} (back : Result U T) → Ready ≡ said (call.Release p) (back_answer back)
+      tells (Ok u) = refl
+      tells (Err v) = refl
+
+      gives_none : {U : Type 0} (back : Result U T) → Nothing ≡ gives (back_answer back)
+      gives_none (Ok u) = refl
+      gives_none (Err v) = refl
+
+  -- a writer's guard at a place owns another value
+  -- another value for the writer at a place
+  module _ (S : State T) (items after : List (Thing T)) (p : ℕ) (v : T) (x : Said T) where
+    abbrev table : List (Held T)
+    table = list_map thing_held items
+
+    abbrev with_table : List (Held T) → SessionState T
+    with_table table = record { state = S; table = table }
+
+    abbrev Given : Held T → Type 0
+    Given h = GivesAsked (session_in S items)
+        (call.Replace p v) (replaced p h v) x Nothing (session_in S after)
+
+    stays : (h new : Held T) → held table p ≡ h → list_map thing_held after ≡ slice_set table p new
+        → new ≡ h → session_in S after ≡ session_in S items
+    stays h new is sets same = ap with_table
+        (sets ∙ (ap (slice_set table p) (same ∙ sym is) ∙ set-get_or table p Nothing))
+
+    given : (h new : Held T) → held table p ≡ h → list_map thing_held after ≡ slice_set table p new
+        → x ≡ (exchanged h v).0 → new ≡ (exchanged h v).1 → Given h
+    given (Writing g old) new is sets reply thing =
+        (reply, refl, ap with_table (sets ∙ ap (slice_set table p) thing))
+    given (Boxed b) new is sets reply thing = (reply, refl, stays (Boxed b) new is sets thing)
+    given (Reading g) new is sets reply thing = (reply, refl, stays (Reading g) new is sets thing)
+    given (Owning o) new is sets reply thing = (reply, refl, stays (Owning o) new is sets thing)
+    given Nothing new is sets reply thing = (reply, refl, stays Nothing new is sets thing)
+
+    pub replace_gives : (t u : Thing T) → slice_get items p ≡ Some t → after ≡ slice_set items p u
+        → x ≡ (exchanged (thing_held t) v).0 → thing_held u ≡ (exchanged (thing_held t) v).1
+        → Gives (session_in S items) (call.Replace p v) x Nothing (session_in S after)
+    replace_gives t u there changes reply thing =
+        let at = held_there items p t there in
+        subst Given (sym at) (given (thing_held t) (thing_held u) at
+        (ap (list_map thing_held) changes ∙ map-set thing_held items p u) reply thing)
 
   -- what holds of the session before a call holds after it
   pub call_kept : {s : SessionState T} (S : State T) (items : List (Thing T)) (r : SessionState T) (c : Call T) (x : Said T)
