@@ -20,8 +20,12 @@ use Rattle.generational_box.specs.Session.Held.{Boxed, Reading, Writing, Owning,
 use Rattle.generational_box.specs.Session.Said.{Ready}
 use Rattle.generational_box.specs.Session.Asked.{Asks, Tells, Swaps}
 use Rattle.generational_box.specs.Holding.{IsKept}
+use Rattle.generational_box.specs.Keeping.{IsUndisturbed, Undisturbed, value_at}
+use Rattle.generational_box.specs.Names.{Name}
+use Rattle.generational_box.specs.declared.boxes.GenerationalPointer.{GenerationalPointer}
 use Rattle.generational_box.specs.Places.{thing_held, said_by, replies_said, session_in, exchanged, GivesAsked, Gives}
-use Rattle.generational_box.proofs.Sessions.{fresh_kept, session_kept, run_kept}
+use Rattle.generational_box.proofs.Sessions.{fresh_kept, session_kept, session_value, run_kept}
+use Rattle.generational_box.proofs.Sessions.{run_value}
 
 pub reversed_push : {X : Type 0} (xs ys : List X) (x : X) → xs ≡ ys ++ x ∷ [] → reverse xs ≡ x ∷ reverse ys
 reversed_push xs ys x e = ap reverse e ∙ reverse-append ys (x ∷ [])
@@ -133,11 +137,27 @@ module _ {T : Type 0} where
       → session_in S items ≡ s → IsKept (session_in S items) → SessionStep s c x r → IsKept r
   call_kept S items r c x view kept step = session_kept _ r c x (subst IsKept view kept) step
 
+  -- a value that nothing disturbs stays in a call
+  pub call_value : {s : SessionState T} (S : State T) (items : List (Thing T)) (r : SessionState T)
+      (c : Call T) (x : Said T) (b : GenerationalPointer) (m : Name)
+      → session_in S items ≡ s → IsKept (session_in S items) → SessionStep s c x r
+      → IsUndisturbed b m s c r → value_at r.state m ≡ value_at s.state m
+  call_value {s} S items r c x b m view kept step undisturbed =
+      session_value s r c x b m (subst IsKept view kept).sound step undisturbed
+
   -- ---- runs, and the end
 
   pub run_kept_in : {s : SessionState T} (S : State T) (items : List (Thing T)) (r : SessionState T) (calls : List (Call T)) (replies : List (Said T))
       → session_in S items ≡ s → IsKept (session_in S items) → Run s calls replies r → IsKept r
   run_kept_in {s} S items r calls replies view kept run = run_kept calls replies s r (subst IsKept view kept) run
+
+  pub run_value_in : {s : SessionState T} (S : State T) (items : List (Thing T))
+      (r : SessionState T) (calls : List (Call T)) (replies : List (Said T))
+      (b : GenerationalPointer) (m : Name)
+      → session_in S items ≡ s → IsKept (session_in S items) → (run : Run s calls replies r)
+      → Undisturbed b m s calls replies r run → value_at r.state m ≡ value_at s.state m
+  run_value_in {s} S items r calls replies b m view kept run undisturbed =
+      run_value calls replies s r b m (subst IsKept view kept).sound run undisturbed
 
   -- the last of a reversed table is the first that is let go
   pub let_go_next : (S R : State T) (items rest : List (Thing T)) (t : Thing T) → items ≡ rest ++ t ∷ []

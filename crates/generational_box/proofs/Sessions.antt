@@ -1,7 +1,7 @@
 -- Each call of a session keeps what holds of every session, and so does a whole run.
-use Rattle.std.proofs.Common.{◌≡◌, ◌≢◌, ℕ, false, List, [], ◌∷◌, ◌++◌}
+use Rattle.std.proofs.Common.{◌≡◌, ◌≢◌, ℕ, true, false, List, [], ◌∷◌, ◌++◌}
 use Rattle.std.proofs.Common.{Option, None, Some, refl, sym, ap, subst, ◌∙◌, inl, inr, ⊎_elim}
-use Rattle.std.specs.Prelude.{◌⊎◌}
+use Rattle.std.specs.Prelude.{◌⊎◌, is_some}
 use Rattle.std.proofs.lemmas.Bool.{eqb-true, false_from_ne_true}
 use Rattle.generational_box.specs.declared.boxes.GenerationalPointer.{GenerationalPointer}
 use Rattle.generational_box.specs.declared.session.Call.{Call}
@@ -20,6 +20,8 @@ use Rattle.generational_box.specs.Session.Asked.{Asks, Tells, Swaps}
 use Rattle.generational_box.specs.Session.Held.{Boxed, Reading, Writing, Nothing}
 use Rattle.generational_box.specs.Holding.{IsKept}
 use Rattle.generational_box.specs.Bounds.{IsBounded}
+use Rattle.generational_box.specs.Keeping.{AskedSets, IsUndisturbed, Undisturbed, value_at}
+use Rattle.generational_box.proofs.Undisturbed.{meets_value}
 use Rattle.generational_box.proofs.Bounding.{meets_bounded}
 use Rattle.generational_box.specs.Session.{asked}
 use Rattle.generational_box.proofs.Lasting.{fresh_sound}
@@ -189,6 +191,26 @@ module _ {T : Type 0} where
       (λ e. meets_bounded s.state r.state e.0 e.1 sound bounded e.2)
       (settles_meets s r c x (asked s c) step)
 
+  -- a value that nothing disturbs stays
+  settles_value : (s r : SessionState T) (c : Call T) (x : Said T) (a : Asked T) (m : Name)
+      → IsSound s.state → Settles s c a x r → (AskedSets s.state a m → ⊥)
+      → is_some (value_at s.state m) ≡ true → is_some (value_at r.state m) ≡ true
+      → value_at r.state m ≡ value_at s.state m
+  settles_value s r c x (Asks action) m sound step unset here after =
+      let same = ap (λ (o : Said T × SessionState T). o.1.state) step.3 in
+      meets_value s.state r.state action step.0 m sound
+      (subst (Meets s.state action step.0) (sym same) step.2) unset here after
+  settles_value s r c x (Tells y) m sound step unset here after =
+      ap (λ (r : SessionState T). value_at r.state m) step.1
+  settles_value s r c x (Swaps p g v old) m sound step unset here after =
+      ap (λ (r : SessionState T). value_at r.state m) step.1
+
+  pub session_value : (s r : SessionState T) (c : Call T) (x : Said T)
+      (b : GenerationalPointer) (m : Name) → IsSound s.state → SessionStep s c x r
+      → IsUndisturbed b m s c r → value_at r.state m ≡ value_at s.state m
+  session_value s r c x b m sound step u = settles_value s r c x (asked s c) m
+      sound step u.unset u.before.here u.after.here
+
   -- ---- runs
 
   -- a session of a fresh store, in which nothing was called
@@ -227,6 +249,27 @@ module _ {T : Type 0} where
       → Run s calls replies r → (n : Name) → IsEnded s.state n → IsEnded r.state n
   run_ended calls replies s r run n ended = by_run (λ s. IsEnded s.state n)
       (λ s r c x h step. session_ended s r c x step n h) calls replies s r ended run
+
+  -- a value that nothing disturbs in a run stays
+  pub run_value : (calls : List (Call T)) (replies : List (Said T)) (s r : SessionState T)
+      (b : GenerationalPointer) (m : Name) → IsSound s.state → (run : Run s calls replies r)
+      → Undisturbed b m s calls replies r run → value_at r.state m ≡ value_at s.state m
+  run_value [] [] s r b m sound run u = ap (λ (r : SessionState T). value_at r.state m) run
+  run_value (c ∷ calls) (x ∷ replies) s r b m sound run u =
+      run_value calls replies run.0 r b m
+      (session_sound s run.0 c x sound run.1) run.2 u.2
+      ∙ settles_value s run.0 c x (asked s c) m sound run.1 u.1 u.0.here
+      (first_here calls replies run.0 r b m run.2 u.2)
+    where
+      first_here : (calls : List (Call T)) (replies : List (Said T)) (s r : SessionState T)
+          (b : GenerationalPointer) (m : Name) → (run : Run s calls replies r)
+          → Undisturbed b m s calls replies r run → is_some (value_at s.state m) ≡ true
+      first_here [] [] s r b m run u = u.here
+      first_here (c ∷ calls) (x ∷ replies) s r b m run u = u.0.here
+      first_here [] (x ∷ replies) s r b m run u = absurd u
+      first_here (c ∷ calls) [] s r b m run u = absurd u
+  run_value [] (x ∷ replies) s r b m sound run u = absurd u
+  run_value (c ∷ calls) [] s r b m sound run u = absurd u
 
   -- a run keeps the bound on slots
   pub run_bounded : (calls : List (Call T)) (replies : List (Said T)) (s r : SessionState T)

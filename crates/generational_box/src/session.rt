@@ -106,7 +106,9 @@ impl<T: Drop, S: Storage<T>> Session<T, S> {
     ghost use Rattle.generational_box.specs.State.{IsFresh, IsEnded};
     ghost use Rattle.generational_box.specs.Session.{SessionStep, Run, viewed, all_let_go};
     ghost use Rattle.generational_box.specs.Holding.{IsKept};
+    ghost use Rattle.generational_box.specs.Keeping.{IsUndisturbed, Undisturbed, value_at};
     ghost use Rattle.generational_box.specs.Places.{said_by, replies_said};
+    ghost use Rattle.generational_box.specs.declared.boxes.GenerationalPointer.{GenerationalPointer};
 
     /// A session over a store in which nothing was made yet (`is_fresh` is the test). Takes no
     /// memory.
@@ -130,9 +132,11 @@ impl<T: Drop, S: Storage<T>> Session<T, S> {
         ensures unchanged { OnErr result (self.new ≡ self.old) }
 
         // The state is sound, boxes at different places have different ids, and the store knows
-        // the held guards. A name that has ended is never live again.
+        // the held guards. A name that has ended is never live again. A value that nothing
+        // disturbs stays.
         ensures kept { IsKept self.new }
         ensures ended { (n : Name) → IsEnded self.old.state n → IsEnded self.new.state n }
+        ensures kept_value { (b : GenerationalPointer) (m : Name) → IsUndisturbed b m self.old call self.new → value_at self.new.state m ≡ value_at self.old.state m }
     {
         if self.things.reserve(1).is_err() {
             return Err(call);
@@ -153,6 +157,7 @@ impl<T: Drop, S: Storage<T>> Session<T, S> {
         // What `call` keeps, each run keeps.
         ensures kept { IsKept self.new }
         ensures ended { (n : Name) → IsEnded self.old.state n → IsEnded self.new.state n }
+        ensures kept_value { IfOk result (λ replies. (b : GenerationalPointer) (m : Name) (run : Run self.old calls.items (replies_said replies.items) self.new) → Undisturbed b m self.old calls.items (replies_said replies.items) self.new run → value_at self.new.state m ≡ value_at self.old.state m) }
     {
         let count = calls.len();
         if self.things.reserve(count).is_err() {
