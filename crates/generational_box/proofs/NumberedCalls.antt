@@ -251,7 +251,6 @@ module _ {T : Type 0} {s a : SessionState T} (m : Matches s a) where
         (sym (λ i. (step.0 i, step.1 i)))
         (kept_step m (y, placed s Nothing)
         (z, placed a Nothing) (record { said = e; session = placed_alike m.carries }) refl))
-
     settles_step c x r p q (both_swap place g v old known) step =
         let heard : refusal_in x ≡ None = ap refusal_in step.0 in
         let guard = moved_guard (named_by m.order) m.difference a.state.number g in

@@ -85,7 +85,10 @@ module _ {T : Type 0} where
   writer_release_gives S R items after p g back there meets spends =
       subst (λ h. GivesAsked (session_in S items) (call.Release p) (released h) Ready Nothing
       (session_in R after)) (sym (held_there items p (thing.Writer g) there)) (
-        back_answer back, meets, tells back, gives_none back,
+        back_answer back,
+        meets,
+        tells back,
+        gives_none back,
         ap (list_map thing_held) spends ∙ map-set thing_held items p thing.Nothing,
       )
     where

@@ -136,7 +136,9 @@ impl<T: Drop, S: Storage<T>> Session<T, S> {
         // disturbs stays.
         ensures kept { IsKept self.new }
         ensures ended { (n : Name) → IsEnded self.old.state n → IsEnded self.new.state n }
-        ensures kept_value { (b : GenerationalPointer) (m : Name) → IsUndisturbed b m self.old call self.new → value_at self.new.state m ≡ value_at self.old.state m }
+        ensures kept_value { (b : GenerationalPointer) (m : Name) →
+            IsUndisturbed b m self.old call self.new →
+            value_at self.new.state m ≡ value_at self.old.state m }
     {
         if self.things.reserve(1).is_err() {
             return Err(call);
@@ -157,7 +159,11 @@ impl<T: Drop, S: Storage<T>> Session<T, S> {
         // What `call` keeps, each run keeps.
         ensures kept { IsKept self.new }
         ensures ended { (n : Name) → IsEnded self.old.state n → IsEnded self.new.state n }
-        ensures kept_value { IfOk result (λ replies. (b : GenerationalPointer) (m : Name) (run : Run self.old calls.items (replies_said replies.items) self.new) → Undisturbed b m self.old calls.items (replies_said replies.items) self.new run → value_at self.new.state m ≡ value_at self.old.state m) }
+        ensures kept_value { IfOk result (λ replies.
+            let said = replies_said replies.items in
+            (b : GenerationalPointer) (m : Name) (run : Run self.old calls.items said self.new) →
+            Undisturbed b m self.old calls.items said self.new run →
+            value_at self.new.state m ≡ value_at self.old.state m) }
     {
         let count = calls.len();
         if self.things.reserve(count).is_err() {
@@ -294,7 +300,8 @@ fn try_write<T, S: Storage<T>>(
     at: BoxAt<T>,
     location: Location,
 ) -> (Reply<T>, Thing<T>)
-    ensures { Gives (session_in (S.state store.old) things.now) (call.TryWrite at location) (said_by result.0) (thing_held result.1) (session_in (S.state store.new) things.now) }
+    ensures { Gives (session_in (S.state store.old) things.now) (call.TryWrite at location)
+        (said_by result.0) (thing_held result.1) (session_in (S.state store.new) things.now) }
 {
     let Some(from) = resolve(store, things, at) else {
         return (Reply::NoSuch(None), Thing::Nothing);
@@ -308,7 +315,9 @@ fn try_write<T, S: Storage<T>>(
 
 // Puts another value into the writer at a place, whatever the store is.
 fn replace<T>(things: &mut Vec<Thing<T>>, place: usize, value: T) -> (Reply<T>, Thing<T>)
-    ensures step { (S : State T) → Gives (session_in S things.old.items) (call.Replace place value) (said_by result.0) (thing_held result.1) (session_in S things.new.items) }
+    ensures step { (S : State T) → Gives (session_in S things.old.items)
+        (call.Replace place value) (said_by result.0) (thing_held result.1)
+        (session_in S things.new.items) }
     ensures len { vec_len things.new ≡ vec_len things.old }
     ensures capacity { vec_capacity things.new ≡ vec_capacity things.old }
 {
