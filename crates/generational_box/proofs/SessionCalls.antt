@@ -1,5 +1,5 @@
 -- What the code of a session leaves, as a session of the machine.
-use Rattle.std.proofs.Common.{◌≡◌, ℕ, Bool, List, [], ◌∷◌, ◌++◌, Option, None, Some, Result, Ok, Err, refl, sym, ap, subst, ◌∙◌, reverse, slice_get, slice_set, zero, suc, append_assoc}
+use Rattle.std.proofs.Common.{◌≡◌, ℕ, Bool, List, [], ◌∷◌, ◌++◌, Some, Result, Ok, Err, refl, sym, ap, subst, ◌∙◌, reverse, slice_get, slice_set, zero, suc, append_assoc}
 use Rattle.std.specs.Prelude.{map as list_map}
 use Rattle.std.proofs.lemmas.List.{map-append, map-set, reverse-append, reverse-reverse, append-nil, set-get_or}
 use Rattle.std.proofs.lemmas.Option.{none-some}
@@ -8,7 +8,7 @@ use Rattle.generational_box.specs.declared.session.Call.TheVariants as call
 use Rattle.generational_box.specs.declared.session.Reply.{Reply}
 use Rattle.generational_box.specs.declared.session.Thing.{Thing}
 use Rattle.generational_box.specs.declared.session.Thing.TheVariants as thing
-use Rattle.generational_box.specs.State.{State, IsFresh, IsEnded, fresh}
+use Rattle.generational_box.specs.State.{State, IsFresh}
 use Rattle.generational_box.specs.Borrowing.{Guard}
 use Rattle.generational_box.specs.Writing.{WriteGuard}
 use Rattle.generational_box.specs.Answers.{back_answer}

@@ -1,5 +1,5 @@
 -- What a session's places and replies are in the machine.
-use Rattle.std.specs.Prelude.{◌≡◌, ℕ, List, Some, map as list_map}
+use Rattle.std.specs.Prelude.{◌≡◌, List, Some, map as list_map}
 use Rattle.generational_box.specs.declared.session.Thing.{Thing}
 use Rattle.generational_box.specs.declared.session.Thing.TheVariants as thing
 use Rattle.generational_box.specs.declared.session.Reply.{Reply}

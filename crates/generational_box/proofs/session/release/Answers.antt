@@ -1,4 +1,4 @@
-use Rattle.std.proofs.Common.{◌≡◌, Some, arith, slice_get, slice_set, ap}
+use Rattle.std.proofs.Common.{◌≡◌, Some, arith, slice_get}
 use Rattle.std.proofs.lemmas.Grind.{common_steps}
 use Rattle.std.proofs.lemmas.Option.{gets}
 use Rattle.generational_box.specs.declared.session.Thing.TheVariants.{Reader, Writer}

@@ -1,5 +1,3 @@
-use Rattle.generational_box.specs.Session.{SessionStep}
-use Rattle.generational_box.specs.Places.{said_by, session_in}
 use Rattle.generational_box.proofs.SessionCalls.{call_step, call_kept, call_value}
 use Rattle.generational_box.proofs.Sessions.{session_ended}
 use Rattle.generational_box.proofs.session.Session.call.Goals as goal

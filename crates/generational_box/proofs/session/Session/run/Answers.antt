@@ -1,7 +1,5 @@
-use Rattle.std.proofs.Common.{◌≡◌, ◌+◌, ◌≤◌, [], arith, vec_len, vec_capacity}
+use Rattle.std.proofs.Common.{◌≡◌, [], arith}
 use Rattle.std.proofs.lemmas.Grind.{common_steps}
-use Rattle.generational_box.specs.Session.{Run}
-use Rattle.generational_box.specs.Places.{session_in, replies_said}
 use Rattle.generational_box.proofs.SessionCalls.{run_goes, run_ends, run_kept_in, run_value_in}
 use Rattle.generational_box.proofs.Sessions.{run_ended}
 use Rattle.generational_box.proofs.session.Session.run.Goals as goal

@@ -1,4 +1,4 @@
-use Rattle.std.proofs.Common.{◌≡◌, ◌+◌, ◌≤◌, ◌++◌, length, reverse, vec_len, vec_capacity}
+use Rattle.std.proofs.Common.{◌+◌, ◌≤◌, ◌++◌, reverse, vec_len, vec_capacity}
 use Rattle.generational_box.specs.Session.{Run}
 use Rattle.generational_box.specs.Places.{session_in, replies_said}
 use Rattle.generational_box.proofs.session.Session.run.Given as goal
