@@ -14,7 +14,8 @@ use Rattle.generational_box.specs.Cells.Content.{Here, Lent}
 use Rattle.generational_box.specs.Cells.Cell.{Value, Shared, Ref}
 use Rattle.generational_box.specs.State.{State, Holding, IsSound}
 use Rattle.generational_box.specs.Boxes.{name_of}
-use Rattle.generational_box.specs.Borrowing.{Trouble, Guard, content_at, reach, read_trouble, filled}
+use Rattle.generational_box.specs.Borrowing.{Trouble, Guard, content_at, reach}
+use Rattle.generational_box.specs.Borrowing.{read_trouble, filled}
 use Rattle.generational_box.specs.Borrowing.{write_trouble, is_same_box}
 use Rattle.generational_box.specs.Ending.{swept, without, close, hindered, hindrance_at}
 use Rattle.generational_box.specs.Machine.{Action, Answer, Fresh, Outcome, OwnerName, act, born}

@@ -9,7 +9,8 @@ use Rattle.generational_box.specs.declared.session.Call.{Call}
 use Rattle.generational_box.specs.State.{State}
 use Rattle.generational_box.specs.Machine.{Answer}
 use Rattle.generational_box.specs.Steps.{Meets}
-use Rattle.generational_box.specs.Session.{Held, Said, SessionState, Asked, asked, said, gives, spent, swapped}
+use Rattle.generational_box.specs.Session.{Held, Said, SessionState, Asked, asked, said, gives}
+use Rattle.generational_box.specs.Session.{spent, swapped}
 use Rattle.generational_box.specs.Session.Asked.{Asks, Tells, Swaps}
 use Rattle.generational_box.specs.Session.Held.{Boxed, Reading, Writing, Nothing}
 use Rattle.generational_box.specs.Session.Said.{ABox, AReader, AWriter, Ready, TheOld, Error}

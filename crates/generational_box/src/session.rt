@@ -2,6 +2,7 @@
 
 ghost use Rattle.std.specs.Prelude.{◌≡◌, List, option_map, vec_len, vec_capacity};
 ghost use Rattle.generational_box.specs.declared.session.Call.TheVariants as call;
+ghost use Rattle.generational_box.specs.declared.boxes.GenerationalPointer.{GenerationalPointer};
 ghost use Rattle.generational_box.specs.Boxes.{pointer_of};
 ghost use Rattle.generational_box.specs.State.{State};
 ghost use Rattle.generational_box.specs.Session.{Held, box_in, let_go_of};
@@ -95,9 +96,11 @@ impl<T, S: Storage<T>> Model for Session<T, S> {
 
     ghost coded = { Prim.hlevel (codes, map.code) };
 
-    ghost view = { λ s. record { state = S.state s.store; table = list_map thing_held s.things.items } };
+    ghost view = { λ s.
+        record { state = S.state s.store; table = list_map thing_held s.things.items } };
 
-    ghost invariant = { λ s. IsKept (record { state = S.state s.store; table = list_map thing_held s.things.items }) };
+    ghost invariant = { λ s. IsKept
+        (record { state = S.state s.store; table = list_map thing_held s.things.items }) };
 }
 
 impl<T: Drop, S: Storage<T>> Session<T, S> {
@@ -108,7 +111,6 @@ impl<T: Drop, S: Storage<T>> Session<T, S> {
     ghost use Rattle.generational_box.specs.Holding.{IsKept};
     ghost use Rattle.generational_box.specs.Keeping.{IsUndisturbed, Undisturbed, value_at};
     ghost use Rattle.generational_box.specs.Places.{said_by, replies_said};
-    ghost use Rattle.generational_box.specs.declared.boxes.GenerationalPointer.{GenerationalPointer};
 
     /// A session over a store in which nothing was made yet (`is_fresh` is the test). Takes no
     /// memory.
@@ -152,7 +154,8 @@ impl<T: Drop, S: Storage<T>> Session<T, S> {
     /// replies or the places is lacking: then none has a place, and nothing changes.
     pub fn run(&mut self, mut calls: Vec<Call<T>>) -> Result<Vec<Reply<T>>, Vec<Call<T>>>
         // The calls and their replies are a run of the machine.
-        ensures run { IfOk result (λ replies. Run self.old calls.items (replies_said replies.items) self.new) }
+        ensures run { IfOk result (λ replies.
+            Run self.old calls.items (replies_said replies.items) self.new) }
         ensures back { IfErr result (λ back. back.items ≡ calls.items) }
         ensures unchanged { OnErr result (self.new ≡ self.old) }
 
@@ -227,7 +230,9 @@ fn answer<T: Drop, S: Storage<T>>(
     things: &mut Vec<Thing<T>>,
     call: Call<T>,
 ) -> (Reply<T>, Thing<T>)
-    ensures step { Gives (session_in (S.state store.old) things.old.items) call (said_by result.0) (thing_held result.1) (session_in (S.state store.new) things.new.items) }
+    ensures step { Gives (session_in (S.state store.old) things.old.items) call
+        (said_by result.0) (thing_held result.1)
+        (session_in (S.state store.new) things.new.items) }
     ensures len { vec_len things.new ≡ vec_len things.old }
     ensures capacity { vec_capacity things.new ≡ vec_capacity things.old }
 {
@@ -266,7 +271,10 @@ fn resolve<T, S: Storage<T>>(
 
 // Makes a box, whatever the places hold.
 fn leak<T, S: Storage<T>>(store: &mut S, value: T, location: Location) -> (Reply<T>, Thing<T>)
-    ensures { (table : List (Held T)) → Gives (record { state = S.state store.old; table = table }) (call.Leak value location) (said_by result.0) (thing_held result.1) (record { state = S.state store.new; table = table }) }
+    ensures { (table : List (Held T)) →
+        Gives (record { state = S.state store.old; table = table }) (call.Leak value location)
+        (said_by result.0) (thing_held result.1)
+        (record { state = S.state store.new; table = table }) }
 {
     match GenerationalBox::leak(store, value, location) {
         Ok(made) => (Reply::Box(made), Thing::Box(made)),
@@ -281,7 +289,8 @@ fn try_read<T, S: Storage<T>>(
     at: BoxAt<T>,
     location: Location,
 ) -> (Reply<T>, Thing<T>)
-    ensures { Gives (session_in (S.state store.old) things.now) (call.TryRead at location) (said_by result.0) (thing_held result.1) (session_in (S.state store.new) things.now) }
+    ensures { Gives (session_in (S.state store.old) things.now) (call.TryRead at location)
+        (said_by result.0) (thing_held result.1) (session_in (S.state store.new) things.now) }
 {
     let Some(from) = resolve(store, things, at) else {
         return (Reply::NoSuch(None), Thing::Nothing);
@@ -344,7 +353,8 @@ fn manually_drop<T, S: Storage<T>>(
     things: &[Thing<T>],
     at: BoxAt<T>,
 ) -> (Reply<T>, Thing<T>)
-    ensures { Gives (session_in (S.state store.old) things.now) (call.ManuallyDrop at) (said_by result.0) (thing_held result.1) (session_in (S.state store.new) things.now) }
+    ensures { Gives (session_in (S.state store.old) things.now) (call.ManuallyDrop at)
+        (said_by result.0) (thing_held result.1) (session_in (S.state store.new) things.now) }
 {
     let Some(from) = resolve(store, things, at) else {
         return (Reply::NoSuch(None), Thing::Nothing);
@@ -362,7 +372,9 @@ fn release<T: Drop, S: Storage<T>>(
     things: &mut Vec<Thing<T>>,
     place: usize,
 ) -> (Reply<T>, Thing<T>)
-    ensures step { Gives (session_in (S.state store.old) things.old.items) (call.Release place) (said_by result.0) (thing_held result.1) (session_in (S.state store.new) things.new.items) }
+    ensures step { Gives (session_in (S.state store.old) things.old.items) (call.Release place)
+        (said_by result.0) (thing_held result.1)
+        (session_in (S.state store.new) things.new.items) }
     ensures len { vec_len things.new ≡ vec_len things.old }
     ensures capacity { vec_capacity things.new ≡ vec_capacity things.old }
 {
