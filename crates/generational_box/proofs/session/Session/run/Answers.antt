@@ -7,7 +7,8 @@ use Rattle.generational_box.proofs.session.Session.run.Goals as goal
 pub loop-call-preserved : goal.loop-call-preserved
 loop-call-preserved g c = record {
   run = run_goes _ _ _ _ _ _ _ _ _ c.in-Some.call _ _ _ _ c.in-Some.ensures.items
-      c.answer-reply.ensures.step c.push_reserved.ensures.items c.push_reserved-in-Some.ensures.items c.loop-call.invariant.run;
+      c.answer-reply.ensures.step c.push_reserved.ensures.items
+      c.push_reserved-in-Some.ensures.items c.loop-call.invariant.run;
   things = omega (arith, c.in-Some.ensures.len);
   replies = omega (arith, c.in-Some.ensures.len);
 }
