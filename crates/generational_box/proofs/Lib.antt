@@ -54,3 +54,4 @@ pub mod Staying
 pub mod Stepping
 pub mod Tables
 pub mod Tickets
+pub mod Undisturbed
