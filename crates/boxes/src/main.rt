@@ -3,16 +3,19 @@
 //!
 //! A line ends with the byte 0A alone, and a last line without it counts if it is not empty. The
 //! words of a line are parted by exactly one space, and a VALUE is all that follows the space after
-//! the last word, possibly nothing. Numbers name earlier lines: what `leak` or `try_read` gave is
-//! called by the number of its line, decimal, from 1 to 1000000, without sign or leading zeros.
+//! the last word, possibly nothing. Numbers name earlier lines: what `leak`, `try_read` or
+//! `try_write` gave is called by the number of its line, decimal, from 1 to 1000000, without sign
+//! or leading zeros.
 //!
-//! | line         | its reply                                          |
-//! |--------------|----------------------------------------------------|
-//! | `leak VALUE` | `box SLOT@GENERATION`                              |
-//! | `try_read B` | `reader`, of the box that line B gave              |
-//! | `show G`     | `value ` and the value that line G's guard lends   |
-//! | `release N`  | `ok`, and line N's guard is spent                  |
-//! | `end B`      | `ok`, and the value of the box of line B is gone   |
+//! | line              | its reply                                           |
+//! |-------------------|-----------------------------------------------------|
+//! | `leak VALUE`      | `box SLOT@GENERATION`                               |
+//! | `try_read B`      | `reader`, of the box that line B gave               |
+//! | `try_write B`     | `writer`, of the box that line B gave               |
+//! | `replace G VALUE` | `old ` and the value that line G's writer had       |
+//! | `show G`          | `value ` and the value that line G's guard lends    |
+//! | `release N`       | `ok`, and line N's guard is spent                   |
+//! | `end B`           | `ok`, and the value of the box of line B is gone    |
 //!
 //! Any other line, such as one that is not UTF-8, is answered `bad line`, and a number of a line
 //! that gave no such thing `no such`. A borrow that the store denies is answered `error: ` and its

@@ -16,6 +16,8 @@ pub const MOST_LINES: u32 = 1_000_000;
 enum Command<'a> {
     Leak(&'a str),
     TryRead(u32),
+    TryWrite(u32),
+    Replace(u32, &'a str),
     Show(u32),
     Release(u32),
     End(u32),
@@ -122,6 +124,11 @@ impl Script {
                 Request::Call(Call::Leak(String::from_str(self.alloc, value)?, location))
             }
             Command::TryRead(line) => Request::Call(Call::TryRead(self.box_at(line), location)),
+            Command::TryWrite(line) => Request::Call(Call::TryWrite(self.box_at(line), location)),
+            Command::Replace(line, value) => {
+                let value = String::from_str(self.alloc, value)?;
+                Request::Call(Call::Replace(self.places.at(line), value))
+            }
             Command::Show(line) => Request::View(self.places.at(line)),
             Command::Release(line) => Request::Call(Call::Release(self.places.at(line))),
             Command::End(line) => Request::Call(Call::ManuallyDrop(self.box_at(line))),
@@ -175,11 +182,22 @@ fn parse(line: &[u8]) -> Option<Command<'_>> {
     match (word, rest) {
         ("leak", Some(value)) => Some(Command::Leak(value)),
         ("try_read", Some(line)) => Some(Command::TryRead(line_number(line)?)),
+        ("try_write", Some(line)) => Some(Command::TryWrite(line_number(line)?)),
+        ("replace", Some(rest)) => {
+            let (line, value) = line_and_value(rest)?;
+            Some(Command::Replace(line, value))
+        }
         ("show", Some(line)) => Some(Command::Show(line_number(line)?)),
         ("release", Some(line)) => Some(Command::Release(line_number(line)?)),
         ("end", Some(line)) => Some(Command::End(line_number(line)?)),
         _ => None,
     }
+}
+
+// The number of a line, and the value behind the space after it.
+fn line_and_value(rest: &str) -> Option<(u32, &str)> {
+    let (line, value) = rest.split_once(' ')?;
+    Some((line_number(line)?, value))
 }
 
 // The number of a line: decimal, from 1 to the limit, without sign or leading zeros.
@@ -216,7 +234,9 @@ fn write_reply<W: Write>(output: &mut W, reply: Reply<String>) -> io::Result<()>
     match reply {
         Reply::Box(made) => writeln!(output, "box {made:?}"),
         Reply::Reader => writeln!(output, "reader"),
+        Reply::Writer => writeln!(output, "writer"),
         Reply::Done => writeln!(output, "ok"),
+        Reply::Old(value) => writeln!(output, "old {value}"),
         Reply::Error(error) => writeln!(output, "error: {error}"),
         Reply::Store(error) | Reply::Back(_, error) => writeln!(output, "refused: {error}"),
         Reply::NoSuch(_) => writeln!(output, "no such"),

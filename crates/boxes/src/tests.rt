@@ -143,6 +143,36 @@ fn lines_that_name_nothing_or_are_bad(rt: HostRuntime) {
 }
 
 #[test]
+fn a_value_is_replaced(rt: HostRuntime) {
+    assert_replies(
+        &rt,
+        rt.alloc(),
+        "leak a\ntry_write 1\ntry_read 1\nreplace 2 b\nshow 2\nrelease 2\ntry_read 1\nshow 7\n",
+        "box 0@1\nwriter\nerror: Failed to borrow because the value was already borrowed mutably.borrowed_mut_at: script:2:1\nold a\nvalue b\nok\nreader\nvalue b\n",
+    );
+}
+
+#[test]
+fn values_are_replaced_by_writers_alone(rt: HostRuntime) {
+    assert_replies(
+        &rt,
+        rt.alloc(),
+        "leak a\ntry_read 1\nreplace 2 b\nreplace 1 b\nshow 2\nrelease 2\ntry_write 1\nreplace 7\nreplace 7 \nshow 7\nreplace 7  b c\nrelease 7\nreplace 7 d\ntry_read 1\nshow 14\n",
+        "box 0@1\nreader\nno such\nno such\nvalue a\nok\nwriter\nbad line\nold a\nvalue \nold \nok\nno such\nreader\nvalue  b c\n",
+    );
+}
+
+#[test]
+fn writers_keep_others_out(rt: HostRuntime) {
+    assert_replies(
+        &rt,
+        rt.alloc(),
+        "leak a\ntry_write 1\ntry_write 1\nend 1\nrelease 2\ntry_read 1\ntry_read 1\ntry_write 1\nrelease 6\nrelease 7\nend 1\ntry_write 1\n",
+        "box 0@1\nwriter\nerror: Failed to borrow because the value was already borrowed mutably.borrowed_mut_at: script:2:1\nerror: Failed to borrow because the value was already borrowed mutably.borrowed_mut_at: script:2:1\nok\nreader\nreader\nerror: Failed to borrow mutably because the value was already borrowed immutably.borrowed_at:\tscript:6:1\tscript:7:1\nok\nok\nok\nerror: Failed to borrow because the value was dropped.created_at: script:1:1\n",
+    );
+}
+
+#[test]
 fn no_input_and_no_fault(rt: HostRuntime) {
     assert_replies(&rt, rt.alloc(), "", "");
 }
@@ -190,6 +220,15 @@ fn forms_of_lines(rt: HostRuntime) {
         "try_read 1 1",
         "try_read 1000001",
         "try_read 4294967297",
+        "try_write",
+        "try_write ",
+        "try_write 01",
+        "replace",
+        "replace ",
+        "replace 1",
+        "replace 01 b",
+        "replace  1 b",
+        "replace b",
         "show",
         "release",
         "end one",
@@ -198,7 +237,16 @@ fn forms_of_lines(rt: HostRuntime) {
     for line in bad {
         assert_line(&rt, rt.alloc(), line, "bad line\n");
     }
-    for line in ["try_read 2", "show 1", "release 1", "end 1000000", "end 2"] {
+    for line in [
+        "try_read 2",
+        "try_write 2",
+        "replace 1 b",
+        "replace 2 b",
+        "show 1",
+        "release 1",
+        "end 1000000",
+        "end 2",
+    ] {
         assert_line(&rt, rt.alloc(), line, "no such\n");
     }
 }

@@ -1,5 +1,6 @@
 //! The element types that are measured.
 
+use itoa::Buffer;
 use std::alloc::{AllocError, Global};
 
 /// What a workload keeps in the store.
@@ -26,8 +27,14 @@ impl Element for u64 {
 
 /// `v` and the decimal digits of the word modulo a million.
 impl Element for String {
+    // By hand: `format!` costs more than most of the calls that are measured.
     fn of_word(alloc: Global, word: u32) -> Result<String, AllocError> {
-        format!(in alloc; "v{}", word % 1_000_000)
+        let mut buffer = Buffer::new();
+        let digits = buffer.format(word % 1_000_000);
+        let mut text = String::with_capacity(alloc, 7)?;
+        text.push('v')?;
+        text.push_str(digits)?;
+        Ok(text)
     }
 
     fn digest(&self) -> u64 {

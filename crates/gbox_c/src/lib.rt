@@ -11,6 +11,8 @@
 mod calls;
 mod element;
 mod random;
+#[cfg(test)]
+mod tests;
 mod workloads;
 
 ghost use Rattle.std.specs.Prelude.{◌≡◌};

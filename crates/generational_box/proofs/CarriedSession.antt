@@ -1,7 +1,7 @@
 -- A call of a session comes to the same, ids aside, where one session carries another.
 use Rattle.std.proofs.Common.{◌≡◌, ℕ, Bool, true, false, cond, List, [], ◌∷◌, ◌++◌, Option, None}
 use Rattle.std.proofs.Common.{Some, refl, sym, ap, subst, ◌∙◌}
-use Rattle.std.specs.Prelude.{nat_eq, option_map, map as list_map}
+use Rattle.std.specs.Prelude.{nat_eq, option_map, slice_set, map as list_map}
 use Rattle.std.specs.List.{AllByRecursion}
 use Rattle.std.proofs.lemmas.Bool.{true≢false}
 use Rattle.generational_box.specs.declared.boxes.GenerationalPointer.{GenerationalPointer}
@@ -11,18 +11,20 @@ use Rattle.generational_box.specs.declared.session.Call.{Call}
 use Rattle.generational_box.specs.declared.session.Call.TheVariants as call
 use Rattle.generational_box.specs.Names.{Name}
 use Rattle.generational_box.specs.Boxes.{name_of, box_of, pointer_of}
+use Rattle.generational_box.specs.Borrowing.{Guard}
 use Rattle.generational_box.specs.Machine.{Action, Answer, Outcome}
-use Rattle.generational_box.specs.Machine.Action.{Make, Read, ReleaseReader, ReleaseWriter, End}
+use Rattle.generational_box.specs.Machine.Action.{Make, Read, Write, End}
+use Rattle.generational_box.specs.Machine.Action.{ReleaseReader, ReleaseWriter}
 use Rattle.generational_box.specs.Machine.Answer.{Made, Owned, Reads, Writes, Done, Old, Flag, Back}
 use Rattle.generational_box.specs.Machine.Answer.{Troubled, Refused}
-use Rattle.generational_box.specs.Carrying.{KnowsBox, KnowsCall, KnowsAnswer, moved_box}
-use Rattle.generational_box.specs.Carrying.{moved_action, moved_answer}
+use Rattle.generational_box.specs.Carrying.{KnowsBox, KnowsGuard, KnowsCall, KnowsAnswer, moved_box}
+use Rattle.generational_box.specs.Carrying.{moved_guard, moved_action, moved_answer}
 use Rattle.generational_box.specs.Session.{Held, SessionState, Said, Asked, held, box_held, box_in}
 use Rattle.generational_box.specs.Session.{with_box, released, asked, said, gives, spent, settled}
-use Rattle.generational_box.specs.Session.{placed}
+use Rattle.generational_box.specs.Session.{placed, replaced, swapped}
 use Rattle.generational_box.specs.Session.Held.{Boxed, Reading, Writing, Owning, Nothing}
 use Rattle.generational_box.specs.Session.Said.{NoSuch}
-use Rattle.generational_box.specs.Session.Asked.{Asks, Tells}
+use Rattle.generational_box.specs.Session.Asked.{Asks, Tells, Swaps}
 use Rattle.generational_box.specs.Numbered.{moved_held, KnowsHeld, CarriesSession, erase}
 use Rattle.generational_box.specs.Numbered.{refusal_in}
 use Rattle.generational_box.proofs.Moved.{map_append}
@@ -37,6 +39,8 @@ pub data AskedAlike {T : Type 0} (f : Name → Name)
       → AskedAlike f d Knows number (Asks (moved_action f d (λ (v : T). v) number x)) (Asks x)
   both_tell : (x y : Said T)
       → erase x ≡ erase y → refusal_in x ≡ None → AskedAlike f d Knows number (Tells x) (Tells y)
+  both_swap : (p : ℕ) (g : Guard) (v old : T) → KnowsGuard Knows number g
+      → AskedAlike f d Knows number (Swaps p (moved_guard f d number g) v old) (Swaps p g v old)
 
 -- the replies of two calls are the same, ids aside, and one session carries the other after them
 pub record SessionsMatched {T : Type 0}
@@ -191,11 +195,27 @@ module _ {T : Type 0} {f : Name → Name} {d : ℕ} {Knows : Name → Type 0} {s
       at (Owning o) k = both_tell (NoSuch None) (NoSuch None) refl refl
       at Nothing k = both_tell (NoSuch None) (NoSuch None) refl refl
 
+  replaced_alike : (p : ℕ) (v : T)
+      → Alike (replaced p (held s.table p) v) (replaced p (held a.table p) v)
+  replaced_alike p v = subst (λ h. Alike (replaced p h v) (replaced p (held a.table p) v))
+      (sym (place_moved p)) (at (held a.table p) (place_known p))
+    where
+      at : (h : Held T) → KnowsHeld Knows a.state.number h
+          → Alike (replaced p (moved_held f d a.state.number h) v) (replaced p h v)
+      at (Boxed b) k = both_tell (NoSuch (Some v)) (NoSuch (Some v)) refl refl
+      at (Reading g) k = both_tell (NoSuch (Some v)) (NoSuch (Some v)) refl refl
+      at (Writing g old) k = both_swap p g v old k
+      at (Owning o) k = both_tell (NoSuch (Some v)) (NoSuch (Some v)) refl refl
+      at Nothing k = both_tell (NoSuch (Some v)) (NoSuch (Some v)) refl refl
+
   -- each call comes to the same
   pub asked_alike : (x : Call T) → Alike (asked s x) (asked a x)
   asked_alike (call.Leak v l) = both_ask (Make None v l) tt
   asked_alike (call.TryRead b l) = with_box_alike b None
       (λ b. Asks (Read b l)) (λ b. Asks (Read b l)) (λ b k. both_ask (Read b l) k)
+  asked_alike (call.TryWrite b l) = with_box_alike b None
+      (λ b. Asks (Write b l)) (λ b. Asks (Write b l)) (λ b k. both_ask (Write b l) k)
+  asked_alike (call.Replace p v) = replaced_alike p v
   asked_alike (call.Release p) = released_alike p
   asked_alike (call.ManuallyDrop b) =
       with_box_alike b None (λ b. Asks (End b)) (λ b. Asks (End b)) (λ b k. both_ask (End b) k)
@@ -209,6 +229,17 @@ module _ {T : Type 0} {f : Name → Name} {d : ℕ} {Knows : Name → Type 0} {s
     table = ap (λ t. t ++ Nothing ∷ []) c.table
         ∙ sym (map_append (moved_held f d a.state.number) a.table (Nothing ∷ []));
     known = known_push Knows a.state.number a.table Nothing c.known tt;
+  }
+
+  -- another value for a writer
+  pub swapped_alike : (p : ℕ) (g : Guard) (v : T) → KnowsGuard Knows a.state.number g
+      → CarriesSession f d Knows
+      (swapped s p (moved_guard f d a.state.number g) v) (swapped a p g v)
+  swapped_alike p g v k = record {
+    state = c.state;
+    table = ap (λ t. slice_set t p (Writing (moved_guard f d a.state.number g) v)) c.table
+        ∙ table_set f d a.state.number a.table p (Writing g v);
+    known = known_set Knows a.state.number a.table p (Writing g v) c.known k;
   }
 
   -- an answer of the machine

@@ -58,3 +58,4 @@ pub mod Staying
 pub mod Stepping
 pub mod Tables
 pub mod Tickets
+pub mod Undisturbed

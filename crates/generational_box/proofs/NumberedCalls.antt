@@ -21,11 +21,12 @@ use Rattle.generational_box.specs.Machine.Action.{Point, CanRead, CanWrite}
 use Rattle.generational_box.specs.Machine.Answer.{Made, Owned, Reads, Writes, Done, Old, Flag, Back}
 use Rattle.generational_box.specs.Machine.Answer.{Troubled, Refused}
 use Rattle.generational_box.specs.Carrying.{moved_holding, KnowsCall, KnowsFresh}
-use Rattle.generational_box.specs.Carrying.{moved_fresh}
+use Rattle.generational_box.specs.Carrying.{moved_fresh, moved_guard}
 use Rattle.generational_box.specs.Carrying.{moved_action, moved_owner, moved_box}
 use Rattle.generational_box.specs.Session.{SessionState, Said, Asked, Settles, SessionStep, Run}
-use Rattle.generational_box.specs.Session.{asked, said, settled, placed, refusal}
-use Rattle.generational_box.specs.Session.Asked.{Asks, Tells}
+use Rattle.generational_box.specs.Session.{asked, said, settled, placed, swapped, refusal}
+use Rattle.generational_box.specs.Session.Asked.{Asks, Tells, Swaps}
+use Rattle.generational_box.specs.Session.Said.{TheOld}
 use Rattle.generational_box.specs.Session.Held.{Nothing}
 use Rattle.generational_box.specs.Numbered.{number, named_by}
 use Rattle.generational_box.specs.Numbered.{Matches, want, erase, refusal_in, next_numbers}
@@ -39,7 +40,8 @@ use Rattle.generational_box.proofs.Starting.{is_making, act_start}
 use Rattle.generational_box.proofs.Making.{made_value, made_shared, made_reference}
 use Rattle.generational_box.proofs.CarriedCalls.{act_matched}
 use Rattle.generational_box.proofs.CarriedSession.{AskedAlike, asked_alike, placed_alike}
-use Rattle.generational_box.proofs.CarriedSession.AskedAlike.{both_ask, both_tell}
+use Rattle.generational_box.proofs.CarriedSession.{swapped_alike}
+use Rattle.generational_box.proofs.CarriedSession.AskedAlike.{both_ask, both_tell, both_swap}
 use Rattle.generational_box.proofs.Numbering.{named_front}
 use Rattle.generational_box.proofs.NumberedStep.{box_agrees, StepMatches, Knows, AlikeWith}
 use Rattle.generational_box.proofs.NumberedStep.{kept_step, settled_step, still_known, made_step}
@@ -55,12 +57,16 @@ module _ {T : Type 0} where
   refusal_told : (c : Call T) (e : StoreError) → refusal_in (refusal c e) ≡ want e
   refusal_told (call.Leak v l) e = refl
   refusal_told (call.TryRead b l) e = refl
+  refusal_told (call.TryWrite b l) e = refl
+  refusal_told (call.Replace p v) e = refl
   refusal_told (call.Release p) e = refl
   refusal_told (call.ManuallyDrop b) e = refl
 
   flag_told : (c : Call T) (b : Bool) → refusal_in (said c (Flag b)) ≡ None
   flag_told (call.Leak v l) b = refl
   flag_told (call.TryRead x l) b = refl
+  flag_told (call.TryWrite x l) b = refl
+  flag_told (call.Replace p v) b = refl
   flag_told (call.Release p) b = refl
   flag_told (call.ManuallyDrop x) b = refl
 
@@ -108,11 +114,13 @@ module _ {T : Type 0} {s a : SessionState T} (m : Matches s a) where
       refused : (q : Asked T) → IsSound (numbered a c q (Some e)).1.state
       refused (Asks action) = sound
       refused (Tells x) = sound
+      refused (Swaps p g v old) = sound
   numbered_sound c None sound = each (asked a c)
     where
       each : (q : Asked T) → IsSound (numbered a c q None).1.state
       each (Asks action) = act_sound a.state action (next_numbers a) sound (numbers_fresh action)
       each (Tells x) = sound
+      each (Swaps p g v old) = sound
 
   -- ---- calls of the machine
 
@@ -243,6 +251,20 @@ module _ {T : Type 0} {s a : SessionState T} (m : Matches s a) where
         (sym (λ i. (step.0 i, step.1 i)))
         (kept_step m (y, placed s Nothing)
         (z, placed a Nothing) (record { said = e; session = placed_alike m.carries }) refl))
+    settles_step c x r p q (both_swap place g v old known) step =
+        let heard : refusal_in x ≡ None = ap refusal_in step.0 in
+        let guard = moved_guard (named_by m.order) m.difference a.state.number g in
+        let mine : Said T × SessionState T =
+        (TheOld old, placed (swapped s place guard v) Nothing) in
+        let theirs : Said T × SessionState T =
+        (TheOld old, placed (swapped a place g v) Nothing) in
+        subst (λ w. StepMatches (x, r) (numbered a c (Swaps place g v old) w)) (sym heard)
+        (subst (λ (o : Said T × SessionState T). StepMatches o theirs)
+        (sym (λ i. (step.0 i, step.1 i)))
+        (kept_step m mine theirs (record {
+          said = refl;
+          session = placed_alike (swapped_alike m.carries place g v known);
+        }) refl))
 
     -- whichever names are taken, the numbered machine answers the same, ids aside
     step_matches : (c : Call T) (x : Said T) (r : SessionState T)

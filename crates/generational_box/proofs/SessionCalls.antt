@@ -1,27 +1,40 @@
 -- What the code of a session leaves, as a session of the machine.
-use Rattle.std.proofs.Common.{◌≡◌, ℕ, Bool, List, [], ◌∷◌, ◌++◌, Option, None, Some, refl, sym, ap, subst, ◌∙◌, reverse, slice_get, slice_set, zero, suc, append_assoc}
+use Rattle.std.proofs.Common.{◌≡◌, ℕ, zero, suc, Bool, List, [], ◌∷◌, ◌++◌, reverse, slice_get}
+use Rattle.std.proofs.Common.{slice_set, Some, Result, Ok, Err, refl, sym, ap, subst, ◌∙◌}
+use Rattle.std.proofs.Common.{append_assoc}
 use Rattle.std.specs.Prelude.{map as list_map}
-use Rattle.std.proofs.lemmas.List.{map-append, map-set, reverse-append, reverse-reverse, append-nil}
+use Rattle.std.proofs.lemmas.List.{map-append, map-set, reverse-append, reverse-reverse}
+use Rattle.std.proofs.lemmas.List.{append-nil, set-get_or}
 use Rattle.std.proofs.lemmas.Option.{none-some}
 use Rattle.generational_box.specs.declared.session.Call.{Call}
 use Rattle.generational_box.specs.declared.session.Call.TheVariants as call
 use Rattle.generational_box.specs.declared.session.Reply.{Reply}
 use Rattle.generational_box.specs.declared.session.Thing.{Thing}
 use Rattle.generational_box.specs.declared.session.Thing.TheVariants as thing
-use Rattle.generational_box.specs.State.{State, IsFresh, IsEnded, fresh}
+use Rattle.generational_box.specs.State.{State, IsFresh}
 use Rattle.generational_box.specs.Borrowing.{Guard}
-use Rattle.generational_box.specs.Machine.Action.{ReleaseReader}
+use Rattle.generational_box.specs.Writing.{WriteGuard}
+use Rattle.generational_box.specs.Answers.{back_answer}
+use Rattle.generational_box.specs.Machine.Action.{ReleaseReader, ReleaseWriter}
 use Rattle.generational_box.specs.Machine.Answer.{Flag}
 use Rattle.generational_box.specs.Steps.{Meets}
-use Rattle.generational_box.specs.Session.{SessionState, Held, Said, Asked, SessionStep, Settles, Run, asked, placed, held, released, let_go_of, all_let_go}
-use Rattle.generational_box.specs.Session.Held.{Reading, Nothing}
+use Rattle.generational_box.specs.Session.{SessionState, Held, Said, Asked, SessionStep, Settles}
+use Rattle.generational_box.specs.Session.{Run, asked, said, gives, placed, held, released}
+use Rattle.generational_box.specs.Session.{replaced, let_go_of, all_let_go}
+use Rattle.generational_box.specs.Session.Held.{Boxed, Reading, Writing, Owning, Nothing}
 use Rattle.generational_box.specs.Session.Said.{Ready}
-use Rattle.generational_box.specs.Session.Asked.{Asks, Tells}
+use Rattle.generational_box.specs.Session.Asked.{Asks, Tells, Swaps}
 use Rattle.generational_box.specs.Holding.{IsKept}
-use Rattle.generational_box.specs.Places.{thing_held, said_by, replies_said, session_in, GivesAsked, Gives}
-use Rattle.generational_box.proofs.Sessions.{fresh_kept, session_kept, run_kept}
+use Rattle.generational_box.specs.Keeping.{IsUndisturbed, Undisturbed, value_at}
+use Rattle.generational_box.specs.Names.{Name}
+use Rattle.generational_box.specs.declared.boxes.GenerationalPointer.{GenerationalPointer}
+use Rattle.generational_box.specs.Places.{thing_held, said_by, replies_said, session_in}
+use Rattle.generational_box.specs.Places.{exchanged, GivesAsked, Gives}
+use Rattle.generational_box.proofs.Sessions.{fresh_kept, session_kept, session_value, run_kept}
+use Rattle.generational_box.proofs.Sessions.{run_value}
 
-pub reversed_push : {X : Type 0} (xs ys : List X) (x : X) → xs ≡ ys ++ x ∷ [] → reverse xs ≡ x ∷ reverse ys
+pub reversed_push : {X : Type 0} (xs ys : List X) (x : X)
+    → xs ≡ ys ++ x ∷ [] → reverse xs ≡ x ∷ reverse ys
 reversed_push xs ys x e = ap reverse e ∙ reverse-append ys (x ∷ [])
 
 module _ {T : Type 0} where
@@ -31,6 +44,7 @@ module _ {T : Type 0} where
   asked_step s m c (Asks action) x h g =
       (g.0, m.state, g.1, λ i. (g.2 i, placed (record { state = m.state; table = g.4 i }) (g.3 i)))
   asked_step s m c (Tells y) x h g = (g.0, λ i. placed (g.2 i) (g.1 i))
+  asked_step s m c (Swaps p k v old) x h g = (g.0, λ i. placed (g.2 i) (g.1 i))
 
   -- a thing at the end of the places
   pub pushed : (S : State T) (items after : List (Thing T)) (t : Thing T) → after ≡ items ++ t ∷ []
@@ -39,18 +53,22 @@ module _ {T : Type 0} where
       ap (session_in S) e
       ∙ (λ i. record { state = S; table = map-append thing_held items (t ∷ []) i })
 
-  pub call_step : {s : SessionState T} (S R : State T) (items kept after : List (Thing T)) (c : Call T) (x : Said T) (t : Thing T)
+  pub call_step : {s : SessionState T} (S R : State T) (items kept after : List (Thing T))
+      (c : Call T) (x : Said T) (t : Thing T)
       → session_in S items ≡ s → Gives (session_in S items) c x (thing_held t) (session_in R kept)
       → after ≡ kept ++ t ∷ [] → SessionStep s c x (session_in R after)
   call_step {s} S R items kept after c x t view gives more =
       subst (λ q. SessionStep q c x (session_in R after)) view
       (subst (SessionStep (session_in S items) c x) (sym (pushed R kept after t more))
-      (asked_step (session_in S items) (session_in R kept) c (asked (session_in S items) c) x (thing_held t) gives))
+      (asked_step (session_in S items) (session_in R kept) c (asked (session_in S items) c) x
+      (thing_held t) gives))
 
   -- a session over a fresh store
-  pub new_kept : (S : State T) (items : List (Thing T)) → IsFresh S → items ≡ [] → IsKept (session_in S items)
+  pub new_kept : (S : State T) (items : List (Thing T))
+      → IsFresh S → items ≡ [] → IsKept (session_in S items)
   new_kept S items f none =
-      rw none (subst (λ X. IsKept (record { state = X; table = [] })) (sym f) (fresh_kept S.number S.start S.next))
+      rw none (subst (λ X. IsKept (record { state = X; table = [] })) (sym f)
+      (fresh_kept S.number S.start S.next))
 
   -- what stands at a place
   pub held_there : (items : List (Thing T)) (p : ℕ) (t : Thing T) → slice_get items p ≡ Some t
@@ -60,30 +78,114 @@ module _ {T : Type 0} where
   held_there (z ∷ items) (suc p) t h = held_there items p t h
 
   -- a reader's guard at a place is released
-  pub release_gives : (S R : State T) (items after : List (Thing T)) (p : ℕ) (g : Guard) (known : Bool)
-      → slice_get items p ≡ Some (thing.Reader g) → Meets S (ReleaseReader g) (Flag known) R
+  pub release_gives : (S R : State T) (items after : List (Thing T)) (p : ℕ) (g : Guard)
+      (known : Bool) → slice_get items p ≡ Some (thing.Reader g) → Meets S (ReleaseReader g) (Flag known) R
       → after ≡ slice_set items p thing.Nothing
       → Gives (session_in S items) (call.Release p) Ready Nothing (session_in R after)
   release_gives S R items after p g known there meets spends =
-      subst (λ h. GivesAsked (session_in S items) (call.Release p) (released h) Ready Nothing (session_in R after))
-      (sym (held_there items p (thing.Reader g) there))
-      (Flag known, meets, refl, refl, ap (list_map thing_held) spends ∙ map-set thing_held items p thing.Nothing)
+      subst (λ h. GivesAsked (session_in S items) (call.Release p) (released h) Ready Nothing
+      (session_in R after)) (sym (held_there items p (thing.Reader g) there)) (
+        Flag known,
+        meets,
+        refl,
+        refl,
+        ap (list_map thing_held) spends ∙ map-set thing_held items p thing.Nothing,
+      )
+
+  -- a writer's guard at a place is released: what the store answers, the reply is the same
+  pub writer_release_gives : {U : Type 0} (S R : State T) (items after : List (Thing T)) (p : ℕ)
+      (g : WriteGuard T) (back : Result U T) → slice_get items p ≡ Some (thing.Writer g)
+      → Meets S (ReleaseWriter g.guard g.value) (back_answer back) R
+      → after ≡ slice_set items p thing.Nothing
+      → Gives (session_in S items) (call.Release p) Ready Nothing (session_in R after)
+  writer_release_gives S R items after p g back there meets spends =
+      subst (λ h. GivesAsked (session_in S items) (call.Release p) (released h) Ready Nothing
+      (session_in R after)) (sym (held_there items p (thing.Writer g) there)) (
+        back_answer back,
+        meets,
+        tells back,
+        gives_none back,
+        ap (list_map thing_held) spends ∙ map-set thing_held items p thing.Nothing,
+      )
+    where
+      tells : {U : Type 0} (back : Result U T) → Ready ≡ said (call.Release p) (back_answer back)
+      tells (Ok u) = refl
+      tells (Err v) = refl
+
+      gives_none : {U : Type 0} (back : Result U T) → Nothing ≡ gives (back_answer back)
+      gives_none (Ok u) = refl
+      gives_none (Err v) = refl
+
+  -- a writer's guard at a place owns another value
+  -- another value for the writer at a place
+  module _ (S : State T) (items after : List (Thing T)) (p : ℕ) (v : T) (x : Said T) where
+    abbrev table : List (Held T)
+    table = list_map thing_held items
+
+    abbrev with_table : List (Held T) → SessionState T
+    with_table table = record { state = S; table = table }
+
+    abbrev Given : Held T → Type 0
+    Given h = GivesAsked (session_in S items)
+        (call.Replace p v) (replaced p h v) x Nothing (session_in S after)
+
+    stays : (h new : Held T) → held table p ≡ h → list_map thing_held after ≡ slice_set table p new
+        → new ≡ h → session_in S after ≡ session_in S items
+    stays h new is sets same = ap with_table
+        (sets ∙ (ap (slice_set table p) (same ∙ sym is) ∙ set-get_or table p Nothing))
+
+    given : (h new : Held T) → held table p ≡ h → list_map thing_held after ≡ slice_set table p new
+        → x ≡ (exchanged h v).0 → new ≡ (exchanged h v).1 → Given h
+    given (Writing g old) new is sets reply thing =
+        (reply, refl, ap with_table (sets ∙ ap (slice_set table p) thing))
+    given (Boxed b) new is sets reply thing = (reply, refl, stays (Boxed b) new is sets thing)
+    given (Reading g) new is sets reply thing = (reply, refl, stays (Reading g) new is sets thing)
+    given (Owning o) new is sets reply thing = (reply, refl, stays (Owning o) new is sets thing)
+    given Nothing new is sets reply thing = (reply, refl, stays Nothing new is sets thing)
+
+    pub replace_gives : (t u : Thing T) → slice_get items p ≡ Some t → after ≡ slice_set items p u
+        → x ≡ (exchanged (thing_held t) v).0 → thing_held u ≡ (exchanged (thing_held t) v).1
+        → Gives (session_in S items) (call.Replace p v) x Nothing (session_in S after)
+    replace_gives t u there changes reply thing =
+        let at = held_there items p t there in
+        subst Given (sym at) (given (thing_held t) (thing_held u) at
+        (ap (list_map thing_held) changes ∙ map-set thing_held items p u) reply thing)
 
   -- what holds of the session before a call holds after it
-  pub call_kept : {s : SessionState T} (S : State T) (items : List (Thing T)) (r : SessionState T) (c : Call T) (x : Said T)
+  pub call_kept : {s : SessionState T} (S : State T) (items : List (Thing T)) (r : SessionState T)
+      (c : Call T) (x : Said T)
       → session_in S items ≡ s → IsKept (session_in S items) → SessionStep s c x r → IsKept r
   call_kept S items r c x view kept step = session_kept _ r c x (subst IsKept view kept) step
 
+  -- a value that nothing disturbs stays in a call
+  pub call_value : {s : SessionState T} (S : State T) (items : List (Thing T)) (r : SessionState T)
+      (c : Call T) (x : Said T) (b : GenerationalPointer) (m : Name)
+      → session_in S items ≡ s → IsKept (session_in S items) → SessionStep s c x r
+      → IsUndisturbed b m s c r → value_at r.state m ≡ value_at s.state m
+  call_value {s} S items r c x b m view kept step undisturbed =
+      session_value s r c x b m (subst IsKept view kept).sound step undisturbed
+
   -- ---- runs, and the end
 
-  pub run_kept_in : {s : SessionState T} (S : State T) (items : List (Thing T)) (r : SessionState T) (calls : List (Call T)) (replies : List (Said T))
+  pub run_kept_in : {s : SessionState T} (S : State T) (items : List (Thing T))
+      (r : SessionState T) (calls : List (Call T)) (replies : List (Said T))
       → session_in S items ≡ s → IsKept (session_in S items) → Run s calls replies r → IsKept r
-  run_kept_in {s} S items r calls replies view kept run = run_kept calls replies s r (subst IsKept view kept) run
+  run_kept_in {s} S items r calls replies view kept run =
+      run_kept calls replies s r (subst IsKept view kept) run
+
+  pub run_value_in : {s : SessionState T} (S : State T) (items : List (Thing T))
+      (r : SessionState T) (calls : List (Call T)) (replies : List (Said T))
+      (b : GenerationalPointer) (m : Name)
+      → session_in S items ≡ s → IsKept (session_in S items) → (run : Run s calls replies r)
+      → Undisturbed b m s calls replies r run → value_at r.state m ≡ value_at s.state m
+  run_value_in {s} S items r calls replies b m view kept run undisturbed =
+      run_value calls replies s r b m (subst IsKept view kept).sound run undisturbed
 
   -- the last of a reversed table is the first that is let go
-  pub let_go_next : (S R : State T) (items rest : List (Thing T)) (t : Thing T) → items ≡ rest ++ t ∷ []
-      → R ≡ let_go_of S (thing_held t)
-      → all_let_go S (list_map thing_held (reverse items)) ≡ all_let_go R (list_map thing_held (reverse rest))
+  pub let_go_next : (S R : State T) (items rest : List (Thing T)) (t : Thing T)
+      → items ≡ rest ++ t ∷ [] → R ≡ let_go_of S (thing_held t)
+      → all_let_go S (list_map thing_held (reverse items))
+      ≡ all_let_go R (list_map thing_held (reverse rest))
   let_go_next S R items rest t e leaves =
       ap (λ xs. all_let_go S (list_map thing_held xs)) (reversed_push items rest t e)
       ∙ ap (λ X. all_let_go X (list_map thing_held (reverse rest))) (sym leaves)
@@ -95,29 +197,40 @@ module _ {T : Type 0} where
       ap (λ xs. all_let_go S (list_map thing_held xs)) (ap reverse e ∙ reverse-reverse items)
       ∙ ap (λ (x : SessionState T). all_let_go x.state x.table) view
 
+  -- a run of the calls that are left, behind the replies so far, is a run of all
+  abbrev Continues : SessionState T → List (Call T) → State T → List (Thing T) → List (Call T)
+      → List (Reply T) → Type 0
+  Continues s all S items calls replies = (rs : List (Said T)) (last : SessionState T)
+      → Run (session_in S items) (reverse calls) rs last
+      → Run s all (replies_said replies ++ rs) last
+
   -- one call more of a run
-  pub run_goes : (s : SessionState T) (S R : State T) (items kept after : List (Thing T)) (all calls rest : List (Call T)) (c : Call T)
+  pub run_goes : (s : SessionState T) (S R : State T) (items kept after : List (Thing T))
+      (all calls rest : List (Call T)) (c : Call T)
       (x : Reply T) (t : Thing T) (replies more : List (Reply T))
       → calls ≡ rest ++ c ∷ []
       → Gives (session_in S items) c (said_by x) (thing_held t) (session_in R kept)
       → after ≡ kept ++ t ∷ [] → more ≡ replies ++ x ∷ []
-      → ((rs : List (Said T)) (last : SessionState T) → Run (session_in S items) (reverse calls) rs last → Run s all (replies_said replies ++ rs) last)
-      → (rs : List (Said T)) (last : SessionState T) → Run (session_in R after) (reverse rest) rs last → Run s all (replies_said more ++ rs) last
-  run_goes s S R items kept after all calls rest c x t replies more front gives place said so_far rs last run =
-      subst (λ xs. Run s all xs last) (sym behind)
-      (so_far (said_by x ∷ rs) last
-      (subst (λ cs. Run (session_in S items) cs (said_by x ∷ rs) last) (sym (reversed_push calls rest c front))
-      (session_in R after, call_step S R items kept after c (said_by x) t refl gives place, run)))
+      → Continues s all S items calls replies → Continues s all R after rest more
+  run_goes s S R items kept after all calls rest c x t replies more front gives place said so_far =
+      λ rs last run. subst (λ xs. Run s all xs last) (sym (behind rs))
+      (so_far (said_by x ∷ rs) last (subst (λ cs. Run (session_in S items) cs (said_by x ∷ rs) last)
+      (sym (reversed_push calls rest c front)) (
+        session_in R after,
+        call_step S R items kept after c (said_by x) t refl gives place,
+        run,
+      )))
     where
-      behind : (replies_said more ++ rs) ≡ (replies_said replies ++ said_by x ∷ rs)
-      behind =
+      behind : (rs : List (Said T))
+          → (replies_said more ++ rs) ≡ (replies_said replies ++ said_by x ∷ rs)
+      behind rs =
           ap (λ xs. xs ++ rs) (ap replies_said said ∙ map-append said_by replies (x ∷ []))
           ∙ append_assoc (replies_said replies) (said_by x ∷ []) rs
 
   -- a run to its end
-  pub run_ends : (s : SessionState T) (S : State T) (items : List (Thing T)) (all calls : List (Call T)) (replies : List (Reply T))
-      → calls ≡ []
-      → ((rs : List (Said T)) (last : SessionState T) → Run (session_in S items) (reverse calls) rs last → Run s all (replies_said replies ++ rs) last)
+  pub run_ends : (s : SessionState T) (S : State T) (items : List (Thing T))
+      (all calls : List (Call T)) (replies : List (Reply T))
+      → calls ≡ [] → Continues s all S items calls replies
       → Run s all (replies_said replies) (session_in S items)
   run_ends s S items all calls replies none so_far =
       subst (λ xs. Run s all xs (session_in S items)) (append-nil (replies_said replies))

@@ -1,29 +1,33 @@
 -- Each call of a session keeps what holds of every session, and so does a whole run.
-use Rattle.std.proofs.Common.{◌≡◌, ◌≢◌, ℕ, false, List, [], ◌∷◌, ◌++◌}
+use Rattle.std.proofs.Common.{◌≡◌, ◌≢◌, ℕ, true, false, List, [], ◌∷◌, ◌++◌}
 use Rattle.std.proofs.Common.{Option, None, Some, refl, sym, ap, subst, ◌∙◌, inl, inr, ⊎_elim}
-use Rattle.std.specs.Prelude.{◌⊎◌}
+use Rattle.std.specs.Prelude.{◌⊎◌, is_some}
 use Rattle.std.proofs.lemmas.Bool.{eqb-true, false_from_ne_true}
 use Rattle.generational_box.specs.declared.boxes.GenerationalPointer.{GenerationalPointer}
 use Rattle.generational_box.specs.declared.session.Call.{Call}
 use Rattle.generational_box.specs.declared.session.Call.TheVariants as call
 use Rattle.generational_box.specs.Names.{Name}
 use Rattle.generational_box.specs.State.{State, IsSound, IsEnded, fresh}
+use Rattle.generational_box.specs.Borrowing.{Guard}
 use Rattle.generational_box.specs.Machine.{Action, Answer}
-use Rattle.generational_box.specs.Machine.Action.{Make, Read, ReleaseReader, ReleaseWriter, End}
+use Rattle.generational_box.specs.Machine.Action.{Make, Read, Write, End}
+use Rattle.generational_box.specs.Machine.Action.{ReleaseReader, ReleaseWriter}
 use Rattle.generational_box.specs.Steps.{Meets}
 use Rattle.generational_box.specs.Session.{SessionState, Held, Said, Asked, Settles, SessionStep}
 use Rattle.generational_box.specs.Session.{Run, held, placed, spent, box_in, with_box}
-use Rattle.generational_box.specs.Session.{released}
-use Rattle.generational_box.specs.Session.Asked.{Asks, Tells}
+use Rattle.generational_box.specs.Session.{released, replaced, swapped}
+use Rattle.generational_box.specs.Session.Asked.{Asks, Tells, Swaps}
 use Rattle.generational_box.specs.Session.Held.{Boxed, Reading, Writing, Nothing}
 use Rattle.generational_box.specs.Holding.{IsKept}
 use Rattle.generational_box.specs.Bounds.{IsBounded}
+use Rattle.generational_box.specs.Keeping.{AskedSets, IsUndisturbed, Undisturbed, value_at}
+use Rattle.generational_box.proofs.Undisturbed.{meets_value}
 use Rattle.generational_box.proofs.Bounding.{meets_bounded}
 use Rattle.generational_box.specs.Session.{asked}
 use Rattle.generational_box.proofs.Lasting.{fresh_sound}
 use Rattle.generational_box.proofs.Stepping.{meets_sound, meets_ended}
 use Rattle.generational_box.proofs.Stepping.{ends_reader, ends_writer}
-use Rattle.generational_box.proofs.Tables.{held_pushed, held_emptied}
+use Rattle.generational_box.proofs.Tables.{held_pushed, held_changed, held_emptied}
 use Rattle.generational_box.proofs.Placing.{Unspent, Remains, kept_after}
 
 module _ {T : Type 0} where
@@ -50,10 +54,43 @@ module _ {T : Type 0} where
       was p x is some = ⊎_elim
           (λ e. sym e ∙ is) (λ e. absurd (some (sym is ∙ e.1))) (held_pushed s.table Nothing p)
 
+  -- a writer that owns another value
+  kept_swapped : (s : SessionState T) (p : ℕ) (g : Guard) (v old : T)
+      → IsKept s → held s.table p ≡ Writing g old → IsKept (swapped s p g v)
+  kept_swapped s p g v old kept there = record {
+    sound = kept.sound;
+    number = λ q b is. kept.number q b (was q (Boxed b) is (λ h w e. cc));
+    given = λ q b is. kept.given q b (was q (Boxed b) is (λ h w e. cc));
+    apart = λ q r b c is at same. kept.apart q r b c
+        (was q (Boxed b) is (λ h w e. cc)) (was r (Boxed c) at (λ h w e. cc)) same;
+    readers = λ q h is. kept.readers q h (was q (Reading h) is (λ k w e. cc));
+    writers = λ q h w is. let e = writer q h w is in kept.writers q h e.0 e.1;
+    one_reader = λ q r h k is at same. kept.one_reader q r h k
+        (was q (Reading h) is (λ n w e. cc)) (was r (Reading k) at (λ n w e. cc)) same;
+    one_writer = λ q r h k w x is at same.
+        let e = writer q h w is in
+        let o = writer r k x at in
+        kept.one_writer q r h k e.0 o.0 e.1 o.1 same;
+  }
+    where
+      was : (q : ℕ) (x : Held T) → held (swapped s p g v).table q ≡ x
+          → ((h : Guard) (w : T) → Writing h w ≢ x) → held s.table q ≡ x
+      was q x is other = ⊎_elim (λ e. sym e ∙ is)
+          (λ e. absurd (other g v (sym e.1 ∙ is))) (held_changed s.table p (Writing g v) q)
+
+      writer : (q : ℕ) (h : Guard) (w : T) → held (swapped s p g v).table q ≡ Writing h w
+          → (u : T) × (held s.table q ≡ Writing h u)
+      writer q h w is = ⊎_elim (λ e. (w, sym e ∙ is))
+          (λ e. let same : Writing g v ≡ Writing h w = sym e.1 ∙ is in
+          let guard : g ≡ h = cc in
+          (old, ap (held s.table) e.0 ∙ (there ∙ ap (λ k. Writing k old) guard)))
+          (held_changed s.table p (Writing g v) q)
+
   -- what the table must keep when a call is asked of the machine
   abbrev Leaves : SessionState T → Call T → Asked T → Type 0
   Leaves s c (Asks action) = (answer : Answer T) → Remains action s.table (spent c answer s.table)
   Leaves s c (Tells x) = Unit {0}
+  Leaves s c (Swaps p g v old) = held s.table p ≡ Writing g old
 
   settles_kept : (s r : SessionState T) (c : Call T) (x : Said T) (a : Asked T)
       → IsKept s → Leaves s c a → Settles s c a x r → IsKept r
@@ -61,6 +98,8 @@ module _ {T : Type 0} where
       subst (λ (o : Said T × SessionState T). IsKept o.1) (sym step.3)
       (kept_after s kept action step.0 step.1 step.2 (spent c step.0 s.table) (leaves step.0))
   settles_kept s r c x (Tells y) kept leaves step = subst IsKept (sym step.1) (kept_told s kept)
+  settles_kept s r c x (Swaps p g v old) kept leaves step = subst IsKept
+      (sym step.1) (kept_told (swapped s p g v) (kept_swapped s p g v old kept leaves))
 
   -- a call that gives back no guard spends nothing
   unspent : (action : Action T) → ((t : ℕ) → ends_reader action t ≡ false)
@@ -96,11 +135,19 @@ module _ {T : Type 0} where
       other q _ at ne = tt
   leaves_released s p _ kept is = tt
 
+  leaves_replaced : (s : SessionState T) (p : ℕ) (v : T) (x : Held T)
+      → held s.table p ≡ x → Leaves s (call.Replace p v) (replaced p x v)
+  leaves_replaced s p v (Writing g old) is = is
+  leaves_replaced s p v _ is = tt
+
   leaves_asked : (s : SessionState T) (c : Call T) → IsKept s → Leaves s c (asked s c)
   leaves_asked s (call.Leak v l) kept =
       λ answer p. inr (refl, unspent (Make None v l) (λ t. refl) (λ t. refl) (held s.table p))
   leaves_asked s (call.TryRead b l) kept = leaves_box s (call.TryRead b l) (box_in s b) None _
       (λ b answer p. inr (refl, unspent (Read b l) (λ t. refl) (λ t. refl) (held s.table p)))
+  leaves_asked s (call.TryWrite b l) kept = leaves_box s (call.TryWrite b l) (box_in s b) None _
+      (λ b answer p. inr (refl, unspent (Write b l) (λ t. refl) (λ t. refl) (held s.table p)))
+  leaves_asked s (call.Replace p v) kept = leaves_replaced s p v (held s.table p) refl
   leaves_asked s (call.Release p) kept = leaves_released s p (held s.table p) kept refl
   leaves_asked s (call.ManuallyDrop b) kept = leaves_box s (call.ManuallyDrop b) (box_in s b) None _
       (λ b answer p. inr (refl, unspent (End b) (λ t. refl) (λ t. refl) (held s.table p)))
@@ -121,6 +168,7 @@ module _ {T : Type 0} where
       let same = ap (λ (o : Said T × SessionState T). o.1.state) step.3 in
       inr (action, step.0, subst (Meets s.state action step.0) (sym same) step.2)
   settles_meets s r c x (Tells y) step = inl (ap (λ (r : SessionState T). r.state) step.1)
+  settles_meets s r c x (Swaps p g v old) step = inl (ap (λ (r : SessionState T). r.state) step.1)
 
   -- an ended name is never live again
   pub session_ended : (s r : SessionState T) (c : Call T) (x : Said T)
@@ -142,6 +190,26 @@ module _ {T : Type 0} where
   session_bounded s r c x sound bounded step = ⊎_elim (λ e. subst IsBounded (sym e) bounded)
       (λ e. meets_bounded s.state r.state e.0 e.1 sound bounded e.2)
       (settles_meets s r c x (asked s c) step)
+
+  -- a value that nothing disturbs stays
+  settles_value : (s r : SessionState T) (c : Call T) (x : Said T) (a : Asked T) (m : Name)
+      → IsSound s.state → Settles s c a x r → (AskedSets s.state a m → ⊥)
+      → is_some (value_at s.state m) ≡ true → is_some (value_at r.state m) ≡ true
+      → value_at r.state m ≡ value_at s.state m
+  settles_value s r c x (Asks action) m sound step unset here after =
+      let same = ap (λ (o : Said T × SessionState T). o.1.state) step.3 in
+      meets_value s.state r.state action step.0 m sound
+      (subst (Meets s.state action step.0) (sym same) step.2) unset here after
+  settles_value s r c x (Tells y) m sound step unset here after =
+      ap (λ (r : SessionState T). value_at r.state m) step.1
+  settles_value s r c x (Swaps p g v old) m sound step unset here after =
+      ap (λ (r : SessionState T). value_at r.state m) step.1
+
+  pub session_value : (s r : SessionState T) (c : Call T) (x : Said T)
+      (b : GenerationalPointer) (m : Name) → IsSound s.state → SessionStep s c x r
+      → IsUndisturbed b m s c r → value_at r.state m ≡ value_at s.state m
+  session_value s r c x b m sound step u = settles_value s r c x (asked s c) m
+      sound step u.unset u.before.here u.after.here
 
   -- ---- runs
 
@@ -181,6 +249,27 @@ module _ {T : Type 0} where
       → Run s calls replies r → (n : Name) → IsEnded s.state n → IsEnded r.state n
   run_ended calls replies s r run n ended = by_run (λ s. IsEnded s.state n)
       (λ s r c x h step. session_ended s r c x step n h) calls replies s r ended run
+
+  -- a value that nothing disturbs in a run stays
+  pub run_value : (calls : List (Call T)) (replies : List (Said T)) (s r : SessionState T)
+      (b : GenerationalPointer) (m : Name) → IsSound s.state → (run : Run s calls replies r)
+      → Undisturbed b m s calls replies r run → value_at r.state m ≡ value_at s.state m
+  run_value [] [] s r b m sound run u = ap (λ (r : SessionState T). value_at r.state m) run
+  run_value (c ∷ calls) (x ∷ replies) s r b m sound run u =
+      run_value calls replies run.0 r b m
+      (session_sound s run.0 c x sound run.1) run.2 u.2
+      ∙ settles_value s run.0 c x (asked s c) m sound run.1 u.1 u.0.here
+      (first_here calls replies run.0 r b m run.2 u.2)
+    where
+      first_here : (calls : List (Call T)) (replies : List (Said T)) (s r : SessionState T)
+          (b : GenerationalPointer) (m : Name) → (run : Run s calls replies r)
+          → Undisturbed b m s calls replies r run → is_some (value_at s.state m) ≡ true
+      first_here [] [] s r b m run u = u.here
+      first_here (c ∷ calls) (x ∷ replies) s r b m run u = u.0.here
+      first_here [] (x ∷ replies) s r b m run u = absurd u
+      first_here (c ∷ calls) [] s r b m run u = absurd u
+  run_value [] (x ∷ replies) s r b m sound run u = absurd u
+  run_value (c ∷ calls) [] s r b m sound run u = absurd u
 
   -- a run keeps the bound on slots
   pub run_bounded : (calls : List (Call T)) (replies : List (Said T)) (s r : SessionState T)

@@ -1,5 +1,6 @@
 -- Places of a table: what one holds when another thing is put at the end, or taken away.
 use Rattle.std.proofs.Common.{◌≡◌, ◌≢◌, ℕ, ◌+◌, ◌≤◌, ◌<◌, List, [], ◌∷◌, ◌++◌, length, sym}
+use Rattle.std.proofs.Common.{zero, suc, refl}
 use Rattle.std.proofs.Common.{ap, ◌∙◌, inl, inr, ⊎_elim, arith}
 use Rattle.std.specs.Prelude.{◌⊎◌, slice_set}
 use Rattle.std.proofs.Math.ListN.{get_or-append, get_or-eq_default}
@@ -42,6 +43,17 @@ module _ {T : Type 0} where
       ⊎_elim (λ (below : p < length table). get_or-set_same table p Nothing Nothing below)
       (λ e. ⊎_elim (λ is. beyond (omega arith)) (λ (h : length table < p). beyond (omega arith)) e)
       (order_cases p (length table))
+
+  -- a place that holds another thing, and the others
+  pub held_changed : (table : List (Held T)) (p : ℕ) (x : Held T) (q : ℕ)
+      → (held (slice_set table p x) q ≡ held table q)
+      ⊎ ((q ≡ p) × (held (slice_set table p x) q ≡ x))
+  held_changed [] p x q = inl refl
+  held_changed (h ∷ table) zero x zero = inr (refl, refl)
+  held_changed (h ∷ table) zero x (suc q) = inl refl
+  held_changed (h ∷ table) (suc p) x zero = inl refl
+  held_changed (h ∷ table) (suc p) x (suc q) =
+      ⊎_elim inl (λ e. inr (ap suc e.0, e.1)) (held_changed table p x q)
 
   -- a place that was emptied, and the others
   pub held_emptied : (table : List (Held T)) (p q : ℕ)

@@ -12,8 +12,9 @@ use Rattle.generational_box.specs.declared.session.Call.{Call}
 use Rattle.generational_box.specs.Names.{Name, Names}
 use Rattle.generational_box.specs.Machine.{Fresh, act}
 use Rattle.generational_box.specs.Machine.Answer.{Refused}
-use Rattle.generational_box.specs.Session.{SessionState, Held, Said, Asked, asked, settled, placed}
-use Rattle.generational_box.specs.Session.Asked.{Asks, Tells}
+use Rattle.generational_box.specs.Session.{SessionState, Held, Said, Asked, asked, settled}
+use Rattle.generational_box.specs.Session.{placed, swapped}
+use Rattle.generational_box.specs.Session.Asked.{Asks, Tells, Swaps}
 use Rattle.generational_box.specs.Session.Held.{Boxed, Reading, Writing, Owning, Nothing}
 use Rattle.generational_box.specs.Session.Said.{ABox, AnOwner, AReader, AWriter, Ready, TheOld, Yes}
 use Rattle.generational_box.specs.Session.Said.{TheId, TheSlot, Created, Error, Lacking, HandedBack}
@@ -109,6 +110,7 @@ module _ {T : Type 0} where
       → Call T → Asked T → Option StoreError → Said T × SessionState T
   numbered a c (Asks action) None = settled a c (act a.state action (next_numbers a))
   numbered a c (Tells x) None = (x, placed a Nothing)
+  numbered a c (Swaps p g v old) None = (TheOld old, placed (swapped a p g v) Nothing)
   numbered a c _ (Some e) = settled a c (Refused e, a.state)
 
   -- a call of the numbered machine

@@ -1,5 +1,5 @@
 -- What a session's places and replies are in the machine.
-use Rattle.std.specs.Prelude.{◌≡◌, ℕ, List, map as list_map}
+use Rattle.std.specs.Prelude.{◌≡◌, List, Some, map as list_map}
 use Rattle.generational_box.specs.declared.session.Thing.{Thing}
 use Rattle.generational_box.specs.declared.session.Thing.TheVariants as thing
 use Rattle.generational_box.specs.declared.session.Reply.{Reply}
@@ -9,10 +9,12 @@ use Rattle.generational_box.specs.declared.session.Call.{Call}
 use Rattle.generational_box.specs.State.{State}
 use Rattle.generational_box.specs.Machine.{Answer}
 use Rattle.generational_box.specs.Steps.{Meets}
-use Rattle.generational_box.specs.Session.{Held, Said, SessionState, Asked, asked, said, gives, spent}
-use Rattle.generational_box.specs.Session.Asked.{Asks, Tells}
-use Rattle.generational_box.specs.Session.Held.{Boxed, Reading, Nothing}
-use Rattle.generational_box.specs.Session.Said.{ABox, AReader, Ready, Error, Lacking, HandedBack, NoSuch}
+use Rattle.generational_box.specs.Session.{Held, Said, SessionState, Asked, asked, said, gives}
+use Rattle.generational_box.specs.Session.{spent, swapped}
+use Rattle.generational_box.specs.Session.Asked.{Asks, Tells, Swaps}
+use Rattle.generational_box.specs.Session.Held.{Boxed, Reading, Writing, Nothing}
+use Rattle.generational_box.specs.Session.Said.{ABox, AReader, AWriter, Ready, TheOld, Error}
+use Rattle.generational_box.specs.Session.Said.{Lacking, HandedBack, NoSuch}
 use Rattle.generational_box.specs.Answers.{trouble_of}
 
 module _ {T : Type 0} where
@@ -20,13 +22,16 @@ module _ {T : Type 0} where
   abbrev pub thing_held : Thing T → Held T
   thing_held (thing.Box b) = Boxed (pointer_of b)
   thing_held (thing.Reader g) = Reading g
+  thing_held (thing.Writer g) = Writing g.guard g.value
   thing_held thing.Nothing = Nothing
 
   -- what a reply says
   abbrev pub said_by : Reply T → Said T
   said_by (reply.Box b) = ABox (pointer_of b)
   said_by reply.Reader = AReader
+  said_by reply.Writer = AWriter
   said_by reply.Done = Ready
+  said_by (reply.Old v) = TheOld v
   said_by (reply.Error e) = Error (trouble_of e)
   said_by (reply.Store e) = Lacking e
   said_by (reply.Back v e) = HandedBack v e
@@ -39,6 +44,11 @@ module _ {T : Type 0} where
   abbrev pub session_in : State T → List (Thing T) → SessionState T
   session_in S things = record { state = S; table = list_map thing_held things }
 
+  -- the reply when another value is to go into a writer, and what its place holds then
+  abbrev pub exchanged : Held T → T → Said T × Held T
+  exchanged (Writing g old) v = (TheOld old, Writing g v)
+  exchanged h v = (NoSuch (Some v), h)
+
   abbrev pub GivesAsked : SessionState T → Call T → Asked T
       → Said T → Held T → SessionState T → Type 0
   GivesAsked s c (Asks action) x h m =
@@ -48,6 +58,7 @@ module _ {T : Type 0} where
       × (h ≡ gives answer)
       × (m.table ≡ spent c answer s.table)
   GivesAsked s c (Tells y) x h m = (x ≡ y) × (h ≡ Nothing) × (m ≡ s)
+  GivesAsked s c (Swaps p g v old) x h m = (x ≡ TheOld old) × (h ≡ Nothing) × (m ≡ swapped s p g v)
 
   -- a call of a session is answered x and gives h, before h has its place
   abbrev pub Gives : SessionState T → Call T → Said T → Held T → SessionState T → Type 0

@@ -14,7 +14,8 @@ use Rattle.generational_box.specs.Boxes.{pointer_of}
 use Rattle.generational_box.specs.State.{State}
 use Rattle.generational_box.specs.Borrowing.{Trouble, Guard}
 use Rattle.generational_box.specs.Machine.{Action, Answer, OwnerName, Outcome, act}
-use Rattle.generational_box.specs.Machine.Action.{Make, Read, ReleaseReader, ReleaseWriter, End}
+use Rattle.generational_box.specs.Machine.Action.{Make, Read, Write, End}
+use Rattle.generational_box.specs.Machine.Action.{ReleaseReader, ReleaseWriter}
 use Rattle.generational_box.specs.Machine.Answer.{Made, Owned, Reads, Writes, Done, Old, Flag}
 use Rattle.generational_box.specs.Machine.Answer.{Back, Troubled, Refused}
 use Rattle.generational_box.specs.Steps.{Meets, no_names}
@@ -51,10 +52,12 @@ pub data Said (T : Type 0) : Type 0 where
   Unready : (back : Option T) → Said T
   NoSuch : (back : Option T) → Said T
 
--- What a call comes to once its places are read: a call of the machine, or a reply at once.
+-- What a call comes to once its places are read: a call of the machine, a reply at once, or
+-- another value for the writer at a place.
 pub data Asked (T : Type 0) : Type 0 where
   Asks : (action : Action T) → Asked T
   Tells : (said : Said T) → Asked T
+  Swaps : (place : ℕ) (guard : Guard) (value old : T) → Asked T
 
 module _ {T : Type 0} where
   -- what a place holds; a place that isn't given yet holds nothing
@@ -81,10 +84,16 @@ module _ {T : Type 0} where
   released (Writing g v) = Asks (ReleaseWriter g v)
   released _ = Tells (NoSuch None)
 
+  abbrev pub replaced : ℕ → Held T → T → Asked T
+  replaced p (Writing g old) v = Swaps p g v old
+  replaced p _ v = Tells (NoSuch (Some v))
+
   -- what each call asks of the machine
   abbrev pub asked : SessionState T → Call T → Asked T
   asked s (call.Leak v l) = Asks (Make None v l)
   asked s (call.TryRead b l) = with_box (box_in s b) None (λ b. Asks (Read b l))
+  asked s (call.TryWrite b l) = with_box (box_in s b) None (λ b. Asks (Write b l))
+  asked s (call.Replace p v) = replaced p (held s.table p) v
   asked s (call.Release p) = released (held s.table p)
   asked s (call.ManuallyDrop b) = with_box (box_in s b) None (λ b. Asks (End b))
 
@@ -127,6 +136,10 @@ module _ {T : Type 0} where
   abbrev pub placed : SessionState T → Held T → SessionState T
   placed s h = record s { table = s.table ++ h ∷ [] }
 
+  -- the session in which the writer at a place owns another value
+  abbrev pub swapped : SessionState T → ℕ → Guard → T → SessionState T
+  swapped s p g v = record s { table = slice_set s.table p (Writing g v) }
+
   -- the reply to a call, and the session after it
   abbrev pub settled : SessionState T → Call T → Outcome T → Said T × SessionState T
   settled s c out =
@@ -140,6 +153,7 @@ module _ {T : Type 0} where
       × Meets s.state action answer R
       × ((x, r) ≡ settled s c (answer, R))
   Settles s c (Tells y) x r = (x ≡ y) × (r ≡ placed s Nothing)
+  Settles s c (Swaps p g v old) x r = (x ≡ TheOld old) × (r ≡ placed (swapped s p g v) Nothing)
 
   -- a call of a session that is answered x leads from s to r
   abbrev pub SessionStep : SessionState T → Call T → Said T → SessionState T → Type 0

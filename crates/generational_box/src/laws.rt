@@ -5,7 +5,7 @@ ghost use Rattle.std.specs.FinMap as map;
 ghost use Rattle.generational_box.specs.declared.boxes.GenerationalPointer.{GenerationalPointer};
 ghost use Rattle.generational_box.specs.Names.{Name};
 ghost use Rattle.generational_box.specs.Cells.{is_shared};
-ghost use Rattle.generational_box.specs.State.{State, IsSound, IsEnded, IsNamed, fresh};
+ghost use Rattle.generational_box.specs.State.{State, IsSound, IsLive, IsEnded, IsNamed, fresh};
 ghost use Rattle.generational_box.specs.Boxes.{name_of};
 ghost use Rattle.generational_box.specs.Borrowing.{read_trouble, write_trouble};
 ghost use Rattle.generational_box.specs.Borrowing.Trouble.{Dropped};
@@ -16,6 +16,8 @@ ghost use Rattle.generational_box.specs.Bounds.{IsBounded};
 ghost use Rattle.generational_box.specs.declared.session.Call.{Call};
 ghost use Rattle.generational_box.specs.Session.{SessionState, Said, SessionStep, Run};
 ghost use Rattle.generational_box.specs.Holding.{IsKept};
+ghost use Rattle.generational_box.specs.Keeping.{Sets, IsUnwritten, IsUndisturbed, Undisturbed};
+ghost use Rattle.generational_box.specs.Keeping.{value_at, location_at};
 ghost use Rattle.generational_box.specs.Numbered.{Matches, answers, erase, refusal_in};
 ghost use Rattle.generational_box.specs.History.{plain, plain_call, plain_answer};
 
@@ -72,6 +74,27 @@ pub fn sessions_keep_names_ended<T>()
         SessionStep s c reply r → IsEnded s.state n → IsEnded r.state n }
     ensures run { (calls : List (Call T)) (replies : List (Said T)) (s r : SessionState T)
         (n : Name) → Run s calls replies r → IsEnded s.state n → IsEnded r.state n }
+{}
+
+/// A value stays as it is while nothing disturbs it: while the box lives on and isn't pointed
+/// elsewhere, no writer has the value, and no call sets it. A cell's location stays with the cell.
+pub fn undisturbed_values_stay<T>()
+    ensures step { (S R : State T) (call : Action T) (answer : Answer T)
+        (b : GenerationalPointer) (m : Name) →
+        IsSound S → Meets S call answer R →
+        IsUnwritten b m S → IsUnwritten b m R → (Sets S call m → ⊥) →
+        value_at R m ≡ value_at S m }
+    ensures location { (S R : State T) (call : Action T) (answer : Answer T) (m : Name) →
+        IsSound S → Meets S call answer R → IsLive S m → IsLive R m →
+        location_at R m ≡ location_at S m }
+    ensures session { (s r : SessionState T) (c : Call T) (reply : Said T)
+        (b : GenerationalPointer) (m : Name) →
+        IsKept s → SessionStep s c reply r → IsUndisturbed b m s c r →
+        value_at r.state m ≡ value_at s.state m }
+    ensures run { (calls : List (Call T)) (replies : List (Said T)) (s r : SessionState T)
+        (b : GenerationalPointer) (m : Name) →
+        IsKept s → (run : Run s calls replies r) → Undisturbed b m s calls replies r run →
+        value_at r.state m ≡ value_at s.state m }
 {}
 
 /// The bound on slots holds after each call of a session, and after each run.

@@ -2,9 +2,10 @@
 //!
 //! A [`Store`] keeps values of one type. A [`GenerationalBox`] names one of them: it is copied
 //! freely, owns nothing, and may outlive its value, since a name is never given twice. A value is
-//! read under a guard, which names its borrow and is spent by `release`; a call that meets a
-//! borrow, or a value that is gone, is answered by an error that tells where the borrow began or
-//! where the box was made. [`Session`] runs lists of calls that name each other by their places.
+//! read or written under a guard, which names its borrow and is spent by `release`; a call that
+//! meets a borrow, or a value that is gone, is answered by an error that tells where the borrow
+//! began or where the box was made. [`Session`] runs lists of calls that name each other by their
+//! places.
 //!
 //! Every call is proved to be a step of a small abstract machine, for every element type and
 //! every storage: the clauses of [`AnyStorage`] and [`Storage`] say which step. The definitions

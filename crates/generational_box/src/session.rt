@@ -2,13 +2,15 @@
 
 ghost use Rattle.std.specs.Prelude.{◌≡◌, List, option_map, vec_len, vec_capacity};
 ghost use Rattle.generational_box.specs.declared.session.Call.TheVariants as call;
+ghost use Rattle.generational_box.specs.declared.boxes.GenerationalPointer.{GenerationalPointer};
 ghost use Rattle.generational_box.specs.Boxes.{pointer_of};
+ghost use Rattle.generational_box.specs.State.{State};
 ghost use Rattle.generational_box.specs.Session.{Held, box_in, let_go_of};
-ghost use Rattle.generational_box.specs.Places.{thing_held, said_by, session_in, Gives};
+ghost use Rattle.generational_box.specs.Places.{thing_held, said_by, session_in, exchanged, Gives};
 
 use crate::boxes::GenerationalBox;
 use crate::error::{BorrowMutError, Location, Refusal, Refused, StoreError};
-use crate::references::GenerationalRef;
+use crate::references::{GenerationalRef, GenerationalRefMut};
 use crate::storage::Storage;
 use std::alloc::Global;
 use std::marker::Model;
@@ -30,6 +32,10 @@ pub enum Call<T> {
     Leak(T, Location),
     /// Begins a read.
     TryRead(BoxAt<T>, Location),
+    /// Begins a write.
+    TryWrite(BoxAt<T>, Location),
+    /// Puts a value in the place of the one that the writer of this place owns.
+    Replace(usize, T),
     /// Releases the guard that the call of this place gave.
     Release(usize),
     /// Ends the box's cell.
@@ -43,8 +49,12 @@ pub enum Reply<T> {
     Box(GenerationalBox<T>),
     /// A read has begun: the place holds its guard.
     Reader,
+    /// A write has begun: the place holds its guard, which owns the value.
+    Writer,
     /// The call was carried out.
     Done,
+    /// The value that a writer owned before.
+    Old(T),
     /// A borrow error. Nothing has changed.
     Error(BorrowMutError),
     /// A refusal of the store where no value was handed in. Nothing has changed.
@@ -60,6 +70,7 @@ pub enum Reply<T> {
 enum Thing<T> {
     Box(GenerationalBox<T>),
     Reader(GenerationalRef<T>),
+    Writer(GenerationalRefMut<T>),
     Nothing,
 }
 
@@ -85,9 +96,11 @@ impl<T, S: Storage<T>> Model for Session<T, S> {
 
     ghost coded = { Prim.hlevel (codes, map.code) };
 
-    ghost view = { λ s. record { state = S.state s.store; table = list_map thing_held s.things.items } };
+    ghost view = { λ s.
+        record { state = S.state s.store; table = list_map thing_held s.things.items } };
 
-    ghost invariant = { λ s. IsKept (record { state = S.state s.store; table = list_map thing_held s.things.items }) };
+    ghost invariant = { λ s. IsKept
+        (record { state = S.state s.store; table = list_map thing_held s.things.items }) };
 }
 
 impl<T: Drop, S: Storage<T>> Session<T, S> {
@@ -96,6 +109,7 @@ impl<T: Drop, S: Storage<T>> Session<T, S> {
     ghost use Rattle.generational_box.specs.State.{IsFresh, IsEnded};
     ghost use Rattle.generational_box.specs.Session.{SessionStep, Run, viewed, all_let_go};
     ghost use Rattle.generational_box.specs.Holding.{IsKept};
+    ghost use Rattle.generational_box.specs.Keeping.{IsUndisturbed, Undisturbed, value_at};
     ghost use Rattle.generational_box.specs.Places.{said_by, replies_said};
 
     /// A session over a store in which nothing was made yet (`is_fresh` is the test). Takes no
@@ -120,9 +134,13 @@ impl<T: Drop, S: Storage<T>> Session<T, S> {
         ensures unchanged { OnErr result (self.new ≡ self.old) }
 
         // The state is sound, boxes at different places have different ids, and the store knows
-        // the held guards. A name that has ended is never live again.
+        // the held guards. A name that has ended is never live again. A value that nothing
+        // disturbs stays.
         ensures kept { IsKept self.new }
         ensures ended { (n : Name) → IsEnded self.old.state n → IsEnded self.new.state n }
+        ensures kept_value { (b : GenerationalPointer) (m : Name) →
+            IsUndisturbed b m self.old call self.new →
+            value_at self.new.state m ≡ value_at self.old.state m }
     {
         if self.things.reserve(1).is_err() {
             return Err(call);
@@ -136,13 +154,19 @@ impl<T: Drop, S: Storage<T>> Session<T, S> {
     /// replies or the places is lacking: then none has a place, and nothing changes.
     pub fn run(&mut self, mut calls: Vec<Call<T>>) -> Result<Vec<Reply<T>>, Vec<Call<T>>>
         // The calls and their replies are a run of the machine.
-        ensures run { IfOk result (λ replies. Run self.old calls.items (replies_said replies.items) self.new) }
+        ensures run { IfOk result (λ replies.
+            Run self.old calls.items (replies_said replies.items) self.new) }
         ensures back { IfErr result (λ back. back.items ≡ calls.items) }
         ensures unchanged { OnErr result (self.new ≡ self.old) }
 
         // What `call` keeps, each run keeps.
         ensures kept { IsKept self.new }
         ensures ended { (n : Name) → IsEnded self.old.state n → IsEnded self.new.state n }
+        ensures kept_value { IfOk result (λ replies.
+            let said = replies_said replies.items in
+            (b : GenerationalPointer) (m : Name) (run : Run self.old calls.items said self.new) →
+            Undisturbed b m self.old calls.items said self.new run →
+            value_at self.new.state m ≡ value_at self.old.state m) }
     {
         let count = calls.len();
         if self.things.reserve(count).is_err() {
@@ -162,13 +186,14 @@ impl<T: Drop, S: Storage<T>> Session<T, S> {
         Ok(replies)
     }
 
-    /// The value that the guard at a place lends: None where the place holds no guard. Takes no
-    /// memory.
+    /// The value that the guard at a place lends, a writer's being its own: None where the place
+    /// holds no guard. Takes no memory.
     pub fn view(&self, place: usize) -> Option<&T>
         ensures { option_copied result ≡ viewed self.now place }
     {
         match self.things.get(place) {
             Some(Thing::Reader(guard)) => self.store.open(guard),
+            Some(Thing::Writer(guard)) => Some(guard.deref()),
             _ => None,
         }
     }
@@ -180,7 +205,8 @@ impl<T: Drop, S: Storage<T>> Session<T, S> {
         &self.store
     }
 
-    /// The store, after the held guards were released in order of place. Takes no memory.
+    /// The store, after the held guards were released in order of place; the values of writers are
+    /// put back. Takes no memory.
     pub fn finish(self) -> S
         ensures { S.state result ≡ all_let_go self.state self.table }
     {
@@ -204,13 +230,17 @@ fn answer<T: Drop, S: Storage<T>>(
     things: &mut Vec<Thing<T>>,
     call: Call<T>,
 ) -> (Reply<T>, Thing<T>)
-    ensures step { Gives (session_in (S.state store.old) things.old.items) call (said_by result.0) (thing_held result.1) (session_in (S.state store.new) things.new.items) }
+    ensures step { Gives (session_in (S.state store.old) things.old.items) call
+        (said_by result.0) (thing_held result.1)
+        (session_in (S.state store.new) things.new.items) }
     ensures len { vec_len things.new ≡ vec_len things.old }
     ensures capacity { vec_capacity things.new ≡ vec_capacity things.old }
 {
     match call {
         Call::Leak(value, location) => leak(store, value, location),
         Call::TryRead(at, location) => try_read(store, things.as_slice(), at, location),
+        Call::TryWrite(at, location) => try_write(store, things.as_slice(), at, location),
+        Call::Replace(place, value) => replace(things, place, value),
         Call::Release(place) => release(store, things, place),
         Call::ManuallyDrop(at) => manually_drop(store, things.as_slice(), at),
     }
@@ -241,7 +271,10 @@ fn resolve<T, S: Storage<T>>(
 
 // Makes a box, whatever the places hold.
 fn leak<T, S: Storage<T>>(store: &mut S, value: T, location: Location) -> (Reply<T>, Thing<T>)
-    ensures { (table : List (Held T)) → Gives (record { state = S.state store.old; table = table }) (call.Leak value location) (said_by result.0) (thing_held result.1) (record { state = S.state store.new; table = table }) }
+    ensures { (table : List (Held T)) →
+        Gives (record { state = S.state store.old; table = table }) (call.Leak value location)
+        (said_by result.0) (thing_held result.1)
+        (record { state = S.state store.new; table = table }) }
 {
     match GenerationalBox::leak(store, value, location) {
         Ok(made) => (Reply::Box(made), Thing::Box(made)),
@@ -256,7 +289,8 @@ fn try_read<T, S: Storage<T>>(
     at: BoxAt<T>,
     location: Location,
 ) -> (Reply<T>, Thing<T>)
-    ensures { Gives (session_in (S.state store.old) things.now) (call.TryRead at location) (said_by result.0) (thing_held result.1) (session_in (S.state store.new) things.now) }
+    ensures { Gives (session_in (S.state store.old) things.now) (call.TryRead at location)
+        (said_by result.0) (thing_held result.1) (session_in (S.state store.new) things.now) }
 {
     let Some(from) = resolve(store, things, at) else {
         return (Reply::NoSuch(None), Thing::Nothing);
@@ -268,13 +302,59 @@ fn try_read<T, S: Storage<T>>(
     }
 }
 
+// Begins a write.
+fn try_write<T, S: Storage<T>>(
+    store: &mut S,
+    things: &[Thing<T>],
+    at: BoxAt<T>,
+    location: Location,
+) -> (Reply<T>, Thing<T>)
+    ensures { Gives (session_in (S.state store.old) things.now) (call.TryWrite at location)
+        (said_by result.0) (thing_held result.1) (session_in (S.state store.new) things.now) }
+{
+    let Some(from) = resolve(store, things, at) else {
+        return (Reply::NoSuch(None), Thing::Nothing);
+    };
+    match from.try_write(store, location) {
+        Ok(guard) => (Reply::Writer, Thing::Writer(guard)),
+        Err(Refused::Borrow(error)) => (Reply::Error(error), Thing::Nothing),
+        Err(Refused::Store(cause)) => (Reply::Store(cause), Thing::Nothing),
+    }
+}
+
+// Puts another value into the writer at a place, whatever the store is.
+fn replace<T>(things: &mut Vec<Thing<T>>, place: usize, value: T) -> (Reply<T>, Thing<T>)
+    ensures step { (S : State T) → Gives (session_in S things.old.items)
+        (call.Replace place value) (said_by result.0) (thing_held result.1)
+        (session_in S things.new.items) }
+    ensures len { vec_len things.new ≡ vec_len things.old }
+    ensures capacity { vec_capacity things.new ≡ vec_capacity things.old }
+{
+    match things.get_mut(place) {
+        Some(thing) => (exchange(thing, value), Thing::Nothing),
+        None => (Reply::NoSuch(Some(value)), Thing::Nothing),
+    }
+}
+
+// Puts another value into a thing that is a writer, and answers the old one.
+fn exchange<T>(thing: &mut Thing<T>, value: T) -> Reply<T>
+    ensures reply { said_by result ≡ (exchanged (thing_held thing.old) value).0 }
+    ensures thing { thing_held thing.new ≡ (exchanged (thing_held thing.old) value).1 }
+{
+    match thing {
+        Thing::Writer(guard) => Reply::Old(guard.replace(value)),
+        _ => Reply::NoSuch(Some(value)),
+    }
+}
+
 // Ends a cell.
 fn manually_drop<T, S: Storage<T>>(
     store: &mut S,
     things: &[Thing<T>],
     at: BoxAt<T>,
 ) -> (Reply<T>, Thing<T>)
-    ensures { Gives (session_in (S.state store.old) things.now) (call.ManuallyDrop at) (said_by result.0) (thing_held result.1) (session_in (S.state store.new) things.now) }
+    ensures { Gives (session_in (S.state store.old) things.now) (call.ManuallyDrop at)
+        (said_by result.0) (thing_held result.1) (session_in (S.state store.new) things.now) }
 {
     let Some(from) = resolve(store, things, at) else {
         return (Reply::NoSuch(None), Thing::Nothing);
@@ -292,17 +372,23 @@ fn release<T: Drop, S: Storage<T>>(
     things: &mut Vec<Thing<T>>,
     place: usize,
 ) -> (Reply<T>, Thing<T>)
-    ensures step { Gives (session_in (S.state store.old) things.old.items) (call.Release place) (said_by result.0) (thing_held result.1) (session_in (S.state store.new) things.new.items) }
+    ensures step { Gives (session_in (S.state store.old) things.old.items) (call.Release place)
+        (said_by result.0) (thing_held result.1)
+        (session_in (S.state store.new) things.new.items) }
     ensures len { vec_len things.new ≡ vec_len things.old }
     ensures capacity { vec_capacity things.new ≡ vec_capacity things.old }
 {
     match things.get(place) {
-        Some(Thing::Reader(_)) => {}
+        Some(Thing::Reader(_) | Thing::Writer(_)) => {}
         _ => return (Reply::NoSuch(None), Thing::Nothing),
     }
     match mem::replace(&mut things[place], Thing::Nothing) {
         Thing::Reader(guard) => {
             guard.release(store);
+            (Reply::Done, Thing::Nothing)
+        }
+        Thing::Writer(guard) => {
+            let _ = guard.release(store);
             (Reply::Done, Thing::Nothing)
         }
         _ => unreachable!(),
@@ -317,6 +403,9 @@ fn let_go<T: Drop, S: Storage<T>>(store: &mut S, thing: Thing<T>)
         Thing::Box(_) | Thing::Nothing => {}
         Thing::Reader(guard) => {
             guard.release(store);
+        }
+        Thing::Writer(guard) => {
+            let _ = guard.release(store);
         }
     }
 }

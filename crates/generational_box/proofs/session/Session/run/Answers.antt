@@ -1,15 +1,14 @@
-use Rattle.std.proofs.Common.{◌≡◌, ◌+◌, ◌≤◌, [], arith, vec_len, vec_capacity}
+use Rattle.std.proofs.Common.{◌≡◌, [], arith}
 use Rattle.std.proofs.lemmas.Grind.{common_steps}
-use Rattle.generational_box.specs.Session.{Run}
-use Rattle.generational_box.specs.Places.{session_in, replies_said}
-use Rattle.generational_box.proofs.SessionCalls.{run_goes, run_ends, run_kept_in}
+use Rattle.generational_box.proofs.SessionCalls.{run_goes, run_ends, run_kept_in, run_value_in}
 use Rattle.generational_box.proofs.Sessions.{run_ended}
 use Rattle.generational_box.proofs.session.Session.run.Goals as goal
 
 pub loop-call-preserved : goal.loop-call-preserved
 loop-call-preserved g c = record {
-  run = run_goes _ _ _ _ _ _ _ _ _ c.in-Some.call _ _ _ _ c.in-Some.ensures.items c.answer-reply.ensures.step
-      c.push_reserved.ensures.items c.push_reserved-in-Some.ensures.items c.loop-call.invariant.run;
+  run = run_goes _ _ _ _ _ _ _ _ _ c.in-Some.call _ _ _ _ c.in-Some.ensures.items
+      c.answer-reply.ensures.step c.push_reserved.ensures.items
+      c.push_reserved-in-Some.ensures.items c.loop-call.invariant.run;
   things = omega (arith, c.in-Some.ensures.len);
   replies = omega (arith, c.in-Some.ensures.len);
 }
@@ -36,3 +35,7 @@ returns-clause-ended g c n ended =
     let none : c.loop-call.calls.items ≡ [] = grind (arith, common_steps) in
     run_ended c.args.calls.items _ c.args.self.now _
     (run_ends _ _ _ _ _ c.loop-call.replies.items none c.loop-call.invariant.run) n ended
+
+pub returns-clause-kept_value : goal.returns-clause-kept_value
+returns-clause-kept_value g c b m run undisturbed =
+    run_value_in _ _ _ c.args.calls.items _ b m c.self.view_is c.self.invariant run undisturbed
