@@ -1,0 +1,1 @@
+//! Want of memory.
