@@ -56,9 +56,7 @@ pub(crate) fn borrowed(
     began: &[Location],
 ) -> Refused<BorrowMutError> {
     let began = began.to_vec(alloc).expect(rt, "memory");
-    Refused::Borrow(BorrowMutError::AlreadyBorrowed(
-        AlreadyBorrowedError::new(began),
-    ))
+    Refused::Borrow(BorrowMutError::AlreadyBorrowed(AlreadyBorrowedError::new(began)))
 }
 
 /// Asserts that a read is refused so.

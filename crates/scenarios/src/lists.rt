@@ -33,7 +33,10 @@ fn assert_lived(rt: &impl Abort, alloc: Global, place: usize, reply: Reply<u32>)
             assert_eq!(rt; Refused::Borrow(error), borrowed(rt, alloc, &[read()]));
         }
         (5, Reply::Error(BorrowMutError::Dropped(error))) => {
-            assert_eq!(rt; Refused::Borrow(BorrowError::Dropped(error)), dropped(made()));
+            assert_eq!(rt;
+                Refused::Borrow(BorrowError::Dropped(error)),
+                dropped(made())
+            );
         }
         (6, Reply::Box(second)) => assert_shows(rt, alloc, &second, "0@2"),
         _ => assert!(rt; false, "another reply at {place}"),
@@ -66,7 +69,10 @@ fn call<T: Drop, S: Storage<T>>(
     session: &mut Session<T, S>,
     call: Call<T>,
 ) -> Reply<T> {
-    session.call(call).map_err(|_| AllocError).expect(rt, "a reply")
+    session
+        .call(call)
+        .map_err(|_| AllocError)
+        .expect(rt, "a reply")
 }
 
 // Call by call the replies are the same, and the value is seen while its guard stands.
@@ -79,7 +85,11 @@ fn calls_are_answered_one_by_one(rt: HostRuntime) -> Result<(), Fail> {
     for (place, next) in calls.into_iter().enumerate() {
         let reply = call(&rt, &mut session, next);
         assert_lived(&rt, alloc, place, reply);
-        let seen = if place == 1 || place == 2 { Some(1) } else { None };
+        let seen = if place == 1 || place == 2 {
+            Some(1)
+        } else {
+            None
+        };
         assert_eq!(rt; session.view(1).copied(), seen, "after {place}");
     }
     assert!(rt; session.view(0).is_none() && session.view(7).is_none());
@@ -131,14 +141,22 @@ fn calls_that_name_boxes_of_another_store(rt: HostRuntime) {
     let mut session = Session::new(alloc, store);
     call(&rt, &mut session, Call::Leak(1, made()));
     call(&rt, &mut session, Call::TryRead(BoxAt::Place(0), read()));
-    match call(&rt, &mut session, Call::TryRead(BoxAt::Foreign(foreign), read())) {
+    match call(
+        &rt,
+        &mut session,
+        Call::TryRead(BoxAt::Foreign(foreign), read()),
+    ) {
         Reply::Error(BorrowMutError::Dropped(error)) => {
             let found = Refused::Borrow(BorrowError::Dropped(error));
             assert_eq!(rt; found, dropped(made_later()));
         }
         _ => assert!(rt; false, "another reply"),
     }
-    let reply = call(&rt, &mut session, Call::ManuallyDrop(BoxAt::Foreign(foreign)));
+    let reply = call(
+        &rt,
+        &mut session,
+        Call::ManuallyDrop(BoxAt::Foreign(foreign)),
+    );
     assert!(rt; matches!(&reply, Reply::Done));
     assert_eq!(rt; session.view(1).copied(), Some(1));
     session.finish();
@@ -158,7 +176,11 @@ fn a_session_ends_with_no_reader_left(rt: HostRuntime) {
         }
     }
     for place in [0, 1, 0] {
-        let reply = call(&rt, &mut session, Call::TryRead(BoxAt::Place(place), read()));
+        let reply = call(
+            &rt,
+            &mut session,
+            Call::TryRead(BoxAt::Place(place), read()),
+        );
         assert!(rt; matches!(&reply, Reply::Reader));
     }
     assert_eq!(rt; session.store().number(), 7);

@@ -16,7 +16,11 @@ fn a_release_ends_its_own_read_alone(rt: HostRuntime) {
         let second = begin(&rt, &mut store, value, other);
         let third = begin(&rt, &mut store, value, one);
         let all = borrowed(&rt, alloc, &[one, other, one]);
-        assert_eq!(rt; value.manually_drop(&mut store), Err(all), "before {released}");
+        assert_eq!(rt;
+            value.manually_drop(&mut store),
+            Err(all),
+            "before {released}"
+        );
 
         let (spent, kept, kept_too) = match released {
             0 => (first, second, third),
@@ -25,7 +29,11 @@ fn a_release_ends_its_own_read_alone(rt: HostRuntime) {
         };
         assert!(rt; spent.release(&mut store));
         let two = borrowed(&rt, alloc, left.as_slice());
-        assert_eq!(rt; value.manually_drop(&mut store), Err(two), "after {released}");
+        assert_eq!(rt;
+            value.manually_drop(&mut store),
+            Err(two),
+            "after {released}"
+        );
 
         assert_eq!(rt; kept.deref(&store).map(|view| *view), Some(5));
         assert!(rt; kept.release(&mut store));

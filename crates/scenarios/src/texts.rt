@@ -8,9 +8,13 @@ use generational_box::{
 use std::test::Fail;
 
 const DROPPED: &str = "Failed to borrow because the value was dropped.created_at: a.rs:3:5";
+
 const WRITTEN: &str =
     "Failed to borrow because the value was already borrowed mutably.borrowed_mut_at: w.rs:4:6";
-const READ: &str = "Failed to borrow mutably because the value was already borrowed immutably.borrowed_at:\ta.rs:3:5\ta.rs:8:9";
+
+const READ: &str =
+    "Failed to borrow mutably because the value was already borrowed immutably.borrowed_at:\ta.rs:3:5\ta.rs:8:9";
+
 const READ_BY_NOBODY: &str =
     "Failed to borrow mutably because the value was already borrowed immutably.borrowed_at:";
 
@@ -24,17 +28,30 @@ fn errors_of_borrows(rt: HostRuntime) -> Result<(), Fail> {
     assert_prints(&rt, alloc, &gone, DROPPED);
     assert_prints(&rt, alloc, &BorrowError::Dropped(gone), DROPPED);
     assert_prints(&rt, alloc, &BorrowMutError::Dropped(gone), DROPPED);
-    assert_prints(&rt, alloc, &Refused::Borrow(BorrowError::Dropped(gone)), DROPPED);
+    assert_prints(
+        &rt,
+        alloc,
+        &Refused::Borrow(BorrowError::Dropped(gone)),
+        DROPPED,
+    );
     let turned = BorrowMutError::from(BorrowError::Dropped(gone));
     assert_eq!(rt; turned, BorrowMutError::Dropped(gone));
 
     let written = AlreadyBorrowedMutError::new(Location::new("w.rs", 4, 6));
     assert_prints(&rt, alloc, &written, WRITTEN);
-    assert_prints(&rt, alloc, &BorrowError::AlreadyBorrowedMut(written), WRITTEN);
+    assert_prints(
+        &rt,
+        alloc,
+        &BorrowError::AlreadyBorrowedMut(written),
+        WRITTEN,
+    );
     let held = BorrowMutError::AlreadyBorrowedMut(written);
     assert_prints(&rt, alloc, &held, WRITTEN);
     assert_prints(&rt, alloc, &Refused::Borrow(held.clone()?), WRITTEN);
-    assert_eq!(rt; BorrowMutError::from(BorrowError::AlreadyBorrowedMut(written)), held);
+    assert_eq!(rt;
+        BorrowMutError::from(BorrowError::AlreadyBorrowedMut(written)),
+        held
+    );
 
     let nobody = AlreadyBorrowedError::new(Vec::new(alloc));
     assert_prints(&rt, alloc, &nobody, READ_BY_NOBODY);
