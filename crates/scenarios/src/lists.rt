@@ -2,8 +2,8 @@
 
 use crate::expected::{assert_shows, borrowed, dropped, leak, made, made_later, read};
 use generational_box::{
-    AnyStorage, BorrowError, BorrowMutError, BoxAt, Call, GenerationalBox, Refused, Reply, Session,
-    Storage, Store, UnsyncStorage,
+    AnyStorage, BorrowError, BorrowMutError, BoxAt, Call, GenerationalBox, LastFirst, Numbers,
+    Refused, Reply, Session, Storage, Store, StoreError, UnsyncStorage,
 };
 use std::alloc::{AllocError, Global};
 use std::process::Abort;
@@ -191,4 +191,30 @@ fn a_session_ends_with_no_reader_left(rt: HostRuntime) {
             None => assert!(rt; false, "no box"),
         }
     }
+}
+
+// A refusal of the store itself, and values of another type.
+#[test]
+fn a_session_of_texts_without_tickets(rt: HostRuntime) -> Result<(), Fail> {
+    let alloc = rt.alloc();
+    let text = String::from_str(alloc, "hello world")?;
+    let numbers = Numbers {
+        generation: 1,
+        ticket: u64::MAX - 1,
+    };
+    let store: Store<String, LastFirst> = Store::new_at(alloc, 7, numbers);
+    let mut session = Session::new(alloc, store);
+    let reply = call(&rt, &mut session, Call::Leak(text, made()));
+    assert!(rt; matches!(&reply, Reply::Box(_)));
+    let reply = call(&rt, &mut session, Call::TryRead(BoxAt::Place(0), read()));
+    assert!(rt; matches!(&reply, Reply::Reader));
+    let reply = call(&rt, &mut session, Call::TryRead(BoxAt::Place(0), read()));
+    assert!(rt; matches!(&reply, Reply::Store(StoreError::NumbersExhausted)));
+    assert_eq!(rt;
+        session.view(1).map(|seen| seen.as_str()),
+        Some("hello world")
+    );
+    assert!(rt; session.view(2).is_none());
+    session.finish();
+    Ok(())
 }
