@@ -1,8 +1,9 @@
 //! Free slots.
 
-ghost use Rattle.std.specs.Prelude.{◌≡◌, ℕ, ◌+◌, ◌<◌, ◌≤◌, true, false, IfSome, IfNone, OnOk, OnErr, vec_capacity};
+ghost use Rattle.std.specs.Prelude.{◌≡◌, ℕ, ◌+◌, ◌<◌, ◌≤◌, true, false, IfSome, IfNone, IfErr, OnOk, OnErr, vec_capacity};
 ghost use Rattle.std.specs.Ordering.{nat_cmp};
 ghost use Rattle.std.specs.FinSet as set;
+ghost use Rattle.generational_box.specs.declared.error.StoreError.TheVariants.{OutOfMemory};
 
 use crate::error::StoreError;
 use std::alloc::Global;
@@ -26,7 +27,8 @@ pub trait SlotPool: Drop {
     fn grow(&mut self) -> Result<(), StoreError>
         ensures same { members self.new ≡ members self.old }
         ensures ok { OnOk result (rooms self.new ≡ rooms self.old + 1) }
-        ensures err { OnErr result (rooms self.new ≡ rooms self.old) };
+        ensures err { OnErr result (rooms self.new ≡ rooms self.old) }
+        ensures cause { IfErr result (λ error. error ≡ OutOfMemory) };
 
     /// Takes a slot out: None exactly where there is none. Takes no memory.
     fn take(&mut self) -> Option<usize>
@@ -114,6 +116,7 @@ fn reserve_more(slots: &mut Vec<usize>) -> Result<(), StoreError>
     ensures slots { slots.new.items ≡ slots.old.items }
     ensures capacity { vec_capacity slots.old ≤ vec_capacity slots.new }
     ensures ok { OnOk result (vec_capacity slots.old < vec_capacity slots.new) }
+    ensures cause { IfErr result (λ error. error ≡ OutOfMemory) }
 {
     let spare = slots.capacity() - slots.len();
     if slots.reserve(spare + 1).is_err() {
