@@ -14,6 +14,7 @@ pub mod CarriedSession
 pub mod CarriedTables
 pub mod Choosing
 pub mod Ends
+pub mod Entries
 pub mod Filled
 pub mod Fresh
 pub mod Growing
@@ -31,7 +32,11 @@ pub mod Numbering
 pub mod Placing
 pub mod Plain
 pub mod PlainSteps
+pub mod Playing
 pub mod PoolLemmas
+pub mod Rows
+pub mod RowsBorrows
+pub mod RowsOwners
 pub mod Saying
 pub mod SessionCalls
 pub mod Sessions
