@@ -36,7 +36,9 @@ pub mod Playing
 pub mod PoolLemmas
 pub mod Rows
 pub mod RowsBorrows
+pub mod RowsLimits
 pub mod RowsOwners
+pub mod RowsPointing
 pub mod Saying
 pub mod SessionCalls
 pub mod Sessions

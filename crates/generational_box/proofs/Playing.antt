@@ -1,5 +1,6 @@
 -- Worked rows, played line by line from states that are written out.
-use Rattle.std.proofs.Common.{◌≡◌, ℕ, cond, not, List, [], ◌∷◌, Option, refl, ap, ◌∙◌}
+use Rattle.std.proofs.Common.{◌≡◌, ℕ, cond, not, List, [], ◌∷◌, Option, refl, sym, ap, ◌∙◌}
+use Rattle.std.proofs.Common.{subst}
 use Rattle.std.specs.Prelude.{Bool, true, false, ◌&&◌, ◌-◌, ◌^◌, nat_eq, nat_lt, is_some}
 use Rattle.std.specs.Prelude.{unwrap_or}
 use Rattle.std.specs.Ordering.{nat_cmp}
@@ -139,6 +140,13 @@ module _ {T : Type 0} where
     look {guard = guard} {value = value} e rest = record {
       tells = tells_both _ _ (Open guard) _ (Opens value) row refl (ap Opens e) rest.tells;
     }
+
+    -- a row goes on from cells and records that are written out anew
+    pub here : (cells' : List (Name × Cell T)) (owners' : List (ℕ × Holding))
+        → cells ≡ cells' → owners ≡ owners'
+        → Goes cells' given owners' next peak row → Goes cells given owners next peak row
+    here cells' owners' c o rest = subst (λ x. Goes x given owners next peak row) (sym c)
+        (subst (λ x. Goes cells' given x next peak row) (sym o) rest)
 
     -- the counts, once the slots are computed
     pub count : {told : Told T} {m : map.FinMap nat_cmp ℕ}
