@@ -39,6 +39,7 @@ pub mod RowsBorrows
 pub mod RowsLimits
 pub mod RowsOwners
 pub mod RowsPointing
+pub mod RowsSlots
 pub mod Saying
 pub mod SessionCalls
 pub mod Sessions
