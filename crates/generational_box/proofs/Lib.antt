@@ -40,6 +40,7 @@ pub mod RowsLimits
 pub mod RowsOwners
 pub mod RowsPointing
 pub mod RowsSlots
+pub mod RowsTurning
 pub mod Saying
 pub mod SessionCalls
 pub mod Sessions
