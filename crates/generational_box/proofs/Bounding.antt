@@ -17,7 +17,7 @@ use Rattle.generational_box.proofs.ActBounded.{act_bounded}
 use Rattle.generational_box.proofs.Stepping.{meets_cases}
 
 -- where no name was given there is no slot
-no_slots : lasts (set.items (set.empty {R = name_cmp})) ≡ map.empty
+pub no_slots : lasts (set.items (set.empty {R = name_cmp})) ≡ map.empty
 unfolding lasts
 no_slots = lasts_same (set.items set.empty) [] (λ n h. sym (set.contains-empty name_cmp n)
     ∙ (set.contains-items (set.empty {R = name_cmp}) n ∙ h)) (λ n h. absurd (true≢false (sym h)))

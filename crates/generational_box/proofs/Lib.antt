@@ -14,6 +14,7 @@ pub mod CarriedSession
 pub mod CarriedTables
 pub mod Choosing
 pub mod Ends
+pub mod Entries
 pub mod Filled
 pub mod Fresh
 pub mod Growing
@@ -35,7 +36,15 @@ pub mod OwnerScans
 pub mod Placing
 pub mod Plain
 pub mod PlainSteps
+pub mod Playing
 pub mod PoolLemmas
+pub mod Rows
+pub mod RowsBorrows
+pub mod RowsLimits
+pub mod RowsOwners
+pub mod RowsPointing
+pub mod RowsSlots
+pub mod RowsTurning
 pub mod Saying
 pub mod SessionCalls
 pub mod Sessions
