@@ -98,24 +98,18 @@ fn assert_value<S: Storage<u32>>(
     assert!(rt; guard.release(store));
 }
 
-/// Asserts that a write is refused because of readers who began at these places, in this order.
+/// Asserts that a write is refused because of readers who began at these places, in this order,
+/// and that the error ends with `listed`.
 fn assert_read_from<S: Storage<u32>>(
     rt: &impl Abort,
     alloc: Global,
     store: &mut S,
     value: GenerationalBox<u32>,
     places: &[Location],
+    listed: &str,
 ) {
     let refusal = write_refusal(rt, store, value);
-    let mut text = String::from_str(alloc, READ).expect(rt, "memory");
-    for place in places {
-        let more = if *place == top() {
-            "\ta.rs:3:5"
-        } else {
-            "\ta.rs:8:9"
-        };
-        text.push_str(more).expect(rt, "memory");
-    }
+    let text = format!(in alloc; "{READ}{listed}").expect(rt, "memory");
     assert_text(rt, alloc, &refusal, text.as_str());
     let readers = AlreadyBorrowedError::new(places.to_vec(alloc).expect(rt, "memory"));
     assert_eq!(rt;
@@ -155,9 +149,16 @@ fn each_of_two_readers_keeps_writers_out(rt: HostRuntime) {
     let (mut store, value) = store_of_one(&rt, alloc);
     let first = reader(&rt, &mut store, value, top());
     let second = reader(&rt, &mut store, value, top());
-    assert_read_from(&rt, alloc, &mut store, value, &[top(), top()]);
+    assert_read_from(
+        &rt,
+        alloc,
+        &mut store,
+        value,
+        &[top(), top()],
+        "\ta.rs:3:5\ta.rs:3:5",
+    );
     assert!(rt; second.release(&mut store));
-    assert_read_from(&rt, alloc, &mut store, value, &[top()]);
+    assert_read_from(&rt, alloc, &mut store, value, &[top()], "\ta.rs:3:5");
     assert!(rt; first.release(&mut store));
     let guard = writer(&rt, &mut store, value);
     assert_eq!(rt; guard.release(&mut store), Ok(()));
@@ -167,19 +168,29 @@ fn each_of_two_readers_keeps_writers_out(rt: HostRuntime) {
 #[test]
 fn readers_are_told_in_order(rt: HostRuntime) {
     let alloc = rt.alloc();
-    for (is_third, left) in [(true, [top(), below()]), (false, [below(), top()])] {
+    for (is_third, left, listed) in [
+        (true, [top(), below()], "\ta.rs:3:5\ta.rs:8:9"),
+        (false, [below(), top()], "\ta.rs:8:9\ta.rs:3:5"),
+    ] {
         let (mut store, value) = store_of_one(&rt, alloc);
         let first = reader(&rt, &mut store, value, top());
         let second = reader(&rt, &mut store, value, below());
         let third = reader(&rt, &mut store, value, top());
-        assert_read_from(&rt, alloc, &mut store, value, &[top(), below(), top()]);
+        assert_read_from(
+            &rt,
+            alloc,
+            &mut store,
+            value,
+            &[top(), below(), top()],
+            "\ta.rs:3:5\ta.rs:8:9\ta.rs:3:5",
+        );
         let (spent, kept) = if is_third {
             (third, first)
         } else {
             (first, third)
         };
         assert!(rt; spent.release(&mut store));
-        assert_read_from(&rt, alloc, &mut store, value, left.as_slice());
+        assert_read_from(&rt, alloc, &mut store, value, left.as_slice(), listed);
         assert!(rt; kept.release(&mut store));
         assert!(rt; second.release(&mut store));
     }
