@@ -54,6 +54,22 @@ pub(crate) fn read<E: Element, S: Storage<E>>(
     digest.ok_or(Stopped)
 }
 
+/// The digest of a box's value, in whose place another is put.
+#[inline(always)]
+pub(crate) fn write<E: Element, S: Storage<E>>(
+    store: &mut S,
+    key: GenerationalBox<E>,
+    value: E,
+) -> Result<u64, Stopped> {
+    let mut guard = key.try_write(store, here())?;
+    let digest = guard.deref().digest();
+    guard.replace(value);
+    match guard.release(store) {
+        Ok(()) => Ok(digest),
+        Err(_) => Err(Stopped),
+    }
+}
+
 /// Ends a box's value.
 #[inline(always)]
 pub(crate) fn end<E: Element, S: Storage<E>>(

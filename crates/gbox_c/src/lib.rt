@@ -17,7 +17,7 @@ mod workloads;
 
 ghost use Rattle.std.specs.Prelude.{◌≡◌};
 
-use crate::workloads::{answer, churn, insert_and_read, read_often};
+use crate::workloads::{answer, churn, insert_and_read, read_often, write_often};
 use generational_box::UnsyncStorage;
 use std::alloc::Global;
 
@@ -65,18 +65,16 @@ pub extern "C" fn gbox_w3_text(alloc: Global, n: u64, seed: u64) -> u64 {
 
 /// w4 over numbers: values are replaced by others.
 #[unsafe(no_mangle)]
-pub extern "C" fn gbox_w4_u64(_alloc: Global, _n: u64, _seed: u64) -> u64
-    ensures { result ≡ 0 }
-{
-    0
+pub extern "C" fn gbox_w4_u64(alloc: Global, n: u64, seed: u64) -> u64 {
+    let mut store = UnsyncStorage::<u64>::new(alloc, 1);
+    answer(write_often(alloc, &mut store, n, seed))
 }
 
 /// w4 over texts.
 #[unsafe(no_mangle)]
-pub extern "C" fn gbox_w4_text(_alloc: Global, _n: u64, _seed: u64) -> u64
-    ensures { result ≡ 0 }
-{
-    0
+pub extern "C" fn gbox_w4_text(alloc: Global, n: u64, seed: u64) -> u64 {
+    let mut store = UnsyncStorage::<String>::new(alloc, 1);
+    answer(write_often(alloc, &mut store, n, seed))
 }
 
 /// w5 over numbers: owners are made, and end their values.

@@ -1,5 +1,8 @@
 //! The checksums that generational-box 0.7.10 and slotmap answer for the same workloads.
-use crate::{gbox_w1_text, gbox_w1_u64, gbox_w2_text, gbox_w2_u64, gbox_w3_text, gbox_w3_u64};
+use crate::{
+    gbox_w1_text, gbox_w1_u64, gbox_w2_text, gbox_w2_u64, gbox_w3_text, gbox_w3_u64, gbox_w4_text,
+    gbox_w4_u64,
+};
 
 const N: u64 = 100;
 
@@ -10,6 +13,7 @@ fn numbers_are_those_of_other_stores(rt: HostRuntime) {
     assert_eq!(rt; gbox_w1_u64(rt.alloc(), N, SEED), 16918523086341909039);
     assert_eq!(rt; gbox_w2_u64(rt.alloc(), N, SEED), 15703732681835106644);
     assert_eq!(rt; gbox_w3_u64(rt.alloc(), N, SEED), 15359907562907620789);
+    assert_eq!(rt; gbox_w4_u64(rt.alloc(), N, SEED), 5500413255359575958);
 }
 
 #[test]
@@ -17,6 +21,7 @@ fn texts_are_those_of_other_stores(rt: HostRuntime) {
     assert_eq!(rt; gbox_w1_text(rt.alloc(), N, SEED), 12377129709017089636);
     assert_eq!(rt; gbox_w2_text(rt.alloc(), N, SEED), 4666249275839112292);
     assert_eq!(rt; gbox_w3_text(rt.alloc(), N, SEED), 16915553880381381486);
+    assert_eq!(rt; gbox_w4_text(rt.alloc(), N, SEED), 13250621175994697878);
 }
 
 #[test]

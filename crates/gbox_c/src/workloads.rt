@@ -2,7 +2,7 @@
 
 ghost use Rattle.std.specs.Prelude.{◌<◌, ◌≡◌, IfOk, length, vec_len};
 
-use crate::calls::{Stopped, end, make, read};
+use crate::calls::{Stopped, end, make, read, write};
 use crate::element::Element;
 use crate::random::Random;
 use generational_box::{GenerationalBox, Storage};
@@ -70,6 +70,25 @@ pub(crate) fn read_often<E: Element, S: Storage<E>>(
     let mut checksum = START;
     for _round in 0..10 {
         checksum = read_some(store, &mut random, &keys, checksum)?;
+    }
+    end_each(store, &keys)?;
+    Ok(checksum)
+}
+
+/// w4: values are made; 10n times one is replaced by another; each is ended.
+#[inline(always)]
+pub(crate) fn write_often<E: Element, S: Storage<E>>(
+    alloc: Global,
+    store: &mut S,
+    n: u64,
+    seed: u64,
+) -> Result<u64, Stopped> {
+    let n = count(n)?;
+    let mut random = Random::new(seed);
+    let keys = make_many(alloc, store, &mut random, n)?;
+    let mut checksum = START;
+    for _round in 0..10 {
+        checksum = write_some(alloc, store, &mut random, &keys, checksum)?;
     }
     end_each(store, &keys)?;
     Ok(checksum)
@@ -147,6 +166,26 @@ fn read_some<E: Element, S: Storage<E>>(
     for _read in 0..keys.len() {
         let key = keys[random.below(keys.len())];
         checksum = mix(checksum, read(store, key)?);
+    }
+    Ok(checksum)
+}
+
+// Replaces values that are drawn by others, as many as there are keys.
+#[inline(always)]
+fn write_some<E: Element, S: Storage<E>>(
+    alloc: Global,
+    store: &mut S,
+    random: &mut Random,
+    keys: &[GenerationalBox<E>],
+    checksum: u64,
+) -> Result<u64, Stopped>
+    requires { length keys.now < 4294967296 }
+{
+    let mut checksum = checksum;
+    for _written in 0..keys.len() {
+        let key = keys[random.below(keys.len())];
+        let value = E::of_word(alloc, random.word())?;
+        checksum = mix(checksum, write(store, key, value)?);
     }
     Ok(checksum)
 }

@@ -20,3 +20,5 @@ mod strangers;
 mod texts;
 #[cfg(test)]
 mod values;
+#[cfg(test)]
+mod writers;
