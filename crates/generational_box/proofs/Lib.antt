@@ -23,6 +23,7 @@ pub mod Named
 pub mod Placing
 pub mod Plain
 pub mod PoolLemmas
+pub mod Readies
 pub mod Saying
 pub mod SessionCalls
 pub mod Sessions

@@ -44,7 +44,7 @@ impl<T> Model for StorageEntry<T> {
 }
 
 impl<T> StorageEntry<T> {
-    ghost use Rattle.std.specs.Prelude.{◌≡◌, ◌<◌, ◌+◌, [], true, option_copied, option_map, OnOk, OnErr};
+    ghost use Rattle.std.specs.Prelude.{◌≡◌, ◌<◌, ◌+◌, [], true, is_none, option_copied, option_map, OnOk, OnErr};
     ghost use Rattle.generational_box.specs.Cells.Content.{Here, Lent};
     ghost use Rattle.generational_box.specs.Borrowing.{read_refusal, write_refusal};
     ghost use Rattle.generational_box.specs.Borrowing.Trouble.{BeingWritten};
@@ -90,6 +90,18 @@ impl<T> StorageEntry<T> {
             StorageEntryData::Lent(writer, _) => {
                 Some(AlreadyBorrowedMutError::new(writer.location))
             }
+        }
+    }
+
+    // Whether no borrow stands at the cell.
+    #[inline(always)]
+    pub(crate) fn is_unborrowed(&self) -> bool
+        ensures { result ≡ is_none (write_refusal (content_in self.now.kept)) }
+    {
+        match &self.data {
+            StorageEntryData::Data(_, readers, _) => readers.is_empty(),
+            StorageEntryData::Empty => true,
+            StorageEntryData::Lent(_, _) => false,
         }
     }
 

@@ -5,11 +5,13 @@ ghost use Rattle.generational_box.specs.State.{State, IsFresh};
 ghost use Rattle.generational_box.specs.Machine.Action.{Make, Read, ReleaseReader, End};
 ghost use Rattle.generational_box.specs.Machine.Answer.{Flag};
 ghost use Rattle.generational_box.specs.Steps.{Meets};
+ghost use Rattle.generational_box.specs.Readiness.{is_ready};
 ghost use Rattle.generational_box.specs.Answers.{make_answer, read_answer, end_answer, opened};
 
 use crate::boxes::GenerationalPointer;
 use crate::error::{BorrowMutResult, BorrowResult, Location, Refusal};
 use crate::references::GenerationalRef;
+use crate::steps::StepCall;
 
 /// What a store of values of one type does, whatever it keeps.
 ///
@@ -26,6 +28,11 @@ pub trait AnyStorage<T> {
     /// Whether nothing was ever made in the store.
     fn is_fresh(&self) -> bool
         ensures { IsTrue result ↔ IsFresh (state self.now) };
+
+    /// Whether the call would be answered without telling of a borrow in its way: a read meets no
+    /// writer, and an end no borrow of a value that would end. Takes no memory.
+    fn ready(&self, call: &StepCall) -> bool
+        ensures { result ≡ is_ready (state self.now) call.now };
 
     /// Ends the cell that the pointer names, and its slot is free from then on; a slot whose cell
     /// ends at the last generation is retired instead. A pointer that names no live cell of this

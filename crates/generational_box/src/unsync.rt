@@ -24,6 +24,7 @@ use crate::error::{
 };
 use crate::pool::{LastFirst, SlotPool};
 use crate::references::GenerationalRef;
+use crate::steps::StepCall;
 use crate::storage::{AnyStorage, Storage};
 use std::alloc::{AllocError, Global};
 use std::marker::Model;
@@ -309,6 +310,20 @@ impl<T: Drop, P: SlotPool> AnyStorage<T> for Store<T, P> {
 
     fn is_fresh(&self) -> bool {
         self.slots.is_empty()
+    }
+
+    fn ready(&self, call: &StepCall) -> bool {
+        match call {
+            StepCall::Leak(_) | StepCall::ReleaseRead(_) => true,
+            StepCall::Read(pointer, _) => match self.entry(pointer.id) {
+                Some(entry) => entry.borrow_error().is_none(),
+                None => true,
+            },
+            StepCall::ManuallyDrop(pointer) => match self.entry(pointer.id) {
+                Some(entry) => entry.is_unborrowed(),
+                None => true,
+            },
+        }
     }
 
     #[inline(always)]
