@@ -1,12 +1,14 @@
 -- What lies under the lock stays as it is kept.
 use Rattle.std.proofs.Common.{◌≡◌, ℕ, ◌+◌, ◌≤◌, Bool, true, List, [], ◌∷◌, ◌++◌, length, Option, None}
-use Rattle.std.proofs.Common.{Some, refl, sym, ap, subst, ◌∙◌, arith, inl, inr}
+use Rattle.std.proofs.Common.{Result, Ok, Err, false, Some, refl, sym, ap, subst, ◌∙◌, arith, inl, inr}
 use Rattle.std.specs.Prelude.{nat_eq, option_map}
-use Rattle.std.proofs.lemmas.Bool.{and_parts, eqb-true}
+use Rattle.std.specs.Result.{is_err}
+use Rattle.std.proofs.lemmas.Bool.{true≢false, and_parts, eqb-true}
 use Rattle.std.specs.FinMap as map
 use Rattle.generational_box.specs.declared.error.Location.{Location}
 use Rattle.generational_box.specs.declared.error.BorrowError.{BorrowError}
 use Rattle.generational_box.specs.declared.error.BorrowError.TheVariants as reads
+use Rattle.generational_box.specs.declared.error.BorrowMutError.{BorrowMutError}
 use Rattle.generational_box.specs.declared.error.Refused.{Refused}
 use Rattle.generational_box.specs.declared.error.Refused.TheVariants as refused
 use Rattle.generational_box.specs.declared.error.StoreError.TheVariants.{
@@ -25,7 +27,7 @@ use Rattle.generational_box.specs.Machine.{Answer, Outcome}
 use Rattle.generational_box.specs.Machine.Action.{Make, Read, ReleaseReader, End}
 use Rattle.generational_box.specs.Machine.Answer.{Made, Reads, Done, Flag}
 use Rattle.generational_box.specs.Steps.{Meets}
-use Rattle.generational_box.specs.Answers.{read_refused}
+use Rattle.generational_box.specs.Answers.{read_refused, end_answer}
 use Rattle.generational_box.specs.History.{plain}
 use Rattle.generational_box.proofs.Maps.{name_total, name_exact}
 use Rattle.generational_box.proofs.Plain.{carries_plain}
@@ -34,7 +36,7 @@ use Rattle.generational_sync.specs.declared.step.Step.{Step}
 use Rattle.generational_sync.specs.declared.step.StepReply.{StepReply}
 use Rattle.generational_sync.specs.declared.step.StepReply.TheVariants as reply
 use Rattle.generational_sync.specs.Replies.{reply_to}
-use Rattle.generational_sync.specs.History.{Plain, start, replay_from, gives_new}
+use Rattle.generational_sync.specs.History.{Plain, start, plain_step, replay_from, gives_new}
 use Rattle.generational_sync.specs.Standing.{borrows, borrows_in}
 use Rattle.generational_sync.specs.Shared.{LogState, IsKept}
 use Rattle.generational_sync.proofs.Following.{made_follows, read_follows, end_follows, release_follows}
@@ -112,13 +114,14 @@ module _ {T : Type 0} where
       (let had = kept.1 in let now = made_stand S R v l b m in omega arith),
     )
 
-    pub read_kept : (b : GenerationalPointer) (l : Location) (g : Guard)
-        → Appended room after worker (call.Read b l) (reply.Reader g.ticket)
+    pub read_kept : (b : GenerationalPointer) (l : Location) (g : Guard) (t : ℕ) → t ≡ g.ticket
+        → Appended room after worker (call.Read b l) (reply.Reader t)
         → room.standing ≡ log.standing → after.standing ≡ room.standing + 1
         → Meets S (Read b l) (Reads g) R → IsKept number R after
-    read_kept b l g more still stays m = (
+    read_kept b l g t is more still stays m = (
       replays_on (start number) log.steps room.steps after.steps S R _ kept.0 same more
-          (read_follows S R b l (Reads g) (reply.Reader g.ticket) m refl refl),
+          (read_follows S R b l (Reads g) (reply.Reader t) m
+          (ap (λ u. Some (reply.Reader u)) (sym is)) refl),
       (let had = kept.1 in let now = read_stand S R b l (Reads g) m in omega arith),
     )
 
@@ -135,7 +138,7 @@ module _ {T : Type 0} where
           let none = refusal_lends T e in omega arith),
     )
 
-    pub end_kept : (b : GenerationalPointer)
+    end_kept : (b : GenerationalPointer)
         → Appended room after worker (call.ManuallyDrop b) reply.Done
         → room.standing ≡ log.standing → after.standing ≡ room.standing
         → Meets S (End b) Done R → IsKept number R after
@@ -145,14 +148,22 @@ module _ {T : Type 0} where
       (let had = kept.1 in let now = end_stand S R b m in omega arith),
     )
 
+    pub ok_kept : {U : Type 0} (b : GenerationalPointer) (r : Result U (Refused BorrowMutError))
+        → Appended room after worker (call.ManuallyDrop b) reply.Done
+        → room.standing ≡ log.standing → after.standing ≡ room.standing
+        → Meets S (End b) (end_answer r) R → false ≡ is_err r → IsKept number R after
+    ok_kept b (Ok u) more still stays m ok = end_kept b more still stays m
+    ok_kept b (Err e) more still stays m ok = absurd (true≢false (sym ok))
+
   module _ (number : ℕ) (S R : State T) (log : LogState) (kept : IsKept number S log) where
-    pub release_kept : (after : LogState) (worker : ℕ) (g : Guard)
-        → Appended log after worker (call.ReleaseRead g.ticket) reply.Done
+    pub release_kept : (after : LogState) (worker : ℕ) (g : Guard) (t : ℕ) → t ≡ g.ticket
+        → Appended log after worker (call.ReleaseRead t) reply.Done
         → after.standing + 1 ≡ log.standing
         → Meets S (ReleaseReader g) (Flag true) R → IsKept number R after
-    release_kept after worker g more less m = (
+    release_kept after worker g t is more less m = (
       replays_on (start number) log.steps log.steps after.steps S R _ kept.0 refl more
-          (release_follows S R g (replay_kept number log.steps S kept.0).0 m),
+          (subst (λ u. plain_step (plain S) (call.ReleaseRead u) reply.Done ≡ Some (plain R))
+          (sym is) (release_follows S R g (replay_kept number log.steps S kept.0).0 m)),
       (let had = kept.1 in let now = release_stand S R g m in omega arith),
     )
 

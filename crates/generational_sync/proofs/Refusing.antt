@@ -149,6 +149,15 @@ module _ {T : Type 0} where
       (unless_tells S l (reach S b) (contents S (reach S b)) (read_trouble S b)))
   read_refused_so S R b l e (inr m) ready = lacked_by T b e m.1
 
+  -- the same, where the state and the box are known by others
+  pub read_refused_as : (S R seen : State T) (b asked : GenerationalPointer) (l : Location)
+      (e : Refused BorrowError) → S ≡ seen → b ≡ asked → Meets S (Read b l) (read_refused e) R
+      → is_ready seen (call.Read asked l) ≡ true → MayRefuseRead asked e
+  read_refused_as S R seen b asked l e same is m ready =
+      let here = ap (λ s. is_ready s (call.Read b l)) same
+      ∙ ap (λ p. is_ready seen (call.Read p l)) is in
+      subst (λ p. MayRefuseRead p e) is (read_refused_so S R b l e m (here ∙ ready))
+
   -- ---- ends
 
   borrow_written : (c : Option (Content T)) → is_borrow (write_refusal c) ≡ true
@@ -193,3 +202,12 @@ module _ {T : Type 0} where
       at (inl m) = true≢false (sym (ap is_done over)
           ∙ (sym (ap (λ (o : Outcome T). is_done o.0) m.2) ∙ not_done T e))
       at (inr m) = true≢false (sym m.0 ∙ ap is_being_read over)
+
+  pub end_done_as : {U : Type 0} (S R seen : State T) (b asked : GenerationalPointer)
+      (r : Result U (Refused BorrowMutError)) → S ≡ seen → b ≡ asked
+      → Meets S (End b) (end_answer r) R → is_ready seen (call.ManuallyDrop asked) ≡ true
+      → true ≡ is_err r → ⊥
+  end_done_as S R seen b asked r same is m ready =
+      let here = ap (λ s. is_ready s (call.ManuallyDrop b)) same
+      ∙ ap (λ p. is_ready seen (call.ManuallyDrop p)) is in
+      end_done S R b r m (here ∙ ready)
