@@ -49,3 +49,7 @@ MayRefuseRead b (refused.Borrow (reads.AlreadyBorrowedMut e)) = ⊥
 MayRefuseRead b (refused.Store NumbersExhausted) = Unit {0}
 MayRefuseRead b (refused.Store OutOfMemory) = Unit {0}
 MayRefuseRead b (refused.Store UnknownOwner) = ⊥
+
+-- the history replays, from an empty store with this number, to the state without its values
+abbrev pub Replays : {T : Type 0} → ℕ → SharedState T → Type 0
+Replays number s = replay_from (start number) s.history ≡ Some (plain s.state)

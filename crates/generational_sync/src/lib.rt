@@ -14,12 +14,12 @@
 mod log;
 mod state;
 mod step;
-// mod storage;
+mod storage;
 mod tally;
 
 pub use crate::state::SyncState;
 pub use crate::step::{Kind, Step, StepReply};
-// pub use crate::storage::SyncStorage;
+pub use crate::storage::SyncStorage;
 pub use crate::tally::{Count, Tally};
 
 // #[cfg(test)]

@@ -18,7 +18,7 @@ ghost use Rattle.generational_sync.specs.Counts.{new_tallies, counted};
 ghost use Rattle.generational_sync.specs.Kinds.{count};
 ghost use Rattle.generational_sync.specs.Replies.{reply_to, recorded, tallied};
 ghost use Rattle.generational_sync.specs.History.{start, replay_from};
-ghost use Rattle.generational_sync.specs.Shared.{Does, MayRefuseRead};
+ghost use Rattle.generational_sync.specs.Shared.{Does, Replays, MayRefuseRead};
 
 use crate::log::Log;
 use crate::step::{Step, StepReply, read_refusal};
@@ -121,7 +121,8 @@ impl<T: Drop, const NUMBER: u64, M: Count, L: Count, C: Count, R: Count> SyncSta
     /// Whether no borrow stands in the call's way: a read meets no writer, and an end no borrow of
     /// a value that would end. Takes no memory.
     pub fn ready(&self, call: &StepCall) -> bool
-        ensures { result ≡ is_ready self.now.state call.now }
+        ensures ready { result ≡ is_ready self.now.state call.now }
+        ensures replays { Replays NUMBER self.now }
     {
         self.store.ready(call)
     }
@@ -129,7 +130,8 @@ impl<T: Drop, const NUMBER: u64, M: Count, L: Count, C: Count, R: Count> SyncSta
     /// The value that a reader's guard opens, exactly where the state knows the guard. It isn't a
     /// step. Takes no memory.
     pub fn open(&self, guard: &GenerationalRef<T>) -> Option<&T>
-        ensures { option_copied result ≡ opened self.now.state guard.now }
+        ensures opened { option_copied result ≡ opened self.now.state guard.now }
+        ensures replays { Replays NUMBER self.now }
     {
         self.store.open(guard)
     }
@@ -259,7 +261,7 @@ impl<T: Drop, const NUMBER: u64, M: Count, L: Count, C: Count, R: Count> SyncSta
     ) -> Result<Vec<Step>, StoreError>
         requires { whole.old.parts ≡ M.workers }
         ensures steps { IfOk result (λ steps. steps.items ≡ self.old.history) }
-        ensures replays { replay_from (start NUMBER) self.old.history ≡ Some (plain self.old.state) }
+        ensures replays { Replays NUMBER self.old }
         ensures counts { (kind : Kind) → count kind self.old.history ≡ counted kind whole.old }
         ensures state { self.new ≡ self.old }
         ensures tally { whole.new ≡ whole.old }
