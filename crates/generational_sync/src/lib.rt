@@ -22,5 +22,5 @@ pub use crate::step::{Kind, Step, StepReply};
 pub use crate::storage::SyncStorage;
 pub use crate::tally::{Count, Tally};
 
-// #[cfg(test)]
-// mod tests;
+#[cfg(test)]
+mod tests;
