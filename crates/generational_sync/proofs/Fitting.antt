@@ -2,14 +2,16 @@
 use Rattle.std.proofs.Common.{◌≡◌, ℕ, ◌+◌, Bool, true, false, not, ◌&&◌, refl, sym, ap, ◌∙◌}
 use Rattle.std.proofs.Common.{inl, inr, ⊎_elim}
 use Rattle.std.specs.Prelude.{is_some, nat_eq, nat_lt, ◌||◌, ◌⊎◌}
-use Rattle.std.proofs.lemmas.Bool.{and_parts, and_from, or_left, or_right, or_cases, eqb-true, eq-eqb}
+use Rattle.std.proofs.lemmas.Bool.{and_parts, and_from, or_left, or_right, or_cases, eqb-true}
+use Rattle.std.proofs.lemmas.Bool.{eq-eqb}
 use Rattle.std.proofs.lemmas.Bool.{not-true}
 use Rattle.std.specs.FinMap as map
 use Rattle.std.specs.FinSet as set
 use Rattle.generational_box.specs.Names.{Name}
 use Rattle.generational_box.specs.State.{State}
 use Rattle.generational_box.specs.History.{plain}
-use Rattle.generational_box.specs.Slots.{Fits, slots_of, slots, free, is_free, is_last_live, last_name}
+use Rattle.generational_box.specs.Slots.{Fits, slots_of, slots, free, is_free, is_last_live}
+use Rattle.generational_box.specs.Slots.{last_name}
 use Rattle.generational_box.specs.Slots.{last_generation}
 use Rattle.generational_box.specs.Steps.{IsNew}
 use Rattle.generational_box.proofs.Moved.{some_map}

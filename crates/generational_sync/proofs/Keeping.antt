@@ -1,6 +1,8 @@
 -- What lies under the lock stays as it is kept.
-use Rattle.std.proofs.Common.{◌≡◌, ℕ, ◌+◌, ◌≤◌, Bool, true, List, [], ◌∷◌, ◌++◌, length, Option, None}
-use Rattle.std.proofs.Common.{Result, Ok, Err, false, Some, refl, sym, ap, subst, ◌∙◌, arith, inl, inr}
+use Rattle.std.proofs.Common.{◌≡◌, ℕ, ◌+◌, ◌≤◌, Bool, true, List, [], ◌∷◌, ◌++◌, length, Option}
+use Rattle.std.proofs.Common.{None}
+use Rattle.std.proofs.Common.{Result, Ok, Err, false, Some, refl, sym, ap, subst, ◌∙◌, arith, inl}
+use Rattle.std.proofs.Common.{inr}
 use Rattle.std.specs.Prelude.{nat_eq, option_map}
 use Rattle.std.specs.Result.{is_err}
 use Rattle.std.proofs.lemmas.Bool.{true≢false, and_parts, eqb-true}
@@ -39,9 +41,11 @@ use Rattle.generational_sync.specs.Replies.{reply_to}
 use Rattle.generational_sync.specs.History.{Plain, start, plain_step, replay_from, gives_new}
 use Rattle.generational_sync.specs.Standing.{borrows, borrows_in}
 use Rattle.generational_sync.specs.Shared.{LogState, IsKept}
-use Rattle.generational_sync.proofs.Following.{made_follows, read_follows, end_follows, release_follows}
+use Rattle.generational_sync.proofs.Following.{made_follows, read_follows, end_follows}
+use Rattle.generational_sync.proofs.Following.{release_follows}
 use Rattle.generational_sync.proofs.Replaying.{replays_on, replay_kept}
-use Rattle.generational_sync.proofs.Standings.{made_stand, read_stand, end_stand, release_stand, lends}
+use Rattle.generational_sync.proofs.Standings.{made_stand, read_stand, end_stand, release_stand}
+use Rattle.generational_sync.proofs.Standings.{lends}
 
 -- the history with one step more
 abbrev pub Appended : LogState → LogState → ℕ → StepCall → StepReply → Type 0
@@ -95,8 +99,7 @@ module _ {T : Type 0} where
   fresh_kept number S log is none =
       let empty = no_borrows (map.entries map.empty)
       (sym (map.len-entries map.empty) ∙ map.len-empty name_cmp (Cell T)) in
-      let few = ap borrows is in
-      (
+      let few = ap borrows is in (
         ap (replay_from (start number)) none
             ∙ ap Some (plain_fresh T number ∙ ap plain (sym is)),
         omega arith,
@@ -163,7 +166,7 @@ module _ {T : Type 0} where
     release_kept after worker g t is more less m = (
       replays_on (start number) log.steps log.steps after.steps S R _ kept.0 refl more
           (subst (λ u. plain_step (plain S) (call.ReleaseRead u) reply.Done ≡ Some (plain R))
-          (sym is) (release_follows S R g (replay_kept number log.steps S kept.0).0 m)),
+          (sym is) (release_follows S R g (replay_kept number log.steps (plain S) kept.0).0 m)),
       (let had = kept.1 in let now = release_stand S R g m in omega arith),
     )
 
@@ -176,12 +179,12 @@ module _ {T : Type 0} where
     guard_own b l g m =
         eqb-true g.store R.number
         (and_parts (nat_eq g.store R.number) _ (reads_known S R (Read b l) g m).0).0
-        ∙ (meets_number S R (Read b l) (Reads g) m ∙ (replay_kept number log.steps S kept.0).1)
+        ∙ (meets_number S R (Read b l) (Reads g) m ∙ (replay_kept number log.steps (plain S) kept.0).1)
 
     pub box_own : (v : T) (l : Location) (b : GenerationalPointer)
         → Meets S (Make None v l) (Made b) R → (b.id.store ≡ number) × (b.created_at ≡ l)
     box_own v l b m = (
-      (made_new S R (Make None v l) b m).number ∙ (replay_kept number log.steps S kept.0).1,
+      (made_new S R (Make None v l) b m).number ∙ (replay_kept number log.steps (plain S) kept.0).1,
       at m,
     )
       where

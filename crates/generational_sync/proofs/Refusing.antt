@@ -28,7 +28,8 @@ use Rattle.generational_box.specs.Borrowing.{read_refusal, write_refusal}
 use Rattle.generational_box.specs.Borrowing.Trouble.{Dropped, BeingRead, BeingWritten}
 use Rattle.generational_box.specs.Ending.{hindered, first_hindrance, hindrance_of, hindrance_at}
 use Rattle.generational_box.specs.Ending.{is_doomed, left_by, or_else, close}
-use Rattle.generational_box.specs.Machine.{Answer, Outcome, act, unless, read_at, contents, own_name}
+use Rattle.generational_box.specs.Machine.{Answer, Outcome, act, unless, read_at, contents}
+use Rattle.generational_box.specs.Machine.{own_name}
 use Rattle.generational_box.specs.Machine.Action.{Read, End}
 use Rattle.generational_box.specs.Machine.Answer.{Reads, Done, Troubled, Refused as refuses}
 use Rattle.generational_box.specs.Steps.{Meets, limited, is_being_read}
@@ -90,7 +91,6 @@ lacked_by T b (refused.Store UnknownOwner) same = absurd cc
 -- ---- reads
 
 module _ {T : Type 0} where
-
   -- a read tells of its trouble and of no unknown owner
   abbrev Tells : Option Trouble → Answer T → Type 0
   Tells t answer = (trouble_in answer ≡ t) × (is_unknown answer ≡ false)

@@ -25,12 +25,8 @@ use Rattle.generational_sync.specs.declared.step.StepReply.{StepReply}
 use Rattle.generational_sync.specs.declared.step.StepReply.TheVariants as reply
 use Rattle.generational_sync.specs.History.{Plain, plain_step, step_by, action_of, names_in}
 use Rattle.generational_sync.specs.History.{gives_new, is_new, is_lawful, guard_at, reader_cell}
-use Rattle.generational_sync.specs.History.{replay_on, replay_from, start}
+use Rattle.generational_sync.specs.History.{replay_on, replay_from, start, IsTaken}
 use Rattle.generational_sync.proofs.Fitting.{new_from}
-
--- the step that the machine took
-abbrev Taken : Plain → Plain → Type 0
-Taken P Q = (a : Action (Unit {0})) × (answer : Answer (Unit {0})) × Meets P a answer Q
 
 takes_any : (P : Plain) (a : Action (Unit {0})) (answer : Answer (Unit {0})) (f : Fresh)
     → AreNew P a f → Takes P a answer f
@@ -38,14 +34,13 @@ takes_any P a (Made b) f new = new
 takes_any P a _ f new = tt
 
 taken_by : (P Q : Plain) (c : StepCall) (r : StepReply) (a : Action (Unit {0}))
-    → AreNew P a (names_in r) → step_by P c r (Some a) ≡ Some Q → Taken P Q
+    → AreNew P a (names_in r) → step_by P c r (Some a) ≡ Some Q → IsTaken P Q
 taken_by P Q c r a new e = at (is_lawful P c r (limited P (act P a (names_in r))).0) e
   where
-    at : (b : Bool) → cond b (Some (limited P (act P a (names_in r))).1) None ≡ Some Q → Taken P Q
+    at : (b : Bool) → cond b (Some (limited P (act P a (names_in r))).1) None ≡ Some Q → IsTaken P Q
     at true e =
         let out : Outcome (Unit {0}) = limited P (act P a (names_in r)) in
-        let same : out.1 ≡ Q = cc in
-        (
+        let same : out.1 ≡ Q = cc in (
           a,
           out.0,
           inl (names_in r, takes_any P a out.0 (names_in r) new, λ i. (out.0, sym same i)),
@@ -61,7 +56,7 @@ new_recorded P n b Q R e = at (is_new P n) e
     at true e = refl
     at false e = absurd cc
 
-step_taken : (P Q : Plain) (c : StepCall) (r : StepReply) → plain_step P c r ≡ Some Q → Taken P Q
+pub step_taken : (P Q : Plain) (c : StepCall) (r : StepReply) → plain_step P c r ≡ Some Q → IsTaken P Q
 unfolding plain_step
 step_taken P Q (Leak l) (reply.Made b) e =
     taken_by P Q (Leak l) (reply.Made b) (Make None tt l)
@@ -75,7 +70,7 @@ step_taken P Q (ReleaseRead t) r e = at (reader_cell P t) e
   where
     at : (o : Option Name)
         → step_by P (ReleaseRead t) r (option_map (λ n. ReleaseReader (guard_at P t n)) o) ≡ Some Q
-        → Taken P Q
+        → IsTaken P Q
     at None e = absurd cc
     at (Some n) e = taken_by P Q (ReleaseRead t) r (ReleaseReader (guard_at P t n)) tt e
 step_taken P Q (ManuallyDrop b) r e = taken_by P Q (ManuallyDrop b) r (End b) tt e
@@ -87,8 +82,7 @@ Good number P = IsSound P × (P.number ≡ number)
 step_good : (number : ℕ) (P Q : Plain) (c : StepCall) (r : StepReply)
     → Good number P → plain_step P c r ≡ Some Q → Good number Q
 step_good number P Q c r good e =
-    let took = step_taken P Q c r e in
-    (
+    let took = step_taken P Q c r e in (
       meets_sound P Q took.0 took.1 good.0 took.2,
       meets_number P Q took.0 took.1 took.2 ∙ good.1,
     )
@@ -109,16 +103,16 @@ replay_more [] o P Q x e k = ap (replay_on (x ∷ [])) e ∙ k
 replay_more (y ∷ ys) None P Q x e k = absurd cc
 replay_more (y ∷ ys) (Some R) P Q x e k = replay_more ys (plain_step R y.call y.reply) P Q x e k
 
-module _ {T : Type 0} where
-  -- a state to which a history replays is sound, without its values, and is the store's
-  pub replay_kept : (number : ℕ) (steps : List Step) (S : State T)
-      → replay_from (start number) steps ≡ Some (plain S) → Good number (plain S)
-  replay_kept number steps S e =
-      replay_good number steps (Some (start number)) (plain S)
-      (λ P k.
-      let same : start number ≡ P = cc in
-      subst (Good number) same (fresh_sound number 1 0, refl)) e
+-- a state to which a history replays is sound, and of the store with the number of its start
+pub replay_kept : (number : ℕ) (steps : List Step) (Q : Plain)
+    → replay_from (start number) steps ≡ Some Q → Good number Q
+replay_kept number steps Q e =
+    replay_good number steps (Some (start number)) Q
+    (λ P k.
+    let same : start number ≡ P = cc in
+    subst (Good number) same (fresh_sound number 1 0, refl)) e
 
+module _ {T : Type 0} where
   -- the history after a step more replays to the state after it
   pub replays_on : (P : Plain) (steps kept after : List Step) (S R : State T) (x : Step)
       → replay_from P steps ≡ Some (plain S) → kept ≡ steps → after ≡ kept ++ x ∷ []

@@ -16,7 +16,8 @@ use Rattle.generational_box.specs.Cells.{Content, Cell, content_of, refilled, is
 use Rattle.generational_box.specs.Cells.Content.{Here, Lent}
 use Rattle.generational_box.specs.Cells.Cell.{Value, Shared, Ref}
 use Rattle.generational_box.specs.State.{State, tickets_of, is_named}
-use Rattle.generational_box.specs.Borrowing.{Trouble, Guard, content_at, filled, reach, read_trouble}
+use Rattle.generational_box.specs.Borrowing.{Trouble, Guard, content_at, filled, reach}
+use Rattle.generational_box.specs.Borrowing.{read_trouble}
 use Rattle.generational_box.specs.Ending.{swept, without, close, hindered}
 use Rattle.generational_box.specs.Machine.{Answer, Outcome, act, unless, read_at, contents}
 use Rattle.generational_box.specs.Machine.{has_reader, knows_reader, without_reader, own_name}
@@ -46,10 +47,14 @@ shorter t (r ∷ rs) h = split (shorter t rs) (nat_eq r.ticket t) refl
     left : List Borrow
     left = filter (λ (r : Borrow). not (nat_eq r.ticket t)) rs
 
-    split : (list_any (λ (r : Borrow). nat_eq r.ticket t) rs ≡ true → length left + 1 ≤ length rs) → (b : Bool) → nat_eq r.ticket t ≡ b
+    split : (list_any (λ (r : Borrow). nat_eq r.ticket t) rs ≡ true
+        → length left + 1 ≤ length rs) → (b : Bool) → nat_eq r.ticket t ≡ b
         → length (cond (not b) (r ∷ left) left) + 1 ≤ suc (length rs)
     split rest true e = let all = fewer t rs in omega arith
-    split rest false e = let all = rest (sym (ap (λ b. b || list_any (λ (r : Borrow). nat_eq r.ticket t) rs) e) ∙ h) in omega arith
+    split rest false e =
+        let other = ap (λ b. b || list_any (λ (r : Borrow). nat_eq r.ticket t) rs) e in
+        let all = rest (sym other ∙ h) in
+        omega arith
 
 module _ {T : Type 0} where
   abbrev size : Content T → ℕ

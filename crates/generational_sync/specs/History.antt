@@ -17,7 +17,7 @@ use Rattle.generational_box.specs.Borrowing.{Guard, content_at}
 use Rattle.generational_box.specs.Machine.{Action, Answer, Fresh, Outcome, act, has_reader}
 use Rattle.generational_box.specs.Machine.Action.{Make, Read as ReadBox, ReleaseReader, End}
 use Rattle.generational_box.specs.Slots.{slots_of, slots, free, is_free, last_name}
-use Rattle.generational_box.specs.Steps.{limited, no_names}
+use Rattle.generational_box.specs.Steps.{Meets, limited, no_names}
 use Rattle.generational_box.specs.Readiness.{is_ready}
 use Rattle.generational_sync.specs.declared.step.Step.{Step}
 use Rattle.generational_sync.specs.declared.step.StepReply.{StepReply}
@@ -101,3 +101,7 @@ replay_on (x ∷ xs) (Some P) = replay_on xs (plain_step P x.call x.reply)
 -- what a history makes of the state from which it starts; none where a step isn't lawful
 abbrev pub replay_from : Plain → List Step → Option Plain
 replay_from P steps = replay_on steps (Some P)
+
+-- some step of the machine leads from one state to another
+abbrev pub IsTaken : Plain → Plain → Type 0
+IsTaken P Q = (a : Action (Unit {0})) × (answer : Answer (Unit {0})) × Meets P a answer Q

@@ -51,7 +51,8 @@ same_error e f = false
 
 -- whether two replies are the same, locations by their texts, lines and columns
 abbrev pub same_reply : StepReply → StepReply → Bool
-same_reply (reply.Made b) (reply.Made c) = has_same_id b c && same_location b.created_at c.created_at
+same_reply (reply.Made b) (reply.Made c) =
+    has_same_id b c && same_location b.created_at c.created_at
 same_reply (reply.Reader t) (reply.Reader u) = nat_eq t u
 same_reply reply.Done reply.Done = true
 same_reply (reply.Dropped l) (reply.Dropped m) = same_location l m

@@ -10,12 +10,15 @@ use Rattle.generational_box.specs.declared.error.StoreError.TheVariants.{
   NumbersExhausted,
   UnknownOwner,
 }
+use Rattle.generational_box.specs.declared.steps.StepCall.{StepCall}
 use Rattle.generational_box.specs.State.{State}
 use Rattle.generational_box.specs.Machine.{Action, Answer}
 use Rattle.generational_box.specs.Machine.Answer.{Refused as refuses}
 use Rattle.generational_box.specs.Steps.{Meets}
 use Rattle.generational_box.specs.History.{plain}
 use Rattle.generational_sync.specs.declared.step.Step.{Step}
+use Rattle.generational_sync.specs.Counts.{Counts}
+use Rattle.generational_sync.specs.Replies.{reply_to, recorded, tallied}
 use Rattle.generational_sync.specs.History.{start, replay_from}
 use Rattle.generational_sync.specs.Standing.{borrows}
 
@@ -53,3 +56,13 @@ MayRefuseRead b (refused.Store UnknownOwner) = ⊥
 -- the history replays, from an empty store with this number, to the state without its values
 abbrev pub Replays : {T : Type 0} → ℕ → SharedState T → Type 0
 Replays number s = replay_from (start number) s.history ≡ Some (plain s.state)
+
+-- the step of a call of the tally's worker is appended, if its answer is recorded
+abbrev pub Records : {T : Type 0} → SharedState T → Counts → StepCall → Answer T → SharedState T
+    → Type 0
+Records old tally call answer new =
+    new.history ≡ recorded old.history tally.worker call (reply_to answer)
+
+-- and the count of its kind is raised by one
+abbrev pub Raises : {T : Type 0} → Counts → Answer T → Counts → Type 0
+Raises old answer new = new ≡ tallied (reply_to answer) old

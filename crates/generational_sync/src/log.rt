@@ -125,10 +125,7 @@ impl<M: Count, L: Count, C: Count, R: Count> Log<M, L, C, R> {
     }
 
     // A copy of the steps, which a whole tally has counted by their kinds.
-    pub(crate) fn audit(
-        &mut self,
-        whole: &mut Tally<M, L, C, R>,
-    ) -> Result<Vec<Step>, AllocError>
+    pub(crate) fn audit(&mut self, whole: &mut Tally<M, L, C, R>) -> Result<Vec<Step>, AllocError>
         requires { whole.old.parts ≡ M.workers }
         ensures steps { IfOk result (λ steps. steps.items ≡ self.old.steps) }
         ensures counts { (kind : Kind) → count kind self.old.steps ≡ counted kind whole.old }

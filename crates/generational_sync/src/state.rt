@@ -16,16 +16,15 @@ ghost use Rattle.generational_box.specs.History.{plain};
 ghost use Rattle.generational_sync.specs.declared.step.Kind.{Kind};
 ghost use Rattle.generational_sync.specs.Counts.{new_tallies, counted};
 ghost use Rattle.generational_sync.specs.Kinds.{count};
-ghost use Rattle.generational_sync.specs.Replies.{reply_to, recorded, tallied};
 ghost use Rattle.generational_sync.specs.History.{start, replay_from};
-ghost use Rattle.generational_sync.specs.Shared.{Does, Replays, MayRefuseRead};
+ghost use Rattle.generational_sync.specs.Shared.{Does, Replays, Records, Raises, MayRefuseRead};
 
 use crate::log::Log;
 use crate::step::{Step, StepReply, read_refusal};
 use crate::tally::{Count, Tally, tallies};
 use generational_box::{
-    AnyStorage, BorrowMutResult, BorrowResult, GenerationalBox, GenerationalRef, Location,
-    Refusal, Refused, StepCall, Storage, StoreError, UnsyncStorage,
+    AnyStorage, BorrowMutResult, BorrowResult, GenerationalBox, GenerationalRef, Location, Refusal,
+    Refused, StepCall, Storage, StoreError, UnsyncStorage,
 };
 use std::alloc::Global;
 use std::marker::Model;
@@ -49,14 +48,8 @@ pub struct SyncState<T, const NUMBER: u64, M: Count, L: Count, C: Count, R: Coun
     log: Log<M, L, C, R>,
 }
 
-impl<T, const NUMBER: u64, M: Count, L: Count, C: Count, R: Count> Model for SyncState<
-    T,
-    NUMBER,
-    M,
-    L,
-    C,
-    R,
-> {
+impl<T, const NUMBER: u64, M: Count, L: Count, C: Count, R: Count> Model
+    for SyncState<T, NUMBER, M, L, C, R> {
     ghost use Rattle.std.specs.Coded.{codes};
     ghost use Rattle.std.specs.FinMap as map;
     ghost use Rattle.generational_sync.specs.Shared.{SharedState, IsKept};
@@ -91,10 +84,14 @@ impl<T: Drop, const NUMBER: u64, M: Count, L: Count, C: Count, R: Count> SyncSta
         refused: Blank,
     ) -> Result<(Self, Vec<Tally<M, L, C, R>>), StoreError>
         requires some { 0 < workers }
-        requires made { (made.name ≡ M.name) × (made.parts ≡ M.parts) × (made.parts ≡ workers) × (M.workers ≡ workers) }
-        requires lent { (lent.name ≡ L.name) × (lent.parts ≡ L.parts) × (lent.parts ≡ workers) × (L.workers ≡ workers) }
-        requires changed { (changed.name ≡ C.name) × (changed.parts ≡ C.parts) × (changed.parts ≡ workers) × (C.workers ≡ workers) }
-        requires refused { (refused.name ≡ R.name) × (refused.parts ≡ R.parts) × (refused.parts ≡ workers) × (R.workers ≡ workers) }
+        requires made { (made.name ≡ M.name) × (made.parts ≡ M.parts) × (made.parts ≡ workers)
+            × (M.workers ≡ workers) }
+        requires lent { (lent.name ≡ L.name) × (lent.parts ≡ L.parts) × (lent.parts ≡ workers)
+            × (L.workers ≡ workers) }
+        requires changed { (changed.name ≡ C.name) × (changed.parts ≡ C.parts) × (changed.parts ≡ workers)
+            × (C.workers ≡ workers) }
+        requires refused { (refused.name ≡ R.name) × (refused.parts ≡ R.parts) × (refused.parts ≡ workers)
+            × (R.workers ≡ workers) }
         ensures fresh { IfOk result (λ r. r.0 ≡ record { state = fresh NUMBER 1 0; history = [] }) }
         ensures tallies { IfOk result (λ r. r.1.items ≡ new_tallies workers) }
         ensures err { IfErr result (λ e. e ≡ OutOfMemory) }
@@ -150,8 +147,8 @@ impl<T: Drop, const NUMBER: u64, M: Count, L: Count, C: Count, R: Count> SyncSta
         ensures step { Does self.old.state (Make None value location) (box_answer result) self.new.state }
         ensures refusal { IfErr result (λ r. (r.value ≡ value) × (r.cause ≡ OutOfMemory)) }
         ensures made { IfOk result (λ b. ((pointer_of b).id.store ≡ NUMBER) × ((pointer_of b).created_at ≡ location)) }
-        ensures recorded { self.new.history ≡ recorded self.old.history tally.old.worker (call.Leak location) (reply_to (box_answer result)) }
-        ensures tallied { tally.new ≡ tallied (reply_to (box_answer result)) tally.old }
+        ensures recorded { Records self.old tally.old (call.Leak location) (box_answer result) self.new }
+        ensures tallied { Raises tally.old (box_answer result) tally.new }
     {
         if self.log.reserve(1).is_err() {
             let cause = StoreError::OutOfMemory;
@@ -181,8 +178,8 @@ impl<T: Drop, const NUMBER: u64, M: Count, L: Count, C: Count, R: Count> SyncSta
         ensures step { Does self.old.state (Read (pointer_of asked) location) (read_answer result) self.new.state }
         ensures guard { IfOk result (λ guard. guard.store ≡ NUMBER) }
         ensures refusal { IfErr result (λ e. MayRefuseRead (pointer_of asked) e) }
-        ensures recorded { self.new.history ≡ recorded self.old.history tally.old.worker (call.Read (pointer_of asked) location) (reply_to {T = T} (read_answer result)) }
-        ensures tallied { tally.new ≡ tallied (reply_to {T = T} (read_answer result)) tally.old }
+        ensures recorded { Records self.old tally.old (call.Read (pointer_of asked) location) (read_answer result) self.new }
+        ensures tallied { Raises {T = T} tally.old (read_answer result) tally.new }
     {
         if self.log.reserve(2).is_err() {
             return Err(Refused::Store(StoreError::OutOfMemory));
@@ -208,15 +205,11 @@ impl<T: Drop, const NUMBER: u64, M: Count, L: Count, C: Count, R: Count> SyncSta
     /// Ends a read. The answer is whether the store knew the guard; where it didn't, the guard is
     /// spent and nothing changes. Never refused, and takes no memory: the step's room was reserved
     /// when the guard was given.
-    pub fn release_read(
-        &mut self,
-        guard: GenerationalRef<T>,
-        tally: &mut Tally<M, L, C, R>,
-    ) -> bool
+    pub fn release_read(&mut self, guard: GenerationalRef<T>, tally: &mut Tally<M, L, C, R>) -> bool
         ensures step { Meets self.old.state (ReleaseReader guard) (Flag result) self.new.state }
         ensures known { result ≡ knows_reader self.old.state guard }
-        ensures recorded { self.new.history ≡ recorded self.old.history tally.old.worker (call.ReleaseRead guard.ticket) (reply_to {T = T} (Flag result)) }
-        ensures tallied { tally.new ≡ tallied (reply_to {T = T} (Flag result)) tally.old }
+        ensures recorded { Records self.old tally.old (call.ReleaseRead guard.ticket) (Flag result) self.new }
+        ensures tallied { Raises {T = T} tally.old (Flag result) tally.new }
     {
         let call = StepCall::ReleaseRead(guard.ticket());
         if !self.store.release_read(guard) {
@@ -239,8 +232,8 @@ impl<T: Drop, const NUMBER: u64, M: Count, L: Count, C: Count, R: Count> SyncSta
         requires { is_ready self.old.state (call.ManuallyDrop (pointer_of asked)) ≡ true }
         ensures step { Does self.old.state (End (pointer_of asked)) (end_answer result) self.new.state }
         ensures refusal { IfErr result (λ e. e ≡ refused.Store OutOfMemory) }
-        ensures recorded { self.new.history ≡ recorded self.old.history tally.old.worker (call.ManuallyDrop (pointer_of asked)) (reply_to {T = T} (end_answer result)) }
-        ensures tallied { tally.new ≡ tallied (reply_to {T = T} (end_answer result)) tally.old }
+        ensures recorded { Records self.old tally.old (call.ManuallyDrop (pointer_of asked)) (end_answer result) self.new }
+        ensures tallied { Raises {T = T} tally.old (end_answer result) tally.new }
     {
         if self.log.reserve(1).is_err() {
             return Err(Refused::Store(StoreError::OutOfMemory));
@@ -255,10 +248,7 @@ impl<T: Drop, const NUMBER: u64, M: Count, L: Count, C: Count, R: Count> SyncSta
     }
 
     // A copy of the history, which the whole tally has counted.
-    pub(crate) fn audit(
-        &mut self,
-        whole: &mut Tally<M, L, C, R>,
-    ) -> Result<Vec<Step>, StoreError>
+    pub(crate) fn audit(&mut self, whole: &mut Tally<M, L, C, R>) -> Result<Vec<Step>, StoreError>
         requires { whole.old.parts ≡ M.workers }
         ensures steps { IfOk result (λ steps. steps.items ≡ self.old.history) }
         ensures replays { Replays NUMBER self.old }

@@ -5,9 +5,7 @@ ghost use Rattle.generational_box.specs.Answers.{read_refused};
 ghost use Rattle.generational_sync.specs.Kinds.{kind_of};
 ghost use Rattle.generational_sync.specs.Replies.{reply_to};
 
-use generational_box::{
-    BorrowError, GenerationalPointer, Location, Refused, StepCall, StoreError,
-};
+use generational_box::{BorrowError, GenerationalPointer, Location, Refused, StepCall, StoreError};
 
 /// What a step was answered.
 #[derive(Clone, Copy, Debug, PartialEq)]
@@ -67,7 +65,9 @@ pub(crate) fn read_refusal(refused: &Refused<BorrowError>) -> Option<StepReply>
     ensures { result ≡ reply_to {T = Unit {0}} (read_refused refused.now) }
 {
     match refused {
-        Refused::Borrow(BorrowError::Dropped(error)) => Some(StepReply::Dropped(error.created_at())),
+        Refused::Borrow(BorrowError::Dropped(error)) => Some(StepReply::Dropped(
+            error.created_at(),
+        )),
         Refused::Borrow(BorrowError::AlreadyBorrowedMut(_)) => None,
         Refused::Store(StoreError::OutOfMemory) => None,
         Refused::Store(error) => Some(StepReply::Store(*error)),

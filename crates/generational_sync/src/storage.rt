@@ -11,9 +11,8 @@ ghost use Rattle.generational_box.specs.Readiness.{is_ready};
 ghost use Rattle.generational_sync.specs.declared.step.Kind.{Kind};
 ghost use Rattle.generational_sync.specs.Counts.{new_tallies, counted};
 ghost use Rattle.generational_sync.specs.Kinds.{count};
-ghost use Rattle.generational_sync.specs.Replies.{reply_to, tallied};
 ghost use Rattle.generational_sync.specs.History.{start, replay_from};
-ghost use Rattle.generational_sync.specs.Shared.{MayRefuseRead};
+ghost use Rattle.generational_sync.specs.Shared.{Raises, MayRefuseRead};
 
 use crate::state::SyncState;
 use crate::step::Step;
@@ -67,10 +66,14 @@ impl<T: Drop + Send, const NUMBER: u64, M: Count, L: Count, C: Count, R: Count> 
         refused: Blank,
     ) -> Result<(Self, Vec<Tally<M, L, C, R>>), StoreError>
         requires some { 0 < workers }
-        requires made { (made.name ≡ M.name) × (made.parts ≡ M.parts) × (made.parts ≡ workers) × (M.workers ≡ workers) }
-        requires lent { (lent.name ≡ L.name) × (lent.parts ≡ L.parts) × (lent.parts ≡ workers) × (L.workers ≡ workers) }
-        requires changed { (changed.name ≡ C.name) × (changed.parts ≡ C.parts) × (changed.parts ≡ workers) × (C.workers ≡ workers) }
-        requires refused { (refused.name ≡ R.name) × (refused.parts ≡ R.parts) × (refused.parts ≡ workers) × (R.workers ≡ workers) }
+        requires made { (made.name ≡ M.name) × (made.parts ≡ M.parts) × (made.parts ≡ workers)
+            × (M.workers ≡ workers) }
+        requires lent { (lent.name ≡ L.name) × (lent.parts ≡ L.parts) × (lent.parts ≡ workers)
+            × (L.workers ≡ workers) }
+        requires changed { (changed.name ≡ C.name) × (changed.parts ≡ C.parts) × (changed.parts ≡ workers)
+            × (C.workers ≡ workers) }
+        requires refused { (refused.name ≡ R.name) × (refused.parts ≡ R.parts) × (refused.parts ≡ workers)
+            × (R.workers ≡ workers) }
         ensures tallies { IfOk result (λ r. r.1.items ≡ new_tallies workers) }
         ensures err { IfErr result (λ e. e ≡ OutOfMemory) }
     {
@@ -134,7 +137,7 @@ impl<T: Drop + Send, const NUMBER: u64, M: Count, L: Count, C: Count, R: Count> 
     ) -> Result<GenerationalBox<T>, Refusal<T>>
         ensures refusal { IfErr result (λ r. (r.value ≡ value) × (r.cause ≡ OutOfMemory)) }
         ensures made { IfOk result (λ b. ((pointer_of b).id.store ≡ NUMBER) × ((pointer_of b).created_at ≡ location)) }
-        ensures tallied { tally.new ≡ tallied (reply_to (box_answer result)) tally.old }
+        ensures tallied { Raises tally.old (box_answer result) tally.new }
     {
         self.shared.state.lock(rt).leak(value, location, tally)
     }
@@ -156,7 +159,7 @@ impl<T: Drop + Send, const NUMBER: u64, M: Count, L: Count, C: Count, R: Count> 
     ) -> BorrowResult<GenerationalRef<T>>
         ensures guard { IfOk result (λ guard. guard.store ≡ NUMBER) }
         ensures refusal { IfErr result (λ e. MayRefuseRead (pointer_of asked) e) }
-        ensures tallied { tally.new ≡ tallied (reply_to {T = T} (read_answer result)) tally.old }
+        ensures tallied { Raises {T = T} tally.old (read_answer result) tally.new }
     {
         let call = StepCall::Read(asked.pointer(), location);
         self.lock_when(rt, call).try_read(asked, location, tally)
@@ -171,7 +174,7 @@ impl<T: Drop + Send, const NUMBER: u64, M: Count, L: Count, C: Count, R: Count> 
         guard: GenerationalRef<T>,
         tally: &mut Tally<M, L, C, R>,
     ) -> bool
-        ensures tallied { tally.new ≡ tallied (reply_to {T = T} (Flag result)) tally.old }
+        ensures tallied { Raises {T = T} tally.old (Flag result) tally.new }
     {
         let known = self.shared.state.lock(rt).release_read(guard, tally);
         self.shared.freed.notify_all();
@@ -190,7 +193,7 @@ impl<T: Drop + Send, const NUMBER: u64, M: Count, L: Count, C: Count, R: Count> 
         tally: &mut Tally<M, L, C, R>,
     ) -> BorrowMutResult<()>
         ensures refusal { IfErr result (λ e. e ≡ refused.Store OutOfMemory) }
-        ensures tallied { tally.new ≡ tallied (reply_to {T = T} (end_answer result)) tally.old }
+        ensures tallied { Raises {T = T} tally.old (end_answer result) tally.new }
     {
         let call = StepCall::ManuallyDrop(asked.pointer());
         let result = self.lock_when(rt, call).manually_drop(asked, tally);

@@ -12,8 +12,7 @@ invariant_of-self-2 g c =
 pub returns-clause-made : goal.returns-clause-made
 returns-clause-made g c =
     let own = box_own g.row.NUMBER c.self.inside.store c.new.new.self c.self.inside.log
-    c.self.invariant c.args.value c.args.location c.in_ok-made.made c.in_ok-made.ensures.step in
-    (
+    c.self.invariant c.args.value c.args.location c.in_ok-made.made c.in_ok-made.ensures.step in (
       ap (λ p. p.id.store) c.from.ensures ∙ own.0,
       ap (λ p. p.created_at) c.from.ensures ∙ own.1,
     )
