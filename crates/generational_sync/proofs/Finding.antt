@@ -1,7 +1,7 @@
 -- In a sound state a ticket alone names a reader.
 use Rattle.std.proofs.Common.{◌≡◌, ℕ, Bool, true, false, cond, List, [], ◌∷◌, Option, None, Some}
 use Rattle.std.proofs.Common.{refl, sym, ap, ◌∙◌, inl, inr, ⊎_elim}
-use Rattle.std.specs.Prelude.{is_some, nat_eq, ◌||◌, ◌⊎◌, map as list_map}
+use Rattle.std.specs.Prelude.{is_some, nat_eq, ◌⊎◌, map as list_map}
 use Rattle.std.specs.Ordering.{eq_by_cmp}
 use Rattle.std.specs.List.{list_any}
 use Rattle.std.proofs.lemmas.Bool.{true≢false, or_cases, eqb-true, eq-eqb, or_left, or_right}
@@ -10,7 +10,7 @@ use Rattle.generational_box.specs.declared.entry.Borrow.{Borrow}
 use Rattle.generational_box.specs.Names.{Name, name_cmp}
 use Rattle.generational_box.specs.Cells.{Content, Cell, content_of}
 use Rattle.generational_box.specs.Cells.Content.{Here, Lent}
-use Rattle.generational_box.specs.State.{State, IsSound, tickets_of}
+use Rattle.generational_box.specs.State.{IsSound, tickets_of}
 use Rattle.generational_box.specs.Borrowing.{content_at}
 use Rattle.generational_box.specs.Machine.{has_reader}
 use Rattle.generational_box.proofs.Maps.{name_total, name_exact, key_same}
@@ -21,7 +21,8 @@ use Rattle.generational_sync.specs.History.{Plain, first_name, reader_cell}
 one_found : (test : Name → Bool) (m : Name) → ((n : Name) → test n ≡ true → n ≡ m)
     → (names : List Name) → list_any test names ≡ true → first_name test names ≡ Some m
 one_found test m one [] h = absurd (true≢false (sym h))
-one_found test m one (n ∷ names) h = split (one_found test m one names) (test n) refl (or_cases _ _ h)
+one_found test m one (n ∷ names) h =
+    split (one_found test m one names) (test n) refl (or_cases _ _ h)
   where
     split : (list_any test names ≡ true → first_name test names ≡ Some m) → (b : Bool)
         → test n ≡ b → (test n ≡ true) ⊎ (list_any test names ≡ true)
@@ -45,7 +46,8 @@ module _ {T : Type 0} where
   reader_stands (Some (Here v rs)) t h = ticket_stands t rs h
   reader_stands (Some (Lent w)) t h = absurd (true≢false (sym h))
 
-  reader_live : (o : Option (Cell T)) (t : ℕ) → has_reader (content_of o) t ≡ true → is_some o ≡ true
+  reader_live : (o : Option (Cell T)) (t : ℕ)
+      → has_reader (content_of o) t ≡ true → is_some o ≡ true
   reader_live None t h = absurd (true≢false (sym h))
   reader_live (Some c) t h = refl
 
@@ -54,7 +56,8 @@ pub reader_found : (P : Plain) (m : Name) (t : ℕ) → IsSound P
 reader_found P m t s h =
     let test : Name → Bool = λ n. has_reader (content_at P n) t in
     one_found test m
-    (λ n e. s.one_cell n m t (reader_stands (content_at P n) t e) (reader_stands (content_at P m) t h))
+    (λ n e.
+    s.one_cell n m t (reader_stands (content_at P n) t e) (reader_stands (content_at P m) t h))
     (map.keys P.cells)
     (passes_both test (eq_by_cmp name_cmp m)
     (λ n e. ap test (sym (key_same name_total name_exact m n e)) ∙ h)

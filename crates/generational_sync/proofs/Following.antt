@@ -1,8 +1,8 @@
 -- The state without values takes the recorded step.
-use Rattle.std.proofs.Common.{◌≡◌, ℕ, Bool, true, false, cond, ◌&&◌, List, Option, None, Some, refl}
-use Rattle.std.proofs.Common.{sym, ap, subst, ◌∙◌, inl, inr}
+use Rattle.std.proofs.Common.{◌≡◌, Bool, true, false, cond, ◌&&◌, Option, None, Some, refl}
+use Rattle.std.proofs.Common.{sym, ap, ◌∙◌, inl, inr}
 use Rattle.std.specs.Prelude.{not, nat_eq, ◌-◌, ◌^◌, option_map}
-use Rattle.std.proofs.lemmas.Bool.{true≢false, and_parts, and_from, eqb-true}
+use Rattle.std.proofs.lemmas.Bool.{and_parts, and_from, eqb-true}
 use Rattle.generational_box.specs.declared.error.Location.{Location}
 use Rattle.generational_box.specs.declared.error.StoreError.TheVariants.{NumbersExhausted}
 use Rattle.generational_box.specs.declared.boxes.GenerationalPointer.{GenerationalPointer}
@@ -15,7 +15,7 @@ use Rattle.generational_box.specs.Borrowing.{Trouble, Guard, content_at, read_tr
 use Rattle.generational_box.specs.Borrowing.Trouble.{Dropped, BeingRead, BeingWritten}
 use Rattle.generational_box.specs.Ending.{hindered}
 use Rattle.generational_box.specs.Machine.{Action, Answer, Fresh, Outcome, act, unless, make_value}
-use Rattle.generational_box.specs.Machine.{knows_reader, has_reader, without_reader, own_name}
+use Rattle.generational_box.specs.Machine.{knows_reader, without_reader, own_name}
 use Rattle.generational_box.specs.Machine.Action.{Make, Read, ReleaseReader, End}
 use Rattle.generational_box.specs.Machine.Answer.{Made, Owned, Reads, Writes, Done, Old, Flag, Back}
 use Rattle.generational_box.specs.Machine.Answer.{Troubled, Refused}
@@ -25,7 +25,7 @@ use Rattle.generational_box.specs.History.{plain, plain_call, plain_answer}
 use Rattle.generational_box.proofs.Plain.{plain_act}
 use Rattle.generational_sync.specs.declared.step.StepReply.{StepReply}
 use Rattle.generational_sync.specs.declared.step.StepReply.TheVariants as reply
-use Rattle.generational_sync.specs.Replies.{reply_to, is_recorded}
+use Rattle.generational_sync.specs.Replies.{reply_to}
 use Rattle.generational_sync.specs.History.{Plain, plain_step, step_by, action_of, names_in}
 use Rattle.generational_sync.specs.History.{gives_new, is_lawful, is_new, guard_at}
 use Rattle.generational_sync.proofs.Replying.{recorded_is, plain_reply}
@@ -46,7 +46,8 @@ ready_by P (Some (BeingWritten l)) other out r e h =
     let none : reply_to out.0 ≡ None = ap (λ (o : Outcome (Unit {0})). reply_to o.0) (sym e) in
     absurd cc
 
-lawful : (P : Plain) (c : StepCall) (r : StepReply) (a : Action (Unit {0})) (out : Outcome (Unit {0}))
+lawful : (P : Plain) (c : StepCall) (r : StepReply)
+    (a : Action (Unit {0})) (out : Outcome (Unit {0}))
     → action_of P c ≡ Some a → limited P (act P a (names_in r)) ≡ out → is_ready P c ≡ true
     → gives_new P r ≡ true → reply_to out.0 ≡ Some r → plain_step P c r ≡ Some out.1
 unfolding plain_step
@@ -161,7 +162,11 @@ module _ {T : Type 0} where
       let parts = and_parts (nat_eq g.store S.number) _ (sym known) in
       let at = reader_found (plain S) g.cell g.ticket sound parts.1 in
       let own : guard_at (plain S) g.ticket g.cell ≡ g = λ i.
-      record { store = sym (eqb-true g.store S.number parts.0) i; cell = g.cell; ticket = g.ticket } in
+      record {
+        store = sym (eqb-true g.store S.number parts.0) i;
+        cell = g.cell;
+        ticket = g.ticket;
+      } in
       lawful (plain S) (call.ReleaseRead g.ticket) reply.Done (ReleaseReader g) (Flag true, plain R)
       (ap (option_map (λ n. ReleaseReader (guard_at (plain S) g.ticket n))) at
       ∙ ap (λ x. Some (ReleaseReader x)) own)

@@ -1,5 +1,5 @@
 -- What lies under the lock stays as it is kept.
-use Rattle.std.proofs.Common.{◌≡◌, ℕ, ◌+◌, ◌≤◌, Bool, true, List, [], ◌∷◌, ◌++◌, length, Option}
+use Rattle.std.proofs.Common.{◌≡◌, ℕ, ◌+◌, ◌≤◌, true, List, [], ◌∷◌, ◌++◌, length}
 use Rattle.std.proofs.Common.{None}
 use Rattle.std.proofs.Common.{Result, Ok, Err, false, Some, refl, sym, ap, subst, ◌∙◌, arith, inl}
 use Rattle.std.proofs.Common.{inr}
@@ -37,6 +37,7 @@ use Rattle.generational_box.proofs.Stepping.{made_new, reads_known, meets_number
 use Rattle.generational_sync.specs.declared.step.Step.{Step}
 use Rattle.generational_sync.specs.declared.step.StepReply.{StepReply}
 use Rattle.generational_sync.specs.declared.step.StepReply.TheVariants as reply
+use Rattle.generational_sync.specs.Kinds.{step_of}
 use Rattle.generational_sync.specs.Replies.{reply_to}
 use Rattle.generational_sync.specs.History.{Plain, start, plain_step, replay_from, gives_new}
 use Rattle.generational_sync.specs.Standing.{borrows, borrows_in}
@@ -49,8 +50,7 @@ use Rattle.generational_sync.proofs.Standings.{lends}
 
 -- the history with one step more
 abbrev pub Appended : LogState → LogState → ℕ → StepCall → StepReply → Type 0
-Appended log after worker c r =
-    after.steps ≡ log.steps ++ (let x : Step = record { worker = worker; call = c; reply = r } in x) ∷ []
+Appended log after worker c r = after.steps ≡ log.steps ++ step_of worker c r ∷ []
 
 no_borrows : {T : Type 0} (es : List (Name × Cell T)) → length es ≡ 0 → borrows_in es ≡ 0
 no_borrows [] e = refl
@@ -74,9 +74,10 @@ refusal_names P (refused.Store OutOfMemory) r h = absurd cc
 -- a new store without its values is where a history starts
 plain_fresh : (T : Type 0) (number : ℕ) → start number ≡ plain (fresh {T = T} number 1 0)
 plain_fresh T number =
-    let cells = map.same_map name_total name_exact map.empty (plain (fresh {T = T} number 1 0)).cells
+    let new : State T = fresh number 1 0 in
+    let cells = map.same_map name_total name_exact map.empty (plain new).cells
     (λ q. map.get-empty name_cmp q
-    ∙ sym ((carries_plain (fresh {T = T} number 1 0)).cells.at q tt
+    ∙ sym ((carries_plain new).cells.at q tt
     ∙ ap (option_map _) (map.get-empty name_cmp q))) in
     λ i. record (start number) { cells = cells i }
 
@@ -179,7 +180,8 @@ module _ {T : Type 0} where
     guard_own b l g m =
         eqb-true g.store R.number
         (and_parts (nat_eq g.store R.number) _ (reads_known S R (Read b l) g m).0).0
-        ∙ (meets_number S R (Read b l) (Reads g) m ∙ (replay_kept number log.steps (plain S) kept.0).1)
+        ∙ (meets_number S R (Read b l) (Reads g) m
+        ∙ (replay_kept number log.steps (plain S) kept.0).1)
 
     pub box_own : (v : T) (l : Location) (b : GenerationalPointer)
         → Meets S (Make None v l) (Made b) R → (b.id.store ≡ number) × (b.created_at ≡ l)

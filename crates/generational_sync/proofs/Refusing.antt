@@ -1,5 +1,5 @@
 -- How a call that no borrow hinders is refused.
-use Rattle.std.proofs.Common.{◌≡◌, ℕ, Bool, true, false, cond, ◌&&◌, not, List, [], ◌∷◌, Option}
+use Rattle.std.proofs.Common.{◌≡◌, Bool, true, false, cond, not, List, [], ◌∷◌, Option}
 use Rattle.std.proofs.Common.{None, Some, refl, sym, ap, subst, ◌∙◌, inl, inr, Result, Ok, Err}
 use Rattle.std.specs.Prelude.{nat_eq, ◌-◌, ◌^◌}
 use Rattle.std.specs.Result.{is_err}
@@ -26,14 +26,14 @@ use Rattle.generational_box.specs.State.{State}
 use Rattle.generational_box.specs.Borrowing.{Trouble, reach, content_at, read_trouble, not_reached}
 use Rattle.generational_box.specs.Borrowing.{read_refusal, write_refusal}
 use Rattle.generational_box.specs.Borrowing.Trouble.{Dropped, BeingRead, BeingWritten}
-use Rattle.generational_box.specs.Ending.{hindered, first_hindrance, hindrance_of, hindrance_at}
+use Rattle.generational_box.specs.Ending.{hindered, first_hindrance, hindrance_of}
 use Rattle.generational_box.specs.Ending.{is_doomed, left_by, or_else, close}
-use Rattle.generational_box.specs.Machine.{Answer, Outcome, act, unless, read_at, contents}
+use Rattle.generational_box.specs.Machine.{Answer, Outcome, unless, read_at, contents}
 use Rattle.generational_box.specs.Machine.{own_name}
 use Rattle.generational_box.specs.Machine.Action.{Read, End}
-use Rattle.generational_box.specs.Machine.Answer.{Reads, Done, Troubled, Refused as refuses}
+use Rattle.generational_box.specs.Machine.Answer.{Done, Troubled, Refused as refuses}
 use Rattle.generational_box.specs.Steps.{Meets, limited, is_being_read}
-use Rattle.generational_box.specs.Answers.{read_refused, read_trouble_of, end_refused, end_answer}
+use Rattle.generational_box.specs.Answers.{read_refused, end_refused, end_answer}
 use Rattle.generational_box.specs.Readiness.{is_ready, tells_of_borrow}
 use Rattle.generational_sync.specs.Shared.{MayRefuseRead}
 
@@ -103,7 +103,8 @@ module _ {T : Type 0} where
   read_tells S l (Some m) (Some (Here v rs)) = at (nat_eq S.next (2 ^ 64 - 1))
     where
       at : (b : Bool)
-          → let out : Outcome T = cond b (refuses NumbersExhausted, S) (read_at S l (Some m) (Some (Here v rs))) in
+          → let out : Outcome T = cond b (refuses NumbersExhausted, S)
+          (read_at S l (Some m) (Some (Here v rs))) in
           Tells None out.0
       at true = (refl, refl)
       at false = (refl, refl)
@@ -196,7 +197,8 @@ module _ {T : Type 0} where
 
       over : (limited S (unless (hindered S (own_name S b)) S (Done, close S (own_name S b)))).0
           ≡ Done
-      over = ap (λ (t : Option Trouble). (limited S (unless t S (Done, close S (own_name S b)))).0) free
+      over = ap (λ (t : Option Trouble).
+          (limited S (unless t S (Done, close S (own_name S b)))).0) free
 
       at : Meets S (End b) (end_refused e) R → ⊥
       at (inl m) = true≢false (sym (ap is_done over)

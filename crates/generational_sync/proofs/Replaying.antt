@@ -2,7 +2,6 @@
 use Rattle.std.proofs.Common.{◌≡◌, ℕ, Bool, true, false, cond, ◌&&◌, List, [], ◌∷◌, ◌++◌, Option}
 use Rattle.std.proofs.Common.{None, Some, refl, sym, ap, subst, ◌∙◌, inl}
 use Rattle.std.specs.Prelude.{option_map}
-use Rattle.std.proofs.lemmas.Bool.{true≢false, and_parts}
 use Rattle.generational_box.specs.declared.steps.StepCall.{StepCall}
 use Rattle.generational_box.specs.declared.steps.StepCall.TheVariants.{
   Leak,
@@ -16,15 +15,15 @@ use Rattle.generational_box.specs.Boxes.{name_of}
 use Rattle.generational_box.specs.Machine.{Action, Answer, Fresh, Outcome, act}
 use Rattle.generational_box.specs.Machine.Action.{Make, Read as ReadBox, ReleaseReader, End}
 use Rattle.generational_box.specs.Machine.Answer.{Made}
-use Rattle.generational_box.specs.Steps.{AreNew, Takes, Meets, limited}
+use Rattle.generational_box.specs.Steps.{AreNew, Takes, limited}
 use Rattle.generational_box.specs.History.{plain}
 use Rattle.generational_box.proofs.Lasting.{fresh_sound}
 use Rattle.generational_box.proofs.Stepping.{meets_sound, meets_number}
 use Rattle.generational_sync.specs.declared.step.Step.{Step}
 use Rattle.generational_sync.specs.declared.step.StepReply.{StepReply}
 use Rattle.generational_sync.specs.declared.step.StepReply.TheVariants as reply
-use Rattle.generational_sync.specs.History.{Plain, plain_step, step_by, action_of, names_in}
-use Rattle.generational_sync.specs.History.{gives_new, is_new, is_lawful, guard_at, reader_cell}
+use Rattle.generational_sync.specs.History.{Plain, plain_step, step_by, names_in}
+use Rattle.generational_sync.specs.History.{is_new, is_lawful, guard_at, reader_cell}
 use Rattle.generational_sync.specs.History.{replay_on, replay_from, start, IsTaken}
 use Rattle.generational_sync.proofs.Fitting.{new_from}
 
@@ -56,7 +55,8 @@ new_recorded P n b Q R e = at (is_new P n) e
     at true e = refl
     at false e = absurd cc
 
-pub step_taken : (P Q : Plain) (c : StepCall) (r : StepReply) → plain_step P c r ≡ Some Q → IsTaken P Q
+pub step_taken : (P Q : Plain) (c : StepCall) (r : StepReply)
+    → plain_step P c r ≡ Some Q → IsTaken P Q
 unfolding plain_step
 step_taken P Q (Leak l) (reply.Made b) e =
     taken_by P Q (Leak l) (reply.Made b) (Make None tt l)

@@ -1,5 +1,5 @@
 -- A reply is the same as itself, and is recorded alike with and without values.
-use Rattle.std.proofs.Common.{◌≡◌, ℕ, Bool, true, false, List, [], ◌∷◌, Option, None, Some, refl}
+use Rattle.std.proofs.Common.{◌≡◌, ℕ, true, false, List, [], ◌∷◌, Option, Some, refl}
 use Rattle.std.proofs.Common.{ap, ◌∙◌}
 use Rattle.std.specs.Prelude.{nat_eq}
 use Rattle.std.specs.Cmp.Lexicographic.{pointwise}
@@ -54,7 +54,8 @@ reply_refl (reply.Store e) = error_refl e
 pub recorded_is : (o : Option StepReply) (r : StepReply) → o ≡ Some r → is_recorded o r ≡ true
 recorded_is o r is = ap (λ p. is_recorded p r) is ∙ reply_refl r
 
-pub plain_reply : {T : Type 0} (answer : Answer T) → reply_to (plain_answer answer) ≡ reply_to answer
+pub plain_reply : {T : Type 0} (answer : Answer T)
+    → reply_to (plain_answer answer) ≡ reply_to answer
 plain_reply (Made b) = refl
 plain_reply (Owned o) = refl
 plain_reply (Reads g) = refl

@@ -2,7 +2,7 @@
 use Rattle.std.proofs.Common.{◌≡◌, ℕ, ◌+◌, ◌≤◌, Bool, true, false, cond, not, ◌&&◌, List, [], ◌∷◌}
 use Rattle.std.proofs.Common.{◌++◌, length, Option, None, Some, refl, sym, ap, subst, ◌∙◌, arith}
 use Rattle.std.proofs.Common.{inl, inr, length-append}
-use Rattle.std.specs.Prelude.{nat_eq, ◌-◌, ◌^◌, suc, ◌||◌, map as list_map}
+use Rattle.std.specs.Prelude.{nat_eq, ◌-◌, ◌^◌, suc, ◌||◌}
 use Rattle.std.specs.List.{list_any, filter}
 use Rattle.std.proofs.lemmas.Bool.{true≢false, and_parts}
 use Rattle.std.proofs.lemmas.List.{length-map}
@@ -19,12 +19,12 @@ use Rattle.generational_box.specs.State.{State, tickets_of, is_named}
 use Rattle.generational_box.specs.Borrowing.{Trouble, Guard, content_at, filled, reach}
 use Rattle.generational_box.specs.Borrowing.{read_trouble}
 use Rattle.generational_box.specs.Ending.{swept, without, close, hindered}
-use Rattle.generational_box.specs.Machine.{Answer, Outcome, act, unless, read_at, contents}
+use Rattle.generational_box.specs.Machine.{Answer, Outcome, unless, read_at, contents}
 use Rattle.generational_box.specs.Machine.{has_reader, knows_reader, without_reader, own_name}
 use Rattle.generational_box.specs.Machine.Action.{Make, Read, ReleaseReader, End}
 use Rattle.generational_box.specs.Machine.Answer.{Made, Reads, Done, Flag, Refused}
 use Rattle.generational_box.specs.Steps.{Meets, limited, takes_ticket}
-use Rattle.generational_sync.specs.Standing.{borrows, borrows_of, borrows_in}
+use Rattle.generational_sync.specs.Standing.{borrows, borrows_in}
 use Rattle.generational_sync.proofs.Weighing.{borrows_retained, borrows_inserted, borrows_changed}
 
 -- a list without a ticket that is in it is shorter

@@ -1,6 +1,6 @@
 -- The borrows of finite maps of cells, added up.
-use Rattle.std.proofs.Common.{◌≡◌, ℕ, ◌+◌, ◌≤◌, Bool, true, false, cond, ◌&&◌, List, [], ◌∷◌}
-use Rattle.std.proofs.Common.{Option, None, Some, refl, sym, ap, subst, ◌∙◌, arith}
+use Rattle.std.proofs.Common.{◌≡◌, ℕ, ◌+◌, ◌≤◌, Bool, true, false, cond, List, [], ◌∷◌}
+use Rattle.std.proofs.Common.{Option, None, Some, refl, sym, ap, ◌∙◌, arith}
 use Rattle.std.specs.Prelude.{T as IsTrue}
 use Rattle.std.specs.declared.cmp.Ordering.{Ordering}
 use Rattle.std.specs.declared.cmp.Ordering.TheVariants.{Less, Equal, Greater}
@@ -43,7 +43,8 @@ module _ {T : Type 0} where
       ap (λ r. cond (is_eq r) (Some e.1) (map.find name_cmp n es)) (less _ q.0)
       ∙ find_below n es q.1
 
-  put_weighs : (k : Name) (v : Cell T) (es : List (Name × Cell T)) → map.is_sorted name_cmp es ≡ true
+  put_weighs : (k : Name) (v : Cell T) (es : List (Name × Cell T))
+      → map.is_sorted name_cmp es ≡ true
       → borrows_in (map.put name_cmp k v es) + borrows_there (map.find name_cmp k es)
       ≡ borrows_in es + borrows_of v
   put_weighs k v [] h = omega arith
@@ -51,7 +52,8 @@ module _ {T : Type 0} where
       let q = and_parts (map.Entries.below_all name_cmp e.0 es) _ h in
       let rest = put_weighs k v es q.1 in
       elim (name_cmp k e.0) as (λ r. name_cmp k e.0 ≡ r
-      → borrows_in (map.Entries.by_order r ((k, v) ∷ e ∷ es) ((e.0, v) ∷ es) (e ∷ map.put name_cmp k v es))
+      → borrows_in (map.Entries.by_order r
+      ((k, v) ∷ e ∷ es) ((e.0, v) ∷ es) (e ∷ map.put name_cmp k v es))
       + borrows_there (cond (is_eq r) (Some e.1) (map.find name_cmp k es))
       ≡ borrows_of e.1 + borrows_in es + borrows_of v) [
         | Less ↦ λ p.
@@ -74,7 +76,8 @@ module _ {T : Type 0} where
 
   sorted_kept : (m : NameMap (Cell T)) (p : Name → Bool)
       → IsTrue (map.is_sorted name_cmp (map.Entries.where_key name_cmp p (map.entries m)))
-  sorted_kept m p = map.Entries.is_sorted-where_key name_cmp p (map.entries m) (map.entries_sorted m)
+  sorted_kept m p =
+      map.Entries.is_sorted-where_key name_cmp p (map.entries m) (map.entries_sorted m)
 
   retained : (m : NameMap (Cell T)) (p : Name → Bool) → map.retain_keys m p
       ≡ map.from_sorted (map.Entries.where_key name_cmp p (map.entries m))

@@ -10,14 +10,14 @@ use Rattle.generational_box.specs.declared.error.StoreError.TheVariants.{
 use Rattle.generational_box.specs.declared.steps.StepCall.{StepCall}
 use Rattle.generational_box.specs.Boxes.{has_same_id}
 use Rattle.generational_box.specs.Texts.{same_location}
-use Rattle.generational_box.specs.Borrowing.Trouble.{Dropped, BeingRead, BeingWritten}
+use Rattle.generational_box.specs.Borrowing.Trouble.{Dropped}
 use Rattle.generational_box.specs.Machine.{Answer}
 use Rattle.generational_box.specs.Machine.Answer.{Made, Reads, Done, Flag, Troubled, Refused}
 use Rattle.generational_sync.specs.declared.step.Step.{Step}
 use Rattle.generational_sync.specs.declared.step.StepReply.{StepReply}
 use Rattle.generational_sync.specs.declared.step.StepReply.TheVariants as reply
 use Rattle.generational_sync.specs.Counts.{Counts, raised}
-use Rattle.generational_sync.specs.Kinds.{kind_of}
+use Rattle.generational_sync.specs.Kinds.{kind_of, step_of}
 
 -- how the answer of the machine is recorded; an answer that tells of a borrow or of want of memory
 -- isn't, and neither is the release of a guard that the store doesn't know
@@ -34,8 +34,7 @@ reply_to _ = None
 -- the history after a call of this worker, if its reply is recorded
 abbrev pub recorded : List Step → ℕ → StepCall → Option StepReply → List Step
 recorded steps worker call None = steps
-recorded steps worker call (Some r) =
-    steps ++ record { worker = worker; call = call; reply = r } ∷ []
+recorded steps worker call (Some r) = steps ++ step_of worker call r ∷ []
 
 -- the tally after it
 abbrev pub tallied : Option StepReply → Counts → Counts

@@ -1,5 +1,6 @@
 -- What lies under the lock, as contracts see it.
-use Rattle.std.specs.Prelude.{◌≡◌, ℕ, ◌≤◌, ◌⊎◌, List, Some}
+use Rattle.std.specs.Prelude.{◌≡◌, ℕ, ◌≤◌, ◌⊎◌, true, List, Some, is_some}
+use Rattle.generational_box.specs.declared.error.Location.{Location}
 use Rattle.generational_box.specs.declared.boxes.GenerationalPointer.{GenerationalPointer}
 use Rattle.generational_box.specs.declared.error.BorrowError.{BorrowError}
 use Rattle.generational_box.specs.declared.error.BorrowError.TheVariants as reads
@@ -42,8 +43,9 @@ IsKept number S log =
 
 -- a call does the machine's step; or memory lacked, for the machine where it may or for the
 -- history at any time, and nothing changes
-abbrev pub Does : {T : Type 0} → State T → Action T → Answer T → State T → Type 0
-Does S call answer R = Meets S call answer R ⊎ ((answer ≡ refuses OutOfMemory) × (R ≡ S))
+abbrev pub Does : {T : Type 0} → SharedState T → Action T → Answer T → SharedState T → Type 0
+Does s call answer r =
+    Meets s.state call answer r.state ⊎ ((answer ≡ refuses OutOfMemory) × (r.state ≡ s.state))
 
 -- how a read may be refused in whose way no borrow stands; of the borrow errors `Dropped` alone
 abbrev pub MayRefuseRead : GenerationalPointer → Refused BorrowError → Type 0
@@ -66,3 +68,11 @@ Records old tally call answer new =
 -- and the count of its kind is raised by one
 abbrev pub Raises : {T : Type 0} → Counts → Answer T → Counts → Type 0
 Raises old answer new = new ≡ tallied (reply_to answer) old
+
+-- a box of the store with this number, made at this location
+abbrev pub IsBoxOf : ℕ → Location → GenerationalPointer → Type 0
+IsBoxOf number l b = (b.id.store ≡ number) × (b.created_at ≡ l)
+
+-- a list that replays from an empty store with this number
+abbrev pub IsHistory : ℕ → List Step → Type 0
+IsHistory number steps = is_some (replay_from (start number) steps) ≡ true

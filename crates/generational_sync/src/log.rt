@@ -1,9 +1,8 @@
 //! The history of a store, with its books.
 
 ghost use Rattle.std.specs.Prelude.{◌≡◌, ◌+◌, ◌<◌, ◌≤◌, [], ◌∷◌, ◌++◌, IfOk, OnOk};
-ghost use Rattle.generational_sync.specs.Counts.{raised, counted};
-ghost use Rattle.generational_sync.specs.Kinds.{count, kind_of};
-ghost use Rattle.generational_sync.specs.declared.step.Kind.{Kind};
+ghost use Rattle.generational_sync.specs.Counts.{raised};
+ghost use Rattle.generational_sync.specs.Kinds.{IsCounted, kind_of, step_of};
 ghost use Rattle.generational_sync.specs.declared.step.Kind.TheVariants.{Changed};
 ghost use Rattle.generational_sync.specs.declared.step.StepReply.TheVariants as reply;
 
@@ -84,7 +83,7 @@ impl<M: Count, L: Count, C: Count, R: Count> Log<M, L, C, R> {
     // Appends a step of the tally's worker, for which there is room.
     pub(crate) fn append(&mut self, call: StepCall, reply: StepReply, tally: &mut Tally<M, L, C, R>)
         requires { 0 < self.old.room }
-        ensures steps { self.new.steps ≡ self.old.steps ++ record { worker = tally.old.worker; call = call; reply = reply } ∷ [] }
+        ensures steps { self.new.steps ≡ self.old.steps ++ step_of tally.old.worker call reply ∷ [] }
         ensures standing { self.new.standing ≡ self.old.standing }
         ensures room { self.new.room + 1 ≡ self.old.room }
         ensures tally { tally.new ≡ raised (kind_of reply) tally.old }
@@ -116,7 +115,7 @@ impl<M: Count, L: Count, C: Count, R: Count> Log<M, L, C, R> {
     // A borrow that stood is over: its release is appended, without any memory.
     pub(crate) fn borrow_ends(&mut self, call: StepCall, tally: &mut Tally<M, L, C, R>)
         requires { 0 < self.old.standing }
-        ensures steps { self.new.steps ≡ self.old.steps ++ record { worker = tally.old.worker; call = call; reply = reply.Done } ∷ [] }
+        ensures steps { self.new.steps ≡ self.old.steps ++ step_of tally.old.worker call reply.Done ∷ [] }
         ensures standing { self.new.standing + 1 ≡ self.old.standing }
         ensures tally { tally.new ≡ raised Changed tally.old }
     {
@@ -128,7 +127,7 @@ impl<M: Count, L: Count, C: Count, R: Count> Log<M, L, C, R> {
     pub(crate) fn audit(&mut self, whole: &mut Tally<M, L, C, R>) -> Result<Vec<Step>, AllocError>
         requires { whole.old.parts ≡ M.workers }
         ensures steps { IfOk result (λ steps. steps.items ≡ self.old.steps) }
-        ensures counts { (kind : Kind) → count kind self.old.steps ≡ counted kind whole.old }
+        ensures counts { IsCounted whole.old self.old.steps }
         ensures log { self.new ≡ self.old }
         ensures tally { whole.new ≡ whole.old }
     {

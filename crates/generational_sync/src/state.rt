@@ -12,12 +12,10 @@ ghost use Rattle.generational_box.specs.Machine.Answer.{Flag};
 ghost use Rattle.generational_box.specs.Steps.{Meets};
 ghost use Rattle.generational_box.specs.Answers.{box_answer, read_answer, end_answer, opened};
 ghost use Rattle.generational_box.specs.Readiness.{is_ready};
-ghost use Rattle.generational_box.specs.History.{plain};
-ghost use Rattle.generational_sync.specs.declared.step.Kind.{Kind};
-ghost use Rattle.generational_sync.specs.Counts.{new_tallies, counted};
-ghost use Rattle.generational_sync.specs.Kinds.{count};
-ghost use Rattle.generational_sync.specs.History.{start, replay_from};
-ghost use Rattle.generational_sync.specs.Shared.{Does, Replays, Records, Raises, MayRefuseRead};
+ghost use Rattle.generational_sync.specs.Counts.{new_tallies};
+ghost use Rattle.generational_sync.specs.Kinds.{IsCounted};
+ghost use Rattle.generational_sync.specs.Shared.{Does, Replays, Records, Raises};
+ghost use Rattle.generational_sync.specs.Shared.{IsBoxOf, MayRefuseRead};
 
 use crate::log::Log;
 use crate::step::{Step, StepReply, read_refusal};
@@ -144,9 +142,9 @@ impl<T: Drop, const NUMBER: u64, M: Count, L: Count, C: Count, R: Count> SyncSta
         location: Location,
         tally: &mut Tally<M, L, C, R>,
     ) -> Result<GenerationalBox<T>, Refusal<T>>
-        ensures step { Does self.old.state (Make None value location) (box_answer result) self.new.state }
+        ensures step { Does self.old (Make None value location) (box_answer result) self.new }
         ensures refusal { IfErr result (λ r. (r.value ≡ value) × (r.cause ≡ OutOfMemory)) }
-        ensures made { IfOk result (λ b. ((pointer_of b).id.store ≡ NUMBER) × ((pointer_of b).created_at ≡ location)) }
+        ensures made { IfOk result (λ b. IsBoxOf NUMBER location (pointer_of b)) }
         ensures recorded { Records self.old tally.old (call.Leak location) (box_answer result) self.new }
         ensures tallied { Raises tally.old (box_answer result) tally.new }
     {
@@ -175,7 +173,7 @@ impl<T: Drop, const NUMBER: u64, M: Count, L: Count, C: Count, R: Count> SyncSta
         tally: &mut Tally<M, L, C, R>,
     ) -> BorrowResult<GenerationalRef<T>>
         requires { is_ready self.old.state (call.Read (pointer_of asked) location) ≡ true }
-        ensures step { Does self.old.state (Read (pointer_of asked) location) (read_answer result) self.new.state }
+        ensures step { Does self.old (Read (pointer_of asked) location) (read_answer result) self.new }
         ensures guard { IfOk result (λ guard. guard.store ≡ NUMBER) }
         ensures refusal { IfErr result (λ e. MayRefuseRead (pointer_of asked) e) }
         ensures recorded { Records self.old tally.old (call.Read (pointer_of asked) location) (read_answer result) self.new }
@@ -230,7 +228,7 @@ impl<T: Drop, const NUMBER: u64, M: Count, L: Count, C: Count, R: Count> SyncSta
         tally: &mut Tally<M, L, C, R>,
     ) -> BorrowMutResult<()>
         requires { is_ready self.old.state (call.ManuallyDrop (pointer_of asked)) ≡ true }
-        ensures step { Does self.old.state (End (pointer_of asked)) (end_answer result) self.new.state }
+        ensures step { Does self.old (End (pointer_of asked)) (end_answer result) self.new }
         ensures refusal { IfErr result (λ e. e ≡ refused.Store OutOfMemory) }
         ensures recorded { Records self.old tally.old (call.ManuallyDrop (pointer_of asked)) (end_answer result) self.new }
         ensures tallied { Raises {T = T} tally.old (end_answer result) tally.new }
@@ -252,7 +250,7 @@ impl<T: Drop, const NUMBER: u64, M: Count, L: Count, C: Count, R: Count> SyncSta
         requires { whole.old.parts ≡ M.workers }
         ensures steps { IfOk result (λ steps. steps.items ≡ self.old.history) }
         ensures replays { Replays NUMBER self.old }
-        ensures counts { (kind : Kind) → count kind self.old.history ≡ counted kind whole.old }
+        ensures counts { IsCounted whole.old self.old.history }
         ensures state { self.new ≡ self.old }
         ensures tally { whole.new ≡ whole.old }
         ensures refusal { IfErr result (λ e. e ≡ OutOfMemory) }

@@ -1,6 +1,6 @@
 //! The store that threads share.
 
-ghost use Rattle.std.specs.Prelude.{◌≡◌, ◌<◌, true, is_some, IfOk, IfErr};
+ghost use Rattle.std.specs.Prelude.{◌≡◌, ◌<◌, true, IfOk, IfErr};
 ghost use Rattle.std.specs.Sync.Mutex.{mutex_guard_value};
 ghost use Rattle.generational_box.specs.declared.error.StoreError.TheVariants.{OutOfMemory};
 ghost use Rattle.generational_box.specs.declared.error.Refused.TheVariants as refused;
@@ -8,11 +8,9 @@ ghost use Rattle.generational_box.specs.Boxes.{pointer_of};
 ghost use Rattle.generational_box.specs.Machine.Answer.{Flag};
 ghost use Rattle.generational_box.specs.Answers.{box_answer, read_answer, end_answer};
 ghost use Rattle.generational_box.specs.Readiness.{is_ready};
-ghost use Rattle.generational_sync.specs.declared.step.Kind.{Kind};
-ghost use Rattle.generational_sync.specs.Counts.{new_tallies, counted};
-ghost use Rattle.generational_sync.specs.Kinds.{count};
-ghost use Rattle.generational_sync.specs.History.{start, replay_from};
-ghost use Rattle.generational_sync.specs.Shared.{Raises, MayRefuseRead};
+ghost use Rattle.generational_sync.specs.Counts.{new_tallies};
+ghost use Rattle.generational_sync.specs.Kinds.{IsCounted};
+ghost use Rattle.generational_sync.specs.Shared.{Raises, IsBoxOf, IsHistory, MayRefuseRead};
 
 use crate::state::SyncState;
 use crate::step::Step;
@@ -136,7 +134,7 @@ impl<T: Drop + Send, const NUMBER: u64, M: Count, L: Count, C: Count, R: Count> 
         tally: &mut Tally<M, L, C, R>,
     ) -> Result<GenerationalBox<T>, Refusal<T>>
         ensures refusal { IfErr result (λ r. (r.value ≡ value) × (r.cause ≡ OutOfMemory)) }
-        ensures made { IfOk result (λ b. ((pointer_of b).id.store ≡ NUMBER) × ((pointer_of b).created_at ≡ location)) }
+        ensures made { IfOk result (λ b. IsBoxOf NUMBER location (pointer_of b)) }
         ensures tallied { Raises tally.old (box_answer result) tally.new }
     {
         self.shared.state.lock(rt).leak(value, location, tally)
@@ -228,8 +226,8 @@ impl<T: Drop + Send, const NUMBER: u64, M: Count, L: Count, C: Count, R: Count> 
         whole: &mut Tally<M, L, C, R>,
     ) -> Result<Vec<Step>, StoreError>
         requires { whole.old.parts ≡ M.workers }
-        ensures replays { IfOk result (λ steps. is_some (replay_from (start NUMBER) steps.items) ≡ true) }
-        ensures counts { IfOk result (λ steps. (kind : Kind) → count kind steps.items ≡ counted kind whole.old) }
+        ensures replays { IfOk result (λ steps. IsHistory NUMBER steps.items) }
+        ensures counts { IfOk result (λ steps. IsCounted whole.old steps.items) }
         ensures tally { whole.new ≡ whole.old }
         ensures refusal { IfErr result (λ e. e ≡ OutOfMemory) }
     {

@@ -10,7 +10,8 @@ invariant_of-self-in-Ok g c =
     c.reserve.new.self c.borrow_begins.new.self c.args.tally.now.worker c.self.invariant
     c.reserve.ensures.steps c.pointer-pointer.result c.args.location c.in-Ok.guard
     c.ticket.result c.ticket.ensures (c.borrow_begins.ensures.steps ∙ c.append.ensures.steps)
-    c.reserve.ensures.standing (omega (arith, c.borrow_begins.ensures.standing, c.append.ensures.standing))
+    c.reserve.ensures.standing
+    (omega (arith, c.borrow_begins.ensures.standing, c.append.ensures.standing))
     c.in-Ok.ensures
 
 pub invariant_of-self-in-Some : goal.invariant_of-self-in-Some
