@@ -1,6 +1,6 @@
 //! The store that threads share.
 
-ghost use Rattle.std.specs.Prelude.{◌≡◌, ◌<◌, true, IfOk, IfErr};
+ghost use Rattle.std.specs.Prelude.{◌≡◌, ◌<◌, true, IfOk, IfErr, IfSome};
 ghost use Rattle.std.specs.Sync.Mutex.{mutex_guard_value};
 ghost use Rattle.generational_box.specs.declared.error.StoreError.TheVariants.{OutOfMemory};
 ghost use Rattle.generational_box.specs.declared.error.Refused.TheVariants as refused;
@@ -209,6 +209,7 @@ impl<T: Drop + Send, const NUMBER: u64, M: Count, L: Count, C: Count, R: Count> 
         f: F,
     ) -> Option<A>
         requires { F.IsAlwaysCallable f }
+        ensures { IfSome result (λ answer. (value : _) × F.post f value answer) }
     {
         let state = self.shared.state.lock(rt);
         let value = state.open(guard)?;
