@@ -82,7 +82,7 @@ module _ {T : Type 0} (S : State T) (values : OnlyValues S) where
   or_none None = refl
   or_none (Some t) = refl
 
-  hindrance_one : (n : Name) (o : Option (Cell T)) → map.get S.cells n ≡ o
+  pub hindrance_one : (n : Name) (o : Option (Cell T)) → map.get S.cells n ≡ o
       → hindered S (n ∷ []) ≡ hindrance_of S.cells (map.remove S.cells n) o n
   unfolding hindered
   hindrance_one n o is =
@@ -97,7 +97,7 @@ module _ {T : Type 0} (S : State T) (values : OnlyValues S) where
       (get-remove_here by_name S.cells n)
       ∙ ap (λ o. write_refusal (content_of o)) is)
 
-  nothing_hinders : hindered S [] ≡ None
+  pub nothing_hinders : hindered S [] ≡ None
   unfolding hindered
   nothing_hinders = refl
 
@@ -117,7 +117,7 @@ module _ {T : Type 0} (S : State T) (values : OnlyValues S) where
         at true e = (refl, e)
         at false e = cc
 
-    hindered_is : (c : Content T) (k : Location) → own_cell_at S b.id ≡ Some (Value c k)
+    pub hindered_is : (c : Content T) (k : Location) → own_cell_at S b.id ≡ Some (Value c k)
         → hindered S (own_name S b) ≡ write_refusal (Some c)
     hindered_is c k is =
         let own = own_yes (Value c k) is in

@@ -73,12 +73,12 @@ module _ {T : Type 0} where
       at true e = ap content_of e
       at false e = cc
 
-  trouble_gone : (S : State T) (b : GenerationalPointer) → own_cell_at S b.id ≡ None
+  pub trouble_gone : (S : State T) (b : GenerationalPointer) → own_cell_at S b.id ≡ None
       → read_trouble S b ≡ Some (Dropped b.created_at)
   unfolding read_trouble
   trouble_gone S b is = rw (reach_is S b None is) refl
 
-  trouble_here : (S : State T) (b : GenerationalPointer) (c : Content T) (k : Location)
+  pub trouble_here : (S : State T) (b : GenerationalPointer) (c : Content T) (k : Location)
       → own_cell_at S b.id ≡ Some (Value c k) → read_trouble S b ≡ read_refusal (Some c)
   unfolding read_trouble
   trouble_here S b c k is =

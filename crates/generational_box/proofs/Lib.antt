@@ -38,6 +38,7 @@ pub mod Plain
 pub mod PlainSteps
 pub mod Playing
 pub mod PoolLemmas
+pub mod Readies
 pub mod Rows
 pub mod RowsBorrows
 pub mod RowsLimits

@@ -114,6 +114,18 @@ impl<T> Clone for GenerationalBox<T> {
 
 impl<T> Copy for GenerationalBox<T> {}
 
+/// The box of a pointer. It makes no cell: as every box, it reaches the cell that its name has.
+impl<T> From<GenerationalPointer> for GenerationalBox<T> {
+    ghost from_gives = { λ pointer b. b.raw ≡ pointer };
+
+    fn from(pointer: GenerationalPointer) -> GenerationalBox<T> {
+        GenerationalBox {
+            raw: pointer,
+            marker: PhantomData,
+        }
+    }
+}
+
 /// Prints the id.
 impl<T> fmt::Debug for GenerationalBox<T> {
     ghost debug_output = { λ it. Some (id_text it.raw.id) };

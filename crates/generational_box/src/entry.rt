@@ -47,7 +47,7 @@ impl<T> Model for StorageEntry<T> {
 }
 
 impl<T> StorageEntry<T> {
-    ghost use Rattle.std.specs.Prelude.{◌≡◌, ◌<◌, ◌+◌, [], true, ◌↔◌, IsTrue, Some, is_ok, option_copied, option_map, OnOk, OnErr, IfErr};
+    ghost use Rattle.std.specs.Prelude.{◌≡◌, ◌<◌, ◌+◌, [], true, ◌↔◌, IsTrue, Some, is_ok, is_none, option_copied, option_map, OnOk, OnErr, IfErr};
     ghost use Rattle.generational_box.specs.Cells.Content.{Here, Lent};
     ghost use Rattle.generational_box.specs.Borrowing.{read_refusal, write_refusal};
     ghost use Rattle.generational_box.specs.Borrowing.Trouble.{BeingWritten};
@@ -99,6 +99,18 @@ impl<T> StorageEntry<T> {
             StorageEntryData::Lent(writer) => {
                 Some(AlreadyBorrowedMutError::new(writer.location))
             }
+        }
+    }
+
+    // Whether no borrow stands at the cell.
+    #[inline(always)]
+    pub(crate) fn is_unborrowed(&self) -> bool
+        ensures { result ≡ is_none (write_refusal (content_in self.now.kept)) }
+    {
+        match &self.data {
+            StorageEntryData::Data(_, readers) => readers.is_empty(),
+            StorageEntryData::Empty => true,
+            StorageEntryData::Lent(_) => false,
         }
     }
 

@@ -5,6 +5,7 @@ ghost use Rattle.generational_box.specs.State.{State, IsFresh};
 ghost use Rattle.generational_box.specs.Machine.Action.{Make, NewOwner, CloneOwner, ReleaseOwner, Read, Write, ReleaseReader, ReleaseWriter, End};
 ghost use Rattle.generational_box.specs.Machine.Answer.{Flag};
 ghost use Rattle.generational_box.specs.Steps.{Meets};
+ghost use Rattle.generational_box.specs.Readiness.{is_ready};
 ghost use Rattle.generational_box.specs.Answers.{make_answer, owner_answer, release_answer, read_answer, write_answer, back_answer, end_answer, opened};
 
 use crate::boxes::GenerationalPointer;
@@ -13,6 +14,7 @@ use crate::error::{
 };
 use crate::owners::Owner;
 use crate::references::{GenerationalRef, GenerationalRefMut};
+use crate::steps::StepCall;
 
 /// What a store of values of one type does, whatever it keeps.
 ///
@@ -29,6 +31,11 @@ pub trait AnyStorage<T> {
     /// Whether nothing was ever made in the store.
     fn is_fresh(&self) -> bool
         ensures { IsTrue result ↔ IsFresh (state self.now) };
+
+    /// Whether the call would be answered without telling of a borrow in its way: a read meets no
+    /// writer, and an end no borrow of a value that would end. Takes no memory.
+    fn ready(&self, call: &StepCall) -> bool
+        ensures { result ≡ is_ready (state self.now) call.now };
 
     /// An owner without boxes, of a record of its own.
     ///

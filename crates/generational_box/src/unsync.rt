@@ -29,6 +29,7 @@ use crate::error::{
 use crate::owners::{self, CellName, Owner, OwnerRecord};
 use crate::pool::{LastFirst, SlotPool};
 use crate::references::{GenerationalRef, GenerationalRefMut};
+use crate::steps::StepCall;
 use crate::storage::{AnyStorage, Storage};
 use std::alloc::{AllocError, Global};
 use std::collections::BTreeMap;
@@ -485,6 +486,20 @@ impl<T: Drop, P: SlotPool> AnyStorage<T> for Store<T, P> {
         self.end_all(boxes);
         owner.leak();
         Ok(())
+    }
+
+    fn ready(&self, call: &StepCall) -> bool {
+        match call {
+            StepCall::Leak(_) | StepCall::ReleaseRead(_) => true,
+            StepCall::Read(pointer, _) => match self.entry(pointer.id) {
+                Some(entry) => entry.borrow_error().is_none(),
+                None => true,
+            },
+            StepCall::ManuallyDrop(pointer) => match self.entry(pointer.id) {
+                Some(entry) => entry.is_unborrowed(),
+                None => true,
+            },
+        }
     }
 
     #[inline(always)]

@@ -1,0 +1,9 @@
+pub mod Finding
+pub mod Fitting
+pub mod Following
+pub mod Keeping
+pub mod Refusing
+pub mod Replaying
+pub mod Replying
+pub mod Standings
+pub mod Weighing

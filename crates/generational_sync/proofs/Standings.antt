@@ -1,0 +1,190 @@
+-- How many borrows stand after a call.
+use Rattle.std.proofs.Common.{◌≡◌, ℕ, ◌+◌, ◌≤◌, Bool, true, false, cond, not, ◌&&◌, List, [], ◌∷◌}
+use Rattle.std.proofs.Common.{◌++◌, length, Option, None, Some, refl, sym, ap, subst, ◌∙◌, arith}
+use Rattle.std.proofs.Common.{inl, inr, length-append}
+use Rattle.std.specs.Prelude.{nat_eq, ◌-◌, ◌^◌, suc, ◌||◌}
+use Rattle.std.specs.List.{list_any, filter}
+use Rattle.std.proofs.lemmas.Bool.{true≢false, and_parts}
+use Rattle.std.proofs.lemmas.List.{length-map}
+use Rattle.std.specs.FinMap as map
+use Rattle.generational_box.specs.declared.error.Location.{Location}
+use Rattle.generational_box.specs.declared.error.StoreError.TheVariants.{NumbersExhausted}
+use Rattle.generational_box.specs.declared.entry.Borrow.{Borrow}
+use Rattle.generational_box.specs.declared.boxes.GenerationalPointer.{GenerationalPointer}
+use Rattle.generational_box.specs.Names.{Name, NameMap, among}
+use Rattle.generational_box.specs.Cells.{Content, Cell, content_of, refilled, is_shared}
+use Rattle.generational_box.specs.Cells.Content.{Here, Lent}
+use Rattle.generational_box.specs.Cells.Cell.{Value, Shared, Ref}
+use Rattle.generational_box.specs.State.{State, tickets_of, is_named}
+use Rattle.generational_box.specs.Borrowing.{Trouble, Guard, content_at, filled, reach}
+use Rattle.generational_box.specs.Borrowing.{read_trouble}
+use Rattle.generational_box.specs.Ending.{swept, without, close, hindered}
+use Rattle.generational_box.specs.Machine.{Answer, Outcome, unless, read_at, contents}
+use Rattle.generational_box.specs.Machine.{has_reader, knows_reader, without_reader, own_name}
+use Rattle.generational_box.specs.Machine.Action.{Make, Read, ReleaseReader, End}
+use Rattle.generational_box.specs.Machine.Answer.{Made, Reads, Done, Flag, Refused}
+use Rattle.generational_box.specs.Steps.{Meets, limited, takes_ticket}
+use Rattle.generational_sync.specs.Standing.{borrows, borrows_in}
+use Rattle.generational_sync.proofs.Weighing.{borrows_retained, borrows_inserted, borrows_changed}
+
+-- a list without a ticket that is in it is shorter
+fewer : (t : ℕ) (rs : List Borrow)
+    → length (filter (λ (r : Borrow). not (nat_eq r.ticket t)) rs) ≤ length rs
+fewer t [] = omega arith
+fewer t (r ∷ rs) =
+    let rest = fewer t rs in
+    let left = filter (λ (r : Borrow). not (nat_eq r.ticket t)) rs in
+    elim (nat_eq r.ticket t) as (λ b. length (cond (not b) (r ∷ left) left) ≤ suc (length rs)) [
+      | true ↦ omega arith
+      | false ↦ omega arith
+    ]
+
+shorter : (t : ℕ) (rs : List Borrow) → list_any (λ (r : Borrow). nat_eq r.ticket t) rs ≡ true
+    → length (filter (λ (r : Borrow). not (nat_eq r.ticket t)) rs) + 1 ≤ length rs
+shorter t [] h = absurd (true≢false (sym h))
+shorter t (r ∷ rs) h = split (shorter t rs) (nat_eq r.ticket t) refl
+  where
+    left : List Borrow
+    left = filter (λ (r : Borrow). not (nat_eq r.ticket t)) rs
+
+    split : (list_any (λ (r : Borrow). nat_eq r.ticket t) rs ≡ true
+        → length left + 1 ≤ length rs) → (b : Bool) → nat_eq r.ticket t ≡ b
+        → length (cond (not b) (r ∷ left) left) + 1 ≤ suc (length rs)
+    split rest true e = let all = fewer t rs in omega arith
+    split rest false e =
+        let other = ap (λ b. b || list_any (λ (r : Borrow). nat_eq r.ticket t) rs) e in
+        let all = rest (sym other ∙ h) in
+        omega arith
+
+module _ {T : Type 0} where
+  abbrev size : Content T → ℕ
+  size c = length (tickets_of (Some c))
+
+  size_here : (v : T) (rs : List Borrow) → size (Here v rs) ≡ length rs
+  size_here v rs = length-map rs (λ r. r.ticket)
+
+  -- another content in a cell
+  filled_borrows : (S : State T) (m : Name) (c old : Content T) → content_at S m ≡ Some old
+      → borrows (filled S m c) + size old ≡ borrows S + size c
+  filled_borrows S m c old had = at (map.get S.cells m) refl had
+    where
+      at : (o : Option (Cell T)) → map.get S.cells m ≡ o → content_of o ≡ Some old
+          → borrows (filled S m c) + size old ≡ borrows S + size c
+      at None is h = absurd cc
+      at (Some (Value d l)) is h =
+          let weighs = borrows_changed S.cells m (refilled c) (Value d l) is in
+          let same : size d ≡ size old = ap (λ o. length (tickets_of o)) h in
+          omega arith
+      at (Some (Shared d l)) is h =
+          let weighs = borrows_changed S.cells m (refilled c) (Shared d l) is in
+          let same : size d ≡ size old = ap (λ o. length (tickets_of o)) h in
+          omega arith
+      at (Some (Ref k l)) is h = absurd cc
+
+  -- how many borrows an answer gives
+  abbrev pub lends : Answer T → ℕ
+  lends (Reads g) = 1
+  lends _ = 0
+
+  abbrev Grows : State T → Outcome T → Type 0
+  Grows S out = borrows out.1 ≤ borrows S + lends out.0
+
+  limited_grows : (S : State T) (out : Outcome T) → Grows S out → Grows S (limited S out)
+  limited_grows S out h = at (takes_ticket out.0 && nat_eq S.next (2 ^ 64 - 1))
+    where
+      at : (b : Bool) → Grows S (cond b (Refused NumbersExhausted, S) out)
+      at true = omega arith
+      at false = h
+
+  unless_grows : (S : State T) (t : Option Trouble) (out : Outcome T)
+      → Grows S out → Grows S (unless t S out)
+  unless_grows S None out h = h
+  unless_grows S (Some t) out h = omega arith
+
+  read_grows : (S : State T) (l : Location) (o : Option Name) (c : Option (Content T))
+      → contents S o ≡ c → Grows S (read_at S l o c)
+  read_grows S l None c is = omega arith
+  read_grows S l (Some m) None is = omega arith
+  read_grows S l (Some m) (Some (Lent w)) is = omega arith
+  read_grows S l (Some m) (Some (Here v rs)) is =
+      let r : Borrow = record { ticket = S.next; location = l } in
+      let weighs = filled_borrows S m (Here v (rs ++ r ∷ [])) (Here v rs) is in
+      let more = length-append rs (r ∷ []) in
+      let one = size_here v rs in let two = size_here v (rs ++ r ∷ []) in
+      omega arith
+
+  pub made_stand : (S R : State T) (v : T) (l : Location) (b : GenerationalPointer)
+      → Meets S (Make None v l) (Made b) R → borrows R ≤ borrows S
+  made_stand S R v l b (inl m) =
+      let after = ap (λ (o : Outcome T). borrows o.1) m.2 in
+      let weighs = borrows_inserted S.cells m.0.first (Value (Here v []) l) in
+      omega arith
+  made_stand S R v l b (inr m) = absurd cc
+
+  pub read_stand : (S R : State T) (b : GenerationalPointer) (l : Location) (answer : Answer T)
+      → Meets S (Read b l) answer R → borrows R ≤ borrows S + lends answer
+  read_stand S R b l answer (inl m) =
+      subst (λ (o : Outcome T). Grows S o) (sym m.2)
+      (limited_grows S _ (unless_grows S (read_trouble S b) _
+      (read_grows S l (reach S b) (contents S (reach S b)) refl)))
+  read_stand S R b l answer (inr m) =
+      let after = ap borrows m.2 in let none = ap lends m.1 in omega arith
+
+  swept_fewer : (cells : NameMap (Cell T))
+      → borrows_in (map.entries (swept cells)) ≤ borrows_in (map.entries cells)
+  unfolding swept
+  swept_fewer cells =
+      borrows_retained cells (λ n. not (is_shared (map.get cells n)) || is_named cells n)
+
+  without_fewer : (cells : NameMap (Cell T)) (names : List Name)
+      → borrows_in (map.entries (without cells names)) ≤ borrows_in (map.entries cells)
+  unfolding without
+  without_fewer cells names =
+      borrows_retained cells (λ n. is_shared (map.get cells n) || not (among names n))
+
+  end_grows : (S : State T) (names : List Name) → Grows S (Done, close S names)
+  end_grows S names =
+      let first = without_fewer S.cells names in
+      let second = swept_fewer (without S.cells names) in
+      omega arith
+
+  pub end_stand : (S R : State T) (b : GenerationalPointer)
+      → Meets S (End b) Done R → borrows R ≤ borrows S
+  end_stand S R b (inl m) =
+      let grows = subst (λ (o : Outcome T). Grows S o) (sym m.2)
+      (limited_grows S _ (unless_grows S (hindered S (own_name S b)) _
+      (end_grows S (own_name S b)))) in
+      omega arith
+  end_stand S R b (inr m) = absurd cc
+
+  without_stand : (S : State T) (n : Name) (t : ℕ) (c : Option (Content T)) → content_at S n ≡ c
+      → has_reader c t ≡ true → borrows (without_reader S n t c) + 1 ≤ borrows S
+  without_stand S n t None is h = absurd (true≢false (sym h))
+  without_stand S n t (Some (Lent w)) is h = absurd (true≢false (sym h))
+  without_stand S n t (Some (Here v rs)) is h =
+      let left = filter (λ (r : Borrow). not (nat_eq r.ticket t)) rs in
+      let weighs = filled_borrows S n (Here v left) (Here v rs) is in
+      let less = shorter t rs h in
+      let one = size_here v rs in let two = size_here v left in
+      omega arith
+
+  abbrev flag_in : Answer T → Bool
+  flag_in (Flag b) = b
+  flag_in _ = false
+
+  -- a borrow that was released stood
+  pub release_stand : (S R : State T) (g : Guard)
+      → Meets S (ReleaseReader g) (Flag true) R → borrows R + 1 ≤ borrows S
+  release_stand S R g (inl m) = at (knows_reader S g) refl m.2
+    where
+      at : (b : Bool) → knows_reader S g ≡ b
+          → (Flag true, R) ≡ limited S (cond b
+          (Flag true, without_reader S g.cell g.ticket (content_at S g.cell)) (Flag false, S))
+          → borrows R + 1 ≤ borrows S
+      at true known e =
+          let after = ap (λ (o : Outcome T). borrows o.1) e in
+          let less = without_stand S g.cell g.ticket (content_at S g.cell) refl
+          (and_parts (nat_eq g.store S.number) _ known).1 in
+          omega arith
+      at false known e = absurd (true≢false (ap (λ (o : Outcome T). flag_in o.0) e))
+  release_stand S R g (inr m) = absurd cc

@@ -1,0 +1,51 @@
+use Rattle.std.proofs.Common.{◌≡◌, ap, arith}
+use Rattle.generational_sync.specs.Kinds.{count}
+use Rattle.generational_sync.specs.Counts.{Counts, counted}
+use Rattle.generational_sync.specs.Shared.{LogState}
+use Rattle.generational_sync.specs.declared.step.Kind.TheVariants.{Made, Lent, Changed, Refused}
+use Rattle.generational_sync.proofs.log.Log.audit.Goals as goal
+
+pub returns-clause-counts : goal.returns-clause-counts
+returns-clause-counts g c kind =
+    let seen = c.whole.view_is in
+    let parts = ap (λ (t : Counts). t.parts) seen in
+    let steps = ap (λ (l : LogState). l.steps) c.self.view_is in
+    let books = c.self.invariant in
+    elim kind as (λ k. count k c.args.self.now.steps ≡ counted k c.args.whole.now) [
+      | Made ↦ omega (
+        arith,
+        ap (count Made) steps,
+        books.0,
+        ap (λ (t : Counts). t.made) seen,
+        parts,
+        c.shown.ensures,
+        c.audit.ensures.whole,
+      )
+      | Lent ↦ omega (
+        arith,
+        ap (count Lent) steps,
+        books.1,
+        ap (λ (t : Counts). t.lent) seen,
+        parts,
+        c.shown-2.ensures,
+        c.audit-2.ensures.whole,
+      )
+      | Changed ↦ omega (
+        arith,
+        ap (count Changed) steps,
+        books.2,
+        ap (λ (t : Counts). t.changed) seen,
+        parts,
+        c.shown-3.ensures,
+        c.audit-3.ensures.whole,
+      )
+      | Refused ↦ omega (
+        arith,
+        ap (count Refused) steps,
+        books.3,
+        ap (λ (t : Counts). t.refused) seen,
+        parts,
+        c.shown-4.ensures,
+        c.audit-4.ensures.whole,
+      )
+    ]

@@ -1,0 +1,107 @@
+-- Histories of steps, and what they make of a state without values.
+use Rattle.std.specs.Prelude.{ℕ, ◌+◌, Bool, true, not, ◌&&◌, ◌||◌, nat_eq}
+use Rattle.std.specs.Prelude.{if◌then◌else◌, List, [], ◌∷◌, Option, Some, None, option_map}
+use Rattle.std.specs.FinMap as map
+use Rattle.std.specs.FinSet as set
+use Rattle.generational_box.specs.declared.steps.StepCall.{StepCall}
+use Rattle.generational_box.specs.declared.steps.StepCall.TheVariants.{
+  Leak,
+  Read,
+  ReleaseRead,
+  ManuallyDrop,
+}
+use Rattle.generational_box.specs.Names.{Name}
+use Rattle.generational_box.specs.Boxes.{name_of}
+use Rattle.generational_box.specs.State.{State, fresh}
+use Rattle.generational_box.specs.Borrowing.{Guard, content_at}
+use Rattle.generational_box.specs.Machine.{Action, Answer, Fresh, Outcome, act, has_reader}
+use Rattle.generational_box.specs.Machine.Action.{Make, Read as ReadBox, ReleaseReader, End}
+use Rattle.generational_box.specs.Slots.{slots_of, slots, free, is_free, last_name}
+use Rattle.generational_box.specs.Steps.{Meets, limited, no_names}
+use Rattle.generational_box.specs.Readiness.{is_ready}
+use Rattle.generational_sync.specs.declared.step.Step.{Step}
+use Rattle.generational_sync.specs.declared.step.StepReply.{StepReply}
+use Rattle.generational_sync.specs.declared.step.StepReply.TheVariants as reply
+use Rattle.generational_sync.specs.Replies.{reply_to, is_recorded}
+
+-- a state without values
+abbrev pub Plain : Type 0
+Plain = State (Unit {0})
+
+-- where a history starts: a store of this number in which nothing was made
+abbrev pub start : ℕ → Plain
+start number = fresh number 1 0
+
+-- whether a name fits the slots: a new slot at its first generation if none is free, else a free
+-- slot's next one
+abbrev pub fits : Plain → Name → Bool
+fits P n =
+    (nat_eq (free P) 0 && (nat_eq n.slot (slots P) && nat_eq n.generation P.start))
+    || (map.contains_key (slots_of P) n.slot
+    && (is_free P n.slot && nat_eq n.generation ((last_name P n.slot).generation + 1)))
+
+-- whether a name was never given, and fits
+abbrev pub is_new : Plain → Name → Bool
+is_new P n = not (set.contains P.given n) && fits P n
+
+-- whether the box that a recorded reply gives, if any, has a new name
+abbrev pub gives_new : Plain → StepReply → Bool
+gives_new P (reply.Made b) = is_new P (name_of b)
+gives_new P _ = true
+
+-- the names that a recorded reply gives
+abbrev pub names_in : StepReply → Fresh
+names_in (reply.Made b) = record { first = name_of b; second = name_of b }
+names_in _ = no_names
+
+-- the first of these names that passes
+abbrev pub first_name : (Name → Bool) → List Name → Option Name
+first_name test [] = None
+first_name test (n ∷ names) = if test n then Some n else first_name test names
+
+-- the cell at which a ticket is a reader's
+abbrev pub reader_cell : Plain → ℕ → Option Name
+reader_cell P t = first_name (λ n. has_reader (content_at P n) t) (map.keys P.cells)
+
+-- the guard of a reader with this ticket at a cell
+abbrev pub guard_at : Plain → ℕ → Name → Guard
+guard_at P t n = record { store = P.number; cell = n; ticket = t }
+
+-- what a recorded call asks of the machine; a release names its guard by the ticket alone
+abbrev pub action_of : Plain → StepCall → Option (Action (Unit {0}))
+action_of P (Leak l) = Some (Make None tt l)
+action_of P (Read b l) = Some (ReadBox b l)
+action_of P (ReleaseRead t) =
+    option_map (λ n. ReleaseReader (guard_at P t n)) (reader_cell P t)
+action_of P (ManuallyDrop b) = Some (End b)
+
+-- whether a call that the machine answers so was lawfully recorded with this reply: no borrow
+-- stood in its way, a name that it gave was new, and the reply is the machine's
+abbrev pub is_lawful : Plain → StepCall → StepReply → Answer (Unit {0}) → Bool
+is_lawful P call r answer =
+    is_ready P call && (gives_new P r && is_recorded (reply_to answer) r)
+
+-- the state after a lawful step, or none
+abbrev pub step_by : Plain → StepCall → StepReply → Option (Action (Unit {0})) → Option Plain
+step_by P call r None = None
+step_by P call r (Some a) =
+    let out : Outcome (Unit {0}) = limited P (act P a (names_in r)) in
+    if is_lawful P call r out.0 then Some out.1 else None
+
+-- what a recorded step makes of a state without values; none where it isn't lawful
+unfoldable pub plain_step : Plain → StepCall → StepReply → Option Plain
+plain_step P call r = step_by P call r (action_of P call)
+
+-- what all the steps make of a state, if there is one
+abbrev pub replay_on : List Step → Option Plain → Option Plain
+replay_on [] P = P
+replay_on (x ∷ xs) None = None
+replay_on (x ∷ xs) (Some P) = replay_on xs (plain_step P x.call x.reply)
+
+-- what a history makes of the state from which it starts; none where a step isn't lawful
+abbrev pub replay_from : Plain → List Step → Option Plain
+replay_from P steps = replay_on steps (Some P)
+
+-- some step of the machine leads from one state to another
+abbrev pub IsTaken : Plain → Plain → Type 0
+IsTaken P Q = (a : Action (Unit {0})) × (answer : Answer (Unit {0})) × Meets P a answer Q

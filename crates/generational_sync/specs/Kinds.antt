@@ -1,0 +1,37 @@
+-- Kinds of steps, and how many steps of a kind a history has.
+use Rattle.std.specs.Prelude.{◌≡◌, ℕ, Bool, true, false, List, count_by}
+use Rattle.generational_box.specs.declared.steps.StepCall.{StepCall}
+use Rattle.generational_sync.specs.declared.step.Step.{Step}
+use Rattle.generational_sync.specs.declared.step.StepReply.{StepReply}
+use Rattle.generational_sync.specs.declared.step.StepReply.TheVariants as reply
+use Rattle.generational_sync.specs.declared.step.Kind.{Kind}
+use Rattle.generational_sync.specs.declared.step.Kind.TheVariants.{Made, Lent, Changed, Refused}
+use Rattle.generational_sync.specs.Counts.{Counts, counted}
+
+-- a worker's step
+abbrev pub step_of : ℕ → StepCall → StepReply → Step
+step_of worker call r = record { worker = worker; call = call; reply = r }
+
+-- the kind of a step with this reply
+abbrev pub kind_of : StepReply → Kind
+kind_of (reply.Made b) = Made
+kind_of (reply.Reader t) = Lent
+kind_of reply.Done = Changed
+kind_of (reply.Dropped l) = Refused
+kind_of (reply.Store e) = Refused
+
+-- whether two kinds are the same
+abbrev pub same_kind : Kind → Kind → Bool
+same_kind Made Made = true
+same_kind Lent Lent = true
+same_kind Changed Changed = true
+same_kind Refused Refused = true
+same_kind k l = false
+
+-- how many of the steps are of this kind
+abbrev pub count : Kind → List Step → ℕ
+count kind steps = count_by (λ (s : Step). same_kind kind (kind_of s.reply)) steps
+
+-- a tally counts these steps: for each kind as many as there are
+abbrev pub IsCounted : Counts → List Step → Type 0
+IsCounted c steps = (kind : Kind) → count kind steps ≡ counted kind c

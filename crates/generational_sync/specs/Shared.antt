@@ -1,0 +1,78 @@
+-- What lies under the lock, as contracts see it.
+use Rattle.std.specs.Prelude.{◌≡◌, ℕ, ◌≤◌, ◌⊎◌, true, List, Some, is_some}
+use Rattle.generational_box.specs.declared.error.Location.{Location}
+use Rattle.generational_box.specs.declared.boxes.GenerationalPointer.{GenerationalPointer}
+use Rattle.generational_box.specs.declared.error.BorrowError.{BorrowError}
+use Rattle.generational_box.specs.declared.error.BorrowError.TheVariants as reads
+use Rattle.generational_box.specs.declared.error.Refused.{Refused}
+use Rattle.generational_box.specs.declared.error.Refused.TheVariants as refused
+use Rattle.generational_box.specs.declared.error.StoreError.TheVariants.{
+  OutOfMemory,
+  NumbersExhausted,
+  UnknownOwner,
+}
+use Rattle.generational_box.specs.declared.steps.StepCall.{StepCall}
+use Rattle.generational_box.specs.State.{State}
+use Rattle.generational_box.specs.Machine.{Action, Answer}
+use Rattle.generational_box.specs.Machine.Answer.{Refused as refuses}
+use Rattle.generational_box.specs.Steps.{Meets}
+use Rattle.generational_box.specs.History.{plain}
+use Rattle.generational_sync.specs.declared.step.Step.{Step}
+use Rattle.generational_sync.specs.Counts.{Counts}
+use Rattle.generational_sync.specs.Replies.{reply_to, recorded, tallied}
+use Rattle.generational_sync.specs.History.{start, replay_from}
+use Rattle.generational_sync.specs.Standing.{borrows}
+
+-- A shared state: the machine's state, and the steps that led to it.
+pub record SharedState (T : Type 0) : Type 0 where
+  pub state : State T
+  pub history : List Step
+
+-- A history with what is reserved in it: the borrows for whose release there is room, and for how
+-- many steps beside these there is room.
+pub record LogState : Type 0 where
+  pub steps : List Step
+  pub standing : ℕ
+  pub room : ℕ
+
+-- what holds whenever the lock is free: the history replays to the state without its values, and
+-- there is room for the release of each borrow that stands
+abbrev pub IsKept : {T : Type 0} → ℕ → State T → LogState → Type 0
+IsKept number S log =
+    (replay_from (start number) log.steps ≡ Some (plain S)) × (borrows S ≤ log.standing)
+
+-- a call does the machine's step; or memory lacked, for the machine where it may or for the
+-- history at any time, and nothing changes
+abbrev pub Does : {T : Type 0} → SharedState T → Action T → Answer T → SharedState T → Type 0
+Does s call answer r =
+    Meets s.state call answer r.state ⊎ ((answer ≡ refuses OutOfMemory) × (r.state ≡ s.state))
+
+-- how a read may be refused in whose way no borrow stands; of the borrow errors `Dropped` alone
+abbrev pub MayRefuseRead : GenerationalPointer → Refused BorrowError → Type 0
+MayRefuseRead b (refused.Borrow (reads.Dropped e)) = e.created_at ≡ b.created_at
+MayRefuseRead b (refused.Borrow (reads.AlreadyBorrowedMut e)) = ⊥
+MayRefuseRead b (refused.Store NumbersExhausted) = Unit {0}
+MayRefuseRead b (refused.Store OutOfMemory) = Unit {0}
+MayRefuseRead b (refused.Store UnknownOwner) = ⊥
+
+-- the history replays, from an empty store with this number, to the state without its values
+abbrev pub Replays : {T : Type 0} → ℕ → SharedState T → Type 0
+Replays number s = replay_from (start number) s.history ≡ Some (plain s.state)
+
+-- the step of a call of the tally's worker is appended, if its answer is recorded
+abbrev pub Records : {T : Type 0} → SharedState T → Counts → StepCall → Answer T → SharedState T
+    → Type 0
+Records old tally call answer new =
+    new.history ≡ recorded old.history tally.worker call (reply_to answer)
+
+-- and the count of its kind is raised by one
+abbrev pub Raises : {T : Type 0} → Counts → Answer T → Counts → Type 0
+Raises old answer new = new ≡ tallied (reply_to answer) old
+
+-- a box of the store with this number, made at this location
+abbrev pub IsBoxOf : ℕ → Location → GenerationalPointer → Type 0
+IsBoxOf number l b = (b.id.store ≡ number) × (b.created_at ≡ l)
+
+-- a list that replays from an empty store with this number
+abbrev pub IsHistory : ℕ → List Step → Type 0
+IsHistory number steps = is_some (replay_from (start number) steps) ≡ true
