@@ -18,6 +18,7 @@ pub mod Filled
 pub mod Fresh
 pub mod Growing
 pub mod Hindering
+pub mod KeyCounts
 pub mod Lasting
 pub mod Lasts
 pub mod Lengths
@@ -50,6 +51,7 @@ pub mod SlotFound
 pub mod SlotMakings
 pub mod SlotNames
 pub mod SlotStates
+pub mod SlotTotals
 pub mod SlotWrites
 pub mod SoundCalls
 pub mod Soundness
