@@ -37,6 +37,7 @@ pub mod Placing
 pub mod Plain
 pub mod PlainSteps
 pub mod PoolLemmas
+pub mod SameIds
 pub mod Saying
 pub mod SessionCalls
 pub mod Sessions

@@ -53,6 +53,11 @@ pub trait AnyStorage<T> {
     fn tickets_left(&self) -> u64
         ensures { result ≡ 18446744073709551615 - (state self.now).next };
 
+    /// The number of the slot that the pointer names. Looks at no slot: the cell may have ended,
+    /// or be of another store. Takes no memory.
+    fn data_ptr(&self, pointer: GenerationalPointer) -> usize
+        ensures { result ≡ pointer.id.slot };
+
     /// An owner without boxes, of a record of its own.
     ///
     /// Refused, in this order: `NumbersExhausted`, where no ticket is left; `OutOfMemory`. A

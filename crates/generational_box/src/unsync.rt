@@ -461,6 +461,10 @@ impl<T: Drop, P: SlotPool> AnyStorage<T> for Store<T, P> {
         u64::MAX - self.next
     }
 
+    fn data_ptr(&self, pointer: GenerationalPointer) -> usize {
+        pointer.id.slot
+    }
+
     fn owner(&mut self) -> Result<Owner, StoreError> {
         let key = self.next;
         if key == u64::MAX {
