@@ -12,9 +12,9 @@ use Rattle.generational_box.specs.Cells.{Content, Cell}
 use Rattle.generational_box.specs.Cells.Content.{Here}
 use Rattle.generational_box.specs.Cells.Cell.{Value, Shared, Ref}
 use Rattle.generational_box.specs.State.{State, Holding, IsSound}
-use Rattle.generational_box.specs.Borrowing.{Trouble, is_same_box, filled, reach, content_at}
+use Rattle.generational_box.specs.Borrowing.{Trouble, filled, reach, content_at}
 use Rattle.generational_box.specs.Borrowing.{read_trouble, write_trouble}
-use Rattle.generational_box.specs.Boxes.{name_of, box_of}
+use Rattle.generational_box.specs.Boxes.{name_of, box_of, has_same_id}
 use Rattle.generational_box.specs.Ending.{swept, close, hindered, hindrance_at}
 use Rattle.generational_box.specs.Machine.{Action, Fresh, Outcome, OwnerName, act, born, holding}
 use Rattle.generational_box.specs.Machine.{is_known, listed, unless, referred, found, cloned}
@@ -200,7 +200,7 @@ module _ {T : Type 0} where
   act_bounded S (SetValue x v) f s new b = set_bounded S v (reach S x) (contents S (reach S x)) b
   act_bounded S (End x) f s new b = unless_bounded S (hindered S (own_name S x))
       (Done, close S (own_name S x)) b (close_bounded S (own_name S x) b)
-  act_bounded S (Point a x) f s new b = if_bounded (is_same_box a x) (Done, S)
+  act_bounded S (Point a x) f s new b = if_bounded (has_same_id a x) (Done, S)
       (unless (read_trouble S x) S (pointed S a x (own_cell S a) (reach S x) (found S (reach S x))))
       b (unless_bounded S (read_trouble S x)
       (pointed S a x (own_cell S a) (reach S x) (found S (reach S x))) b (point_bounded S a x b))

@@ -8,12 +8,11 @@ use Rattle.std.proofs.lemmas.Bool.{true≢false, eqb-true, eq-eqb, false_from_ne
 use Rattle.std.specs.FinMap as map
 use Rattle.generational_box.specs.declared.error.Location.{Location}
 use Rattle.generational_box.specs.declared.boxes.GenerationalPointer.{GenerationalPointer}
-use Rattle.generational_box.specs.Names.{Name, is_name}
+use Rattle.generational_box.specs.Names.{Name}
 use Rattle.generational_box.specs.Cells.{Cell}
 use Rattle.generational_box.specs.Cells.Cell.{Value, Shared, Ref}
 use Rattle.generational_box.specs.State.{State}
-use Rattle.generational_box.specs.Boxes.{name_of, box_of}
-use Rattle.generational_box.specs.Borrowing.{is_same_box}
+use Rattle.generational_box.specs.Boxes.{name_of, box_of, has_same_id}
 use Rattle.generational_box.specs.Borrowing.Trouble.{Dropped}
 use Rattle.generational_box.specs.Ending.{swept, close, hindered}
 use Rattle.generational_box.specs.Machine.{Fresh, OwnerName, act, born}
@@ -29,6 +28,7 @@ use Rattle.generational_box.specs.Carrying.{Carries, KnowsBox}
 use Rattle.generational_box.specs.Carrying.{moved_fresh}
 use Rattle.generational_box.specs.Carrying.{moved_box, moved_owner}
 use Rattle.generational_box.specs.Carrying.{moved_cell}
+use Rattle.generational_box.proofs.SlotCells.{name_test}
 use Rattle.generational_box.proofs.CarriedCells.{same_test, cells_swept}
 use Rattle.generational_box.proofs.CarriedCells.{hindrance_at_moved, cells_insert}
 use Rattle.generational_box.proofs.Carried.{IfThere, Alike, if_alike, stays, unless_alike}
@@ -52,12 +52,16 @@ ref_known Knows n i k m l e = subst Knows (target_of n m i l e) k
 
 -- ---- two boxes, and the names of one
 
+-- whether two names have the same numbers
+abbrev same_numbers : Name → Name → Bool
+same_numbers j k = nat_eq j.slot k.slot && nat_eq j.generation k.generation
+
 module _ (f : Name → Name) (d : ℕ) {Knows : Name → Type 0}
     (apart : (j k : Name) → Knows j → Knows k → f j ≡ f k → j ≡ k) where
   -- two boxes are the same as before
   pub same_box_moved : (number : ℕ) (a b : GenerationalPointer)
       → KnowsBox Knows number a → KnowsBox Knows number b
-      → is_same_box (moved_box f d number a) (moved_box f d number b) ≡ is_same_box a b
+      → has_same_id (moved_box f d number a) (moved_box f d number b) ≡ has_same_id a b
   same_box_moved number a b ka kb =
       split (nat_eq a.id.store number) (nat_eq b.id.store number) refl refl
     where
@@ -70,19 +74,25 @@ module _ (f : Name → Name) (d : ℕ) {Knows : Name → Type 0}
       itself = nat_eq_equiv.refl number
 
       names : Bool → Bool
-      names t = t && is_name (name_of a) (name_of b)
+      names t = t && same_numbers (name_of a) (name_of b)
+
+      numbers : Knows (name_of a) → Knows (name_of b)
+          → same_numbers (f (name_of a)) (f (name_of b)) ≡ same_numbers (name_of a) (name_of b)
+      numbers x y =
+          sym (name_test (f (name_of a)) (f (name_of b)))
+          ∙ (same_test apart (name_of a) (name_of b) x y ∙ name_test (name_of a) (name_of b))
 
       split : (x y : Bool) → nat_eq a.id.store number ≡ x → nat_eq b.id.store number ≡ y
-          → is_same_box (cond x (box_of number (f (name_of a)) a.created_at) a)
-          (cond y (box_of number (f (name_of b)) b.created_at) b) ≡ is_same_box a b
+          → has_same_id (cond x (box_of number (f (name_of a)) a.created_at) a)
+          (cond y (box_of number (f (name_of b)) b.created_at) b) ≡ has_same_id a b
       split true true own mine =
-          (λ i. itself i && same_test apart (name_of a) (name_of b) (ka own) (kb mine) i)
+          (λ i. itself i && numbers (ka own) (kb mine) i)
           ∙ sym (ap names (eq-eqb a.id.store b.id.store
           (eqb-true a.id.store number own ∙ sym (eqb-true b.id.store number mine))))
-      split true false own strange = ap (λ t. t && is_name (f (name_of a)) (name_of b))
+      split true false own strange = ap (λ t. t && same_numbers (f (name_of a)) (name_of b))
           (apart_stores number b.id.store itself strange)
           ∙ sym (ap names (apart_stores a.id.store b.id.store own strange))
-      split false true strange own = ap (λ t. t && is_name (name_of a) (f (name_of b)))
+      split false true strange own = ap (λ t. t && same_numbers (name_of a) (f (name_of b)))
           (nat_eq_equiv.symm a.id.store number ∙ apart_stores number a.id.store itself strange)
           ∙ sym (ap names (nat_eq_equiv.symm a.id.store b.id.store
           ∙ apart_stores b.id.store a.id.store own strange))

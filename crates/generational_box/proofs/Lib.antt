@@ -19,6 +19,7 @@ pub mod Filled
 pub mod Fresh
 pub mod Growing
 pub mod Hindering
+pub mod KeyCounts
 pub mod Lasting
 pub mod Lasts
 pub mod Lengths
@@ -46,6 +47,7 @@ pub mod RowsOwners
 pub mod RowsPointing
 pub mod RowsSlots
 pub mod RowsTurning
+pub mod SameIds
 pub mod Saying
 pub mod SessionCalls
 pub mod Sessions
@@ -60,6 +62,7 @@ pub mod SlotFound
 pub mod SlotMakings
 pub mod SlotNames
 pub mod SlotStates
+pub mod SlotTotals
 pub mod SlotWrites
 pub mod SoundCalls
 pub mod Soundness

@@ -20,7 +20,7 @@ one_passes p [] h = absurd (true≢false (sym h))
 one_passes p (x ∷ xs) h = ⊎_elim (λ e. (x, e)) (λ e. one_passes p xs e) (or_cases _ _ h)
 
 -- an element that passes both
-passes_both : {A : Type 0} (p q : A → Bool) → ((x : A) → q x ≡ true → p x ≡ true)
+pub passes_both : {A : Type 0} (p q : A → Bool) → ((x : A) → q x ≡ true → p x ≡ true)
     → (xs : List A) → list_any q xs ≡ true → list_any p xs ≡ true
 passes_both p q f [] h = h
 passes_both p q f (x ∷ xs) h =

@@ -1,6 +1,6 @@
 -- What puts and takes do to a list of free slots.
 use Rattle.std.proofs.Common.{◌≡◌, ◌≢◌, ℕ, ◌+◌, ◌<◌, ◌≤◌, List, [], ◌∷◌, ◌++◌, length, Bool, true, false}
-use Rattle.std.proofs.Common.{eqb, nat_eq, ◌||◌, ◌&&◌, not, reverse, refl, sym, ap, ◌∙◌, arith, inl, inr, rules}
+use Rattle.std.proofs.Common.{eqb, nat_eq, cond, ◌||◌, ◌&&◌, not, reverse, refl, sym, ap, ◌∙◌, arith, inl, inr, rules}
 use Rattle.std.proofs.lemmas.Bool.{cases_Bool, cases_eq, eq-eqb, ne_eqb, eqb-true, false≢true, true≢false}
 use Rattle.std.proofs.lemmas.List.{reverse-append, length-reverse}
 use Rattle.std.proofs.lemmas.Map.Steps.{length-le_from_distinct_below}
@@ -90,6 +90,18 @@ members-take xs rooms capacity slot p =
 
 pub pool-length : (xs : List ℕ) (rooms capacity : ℕ) → IsPool xs rooms capacity → length xs ≤ rooms
 pool-length xs rooms capacity p = length-le_from_distinct_below xs rooms p.distinct p.below
+
+-- the slots of a pool are counted by its list
+pub pool-count : (xs : List ℕ) (rooms capacity : ℕ) → IsPool xs rooms capacity
+    → set.len (members xs) ≡ length xs
+pool-count [] rooms capacity p = set.len-empty nat_cmp
+pool-count (x ∷ xs) rooms capacity p =
+    let rest = pool-count xs rooms capacity (pool-take xs rooms capacity x p) in
+    let one : set.len (set.insert (members xs) x) ≡ set.len (members xs) + 1 =
+    set.len-insert nat_cmp_total (members xs) x
+    ∙ ap (λ b. cond b (set.len (members xs)) (set.len (members xs) + 1))
+    (members-holds xs x ∙ head-absent xs rooms capacity x p) in
+    omega arith
 
 reverse_pushed : {X : Type 0} (xs ys : List X) (x : X) → xs ≡ ys ++ x ∷ [] → reverse xs ≡ x ∷ reverse ys
 reverse_pushed xs ys x e = ap reverse e ∙ reverse-append ys (x ∷ [])

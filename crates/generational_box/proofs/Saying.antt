@@ -16,7 +16,7 @@ use Rattle.generational_box.specs.Cells.{Content, Cell, content_of, refilled}
 use Rattle.generational_box.specs.Cells.Content.{Here, Lent}
 use Rattle.generational_box.specs.Cells.Cell.{Value, Shared, Ref}
 use Rattle.generational_box.specs.State.{State, Holding, IsGiven}
-use Rattle.generational_box.specs.Boxes.{name_of}
+use Rattle.generational_box.specs.Boxes.{name_of, has_same_id}
 use Rattle.generational_box.specs.Borrowing.{Trouble, reach, content_at, filled}
 use Rattle.generational_box.specs.Machine.{Action, Answer, Fresh, Outcome, OwnerName, act, born}
 use Rattle.generational_box.specs.Machine.{listed, unless, referred, found, contents, cloned}
@@ -34,7 +34,7 @@ use Rattle.generational_box.specs.declared.error.StoreError.{StoreError}
 use Rattle.generational_box.specs.declared.error.StoreError.TheVariants.{UnknownOwner}
 use Rattle.generational_box.specs.Numbered.{want}
 use Rattle.generational_box.specs.Machine.{is_known, make_value, make_shared}
-use Rattle.generational_box.specs.Borrowing.{read_trouble, is_same_box}
+use Rattle.generational_box.specs.Borrowing.{read_trouble}
 use Rattle.generational_box.specs.Ending.{close, hindered, hindrance_at, swept}
 use Rattle.generational_box.proofs.Fresh.{AreFresh}
 use Rattle.generational_box.proofs.Maps.{by_name, get-changed_here}
@@ -228,7 +228,7 @@ module _ {T : Type 0} where
   act_says S (End b) f new = says_done S (close S (own_name S b)) (hindered S (own_name S b))
   act_says S (Point a b) f new =
       let out : Outcome T = pointed S a b (own_cell S a) (reach S b) (found S (reach S b)) in
-      says_if S (is_same_box a b)
+      says_if S (has_same_id a b)
       (Done, S) (unless (read_trouble S b) S out) (record { so = tt; able = refl })
       (says_unless S
       (read_trouble S b) out (says_pointed S a b (own_cell S a) (reach S b) (found S (reach S b))))

@@ -61,7 +61,7 @@ module _ {T : Type 0} (S : State T) where
       (keep_view by_number (slots_of S) (is_last_live S) s)
 
   -- slots whose last names are live are no more than the live cells
-  live_cells : map.len (map.retain_keys (slots_of S) (is_last_live S)) ≤ map.len S.cells
+  pub live_cells : map.len (map.retain_keys (slots_of S) (is_last_live S)) ≤ map.len S.cells
   live_cells =
       let live = map.retain_keys (slots_of S) (is_last_live S) in
       let le = length-le_from_is_member

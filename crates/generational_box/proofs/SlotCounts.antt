@@ -111,7 +111,7 @@ module _ {T : Type 0} (owners : Owners) (number start next peak : ℕ) (slots' :
   pub slots_are : slots here ≡ length slots'
   slots_are = len_below (length slots') (slots_of here) has_slot
 
-  own_name : (k : ℕ) (e : Entry T) → slice_get slots' k ≡ Some e
+  pub own_name : (k : ℕ) (e : Entry T) → slice_get slots' k ≡ Some e
       → last_name here k ≡ record { slot = k; generation = e.generation }
   own_name k e there = λ i. record { slot = k; generation = last i }
     where

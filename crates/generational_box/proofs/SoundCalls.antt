@@ -15,9 +15,9 @@ use Rattle.generational_box.specs.Cells.{Content, Cell, is_shared}
 use Rattle.generational_box.specs.Cells.Content.{Here, Lent}
 use Rattle.generational_box.specs.Cells.Cell.{Value, Shared, Ref}
 use Rattle.generational_box.specs.State.{State, Holding, IsSound, IsGiven, tickets_of}
-use Rattle.generational_box.specs.Borrowing.{Trouble, is_same_box, filled, reach, content_at}
+use Rattle.generational_box.specs.Borrowing.{Trouble, filled, reach, content_at}
 use Rattle.generational_box.specs.Borrowing.{read_trouble}
-use Rattle.generational_box.specs.Boxes.{name_of}
+use Rattle.generational_box.specs.Boxes.{name_of, has_same_id}
 use Rattle.generational_box.specs.Ending.{swept, close, hindered}
 use Rattle.generational_box.specs.Machine.{Action, Fresh, Outcome, OwnerName, act, born, holding}
 use Rattle.generational_box.specs.Machine.{is_known, listed, unless, referred, found, cloned}
@@ -287,7 +287,7 @@ module _ {T : Type 0} where
   act_sound S (SetValue b v) f s new = sound_set S v (reach S b) (contents S (reach S b)) s refl
   act_sound S (End b) f s new = unless_sound S (hindered S (own_name S b))
       (Done, close S (own_name S b)) s (λ _. sound_close S (own_name S b) s)
-  act_sound S (Point a b) f s new = if_sound (is_same_box a b) (Done, S)
+  act_sound S (Point a b) f s new = if_sound (has_same_id a b) (Done, S)
       (unless (read_trouble S b) S (pointed S a b (own_cell S a) (reach S b) (found S (reach S b))))
       (λ _. s) (λ _. unless_sound S (read_trouble S b)
       (pointed S a b (own_cell S a) (reach S b) (found S (reach S b))) s (λ _. sound_point S a b s))

@@ -12,8 +12,8 @@ use Rattle.generational_box.specs.Cells.{Content, Cell}
 use Rattle.generational_box.specs.Cells.Content.{Here}
 use Rattle.generational_box.specs.Cells.Cell.{Value, Shared, Ref}
 use Rattle.generational_box.specs.State.{State, Holding}
-use Rattle.generational_box.specs.Boxes.{name_of, box_of}
-use Rattle.generational_box.specs.Borrowing.{Trouble, reach, content_at, filled, is_same_box}
+use Rattle.generational_box.specs.Boxes.{name_of, box_of, has_same_id}
+use Rattle.generational_box.specs.Borrowing.{Trouble, reach, content_at, filled}
 use Rattle.generational_box.specs.Borrowing.{read_trouble, write_trouble}
 use Rattle.generational_box.specs.Ending.{swept, close, hindered, hindrance_at}
 use Rattle.generational_box.specs.Machine.{Action, Answer, Fresh, Outcome, OwnerName, act, born}
@@ -150,7 +150,7 @@ module _ {T : Type 0} where
   act_start S (End b) f =
       begins_unless S (hindered S (own_name S b)) (begins S Done (close S (own_name S b)) refl refl)
   act_start S (Point a b) f =
-      begins_if S (is_same_box a b) (begins S Done S refl refl) (begins_unless S
+      begins_if S (has_same_id a b) (begins S Done S refl refl) (begins_unless S
       (read_trouble S b) (begins_pointed S a b (own_cell S a) (reach S b) (found S (reach S b))))
   act_start S (CanRead b) f = begins S _ _ refl refl
   act_start S (CanWrite b) f = begins S _ _ refl refl

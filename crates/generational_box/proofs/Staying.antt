@@ -14,9 +14,9 @@ use Rattle.generational_box.specs.Cells.{Content, Cell, content_of, refilled}
 use Rattle.generational_box.specs.Cells.Content.{Here}
 use Rattle.generational_box.specs.Cells.Cell.{Value, Shared, Ref}
 use Rattle.generational_box.specs.State.{State, Holding, IsSound}
-use Rattle.generational_box.specs.Boxes.{name_of}
+use Rattle.generational_box.specs.Boxes.{name_of, has_same_id}
 use Rattle.generational_box.specs.Borrowing.{Trouble, not_reached, write_refusal, write_trouble}
-use Rattle.generational_box.specs.Borrowing.{read_trouble, reach, content_at, filled, is_same_box}
+use Rattle.generational_box.specs.Borrowing.{read_trouble, reach, content_at, filled}
 use Rattle.generational_box.specs.Ending.{swept, close, hindrance_at}
 use Rattle.generational_box.specs.Ending.{hindered}
 use Rattle.generational_box.specs.Machine.{Action, Fresh, Outcome, OwnerName, act, born, listed}
@@ -233,7 +233,7 @@ module _ {T : Type 0} (p : Option (Content T) → Bool) (is : IsBorrow p) where
       stays_unless S (hindered S (own_name S b)) (Done, close S (own_name S b))
       (λ free. stays_cells S (close S (own_name S b)) (borrowed_left S (own_name S b) s free))
   act_stays S (Point a b) f s new spared =
-      stays_if S (is_same_box a b) _ _ (λ _. stays_same S) (λ _. stays_unless S (read_trouble S b)
+      stays_if S (has_same_id a b) _ _ (λ _. stays_same S) (λ _. stays_unless S (read_trouble S b)
       (pointed S a b (own_cell S a) (reach S b) (found S (reach S b))) (λ _. stays_point S a b s))
   act_stays S (CanRead b) f s new spared = stays_same S
   act_stays S (CanWrite b) f s new spared = stays_same S

@@ -13,10 +13,10 @@ use Rattle.generational_box.specs.Cells.{Content, Cell, content_of, refilled}
 use Rattle.generational_box.specs.Cells.Content.{Here, Lent}
 use Rattle.generational_box.specs.Cells.Cell.{Value, Shared, Ref}
 use Rattle.generational_box.specs.State.{State, Holding, IsSound}
-use Rattle.generational_box.specs.Boxes.{name_of}
+use Rattle.generational_box.specs.Boxes.{name_of, has_same_id}
 use Rattle.generational_box.specs.Borrowing.{Trouble, Guard, content_at, reach}
 use Rattle.generational_box.specs.Borrowing.{read_trouble, filled}
-use Rattle.generational_box.specs.Borrowing.{write_trouble, is_same_box}
+use Rattle.generational_box.specs.Borrowing.{write_trouble}
 use Rattle.generational_box.specs.Ending.{swept, without, close, hindered, hindrance_at}
 use Rattle.generational_box.specs.Machine.{Action, Answer, Fresh, Outcome, OwnerName, act, born}
 use Rattle.generational_box.specs.Machine.{listed, unless, is_known, referred, found, contents}
@@ -273,7 +273,7 @@ module _ {T : Type 0} where
   act_keeps S (End b) f m s new = kept_unless _ m S (hindered S (own_name S b)) _
       (kept_close _ m S (own_name S b))
   act_keeps S (Point a b) f m s new =
-      kept_if _ m S (is_same_box a b) _ _ (λ _. kept_same _ m refl)
+      kept_if _ m S (has_same_id a b) _ _ (λ _. kept_same _ m refl)
       (λ _. kept_unless _ m S (read_trouble S b) _ (kept_point _ m S a b))
   act_keeps S (CanRead b) f m s new = kept_same _ m refl
   act_keeps S (CanWrite b) f m s new = kept_same _ m refl

@@ -1,19 +1,15 @@
 -- What a box reaches, and how a borrow of it is answered.
-use Rattle.std.specs.Prelude.{ℕ, ◌+◌, Bool, if◌then◌else◌, nat_eq, ◌&&◌, List, [], ◌∷◌}
+use Rattle.std.specs.Prelude.{ℕ, ◌+◌, Bool, if◌then◌else◌, nat_eq, List, [], ◌∷◌}
 use Rattle.std.specs.Prelude.{Option, None, Some, map as list_map}
 use Rattle.std.specs.FinMap as map
 use Rattle.generational_box.specs.declared.error.Location.{Location}
 use Rattle.generational_box.specs.declared.boxes.GenerationalPointer.{GenerationalPointer}
-use Rattle.generational_box.specs.Names.{Name, is_name, changed}
+use Rattle.generational_box.specs.Names.{Name, changed}
 use Rattle.generational_box.specs.Cells.{Content, Cell, content_of, refilled}
 use Rattle.generational_box.specs.Cells.Content.{Here, Lent}
 use Rattle.generational_box.specs.Cells.Cell.{Value, Shared, Ref}
 use Rattle.generational_box.specs.State.{State}
 use Rattle.generational_box.specs.Boxes.{name_of}
-
--- whether two boxes are the same, wherever they were made
-abbrev pub is_same_box : GenerationalPointer → GenerationalPointer → Bool
-is_same_box a b = nat_eq a.id.store b.id.store && is_name (name_of a) (name_of b)
 
 -- Why a borrow is refused: the value is gone (with the location at which the box was made), it is
 -- being written (with the writer's location), or read (with the readers' locations in order).

@@ -15,8 +15,8 @@ use Rattle.generational_box.specs.Cells.{Content, Cell}
 use Rattle.generational_box.specs.Cells.Content.{Here, Lent}
 use Rattle.generational_box.specs.Cells.Cell.{Value, Shared, Ref}
 use Rattle.generational_box.specs.State.{State, Holding}
-use Rattle.generational_box.specs.Boxes.{name_of, box_of}
-use Rattle.generational_box.specs.Borrowing.{Trouble, Guard, is_same_box, reach, content_at}
+use Rattle.generational_box.specs.Boxes.{name_of, box_of, has_same_id}
+use Rattle.generational_box.specs.Borrowing.{Trouble, Guard, reach, content_at}
 use Rattle.generational_box.specs.Borrowing.{read_trouble, write_trouble, filled, stamped}
 use Rattle.generational_box.specs.Borrowing.Trouble.{Dropped}
 use Rattle.generational_box.specs.Ending.{swept, close, hindered, hindrance_at}
@@ -251,7 +251,7 @@ module _ {T : Type 0} where
   act S (SetValue b v) f = set_at S v (reach S b) (contents S (reach S b))
   act S (End b) f = unless (hindered S (own_name S b)) S (Done, close S (own_name S b))
   act S (Point a b) f =
-      if is_same_box a b
+      if has_same_id a b
       then (Done, S)
       else unless (read_trouble S b) S
       (pointed S a b (own_cell S a) (reach S b) (found S (reach S b)))

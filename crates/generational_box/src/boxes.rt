@@ -137,13 +137,44 @@ impl<T> fmt::Debug for GenerationalBox<T> {
 
 impl<T> GenerationalBox<T> {
     ghost use Rattle.std.specs.Prelude.{◌≡◌};
-    ghost use Rattle.generational_box.specs.Boxes.{pointer_of};
+    ghost use Rattle.generational_box.specs.Boxes.{pointer_of, has_same_id};
 
     /// The box without its element type, as a recorded call names it.
     pub fn pointer(&self) -> GenerationalPointer
         ensures { result ≡ pointer_of self.now }
     {
         self.raw
+    }
+
+    /// The box's id, which outlives its cell. Looks at no store, and takes no memory.
+    pub fn id(&self) -> GenerationalBoxId
+        ensures { result ≡ (pointer_of self.now).id }
+    {
+        self.raw.id
+    }
+
+    /// The number of the box's slot in its store. Looks at no store, and takes no memory.
+    ///
+    /// Other boxes have had this slot, and others will: only the whole id tells boxes apart.
+    pub fn raw_ptr(&self) -> usize
+        ensures { result ≡ (pointer_of self.now).id.slot }
+    {
+        self.raw.id.slot
+    }
+
+    /// Whether both boxes have one id, wherever the two were made. Looks at no store, so ended
+    /// boxes are told apart as well. Takes no memory.
+    pub fn ptr_eq(&self, other: &Self) -> bool
+        ensures { result ≡ has_same_id (pointer_of self.now) (pointer_of other.now) }
+    {
+        self.raw == other.raw
+    }
+
+    /// The location at which the box's cell was made. Looks at no store, and takes no memory.
+    pub fn created_at(&self) -> Location
+        ensures { result ≡ (pointer_of self.now).created_at }
+    {
+        self.raw.created_at
     }
 }
 

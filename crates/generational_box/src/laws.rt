@@ -1,12 +1,12 @@
 //! Laws of the machine, each the contract of a function that does nothing.
 
-ghost use Rattle.std.specs.Prelude.{◌≡◌, ◌≤◌, ◌+◌, true, ℕ, List, [], Some, map as map_list};
+ghost use Rattle.std.specs.Prelude.{◌≡◌, ◌≤◌, ◌+◌, ◌↔◌, true, ℕ, List, [], Some, map as map_list};
 ghost use Rattle.std.specs.FinMap as map;
 ghost use Rattle.generational_box.specs.declared.boxes.GenerationalPointer.{GenerationalPointer};
 ghost use Rattle.generational_box.specs.Names.{Name};
 ghost use Rattle.generational_box.specs.Cells.{is_shared};
 ghost use Rattle.generational_box.specs.State.{State, IsSound, IsLive, IsEnded, IsNamed, fresh};
-ghost use Rattle.generational_box.specs.Boxes.{name_of};
+ghost use Rattle.generational_box.specs.Boxes.{name_of, has_same_id};
 ghost use Rattle.generational_box.specs.Borrowing.{read_trouble, write_trouble};
 ghost use Rattle.generational_box.specs.Borrowing.Trouble.{Dropped};
 ghost use Rattle.generational_box.specs.Machine.{Action, Answer, Fresh, act};
@@ -128,4 +128,14 @@ pub fn replies_depend_on_calls<T>()
     ensures run { (calls : List (Call T)) (replies : List (Said T)) (s r a : SessionState T) →
         Matches s a → IsSound s.state → IsSound a.state → Run s calls replies r →
         map_list erase replies ≡ map_list erase (answers a calls (map_list refusal_in replies)) }
+{}
+
+/// Boxes are told apart by their ids: what `ptr_eq` answers is an equivalence, and it is true
+/// exactly where the ids are one.
+pub fn boxes_are_told_apart_by_ids()
+    ensures itself { (a : GenerationalPointer) → has_same_id a a ≡ true }
+    ensures turned { (a b : GenerationalPointer) → has_same_id a b ≡ has_same_id b a }
+    ensures onward { (a b c : GenerationalPointer) →
+        has_same_id a b ≡ true → has_same_id b c ≡ true → has_same_id a c ≡ true }
+    ensures ids { (a b : GenerationalPointer) → (has_same_id a b ≡ true) ↔ (a.id ≡ b.id) }
 {}

@@ -48,6 +48,10 @@ pub trait SlotPool: Drop {
     /// For how many slots there is room.
     fn room(&self) -> usize
         ensures { result ≡ rooms self.now };
+
+    /// How many free slots there are.
+    fn len(&self) -> usize
+        ensures { result ≡ set.len (members self.now) };
 }
 
 /// Takes the slot that was put last. Contracts see it as the slots, the last one first, and the
@@ -106,6 +110,10 @@ impl SlotPool for LastFirst {
     #[inline(always)]
     fn room(&self) -> usize {
         self.room
+    }
+
+    fn len(&self) -> usize {
+        self.slots.len()
     }
 }
 

@@ -1,7 +1,8 @@
 //! What every store does.
 
-ghost use Rattle.std.specs.Prelude.{◌≡◌, ◌↔◌, IsTrue, IfErr, None, option_copied};
+ghost use Rattle.std.specs.Prelude.{◌≡◌, ◌-◌, ◌↔◌, IsTrue, IfErr, None, option_copied};
 ghost use Rattle.generational_box.specs.State.{State, IsFresh};
+ghost use Rattle.generational_box.specs.Slots.{slots, free, retired};
 ghost use Rattle.generational_box.specs.Machine.Action.{Make, NewOwner, CloneOwner, ReleaseOwner, Read, Write, ReleaseReader, ReleaseWriter, End};
 ghost use Rattle.generational_box.specs.Machine.Answer.{Flag};
 ghost use Rattle.generational_box.specs.Steps.{Meets};
@@ -31,6 +32,33 @@ pub trait AnyStorage<T> {
     /// Whether nothing was ever made in the store.
     fn is_fresh(&self) -> bool
         ensures { IsTrue result ↔ IsFresh (state self.now) };
+
+    /// How many slots were ever made: each is live, free or retired. Takes no memory.
+    fn slots(&self) -> usize
+        ensures { result ≡ slots (state self.now) };
+
+    /// How many slots have no live cell and may be used again. Takes no memory.
+    fn free(&self) -> usize
+        ensures { result ≡ free (state self.now) };
+
+    /// How many slots are never used again, since their last cell had the last generation and has
+    /// ended. Takes no memory.
+    fn retired(&self) -> usize
+        ensures { result ≡ retired (state self.now) };
+
+    /// The most cells that were live at once. Takes no memory.
+    fn peak_live(&self) -> usize
+        ensures { result ≡ (state self.now).peak };
+
+    /// How many tickets are left: each owner, each owner's clone and each borrow takes one. Takes
+    /// no memory.
+    fn tickets_left(&self) -> u64
+        ensures { result ≡ 18446744073709551615 - (state self.now).next };
+
+    /// The number of the slot that the pointer names. Looks at no slot: the cell may have ended,
+    /// or be of another store. Takes no memory.
+    fn data_ptr(&self, pointer: GenerationalPointer) -> usize
+        ensures { result ≡ pointer.id.slot };
 
     /// Whether the call would be answered without telling of a borrow in its way: a read meets no
     /// writer, and an end no borrow of a value that would end. Takes no memory.

@@ -442,6 +442,30 @@ impl<T: Drop, P: SlotPool> AnyStorage<T> for Store<T, P> {
         self.slots.is_empty() && self.owners.is_empty()
     }
 
+    fn slots(&self) -> usize {
+        self.slots.len()
+    }
+
+    fn free(&self) -> usize {
+        self.pool.len()
+    }
+
+    fn retired(&self) -> usize {
+        self.slots.len() - self.live - self.pool.len()
+    }
+
+    fn peak_live(&self) -> usize {
+        self.peak
+    }
+
+    fn tickets_left(&self) -> u64 {
+        u64::MAX - self.next
+    }
+
+    fn data_ptr(&self, pointer: GenerationalPointer) -> usize {
+        pointer.id.slot
+    }
+
     fn owner(&mut self) -> Result<Owner, StoreError> {
         let key = self.next;
         if key == u64::MAX {

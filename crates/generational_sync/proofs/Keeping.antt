@@ -186,7 +186,7 @@ module _ {T : Type 0} where
     pub box_own : (v : T) (l : Location) (b : GenerationalPointer)
         → Meets S (Make None v l) (Made b) R → (b.id.store ≡ number) × (b.created_at ≡ l)
     box_own v l b m = (
-      (made_new S R (Make None v l) b m).number ∙ (replay_kept number log.steps (plain S) kept.0).1,
+      (made_new S R (Make None v l) b m).0 ∙ (replay_kept number log.steps (plain S) kept.0).1,
       at m,
     )
       where
