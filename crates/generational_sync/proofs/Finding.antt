@@ -13,7 +13,7 @@ use Rattle.generational_box.specs.Cells.Content.{Here, Lent}
 use Rattle.generational_box.specs.State.{IsSound, tickets_of}
 use Rattle.generational_box.specs.Borrowing.{content_at}
 use Rattle.generational_box.specs.Machine.{has_reader}
-use Rattle.generational_box.proofs.Maps.{name_total, name_exact, key_same}
+use Rattle.generational_box.proofs.Maps.{by_name, key_same}
 use Rattle.generational_box.proofs.Named.{passes_both}
 use Rattle.generational_sync.specs.History.{Plain, first_name, reader_cell}
 
@@ -60,6 +60,6 @@ reader_found P m t s h =
     s.one_cell n m t (reader_stands (content_at P n) t e) (reader_stands (content_at P m) t h))
     (map.keys P.cells)
     (passes_both test (eq_by_cmp name_cmp m)
-    (λ n e. ap test (sym (key_same name_total name_exact m n e)) ∙ h)
+    (λ n e. ap test (sym (key_same by_name m n e)) ∙ h)
     (map.keys P.cells)
     (sym (map.contains_key-keys P.cells m) ∙ reader_live (map.get P.cells m) t h))
