@@ -1,8 +1,8 @@
 -- Ends in a store whose cells are Values, as steps of the machine.
-use Rattle.std.proofs.Common.{◌≡◌, ◌≢◌, ℕ, Bool, true, false, cond, List, [], ◌∷◌}
+use Rattle.std.proofs.Common.{◌≡◌, Bool, true, false, cond, List, [], ◌∷◌}
 use Rattle.std.proofs.Common.{Option, None, Some, refl, sym, ap, ◌∙◌, inl, inr, Err}
 use Rattle.std.specs.Prelude.{is_some, not, nat_eq, ◌||◌}
-use Rattle.std.proofs.lemmas.Bool.{true≢false, false≢true, eqb-true}
+use Rattle.std.proofs.lemmas.Bool.{false≢true}
 use Rattle.std.specs.FinMap as map
 use Rattle.generational_box.specs.declared.error.Location.{Location}
 use Rattle.generational_box.specs.declared.error.StoreError.TheVariants.{OutOfMemory, NumbersExhausted, UnknownOwner}
@@ -10,7 +10,7 @@ use Rattle.generational_box.specs.declared.error.BorrowMutError.{BorrowMutError}
 use Rattle.generational_box.specs.declared.error.Refused.{Refused}
 use Rattle.generational_box.specs.declared.error.Refused.TheVariants as refused
 use Rattle.generational_box.specs.declared.boxes.GenerationalPointer.{GenerationalPointer}
-use Rattle.generational_box.specs.Names.{Name, is_name, among, NameMap}
+use Rattle.generational_box.specs.Names.{Name, is_name, among}
 use Rattle.generational_box.specs.Cells.{Content, Cell, content_of, is_shared}
 use Rattle.generational_box.specs.Cells.Cell.{Value}
 use Rattle.generational_box.specs.Boxes.{name_of}
@@ -27,7 +27,6 @@ use Rattle.generational_box.specs.Entry.Kept.{Empty, Live}
 use Rattle.generational_box.specs.Answers.{trouble_of, end_refused}
 use Rattle.generational_box.specs.Slotted.{own_cell_at, cell_of, OnlyValues}
 use Rattle.generational_box.proofs.Maps.{by_name, name_exact, name_total, name_same, get-keep, get-remove_here}
-use Rattle.generational_box.proofs.SlotCells.{cond_same}
 
 module _ {T : Type 0} (S : State T) (values : OnlyValues S) where
   without_get : (names : List Name) (q : Name)

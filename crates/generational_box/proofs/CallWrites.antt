@@ -1,8 +1,8 @@
 -- Writes in a store whose cells are Values, as steps of the machine.
-use Rattle.std.proofs.Common.{◌≡◌, ℕ, ◌+◌, ◌-◌, ◌^◌, ◌<◌, Bool, true, false, cond, ◌&&◌, List, [], ◌∷◌}
+use Rattle.std.proofs.Common.{◌≡◌, ℕ, ◌-◌, ◌^◌, ◌<◌, Bool, true, false, cond, ◌&&◌, [], ◌∷◌}
 use Rattle.std.proofs.Common.{Option, None, Some, Result, Ok, Err, IsTrue, refl, sym, ap, subst, ◌∙◌, arith, inl, inr}
 use Rattle.std.specs.Prelude.{nat_eq, is_ok, IfErr, OnOk}
-use Rattle.std.proofs.lemmas.Bool.{false≢true, true≢false, eq-eqb, ne_eqb, false_from_ne_true}
+use Rattle.std.proofs.lemmas.Bool.{false≢true, eq-eqb, ne_eqb, false_from_ne_true}
 use Rattle.std.specs.FinMap as map
 use Rattle.generational_box.specs.declared.error.Location.{Location}
 use Rattle.generational_box.specs.declared.error.BorrowMutError.{BorrowMutError}
@@ -11,7 +11,7 @@ use Rattle.generational_box.specs.declared.error.Refused.{Refused}
 use Rattle.generational_box.specs.declared.error.Refused.TheVariants as refused
 use Rattle.generational_box.specs.declared.boxes.GenerationalBoxId.{GenerationalBoxId}
 use Rattle.generational_box.specs.declared.boxes.GenerationalPointer.{GenerationalPointer}
-use Rattle.generational_box.specs.Cells.{Content, Cell, content_of}
+use Rattle.generational_box.specs.Cells.{Content, content_of}
 use Rattle.generational_box.specs.Cells.Content.{Here, Lent}
 use Rattle.generational_box.specs.Cells.Cell.{Value}
 use Rattle.generational_box.specs.Boxes.{name_of, name_in}

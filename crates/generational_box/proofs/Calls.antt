@@ -1,7 +1,7 @@
 -- The calls of a store whose cells are Values, as steps of the machine.
-use Rattle.std.proofs.Common.{◌≡◌, ◌≢◌, ℕ, ◌+◌, ◌-◌, ◌^◌, ◌<◌, Bool, true, false, cond, ◌&&◌, List, [], ◌∷◌}
+use Rattle.std.proofs.Common.{◌≡◌, ℕ, ◌-◌, ◌^◌, ◌<◌, Bool, true, false, cond, ◌&&◌, List, [], ◌∷◌}
 use Rattle.std.proofs.Common.{Option, None, Some, refl, sym, ap, subst, ◌∙◌, arith, inl, inr, ⊎_elim}
-use Rattle.std.specs.Prelude.{is_some, not, nat_eq, ◌||◌}
+use Rattle.std.specs.Prelude.{not, nat_eq, ◌||◌}
 use Rattle.std.specs.List.{list_any, filter}
 use Rattle.std.proofs.lemmas.Bool.{true≢false, false≢true, eq-eqb, eqb-true, ne_eqb}
 use Rattle.std.specs.FinMap as map
@@ -10,23 +10,22 @@ use Rattle.generational_box.specs.declared.error.StoreError.TheVariants.{OutOfMe
 use Rattle.generational_box.specs.declared.entry.Borrow.{Borrow}
 use Rattle.generational_box.specs.declared.boxes.GenerationalBoxId.{GenerationalBoxId}
 use Rattle.generational_box.specs.declared.boxes.GenerationalPointer.{GenerationalPointer}
-use Rattle.generational_box.specs.Names.{Name, is_name, among, NameMap, changed}
-use Rattle.generational_box.specs.Cells.{Content, Cell, content_of, is_shared, refilled}
+use Rattle.generational_box.specs.Names.{Name, changed}
+use Rattle.generational_box.specs.Cells.{Content, Cell, content_of, refilled}
 use Rattle.generational_box.specs.Cells.Content.{Here, Lent}
 use Rattle.generational_box.specs.Cells.Cell.{Value, Shared, Ref}
 use Rattle.generational_box.specs.Boxes.{name_of, name_in}
 use Rattle.generational_box.specs.State.{State}
-use Rattle.generational_box.specs.Borrowing.{Trouble, Guard, reach, reached, read_trouble, read_refusal, write_refusal, content_at, filled}
-use Rattle.generational_box.specs.Borrowing.Trouble.{Dropped, BeingRead}
-use Rattle.generational_box.specs.Ending.{swept, without, left_by, close, hindered}
-use Rattle.generational_box.specs.Machine.{act, read_at, next_guard, contents, own_name, own_cell, knows_reader, has_reader, without_reader, unless, Outcome}
-use Rattle.generational_box.specs.Machine.Action.{Read, ReleaseReader, End}
-use Rattle.generational_box.specs.Machine.Answer.{Reads, Done, Flag, Troubled, Refused}
-use Rattle.generational_box.specs.Steps.{Meets, limited, no_names, has_readers, is_reader, is_being_read, answer_to, may_lack}
+use Rattle.generational_box.specs.Borrowing.{Trouble, Guard, reach, reached, read_trouble, read_refusal, content_at, filled}
+use Rattle.generational_box.specs.Borrowing.Trouble.{Dropped}
+use Rattle.generational_box.specs.Machine.{act, read_at, next_guard, contents, knows_reader, has_reader, without_reader, unless}
+use Rattle.generational_box.specs.Machine.Action.{Read, ReleaseReader}
+use Rattle.generational_box.specs.Machine.Answer.{Reads, Flag, Troubled, Refused}
+use Rattle.generational_box.specs.Steps.{Meets, limited, no_names, has_readers, is_reader, answer_to}
 use Rattle.generational_box.specs.Entry.{Kept, content_in, is_live}
 use Rattle.generational_box.specs.Entry.Kept.{Empty, Live}
 use Rattle.generational_box.specs.Slotted.{own_cell_at, cell_of}
-use Rattle.generational_box.proofs.Maps.{by_name, name_exact, name_total, name_here, name_same, get-keep, changed_view}
+use Rattle.generational_box.proofs.Maps.{by_name, name_exact, name_total, changed_view}
 
 -- a list without the ticket stays as it is
 nothing_left : (t : ℕ) (rs : List Borrow) → list_any (λ r. nat_eq r.ticket t) rs ≡ false

@@ -1,19 +1,19 @@
 -- What ends when the boxes of an owner end, in a store whose cells are Values.
-use Rattle.std.proofs.Common.{◌≡◌, ℕ, Bool, true, false, cond, List, [], ◌∷◌, ◌++◌, Option, None, Some, refl, sym, ap, subst, ◌∙◌}
-use Rattle.std.specs.Prelude.{is_some, not, nat_eq, ◌||◌, ◌&&◌}
+use Rattle.std.proofs.Common.{◌≡◌, Bool, true, false, cond, List, [], ◌∷◌, ◌++◌, Option, None, Some, refl, sym, ap, ◌∙◌}
+use Rattle.std.specs.Prelude.{is_some, not, ◌||◌}
 use Rattle.std.proofs.lemmas.Bool.{eq-eqb, true≢false, false≢true}
 use Rattle.std.specs.FinMap as map
 use Rattle.generational_box.specs.declared.boxes.GenerationalBoxId.{GenerationalBoxId}
 use Rattle.generational_box.specs.Names.{Name, NameMap, is_name, among}
-use Rattle.generational_box.specs.Cells.{Content, Cell, content_of, is_shared}
+use Rattle.generational_box.specs.Cells.{Cell, content_of, is_shared}
 use Rattle.generational_box.specs.Cells.Cell.{Value, Shared, Ref}
 use Rattle.generational_box.specs.Boxes.{name_in}
 use Rattle.generational_box.specs.State.{State}
-use Rattle.generational_box.specs.Borrowing.{Trouble, write_refusal}
-use Rattle.generational_box.specs.Ending.{without, left_by, close, hindered, hindrance_of, first_hindrance, or_else}
+use Rattle.generational_box.specs.Borrowing.{write_refusal}
+use Rattle.generational_box.specs.Ending.{left_by, hindered, hindrance_of, first_hindrance, or_else}
 use Rattle.generational_box.specs.Records.{first_borrowed}
 use Rattle.generational_box.specs.Slotted.{own_cell_at, is_value, OnlyValues}
-use Rattle.generational_box.proofs.Maps.{by_name, name_total, name_exact, name_here, name_same}
+use Rattle.generational_box.proofs.Maps.{name_total, name_exact, name_here}
 use Rattle.generational_box.proofs.CallEnds.{left_get, left_none, removed_none}
 
 module _ {T : Type 0} (S : State T) where

@@ -1,5 +1,5 @@
 -- The boxes of an owner, looked at in turn.
-use Rattle.std.proofs.Common.{◌≡◌, ℕ, ◌+◌, ◌<◌, zero, suc, List, [], ◌∷◌, length, drop, slice_index_or, Option, None, Some, Err, refl, sym, ap, subst, ◌∙◌, arith}
+use Rattle.std.proofs.Common.{◌≡◌, ℕ, ◌+◌, ◌<◌, zero, suc, List, [], ◌∷◌, length, drop, slice_index_or, Option, None, Some, Err, refl, sym, ap, ◌∙◌, arith}
 use Rattle.std.specs.Prelude.{map as list_map, slice_get}
 use Rattle.std.specs.FinMap as map
 use Rattle.generational_box.specs.declared.error.Refused.{Refused}

@@ -1,10 +1,10 @@
 -- What the begin and the end of a read do to the slots.
-use Rattle.std.proofs.Common.{◌≡◌, ◌≢◌, ℕ, ◌+◌, ◌<◌, Bool, true, false, cond, ◌&&◌, List, [], ◌∷◌, ◌++◌, length}
-use Rattle.std.proofs.Common.{Option, None, Some, IsSome, IfSome, refl, sym, ap, subst, ◌∙◌, arith, ⊎_elim, slice_get, slice_set}
-use Rattle.std.specs.Prelude.{is_some, not, nat_eq, ◌||◌}
+use Rattle.std.proofs.Common.{◌≡◌, ◌≢◌, ℕ, ◌+◌, ◌<◌, Bool, true, cond, List, [], ◌∷◌, ◌++◌, length}
+use Rattle.std.proofs.Common.{Option, None, Some, IfSome, refl, sym, ap, subst, ◌∙◌, ⊎_elim, slice_get, slice_set}
+use Rattle.std.specs.Prelude.{is_some, not, nat_eq}
 use Rattle.std.specs.Ordering.{nat_cmp}
-use Rattle.std.specs.List.{list_any, filter}
-use Rattle.std.proofs.lemmas.Bool.{true≢false, false≢true, cases_eq, eq-eqb}
+use Rattle.std.specs.List.{filter}
+use Rattle.std.proofs.lemmas.Bool.{false≢true, cases_eq, eq-eqb}
 use Rattle.std.proofs.lemmas.List.{length-set}
 use Rattle.std.proofs.lemmas.Option.{slice_get_within}
 use Rattle.std.specs.FinMap as map
@@ -12,19 +12,19 @@ use Rattle.std.specs.FinSet as set
 use Rattle.generational_box.specs.declared.error.Location.{Location}
 use Rattle.generational_box.specs.declared.entry.Borrow.{Borrow}
 use Rattle.generational_box.specs.declared.boxes.GenerationalBoxId.{GenerationalBoxId}
-use Rattle.generational_box.specs.Names.{Name, changed}
-use Rattle.generational_box.specs.Cells.{Content, Cell, content_of, refilled}
+use Rattle.generational_box.specs.Names.{Name}
+use Rattle.generational_box.specs.Cells.{Content, Cell, refilled}
 use Rattle.generational_box.specs.Cells.Content.{Here, Lent}
 use Rattle.generational_box.specs.Cells.Cell.{Value}
 use Rattle.generational_box.specs.Boxes.{name_in}
 use Rattle.generational_box.specs.State.{State, Owners}
 use Rattle.generational_box.specs.Borrowing.{content_at, filled}
 use Rattle.generational_box.specs.Steps.{has_readers}
-use Rattle.generational_box.specs.Machine.{read_at, next_borrow, has_reader, without_reader}
+use Rattle.generational_box.specs.Machine.{read_at, has_reader, without_reader}
 use Rattle.generational_box.specs.Entry.{Entry, Kept, with_reader, without_reader_in, content_in}
 use Rattle.generational_box.specs.Entry.Kept.{Live}
 use Rattle.generational_box.specs.Slotted.{cell_of, cells_of, state_of, entry_changed, own_cell_at, is_here, is_reusable, HasBegun, IsSlotted}
-use Rattle.generational_box.proofs.Maps.{by_name, name_exact, name_total, changed_there}
+use Rattle.generational_box.proofs.Maps.{by_name, name_total, changed_there}
 use Rattle.generational_box.proofs.SliceGet.{get-set_same, get-set_other, set-own}
 use Rattle.generational_box.proofs.SlotCells.{get_own, cells-changed}
 use Rattle.generational_box.proofs.SlotFound.{IsFound, found, found_name, found_content, state-filled}

@@ -1,10 +1,10 @@
 -- How many slots there are, which of them are free, and how many cells are live.
-use Rattle.std.proofs.Common.{◌≡◌, ◌≢◌, ℕ, zero, suc, ◌+◌, ◌-◌, ◌<◌, ◌≤◌, Bool, true, false, cond, ◌&&◌, leb, ltb}
+use Rattle.std.proofs.Common.{◌≡◌, ◌≢◌, ℕ, zero, suc, ◌+◌, ◌-◌, ◌≤◌, Bool, true, false, cond, ◌&&◌, leb}
 use Rattle.std.proofs.Common.{List, [], ◌∷◌, length, Option, None, Some, refl, sym, ap, subst, ◌∙◌, arith, ⊎_elim, inl, inr, slice_get}
-use Rattle.std.specs.Prelude.{is_some, not, nat_eq, nat_lt, option_map, unwrap_or, ◌⊎◌}
+use Rattle.std.specs.Prelude.{is_some, not, nat_lt, option_map, unwrap_or}
 use Rattle.std.specs.Ordering.{nat_cmp}
 use Rattle.std.specs.Cmp.{nat_cmp_total}
-use Rattle.std.proofs.lemmas.Bool.{true≢false, false≢true, and_from, and_parts, leb-true, le-leb, lt-ltb, ltb-true, le-ltb, eq-eqb, cases_Bool, not_from_false, cases_eq, false_from_ne_true}
+use Rattle.std.proofs.lemmas.Bool.{true≢false, and_from, and_parts, leb-true, le-leb, lt-ltb, le-ltb, cases_eq}
 use Rattle.std.proofs.lemmas.Bool.Decides.{nat_tests}
 use Rattle.std.proofs.lemmas.Option.{slice_get_past, slice_get_within, slice_get_cases}
 use Rattle.std.specs.FinMap as map
@@ -13,12 +13,12 @@ use Rattle.std.specs.FinSet as set
 use Rattle.generational_box.specs.Names.{Name, name_cmp}
 use Rattle.generational_box.specs.Cells.{Cell}
 use Rattle.generational_box.specs.State.{State, Owners}
-use Rattle.generational_box.specs.Slots.{lasts, slots_of, is_free, slots, free, Fits, last_name, last_generation}
+use Rattle.generational_box.specs.Slots.{slots_of, is_free, slots, free, last_name, last_generation}
 use Rattle.generational_box.specs.Steps.{IsNew}
 use Rattle.generational_box.specs.Entry.{Entry, Kept, is_live}
 use Rattle.generational_box.specs.Entry.Kept.{Empty, Live}
-use Rattle.generational_box.specs.Slotted.{cell_of, with_cell, live_from, cells_of, given_of, state_of, is_reusable, HasBegun, IsSlotted}
-use Rattle.generational_box.proofs.Maps.{by_number, name_exact, name_total, get-keep, get-remove_here, get-remove_apart}
+use Rattle.generational_box.specs.Slotted.{cell_of, with_cell, live_from, cells_of, state_of, is_reusable, HasBegun}
+use Rattle.generational_box.proofs.Maps.{by_number, name_total, get-keep, get-remove_here, get-remove_apart}
 use Rattle.generational_box.proofs.Lasts.{IsIn, IsLast, get_lasts, one_last}
 use Rattle.generational_box.proofs.SlotCells.{get_own, cond_same}
 use Rattle.generational_box.proofs.SlotNames.{get_given}

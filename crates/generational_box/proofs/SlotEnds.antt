@@ -1,23 +1,21 @@
 -- What an end does to the slots.
-use Rattle.std.proofs.Common.{◌≡◌, ◌≢◌, ℕ, ◌+◌, ◌-◌, ◌<◌, ◌≤◌, Bool, true, false, cond, ◌&&◌, List, length}
-use Rattle.std.proofs.Common.{Option, None, Some, refl, sym, ap, subst, ◌∙◌, arith, ⊎_elim, slice_get, slice_set}
-use Rattle.std.specs.Prelude.{is_some, not, nat_eq, nat_lt}
+use Rattle.std.proofs.Common.{◌≡◌, ◌≢◌, ℕ, ◌-◌, ◌<◌, ◌≤◌, Bool, true, false, cond, List}
+use Rattle.std.proofs.Common.{refl, sym, ap, subst, ◌∙◌, arith, ⊎_elim, slice_get, slice_set}
+use Rattle.std.specs.Prelude.{is_some, nat_lt}
 use Rattle.std.specs.Ordering.{nat_cmp}
-use Rattle.std.specs.Cmp.{nat_cmp_total}
 use Rattle.std.proofs.lemmas.Bool.{true≢false, cases_eq, lt-ltb, le-ltb}
 use Rattle.std.proofs.lemmas.List.{length-set}
 use Rattle.std.specs.FinMap as map
-use Rattle.std.specs.FinMap.{nat_cmp-IsAntisymmetric}
 use Rattle.std.specs.FinSet as set
 use Rattle.generational_box.specs.declared.boxes.GenerationalBoxId.{GenerationalBoxId}
 use Rattle.generational_box.specs.Names.{Name}
 use Rattle.generational_box.specs.Boxes.{name_in}
 use Rattle.generational_box.specs.State.{State, Owners}
 use Rattle.generational_box.specs.Slots.{last_generation}
-use Rattle.generational_box.specs.Entry.{Entry, Kept}
-use Rattle.generational_box.specs.Entry.Kept.{Empty, Live}
+use Rattle.generational_box.specs.Entry.{Entry}
+use Rattle.generational_box.specs.Entry.Kept.{Empty}
 use Rattle.generational_box.specs.Slotted.{cell_of, cells_of, state_of, entry_changed, is_reusable, HasBegun, IsSlotted}
-use Rattle.generational_box.proofs.Maps.{by_number, name_exact, name_total, contains-insert_here, contains-insert_apart}
+use Rattle.generational_box.proofs.Maps.{by_number, name_total, contains-insert_here, contains-insert_apart}
 use Rattle.generational_box.proofs.SliceGet.{get-set_same, get-set_other}
 use Rattle.generational_box.proofs.SlotCells.{get_own, cells-ended}
 use Rattle.generational_box.proofs.SlotNames.{given-set}

@@ -1,26 +1,20 @@
 -- The slot of a live cell, and what a change of its content is in the machine.
-use Rattle.std.proofs.Common.{◌≡◌, ◌≢◌, ℕ, ◌+◌, ◌<◌, Bool, true, false, cond, ◌&&◌, List, [], ◌∷◌, ◌++◌, length}
-use Rattle.std.proofs.Common.{Option, None, Some, IsSome, IfSome, refl, sym, ap, subst, ◌∙◌, arith, ⊎_elim, slice_get, slice_set}
-use Rattle.std.specs.Prelude.{is_some, not, nat_eq, option_copied}
-use Rattle.std.specs.List.{list_any, filter}
+use Rattle.std.proofs.Common.{◌≡◌, ℕ, Bool, true, false, cond, ◌&&◌, List}
+use Rattle.std.proofs.Common.{Option, None, Some, refl, sym, ap, ◌∙◌, slice_get, slice_set}
+use Rattle.std.specs.Prelude.{is_some, nat_eq}
 use Rattle.std.specs.Cmp.{nat_eq_equiv}
-use Rattle.std.proofs.lemmas.Bool.{true≢false, false≢true, eqb-true, eq-eqb, and_parts}
-use Rattle.std.proofs.lemmas.Option.{slice_get_within}
+use Rattle.std.proofs.lemmas.Bool.{false≢true, eqb-true}
 use Rattle.std.specs.FinMap as map
 use Rattle.generational_box.specs.declared.error.Location.{Location}
-use Rattle.generational_box.specs.declared.entry.Borrow.{Borrow}
 use Rattle.generational_box.specs.declared.boxes.GenerationalBoxId.{GenerationalBoxId}
-use Rattle.generational_box.specs.Names.{Name, changed}
-use Rattle.generational_box.specs.Cells.{Content, Cell, content_of, refilled}
-use Rattle.generational_box.specs.Cells.Content.{Here, Lent}
-use Rattle.generational_box.specs.Cells.Cell.{Value}
+use Rattle.generational_box.specs.Names.{changed}
+use Rattle.generational_box.specs.Cells.{Content, content_of, refilled}
 use Rattle.generational_box.specs.Boxes.{name_in}
 use Rattle.generational_box.specs.State.{State, Owners}
-use Rattle.generational_box.specs.Borrowing.{content_at, filled, stamped}
-use Rattle.generational_box.specs.Machine.{read_at, next_borrow, has_reader, without_reader}
-use Rattle.generational_box.specs.Entry.{Entry, Kept, is_live, valid_at, with_reader, without_reader_in, content_in}
+use Rattle.generational_box.specs.Borrowing.{filled}
+use Rattle.generational_box.specs.Entry.{Entry, Kept, is_live}
 use Rattle.generational_box.specs.Entry.Kept.{Empty, Live}
-use Rattle.generational_box.specs.Slotted.{cell_of, cell_in, cells_of, given_of, state_of, entry_in, entry_changed, cell_found, own_cell_at, is_here}
+use Rattle.generational_box.specs.Slotted.{cell_of, cell_in, cells_of, state_of, entry_in, entry_changed, cell_found, own_cell_at}
 use Rattle.generational_box.proofs.SlotCells.{get_cells, get_own, cells-changed}
 use Rattle.generational_box.proofs.SlotNames.{given-set}
 

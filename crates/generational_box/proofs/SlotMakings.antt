@@ -1,20 +1,18 @@
 -- What a making does to the slots.
-use Rattle.std.proofs.Common.{◌≡◌, ◌≢◌, ℕ, ◌+◌, ◌-◌, ◌<◌, ◌≤◌, Bool, true, false, cond, ◌&&◌, List, [], ◌∷◌, ◌++◌, length}
+use Rattle.std.proofs.Common.{◌≡◌, ◌≢◌, ℕ, ◌+◌, ◌<◌, ◌≤◌, true, false, cond, ◌&&◌, List, [], ◌∷◌, ◌++◌, length}
 use Rattle.std.proofs.Common.{Option, None, Some, IfSome, refl, sym, ap, subst, ◌∙◌, arith, ⊎_elim, inl, inr, slice_get, slice_set, length-append}
 use Rattle.std.specs.Prelude.{is_some, not, nat_eq, nat_lt, max}
 use Rattle.std.specs.Ordering.{nat_cmp}
 use Rattle.std.specs.Cmp.{nat_cmp_total}
-use Rattle.std.proofs.lemmas.Bool.{true≢false, false≢true, cases_eq, lt-ltb, le-ltb, and_parts, ltb-true}
+use Rattle.std.proofs.lemmas.Bool.{false≢true, cases_eq, and_parts, ltb-true}
 use Rattle.std.proofs.lemmas.List.{length-set}
 use Rattle.std.proofs.lemmas.Option.{slice_get_past, slice_get_within}
 use Rattle.std.specs.FinMap as map
-use Rattle.std.specs.FinMap.{nat_cmp-IsAntisymmetric}
 use Rattle.std.specs.FinSet as set
 use Rattle.generational_box.specs.declared.error.Location.{Location}
 use Rattle.generational_box.specs.declared.boxes.GenerationalPointer.{GenerationalPointer}
 use Rattle.generational_box.specs.declared.error.StoreError.TheVariants.{OutOfMemory}
 use Rattle.generational_box.specs.Names.{Name}
-use Rattle.generational_box.specs.Cells.{Cell}
 use Rattle.generational_box.specs.Cells.Content.{Here}
 use Rattle.generational_box.specs.Cells.Cell.{Value}
 use Rattle.generational_box.specs.Boxes.{box_of}
@@ -26,8 +24,8 @@ use Rattle.generational_box.specs.Slots.{last_generation}
 use Rattle.generational_box.specs.Steps.{Meets, IsNew}
 use Rattle.generational_box.specs.Entry.{Entry, Kept, is_live}
 use Rattle.generational_box.specs.Entry.Kept.{Empty, Live}
-use Rattle.generational_box.specs.Slotted.{cell_of, cells_of, given_of, state_of, is_reusable, HasBegun, IsSlotted}
-use Rattle.generational_box.proofs.Maps.{by_number, name_exact, name_total, key_here, key_apart}
+use Rattle.generational_box.specs.Slotted.{cell_of, cells_of, state_of, is_reusable, HasBegun, IsSlotted}
+use Rattle.generational_box.proofs.Maps.{by_number, name_total, key_here, key_apart}
 use Rattle.generational_box.proofs.SliceGet.{get-set_same, get-set_other, get-push_last, get-push_other}
 use Rattle.generational_box.proofs.SlotCells.{cond_same, get_cells, cells-set, cells-push}
 use Rattle.generational_box.proofs.SlotNames.{given-next, given-push}

@@ -1,5 +1,5 @@
 -- How many slots are live, free and retired.
-use Rattle.std.proofs.Common.{◌≡◌, ℕ, ◌+◌, ◌-◌, ◌≤◌, Bool, true, false, cond, List, [], ◌∷◌, length}
+use Rattle.std.proofs.Common.{◌≡◌, ℕ, ◌+◌, ◌≤◌, Bool, true, false, cond, List, [], ◌∷◌, length}
 use Rattle.std.proofs.Common.{Option, None, Some, refl, sym, ap, ◌∙◌, arith, ⊎_elim, slice_get}
 use Rattle.std.specs.Prelude.{is_some, nat_eq, nat_lt, option_map, map as list_map}
 use Rattle.std.specs.Ordering.{nat_cmp, eq_by_cmp}

@@ -1,5 +1,5 @@
 -- What the begin and the end of a write do to the slots.
-use Rattle.std.proofs.Common.{◌≡◌, ℕ, ◌+◌, ◌<◌, Bool, true, false, List, [], ◌∷◌, length}
+use Rattle.std.proofs.Common.{◌≡◌, ℕ, ◌+◌, true, List, []}
 use Rattle.std.proofs.Common.{Option, None, Some, IfSome, refl, sym, ap, ◌∙◌, slice_get}
 use Rattle.std.proofs.Common.{Result, Ok, Err}
 use Rattle.std.specs.Prelude.{is_some, OnOk, IfErr}
@@ -11,13 +11,11 @@ use Rattle.generational_box.specs.declared.entry.Borrow.{Borrow}
 use Rattle.generational_box.specs.declared.boxes.GenerationalBoxId.{GenerationalBoxId}
 use Rattle.generational_box.specs.Cells.{Content, Cell}
 use Rattle.generational_box.specs.Cells.Content.{Here, Lent}
-use Rattle.generational_box.specs.Cells.Cell.{Value, Shared, Ref}
 use Rattle.generational_box.specs.Boxes.{name_in}
 use Rattle.generational_box.specs.State.{State, Owners}
 use Rattle.generational_box.specs.Borrowing.{content_at, filled}
 use Rattle.generational_box.specs.Machine.{written_at, has_writer}
-use Rattle.generational_box.specs.Entry.{Entry, Kept, is_free, lent_to, with_value, content_in}
-use Rattle.generational_box.specs.Entry.Kept.{Live}
+use Rattle.generational_box.specs.Entry.{Entry, is_free, lent_to, with_value, content_in}
 use Rattle.generational_box.specs.Slotted.{state_of, entry_changed, own_cell_at, is_unborrowed, IsSlotted}
 use Rattle.generational_box.proofs.SlotFound.{IsFound, found, state-filled}
 use Rattle.generational_box.proofs.SlotBorrows.{content_seen, own_seen, slotted-filled}

@@ -1,6 +1,6 @@
 -- Slots: how many there are, which are free, and which names fit.
 use Rattle.std.specs.Prelude.{◌≡◌, ℕ, ◌+◌, ◌-◌, ◌^◌, Bool, true, not, ◌&&◌, nat_lt, max}
-use Rattle.std.specs.Prelude.{List, [], ◌∷◌, Option, unwrap_or, is_some, ◌⊎◌}
+use Rattle.std.specs.Prelude.{List, [], ◌∷◌, unwrap_or, is_some, ◌⊎◌}
 use Rattle.std.specs.Ordering.{nat_cmp}
 use Rattle.std.specs.FinMap as map
 use Rattle.std.specs.FinSet as set

@@ -8,7 +8,7 @@ use Rattle.std.specs.FinSet as set
 use Rattle.generational_box.specs.Names.{Name, NameMap, Names}
 use Rattle.generational_box.specs.declared.boxes.GenerationalBoxId.{GenerationalBoxId}
 use Rattle.generational_box.specs.Boxes.{name_in}
-use Rattle.generational_box.specs.Cells.{Content, Cell, is_shared}
+use Rattle.generational_box.specs.Cells.{Cell, is_shared}
 use Rattle.generational_box.specs.Cells.Content.{Here, Lent}
 use Rattle.generational_box.specs.Cells.Cell.{Value, Shared, Ref}
 use Rattle.generational_box.specs.State.{State, Owners}

@@ -34,7 +34,6 @@ use Rattle.generational_box.specs.History.{plain}
 use Rattle.generational_box.proofs.Maps.{name_total, name_exact}
 use Rattle.generational_box.proofs.Plain.{carries_plain}
 use Rattle.generational_box.proofs.Stepping.{made_new, reads_known, meets_number}
-use Rattle.generational_sync.specs.declared.step.Step.{Step}
 use Rattle.generational_sync.specs.declared.step.StepReply.{StepReply}
 use Rattle.generational_sync.specs.declared.step.StepReply.TheVariants as reply
 use Rattle.generational_sync.specs.Kinds.{step_of}

@@ -1,5 +1,5 @@
 use Rattle.std.proofs.Common.{◌<◌, length, arith, vec_capacity}
-use Rattle.generational_box.proofs.PoolLemmas.{pool-pushed, pool-spare, pushed-members}
+use Rattle.generational_box.proofs.PoolLemmas.{pool-pushed, pool-spare}
 use Rattle.generational_box.proofs.pool.LastFirstSlotPool.put.Goals as goal
 
 pub push_reserved-requires : goal.push_reserved-requires

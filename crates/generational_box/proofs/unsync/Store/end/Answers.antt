@@ -1,4 +1,4 @@
-use Rattle.std.proofs.Common.{arith, cond}
+use Rattle.std.proofs.Common.{arith}
 use Rattle.generational_box.proofs.SlotFound.{found}
 use Rattle.generational_box.proofs.SlotBorrows.{found_within}
 use Rattle.generational_box.proofs.SlotEnds.{end_state, some_live, not_pooled, slotted-freed, slotted-retired}

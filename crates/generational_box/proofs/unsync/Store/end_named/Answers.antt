@@ -1,4 +1,4 @@
-use Rattle.std.proofs.Common.{ap, sym, ◌∙◌}
+use Rattle.std.proofs.Common.{ap, ◌∙◌}
 use Rattle.generational_box.specs.Boxes.{name_in}
 use Rattle.generational_box.proofs.OwnerEnds.{removed_gone}
 use Rattle.generational_box.proofs.unsync.Store.end_named.Goals as goal

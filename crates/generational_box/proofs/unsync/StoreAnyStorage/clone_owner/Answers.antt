@@ -1,4 +1,4 @@
-use Rattle.std.proofs.Common.{arith, ap, subst, sym, ◌+◌, ◌∙◌, false, true}
+use Rattle.std.proofs.Common.{arith, subst, sym, ◌+◌, ◌∙◌, false, true}
 use Rattle.generational_box.specs.Records.{owners_of, AreCounted}
 use Rattle.generational_box.proofs.Calls.{next_of}
 use Rattle.generational_box.proofs.OwnerMaps.{counted_up}

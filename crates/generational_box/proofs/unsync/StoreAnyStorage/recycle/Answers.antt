@@ -1,4 +1,3 @@
-use Rattle.std.proofs.Common.{sym}
 use Rattle.generational_box.proofs.CallEnds.{end_gone, done_by_kept, refused_by_kept}
 use Rattle.generational_box.proofs.unsync.StoreAnyStorage.recycle.Goals as goal
 

@@ -1,8 +1,7 @@
-use Rattle.std.proofs.Common.{arith, ap, subst, sym, ◌∙◌, ◌≡◌, ◌<◌, ◌≤◌, false, true}
-use Rattle.std.specs.Prelude.{map as list_map}
+use Rattle.std.proofs.Common.{arith, subst, sym, ◌∙◌, ◌≡◌, ◌≤◌, false, true}
 use Rattle.std.specs.FinMap as map
 use Rattle.generational_box.specs.State.{State}
-use Rattle.generational_box.specs.Records.{owners_of, name_seen, count_under, AreCounted}
+use Rattle.generational_box.specs.Records.{owners_of, count_under, AreCounted}
 use Rattle.generational_box.specs.Slotted.{is_value, OnlyValues}
 use Rattle.generational_box.proofs.OwnerMaps.{counted_down}
 use Rattle.generational_box.proofs.OwnerCalls.{known_seen, release_unknown, less_step, last_refused, last_done}

@@ -1,7 +1,7 @@
 use Rattle.std.proofs.Common.{arith, ap, length, subst, sym, ◌∙◌}
 use Rattle.std.specs.Prelude.{option_copied}
 use Rattle.generational_box.specs.Boxes.{name_of}
-use Rattle.generational_box.specs.Records.{owners_of, name_seen, AreCounted}
+use Rattle.generational_box.specs.Records.{owners_of, AreCounted}
 use Rattle.generational_box.proofs.OwnerMaps.{counted_listed}
 use Rattle.generational_box.proofs.OwnerCalls.{made_step, lacks_step, refused_step}
 use Rattle.generational_box.proofs.SlotMakings.{taken_within, reuse_step, reuse_kept, push_step, push_kept, push_refused}
