@@ -185,5 +185,5 @@ pub ruleset entries = (
   numbers_keep,
   numbers_remove,
   swept_there,
-  without_there
+  without_there,
 )

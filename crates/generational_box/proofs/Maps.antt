@@ -114,6 +114,7 @@ module _ {K : Type 0} {R : K → K → Ordering} (o : IsKeyOrder R) where
             ap (map.get (map.insert m k x)) e
             ∙ (get-insert_here m k x ∙ (sym there ∙ ap (map.get m) (sym e)))
         at q (inr ne) = get-insert_apart m k x q ne
+
         same : (q : K) → map.get (map.insert m k x) q ≡ map.get m q
         same q = at q (key_cases q k)
 

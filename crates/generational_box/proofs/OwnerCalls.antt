@@ -79,7 +79,7 @@ module _ {T : Type 0} where
         new,
         takes,
         (λ i. ((is i).0, listed (is i).1 (Some o) (name_of (box_said b (is i).0))))
-        ∙ sym (ap (λ k. limited S (cond k (Made (box_of S.number new.first l), listed (act S (Make None v l) new).1 (Some o) new.first) (Refused UnknownOwner, S)))
+            ∙ sym (ap (λ k. limited S (cond k (Made (box_of S.number new.first l), listed (act S (Make None v l) new).1 (Some o) new.first) (Refused UnknownOwner, S)))
             (any_known S (Some o) ∙ known)),
       )
   made_for S R (Some o) v l b known (inr lacks) = cc
@@ -124,7 +124,7 @@ module _ {T : Type 0} where
         no_names,
         tt,
         rw (ne_eqb S.next (2 ^ 64 - 1) (λ e. omega arith))
-        (λ i. (Owned (record { store = S.number; key = S.next }), after i)),
+            (λ i. (Owned (record { store = S.number; key = S.next }), after i)),
       )
 
   clone_is : (S : State T) (o : OwnerName) (r : Option Holding) → holding S o ≡ r
@@ -157,8 +157,11 @@ module _ {T : Type 0} where
         tt,
         sym (clone_is S o (Some there.0) there.1
             ∙ (rw (ne_eqb S.next (2 ^ 64 - 1) (λ e. omega arith))
-            (λ i. (Owned o, (ap (λ (owners : Owners). record S { owners = owners; next = S.next + 1 })
-                (sym (changed_there by_number S.owners o.key one_more there.0 there.2)) ∙ sym after) i)))),
+            (λ i. (
+              Owned o,
+              (ap (λ (owners : Owners). record S { owners = owners; next = S.next + 1 })
+                  (sym (changed_there by_number S.owners o.key one_more there.0 there.2)) ∙ sym after) i,
+            )))),
       )
 
   -- ---- releases
@@ -184,8 +187,11 @@ module _ {T : Type 0} where
         tt,
         sym (release_is S o (Some there.0) there.1
             ∙ (rw (lt-ltb 1 there.0.count more)
-            (λ i. (Done, (ap (λ (owners : Owners). record S { owners = owners })
-                (sym (changed_there by_number S.owners o.key one_less there.0 there.2)) ∙ sym after) i)))),
+            (λ i. (
+              Done,
+              (ap (λ (owners : Owners). record S { owners = owners })
+                  (sym (changed_there by_number S.owners o.key one_less there.0 there.2)) ∙ sym after) i,
+            )))),
       )
 
   -- ---- the same of what the code has
@@ -202,7 +208,7 @@ module _ {T : Type 0} where
     new_step o owners' h below is first after =
         rw (is, after, first)
         (subst (λ X. Meets X NewOwner (Owned (record { store = number; key = next })) (state_of (map.insert owners next (record { names = []; count = 1 })) number start (next + 1) peak slots))
-            view (new_made (state_of owners number start next peak slots) _ below refl))
+        view (new_made (state_of owners number start next peak slots) _ below refl))
 
     same_owner : (o : OwnerName) → knows number owners o ≡ true
         → record { store = number; key = o.key } ≡ o
@@ -217,7 +223,7 @@ module _ {T : Type 0} where
     clone_step o r k j owners' known below is key there after =
         rw (is, key, same_owner o known, after, there)
         (subst (λ X. Meets X (CloneOwner o) (Owned o) (state_of (changed owners o.key one_more) number start (next + 1) peak slots))
-            view (clone_made (state_of owners number start next peak slots) _ o known below refl))
+        view (clone_made (state_of owners number start next peak slots) _ o known below refl))
 
     pub less_step : (o : OwnerName) (k : ℕ) (owners' : Owners) → knows number owners o ≡ true
         → k ≡ o.key → 1 < count_under owners k → owners' ≡ changed owners k one_less
@@ -225,7 +231,7 @@ module _ {T : Type 0} where
     less_step o k owners' known there several after =
         rw (after, there)
         (subst (λ X. Meets X (ReleaseOwner o) Done (state_of (changed owners o.key one_less) number start next peak slots))
-            view (release_one (state_of owners number start next peak slots) _ o known (subst (λ j. 1 < count_under owners j) there several) refl))
+        view (release_one (state_of owners number start next peak slots) _ o known (subst (λ j. 1 < count_under owners j) there several) refl))
 
     pub made_step : (o : Option OwnerName) (v : T) (l : Location) (b : GenerationalPointer) (n : Name)
         → (between after : Owners) (peak' : ℕ) (slots' : List (Entry T)) → knows_any number owners o ≡ true
@@ -235,7 +241,7 @@ module _ {T : Type 0} where
     made_step o v l b n between after peak' slots' known step same listing is =
         rw (listing, same, is)
         (made_for S (state_of owners number start next peak' slots') o v l b
-            (subst (λ (X : State T). knows_any X.number X.owners o ≡ true) view known) step)
+        (subst (λ (X : State T). knows_any X.number X.owners o ≡ true) view known) step)
 
     pub lacks_step : (o : Option OwnerName) (v : T) (l : Location) (between : Owners) (slots' : List (Entry T))
         → knows_any number owners o ≡ true → between ≡ owners
@@ -244,7 +250,7 @@ module _ {T : Type 0} where
     lacks_step o v l between slots' known same step =
         rw same
         (lacks_for S (state_of owners number start next peak slots') o v l
-            (subst (λ (X : State T). knows_any X.number X.owners o ≡ true) view known) step)
+        (subst (λ (X : State T). knows_any X.number X.owners o ≡ true) view known) step)
 
     pub refused_step : (o : Option OwnerName) (v : T) (l : Location) (e : StoreError) (between : Owners)
         → between ≡ owners → IsRefusal number owners o e
@@ -274,9 +280,9 @@ module _ {T : Type 0} where
     last_is t is =
         release_is S o (Some record_there) (holding_some S o known).1
         ∙ (ap (λ b. limited S (cond b (Done, with_owner S o.key (record record_there { count = record_there.count - 1 }))
-            (unless (hindered S record_there.names) S (Done, record (close S record_there.names) { owners = map.remove S.owners o.key })))) last_value
+        (unless (hindered S record_there.names) S (Done, record (close S record_there.names) { owners = map.remove S.owners o.key })))) last_value
         ∙ ap (λ x. limited S (unless x S (Done, record (close S record_there.names) { owners = map.remove S.owners o.key })))
-            (hindered_is S values alone record_there.names ∙ (sym (ap (λ r. first_borrowed S.cells (names_in r)) record_at) ∙ is)))
+        (hindered_is S values alone record_there.names ∙ (sym (ap (λ r. first_borrowed S.cells (names_in r)) record_at) ∙ is)))
 
     pub last_refused : (e : Refusing BorrowMutError)
         → FoundBorrowed (first_borrowed S.cells (names_under S.owners k)) (Err e)

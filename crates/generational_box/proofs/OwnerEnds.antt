@@ -80,6 +80,7 @@ module _ {T : Type 0} (S : State T) (values : OnlyValues S) where
       ended : (n : Name) → among names n ≡ true → map.get (left_by S.cells names) n ≡ None
       ended n there =
           left_get S values names n ∙ ap (λ b. cond (not b) (map.get S.cells n) None) there
+
       one : (n : Name) (o : Option (Cell T)) → map.get S.cells n ≡ o → among names n ≡ true
           → hindrance_of S.cells (left_by S.cells names) o n ≡ write_refusal (content_of o)
       one n None is there = refl
@@ -88,6 +89,7 @@ module _ {T : Type 0} (S : State T) (values : OnlyValues S) where
           ∙ ap (λ x. write_refusal (content_of x)) is
       one n (Some (Shared c l)) is there = absurd (true≢false (sym (ap is_shared is) ∙ values n))
       one n (Some (Ref m l)) is there = absurd (false≢true (sym (ap is_value is) ∙ alone n))
+
       at : (rest : List Name) → ((n : Name) → among rest n ≡ true → among names n ≡ true)
           → first_hindrance S.cells (left_by S.cells names) rest ≡ first_borrowed S.cells rest
       at [] inside = refl

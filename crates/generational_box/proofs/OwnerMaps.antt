@@ -133,6 +133,7 @@ owners_none m nobody = at m.entries refl
         ∙ (owners_get m e.0
         ∙ (ap (λ xs. option_map holding_of (lookup (is_at (nat_cmp e.0)) xs)) is
         ∙ ap (λ b. option_map holding_of (cond b (Some e.1) (lookup (is_at (nat_cmp e.0)) es))) (key_here by_number e.0))))
+
     at : (es : List (ℕ × OwnerRecord)) → m.entries ≡ es → m.entries ≡ []
     at [] is = is
     at (e ∷ es) is = absurd (none-some (holding_of e.1) (first e es is))

@@ -46,7 +46,7 @@ module _ {T : Type 0} where
       let next : suc i ≡ i + 1 = omega arith in
       scan_next cells names i d within
       ∙ ap (λ k. or_else (write_refusal (content_of (map.get cells (name_seen (slice_index_or names i d)))))
-          (first_borrowed cells (list_map name_seen (drop k names)))) next
+      (first_borrowed cells (list_map name_seen (drop k names)))) next
 
   -- what stands in the way of an end of a slot's cell
   abbrev pub refusal_at : Option (Entry T) → Option Trouble
@@ -63,6 +63,7 @@ module _ {T : Type 0} where
       kept : (k : Kept T) → write_refusal (content_of (cell_of k)) ≡ write_refusal (content_in k)
       kept Empty = refl
       kept (Live c l) = refl
+
       at : (e : Option (Entry T)) → write_refusal (content_of (cell_found e)) ≡ refusal_at e
       at None = refl
       at (Some e) = kept e.kept

@@ -31,18 +31,18 @@ use Rattle.generational_box.proofs.Playing.{stage}
 module _ {T : Type 0} (v w : T) (L M R : Location) where
   -- A second box in the slot of an ended one makes no slot; the first stays ended.
   pub an-ended-slot-is-free-for-another-box : Tells (fresh 7 1 0) (
-    (Ask NewOwner, Says (Owned (owner 0)))
-    ∷ (Call (Make (Some (owner 0)) v L) (one (name 0 1)), Says (Made (box (name 0 1) L)))
-    ∷ (Count, Counts 1 0 0 1 1)
-    ∷ (Ask (ReleaseOwner (owner 0)), Says Done)
-    ∷ (Count, Counts 1 1 0 0 1)
-    ∷ (Ask NewOwner, Says (Owned (owner 1)))
-    ∷ (Call (Make (Some (owner 1)) w M) (one (name 0 2)), Says (Made (box (name 0 2) M)))
-    ∷ (Count, Counts 1 0 0 1 1)
-    ∷ (Ask (CanRead (box (name 0 1) L)), Says (Flag false))
-    ∷ (Ask (CanRead (box (name 0 2) M)), Says (Flag true))
-    ∷ []
-  )
+      (Ask NewOwner, Says (Owned (owner 0)))
+      ∷ (Call (Make (Some (owner 0)) v L) (one (name 0 1)), Says (Made (box (name 0 1) L)))
+      ∷ (Count, Counts 1 0 0 1 1)
+      ∷ (Ask (ReleaseOwner (owner 0)), Says Done)
+      ∷ (Count, Counts 1 1 0 0 1)
+      ∷ (Ask NewOwner, Says (Owned (owner 1)))
+      ∷ (Call (Make (Some (owner 1)) w M) (one (name 0 2)), Says (Made (box (name 0 2) M)))
+      ∷ (Count, Counts 1 0 0 1 1)
+      ∷ (Ask (CanRead (box (name 0 1) L)), Says (Flag false))
+      ∷ (Ask (CanRead (box (name 0 2) M)), Says (Flag true))
+      ∷ []
+      )
   unfolding is_name reach read_trouble write_trouble hindered
   an-ended-slot-is-free-for-another-box =
       from (
@@ -59,15 +59,15 @@ module _ {T : Type 0} (v w : T) (L M R : Location) where
 
   -- A slot whose box ends at the last generation is neither live nor free, and another is made.
   pub a-slot-that-ends-at-the-last-generation-is-retired : Tells (fresh 7 1 0) (
-    (Call (Make None v L) (one (name 0 (2 ^ 64 - 1))), Says (Made (box (name 0 (2 ^ 64 - 1)) L)))
-    ∷ (Count, Counts 1 0 0 1 1)
-    ∷ (Ask (End (box (name 0 (2 ^ 64 - 1)) L)), Says Done)
-    ∷ (Count, Counts 1 0 1 0 1)
-    ∷ (Call (Make None w M) (one (name 1 (2 ^ 64 - 1))), Says (Made (box (name 1 (2 ^ 64 - 1)) M)))
-    ∷ (Count, Counts 2 0 1 1 1)
-    ∷ (Ask (Read (box (name 0 (2 ^ 64 - 1)) L) R), Says (Troubled (Dropped L)))
-    ∷ []
-  )
+      (Call (Make None v L) (one (name 0 (2 ^ 64 - 1))), Says (Made (box (name 0 (2 ^ 64 - 1)) L)))
+      ∷ (Count, Counts 1 0 0 1 1)
+      ∷ (Ask (End (box (name 0 (2 ^ 64 - 1)) L)), Says Done)
+      ∷ (Count, Counts 1 0 1 0 1)
+      ∷ (Call (Make None w M) (one (name 1 (2 ^ 64 - 1))), Says (Made (box (name 1 (2 ^ 64 - 1)) M)))
+      ∷ (Count, Counts 2 0 1 1 1)
+      ∷ (Ask (Read (box (name 0 (2 ^ 64 - 1)) L) R), Says (Troubled (Dropped L)))
+      ∷ []
+      )
   unfolding is_name reach read_trouble write_trouble hindered
   a-slot-that-ends-at-the-last-generation-is-retired =
       from (

@@ -212,6 +212,7 @@ module _ {T : Type 0} where
       kept true Empty = refl
       kept true (Live c l) = refl
       kept false k = refl
+
       at : (o : Option (Entry T)) → is_value (cell_in o n.generation) ≡ true
       at None = refl
       at (Some e) = kept (nat_eq n.generation e.generation) e.kept

@@ -25,6 +25,6 @@ loop-name-preserved g c =
     let n = name_seen (slice_index_or c.args.names.now c.loop-name.name-index (record { slot = 0; generation = 0 })) in
     let step = sym (scan cells c.args.names.now c.loop-name.name-index (record { slot = 0; generation = 0 }) c.loop-name-test.true) ∙ c.loop-name.invariant in
     elim c.match-entry_at.branch [
-      in-Some+in-Ok w ↦ ap (λ t. or_else t rest) (sym (refusal_seen c.args.slots.now n (Some w.in-Some.entry.now) w.in-Some.ensures ∙ w.in-Ok.ensures)) ∙ step
+      | in-Some+in-Ok w ↦ ap (λ t. or_else t rest) (sym (refusal_seen c.args.slots.now n (Some w.in-Some.entry.now) w.in-Some.ensures ∙ w.in-Ok.ensures)) ∙ step
       | in-None w ↦ ap (λ t. or_else t rest) (sym (refusal_seen c.args.slots.now n None w.in-None.ensures)) ∙ step
     ]

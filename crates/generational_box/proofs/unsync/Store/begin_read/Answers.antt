@@ -12,10 +12,11 @@ add_reader-requires g c =
 
 pub invariant_of-self : goal.invariant_of-self
 invariant_of-self g c =
-    let f = found_here _ _ _ _ _ c.args.id c.self.view_is c.requires.here in
-    (rw c.in-Ok.ensures.ok
-    (slotted-filled _ _ _ _ _ f (more_read _ f.content) (with_reader _) (with_reader-live _ f.content f.created) c.self.invariant.0),
-    counted_more c.self.inside.next (owners_of c.self.inside.owners) c.self.invariant.1)
+    let f = found_here _ _ _ _ _ c.args.id c.self.view_is c.requires.here in (
+      rw c.in-Ok.ensures.ok
+          (slotted-filled _ _ _ _ _ f (more_read _ f.content) (with_reader _) (with_reader-live _ f.content f.created) c.self.invariant.0),
+      counted_more c.self.inside.next (owners_of c.self.inside.owners) c.self.invariant.1,
+    )
 
 pub returns-in-Ok-clause-ok : goal.returns-in-Ok-clause-ok
 returns-in-Ok-clause-ok g c =

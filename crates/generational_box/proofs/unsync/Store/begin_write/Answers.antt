@@ -18,10 +18,11 @@ lend_value-requires-clause-free g c =
 
 pub invariant_of-self : goal.invariant_of-self
 invariant_of-self g c =
-    let f = found_unborrowed _ _ _ _ _ c.args.id c.self.view_is c.requires.free in
-    (rw c.lend_value.ensures.after
-    (slotted-filled _ _ _ _ _ f (Lent _) (lent_to _) refl c.self.invariant.0),
-    counted_more c.self.inside.next (owners_of c.self.inside.owners) c.self.invariant.1)
+    let f = found_unborrowed _ _ _ _ _ c.args.id c.self.view_is c.requires.free in (
+      rw c.lend_value.ensures.after
+          (slotted-filled _ _ _ _ _ f (Lent _) (lent_to _) refl c.self.invariant.0),
+      counted_more c.self.inside.next (owners_of c.self.inside.owners) c.self.invariant.1,
+    )
 
 pub returns-clause-value : goal.returns-clause-value
 returns-clause-value g c =

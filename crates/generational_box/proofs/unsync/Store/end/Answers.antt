@@ -21,16 +21,18 @@ put-requires-clause-absent g c =
     not_pooled (found _ _ _ _ _ c.args.id c.self.view_is c.requires) _ (c.self.invariant.0.pooled c.args.id.slot)
 
 pub invariant_of-self : goal.invariant_of-self
-invariant_of-self g c =
-    (rw (c.end_cell.ensures, c.put.ensures.rooms, c.put.ensures.added)
-    (slotted-freed (found _ _ _ _ _ c.args.id c.self.view_is c.requires) _ _ _ _ _ c.self.invariant.0 (omega arith)),
-    c.self.invariant.1)
+invariant_of-self g c = (
+  rw (c.end_cell.ensures, c.put.ensures.rooms, c.put.ensures.added)
+      (slotted-freed (found _ _ _ _ _ c.args.id c.self.view_is c.requires) _ _ _ _ _ c.self.invariant.0 (omega arith)),
+  c.self.invariant.1,
+)
 
 pub invariant_of-self-else-id-lt18446744073709551615 : goal.invariant_of-self-else-id-lt18446744073709551615
-invariant_of-self-else-id-lt18446744073709551615 g c =
-    (rw c.end_cell.ensures
-    (slotted-retired (found _ _ _ _ _ c.args.id c.self.view_is c.requires) _ _ _ _ _ c.self.invariant.0 (omega arith)),
-    c.self.invariant.1)
+invariant_of-self-else-id-lt18446744073709551615 g c = (
+  rw c.end_cell.ensures
+      (slotted-retired (found _ _ _ _ _ c.args.id c.self.view_is c.requires) _ _ _ _ _ c.self.invariant.0 (omega arith)),
+  c.self.invariant.1,
+)
 
 pub returns-then-id-lt18446744073709551615 : goal.returns-then-id-lt18446744073709551615
 returns-then-id-lt18446744073709551615 g c =

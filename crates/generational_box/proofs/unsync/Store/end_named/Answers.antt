@@ -7,4 +7,4 @@ pub returns-in-None : goal.returns-in-None
 returns-in-None g c =
     rw (← ap name_in c.new-id.ensures)
     (removed_gone c.args.self.now c.in-None.ensures.values c.new-id.result
-        (ap (λ id. id.store) c.new-id.ensures ∙ ap (λ S. S.number) c.self.view_is) c.in-None.ensures.cell)
+    (ap (λ id. id.store) c.new-id.ensures ∙ ap (λ S. S.number) c.self.view_is) c.in-None.ensures.cell)

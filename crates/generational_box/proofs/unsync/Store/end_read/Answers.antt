@@ -11,10 +11,11 @@ remove_reader-requires g c =
 
 pub invariant_of-self : goal.invariant_of-self
 invariant_of-self g c =
-    let f = found _ _ _ _ _ c.args.id c.self.view_is c.requires in
-    (rw c.remove_reader.ensures.after
-    (slotted-filled _ _ _ _ _ f (less_read c.args.ticket f.content) (without_reader_in c.args.ticket) (without_reader_in-live c.args.ticket f.content f.created) c.self.invariant.0),
-    c.self.invariant.1)
+    let f = found _ _ _ _ _ c.args.id c.self.view_is c.requires in (
+      rw c.remove_reader.ensures.after
+          (slotted-filled _ _ _ _ _ f (less_read c.args.ticket f.content) (without_reader_in c.args.ticket) (without_reader_in-live c.args.ticket f.content f.created) c.self.invariant.0),
+      c.self.invariant.1,
+    )
 
 pub returns-clause-known : goal.returns-clause-known
 returns-clause-known g c =

@@ -14,9 +14,10 @@ returns-clause-known g c =
 
 pub invariant_of-self : goal.invariant_of-self
 invariant_of-self g c =
-    let f = found _ _ _ _ _ c.args.id c.self.view_is c.requires in
-    (slotted_back _ _ _ _ _ c.args.id c.self.view_is _ _ _ f c.args.value _ c.put_value_back.result c.put_value_back.ensures.ok c.put_value_back.ensures.err c.self.invariant.0,
-    c.self.invariant.1)
+    let f = found _ _ _ _ _ c.args.id c.self.view_is c.requires in (
+      slotted_back _ _ _ _ _ c.args.id c.self.view_is _ _ _ f c.args.value _ c.put_value_back.result c.put_value_back.ensures.ok c.put_value_back.ensures.err c.self.invariant.0,
+      c.self.invariant.1,
+    )
 
 pub returns-clause-ok : goal.returns-clause-ok
 returns-clause-ok g c =

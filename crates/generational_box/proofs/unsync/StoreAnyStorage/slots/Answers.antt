@@ -4,5 +4,9 @@ use Rattle.generational_box.proofs.unsync.StoreAnyStorage.slots.Goals as goal
 
 pub returns : goal.returns
 returns g c =
-    omega (arith, c.len.ensures, c.self.inside.slots.ok.0,
-    slots_seen _ _ _ _ _ _ c.self.view_is c.self.invariant.0)
+    omega (
+      arith,
+      c.len.ensures,
+      c.self.inside.slots.ok.0,
+      slots_seen _ _ _ _ _ _ c.self.view_is c.self.invariant.0,
+    )

@@ -14,9 +14,11 @@ returns-in-Err-clause-step g c =
 
 pub refill-generation-requires-clause-within : goal.refill-generation-requires-clause-within
 refill-generation-requires-clause-within g c =
-    omega (arith,
+    omega (
+      arith,
       taken_within (owners_of c.self.inside.owners) c.self.inside.number c.self.inside.start c.self.inside.next c.self.inside.live c.self.inside.peak c.self.inside.slots.items _ _ c.self.invariant.0 c.in-Some.slot c.in-Some.ensures.member c.args.value c.args.location,
-      c.self.inside.slots.ok.0)
+      c.self.inside.slots.ok.0,
+    )
 
 pub invariant_of-self-in-Some : goal.invariant_of-self-in-Some
 invariant_of-self-in-Some g c = (
