@@ -27,7 +27,7 @@ use Rattle.generational_box.specs.Answers.{trouble_of, end_refused, back_answer}
 use Rattle.generational_box.specs.Entry.{IsBeingRead, FoundBorrowed, Kept, content_in, is_live}
 use Rattle.generational_box.specs.Entry.Kept.{Empty, Live}
 use Rattle.generational_box.specs.Slotted.{own_cell_at, cell_of}
-use Rattle.generational_box.proofs.Calls.{reach_is, own_content, own_store}
+use Rattle.generational_box.proofs.CallReads.{reach_is, own_content, own_store}
 
 module _ {T : Type 0} (S : State T) (b : GenerationalPointer) (l : Location) where
   write_gone_trouble : own_cell_at S b.id ≡ None → write_trouble S b ≡ Some (Dropped b.created_at)

@@ -5,30 +5,33 @@ use Rattle.std.specs.Prelude.{nat_eq, option_map, slice_set, map as list_map}
 use Rattle.std.specs.List.{AllByRecursion}
 use Rattle.std.proofs.lemmas.Bool.{true≢false}
 use Rattle.generational_box.specs.declared.boxes.GenerationalPointer.{GenerationalPointer}
-use Rattle.generational_box.specs.declared.session.BoxAt.{BoxAt}
-use Rattle.generational_box.specs.declared.session.BoxAt.TheVariants.{Place, Foreign}
-use Rattle.generational_box.specs.declared.session.Call.{Call}
-use Rattle.generational_box.specs.declared.session.Call.TheVariants as call
+use Rattle.generational_box.specs.declared.calls.BoxAt.{BoxAt}
+use Rattle.generational_box.specs.declared.calls.BoxAt.TheVariants.{Place, Foreign}
+use Rattle.generational_box.specs.declared.calls.Call.{Call}
+use Rattle.generational_box.specs.declared.calls.Call.TheVariants as call
 use Rattle.generational_box.specs.Names.{Name}
 use Rattle.generational_box.specs.Boxes.{name_of, box_of, pointer_of}
 use Rattle.generational_box.specs.Borrowing.{Guard}
-use Rattle.generational_box.specs.Machine.{Action, Answer, Outcome}
-use Rattle.generational_box.specs.Machine.Action.{Make, Read, Write, End}
+use Rattle.generational_box.specs.Machine.{Action, Answer, OwnerName, Outcome}
+use Rattle.generational_box.specs.Machine.Action.{Make, NewOwner, CloneOwner, ReleaseOwner}
+use Rattle.generational_box.specs.Machine.Action.{LeakOwner, Read, Write, End}
 use Rattle.generational_box.specs.Machine.Action.{ReleaseReader, ReleaseWriter}
 use Rattle.generational_box.specs.Machine.Answer.{Made, Owned, Reads, Writes, Done, Old, Flag, Back}
 use Rattle.generational_box.specs.Machine.Answer.{Troubled, Refused}
 use Rattle.generational_box.specs.Carrying.{KnowsBox, KnowsGuard, KnowsCall, KnowsAnswer, moved_box}
-use Rattle.generational_box.specs.Carrying.{moved_guard, moved_action, moved_answer}
+use Rattle.generational_box.specs.Carrying.{moved_guard, moved_owner, moved_action, moved_answer}
 use Rattle.generational_box.specs.Session.{Held, SessionState, Said, Asked, held, box_held, box_in}
-use Rattle.generational_box.specs.Session.{with_box, released, asked, said, gives, spent, settled}
+use Rattle.generational_box.specs.Session.{owner_held, owner_in, with_box, with_owner, told, released}
+use Rattle.generational_box.specs.Session.{asked, said, gives, spent, settled}
 use Rattle.generational_box.specs.Session.{placed, replaced, swapped}
 use Rattle.generational_box.specs.Session.Held.{Boxed, Reading, Writing, Owning, Nothing}
-use Rattle.generational_box.specs.Session.Said.{NoSuch}
+use Rattle.generational_box.specs.Session.Said.{Yes, Created, NoSuch}
 use Rattle.generational_box.specs.Session.Asked.{Asks, Tells, Swaps}
 use Rattle.generational_box.specs.Numbered.{moved_held, KnowsHeld, CarriesSession, erase}
 use Rattle.generational_box.specs.Numbered.{refusal_in}
 use Rattle.generational_box.proofs.Moved.{map_append}
 use Rattle.generational_box.proofs.Carried.{Matched}
+use Rattle.generational_box.proofs.CarriedEnds.{same_box_moved}
 use Rattle.generational_box.proofs.CarriedTables.{held_moved, held_known, table_set, known_set}
 use Rattle.generational_box.proofs.CarriedTables.{known_push}
 
@@ -64,6 +67,14 @@ module _ {T : Type 0} (f : Name → Name) (d : ℕ) (number : ℕ) where
   box_held_moved (Owning o) = refl
   box_held_moved Nothing = refl
 
+  owner_held_moved : (h : Held T)
+      → owner_held (moved_held f d number h) ≡ option_map (moved_owner f d number) (owner_held h)
+  owner_held_moved (Boxed b) = refl
+  owner_held_moved (Reading g) = refl
+  owner_held_moved (Writing g v) = refl
+  owner_held_moved (Owning o) = refl
+  owner_held_moved Nothing = refl
+
   gives_moved : (answer : Answer T)
       → gives (moved_answer f d (λ (v : T). v) number answer) ≡ moved_held f d number (gives answer)
   gives_moved (Made b) = refl
@@ -80,7 +91,7 @@ module _ {T : Type 0} (f : Name → Name) (d : ℕ) (number : ℕ) where
   -- what is said is the same, but for a box's id
   said_moved : (x : Call T) (answer : Answer T)
       → erase (said x (moved_answer f d (λ (v : T). v) number answer)) ≡ erase (said x answer)
-  said_moved x (Made b) = ap Said.Created (split (nat_eq b.id.store number))
+  said_moved x (Made b) = ap Created (split (nat_eq b.id.store number))
     where
       split : (own : Bool)
           → (cond own (box_of number (f (name_of b)) b.created_at) b).created_at ≡ b.created_at
@@ -100,6 +111,8 @@ module _ {T : Type 0} (f : Name → Name) (d : ℕ) (number : ℕ) where
       (moved_answer f d (λ (v : T). v) number answer) (list_map (moved_held f d number) table)
       ≡ list_map (moved_held f d number) (spent x answer table)
   spent_moved (call.Release p) answer table = table_set f d number table p Nothing
+  spent_moved (call.ReleaseOwner p) Done table = table_set f d number table p Nothing
+  spent_moved (call.LeakOwner p) answer table = table_set f d number table p Nothing
   spent_moved x answer table = refl
 
 -- a box of another store stays as it is
@@ -135,6 +148,8 @@ module _ {T : Type 0} (Knows : Name → Type 0) (number : ℕ) where
       → AllByRecursion (KnowsHeld Knows number) table
       → AllByRecursion (KnowsHeld Knows number) (spent x answer table)
   spent_known (call.Release p) answer table h = known_set Knows number table p Nothing h tt
+  spent_known (call.ReleaseOwner p) Done table h = known_set Knows number table p Nothing h tt
+  spent_known (call.LeakOwner p) answer table h = known_set Knows number table p Nothing h tt
   spent_known x answer table h = h
 
 -- of a box of another store nothing need be known
@@ -183,6 +198,50 @@ module _ {T : Type 0} {f : Name → Name} {d : ℕ} {Knows : Name → Type 0} {s
       at None k = both_tell (NoSuch back) (NoSuch back) refl refl
       at (Some b) k = h b k
 
+  -- a call of an owner
+  with_owner_alike : (p : ℕ) (back : Option T) (x : OwnerName → Action T)
+      → ((o : OwnerName) → KnowsCall Knows a.state.number (x o))
+      → ((o : OwnerName) → x (moved_owner f d a.state.number o)
+      ≡ moved_action f d (λ (v : T). v) a.state.number (x o))
+      → Alike (with_owner (owner_in s p) back (λ o. Asks (x o)))
+      (with_owner (owner_in a p) back (λ o. Asks (x o)))
+  with_owner_alike p back x known moved =
+      subst (λ o. Alike (with_owner o back asks) (with_owner (owner_in a p) back asks))
+      (sym owner_moved) (at (owner_in a p))
+    where
+      asks : OwnerName → Asked T
+      asks o = Asks (x o)
+
+      owner_moved : owner_in s p ≡ option_map (moved_owner f d a.state.number) (owner_in a p)
+      owner_moved =
+          ap owner_held (place_moved p) ∙ owner_held_moved f d a.state.number (held a.table p)
+
+      at : (o : Option OwnerName) → Alike
+          (with_owner (option_map (moved_owner f d a.state.number) o) back asks)
+          (with_owner o back asks)
+      at None = both_tell (NoSuch back) (NoSuch back) refl refl
+      at (Some o) = subst (λ y. Alike (Asks y) (asks o)) (sym (moved o)) (both_ask (x o) (known o))
+
+  -- a question about a box
+  told_alike : (b : BoxAt T) (x y : GenerationalPointer → Said T)
+      → ((b : GenerationalPointer) → KnowsBox Knows a.state.number b
+      → erase (x (moved_box f d a.state.number b)) ≡ erase (y b))
+      → ((b : GenerationalPointer) → refusal_in (x b) ≡ None)
+      → Alike (told (box_in s b) x) (told (box_in a b) y)
+  told_alike b x y same able = with_box_alike b None (λ b. Tells (x b)) (λ b. Tells (y b))
+      (λ b k. both_tell _ _ (same b k) (able (moved_box f d a.state.number b)))
+
+  -- the location in a box of the store stays
+  created_moved : (b : GenerationalPointer)
+      → (moved_box f d a.state.number b).created_at ≡ b.created_at
+  created_moved b = split (nat_eq b.id.store a.state.number)
+    where
+      split : (own : Bool)
+          → (cond own (box_of a.state.number (f (name_of b)) b.created_at) b).created_at
+          ≡ b.created_at
+      split true = refl
+      split false = refl
+
   released_alike : (p : ℕ) → Alike (released (held s.table p)) (released (held a.table p))
   released_alike p = subst (λ h. Alike (released h) (released (held a.table p)))
       (sym (place_moved p)) (at (held a.table p) (place_known p))
@@ -211,6 +270,15 @@ module _ {T : Type 0} {f : Name → Name} {d : ℕ} {Knows : Name → Type 0} {s
   -- each call comes to the same
   pub asked_alike : (x : Call T) → Alike (asked s x) (asked a x)
   asked_alike (call.Leak v l) = both_ask (Make None v l) tt
+  asked_alike (call.Insert p v l) =
+      with_owner_alike p (Some v) (λ o. Make (Some o) v l) (λ o. tt) (λ o. refl)
+  asked_alike call.Owner = both_ask NewOwner tt
+  asked_alike (call.CloneOwner p) =
+      with_owner_alike p None CloneOwner (λ o. tt) (λ o. refl)
+  asked_alike (call.ReleaseOwner p) =
+      with_owner_alike p None ReleaseOwner (λ o. tt) (λ o. refl)
+  asked_alike (call.LeakOwner p) =
+      with_owner_alike p None LeakOwner (λ o. tt) (λ o. refl)
   asked_alike (call.TryRead b l) = with_box_alike b None
       (λ b. Asks (Read b l)) (λ b. Asks (Read b l)) (λ b k. both_ask (Read b l) k)
   asked_alike (call.TryWrite b l) = with_box_alike b None
@@ -219,6 +287,13 @@ module _ {T : Type 0} {f : Name → Name} {d : ℕ} {Knows : Name → Type 0} {s
   asked_alike (call.Release p) = released_alike p
   asked_alike (call.ManuallyDrop b) =
       with_box_alike b None (λ b. Asks (End b)) (λ b. Asks (End b)) (λ b k. both_ask (End b) k)
+  asked_alike (call.PtrEq b e) = with_box_alike b None _ _
+      (λ b k. told_alike e _ _ (λ e h. ap Yes
+      (same_box_moved f d c.state.apart a.state.number b e k h)) (λ e. refl))
+  asked_alike (call.Id b) = told_alike b _ _ (λ b k. refl) (λ b. refl)
+  asked_alike (call.RawPtr b) = told_alike b _ _ (λ b k. refl) (λ b. refl)
+  asked_alike (call.CreatedAt b) =
+      told_alike b _ _ (λ b k. ap Created (created_moved b)) (λ b. refl)
 
   -- ---- after a call
 

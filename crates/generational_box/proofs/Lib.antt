@@ -2,8 +2,8 @@ pub mod ActBounded
 pub mod BoundSteps
 pub mod Bounding
 pub mod CallEnds
+pub mod CallReads
 pub mod CallWrites
-pub mod Calls
 pub mod Carried
 pub mod CarriedBorrows
 pub mod CarriedCalls

@@ -9,8 +9,8 @@ use Rattle.std.proofs.lemmas.Bool.{true≢false, false_from_ne_true}
 use Rattle.std.specs.FinMap as map
 use Rattle.std.specs.FinSet as set
 use Rattle.generational_box.specs.declared.error.StoreError.{StoreError}
-use Rattle.generational_box.specs.declared.session.Call.{Call}
-use Rattle.generational_box.specs.declared.session.Call.TheVariants as call
+use Rattle.generational_box.specs.declared.calls.Call.{Call}
+use Rattle.generational_box.specs.declared.calls.Call.TheVariants as call
 use Rattle.generational_box.specs.Names.{Name, name_cmp}
 use Rattle.generational_box.specs.State.{IsSound, fresh}
 use Rattle.generational_box.specs.Machine.{Action, Answer, Fresh, act}
@@ -56,19 +56,12 @@ module _ {T : Type 0} where
   -- the refusal that a reply tells is that of the answer
   refusal_told : (c : Call T) (e : StoreError) → refusal_in (refusal c e) ≡ want e
   refusal_told (call.Leak v l) e = refl
-  refusal_told (call.TryRead b l) e = refl
-  refusal_told (call.TryWrite b l) e = refl
-  refusal_told (call.Replace p v) e = refl
-  refusal_told (call.Release p) e = refl
-  refusal_told (call.ManuallyDrop b) e = refl
+  refusal_told (call.Insert p v l) e = refl
+  refusal_told _ e = refl
 
   flag_told : (c : Call T) (b : Bool) → refusal_in (said c (Flag b)) ≡ None
-  flag_told (call.Leak v l) b = refl
-  flag_told (call.TryRead x l) b = refl
-  flag_told (call.TryWrite x l) b = refl
-  flag_told (call.Replace p v) b = refl
   flag_told (call.Release p) b = refl
-  flag_told (call.ManuallyDrop x) b = refl
+  flag_told _ b = refl
 
   told : (c : Call T) (answer : Answer T) → refusal_in (said c answer) ≡ wants answer
   told c (Made b) = refl

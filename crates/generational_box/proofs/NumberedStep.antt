@@ -9,7 +9,7 @@ use Rattle.std.proofs.lemmas.Bool.{true≢false, false_from_ne_true, cases_lt}
 use Rattle.std.proofs.lemmas.List.{length-append, length_push}
 use Rattle.std.specs.FinSet as set
 use Rattle.generational_box.specs.declared.boxes.GenerationalPointer.{GenerationalPointer}
-use Rattle.generational_box.specs.declared.session.Call.{Call}
+use Rattle.generational_box.specs.declared.calls.Call.{Call}
 use Rattle.generational_box.specs.Names.{Name, Names}
 use Rattle.generational_box.specs.State.{State, IsSound}
 use Rattle.generational_box.specs.Boxes.{name_of, box_of}

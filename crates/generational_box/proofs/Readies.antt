@@ -17,7 +17,7 @@ use Rattle.generational_box.specs.Readiness.{is_ready, tells_of_borrow}
 use Rattle.generational_box.specs.Entry.{Kept, content_in, is_live}
 use Rattle.generational_box.specs.Entry.Kept.{Empty, Live}
 use Rattle.generational_box.specs.Slotted.{own_cell_at, cell_of, OnlyValues}
-use Rattle.generational_box.proofs.Calls.{trouble_here, trouble_gone}
+use Rattle.generational_box.proofs.CallReads.{trouble_here, trouble_gone}
 use Rattle.generational_box.proofs.CallEnds.{hindrance_one, nothing_hinders, hindered_is}
 
 -- nothing is found of what isn't there

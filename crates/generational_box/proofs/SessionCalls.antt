@@ -1,26 +1,32 @@
 -- What the code of a session leaves, as a session of the machine.
 use Rattle.std.proofs.Common.{◌≡◌, ℕ, zero, suc, Bool, List, [], ◌∷◌, ◌++◌, reverse, slice_get}
-use Rattle.std.proofs.Common.{slice_set, Some, Result, Ok, Err, refl, sym, ap, subst, ◌∙◌}
+use Rattle.std.proofs.Common.{slice_set, Some, None, Result, Ok, Err, refl, sym, ap, subst, ◌∙◌, inl}
 use Rattle.std.proofs.Common.{append_assoc}
 use Rattle.std.specs.Prelude.{map as list_map}
 use Rattle.std.proofs.lemmas.List.{map-append, map-set, reverse-append, reverse-reverse}
 use Rattle.std.proofs.lemmas.List.{append-nil, set-get_or}
 use Rattle.std.proofs.lemmas.Option.{none-some}
-use Rattle.generational_box.specs.declared.session.Call.{Call}
-use Rattle.generational_box.specs.declared.session.Call.TheVariants as call
-use Rattle.generational_box.specs.declared.session.Reply.{Reply}
-use Rattle.generational_box.specs.declared.session.Thing.{Thing}
-use Rattle.generational_box.specs.declared.session.Thing.TheVariants as thing
+use Rattle.generational_box.specs.declared.calls.Call.{Call}
+use Rattle.generational_box.specs.declared.calls.Call.TheVariants as call
+use Rattle.generational_box.specs.declared.calls.Reply.{Reply}
+use Rattle.generational_box.specs.declared.places.Thing.{Thing}
+use Rattle.generational_box.specs.declared.places.Thing.TheVariants as thing
 use Rattle.generational_box.specs.State.{State, IsFresh}
 use Rattle.generational_box.specs.Borrowing.{Guard}
 use Rattle.generational_box.specs.Writing.{WriteGuard}
-use Rattle.generational_box.specs.Answers.{back_answer}
-use Rattle.generational_box.specs.Machine.Action.{ReleaseReader, ReleaseWriter}
-use Rattle.generational_box.specs.Machine.Answer.{Flag}
-use Rattle.generational_box.specs.Steps.{Meets}
+use Rattle.generational_box.specs.declared.error.BorrowMutError.{BorrowMutError}
+use Rattle.generational_box.specs.declared.error.Refused.{Refused}
+use Rattle.generational_box.specs.declared.error.Refused.TheVariants as refused
+use Rattle.generational_box.specs.Answers.{back_answer, end_refused}
+use Rattle.generational_box.specs.Machine.{OwnerName}
+use Rattle.generational_box.specs.Machine.Action.{ReleaseReader, ReleaseWriter, ReleaseOwner}
+use Rattle.generational_box.specs.Machine.Action.{LeakOwner}
+use Rattle.generational_box.specs.Machine.Answer.{Done, Flag}
+use Rattle.generational_box.specs.Steps.{Meets, no_names}
 use Rattle.generational_box.specs.Session.{SessionState, Held, Said, Asked, SessionStep, Settles}
 use Rattle.generational_box.specs.Session.{Run, asked, said, gives, placed, held, released}
-use Rattle.generational_box.specs.Session.{replaced, let_go_of, all_let_go}
+use Rattle.generational_box.specs.Session.{replaced, let_go_of, all_let_go, owner_held, owner_in}
+use Rattle.generational_box.specs.Session.{with_owner, spent}
 use Rattle.generational_box.specs.Session.Held.{Boxed, Reading, Writing, Owning, Nothing}
 use Rattle.generational_box.specs.Session.Said.{Ready}
 use Rattle.generational_box.specs.Session.Asked.{Asks, Tells, Swaps}
@@ -29,13 +35,20 @@ use Rattle.generational_box.specs.Keeping.{IsUndisturbed, Undisturbed, value_at}
 use Rattle.generational_box.specs.Names.{Name}
 use Rattle.generational_box.specs.declared.boxes.GenerationalPointer.{GenerationalPointer}
 use Rattle.generational_box.specs.Places.{thing_held, said_by, replies_said, session_in}
-use Rattle.generational_box.specs.Places.{exchanged, GivesAsked, Gives}
+use Rattle.generational_box.specs.Places.{refusal_said, exchanged, GivesAsked, Gives}
 use Rattle.generational_box.proofs.Sessions.{fresh_kept, session_kept, session_value, run_kept}
 use Rattle.generational_box.proofs.Sessions.{run_value}
 
 pub reversed_push : {X : Type 0} (xs ys : List X) (x : X)
     → xs ≡ ys ++ x ∷ [] → reverse xs ≡ x ∷ reverse ys
 reversed_push xs ys x e = ap reverse e ∙ reverse-append ys (x ∷ [])
+
+-- what is put back to where it was taken from
+set_back : {X : Type 0} (xs : List X) (p : ℕ) (x y : X) → slice_get xs p ≡ Some x
+    → slice_set (slice_set xs p y) p x ≡ xs
+set_back [] p x y h = refl
+set_back (z ∷ xs) zero x y h = cc
+set_back (z ∷ xs) (suc p) x y h = ap (λ xs. z ∷ xs) (set_back xs p x y h)
 
 module _ {T : Type 0} where
   -- what a call gives, once it has its place, is a step of the session
@@ -116,7 +129,73 @@ module _ {T : Type 0} where
       gives_none (Ok u) = refl
       gives_none (Err v) = refl
 
-  -- a writer's guard at a place owns another value
+  -- a call of an owner whose place holds one
+  by_owner : (S R : State T) (items after : List (Thing T)) (c : Call T) (p : ℕ) (o : OwnerName)
+      (next : OwnerName → Asked T) (x : Said T) → slice_get items p ≡ Some (thing.Owner o)
+      → GivesAsked (session_in S items) c (next o) x Nothing (session_in R after)
+      → GivesAsked (session_in S items)
+      c (with_owner (owner_in (session_in S items) p) None next) x Nothing (session_in R after)
+  by_owner S R items after c p o next x there gives =
+      subst (λ h. GivesAsked (session_in S items) c (with_owner (owner_held h) None next) x Nothing
+      (session_in R after)) (sym (held_there items p (thing.Owner o) there)) gives
+
+  -- an owner at a place is released
+  pub owner_released : (S R : State T) (items after : List (Thing T)) (p : ℕ) (o : OwnerName)
+      → slice_get items p ≡ Some (thing.Owner o) → Meets S (ReleaseOwner o) Done R
+      → after ≡ slice_set items p thing.Nothing
+      → Gives (session_in S items) (call.ReleaseOwner p) Ready Nothing (session_in R after)
+  owner_released S R items after p o there meets spends =
+      by_owner S R items after (call.ReleaseOwner p) p o (λ o. Asks (ReleaseOwner o)) Ready there (
+        Done,
+        meets,
+        refl,
+        refl,
+        ap (list_map thing_held) spends ∙ map-set thing_held items p thing.Nothing,
+      )
+
+  -- its release is refused, and it goes back to its place
+  pub owner_kept : (S R : State T) (items taken after : List (Thing T)) (p : ℕ) (o : OwnerName)
+      (e : Refused BorrowMutError) → slice_get items p ≡ Some (thing.Owner o)
+      → Meets S (ReleaseOwner o) (end_refused e) R
+      → taken ≡ slice_set items p thing.Nothing → after ≡ slice_set taken p (thing.Owner o)
+      → Gives (session_in S items) (call.ReleaseOwner p) (refusal_said e) Nothing
+      (session_in R after)
+  owner_kept S R items taken after p o e there meets spends puts =
+      by_owner S R items after (call.ReleaseOwner p) p o (λ o. Asks (ReleaseOwner o))
+      (refusal_said e) there (end_refused e, meets, tells e, gives_none e, stays e)
+    where
+      tells : (e : Refused BorrowMutError)
+          → ◌≡◌ {A = Said T} (refusal_said e) (said (call.ReleaseOwner p) (end_refused e))
+      tells (refused.Borrow b) = refl
+      tells (refused.Store cause) = refl
+
+      gives_none : (e : Refused BorrowMutError)
+          → ◌≡◌ {A = Held T} Nothing (gives (end_refused e))
+      gives_none (refused.Borrow b) = refl
+      gives_none (refused.Store cause) = refl
+
+      same : list_map thing_held after ≡ list_map thing_held items
+      same = ap (list_map thing_held) (puts
+          ∙ (ap (λ xs. slice_set xs p (thing.Owner o)) spends ∙ set_back items p _ _ there))
+
+      stays : (e : Refused BorrowMutError) → list_map thing_held after
+          ≡ spent (call.ReleaseOwner p) (end_refused e) (list_map thing_held items)
+      stays (refused.Borrow b) = same
+      stays (refused.Store cause) = same
+
+  -- it is leaked, which no store sees
+  pub owner_leaked : (S : State T) (items after : List (Thing T)) (p : ℕ) (o : OwnerName)
+      → slice_get items p ≡ Some (thing.Owner o) → after ≡ slice_set items p thing.Nothing
+      → Gives (session_in S items) (call.LeakOwner p) Ready Nothing (session_in S after)
+  owner_leaked S items after p o there spends =
+      by_owner S S items after (call.LeakOwner p) p o (λ o. Asks (LeakOwner o)) Ready there (
+        Done,
+        inl (no_names, tt, refl),
+        refl,
+        refl,
+        ap (list_map thing_held) spends ∙ map-set thing_held items p thing.Nothing,
+      )
+
   -- another value for the writer at a place
   module _ (S : State T) (items after : List (Thing T)) (p : ℕ) (v : T) (x : Said T) where
     abbrev table : List (Held T)

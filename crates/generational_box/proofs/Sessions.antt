@@ -1,20 +1,23 @@
 -- Each call of a session keeps what holds of every session, and so does a whole run.
-use Rattle.std.proofs.Common.{◌≡◌, ◌≢◌, ℕ, true, false, List, [], ◌∷◌, ◌++◌}
+use Rattle.std.proofs.Common.{◌≡◌, ◌≢◌, ℕ, true, false, List, [], ◌∷◌, ◌++◌, slice_set}
 use Rattle.std.proofs.Common.{Option, None, Some, refl, sym, ap, subst, ◌∙◌, inl, inr, ⊎_elim}
 use Rattle.std.specs.Prelude.{◌⊎◌, is_some}
 use Rattle.std.proofs.lemmas.Bool.{eqb-true, false_from_ne_true}
 use Rattle.generational_box.specs.declared.boxes.GenerationalPointer.{GenerationalPointer}
-use Rattle.generational_box.specs.declared.session.Call.{Call}
-use Rattle.generational_box.specs.declared.session.Call.TheVariants as call
+use Rattle.generational_box.specs.declared.calls.Call.{Call}
+use Rattle.generational_box.specs.declared.calls.Call.TheVariants as call
 use Rattle.generational_box.specs.Names.{Name}
 use Rattle.generational_box.specs.State.{State, IsSound, IsEnded, fresh}
 use Rattle.generational_box.specs.Borrowing.{Guard}
-use Rattle.generational_box.specs.Machine.{Action, Answer}
-use Rattle.generational_box.specs.Machine.Action.{Make, Read, Write, End}
+use Rattle.generational_box.specs.Machine.{Action, Answer, OwnerName}
+use Rattle.generational_box.specs.Machine.Answer.{Done}
+use Rattle.generational_box.specs.Machine.Action.{Make, NewOwner, CloneOwner, ReleaseOwner}
+use Rattle.generational_box.specs.Machine.Action.{LeakOwner, Read, Write, End}
 use Rattle.generational_box.specs.Machine.Action.{ReleaseReader, ReleaseWriter}
 use Rattle.generational_box.specs.Steps.{Meets}
 use Rattle.generational_box.specs.Session.{SessionState, Held, Said, Asked, Settles, SessionStep}
-use Rattle.generational_box.specs.Session.{Run, held, placed, spent, box_in, with_box}
+use Rattle.generational_box.specs.Session.{Run, held, placed, spent, box_in, owner_in, with_box}
+use Rattle.generational_box.specs.Session.{with_owner}
 use Rattle.generational_box.specs.Session.{released, replaced, swapped}
 use Rattle.generational_box.specs.Session.Asked.{Asks, Tells, Swaps}
 use Rattle.generational_box.specs.Session.Held.{Boxed, Reading, Writing, Nothing}
@@ -114,6 +117,27 @@ module _ {T : Type 0} where
   leaves_box s c None back next h = tt
   leaves_box s c (Some b) back next h = h b
 
+  leaves_owner : (s : SessionState T) (c : Call T)
+      (o : Option OwnerName) (back : Option T) (next : OwnerName → Asked T)
+      → ((o : OwnerName) → Leaves s c (next o)) → Leaves s c (with_owner o back next)
+  leaves_owner s c None back next h = tt
+  leaves_owner s c (Some o) back next h = h o
+
+  -- a place that is emptied by a call that gives back no guard
+  remains_emptied : (s : SessionState T) (action : Action T) (p : ℕ)
+      → ((t : ℕ) → ends_reader action t ≡ false) → ((t : ℕ) → ends_writer action t ≡ false)
+      → Remains action s.table (slice_set s.table p Nothing)
+  remains_emptied s action p reader writer q =
+      ⊎_elim inl (λ e. inr (e.0, unspent action reader writer (held s.table q)))
+      (held_emptied s.table p q)
+
+  remains_released : (s : SessionState T) (o : OwnerName) (p : ℕ) (answer : Answer T)
+      → Remains (ReleaseOwner o) s.table (spent (call.ReleaseOwner p) answer s.table)
+  remains_released s o p Done =
+      remains_emptied s (ReleaseOwner o) p (λ t. refl) (λ t. refl)
+  remains_released s o p _ =
+      λ q. inr (refl, unspent (ReleaseOwner o) (λ t. refl) (λ t. refl) (held s.table q))
+
   -- a guard that is given back leaves those at other places
   leaves_released : (s : SessionState T) (p : ℕ) (x : Held T)
       → IsKept s → held s.table p ≡ x → Leaves s (call.Release p) (released x)
@@ -143,6 +167,18 @@ module _ {T : Type 0} where
   leaves_asked : (s : SessionState T) (c : Call T) → IsKept s → Leaves s c (asked s c)
   leaves_asked s (call.Leak v l) kept =
       λ answer p. inr (refl, unspent (Make None v l) (λ t. refl) (λ t. refl) (held s.table p))
+  leaves_asked s (call.Insert p v l) kept =
+      leaves_owner s (call.Insert p v l) (owner_in s p) (Some v) _ (λ o answer q.
+      inr (refl, unspent (Make (Some o) v l) (λ t. refl) (λ t. refl) (held s.table q)))
+  leaves_asked s call.Owner kept =
+      λ answer p. inr (refl, unspent NewOwner (λ t. refl) (λ t. refl) (held s.table p))
+  leaves_asked s (call.CloneOwner p) kept =
+      leaves_owner s (call.CloneOwner p) (owner_in s p) None _ (λ o answer q.
+      inr (refl, unspent (CloneOwner o) (λ t. refl) (λ t. refl) (held s.table q)))
+  leaves_asked s (call.ReleaseOwner p) kept = leaves_owner s (call.ReleaseOwner p) (owner_in s p)
+      None _ (λ o answer. remains_released s o p answer)
+  leaves_asked s (call.LeakOwner p) kept = leaves_owner s (call.LeakOwner p) (owner_in s p)
+      None _ (λ o answer. remains_emptied s (LeakOwner o) p (λ t. refl) (λ t. refl))
   leaves_asked s (call.TryRead b l) kept = leaves_box s (call.TryRead b l) (box_in s b) None _
       (λ b answer p. inr (refl, unspent (Read b l) (λ t. refl) (λ t. refl) (held s.table p)))
   leaves_asked s (call.TryWrite b l) kept = leaves_box s (call.TryWrite b l) (box_in s b) None _
@@ -151,6 +187,12 @@ module _ {T : Type 0} where
   leaves_asked s (call.Release p) kept = leaves_released s p (held s.table p) kept refl
   leaves_asked s (call.ManuallyDrop b) kept = leaves_box s (call.ManuallyDrop b) (box_in s b) None _
       (λ b answer p. inr (refl, unspent (End b) (λ t. refl) (λ t. refl) (held s.table p)))
+  leaves_asked s (call.PtrEq a b) kept = leaves_box s (call.PtrEq a b) (box_in s a) None _
+      (λ a'. leaves_box s (call.PtrEq a b) (box_in s b) None _ (λ b'. tt))
+  leaves_asked s (call.Id b) kept = leaves_box s (call.Id b) (box_in s b) None _ (λ b. tt)
+  leaves_asked s (call.RawPtr b) kept = leaves_box s (call.RawPtr b) (box_in s b) None _ (λ b. tt)
+  leaves_asked s (call.CreatedAt b) kept =
+      leaves_box s (call.CreatedAt b) (box_in s b) None _ (λ b. tt)
 
   -- each call of a session keeps what holds of every session
   pub session_kept : (s r : SessionState T) (c : Call T) (x : Said T)

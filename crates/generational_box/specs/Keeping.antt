@@ -3,7 +3,7 @@ use Rattle.std.specs.Prelude.{◌≡◌, true, List, [], ◌∷◌, Option, None
 use Rattle.std.specs.FinMap as map
 use Rattle.generational_box.specs.declared.error.Location.{Location}
 use Rattle.generational_box.specs.declared.boxes.GenerationalPointer.{GenerationalPointer}
-use Rattle.generational_box.specs.declared.session.Call.{Call}
+use Rattle.generational_box.specs.declared.calls.Call.{Call}
 use Rattle.generational_box.specs.Names.{Name}
 use Rattle.generational_box.specs.Cells.{Cell}
 use Rattle.generational_box.specs.Cells.Cell.{Value, Shared, Ref}

@@ -8,7 +8,7 @@ use Rattle.generational_box.specs.declared.error.StoreError.{StoreError}
 use Rattle.generational_box.specs.declared.error.StoreError.TheVariants.{OutOfMemory}
 use Rattle.generational_box.specs.declared.error.StoreError.TheVariants.{NumbersExhausted}
 use Rattle.generational_box.specs.declared.error.StoreError.TheVariants.{UnknownOwner}
-use Rattle.generational_box.specs.declared.session.Call.{Call}
+use Rattle.generational_box.specs.declared.calls.Call.{Call}
 use Rattle.generational_box.specs.Names.{Name, Names}
 use Rattle.generational_box.specs.Machine.{Fresh, act}
 use Rattle.generational_box.specs.Machine.Answer.{Refused}

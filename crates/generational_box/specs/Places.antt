@@ -1,20 +1,24 @@
 -- What a session's places and replies are in the machine.
 use Rattle.std.specs.Prelude.{◌≡◌, List, Some, map as list_map}
-use Rattle.generational_box.specs.declared.session.Thing.{Thing}
-use Rattle.generational_box.specs.declared.session.Thing.TheVariants as thing
-use Rattle.generational_box.specs.declared.session.Reply.{Reply}
-use Rattle.generational_box.specs.declared.session.Reply.TheVariants as reply
+use Rattle.generational_box.specs.declared.places.Thing.{Thing}
+use Rattle.generational_box.specs.declared.places.Thing.TheVariants as thing
+use Rattle.generational_box.specs.declared.calls.Reply.{Reply}
+use Rattle.generational_box.specs.declared.calls.Reply.TheVariants as reply
+use Rattle.generational_box.specs.declared.error.BorrowMutError.{BorrowMutError}
+use Rattle.generational_box.specs.declared.error.Refused.{Refused}
+use Rattle.generational_box.specs.declared.error.Refused.TheVariants as refused
 use Rattle.generational_box.specs.Boxes.{pointer_of}
-use Rattle.generational_box.specs.declared.session.Call.{Call}
+use Rattle.generational_box.specs.declared.calls.Call.{Call}
 use Rattle.generational_box.specs.State.{State}
 use Rattle.generational_box.specs.Machine.{Answer}
 use Rattle.generational_box.specs.Steps.{Meets}
 use Rattle.generational_box.specs.Session.{Held, Said, SessionState, Asked, asked, said, gives}
 use Rattle.generational_box.specs.Session.{spent, swapped}
 use Rattle.generational_box.specs.Session.Asked.{Asks, Tells, Swaps}
-use Rattle.generational_box.specs.Session.Held.{Boxed, Reading, Writing, Nothing}
-use Rattle.generational_box.specs.Session.Said.{ABox, AReader, AWriter, Ready, TheOld, Error}
-use Rattle.generational_box.specs.Session.Said.{Lacking, HandedBack, NoSuch}
+use Rattle.generational_box.specs.Session.Held.{Boxed, Reading, Writing, Owning, Nothing}
+use Rattle.generational_box.specs.Session.Said.{ABox, AnOwner, AReader, AWriter, Ready, TheOld, Yes}
+use Rattle.generational_box.specs.Session.Said.{TheId, TheSlot, Created, Error, Lacking, HandedBack}
+use Rattle.generational_box.specs.Session.Said.{NoSuch}
 use Rattle.generational_box.specs.Answers.{trouble_of}
 
 module _ {T : Type 0} where
@@ -23,15 +27,21 @@ module _ {T : Type 0} where
   thing_held (thing.Box b) = Boxed (pointer_of b)
   thing_held (thing.Reader g) = Reading g
   thing_held (thing.Writer g) = Writing g.guard g.value
+  thing_held (thing.Owner o) = Owning o
   thing_held thing.Nothing = Nothing
 
   -- what a reply says
   abbrev pub said_by : Reply T → Said T
   said_by (reply.Box b) = ABox (pointer_of b)
+  said_by reply.Owner = AnOwner
   said_by reply.Reader = AReader
   said_by reply.Writer = AWriter
   said_by reply.Done = Ready
   said_by (reply.Old v) = TheOld v
+  said_by (reply.Flag b) = Yes b
+  said_by (reply.Id id) = TheId id
+  said_by (reply.Slot n) = TheSlot n
+  said_by (reply.Created l) = Created l
   said_by (reply.Error e) = Error (trouble_of e)
   said_by (reply.Store e) = Lacking e
   said_by (reply.Back v e) = HandedBack v e
@@ -39,6 +49,11 @@ module _ {T : Type 0} where
 
   abbrev pub replies_said : List (Reply T) → List (Said T)
   replies_said replies = list_map said_by replies
+
+  -- what the reply to a refusal says, where no value was handed in
+  abbrev pub refusal_said : Refused BorrowMutError → Said T
+  refusal_said (refused.Borrow e) = Error (trouble_of e)
+  refusal_said (refused.Store e) = Lacking e
 
   -- the session of a store's state and its places
   abbrev pub session_in : State T → List (Thing T) → SessionState T

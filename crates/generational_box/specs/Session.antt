@@ -6,15 +6,16 @@ use Rattle.generational_box.specs.declared.error.Location.{Location}
 use Rattle.generational_box.specs.declared.error.StoreError.{StoreError}
 use Rattle.generational_box.specs.declared.boxes.GenerationalPointer.{GenerationalPointer}
 use Rattle.generational_box.specs.declared.boxes.GenerationalBoxId.{GenerationalBoxId}
-use Rattle.generational_box.specs.declared.session.BoxAt.{BoxAt}
-use Rattle.generational_box.specs.declared.session.BoxAt.TheVariants.{Place, Foreign}
-use Rattle.generational_box.specs.declared.session.Call.{Call}
-use Rattle.generational_box.specs.declared.session.Call.TheVariants as call
-use Rattle.generational_box.specs.Boxes.{pointer_of}
+use Rattle.generational_box.specs.declared.calls.BoxAt.{BoxAt}
+use Rattle.generational_box.specs.declared.calls.BoxAt.TheVariants.{Place, Foreign}
+use Rattle.generational_box.specs.declared.calls.Call.{Call}
+use Rattle.generational_box.specs.declared.calls.Call.TheVariants as call
+use Rattle.generational_box.specs.Boxes.{pointer_of, has_same_id}
 use Rattle.generational_box.specs.State.{State}
 use Rattle.generational_box.specs.Borrowing.{Trouble, Guard}
 use Rattle.generational_box.specs.Machine.{Action, Answer, OwnerName, Outcome, act}
-use Rattle.generational_box.specs.Machine.Action.{Make, Read, Write, End}
+use Rattle.generational_box.specs.Machine.Action.{Make, NewOwner, CloneOwner, ReleaseOwner}
+use Rattle.generational_box.specs.Machine.Action.{LeakOwner, Read, Write, End}
 use Rattle.generational_box.specs.Machine.Action.{ReleaseReader, ReleaseWriter}
 use Rattle.generational_box.specs.Machine.Answer.{Made, Owned, Reads, Writes, Done, Old, Flag}
 use Rattle.generational_box.specs.Machine.Answer.{Back, Troubled, Refused}
@@ -68,6 +69,10 @@ module _ {T : Type 0} where
   box_held (Boxed b) = Some b
   box_held _ = None
 
+  abbrev pub owner_held : Held T → Option OwnerName
+  owner_held (Owning o) = Some o
+  owner_held _ = None
+
   -- the box that a call names; a foreign one must be of another store
   abbrev pub box_in : SessionState T → BoxAt T → Option GenerationalPointer
   box_in s (Place p) = box_held (held s.table p)
@@ -79,6 +84,14 @@ module _ {T : Type 0} where
   with_box None back next = Tells (NoSuch back)
   with_box (Some b) back next = next b
 
+  abbrev pub with_owner : Option OwnerName → Option T → (OwnerName → Asked T) → Asked T
+  with_owner None back next = Tells (NoSuch back)
+  with_owner (Some o) back next = next o
+
+  -- a question about a box that looks at no store
+  abbrev pub told : Option GenerationalPointer → (GenerationalPointer → Said T) → Asked T
+  told b say = with_box b None (λ b. Tells (say b))
+
   abbrev pub released : Held T → Asked T
   released (Reading g) = Asks (ReleaseReader g)
   released (Writing g v) = Asks (ReleaseWriter g v)
@@ -88,18 +101,34 @@ module _ {T : Type 0} where
   replaced p (Writing g old) v = Swaps p g v old
   replaced p _ v = Tells (NoSuch (Some v))
 
+  -- the owner that a call names
+  abbrev pub owner_in : SessionState T → ℕ → Option OwnerName
+  owner_in s p = owner_held (held s.table p)
+
   -- what each call asks of the machine
   abbrev pub asked : SessionState T → Call T → Asked T
   asked s (call.Leak v l) = Asks (Make None v l)
+  asked s (call.Insert p v l) =
+      with_owner (owner_in s p) (Some v) (λ o. Asks (Make (Some o) v l))
+  asked s call.Owner = Asks NewOwner
+  asked s (call.CloneOwner p) = with_owner (owner_in s p) None (λ o. Asks (CloneOwner o))
+  asked s (call.ReleaseOwner p) = with_owner (owner_in s p) None (λ o. Asks (ReleaseOwner o))
+  asked s (call.LeakOwner p) = with_owner (owner_in s p) None (λ o. Asks (LeakOwner o))
   asked s (call.TryRead b l) = with_box (box_in s b) None (λ b. Asks (Read b l))
   asked s (call.TryWrite b l) = with_box (box_in s b) None (λ b. Asks (Write b l))
   asked s (call.Replace p v) = replaced p (held s.table p) v
   asked s (call.Release p) = released (held s.table p)
   asked s (call.ManuallyDrop b) = with_box (box_in s b) None (λ b. Asks (End b))
+  asked s (call.PtrEq a b) =
+      with_box (box_in s a) None (λ a. told (box_in s b) (λ b. Yes (has_same_id a b)))
+  asked s (call.Id b) = told (box_in s b) (λ b. TheId b.id)
+  asked s (call.RawPtr b) = told (box_in s b) (λ b. TheSlot b.id.slot)
+  asked s (call.CreatedAt b) = told (box_in s b) (λ b. Created b.created_at)
 
   -- a refusal of the store, with the value where one was handed in
   abbrev pub refusal : Call T → StoreError → Said T
   refusal (call.Leak v l) e = HandedBack v e
+  refusal (call.Insert p v l) e = HandedBack v e
   refusal _ e = Lacking e
 
   abbrev pub is_release : Call T → Bool
@@ -127,9 +156,12 @@ module _ {T : Type 0} where
   gives (Writes g v) = Writing g v
   gives _ = Nothing
 
-  -- a guard that is spent leaves nothing at its place
+  -- A guard or an owner that is spent leaves nothing at its place. An owner whose release was
+  -- refused stays there.
   abbrev pub spent : Call T → Answer T → List (Held T) → List (Held T)
   spent (call.Release p) a table = slice_set table p Nothing
+  spent (call.ReleaseOwner p) Done table = slice_set table p Nothing
+  spent (call.LeakOwner p) a table = slice_set table p Nothing
   spent _ a table = table
 
   -- the session with one place more

@@ -13,7 +13,7 @@ ghost use Rattle.generational_box.specs.Machine.{Action, Answer, Fresh, act};
 ghost use Rattle.generational_box.specs.Steps.{Meets};
 ghost use Rattle.generational_box.specs.Slots.{slots, retired};
 ghost use Rattle.generational_box.specs.Bounds.{IsBounded};
-ghost use Rattle.generational_box.specs.declared.session.Call.{Call};
+ghost use Rattle.generational_box.specs.declared.calls.Call.{Call};
 ghost use Rattle.generational_box.specs.Session.{SessionState, Said, SessionStep, Run};
 ghost use Rattle.generational_box.specs.Holding.{IsKept};
 ghost use Rattle.generational_box.specs.Keeping.{Sets, IsUnwritten, IsUndisturbed, Undisturbed};

@@ -13,10 +13,12 @@
 #![tactic(auto)]
 
 mod boxes;
+mod calls;
 mod entry;
 mod error;
 mod laws;
 mod owners;
+mod places;
 mod pool;
 mod readers;
 mod references;
@@ -26,6 +28,7 @@ mod storage;
 mod unsync;
 
 pub use crate::boxes::{GenerationalBox, GenerationalBoxId, GenerationalPointer};
+pub use crate::calls::{BoxAt, Call, Reply};
 pub use crate::error::{
     AlreadyBorrowedError, AlreadyBorrowedMutError, BorrowError, BorrowMutError, BorrowMutResult,
     BorrowResult, Location, Refusal, Refused, StoreError, ValueDroppedError,
@@ -33,7 +36,7 @@ pub use crate::error::{
 pub use crate::owners::Owner;
 pub use crate::pool::{LastFirst, SlotPool};
 pub use crate::references::{GenerationalRef, GenerationalRefMut, Mut, Ref};
-pub use crate::session::{BoxAt, Call, Reply, Session};
+pub use crate::session::Session;
 pub use crate::steps::StepCall;
 pub use crate::storage::{AnyStorage, Storage};
 pub use crate::unsync::{Numbers, Store, UnsyncStorage};

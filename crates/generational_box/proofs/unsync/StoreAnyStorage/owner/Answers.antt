@@ -1,6 +1,6 @@
 use Rattle.std.proofs.Common.{arith, ap, subst, sym, ◌+◌}
 use Rattle.generational_box.specs.Records.{owners_of, holding_of, AreCounted}
-use Rattle.generational_box.proofs.Calls.{next_of}
+use Rattle.generational_box.proofs.CallReads.{next_of}
 use Rattle.generational_box.proofs.OwnerMaps.{counted_new}
 use Rattle.generational_box.proofs.OwnerCalls.{new_exhausted, new_step}
 use Rattle.generational_box.proofs.unsync.StoreAnyStorage.owner.Goals as goal

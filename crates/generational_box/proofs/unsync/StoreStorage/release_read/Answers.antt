@@ -1,4 +1,4 @@
-use Rattle.generational_box.proofs.Calls.{released_by_kept, release_of_gone}
+use Rattle.generational_box.proofs.CallReads.{released_by_kept, release_of_gone}
 use Rattle.generational_box.proofs.unsync.StoreStorage.release_read.Goals as goal
 
 pub returns-in-Some : goal.returns-in-Some

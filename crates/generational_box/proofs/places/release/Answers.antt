@@ -1,9 +1,9 @@
 use Rattle.std.proofs.Common.{◌≡◌, Some, arith, slice_get}
 use Rattle.std.proofs.lemmas.Grind.{common_steps}
 use Rattle.std.proofs.lemmas.Option.{gets}
-use Rattle.generational_box.specs.declared.session.Thing.TheVariants.{Reader, Writer}
+use Rattle.generational_box.specs.declared.places.Thing.TheVariants.{Reader, Writer}
 use Rattle.generational_box.proofs.SessionCalls.{release_gives, writer_release_gives}
-use Rattle.generational_box.proofs.session.release.Goals as goal
+use Rattle.generational_box.proofs.places.release.Goals as goal
 
 pub returns-in-Reader-clause-step : goal.returns-in-Reader-clause-step
 returns-in-Reader-clause-step g c =

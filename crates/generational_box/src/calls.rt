@@ -1,0 +1,82 @@
+//! The calls of a session, and their replies.
+
+use crate::boxes::{GenerationalBox, GenerationalBoxId};
+use crate::error::{BorrowMutError, Location, StoreError};
+
+/// A box in a call.
+#[derive(Drop)]
+pub enum BoxAt<T> {
+    /// The box that the call of this place gave.
+    Place(usize),
+    /// A box of a store with another number.
+    Foreign(GenerationalBox<T>),
+}
+
+/// A call of a session. Places count the session's calls from 0.
+#[derive(Drop)]
+pub enum Call<T> {
+    /// Makes a box of the value.
+    Leak(T, Location),
+    /// Makes a box of the value, which ends with the owner of this place.
+    Insert(usize, T, Location),
+    /// Makes an owner.
+    Owner,
+    /// Makes another owner value of the record of this place's owner.
+    CloneOwner(usize),
+    /// Releases the owner of this place.
+    ReleaseOwner(usize),
+    /// Spends the owner of this place, and leaves its boxes as they are.
+    LeakOwner(usize),
+    /// Begins a read.
+    TryRead(BoxAt<T>, Location),
+    /// Begins a write.
+    TryWrite(BoxAt<T>, Location),
+    /// Puts a value in the place of the one that the writer of this place owns.
+    Replace(usize, T),
+    /// Releases the guard that the call of this place gave.
+    Release(usize),
+    /// Ends the box's cell.
+    ManuallyDrop(BoxAt<T>),
+    /// Asks whether two boxes have one id.
+    PtrEq(BoxAt<T>, BoxAt<T>),
+    /// Asks for the box's id.
+    Id(BoxAt<T>),
+    /// Asks for the number of the box's slot.
+    RawPtr(BoxAt<T>),
+    /// Asks for the location at which the box was made.
+    CreatedAt(BoxAt<T>),
+}
+
+/// What a call is answered.
+#[derive(Drop)]
+pub enum Reply<T> {
+    /// A box was made.
+    Box(GenerationalBox<T>),
+    /// An owner was made: the place holds it.
+    Owner,
+    /// A read has begun: the place holds its guard.
+    Reader,
+    /// A write has begun: the place holds its guard, which owns the value.
+    Writer,
+    /// The call was carried out.
+    Done,
+    /// The value that a writer owned before.
+    Old(T),
+    /// Whether it is so.
+    Flag(bool),
+    /// An id.
+    Id(GenerationalBoxId),
+    /// The number of a slot.
+    Slot(usize),
+    /// The location at which a box was made.
+    Created(Location),
+    /// A borrow error. Nothing has changed: an owner whose release is refused so stays held.
+    Error(BorrowMutError),
+    /// A refusal of the store where no value was handed in. Nothing has changed.
+    Store(StoreError),
+    /// A refusal of the store, with the value that was handed in. Nothing has changed.
+    Back(T, StoreError),
+    /// A place that gave no such thing, or whose guard or owner is spent; a foreign box with this
+    /// store's number. A value that was handed in comes back. Nothing has changed.
+    NoSuch(Option<T>),
+}
