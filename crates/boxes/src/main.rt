@@ -3,19 +3,28 @@
 //!
 //! A line ends with the byte 0A alone, and a last line without it counts if it is not empty. The
 //! words of a line are parted by exactly one space, and a VALUE is all that follows the space after
-//! the last word, possibly nothing. Numbers name earlier lines: what `leak`, `try_read` or
-//! `try_write` gave is called by the number of its line, decimal, from 1 to 1000000, without sign
-//! or leading zeros.
+//! the last word, possibly nothing. Numbers name earlier lines: the box, the guard or the owner that
+//! a line gave is called by the line's number, decimal, from 1 to 1000000, without sign or leading
+//! zeros. B is a line that gave a box, G one that gave a guard, O one that gave an owner, and N one
+//! that gave a guard or an owner.
 //!
 //! | line              | its reply                                           |
 //! |-------------------|-----------------------------------------------------|
 //! | `leak VALUE`      | `box SLOT@GENERATION`                               |
-//! | `try_read B`      | `reader`, of the box that line B gave               |
-//! | `try_write B`     | `writer`, of the box that line B gave               |
-//! | `replace G VALUE` | `old ` and the value that line G's writer had       |
-//! | `show G`          | `value ` and the value that line G's guard lends    |
-//! | `release N`       | `ok`, and line N's guard is spent                   |
-//! | `end B`           | `ok`, and the value of the box of line B is gone    |
+//! | `owner`           | `owner`                                             |
+//! | `insert O VALUE`  | `box SLOT@GENERATION`, of a box that O's owner ends |
+//! | `clone O`         | `owner`, of the same boxes                          |
+//! | `leak_owner O`    | `ok`, and O's owner is spent, its boxes stay        |
+//! | `try_read B`      | `reader`                                            |
+//! | `try_write B`     | `writer`                                            |
+//! | `replace G VALUE` | `old ` and the value that G's writer had            |
+//! | `show G`          | `value ` and the value that G's guard lends         |
+//! | `release N`       | `ok`, and N's guard or owner is spent               |
+//! | `end B`           | `ok`, and the value of B's box is gone              |
+//! | `ptr_eq B B`      | `true` or `false`: whether both boxes have one id   |
+//! | `id B`            | `SLOT@GENERATION`                                   |
+//! | `created_at B`    | the location of the line that made the value        |
+//! | `stats`           | `slots S free F retired R peak P`, in numbers       |
 //!
 //! Any other line, such as one that is not UTF-8, is answered `bad line`, and a number of a line
 //! that gave no such thing `no such`. A borrow that the store denies is answered `error: ` and its

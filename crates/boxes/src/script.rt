@@ -3,7 +3,9 @@ ghost use Rattle.std.specs.Prelude.{◌≡◌, ◌↔◌, ℕ, ◌<◌, ◌≤�
 ghost use Rattle.std.specs.Fmt.{decimal};
 
 use crate::fault::Fault;
-use generational_box::{BoxAt, Call, Location, Reply, Session, StoreError, UnsyncStorage};
+use generational_box::{
+    AnyStorage, BoxAt, Call, Location, Reply, Session, StoreError, UnsyncStorage,
+};
 use std::alloc::{AllocError, Global};
 use std::io;
 use std::io::Write;
@@ -15,12 +17,20 @@ pub const MOST_LINES: u32 = 1_000_000;
 #[derive(Clone, Copy)]
 enum Command<'a> {
     Leak(&'a str),
+    Owner,
+    Insert(u32, &'a str),
+    Clone(u32),
+    LeakOwner(u32),
     TryRead(u32),
     TryWrite(u32),
     Replace(u32, &'a str),
     Show(u32),
     Release(u32),
     End(u32),
+    PtrEq(u32, u32),
+    Id(u32),
+    CreatedAt(u32),
+    Stats,
 }
 
 /// What a command asks of the session. The lines have become places.
@@ -28,12 +38,20 @@ enum Command<'a> {
 enum Request {
     Call(Call<String>),
     View(usize),
+    Stats,
+}
+
+/// What a line gave.
+#[derive(Clone, Copy)]
+struct Given {
+    place: usize,
+    is_owner: bool,
 }
 
 /// The places of the lines' calls.
 #[derive(Drop)]
 struct Places {
-    by_line: Vec<Option<usize>>,
+    by_line: Vec<Option<Given>>,
     given: usize,
     ghost counted: { given ≤ vec_len by_line },
 }
@@ -55,22 +73,28 @@ impl Places {
     }
 
     // Gives the next place to the last line.
-    fn give_place(&mut self)
+    fn give_place(&mut self, is_owner: bool)
         requires { self.old.given < vec_len self.old.by_line }
     {
         if let Some(last) = self.by_line.last_mut() {
-            *last = Some(self.given);
+            *last = Some(Given {
+                place: self.given,
+                is_owner,
+            });
         }
         self.given += 1;
     }
 
-    // The place of a line's call. For a line without one it is the place of the next call, which
-    // holds nothing yet.
-    fn at(&self, line: u32) -> usize {
+    // What a line gave. A line without a call has the place of the next call, which holds nothing
+    // yet.
+    fn at(&self, line: u32) -> Given {
         let index = (line as usize).saturating_sub(1);
         match self.by_line.get(index) {
-            Some(Some(place)) => *place,
-            _ => self.given,
+            Some(Some(given)) => *given,
+            _ => Given {
+                place: self.given,
+                is_owner: false,
+            },
         }
     }
 }
@@ -113,31 +137,57 @@ impl Script {
         match request {
             Request::Call(call) => self.call(call, output),
             Request::View(place) => self.view(place, output),
+            Request::Stats => self.stats(output),
         }
         .map_err(|_| Fault::Output)
     }
 
     // What a command asks of the session.
     fn request(&self, command: Command<'_>, location: Location) -> Result<Request, AllocError> {
-        Ok(match command {
-            Command::Leak(value) => {
-                Request::Call(Call::Leak(String::from_str(self.alloc, value)?, location))
+        Ok(Request::Call(match command {
+            Command::Leak(value) => Call::Leak(self.value(value)?, location),
+            Command::Insert(line, value) => {
+                Call::Insert(self.place(line), self.value(value)?, location)
             }
-            Command::TryRead(line) => Request::Call(Call::TryRead(self.box_at(line), location)),
-            Command::TryWrite(line) => Request::Call(Call::TryWrite(self.box_at(line), location)),
-            Command::Replace(line, value) => {
-                let value = String::from_str(self.alloc, value)?;
-                Request::Call(Call::Replace(self.places.at(line), value))
-            }
-            Command::Show(line) => Request::View(self.places.at(line)),
-            Command::Release(line) => Request::Call(Call::Release(self.places.at(line))),
-            Command::End(line) => Request::Call(Call::ManuallyDrop(self.box_at(line))),
-        })
+            Command::Owner => Call::Owner,
+            Command::Clone(line) => Call::CloneOwner(self.place(line)),
+            Command::LeakOwner(line) => Call::LeakOwner(self.place(line)),
+            Command::TryRead(line) => Call::TryRead(self.box_at(line), location),
+            Command::TryWrite(line) => Call::TryWrite(self.box_at(line), location),
+            Command::Replace(line, value) => Call::Replace(self.place(line), self.value(value)?),
+            Command::Show(line) => return Ok(Request::View(self.place(line))),
+            Command::Release(line) => self.release(line),
+            Command::End(line) => Call::ManuallyDrop(self.box_at(line)),
+            Command::PtrEq(one, other) => Call::PtrEq(self.box_at(one), self.box_at(other)),
+            Command::Id(line) => Call::Id(self.box_at(line)),
+            Command::CreatedAt(line) => Call::CreatedAt(self.box_at(line)),
+            Command::Stats => return Ok(Request::Stats),
+        }))
+    }
+
+    // A value of its own.
+    fn value(&self, value: &str) -> Result<String, AllocError> {
+        String::from_str(self.alloc, value)
+    }
+
+    // The place of a line's call.
+    fn place(&self, line: u32) -> usize {
+        self.places.at(line).place
     }
 
     // The box that a line gave.
     fn box_at(&self, line: u32) -> BoxAt<String> {
-        BoxAt::Place(self.places.at(line))
+        BoxAt::Place(self.place(line))
+    }
+
+    // The release of the owner or the guard that a line gave.
+    fn release(&self, line: u32) -> Call<String> {
+        let given = self.places.at(line);
+        if given.is_owner {
+            Call::ReleaseOwner(given.place)
+        } else {
+            Call::Release(given.place)
+        }
     }
 
     // Makes a call and writes its reply. A call that comes back gave the line no place.
@@ -146,7 +196,8 @@ impl Script {
     {
         match self.session.call(call) {
             Ok(reply) => {
-                self.places.give_place();
+                let is_owner = matches!(reply, Reply::Owner);
+                self.places.give_place(is_owner);
                 write_reply(output, reply)
             }
             Err(_) => writeln!(output, "refused: {}", StoreError::OutOfMemory),
@@ -159,6 +210,19 @@ impl Script {
             Some(value) => writeln!(output, "value {value}"),
             None => writeln!(output, "no such"),
         }
+    }
+
+    // Writes how many slots there are, and how they stand.
+    fn stats<W: Write>(&self, output: &mut W) -> io::Result<()> {
+        let store = self.session.store();
+        writeln!(
+            output,
+            "slots {} free {} retired {} peak {}",
+            store.slots(),
+            store.free(),
+            store.retired(),
+            store.peak_live()
+        )
     }
 
     /// Lets the store go, with all that it holds.
@@ -175,21 +239,53 @@ impl Script {
 // The command of a line, if the line has the form of one.
 fn parse(line: &[u8]) -> Option<Command<'_>> {
     let text = str::from_utf8(line).ok()?;
-    let (word, rest) = match text.split_once(' ') {
-        Some((word, rest)) => (word, Some(rest)),
-        None => (text, None),
-    };
-    match (word, rest) {
-        ("leak", Some(value)) => Some(Command::Leak(value)),
-        ("try_read", Some(line)) => Some(Command::TryRead(line_number(line)?)),
-        ("try_write", Some(line)) => Some(Command::TryWrite(line_number(line)?)),
-        ("replace", Some(rest)) => {
+    match text.split_once(' ') {
+        Some((word, rest)) => parse_words(word, rest),
+        None => parse_word(text),
+    }
+}
+
+// The command of a line of one word.
+fn parse_word(word: &str) -> Option<Command<'_>> {
+    match word {
+        "owner" => Some(Command::Owner),
+        "stats" => Some(Command::Stats),
+        _ => None,
+    }
+}
+
+// The command of a line of several words.
+fn parse_words<'a>(word: &str, rest: &'a str) -> Option<Command<'a>> {
+    match word {
+        "leak" => Some(Command::Leak(rest)),
+        "insert" => {
+            let (line, value) = line_and_value(rest)?;
+            Some(Command::Insert(line, value))
+        }
+        "replace" => {
             let (line, value) = line_and_value(rest)?;
             Some(Command::Replace(line, value))
         }
-        ("show", Some(line)) => Some(Command::Show(line_number(line)?)),
-        ("release", Some(line)) => Some(Command::Release(line_number(line)?)),
-        ("end", Some(line)) => Some(Command::End(line_number(line)?)),
+        "ptr_eq" => {
+            let (one, other) = rest.split_once(' ')?;
+            Some(Command::PtrEq(line_number(one)?, line_number(other)?))
+        }
+        _ => of_line(word, line_number(rest)?),
+    }
+}
+
+// The command of a word and the number of a line.
+fn of_line<'a>(word: &str, line: u32) -> Option<Command<'a>> {
+    match word {
+        "clone" => Some(Command::Clone(line)),
+        "leak_owner" => Some(Command::LeakOwner(line)),
+        "try_read" => Some(Command::TryRead(line)),
+        "try_write" => Some(Command::TryWrite(line)),
+        "show" => Some(Command::Show(line)),
+        "release" => Some(Command::Release(line)),
+        "end" => Some(Command::End(line)),
+        "id" => Some(Command::Id(line)),
+        "created_at" => Some(Command::CreatedAt(line)),
         _ => None,
     }
 }
@@ -233,10 +329,15 @@ fn begins_above_zero(word: &str) -> bool
 fn write_reply<W: Write>(output: &mut W, reply: Reply<String>) -> io::Result<()> {
     match reply {
         Reply::Box(made) => writeln!(output, "box {made:?}"),
+        Reply::Owner => writeln!(output, "owner"),
         Reply::Reader => writeln!(output, "reader"),
         Reply::Writer => writeln!(output, "writer"),
         Reply::Done => writeln!(output, "ok"),
         Reply::Old(value) => writeln!(output, "old {value}"),
+        Reply::Flag(flag) => writeln!(output, "{flag}"),
+        Reply::Id(id) => writeln!(output, "{id:?}"),
+        Reply::Slot(slot) => writeln!(output, "{slot}"),
+        Reply::Created(location) => writeln!(output, "{location}"),
         Reply::Error(error) => writeln!(output, "error: {error}"),
         Reply::Store(error) | Reply::Back(_, error) => writeln!(output, "refused: {error}"),
         Reply::NoSuch(_) => writeln!(output, "no such"),

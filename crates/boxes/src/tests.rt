@@ -172,6 +172,57 @@ fn writers_keep_others_out(rt: HostRuntime) {
     );
 }
 
+const NINE_LINES: &str =
+    "owner\ninsert 1 hello world\ntry_read 2\nshow 3\nrelease 1\nrelease 3\nrelease 1\ntry_read 2\nstats\n";
+
+const NINE_REPLIES: &str =
+    "owner\nbox 0@1\nreader\nvalue hello world\nerror: Failed to borrow mutably because the value was already borrowed immutably.borrowed_at:\tscript:3:1\nok\nok\nerror: Failed to borrow because the value was dropped.created_at: script:2:1\nslots 1 free 1 retired 0 peak 1\n";
+
+#[test]
+fn an_owner_ends_its_box_once_nobody_reads_it(rt: HostRuntime) {
+    assert_replies(&rt, rt.alloc(), NINE_LINES, NINE_REPLIES);
+}
+
+#[test]
+fn owners_are_cloned_and_released(rt: HostRuntime) {
+    assert_replies(
+        &rt,
+        rt.alloc(),
+        "owner\nclone 1\ninsert 2 a\ninsert 1\ninsert 1 \ninsert 3 b\nrelease 1\nrelease 1\ninsert 1 c\ntry_read 3\nrelease 2\nshow 10\nrelease 10\nrelease 2\ntry_read 3\ntry_read 5\nstats\nclone 2\n",
+        "owner\nowner\nbox 0@1\nbad line\nbox 1@1\nno such\nok\nno such\nno such\nreader\nerror: Failed to borrow mutably because the value was already borrowed immutably.borrowed_at:\tscript:10:1\nvalue a\nok\nok\nerror: Failed to borrow because the value was dropped.created_at: script:3:1\nerror: Failed to borrow because the value was dropped.created_at: script:5:1\nslots 2 free 2 retired 0 peak 2\nno such\n",
+    );
+}
+
+#[test]
+fn boxes_of_a_leaked_owner_stay(rt: HostRuntime) {
+    assert_replies(
+        &rt,
+        rt.alloc(),
+        "owner\ninsert 1 a\nclone 1\nleak_owner 3\nleak_owner 3\nrelease 1\ntry_read 2\nshow 7\nrelease 3\nleak_owner 2\n",
+        "owner\nbox 0@1\nowner\nok\nno such\nok\nreader\nvalue a\nno such\nno such\n",
+    );
+}
+
+#[test]
+fn boxes_are_told_apart(rt: HostRuntime) {
+    assert_replies(
+        &rt,
+        rt.alloc(),
+        "leak a\nleak b\nptr_eq 1 1\nptr_eq 1 2\nend 1\nleak c\nptr_eq 1 6\nid 1\nid 6\ncreated_at 1\ncreated_at 6\nptr_eq 1\nptr_eq 1 12\nid 3\ncreated_at 0\nstats\n",
+        "box 0@1\nbox 1@1\ntrue\nfalse\nok\nbox 0@2\nfalse\n0@1\n0@2\nscript:1:1\nscript:6:1\nbad line\nno such\nno such\nbad line\nslots 2 free 0 retired 0 peak 2\n",
+    );
+}
+
+#[test]
+fn commands_of_one_word(rt: HostRuntime) {
+    assert_replies(
+        &rt,
+        rt.alloc(),
+        "stats\nstats \nowner \nowner 1\nclone\nrelease\nowner\nrelease 7\nstats\n",
+        "slots 0 free 0 retired 0 peak 0\nbad line\nbad line\nbad line\nbad line\nbad line\nowner\nok\nslots 0 free 0 retired 0 peak 0\n",
+    );
+}
+
 #[test]
 fn no_input_and_no_fault(rt: HostRuntime) {
     assert_replies(&rt, rt.alloc(), "", "");
