@@ -13,6 +13,8 @@ mod memory;
 #[cfg(test)]
 mod numbers;
 #[cfg(test)]
+mod owned_lists;
+#[cfg(test)]
 mod reading;
 #[cfg(test)]
 mod strangers;

@@ -64,7 +64,7 @@ fn a_run_answers_each_call_in_order(rt: HostRuntime) -> Result<(), Fail> {
 }
 
 /// Answers a call.
-fn call<T: Drop, S: Storage<T>>(
+pub(crate) fn call<T: Drop, S: Storage<T>>(
     rt: &impl Abort,
     session: &mut Session<T, S>,
     call: Call<T>,
