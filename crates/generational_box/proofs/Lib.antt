@@ -34,6 +34,7 @@ pub mod OwnerCalls
 pub mod OwnerEnds
 pub mod OwnerMaps
 pub mod OwnerScans
+pub mod OwnerValues
 pub mod Placing
 pub mod Plain
 pub mod PlainSteps

@@ -1,10 +1,10 @@
 -- What a call of the machine leaves in a session, where its table keeps what the call leaves.
 use Rattle.std.proofs.Common.{◌≡◌, ◌≢◌, ℕ, ◌+◌, ◌<◌, true, false, List, [], ◌∷◌, ◌++◌, length}
 use Rattle.std.proofs.Common.{Option, None, Some, refl, sym, ap, subst, ◌∙◌, inl, inr, ⊎_elim}
-use Rattle.std.proofs.Common.{arith}
+use Rattle.std.proofs.Common.{arith, ◌≤◌}
 use Rattle.std.specs.Prelude.{nat_eq, ◌||◌, ◌⊎◌, map as list_map}
 use Rattle.std.specs.Cmp.{nat_eq_equiv}
-use Rattle.std.specs.List.{list_any}
+use Rattle.std.specs.List.{list_any, count_by}
 use Rattle.std.proofs.lemmas.Bool.{true≢false, and_parts, or_left}
 use Rattle.generational_box.specs.declared.entry.Borrow.{Borrow}
 use Rattle.generational_box.specs.declared.boxes.GenerationalPointer.{GenerationalPointer}
@@ -15,18 +15,21 @@ use Rattle.generational_box.specs.State.{State, IsSound, tickets_of}
 use Rattle.generational_box.specs.Boxes.{name_of}
 use Rattle.generational_box.specs.Borrowing.{Guard, content_at}
 use Rattle.generational_box.specs.Machine.{Action, Answer, has_reader, has_writer, knows_reader}
-use Rattle.generational_box.specs.Machine.{knows_writer}
-use Rattle.generational_box.specs.Machine.Answer.{Made, Owned, Reads, Writes}
+use Rattle.generational_box.specs.Machine.{OwnerName, knows_writer}
+use Rattle.generational_box.specs.Machine.Answer.{Made, Owned, Reads, Writes, Done, Old, Flag, Back}
+use Rattle.generational_box.specs.Machine.Answer.{Troubled, Refused}
+use Rattle.generational_box.specs.Records.{count_under}
 use Rattle.generational_box.specs.Steps.{Meets}
 use Rattle.generational_box.specs.Session.{SessionState, Held}
 use Rattle.generational_box.specs.Session.{held, gives}
-use Rattle.generational_box.specs.Session.Held.{Boxed, Reading, Writing, Nothing}
-use Rattle.generational_box.specs.Holding.{IsKept}
+use Rattle.generational_box.specs.Session.Held.{Boxed, Reading, Writing, Owning, Nothing}
+use Rattle.generational_box.specs.Holding.{IsKept, holds_owner}
 use Rattle.generational_box.proofs.Saying.{IsNewBox}
 use Rattle.generational_box.proofs.Stepping.{meets_sound, meets_number, meets_given}
 use Rattle.generational_box.proofs.Stepping.{meets_says, reads_known, writes_known, reader_stays}
 use Rattle.generational_box.proofs.Stepping.{writer_stays, ends_reader, ends_writer}
-use Rattle.generational_box.proofs.Tables.{held_pushed}
+use Rattle.generational_box.proofs.OwnerValues.{one_if, gained, lost, Counts, meets_counts}
+use Rattle.generational_box.proofs.Tables.{held_pushed, count_pushed}
 
 module _ {T : Type 0} where
   -- ---- tickets of known guards are below the next one
@@ -95,10 +98,36 @@ module _ {T : Type 0} where
   Remains action old new =
       (p : ℕ) → (held new p ≡ Nothing) ⊎ ((held new p ≡ held old p) × Unspent action (held old p))
 
+  -- no more owners are held than before, and those that the call spends aren't
+  abbrev pub Spends : Action T → Answer T → List (Held T) → List (Held T) → Type 0
+  Spends action answer old new = (key : ℕ)
+      → count_by (holds_owner key) new + lost action answer key ≤ count_by (holds_owner key) old
+
+  gives_owner : (answer : Answer T) (o : OwnerName) → gives answer ≡ Owning o → answer ≡ Owned o
+  gives_owner (Made c) o h = cc
+  gives_owner (Owned c) o h = cc
+  gives_owner (Reads k) o h = cc
+  gives_owner (Writes k v) o h = cc
+  gives_owner _ o h = cc
+
+  gives_counted : (answer : Answer T) (key : ℕ)
+      → one_if (holds_owner key (gives answer)) ≡ gained answer key
+  gives_counted (Made c) key = refl
+  gives_counted (Owned o) key = refl
+  gives_counted (Reads g) key = refl
+  gives_counted (Writes g v) key = refl
+  gives_counted Done key = refl
+  gives_counted (Old v) key = refl
+  gives_counted (Flag b) key = refl
+  gives_counted (Back v) key = refl
+  gives_counted (Troubled t) key = refl
+  gives_counted (Refused e) key = refl
+
   -- what a call leaves is kept, where its table has what remains, and at the end what was given
   module _ (s : SessionState T) (kept : IsKept s)
       (action : Action T) (answer : Answer T) (R : State T) (meets : Meets s.state action answer R)
-      (table : List (Held T)) (remains : Remains action s.table table) where
+      (table : List (Held T)) (remains : Remains action s.table table)
+      (spends : Spends action answer s.table table) where
     -- what a place holds was there before, or was given now
     place : (p : ℕ) (x : Held T) → held (table ++ gives answer ∷ []) p ≡ x → x ≢ Nothing
         → ((held s.table p ≡ x) × Unspent action x) ⊎ ((p ≡ length table) × (gives answer ≡ x))
@@ -175,6 +204,24 @@ module _ {T : Type 0} where
         let next = new.1 in
         omega arith
 
+    counts : Counts s.state action (answer, R)
+    counts = meets_counts s.state R action answer kept.sound meets
+
+    owner_place : (p : ℕ) (o : OwnerName) → held (table ++ gives answer ∷ []) p ≡ Owning o
+        → o.store ≡ s.state.number
+    owner_place p o is = ⊎_elim (λ e. kept.owners p o e.0)
+        (λ e. counts.own o (gives_owner answer o e.1)) (place p (Owning o) is (λ none. cc))
+
+    still_counted : (key : ℕ) → count_by (holds_owner key) (table ++ gives answer ∷ [])
+        ≤ count_under R.owners key
+    still_counted key =
+        let pushed = count_pushed (holds_owner key) table (gives answer) in
+        let given = gives_counted answer key in
+        let left = spends key in
+        let before = kept.counted key in
+        let by = counts.counted key in
+        omega arith
+
     pub kept_after : IsKept
         (let r : SessionState T = record { state = R; table = table ++ gives answer ∷ [] } in r)
     kept_after = record {
@@ -200,4 +247,6 @@ module _ {T : Type 0} where
           (λ k. absurd (old_writer p g h v e.0 k.1 same)) (writer_place q h w at))
           (λ e. ⊎_elim (λ k. absurd (old_writer q h g w k.0 e.1 (sym same)))
           (λ k. e.0 ∙ sym k.0) (writer_place q h w at)) (writer_place p g v is);
+      owners = λ p o is. owner_place p o is ∙ sym (meets_number s.state R action answer meets);
+      counted = still_counted;
     }

@@ -1,15 +1,18 @@
 -- Each call of a session keeps what holds of every session, and so does a whole run.
-use Rattle.std.proofs.Common.{◌≡◌, ◌≢◌, ℕ, true, false, List, [], ◌∷◌, ◌++◌, slice_set}
-use Rattle.std.proofs.Common.{Option, None, Some, refl, sym, ap, subst, ◌∙◌, inl, inr, ⊎_elim}
+use Rattle.std.proofs.Common.{◌≡◌, ◌≢◌, ℕ, true, false, List, [], ◌∷◌, ◌++◌, slice_set, ◌≤◌, cond}
+use Rattle.std.proofs.Common.{Option, None, Some, refl, sym, ap, subst, ◌∙◌, inl, inr, ⊎_elim, arith}
 use Rattle.std.specs.Prelude.{◌⊎◌, is_some}
-use Rattle.std.proofs.lemmas.Bool.{eqb-true, false_from_ne_true}
+use Rattle.std.proofs.lemmas.Bool.{eq-eqb, eqb-true, false_from_ne_true}
+use Rattle.std.specs.Cmp.{nat_eq_equiv}
+use Rattle.std.specs.FinMap as map
 use Rattle.generational_box.specs.declared.boxes.GenerationalPointer.{GenerationalPointer}
 use Rattle.generational_box.specs.declared.calls.Call.{Call}
 use Rattle.generational_box.specs.declared.calls.Call.TheVariants as call
 use Rattle.generational_box.specs.Names.{Name}
-use Rattle.generational_box.specs.State.{State, IsSound, IsEnded, fresh}
+use Rattle.generational_box.specs.State.{State, Holding, IsSound, IsEnded, fresh}
 use Rattle.generational_box.specs.Borrowing.{Guard}
-use Rattle.generational_box.specs.Machine.{Action, Answer, OwnerName}
+use Rattle.generational_box.specs.Machine.{Action, Answer, OwnerName, is_known}
+use Rattle.generational_box.specs.Records.{count_in, count_under}
 use Rattle.generational_box.specs.Machine.Answer.{Done}
 use Rattle.generational_box.specs.Machine.Action.{Make, NewOwner, CloneOwner, ReleaseOwner}
 use Rattle.generational_box.specs.Machine.Action.{LeakOwner, Read, Write, End}
@@ -17,11 +20,11 @@ use Rattle.generational_box.specs.Machine.Action.{ReleaseReader, ReleaseWriter}
 use Rattle.generational_box.specs.Steps.{Meets}
 use Rattle.generational_box.specs.Session.{SessionState, Held, Said, Asked, Settles, SessionStep}
 use Rattle.generational_box.specs.Session.{Run, held, placed, spent, box_in, owner_in, with_box}
-use Rattle.generational_box.specs.Session.{with_owner}
+use Rattle.generational_box.specs.Session.{with_owner, owner_held}
 use Rattle.generational_box.specs.Session.{released, replaced, swapped}
 use Rattle.generational_box.specs.Session.Asked.{Asks, Tells, Swaps}
-use Rattle.generational_box.specs.Session.Held.{Boxed, Reading, Writing, Nothing}
-use Rattle.generational_box.specs.Holding.{IsKept}
+use Rattle.generational_box.specs.Session.Held.{Boxed, Reading, Writing, Owning, Nothing}
+use Rattle.generational_box.specs.Holding.{IsKept, holds_owner}
 use Rattle.generational_box.specs.Bounds.{IsBounded}
 use Rattle.generational_box.specs.Keeping.{AskedSets, IsUndisturbed, Undisturbed, value_at}
 use Rattle.generational_box.proofs.Undisturbed.{meets_value}
@@ -30,8 +33,10 @@ use Rattle.generational_box.specs.Session.{asked}
 use Rattle.generational_box.proofs.Lasting.{fresh_sound}
 use Rattle.generational_box.proofs.Stepping.{meets_sound, meets_ended}
 use Rattle.generational_box.proofs.Stepping.{ends_reader, ends_writer}
-use Rattle.generational_box.proofs.Tables.{held_pushed, held_changed, held_emptied}
-use Rattle.generational_box.proofs.Placing.{Unspent, Remains, kept_after}
+use Rattle.generational_box.proofs.OwnerValues.{one_if, lost}
+use Rattle.generational_box.proofs.Tables.{held_pushed, held_changed, held_emptied, count_pushed}
+use Rattle.generational_box.proofs.Tables.{count_changed}
+use Rattle.generational_box.proofs.Placing.{Unspent, Remains, Spends, kept_after}
 
 module _ {T : Type 0} where
   -- ---- a call
@@ -50,6 +55,9 @@ module _ {T : Type 0} where
         (was p (Reading g) is (λ none. cc)) (was q (Reading h) at (λ none. cc)) same;
     one_writer = λ p q g h v w is at same. kept.one_writer p q g h v w
         (was p (Writing g v) is (λ none. cc)) (was q (Writing h w) at (λ none. cc)) same;
+    owners = λ p o is. kept.owners p o (was p (Owning o) is (λ none. cc));
+    counted = λ key. let pushed = count_pushed (holds_owner key) s.table Nothing in
+        let before = kept.counted key in omega arith;
   }
     where
       was : (p : ℕ) (x : Held T)
@@ -74,6 +82,9 @@ module _ {T : Type 0} where
         let e = writer q h w is in
         let o = writer r k x at in
         kept.one_writer q r h k e.0 o.0 e.1 o.1 same;
+    owners = λ q o is. kept.owners q o (was q (Owning o) is (λ h w e. cc));
+    counted = λ key. let changed = count_changed (holds_owner key) refl s.table p (Writing g v) in
+        let before = kept.counted key in omega arith;
   }
     where
       was : (q : ℕ) (x : Held T) → held (swapped s p g v).table q ≡ x
@@ -91,7 +102,9 @@ module _ {T : Type 0} where
 
   -- what the table must keep when a call is asked of the machine
   abbrev Leaves : SessionState T → Call T → Asked T → Type 0
-  Leaves s c (Asks action) = (answer : Answer T) → Remains action s.table (spent c answer s.table)
+  Leaves s c (Asks action) = (answer : Answer T)
+      → Remains action s.table (spent c answer s.table)
+      × Spends action answer s.table (spent c answer s.table)
   Leaves s c (Tells x) = Unit {0}
   Leaves s c (Swaps p g v old) = held s.table p ≡ Writing g old
 
@@ -99,7 +112,8 @@ module _ {T : Type 0} where
       → IsKept s → Leaves s c a → Settles s c a x r → IsKept r
   settles_kept s r c x (Asks action) kept leaves step =
       subst (λ (o : Said T × SessionState T). IsKept o.1) (sym step.3)
-      (kept_after s kept action step.0 step.1 step.2 (spent c step.0 s.table) (leaves step.0))
+      (kept_after s kept action step.0 step.1 step.2 (spent c step.0 s.table) (leaves step.0).0
+      (leaves step.0).1)
   settles_kept s r c x (Tells y) kept leaves step = subst IsKept (sym step.1) (kept_told s kept)
   settles_kept s r c x (Swaps p g v old) kept leaves step = subst IsKept
       (sym step.1) (kept_told (swapped s p g v) (kept_swapped s p g v old kept leaves))
@@ -111,46 +125,67 @@ module _ {T : Type 0} where
   unspent action reader writer (Writing g v) = writer g.ticket
   unspent action reader writer _ = tt
 
+  -- a call that leaves the table as it is
+  leaves_all : (s : SessionState T) (action : Action T) (answer : Answer T)
+      → ((t : ℕ) → ends_reader action t ≡ false) → ((t : ℕ) → ends_writer action t ≡ false)
+      → ((key : ℕ) → lost action answer key ≡ 0)
+      → Remains action s.table s.table × Spends action answer s.table s.table
+  leaves_all s action answer reader writer owner = (
+    λ q. inr (refl, unspent action reader writer (held s.table q)),
+    λ key. let e = owner key in omega arith,
+  )
+
+  -- a call that empties a place, whose owner it may spend
+  leaves_others : (s : SessionState T) (action : Action T) (answer : Answer T) (p : ℕ)
+      → ((q : ℕ) → q ≢ p → Unspent action (held s.table q))
+      → ((key : ℕ) → lost action answer key ≤ one_if (holds_owner key (held s.table p)))
+      → Remains action s.table (slice_set s.table p Nothing)
+      × Spends action answer s.table (slice_set s.table p Nothing)
+  leaves_others s action answer p others owner = (
+    λ q. ⊎_elim inl (λ e. inr (e.0, others q e.1)) (held_emptied s.table p q),
+    λ key. let e = owner key in
+        let counts = count_changed (holds_owner key) refl s.table p Nothing in omega arith,
+  )
+
   leaves_box : (s : SessionState T) (c : Call T)
       (o : Option GenerationalPointer) (back : Option T) (next : GenerationalPointer → Asked T)
       → ((b : GenerationalPointer) → Leaves s c (next b)) → Leaves s c (with_box o back next)
   leaves_box s c None back next h = tt
   leaves_box s c (Some b) back next h = h b
 
-  leaves_owner : (s : SessionState T) (c : Call T)
-      (o : Option OwnerName) (back : Option T) (next : OwnerName → Asked T)
-      → ((o : OwnerName) → Leaves s c (next o)) → Leaves s c (with_owner o back next)
-  leaves_owner s c None back next h = tt
-  leaves_owner s c (Some o) back next h = h o
+  leaves_owner : (s : SessionState T) (c : Call T) (p : ℕ) (back : Option T)
+      (next : OwnerName → Asked T) → ((o : OwnerName) → held s.table p ≡ Owning o
+      → Leaves s c (next o)) → Leaves s c (with_owner (owner_in s p) back next)
+  leaves_owner s c p back next h = at (held s.table p) refl
+    where
+      at : (x : Held T) → held s.table p ≡ x → Leaves s c (with_owner (owner_held x) back next)
+      at (Owning o) is = h o is
+      at _ is = tt
 
-  -- a place that is emptied by a call that gives back no guard
-  remains_emptied : (s : SessionState T) (action : Action T) (p : ℕ)
-      → ((t : ℕ) → ends_reader action t ≡ false) → ((t : ℕ) → ends_writer action t ≡ false)
-      → Remains action s.table (slice_set s.table p Nothing)
-  remains_emptied s action p reader writer q =
-      ⊎_elim inl (λ e. inr (e.0, unspent action reader writer (held s.table q)))
-      (held_emptied s.table p q)
-
-  remains_released : (s : SessionState T) (o : OwnerName) (p : ℕ) (answer : Answer T)
-      → Remains (ReleaseOwner o) s.table (spent (call.ReleaseOwner p) answer s.table)
-  remains_released s o p Done =
-      remains_emptied s (ReleaseOwner o) p (λ t. refl) (λ t. refl)
-  remains_released s o p _ =
-      λ q. inr (refl, unspent (ReleaseOwner o) (λ t. refl) (λ t. refl) (held s.table q))
+  -- an owner that is released, or whose release is refused
+  leaves_owners : (s : SessionState T) (o : OwnerName) (p : ℕ) (answer : Answer T)
+      → held s.table p ≡ Owning o
+      → let table = spent (call.ReleaseOwner p) answer s.table in
+      Remains (ReleaseOwner o) s.table table × Spends (ReleaseOwner o) answer s.table table
+  leaves_owners s o p Done is = leaves_others s (ReleaseOwner o) Done p
+      (λ q ne. unspent (ReleaseOwner o) (λ t. refl) (λ t. refl) (held s.table q))
+      (λ key. let e = ap (λ x. one_if (holds_owner key x)) is in omega arith)
+  leaves_owners s o p answer is =
+      leaves_all s (ReleaseOwner o) answer (λ t. refl) (λ t. refl) (λ key. refl)
 
   -- a guard that is given back leaves those at other places
   leaves_released : (s : SessionState T) (p : ℕ) (x : Held T)
       → IsKept s → held s.table p ≡ x → Leaves s (call.Release p) (released x)
-  leaves_released s p (Reading g) kept is = λ answer q.
-      ⊎_elim inl (λ e. inr (e.0, other q (held s.table q) refl e.1)) (held_emptied s.table p q)
+  leaves_released s p (Reading g) kept is = λ answer. leaves_others s (ReleaseReader g) answer p
+      (λ q. other q (held s.table q) refl) (λ key. omega arith)
     where
       other : (q : ℕ) (x : Held T) → held s.table q ≡ x → q ≢ p → Unspent (ReleaseReader g) x
       other q (Reading h) at ne = false_from_ne_true _
           (λ e. ne (sym (kept.one_reader p q g h is at (eqb-true g.ticket h.ticket e))))
       other q (Writing h v) at ne = refl
       other q _ at ne = tt
-  leaves_released s p (Writing g w) kept is = λ answer q.
-      ⊎_elim inl (λ e. inr (e.0, other q (held s.table q) refl e.1)) (held_emptied s.table p q)
+  leaves_released s p (Writing g w) kept is = λ answer. leaves_others s (ReleaseWriter g w) answer p
+      (λ q. other q (held s.table q) refl) (λ key. omega arith)
     where
       other : (q : ℕ) (x : Held T) → held s.table q ≡ x → q ≢ p → Unspent (ReleaseWriter g w) x
       other q (Reading h) at ne = refl
@@ -166,29 +201,28 @@ module _ {T : Type 0} where
 
   leaves_asked : (s : SessionState T) (c : Call T) → IsKept s → Leaves s c (asked s c)
   leaves_asked s (call.Leak v l) kept =
-      λ answer p. inr (refl, unspent (Make None v l) (λ t. refl) (λ t. refl) (held s.table p))
-  leaves_asked s (call.Insert p v l) kept =
-      leaves_owner s (call.Insert p v l) (owner_in s p) (Some v) _ (λ o answer q.
-      inr (refl, unspent (Make (Some o) v l) (λ t. refl) (λ t. refl) (held s.table q)))
+      λ answer. leaves_all s (Make None v l) answer (λ t. refl) (λ t. refl) (λ key. refl)
+  leaves_asked s (call.Insert p v l) kept = leaves_owner s (call.Insert p v l) p (Some v) _
+      (λ o is answer. leaves_all s (Make (Some o) v l) answer (λ t. refl) (λ t. refl) (λ key. refl))
   leaves_asked s call.Owner kept =
-      λ answer p. inr (refl, unspent NewOwner (λ t. refl) (λ t. refl) (held s.table p))
-  leaves_asked s (call.CloneOwner p) kept =
-      leaves_owner s (call.CloneOwner p) (owner_in s p) None _ (λ o answer q.
-      inr (refl, unspent (CloneOwner o) (λ t. refl) (λ t. refl) (held s.table q)))
-  leaves_asked s (call.ReleaseOwner p) kept = leaves_owner s (call.ReleaseOwner p) (owner_in s p)
-      None _ (λ o answer. remains_released s o p answer)
-  leaves_asked s (call.LeakOwner p) kept = leaves_owner s (call.LeakOwner p) (owner_in s p)
-      None _ (λ o answer. remains_emptied s (LeakOwner o) p (λ t. refl) (λ t. refl))
+      λ answer. leaves_all s NewOwner answer (λ t. refl) (λ t. refl) (λ key. refl)
+  leaves_asked s (call.CloneOwner p) kept = leaves_owner s (call.CloneOwner p) p None _
+      (λ o is answer. leaves_all s (CloneOwner o) answer (λ t. refl) (λ t. refl) (λ key. refl))
+  leaves_asked s (call.ReleaseOwner p) kept = leaves_owner s (call.ReleaseOwner p) p None _
+      (λ o is answer. leaves_owners s o p answer is)
+  leaves_asked s (call.LeakOwner p) kept = leaves_owner s (call.LeakOwner p) p None _
+      (λ o is answer. leaves_others s (LeakOwner o) answer p
+      (λ q ne. unspent (LeakOwner o) (λ t. refl) (λ t. refl) (held s.table q)) (λ key. omega arith))
   leaves_asked s (call.TryRead b l) kept = leaves_box s (call.TryRead b l) (box_in s b) None _
-      (λ b answer p. inr (refl, unspent (Read b l) (λ t. refl) (λ t. refl) (held s.table p)))
+      (λ b answer. leaves_all s (Read b l) answer (λ t. refl) (λ t. refl) (λ key. refl))
   leaves_asked s (call.TryWrite b l) kept = leaves_box s (call.TryWrite b l) (box_in s b) None _
-      (λ b answer p. inr (refl, unspent (Write b l) (λ t. refl) (λ t. refl) (held s.table p)))
+      (λ b answer. leaves_all s (Write b l) answer (λ t. refl) (λ t. refl) (λ key. refl))
   leaves_asked s (call.Replace p v) kept = leaves_replaced s p v (held s.table p) refl
   leaves_asked s (call.Release p) kept = leaves_released s p (held s.table p) kept refl
   leaves_asked s (call.ManuallyDrop b) kept = leaves_box s (call.ManuallyDrop b) (box_in s b) None _
-      (λ b answer p. inr (refl, unspent (End b) (λ t. refl) (λ t. refl) (held s.table p)))
+      (λ b answer. leaves_all s (End b) answer (λ t. refl) (λ t. refl) (λ key. refl))
   leaves_asked s (call.PtrEq a b) kept = leaves_box s (call.PtrEq a b) (box_in s a) None _
-      (λ a'. leaves_box s (call.PtrEq a b) (box_in s b) None _ (λ b'. tt))
+      (λ x. leaves_box s (call.PtrEq a b) (box_in s b) None _ (λ y. tt))
   leaves_asked s (call.Id b) kept = leaves_box s (call.Id b) (box_in s b) None _ (λ b. tt)
   leaves_asked s (call.RawPtr b) kept = leaves_box s (call.RawPtr b) (box_in s b) None _ (λ b. tt)
   leaves_asked s (call.CreatedAt b) kept =
@@ -199,6 +233,26 @@ module _ {T : Type 0} where
       → IsKept s → SessionStep s c x r → IsKept r
   session_kept s r c x kept step =
       settles_kept s r c x (asked s c) kept (leaves_asked s c kept) step
+
+  -- a store knows the owners that are held
+  pub owner_known : (s : SessionState T) (p : ℕ) (o : OwnerName) → IsKept s
+      → held s.table p ≡ Owning o → is_known s.state (Some o) ≡ true
+  owner_known s p o kept is =
+      ap (λ b. is_some (cond b (map.get s.state.owners o.key) None))
+      (eq-eqb o.store s.state.number (kept.owners p o is))
+      ∙ recorded (map.get s.state.owners o.key) refl
+    where
+      held_once : 1 ≤ count_under s.state.owners o.key
+      held_once =
+          let without = count_changed (holds_owner o.key) refl s.table p Nothing in
+          let here = ap (λ x. one_if (holds_owner o.key x)) is
+          ∙ ap one_if (nat_eq_equiv.refl o.key) in
+          let counted = kept.counted o.key in
+          omega arith
+
+      recorded : (h : Option Holding) → map.get s.state.owners o.key ≡ h → is_some h ≡ true
+      recorded None e = let none = ap count_in e in let once = held_once in absurd (omega arith)
+      recorded (Some h) e = refl
 
   -- ---- what a call does to the store
 
@@ -268,6 +322,8 @@ module _ {T : Type 0} where
     writers = λ p g v is. cc;
     one_reader = λ p q g h is at same. cc;
     one_writer = λ p q g h v w is at same. cc;
+    owners = λ p o is. cc;
+    counted = λ key. omega arith;
   }
 
   -- what each call keeps, a run keeps

@@ -1,6 +1,9 @@
 -- Places of a table: what one holds when another thing is put at the end, or taken away.
 use Rattle.std.proofs.Common.{◌≡◌, ◌≢◌, ℕ, ◌+◌, ◌≤◌, ◌<◌, List, [], ◌∷◌, ◌++◌, length, sym}
-use Rattle.std.proofs.Common.{zero, suc, refl}
+use Rattle.std.proofs.Common.{zero, suc, refl, Bool, false}
+use Rattle.std.specs.List.{count_by}
+use Rattle.std.proofs.lemmas.List.Sums.{sum_by-append}
+use Rattle.generational_box.proofs.OwnerValues.{one_if}
 use Rattle.std.proofs.Common.{ap, ◌∙◌, inl, inr, ⊎_elim, arith}
 use Rattle.std.specs.Prelude.{◌⊎◌, slice_set}
 use Rattle.std.proofs.Math.ListN.{get_or-append, get_or-eq_default}
@@ -62,3 +65,29 @@ module _ {T : Type 0} where
   held_emptied table p q =
       ⊎_elim (λ is. inl (ap (held (slice_set table p Nothing)) is ∙ emptied table p))
       (λ ne. inr (get_or-set_other table p q Nothing Nothing ne, ne)) (equal_cases q p)
+
+  -- ---- how many places hold such a thing
+
+  -- a place more
+  pub count_pushed : (p : Held T → Bool) (table : List (Held T)) (h : Held T)
+      → count_by p (table ++ h ∷ []) ≡ count_by p table + one_if (p h)
+  count_pushed p table h =
+      let both = sum_by-append (λ x. one_if (p x)) table (h ∷ []) in omega arith
+
+  count_front : (p : Held T → Bool) (h : Held T) (table : List (Held T))
+      → count_by p (h ∷ table) ≡ one_if (p h) + count_by p table
+  count_front p h table =
+      let both = sum_by-append (λ x. one_if (p x)) (h ∷ []) table in omega arith
+
+  -- another thing at a place
+  pub count_changed : (p : Held T → Bool) → p Nothing ≡ false → (table : List (Held T))
+      (i : ℕ) (x : Held T) → count_by p (slice_set table i x) + one_if (p (held table i))
+      ≤ count_by p table + one_if (p x)
+  count_changed p none [] i x = let e = ap one_if none in omega arith
+  count_changed p none (h ∷ table) zero x =
+      let new = count_front p x table in let old = count_front p h table in omega arith
+  count_changed p none (h ∷ table) (suc i) x =
+      let new = count_front p h (slice_set table i x) in
+      let old = count_front p h table in
+      let rest = count_changed p none table i x in
+      omega arith

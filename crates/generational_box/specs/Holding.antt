@@ -1,12 +1,19 @@
 -- What holds of every session: its state is sound, and what its places hold is the store's own.
-use Rattle.std.specs.Prelude.{◌≡◌, ℕ, true}
+use Rattle.std.specs.Prelude.{◌≡◌, ℕ, ◌≤◌, Bool, true, false, nat_eq}
+use Rattle.std.specs.List.{count_by}
 use Rattle.generational_box.specs.declared.boxes.GenerationalPointer.{GenerationalPointer}
 use Rattle.generational_box.specs.Boxes.{name_of}
 use Rattle.generational_box.specs.State.{IsSound, IsGiven}
 use Rattle.generational_box.specs.Borrowing.{Guard}
-use Rattle.generational_box.specs.Machine.{knows_reader, knows_writer}
-use Rattle.generational_box.specs.Session.{SessionState, held}
-use Rattle.generational_box.specs.Session.Held.{Boxed, Reading, Writing}
+use Rattle.generational_box.specs.Machine.{OwnerName, knows_reader, knows_writer}
+use Rattle.generational_box.specs.Records.{count_under}
+use Rattle.generational_box.specs.Session.{SessionState, Held, held}
+use Rattle.generational_box.specs.Session.Held.{Boxed, Reading, Writing, Owning}
+
+-- whether an owner of this record is held
+abbrev pub holds_owner : {T : Type 0} → ℕ → Held T → Bool
+holds_owner key (Owning o) = nat_eq o.key key
+holds_owner key _ = false
 
 pub record IsKept {T : Type 0} (s : SessionState T) : Type 0 where
   pub sound : IsSound s.state
@@ -27,3 +34,7 @@ pub record IsKept {T : Type 0} (s : SessionState T) : Type 0 where
       → held s.table q ≡ Reading h → g.ticket ≡ h.ticket → p ≡ q
   pub one_writer : (p q : ℕ) (g h : Guard) (v w : T) → held s.table p ≡ Writing g v
       → held s.table q ≡ Writing h w → g.ticket ≡ h.ticket → p ≡ q
+  -- owners are of this store, and no more of them are held than their record counts
+  pub owners : (p : ℕ) (o : OwnerName) → held s.table p ≡ Owning o → o.store ≡ s.state.number
+  pub counted : (key : ℕ)
+      → count_by (holds_owner key) s.table ≤ count_under s.state.owners key

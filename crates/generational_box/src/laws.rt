@@ -9,12 +9,13 @@ ghost use Rattle.generational_box.specs.State.{State, IsSound, IsLive, IsEnded, 
 ghost use Rattle.generational_box.specs.Boxes.{name_of, has_same_id};
 ghost use Rattle.generational_box.specs.Borrowing.{read_trouble, write_trouble};
 ghost use Rattle.generational_box.specs.Borrowing.Trouble.{Dropped};
-ghost use Rattle.generational_box.specs.Machine.{Action, Answer, Fresh, act};
+ghost use Rattle.generational_box.specs.Machine.{Action, Answer, Fresh, OwnerName, act, is_known};
 ghost use Rattle.generational_box.specs.Steps.{Meets};
 ghost use Rattle.generational_box.specs.Slots.{slots, retired};
 ghost use Rattle.generational_box.specs.Bounds.{IsBounded};
 ghost use Rattle.generational_box.specs.declared.calls.Call.{Call};
-ghost use Rattle.generational_box.specs.Session.{SessionState, Said, SessionStep, Run};
+ghost use Rattle.generational_box.specs.Session.{SessionState, Said, SessionStep, Run, held};
+ghost use Rattle.generational_box.specs.Session.Held.{Owning};
 ghost use Rattle.generational_box.specs.Holding.{IsKept};
 ghost use Rattle.generational_box.specs.Keeping.{Sets, IsUnwritten, IsUndisturbed, Undisturbed};
 ghost use Rattle.generational_box.specs.Keeping.{value_at, location_at};
@@ -58,6 +59,7 @@ pub fn slots_are_bounded<T>()
 {}
 
 /// What holds of every session: of one of a fresh store, after each call, and so after each run.
+/// The store knows each owner that a place holds.
 pub fn sessions_are_kept<T>()
     ensures fresh { (number start next : ℕ) →
         let s : SessionState T = record { state = fresh number start next; table = [] } in
@@ -66,6 +68,8 @@ pub fn sessions_are_kept<T>()
         IsKept s → SessionStep s c reply r → IsKept r }
     ensures run { (calls : List (Call T)) (replies : List (Said T)) (s r : SessionState T) →
         IsKept s → Run s calls replies r → IsKept r }
+    ensures owners { (s : SessionState T) (p : ℕ) (o : OwnerName) →
+        IsKept s → held s.table p ≡ Owning o → is_known s.state (Some o) ≡ true }
 {}
 
 /// No call of a session makes an ended name live again, and no run does.

@@ -69,8 +69,8 @@ impl<T: Drop, S: Storage<T>> Session<T, S> {
         ensures unchanged { OnErr result (self.new ≡ self.old) }
 
         // The state is sound, boxes at different places have different ids, and the store knows
-        // the held guards. A name that has ended is never live again. A value that nothing
-        // disturbs stays.
+        // the held guards and owners. A name that has ended is never live again. A value that
+        // nothing disturbs stays.
         ensures kept { IsKept self.new }
         ensures ended { (n : Name) → IsEnded self.old.state n → IsEnded self.new.state n }
         ensures kept_value { (b : GenerationalPointer) (m : Name) →
@@ -141,7 +141,7 @@ impl<T: Drop, S: Storage<T>> Session<T, S> {
     }
 
     /// The store, after the held guards were released in order of place; the values of writers are
-    /// put back. Takes no memory.
+    /// put back, and owners are leaked. Takes no memory.
     pub fn finish(self) -> S
         ensures { S.state result ≡ all_let_go self.state self.table }
     {

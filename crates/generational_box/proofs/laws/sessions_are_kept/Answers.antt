@@ -1,4 +1,4 @@
-use Rattle.generational_box.proofs.Sessions.{fresh_kept, session_kept, run_kept}
+use Rattle.generational_box.proofs.Sessions.{owner_known, fresh_kept, session_kept, run_kept}
 use Rattle.generational_box.proofs.laws.sessions_are_kept.Goals as goal
 
 pub returns-clause-fresh : goal.returns-clause-fresh
@@ -9,3 +9,6 @@ returns-clause-step g c = session_kept
 
 pub returns-clause-run : goal.returns-clause-run
 returns-clause-run g c = run_kept
+
+pub returns-clause-owners : goal.returns-clause-owners
+returns-clause-owners g c = owner_known
