@@ -28,7 +28,7 @@ use Rattle.generational_box.specs.Session.{Run, asked, said, gives, placed, held
 use Rattle.generational_box.specs.Session.{replaced, let_go_of, all_let_go, owner_held, owner_in}
 use Rattle.generational_box.specs.Session.{with_owner, spent}
 use Rattle.generational_box.specs.Session.Held.{Boxed, Reading, Writing, Owning, Nothing}
-use Rattle.generational_box.specs.Session.Said.{Ready}
+use Rattle.generational_box.specs.Session.Said.{IsDone}
 use Rattle.generational_box.specs.Session.Asked.{Asks, Tells, Swaps}
 use Rattle.generational_box.specs.Holding.{IsKept}
 use Rattle.generational_box.specs.Keeping.{IsUndisturbed, Undisturbed, value_at}
@@ -94,9 +94,9 @@ module _ {T : Type 0} where
   pub release_gives : (S R : State T) (items after : List (Thing T)) (p : ℕ) (g : Guard)
       (known : Bool) → slice_get items p ≡ Some (thing.Reader g) → Meets S (ReleaseReader g) (Flag known) R
       → after ≡ slice_set items p thing.Nothing
-      → Gives (session_in S items) (call.Release p) Ready Nothing (session_in R after)
+      → Gives (session_in S items) (call.Release p) IsDone Nothing (session_in R after)
   release_gives S R items after p g known there meets spends =
-      subst (λ h. GivesAsked (session_in S items) (call.Release p) (released h) Ready Nothing
+      subst (λ h. GivesAsked (session_in S items) (call.Release p) (released h) IsDone Nothing
       (session_in R after)) (sym (held_there items p (thing.Reader g) there)) (
         Flag known,
         meets,
@@ -110,9 +110,9 @@ module _ {T : Type 0} where
       (g : WriteGuard T) (back : Result U T) → slice_get items p ≡ Some (thing.Writer g)
       → Meets S (ReleaseWriter g.guard g.value) (back_answer back) R
       → after ≡ slice_set items p thing.Nothing
-      → Gives (session_in S items) (call.Release p) Ready Nothing (session_in R after)
+      → Gives (session_in S items) (call.Release p) IsDone Nothing (session_in R after)
   writer_release_gives S R items after p g back there meets spends =
-      subst (λ h. GivesAsked (session_in S items) (call.Release p) (released h) Ready Nothing
+      subst (λ h. GivesAsked (session_in S items) (call.Release p) (released h) IsDone Nothing
       (session_in R after)) (sym (held_there items p (thing.Writer g) there)) (
         back_answer back,
         meets,
@@ -121,7 +121,7 @@ module _ {T : Type 0} where
         ap (list_map thing_held) spends ∙ map-set thing_held items p thing.Nothing,
       )
     where
-      tells : {U : Type 0} (back : Result U T) → Ready ≡ said (call.Release p) (back_answer back)
+      tells : {U : Type 0} (back : Result U T) → IsDone ≡ said (call.Release p) (back_answer back)
       tells (Ok u) = refl
       tells (Err v) = refl
 
@@ -143,9 +143,9 @@ module _ {T : Type 0} where
   pub owner_released : (S R : State T) (items after : List (Thing T)) (p : ℕ) (o : OwnerName)
       → slice_get items p ≡ Some (thing.Owner o) → Meets S (ReleaseOwner o) Done R
       → after ≡ slice_set items p thing.Nothing
-      → Gives (session_in S items) (call.ReleaseOwner p) Ready Nothing (session_in R after)
+      → Gives (session_in S items) (call.ReleaseOwner p) IsDone Nothing (session_in R after)
   owner_released S R items after p o there meets spends =
-      by_owner S R items after (call.ReleaseOwner p) p o (λ o. Asks (ReleaseOwner o)) Ready there (
+      by_owner S R items after (call.ReleaseOwner p) p o (λ o. Asks (ReleaseOwner o)) IsDone there (
         Done,
         meets,
         refl,
@@ -186,9 +186,9 @@ module _ {T : Type 0} where
   -- it is leaked, which no store sees
   pub owner_leaked : (S : State T) (items after : List (Thing T)) (p : ℕ) (o : OwnerName)
       → slice_get items p ≡ Some (thing.Owner o) → after ≡ slice_set items p thing.Nothing
-      → Gives (session_in S items) (call.LeakOwner p) Ready Nothing (session_in S after)
+      → Gives (session_in S items) (call.LeakOwner p) IsDone Nothing (session_in S after)
   owner_leaked S items after p o there spends =
-      by_owner S S items after (call.LeakOwner p) p o (λ o. Asks (LeakOwner o)) Ready there (
+      by_owner S S items after (call.LeakOwner p) p o (λ o. Asks (LeakOwner o)) IsDone there (
         Done,
         inl (no_names, tt, refl),
         refl,

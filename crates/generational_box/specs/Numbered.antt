@@ -16,7 +16,7 @@ use Rattle.generational_box.specs.Session.{SessionState, Held, Said, Asked, aske
 use Rattle.generational_box.specs.Session.{placed, swapped}
 use Rattle.generational_box.specs.Session.Asked.{Asks, Tells, Swaps}
 use Rattle.generational_box.specs.Session.Held.{Boxed, Reading, Writing, Owning, Nothing}
-use Rattle.generational_box.specs.Session.Said.{ABox, AnOwner, AReader, AWriter, Ready, TheOld, Yes}
+use Rattle.generational_box.specs.Session.Said.{ABox, AnOwner, AReader, AWriter, IsDone, TheOld, Yes}
 use Rattle.generational_box.specs.Session.Said.{TheId, TheSlot, Created, Error, Lacking, HandedBack}
 use Rattle.generational_box.specs.Session.Said.{Unready, NoSuch}
 use Rattle.generational_box.specs.Carrying.{Carries, KnowsBox, KnowsGuard, moved_box, moved_guard}
@@ -78,12 +78,12 @@ module _ {T : Type 0} where
   -- a reply with ids and slot numbers set aside
   abbrev pub erase : Said T → Said T
   erase (ABox b) = Created b.created_at
-  erase (TheId id) = Ready
-  erase (TheSlot n) = Ready
+  erase (TheId id) = IsDone
+  erase (TheSlot n) = IsDone
   erase AnOwner = AnOwner
   erase AReader = AReader
   erase AWriter = AWriter
-  erase Ready = Ready
+  erase IsDone = IsDone
   erase (TheOld v) = TheOld v
   erase (Yes b) = Yes b
   erase (Created l) = Created l

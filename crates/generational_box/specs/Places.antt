@@ -16,7 +16,7 @@ use Rattle.generational_box.specs.Session.{Held, Said, SessionState, Asked, aske
 use Rattle.generational_box.specs.Session.{spent, swapped}
 use Rattle.generational_box.specs.Session.Asked.{Asks, Tells, Swaps}
 use Rattle.generational_box.specs.Session.Held.{Boxed, Reading, Writing, Owning, Nothing}
-use Rattle.generational_box.specs.Session.Said.{ABox, AnOwner, AReader, AWriter, Ready, TheOld, Yes}
+use Rattle.generational_box.specs.Session.Said.{ABox, AnOwner, AReader, AWriter, IsDone, TheOld, Yes}
 use Rattle.generational_box.specs.Session.Said.{TheId, TheSlot, Created, Error, Lacking, HandedBack}
 use Rattle.generational_box.specs.Session.Said.{NoSuch}
 use Rattle.generational_box.specs.Answers.{trouble_of}
@@ -36,7 +36,7 @@ module _ {T : Type 0} where
   said_by reply.Owner = AnOwner
   said_by reply.Reader = AReader
   said_by reply.Writer = AWriter
-  said_by reply.Done = Ready
+  said_by reply.Done = IsDone
   said_by (reply.Old v) = TheOld v
   said_by (reply.Flag b) = Yes b
   said_by (reply.Id id) = TheId id

@@ -41,7 +41,7 @@ pub data Said (T : Type 0) : Type 0 where
   AnOwner : Said T
   AReader : Said T
   AWriter : Said T
-  Ready : Said T
+  IsDone : Said T
   TheOld : (value : T) → Said T
   Yes : (flag : Bool) → Said T
   TheId : (id : GenerationalBoxId) → Said T
@@ -141,10 +141,10 @@ module _ {T : Type 0} where
   said c (Owned o) = AnOwner
   said c (Reads g) = AReader
   said c (Writes g v) = AWriter
-  said c Done = Ready
-  said c (Old v) = Ready
-  said c (Flag b) = if is_release c then Ready else Yes b
-  said c (Back v) = Ready
+  said c Done = IsDone
+  said c (Old v) = IsDone
+  said c (Flag b) = if is_release c then IsDone else Yes b
+  said c (Back v) = IsDone
   said c (Troubled t) = Error t
   said c (Refused e) = refusal c e
 
