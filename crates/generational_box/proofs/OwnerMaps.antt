@@ -1,9 +1,10 @@
 -- The records of owners, read at a key.
 use Rattle.std.proofs.Common.{◌≡◌, ◌≢◌, ◌⊎◌, inl, inr, ℕ, ◌+◌, ◌<◌, Bool, true, false, cond, List, [], ◌∷◌, Option, None, Some, IfSome, IsSome, arith, refl, sym, ap, subst, ◌∙◌}
-use Rattle.std.specs.Prelude.{option_map, map as list_map}
+use Rattle.std.specs.Prelude.{is_some, option_map, map as list_map}
 use Rattle.std.specs.Ordering.{nat_cmp, eq_by_cmp, is_eq}
 use Rattle.std.specs.Cmp.{nat_cmp_total}
 use Rattle.std.proofs.lemmas.Cmp.{eq_by_cmp_equiv}
+use Rattle.std.proofs.lemmas.Bool.{eq-eqb}
 use Rattle.std.proofs.lemmas.Option.{none-some}
 use Rattle.std.specs.FinMap as map
 use Rattle.std.specs.BTreeMap.{BTreeMap, get, is_at, WritesThrough}
@@ -11,7 +12,7 @@ use Rattle.std.specs.Map.{lookup}
 use Rattle.generational_box.specs.declared.owners.OwnerRecord.{OwnerRecord}
 use Rattle.generational_box.specs.Names.{Name, changed, changed_if}
 use Rattle.generational_box.specs.State.{Holding, Owners}
-use Rattle.generational_box.specs.Records.{owners_of, holding_of, one_more, one_less, one_listed, count_in, count_under, listed_in, AreCounted, IsCounted}
+use Rattle.generational_box.specs.Records.{owners_of, holding_of, one_more, one_less, one_listed, count_in, count_under, listed_in, knows, AreCounted, IsCounted}
 use Rattle.generational_box.specs.Machine.{OwnerName}
 use Rattle.generational_box.proofs.Maps.{by_number, key_here, key_cases, changed_there, insert_there, get-insert_here, get-insert_apart, get-remove_here, get-remove_apart}
 
@@ -201,3 +202,15 @@ pub counted_listed : (next : ℕ) (owners : Owners) (o : Option OwnerName) (n : 
 counted_listed next owners None n counted = counted
 counted_listed next owners (Some o) n counted =
     counted_changed next owners o.key (one_listed n) counted (λ h is c. c)
+
+-- ---- known owners
+
+same_there : (r : Option OwnerRecord) → is_some (option_map holding_of r) ≡ is_some r
+same_there None = refl
+same_there (Some r) = refl
+
+-- an owner of this store is known exactly where its record is
+pub known_there : (m : BTreeMap ℕ OwnerRecord) (number : ℕ) (o : OwnerName) (r : Option OwnerRecord)
+    → o.store ≡ number → r ≡ get nat_cmp m o.key → knows number (owners_of m) o ≡ is_some r
+known_there m number o r own there =
+    rw (eq-eqb o.store number own, owners_get m o.key, ← there) (same_there r)

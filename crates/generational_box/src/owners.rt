@@ -1,8 +1,9 @@
 //! Owners, and the records that a store keeps of them.
 
-ghost use Rattle.std.specs.Prelude.{◌≡◌, ℕ, ◌+◌, ◌-◌, ◌<◌, [], true, Some, None, IsSome, IfSome, IfErr, OnOk, OnErr, option_copied, option_map, map as list_map};
+ghost use Rattle.std.specs.Prelude.{◌≡◌, ℕ, ◌+◌, ◌-◌, ◌<◌, [], true, Some, None, IsSome, IfSome, IfErr, OnOk, OnErr, option_copied, option_map, map as list_map, if◌then◌else◌};
 ghost use Rattle.std.specs.FinMap as map;
-ghost use Rattle.generational_box.specs.Records.{owners_of, holding_of, name_seen, one_more, one_less, one_listed, count_under, names_under, knows, knows_any, listed_in, IsRefusal, HasRoom, HasRoomFor};
+ghost use Rattle.generational_box.specs.Records.{owners_of, holding_of, name_seen, one_more, one_less, one_listed, count_under, names_under, knows, knows_any, listed_in, IsRefusal};
+ghost use Rattle.generational_box.specs.declared.error.StoreError.TheVariants.{OutOfMemory, UnknownOwner};
 ghost use Rattle.generational_box.specs.Names.{changed};
 
 use crate::boxes::GenerationalBox;
@@ -61,6 +62,7 @@ impl Owner {
     /// Refused, in this order: `UnknownOwner`, where the store has no such record; `OutOfMemory`,
     /// where neither a slot nor the list has room. The value comes back then, and the store stays
     /// as it was.
+    #[inline(always)]
     pub fn insert<T, S: Storage<T>>(
         &self,
         store: &mut S,
@@ -162,58 +164,62 @@ pub(crate) fn is_known(owners: &BTreeMap<u64, OwnerRecord>, number: u64, owner: 
     owner.store() == number && find(owners, owner.key()).is_some()
 }
 
-// Makes room for one box more in the owner's list, if there is an owner. Want of memory changes no
-// record.
+// Puts a box at the end of the owner's list, if there is an owner. A refusal changes no record.
 #[inline(always)]
-pub(crate) fn make_room_for(
+pub(crate) fn list_for(
     owners: &mut BTreeMap<u64, OwnerRecord>,
     number: u64,
     owner: Option<&Owner>,
+    name: CellName,
 ) -> Result<(), StoreError>
-    ensures same { owners_of owners.new ≡ owners_of owners.old }
     ensures known { OnOk result (knows_any number (owners_of owners.old) (option_copied owner.entry) ≡ true) }
-    ensures room { OnOk result (HasRoomFor owners.new (option_copied owner.entry)) }
+    ensures ok { OnOk result (owners_of owners.new ≡ listed_in (owners_of owners.old) (option_copied owner.entry) (name_seen name)) }
+    ensures err { OnErr result (owners_of owners.new ≡ owners_of owners.old) }
     ensures refused { IfErr result (λ cause. IsRefusal number (owners_of owners.old) (option_copied owner.entry) cause) }
 {
     match owner {
         None => Ok(()),
-        Some(owner) => make_room(owners, number, owner),
+        Some(owner) => list(owners, number, owner, name),
     }
 }
 
 // The same for an owner.
-fn make_room(
+fn list(
     owners: &mut BTreeMap<u64, OwnerRecord>,
     number: u64,
     owner: &Owner,
+    name: CellName,
 ) -> Result<(), StoreError>
-    ensures same { owners_of owners.new ≡ owners_of owners.old }
     ensures known { OnOk result (knows number (owners_of owners.old) owner.now ≡ true) }
-    ensures room { OnOk result (HasRoom owners.new owner.now.key) }
+    ensures ok { OnOk result (owners_of owners.new ≡ changed (owners_of owners.old) owner.now.key (one_listed (name_seen name))) }
+    ensures err { OnErr result (owners_of owners.new ≡ owners_of owners.old) }
     ensures refused { IfErr result (λ cause. IsRefusal number (owners_of owners.old) (Some owner.now) cause) }
 {
-    if !is_known(owners, number, owner) {
+    if owner.store() != number {
         return Err(StoreError::UnknownOwner);
     }
-    match reserve(owners, owner.key()) {
-        Ok(()) => Ok(()),
-        Err(_) => Err(StoreError::OutOfMemory),
+    match owners.get_mut(&owner.key()) {
+        Some(found) => match found.boxes.push(name) {
+            Ok(()) => Ok(()),
+            Err(_) => Err(StoreError::OutOfMemory),
+        },
+        None => Err(StoreError::UnknownOwner),
     }
 }
 
-// Puts a box at the end of the owner's list, if there is an owner. There is room for it.
-#[inline(always)]
-pub(crate) fn list_for(
-    owners: &mut BTreeMap<u64, OwnerRecord>,
+// Why a making is refused for which there is no memory: its owner, if it has one, may be unknown.
+#[cold]
+#[inline(never)]
+pub(crate) fn lacking(
+    owners: &BTreeMap<u64, OwnerRecord>,
+    number: u64,
     owner: Option<&Owner>,
-    name: CellName,
-)
-    requires { HasRoomFor owners.old (option_copied owner) }
-    ensures { owners_of owners.new ≡ listed_in (owners_of owners.old) (option_copied owner.entry) (name_seen name) }
+) -> StoreError
+    ensures { result ≡ (if knows_any number (owners_of owners.now) (option_copied owner.entry) then OutOfMemory else UnknownOwner) }
 {
     match owner {
-        None => {}
-        Some(owner) => list(owners, owner.key(), name),
+        Some(owner) if !is_known(owners, number, owner) => StoreError::UnknownOwner,
+        _ => StoreError::OutOfMemory,
     }
 }
 
@@ -268,28 +274,6 @@ pub(crate) fn count_down(owners: &mut BTreeMap<u64, OwnerRecord>, key: u64)
 {
     match owners.get_mut(&key) {
         Some(found) => found.count -= 1,
-        None => {}
-    }
-}
-
-// Makes room for one box more in a list. Want of memory changes no record.
-pub(crate) fn reserve(owners: &mut BTreeMap<u64, OwnerRecord>, key: u64) -> Result<(), AllocError>
-    ensures same { owners_of owners.new ≡ owners_of owners.old }
-    ensures room { OnOk result (HasRoom owners.new key) }
-{
-    match owners.get_mut(&key) {
-        Some(found) => found.boxes.reserve(1),
-        None => Ok(()),
-    }
-}
-
-// Puts a box at the end of a list that has room.
-pub(crate) fn list(owners: &mut BTreeMap<u64, OwnerRecord>, key: u64, name: CellName)
-    requires { HasRoom owners.old key }
-    ensures { owners_of owners.new ≡ changed (owners_of owners.old) key (one_listed (name_seen name)) }
-{
-    match owners.get_mut(&key) {
-        Some(found) => found.boxes.push_reserved(name),
         None => {}
     }
 }
