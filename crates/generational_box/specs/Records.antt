@@ -3,6 +3,7 @@ use Rattle.std.specs.Prelude.{◌≡◌, Bool, true, false, nat_eq, ◌&&◌, is
 use Rattle.std.specs.Prelude.{ℕ, ◌+◌, ◌-◌, ◌<◌, ◌≤◌, Option, None, Some, List, [], ◌∷◌, ◌++◌, map as list_map}
 use Rattle.std.specs.FinMap as map
 use Rattle.std.specs.BTreeMap.{BTreeMap}
+use Rattle.std.specs.declared.cmp.Reverse.{Reverse}
 use Rattle.generational_box.specs.declared.owners.CellName.{CellName}
 use Rattle.generational_box.specs.declared.owners.OwnerRecord.{OwnerRecord}
 use Rattle.generational_box.specs.declared.error.StoreError.{StoreError}
@@ -21,8 +22,9 @@ abbrev pub holding_of : OwnerRecord → Holding
 holding_of r = record { names = list_map name_seen r.boxes.items; count = r.count }
 
 -- the records under their keys
-abbrev pub owners_of : BTreeMap ℕ OwnerRecord → Owners
-owners_of m = map.from_entries (list_map (λ (e : ℕ × OwnerRecord). (e.0, holding_of e.1)) m.entries)
+abbrev pub owners_of : BTreeMap (Reverse ℕ) OwnerRecord → Owners
+owners_of m =
+    map.from_entries (list_map (λ (e : Reverse ℕ × OwnerRecord). (e.0.0, holding_of e.1)) m.entries)
 
 -- a record's boxes, and how many owner values are held: none where there is no record
 abbrev pub names_in : Option Holding → List Name

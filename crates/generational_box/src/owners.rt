@@ -10,6 +10,7 @@ use crate::boxes::GenerationalBox;
 use crate::error::{BorrowMutError, Location, Refusal, Refused, StoreError};
 use crate::storage::{AnyStorage, Storage};
 use std::alloc::{AllocError, Global};
+use std::cmp::Reverse;
 use std::collections::BTreeMap;
 use std::marker::Model;
 
@@ -140,8 +141,12 @@ impl OwnerRecord {
     }
 }
 
+/// The records of a store's owners by their keys. The newest, which is asked for most, comes first:
+/// a look-up asks the keys in order.
+pub(crate) type OwnerRecords = BTreeMap<Reverse<u64>, OwnerRecord>;
+
 // How many owner values a record stands for.
-pub(crate) fn count(owners: &BTreeMap<u64, OwnerRecord>, key: u64) -> u64
+pub(crate) fn count(owners: &OwnerRecords, key: u64) -> u64
     ensures { result ≡ count_under (owners_of owners.now) key }
 {
     match find(owners, key) {
@@ -151,14 +156,14 @@ pub(crate) fn count(owners: &BTreeMap<u64, OwnerRecord>, key: u64) -> u64
 }
 
 // The record under a key.
-pub(crate) fn find(owners: &BTreeMap<u64, OwnerRecord>, key: u64) -> Option<&OwnerRecord>
+pub(crate) fn find(owners: &OwnerRecords, key: u64) -> Option<&OwnerRecord>
     ensures { option_map holding_of (option_copied result) ≡ map.get (owners_of owners.now) key }
 {
-    owners.get(&key)
+    owners.get(&Reverse(key))
 }
 
 // Whether the owner, if there is one, is of a store with this number and these records.
-pub(crate) fn is_known(owners: &BTreeMap<u64, OwnerRecord>, number: u64, owner: &Owner) -> bool
+pub(crate) fn is_known(owners: &OwnerRecords, number: u64, owner: &Owner) -> bool
     ensures { result ≡ knows number (owners_of owners.now) owner.now }
 {
     owner.store() == number && find(owners, owner.key()).is_some()
@@ -167,7 +172,7 @@ pub(crate) fn is_known(owners: &BTreeMap<u64, OwnerRecord>, number: u64, owner: 
 // Puts a box at the end of the owner's list, if there is an owner. A refusal changes no record.
 #[inline(always)]
 pub(crate) fn list_for(
-    owners: &mut BTreeMap<u64, OwnerRecord>,
+    owners: &mut OwnerRecords,
     number: u64,
     owner: Option<&Owner>,
     name: CellName,
@@ -185,7 +190,7 @@ pub(crate) fn list_for(
 
 // The same for an owner.
 fn list(
-    owners: &mut BTreeMap<u64, OwnerRecord>,
+    owners: &mut OwnerRecords,
     number: u64,
     owner: &Owner,
     name: CellName,
@@ -198,7 +203,7 @@ fn list(
     if owner.store() != number {
         return Err(StoreError::UnknownOwner);
     }
-    match owners.get_mut(&owner.key()) {
+    match owners.get_mut(&Reverse(owner.key())) {
         Some(found) => match found.boxes.push(name) {
             Ok(()) => Ok(()),
             Err(_) => Err(StoreError::OutOfMemory),
@@ -210,11 +215,7 @@ fn list(
 // Why a making is refused for which there is no memory: its owner, if it has one, may be unknown.
 #[cold]
 #[inline(never)]
-pub(crate) fn lacking(
-    owners: &BTreeMap<u64, OwnerRecord>,
-    number: u64,
-    owner: Option<&Owner>,
-) -> StoreError
+pub(crate) fn lacking(owners: &OwnerRecords, number: u64, owner: Option<&Owner>) -> StoreError
     ensures { result ≡ (if knows_any number (owners_of owners.now) (option_copied owner.entry) then OutOfMemory else UnknownOwner) }
 {
     match owner {
@@ -224,30 +225,22 @@ pub(crate) fn lacking(
 }
 
 // Adds a record under a key. Want of memory changes nothing.
-pub(crate) fn add(
-    owners: &mut BTreeMap<u64, OwnerRecord>,
-    key: u64,
-    added: OwnerRecord,
-) -> Result<(), AllocError>
+pub(crate) fn add(owners: &mut OwnerRecords, key: u64, added: OwnerRecord) -> Result<(), AllocError>
     ensures ok { OnOk result (owners_of owners.new ≡ map.insert (owners_of owners.old) key (holding_of added)) }
     ensures err { OnErr result (owners_of owners.new ≡ owners_of owners.old) }
 {
-    match owners.insert(key, added) {
+    match owners.insert(Reverse(key), added) {
         Ok(_) => Ok(()),
         Err(_) => Err(AllocError),
     }
 }
 
 // Takes a record away: its boxes.
-pub(crate) fn take(
-    owners: &mut BTreeMap<u64, OwnerRecord>,
-    key: u64,
-    alloc: Global,
-) -> Vec<CellName>
+pub(crate) fn take(owners: &mut OwnerRecords, key: u64, alloc: Global) -> Vec<CellName>
     ensures after { owners_of owners.new ≡ map.remove (owners_of owners.old) key }
     ensures names { list_map name_seen result.items ≡ names_under (owners_of owners.old) key }
 {
-    match owners.remove(&key) {
+    match owners.remove(&Reverse(key)) {
         Some(found) => {
             let OwnerRecord { boxes, count: _ } = found;
             boxes
@@ -257,22 +250,22 @@ pub(crate) fn take(
 }
 
 // One owner value more of a record.
-pub(crate) fn count_up(owners: &mut BTreeMap<u64, OwnerRecord>, key: u64)
+pub(crate) fn count_up(owners: &mut OwnerRecords, key: u64)
     requires { IfSome (map.get (owners_of owners.old) key) (λ h. h.count < 18446744073709551615) }
     ensures { owners_of owners.new ≡ changed (owners_of owners.old) key one_more }
 {
-    match owners.get_mut(&key) {
+    match owners.get_mut(&Reverse(key)) {
         Some(found) => found.count += 1,
         None => {}
     }
 }
 
 // One owner value less of a record.
-pub(crate) fn count_down(owners: &mut BTreeMap<u64, OwnerRecord>, key: u64)
+pub(crate) fn count_down(owners: &mut OwnerRecords, key: u64)
     requires { IfSome (map.get (owners_of owners.old) key) (λ h. 0 < h.count) }
     ensures { owners_of owners.new ≡ changed (owners_of owners.old) key one_less }
 {
-    match owners.get_mut(&key) {
+    match owners.get_mut(&Reverse(key)) {
         Some(found) => found.count -= 1,
         None => {}
     }

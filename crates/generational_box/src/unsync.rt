@@ -26,13 +26,12 @@ use crate::error::{
     AlreadyBorrowedMutError, BorrowError, BorrowMutError, BorrowMutResult, BorrowResult, Location,
     Refusal, Refused, StoreError, ValueDroppedError,
 };
-use crate::owners::{self, CellName, Owner, OwnerRecord};
+use crate::owners::{self, CellName, Owner, OwnerRecord, OwnerRecords};
 use crate::pool::{LastFirst, SlotPool};
 use crate::references::{GenerationalRef, GenerationalRefMut};
 use crate::steps::StepCall;
 use crate::storage::{AnyStorage, Storage};
 use std::alloc::{AllocError, Global};
-use std::collections::BTreeMap;
 use std::marker::Model;
 
 /// A store of values of one type in recycled slots. Contracts see it as the state of the abstract
@@ -53,7 +52,7 @@ pub struct Store<T, P: SlotPool> {
     slots: Vec<StorageEntry<T>>,
     pool: P,
     // the records of owners, by their keys
-    owners: BTreeMap<u64, OwnerRecord>,
+    owners: OwnerRecords,
 }
 
 /// The store that takes the slot that was freed last.
@@ -114,7 +113,7 @@ impl<T, P: SlotPool> Store<T, P> {
             peak: 0,
             slots: Vec::new(alloc),
             pool: P::new(alloc),
-            owners: BTreeMap::new(alloc),
+            owners: OwnerRecords::new(alloc),
         }
     }
 }

@@ -1,18 +1,17 @@
 use Rattle.std.proofs.Common.{ap, refl, sym, Some, None, ◌∙◌, ◌∷◌, []}
 use Rattle.std.specs.Prelude.{map as list_map}
-use Rattle.std.specs.Ordering.{nat_cmp}
 use Rattle.std.specs.BTreeMap.{get}
 use Rattle.std.proofs.lemmas.List.{map-append}
 use Rattle.generational_box.specs.declared.owners.OwnerRecord.{OwnerRecord}
 use Rattle.generational_box.specs.Names.{changed}
 use Rattle.generational_box.specs.Records.{owners_of, one_listed, name_seen}
-use Rattle.generational_box.proofs.OwnerMaps.{owners_written, owners_kept, known_there}
+use Rattle.generational_box.proofs.OwnerMaps.{newest_first, under, owners_written, owners_kept, known_there}
 use Rattle.generational_box.proofs.owners.list.Goals as goal
 
 pub returns-in-Ok-clause-known : goal.returns-in-Ok-clause-known
 returns-in-Ok-clause-known c =
     known_there c.args.owners.now c.args.number c.args.owner.now (Some c.in-Some.found.now)
-    (sym c.store.ensures ∙ c.if-store-number.false) (c.in-Some.ensures.value ∙ ap (get nat_cmp c.args.owners.now) c.key.ensures)
+    (sym c.store.ensures ∙ c.if-store-number.false) (c.in-Some.ensures.value ∙ ap (λ key. get newest_first c.args.owners.now (under key)) c.key.ensures)
 
 pub returns-in-Ok-clause-ok : goal.returns-in-Ok-clause-ok
 returns-in-Ok-clause-ok c =
@@ -35,10 +34,10 @@ pub returns-in-Err-clause-refused : goal.returns-in-Err-clause-refused
 returns-in-Err-clause-refused c = (
   refl,
   known_there c.args.owners.now c.args.number c.args.owner.now (Some c.in-Some.found.now)
-      (sym c.store.ensures ∙ c.if-store-number.false) (c.in-Some.ensures.value ∙ ap (get nat_cmp c.args.owners.now) c.key.ensures),
+      (sym c.store.ensures ∙ c.if-store-number.false) (c.in-Some.ensures.value ∙ ap (λ key. get newest_first c.args.owners.now (under key)) c.key.ensures),
 )
 
 pub returns-in-None-clause-refused : goal.returns-in-None-clause-refused
 returns-in-None-clause-refused c =
     known_there c.args.owners.now c.args.number c.args.owner.now None
-    (sym c.store.ensures ∙ c.if-store-number.false) (c.in-None.ensures.value ∙ ap (get nat_cmp c.args.owners.now) c.key.ensures)
+    (sym c.store.ensures ∙ c.if-store-number.false) (c.in-None.ensures.value ∙ ap (λ key. get newest_first c.args.owners.now (under key)) c.key.ensures)
