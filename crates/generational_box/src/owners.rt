@@ -213,14 +213,26 @@ fn list(
 }
 
 // Why a making is refused for which there is no memory: its owner, if it has one, may be unknown.
-#[cold]
-#[inline(never)]
+#[inline(always)]
 pub(crate) fn lacking(owners: &OwnerRecords, number: u64, owner: Option<&Owner>) -> StoreError
     ensures { result ≡ (if knows_any number (owners_of owners.now) (option_copied owner.entry) then OutOfMemory else UnknownOwner) }
 {
     match owner {
-        Some(owner) if !is_known(owners, number, owner) => StoreError::UnknownOwner,
-        _ => StoreError::OutOfMemory,
+        None => StoreError::OutOfMemory,
+        Some(owner) => lacking_for(owners, number, owner),
+    }
+}
+
+// The same for an owner.
+#[cold]
+#[inline(never)]
+fn lacking_for(owners: &OwnerRecords, number: u64, owner: &Owner) -> StoreError
+    ensures { result ≡ (if knows number (owners_of owners.now) owner.now then OutOfMemory else UnknownOwner) }
+{
+    if is_known(owners, number, owner) {
+        StoreError::OutOfMemory
+    } else {
+        StoreError::UnknownOwner
     }
 }
 
