@@ -1,7 +1,7 @@
 //! The calls of the store that are measured, from the borrow to its release.
 
 use crate::element::Element;
-use generational_box::{GenerationalBox, Location, Refusal, Refused, Storage};
+use generational_box::{GenerationalBox, Location, Owner, Refusal, Refused, Storage, StoreError};
 use std::alloc::AllocError;
 
 /// The workload can't go on: a call was refused, as for want of memory.
@@ -10,6 +10,12 @@ pub(crate) struct Stopped;
 
 impl From<AllocError> for Stopped {
     fn from(_: AllocError) -> Stopped {
+        Stopped
+    }
+}
+
+impl From<StoreError> for Stopped {
+    fn from(_: StoreError) -> Stopped {
         Stopped
     }
 }
@@ -78,4 +84,37 @@ pub(crate) fn end<E: Element, S: Storage<E>>(
 ) -> Result<(), Stopped> {
     key.manually_drop(store)?;
     Ok(())
+}
+
+/// An owner without boxes.
+#[inline(always)]
+pub(crate) fn new_owner<E: Element, S: Storage<E>>(store: &mut S) -> Result<Owner, Stopped> {
+    let owner = store.owner()?;
+    Ok(owner)
+}
+
+/// A box of a value, which ends with its owner.
+#[inline(always)]
+pub(crate) fn insert<E: Element, S: Storage<E>>(
+    store: &mut S,
+    owner: &Owner,
+    value: E,
+) -> Result<GenerationalBox<E>, Stopped> {
+    let made = owner.insert(store, value, here())?;
+    Ok(made)
+}
+
+/// Ends an owner's values. An owner that the store refuses is leaked.
+#[inline(always)]
+pub(crate) fn release<E: Element, S: Storage<E>>(
+    store: &mut S,
+    owner: Owner,
+) -> Result<(), Stopped> {
+    match owner.release(store) {
+        Ok(()) => Ok(()),
+        Err((refused, _)) => {
+            refused.leak();
+            Err(Stopped)
+        }
+    }
 }

@@ -17,7 +17,7 @@ mod workloads;
 
 ghost use Rattle.std.specs.Prelude.{◌≡◌};
 
-use crate::workloads::{answer, churn, insert_and_read, read_often, write_often};
+use crate::workloads::{answer, churn, insert_and_read, own_and_release, read_often, write_often};
 use generational_box::UnsyncStorage;
 use std::alloc::Global;
 
@@ -77,20 +77,18 @@ pub extern "C" fn gbox_w4_text(alloc: Global, n: u64, seed: u64) -> u64 {
     answer(write_often(alloc, &mut store, n, seed))
 }
 
-/// w5 over numbers: owners are made, and end their values.
+/// w5 over numbers: owners make values, and end them.
 #[unsafe(no_mangle)]
-pub extern "C" fn gbox_w5_u64(_alloc: Global, _n: u64, _seed: u64) -> u64
-    ensures { result ≡ 0 }
-{
-    0
+pub extern "C" fn gbox_w5_u64(alloc: Global, n: u64, seed: u64) -> u64 {
+    let mut store = UnsyncStorage::<u64>::new(alloc, 1);
+    answer(own_and_release(alloc, &mut store, n, seed))
 }
 
 /// w5 over texts.
 #[unsafe(no_mangle)]
-pub extern "C" fn gbox_w5_text(_alloc: Global, _n: u64, _seed: u64) -> u64
-    ensures { result ≡ 0 }
-{
-    0
+pub extern "C" fn gbox_w5_text(alloc: Global, n: u64, seed: u64) -> u64 {
+    let mut store = UnsyncStorage::<String>::new(alloc, 1);
+    answer(own_and_release(alloc, &mut store, n, seed))
 }
 
 /// w6 over numbers: references to shared values are pointed at others.

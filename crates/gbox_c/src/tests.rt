@@ -1,7 +1,7 @@
 //! The checksums that generational-box 0.7.10 and slotmap answer for the same workloads.
 use crate::{
     gbox_w1_text, gbox_w1_u64, gbox_w2_text, gbox_w2_u64, gbox_w3_text, gbox_w3_u64, gbox_w4_text,
-    gbox_w4_u64,
+    gbox_w4_u64, gbox_w5_text, gbox_w5_u64,
 };
 
 const N: u64 = 100;
@@ -14,6 +14,7 @@ fn numbers_are_those_of_other_stores(rt: HostRuntime) {
     assert_eq!(rt; gbox_w2_u64(rt.alloc(), N, SEED), 15703732681835106644);
     assert_eq!(rt; gbox_w3_u64(rt.alloc(), N, SEED), 15359907562907620789);
     assert_eq!(rt; gbox_w4_u64(rt.alloc(), N, SEED), 5500413255359575958);
+    assert_eq!(rt; gbox_w5_u64(rt.alloc(), N, SEED), 10333524125461845444);
 }
 
 #[test]
@@ -22,9 +23,16 @@ fn texts_are_those_of_other_stores(rt: HostRuntime) {
     assert_eq!(rt; gbox_w2_text(rt.alloc(), N, SEED), 4666249275839112292);
     assert_eq!(rt; gbox_w3_text(rt.alloc(), N, SEED), 16915553880381381486);
     assert_eq!(rt; gbox_w4_text(rt.alloc(), N, SEED), 13250621175994697878);
+    assert_eq!(rt; gbox_w5_text(rt.alloc(), N, SEED), 8511890446508880851);
 }
 
 #[test]
 fn too_many_values_are_refused(rt: HostRuntime) {
     assert_eq!(rt; gbox_w1_u64(rt.alloc(), 1 << 32, SEED), 1);
+}
+
+#[test]
+fn owners_are_released_in_order(rt: HostRuntime) {
+    assert_eq!(rt; gbox_w5_u64(rt.alloc(), 250, SEED), 11033522042706426879);
+    assert_eq!(rt; gbox_w5_text(rt.alloc(), 250, SEED), 10022876207046044209);
 }

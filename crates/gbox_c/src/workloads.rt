@@ -1,11 +1,11 @@
 //! The workloads, each over an empty store.
 
-ghost use Rattle.std.specs.Prelude.{◌<◌, ◌≡◌, IfOk, length, vec_len};
+ghost use Rattle.std.specs.Prelude.{◌+◌, ◌<◌, ◌≡◌, ◌≤◌, IfOk, length, vec_capacity, vec_len};
 
-use crate::calls::{Stopped, end, make, read, write};
+use crate::calls::{Stopped, end, insert, make, new_owner, read, release, write};
 use crate::element::Element;
 use crate::random::Random;
-use generational_box::{GenerationalBox, Storage};
+use generational_box::{GenerationalBox, Owner, Storage};
 use std::alloc::Global;
 
 // A checksum before any value was seen.
@@ -13,6 +13,9 @@ const START: u64 = 0xcbf2_9ce4_8422_2325;
 
 // The number that each step of a checksum multiplies by.
 const FACTOR: u64 = 0x100_0000_01b3;
+
+// How many values an owner makes.
+const VALUES: usize = 100;
 
 /// What an export answers.
 pub(crate) fn answer(outcome: Result<u64, Stopped>) -> u64 {
@@ -91,6 +94,27 @@ pub(crate) fn write_often<E: Element, S: Storage<E>>(
         checksum = write_some(alloc, store, &mut random, &keys, checksum)?;
     }
     end_each(store, &keys)?;
+    Ok(checksum)
+}
+
+/// w5: ten times, owners make a hundred values each, of which the last is read, and are released.
+#[inline(always)]
+pub(crate) fn own_and_release<E: Element, S: Storage<E>>(
+    alloc: Global,
+    store: &mut S,
+    n: u64,
+    seed: u64,
+) -> Result<u64, Stopped> {
+    let n = count(n)?;
+    let mut random = Random::new(seed);
+    let mut checksum = START;
+    for _round in 0..10 {
+        let mut owners = Vec::with_capacity(alloc, n / VALUES)?;
+        let made = own_many(alloc, store, &mut random, &mut owners, n / VALUES, checksum);
+        let released = release_each(store, owners);
+        checksum = made?;
+        released?;
+    }
     Ok(checksum)
 }
 
@@ -219,4 +243,61 @@ fn end_each<E: Element, S: Storage<E>>(
         end(store, *key)?;
     }
     Ok(())
+}
+
+// Makes owners of values, and reads the last value of each.
+#[inline(always)]
+fn own_many<E: Element, S: Storage<E>>(
+    alloc: Global,
+    store: &mut S,
+    random: &mut Random,
+    owners: &mut Vec<Owner>,
+    many: usize,
+    checksum: u64,
+) -> Result<u64, Stopped>
+    requires room { vec_len owners.old + many ≤ vec_capacity owners.old }
+{
+    let mut checksum = checksum;
+    for _made in 0..many {
+        let owner = new_owner(store)?;
+        let last = insert_many(alloc, store, random, &owner);
+        owners.push_reserved(owner);
+        checksum = mix(checksum, read(store, last?)?);
+    }
+    Ok(checksum)
+}
+
+// Makes an owner's values. The answer is the box of the last one.
+#[inline(always)]
+fn insert_many<E: Element, S: Storage<E>>(
+    alloc: Global,
+    store: &mut S,
+    random: &mut Random,
+    owner: &Owner,
+) -> Result<GenerationalBox<E>, Stopped> {
+    let first = E::of_word(alloc, random.word())?;
+    let mut last = insert(store, owner, first)?;
+    for _more in 1..VALUES {
+        let value = E::of_word(alloc, random.word())?;
+        last = insert(store, owner, value)?;
+    }
+    Ok(last)
+}
+
+// Releases each owner, in the order of the vector, also those after one that is refused.
+#[inline(always)]
+fn release_each<E: Element, S: Storage<E>>(
+    store: &mut S,
+    owners: Vec<Owner>,
+) -> Result<(), Stopped> {
+    let mut owners = owners;
+    let mut outcome = Ok(());
+    owners.reverse();
+    while let Some(owner) = owners.pop() {
+        if release(store, owner).is_err() {
+            outcome = Err(Stopped);
+        }
+    }
+    owners.destroy_empty();
+    outcome
 }

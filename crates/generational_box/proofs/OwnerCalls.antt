@@ -259,6 +259,20 @@ module _ {T : Type 0} where
         rw (same, view)
         (refused_for S o v l e (subst (λ (X : State T). IsRefusal X.number X.owners o e) view is))
 
+    -- no memory for the slot: an owner that isn't known is told first
+    pub lacking_step : (o : Option OwnerName) (v : T) (l : Location) (e : StoreError) (slots' : List (Entry T))
+        → e ≡ cond (knows_any number owners o) OutOfMemory UnknownOwner → slots' ≡ slots
+        → Meets S (Make None v l) (Refused OutOfMemory) (state_of owners number start next peak slots')
+        → Meets S (Make o v l) (Refused e) (state_of owners number start next peak slots')
+    lacking_step o v l e slots' is same step = at (knows_any number owners o) refl
+      where
+        at : (b : Bool) → knows_any number owners o ≡ b
+            → Meets S (Make o v l) (Refused e) (state_of owners number start next peak slots')
+        at true known =
+            rw (is, known) (lacks_step o v l owners slots' known refl step)
+        at false unknown =
+            rw (is, unknown, same) (refused_step o v l UnknownOwner owners refl unknown)
+
   -- ---- the release of the last owner value
 
   module _ (S : State T) (alone : (n : Name) → is_value (map.get S.cells n) ≡ true) (values : OnlyValues S)

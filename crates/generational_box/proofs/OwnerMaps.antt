@@ -1,75 +1,89 @@
 -- The records of owners, read at a key.
 use Rattle.std.proofs.Common.{◌≡◌, ◌≢◌, ◌⊎◌, inl, inr, ℕ, ◌+◌, ◌<◌, Bool, true, false, cond, List, [], ◌∷◌, Option, None, Some, IfSome, IsSome, arith, refl, sym, ap, subst, ◌∙◌}
-use Rattle.std.specs.Prelude.{option_map, map as list_map}
+use Rattle.std.specs.Prelude.{is_some, option_map, map as list_map}
+use Rattle.std.proofs.Common.{Ordering}
 use Rattle.std.specs.Ordering.{nat_cmp, eq_by_cmp, is_eq}
 use Rattle.std.specs.Cmp.{nat_cmp_total}
 use Rattle.std.proofs.lemmas.Cmp.{eq_by_cmp_equiv}
+use Rattle.std.proofs.lemmas.Bool.{eq-eqb}
 use Rattle.std.proofs.lemmas.Option.{none-some}
 use Rattle.std.specs.FinMap as map
 use Rattle.std.specs.BTreeMap.{BTreeMap, get, is_at, WritesThrough}
+use Rattle.std.specs.declared.cmp.Reverse.{Reverse}
 use Rattle.std.specs.Map.{lookup}
 use Rattle.generational_box.specs.declared.owners.OwnerRecord.{OwnerRecord}
 use Rattle.generational_box.specs.Names.{Name, changed, changed_if}
 use Rattle.generational_box.specs.State.{Holding, Owners}
-use Rattle.generational_box.specs.Records.{owners_of, holding_of, one_more, one_less, one_listed, count_in, count_under, listed_in, AreCounted, IsCounted}
+use Rattle.generational_box.specs.Records.{owners_of, holding_of, one_more, one_less, one_listed, count_in, count_under, listed_in, knows, AreCounted, IsCounted}
 use Rattle.generational_box.specs.Machine.{OwnerName}
 use Rattle.generational_box.proofs.Maps.{by_number, key_here, key_cases, changed_there, insert_there, get-insert_here, get-insert_apart, get-remove_here, get-remove_apart}
 
-find_is : (q : ℕ) (es : List (ℕ × OwnerRecord))
-    → map.find nat_cmp q (list_map (λ (e : ℕ × OwnerRecord). (e.0, holding_of e.1)) es)
-    ≡ option_map holding_of (lookup (is_at (nat_cmp q)) es)
+-- the order of the records, and a key in it
+abbrev pub newest_first : Reverse ℕ → Reverse ℕ → Ordering
+newest_first a b = nat_cmp b.0 a.0
+
+abbrev pub under : ℕ → Reverse ℕ
+under k = record { 0 = k }
+
+abbrev record_seen : Reverse ℕ × OwnerRecord → ℕ × Holding
+record_seen e = (e.0.0, holding_of e.1)
+
+find_is : (q : ℕ) (es : List (Reverse ℕ × OwnerRecord))
+    → map.find nat_cmp q (list_map record_seen es)
+    ≡ option_map holding_of (lookup (is_at (newest_first (under q))) es)
 find_is q [] = refl
-find_is q (e ∷ es) = at (is_eq (nat_cmp q e.0)) (find_is q es)
+find_is q (e ∷ es) =
+    at (is_eq (nat_cmp q e.0.0)) (find_is q es)
+    ∙ ap (λ b. option_map holding_of (cond b (Some e.1) (lookup (is_at (newest_first (under q))) es)))
+    ((eq_by_cmp_equiv nat_cmp_total).symm q e.0.0)
   where
-    at : (b : Bool) → map.find nat_cmp q (list_map (λ (e : ℕ × OwnerRecord). (e.0, holding_of e.1)) es)
-        ≡ option_map holding_of (lookup (is_at (nat_cmp q)) es)
-        → cond b (Some (holding_of e.1)) (map.find nat_cmp q (list_map (λ (e : ℕ × OwnerRecord). (e.0, holding_of e.1)) es))
-        ≡ option_map holding_of (cond b (Some e.1) (lookup (is_at (nat_cmp q)) es))
+    at : (b : Bool) → map.find nat_cmp q (list_map record_seen es)
+        ≡ option_map holding_of (lookup (is_at (newest_first (under q))) es)
+        → cond b (Some (holding_of e.1)) (map.find nat_cmp q (list_map record_seen es))
+        ≡ option_map holding_of (cond b (Some e.1) (lookup (is_at (newest_first (under q))) es))
     at true rest = refl
     at false rest = rest
 
 -- what the machine's map has under a key
-pub owners_get : (m : BTreeMap ℕ OwnerRecord) (q : ℕ)
-    → map.get (owners_of m) q ≡ option_map holding_of (get nat_cmp m q)
+pub owners_get : (m : BTreeMap (Reverse ℕ) OwnerRecord) (q : ℕ)
+    → map.get (owners_of m) q ≡ option_map holding_of (get newest_first m (under q))
 owners_get m q =
-    map.get-from_entries nat_cmp_total (list_map (λ (e : ℕ × OwnerRecord). (e.0, holding_of e.1)) m.entries) q
+    map.get-from_entries nat_cmp_total (list_map record_seen m.entries) q
     ∙ find_is q m.entries
 
-module _ (m n : BTreeMap ℕ OwnerRecord) (k : ℕ) (v : Option OwnerRecord)
-    (updates : (q : ℕ) → get nat_cmp n q ≡ cond (is_at (nat_cmp k) q) v (get nat_cmp m q)) where
+module _ (m n : BTreeMap (Reverse ℕ) OwnerRecord) (k : ℕ) (v : Option OwnerRecord)
+    (updates : (q : Reverse ℕ) → get newest_first n q ≡ cond (is_at (newest_first (under k)) q) v (get newest_first m q)) where
   -- a change at one key
   updated : (q : ℕ) → map.get (owners_of n) q
       ≡ cond (eq_by_cmp nat_cmp q k) (option_map holding_of v) (map.get (owners_of m) q)
   updated q =
       owners_get n q
-      ∙ (ap (option_map holding_of) (updates q)
-      ∙ (at (is_at (nat_cmp k) q)
-      ∙ ap (λ b. cond b (option_map holding_of v) (map.get (owners_of m) q))
-      ((eq_by_cmp_equiv nat_cmp_total).symm k q)))
+      ∙ (ap (option_map holding_of) (updates (under q))
+      ∙ at (eq_by_cmp nat_cmp q k))
     where
-      at : (b : Bool) → option_map holding_of (cond b v (get nat_cmp m q))
+      at : (b : Bool) → option_map holding_of (cond b v (get newest_first m (under q)))
           ≡ cond b (option_map holding_of v) (map.get (owners_of m) q)
       at true = refl
       at false = sym (owners_get m q)
 
-pub owners_insert : (m n : BTreeMap ℕ OwnerRecord) (k : ℕ) (r : OwnerRecord)
-    → ((q : ℕ) → get nat_cmp n q ≡ cond (is_at (nat_cmp k) q) (Some r) (get nat_cmp m q))
+pub owners_insert : (m n : BTreeMap (Reverse ℕ) OwnerRecord) (k : ℕ) (r : OwnerRecord)
+    → ((q : Reverse ℕ) → get newest_first n q ≡ cond (is_at (newest_first (under k)) q) (Some r) (get newest_first m q))
     → owners_of n ≡ map.insert (owners_of m) k (holding_of r)
 owners_insert m n k r updates =
     map.same_map nat_cmp_total map.nat_cmp-IsAntisymmetric _ _ (λ q.
     updated m n k (Some r) updates q ∙ sym (map.get-insert nat_cmp_total (owners_of m) k (holding_of r) q))
 
-pub owners_remove : (m n : BTreeMap ℕ OwnerRecord) (k : ℕ)
-    → ((q : ℕ) → get nat_cmp n q ≡ cond (is_at (nat_cmp k) q) None (get nat_cmp m q))
+pub owners_remove : (m n : BTreeMap (Reverse ℕ) OwnerRecord) (k : ℕ)
+    → ((q : Reverse ℕ) → get newest_first n q ≡ cond (is_at (newest_first (under k)) q) None (get newest_first m q))
     → owners_of n ≡ map.remove (owners_of m) k
 owners_remove m n k updates =
     map.same_map nat_cmp_total map.nat_cmp-IsAntisymmetric _ _ (λ q.
     updated m n k None updates q ∙ sym (map.get-remove nat_cmp_total (owners_of m) k q))
 
 -- a record that is there is changed
-pub owners_changed : (m n : BTreeMap ℕ OwnerRecord) (k : ℕ) (r s : OwnerRecord) (f : Holding → Holding)
-    → Some r ≡ get nat_cmp m k
-    → ((q : ℕ) → get nat_cmp n q ≡ cond (is_at (nat_cmp k) q) (Some s) (get nat_cmp m q))
+pub owners_changed : (m n : BTreeMap (Reverse ℕ) OwnerRecord) (k : ℕ) (r s : OwnerRecord) (f : Holding → Holding)
+    → Some r ≡ get newest_first m (under k)
+    → ((q : Reverse ℕ) → get newest_first n q ≡ cond (is_at (newest_first (under k)) q) (Some s) (get newest_first m q))
     → holding_of s ≡ f (holding_of r)
     → owners_of n ≡ changed (owners_of m) k f
 owners_changed m n k r s f there updates is =
@@ -78,34 +92,34 @@ owners_changed m n k r s f there updates is =
     ∙ sym (changed_there by_number (owners_of m) k f (holding_of r)
     (owners_get m k ∙ ap (option_map holding_of) (sym there))))
 
-pub owners_same : (m n : BTreeMap ℕ OwnerRecord) → n.entries ≡ m.entries → owners_of n ≡ owners_of m
+pub owners_same : (m n : BTreeMap (Reverse ℕ) OwnerRecord) → n.entries ≡ m.entries → owners_of n ≡ owners_of m
 owners_same m n e =
-    ap (λ es. map.from_entries (list_map (λ (e : ℕ × OwnerRecord). (e.0, holding_of e.1)) es)) e
+    ap (λ es. map.from_entries (list_map record_seen es)) e
 
 -- a record is written through what `get_mut` lent
-pub owners_written : (m n : BTreeMap ℕ OwnerRecord) (k : ℕ) (r s : OwnerRecord) (f : Holding → Holding)
-    → Some r ≡ get nat_cmp m k → WritesThrough nat_cmp (nat_cmp k) m s n
+pub owners_written : (m n : BTreeMap (Reverse ℕ) OwnerRecord) (k : ℕ) (r s : OwnerRecord) (f : Holding → Holding)
+    → Some r ≡ get newest_first m (under k) → WritesThrough newest_first (newest_first (under k)) m s n
     → holding_of s ≡ f (holding_of r) → owners_of n ≡ changed (owners_of m) k f
 owners_written m n k r s f there through is =
     owners_changed m n k r s f there (through.3 (subst IsSome there refl)).0 is
 
 -- nothing is changed where there is no record
-pub owners_absent : (m n : BTreeMap ℕ OwnerRecord) (k : ℕ) (f : Holding → Holding)
-    → None ≡ get nat_cmp m k → n ≡ m → owners_of n ≡ changed (owners_of m) k f
+pub owners_absent : (m n : BTreeMap (Reverse ℕ) OwnerRecord) (k : ℕ) (f : Holding → Holding)
+    → None ≡ get newest_first m (under k) → n ≡ m → owners_of n ≡ changed (owners_of m) k f
 unfolding changed
 owners_absent m n k f absent same =
     ap owners_of same
     ∙ sym (ap (changed_if (owners_of m) k f) (owners_get m k ∙ ap (option_map holding_of) (sym absent)))
 
 -- what holds of the machine's record holds of the one that is there
-pub owners_hold : (P : Holding → Type 0) (m : BTreeMap ℕ OwnerRecord) (k : ℕ) (r : OwnerRecord)
-    → IfSome (map.get (owners_of m) k) P → Some r ≡ get nat_cmp m k → P (holding_of r)
+pub owners_hold : (P : Holding → Type 0) (m : BTreeMap (Reverse ℕ) OwnerRecord) (k : ℕ) (r : OwnerRecord)
+    → IfSome (map.get (owners_of m) k) P → Some r ≡ get newest_first m (under k) → P (holding_of r)
 owners_hold P m k r holds there =
     subst (λ o. IfSome o P) (owners_get m k ∙ ap (option_map holding_of) (sym there)) holds
 
 -- a record is written as it was
-pub owners_kept : (m n : BTreeMap ℕ OwnerRecord) (k : ℕ) (r s : OwnerRecord)
-    → Some r ≡ get nat_cmp m k → WritesThrough nat_cmp (nat_cmp k) m s n
+pub owners_kept : (m n : BTreeMap (Reverse ℕ) OwnerRecord) (k : ℕ) (r s : OwnerRecord)
+    → Some r ≡ get newest_first m (under k) → WritesThrough newest_first (newest_first (under k)) m s n
     → holding_of s ≡ holding_of r → owners_of n ≡ owners_of m
 owners_kept m n k r s there through is =
     owners_insert m n k s (through.3 (subst IsSome there refl)).0
@@ -115,26 +129,26 @@ owners_kept m n k r s there through is =
 
 -- ---- no records
 
-pub owners_empty : (m : BTreeMap ℕ OwnerRecord) → m.entries ≡ [] → owners_of m ≡ map.empty
+pub owners_empty : (m : BTreeMap (Reverse ℕ) OwnerRecord) → m.entries ≡ [] → owners_of m ≡ map.empty
 owners_empty m none =
     map.same_map nat_cmp_total map.nat_cmp-IsAntisymmetric _ _ (λ q.
     owners_get m q
-    ∙ (ap (λ es. option_map holding_of (lookup (is_at (nat_cmp q)) es)) none
+    ∙ (ap (λ es. option_map holding_of (lookup (is_at (newest_first (under q))) es)) none
     ∙ sym (map.get-empty nat_cmp q)))
 
-pub owners_none : (m : BTreeMap ℕ OwnerRecord) → owners_of m ≡ map.empty → m.entries ≡ []
+pub owners_none : (m : BTreeMap (Reverse ℕ) OwnerRecord) → owners_of m ≡ map.empty → m.entries ≡ []
 owners_none m nobody = at m.entries refl
   where
-    first : (e : ℕ × OwnerRecord) (es : List (ℕ × OwnerRecord)) → m.entries ≡ e ∷ es
+    first : (e : Reverse ℕ × OwnerRecord) (es : List (Reverse ℕ × OwnerRecord)) → m.entries ≡ e ∷ es
         → None ≡ Some (holding_of e.1)
     first e es is =
-        sym (map.get-empty nat_cmp e.0)
-        ∙ (ap (λ o. map.get o e.0) (sym nobody)
-        ∙ (owners_get m e.0
-        ∙ (ap (λ xs. option_map holding_of (lookup (is_at (nat_cmp e.0)) xs)) is
-        ∙ ap (λ b. option_map holding_of (cond b (Some e.1) (lookup (is_at (nat_cmp e.0)) es))) (key_here by_number e.0))))
+        sym (map.get-empty nat_cmp e.0.0)
+        ∙ (ap (λ o. map.get o e.0.0) (sym nobody)
+        ∙ (owners_get m e.0.0
+        ∙ (ap (λ xs. option_map holding_of (lookup (is_at (newest_first (under e.0.0))) xs)) is
+        ∙ ap (λ b. option_map holding_of (cond b (Some e.1) (lookup (is_at (newest_first (under e.0.0))) es))) (key_here by_number e.0.0))))
 
-    at : (es : List (ℕ × OwnerRecord)) → m.entries ≡ es → m.entries ≡ []
+    at : (es : List (Reverse ℕ × OwnerRecord)) → m.entries ≡ es → m.entries ≡ []
     at [] is = is
     at (e ∷ es) is = absurd (none-some (holding_of e.1) (first e es is))
 
@@ -201,3 +215,15 @@ pub counted_listed : (next : ℕ) (owners : Owners) (o : Option OwnerName) (n : 
 counted_listed next owners None n counted = counted
 counted_listed next owners (Some o) n counted =
     counted_changed next owners o.key (one_listed n) counted (λ h is c. c)
+
+-- ---- known owners
+
+same_there : (r : Option OwnerRecord) → is_some (option_map holding_of r) ≡ is_some r
+same_there None = refl
+same_there (Some r) = refl
+
+-- an owner of this store is known exactly where its record is
+pub known_there : (m : BTreeMap (Reverse ℕ) OwnerRecord) (number : ℕ) (o : OwnerName) (r : Option OwnerRecord)
+    → o.store ≡ number → r ≡ get newest_first m (under o.key) → knows number (owners_of m) o ≡ is_some r
+known_there m number o r own there =
+    rw (eq-eqb o.store number own, owners_get m o.key, ← there) (same_there r)

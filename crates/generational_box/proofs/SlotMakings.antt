@@ -25,7 +25,7 @@ use Rattle.generational_box.specs.Steps.{Meets, IsNew}
 use Rattle.generational_box.specs.Entry.{Entry, Kept, is_live}
 use Rattle.generational_box.specs.Entry.Kept.{Empty, Live}
 use Rattle.generational_box.specs.Slotted.{cell_of, cells_of, state_of, is_reusable, HasBegun, IsSlotted}
-use Rattle.generational_box.proofs.Maps.{by_number, name_total, key_here, key_apart}
+use Rattle.generational_box.proofs.Maps.{by_number, name_total, key_here, key_apart, contains-insert_here, contains-insert_apart}
 use Rattle.generational_box.proofs.SliceGet.{get-set_same, get-set_other, get-push_last, get-push_other}
 use Rattle.generational_box.proofs.SlotCells.{cond_same, get_cells, cells-set, cells-push}
 use Rattle.generational_box.proofs.SlotNames.{given-next, given-push}
@@ -155,6 +155,41 @@ module _ {T : Type 0} where
 
         begun_other : (k : ℕ) → k ≢ i → HasBegun start (slice_get (slice_set slots i next_entry) k)
         begun_other k ne = rw (get-set_other slots i k next_entry ne) (s.begun k)
+
+    -- the slot is put back, and is free as before
+    pub not_left : set.contains (set.remove free i) i ≡ false
+    not_left =
+        set.contains-remove nat_cmp_total free i i
+        ∙ ap (λ b. not b && set.contains free i) (key_here by_number i)
+
+    pub slotted-back : (free' : set.FinSet nat_cmp) (rooms' : ℕ) → free' ≡ set.insert (set.remove free i) i
+        → rooms' ≡ rooms → IsSlotted free' rooms' start live peak slots
+    slotted-back free' rooms' back room = rw (back, room) (record {
+      pooled = λ k. ⊎_elim (here k) (other k) (cases_eq k i);
+      roomy = s.roomy;
+      begun = s.begun;
+      counted = s.counted;
+      peaked = s.peaked;
+      bounded = s.bounded;
+    })
+      where
+        here : (k : ℕ) → k ≡ i → set.contains (set.insert (set.remove free i) i) k ≡ is_reusable (slice_get slots k)
+        here k e = rw e (contains-insert_here by_number (set.remove free i) i ∙ (sym member ∙ s.pooled i))
+
+        other : (k : ℕ) → k ≢ i → set.contains (set.insert (set.remove free i) i) k ≡ is_reusable (slice_get slots k)
+        other k ne =
+            contains-insert_apart by_number (set.remove free i) i k ne
+            ∙ (set.contains-remove nat_cmp_total free i k
+            ∙ (ap (λ b. not b && set.contains free k) (key_apart by_number k i ne)
+            ∙ s.pooled k))
+
+    -- the generation that is told before is the one that is given
+    pub same_generation : (told given : ℕ) → IfSome (slice_get slots i) (λ e. told ≡ e.generation + 1)
+        → IfSome (slice_get slots i) (λ e. given ≡ e.generation + 1) → told ≡ given
+    same_generation told given before now =
+        let first : told ≡ reused.entry.generation + 1 = rw reused.there at before in
+        let second : given ≡ reused.entry.generation + 1 = rw reused.there at now in
+        first ∙ sym second
 
     -- the same of what the code has left
     module _ (gen live' peak' : ℕ) (after : List (Entry T))

@@ -1,9 +1,9 @@
 -- The records of owners, as the machine sees them.
 use Rattle.std.specs.Prelude.{◌≡◌, Bool, true, false, nat_eq, ◌&&◌, is_some, IsSome}
-use Rattle.std.specs.Prelude.{ℕ, ◌+◌, ◌-◌, ◌<◌, ◌≤◌, Option, None, Some, List, [], ◌∷◌, ◌++◌, IfSome, vec_len, vec_capacity, map as list_map}
-use Rattle.std.specs.Ordering.{nat_cmp}
+use Rattle.std.specs.Prelude.{ℕ, ◌+◌, ◌-◌, ◌<◌, ◌≤◌, Option, None, Some, List, [], ◌∷◌, ◌++◌, map as list_map}
 use Rattle.std.specs.FinMap as map
-use Rattle.std.specs.BTreeMap.{BTreeMap, get}
+use Rattle.std.specs.BTreeMap.{BTreeMap}
+use Rattle.std.specs.declared.cmp.Reverse.{Reverse}
 use Rattle.generational_box.specs.declared.owners.CellName.{CellName}
 use Rattle.generational_box.specs.declared.owners.OwnerRecord.{OwnerRecord}
 use Rattle.generational_box.specs.declared.error.StoreError.{StoreError}
@@ -22,8 +22,9 @@ abbrev pub holding_of : OwnerRecord → Holding
 holding_of r = record { names = list_map name_seen r.boxes.items; count = r.count }
 
 -- the records under their keys
-abbrev pub owners_of : BTreeMap ℕ OwnerRecord → Owners
-owners_of m = map.from_entries (list_map (λ (e : ℕ × OwnerRecord). (e.0, holding_of e.1)) m.entries)
+abbrev pub owners_of : BTreeMap (Reverse ℕ) OwnerRecord → Owners
+owners_of m =
+    map.from_entries (list_map (λ (e : Reverse ℕ × OwnerRecord). (e.0.0, holding_of e.1)) m.entries)
 
 -- a record's boxes, and how many owner values are held: none where there is no record
 abbrev pub names_in : Option Holding → List Name
@@ -56,15 +57,6 @@ one_less h = record h { count = h.count - 1 }
 -- one box more at the end of the list
 abbrev pub one_listed : Name → Holding → Holding
 one_listed n h = record h { names = h.names ++ n ∷ [] }
-
--- the list under a key has room for one box more
-abbrev pub HasRoom : BTreeMap ℕ OwnerRecord → ℕ → Type 0
-HasRoom m key = IfSome (get nat_cmp m key) (λ r. vec_len r.boxes < vec_capacity r.boxes)
-
--- the same for an owner, if there is one
-abbrev pub HasRoomFor : BTreeMap ℕ OwnerRecord → Option OwnerName → Type 0
-HasRoomFor m None = Unit {0}
-HasRoomFor m (Some o) = HasRoom m o.key
 
 -- whether an owner is of a store with this number and these records
 abbrev pub knows : ℕ → Owners → OwnerName → Bool

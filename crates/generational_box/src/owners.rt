@@ -1,14 +1,16 @@
 //! Owners, and the records that a store keeps of them.
 
-ghost use Rattle.std.specs.Prelude.{◌≡◌, ℕ, ◌+◌, ◌-◌, ◌<◌, [], true, Some, None, IsSome, IfSome, IfErr, OnOk, OnErr, option_copied, option_map, map as list_map};
+ghost use Rattle.std.specs.Prelude.{◌≡◌, ℕ, ◌+◌, ◌-◌, ◌<◌, [], true, Some, None, IsSome, IfSome, IfErr, OnOk, OnErr, option_copied, option_map, map as list_map, if◌then◌else◌};
 ghost use Rattle.std.specs.FinMap as map;
-ghost use Rattle.generational_box.specs.Records.{owners_of, holding_of, name_seen, one_more, one_less, one_listed, count_under, names_under, knows, knows_any, listed_in, IsRefusal, HasRoom, HasRoomFor};
+ghost use Rattle.generational_box.specs.Records.{owners_of, holding_of, name_seen, one_more, one_less, one_listed, count_under, names_under, knows, knows_any, listed_in, IsRefusal};
+ghost use Rattle.generational_box.specs.declared.error.StoreError.TheVariants.{OutOfMemory, UnknownOwner};
 ghost use Rattle.generational_box.specs.Names.{changed};
 
 use crate::boxes::GenerationalBox;
 use crate::error::{BorrowMutError, Location, Refusal, Refused, StoreError};
 use crate::storage::{AnyStorage, Storage};
 use std::alloc::{AllocError, Global};
+use std::cmp::Reverse;
 use std::collections::BTreeMap;
 use std::marker::Model;
 
@@ -61,6 +63,7 @@ impl Owner {
     /// Refused, in this order: `UnknownOwner`, where the store has no such record; `OutOfMemory`,
     /// where neither a slot nor the list has room. The value comes back then, and the store stays
     /// as it was.
+    #[inline(always)]
     pub fn insert<T, S: Storage<T>>(
         &self,
         store: &mut S,
@@ -138,8 +141,12 @@ impl OwnerRecord {
     }
 }
 
+/// The records of a store's owners by their keys. The newest, which is asked for most, comes first:
+/// a look-up asks the keys in order.
+pub(crate) type OwnerRecords = BTreeMap<Reverse<u64>, OwnerRecord>;
+
 // How many owner values a record stands for.
-pub(crate) fn count(owners: &BTreeMap<u64, OwnerRecord>, key: u64) -> u64
+pub(crate) fn count(owners: &OwnerRecords, key: u64) -> u64
     ensures { result ≡ count_under (owners_of owners.now) key }
 {
     match find(owners, key) {
@@ -149,99 +156,103 @@ pub(crate) fn count(owners: &BTreeMap<u64, OwnerRecord>, key: u64) -> u64
 }
 
 // The record under a key.
-pub(crate) fn find(owners: &BTreeMap<u64, OwnerRecord>, key: u64) -> Option<&OwnerRecord>
+pub(crate) fn find(owners: &OwnerRecords, key: u64) -> Option<&OwnerRecord>
     ensures { option_map holding_of (option_copied result) ≡ map.get (owners_of owners.now) key }
 {
-    owners.get(&key)
+    owners.get(&Reverse(key))
 }
 
 // Whether the owner, if there is one, is of a store with this number and these records.
-pub(crate) fn is_known(owners: &BTreeMap<u64, OwnerRecord>, number: u64, owner: &Owner) -> bool
+pub(crate) fn is_known(owners: &OwnerRecords, number: u64, owner: &Owner) -> bool
     ensures { result ≡ knows number (owners_of owners.now) owner.now }
 {
     owner.store() == number && find(owners, owner.key()).is_some()
 }
 
-// Makes room for one box more in the owner's list, if there is an owner. Want of memory changes no
-// record.
+// Puts a box at the end of the owner's list, if there is an owner. A refusal changes no record.
 #[inline(always)]
-pub(crate) fn make_room_for(
-    owners: &mut BTreeMap<u64, OwnerRecord>,
+pub(crate) fn list_for(
+    owners: &mut OwnerRecords,
     number: u64,
     owner: Option<&Owner>,
+    name: CellName,
 ) -> Result<(), StoreError>
-    ensures same { owners_of owners.new ≡ owners_of owners.old }
     ensures known { OnOk result (knows_any number (owners_of owners.old) (option_copied owner.entry) ≡ true) }
-    ensures room { OnOk result (HasRoomFor owners.new (option_copied owner.entry)) }
+    ensures ok { OnOk result (owners_of owners.new ≡ listed_in (owners_of owners.old) (option_copied owner.entry) (name_seen name)) }
+    ensures err { OnErr result (owners_of owners.new ≡ owners_of owners.old) }
     ensures refused { IfErr result (λ cause. IsRefusal number (owners_of owners.old) (option_copied owner.entry) cause) }
 {
     match owner {
         None => Ok(()),
-        Some(owner) => make_room(owners, number, owner),
+        Some(owner) => list(owners, number, owner, name),
     }
 }
 
 // The same for an owner.
-fn make_room(
-    owners: &mut BTreeMap<u64, OwnerRecord>,
+fn list(
+    owners: &mut OwnerRecords,
     number: u64,
     owner: &Owner,
+    name: CellName,
 ) -> Result<(), StoreError>
-    ensures same { owners_of owners.new ≡ owners_of owners.old }
     ensures known { OnOk result (knows number (owners_of owners.old) owner.now ≡ true) }
-    ensures room { OnOk result (HasRoom owners.new owner.now.key) }
+    ensures ok { OnOk result (owners_of owners.new ≡ changed (owners_of owners.old) owner.now.key (one_listed (name_seen name))) }
+    ensures err { OnErr result (owners_of owners.new ≡ owners_of owners.old) }
     ensures refused { IfErr result (λ cause. IsRefusal number (owners_of owners.old) (Some owner.now) cause) }
 {
-    if !is_known(owners, number, owner) {
+    if owner.store() != number {
         return Err(StoreError::UnknownOwner);
     }
-    match reserve(owners, owner.key()) {
-        Ok(()) => Ok(()),
-        Err(_) => Err(StoreError::OutOfMemory),
+    match owners.get_mut(&Reverse(owner.key())) {
+        Some(found) => match found.boxes.push(name) {
+            Ok(()) => Ok(()),
+            Err(_) => Err(StoreError::OutOfMemory),
+        },
+        None => Err(StoreError::UnknownOwner),
     }
 }
 
-// Puts a box at the end of the owner's list, if there is an owner. There is room for it.
+// Why a making is refused for which there is no memory: its owner, if it has one, may be unknown.
 #[inline(always)]
-pub(crate) fn list_for(
-    owners: &mut BTreeMap<u64, OwnerRecord>,
-    owner: Option<&Owner>,
-    name: CellName,
-)
-    requires { HasRoomFor owners.old (option_copied owner) }
-    ensures { owners_of owners.new ≡ listed_in (owners_of owners.old) (option_copied owner.entry) (name_seen name) }
+pub(crate) fn lacking(owners: &OwnerRecords, number: u64, owner: Option<&Owner>) -> StoreError
+    ensures { result ≡ (if knows_any number (owners_of owners.now) (option_copied owner.entry) then OutOfMemory else UnknownOwner) }
 {
     match owner {
-        None => {}
-        Some(owner) => list(owners, owner.key(), name),
+        None => StoreError::OutOfMemory,
+        Some(owner) => lacking_for(owners, number, owner),
+    }
+}
+
+// The same for an owner.
+#[cold]
+#[inline(never)]
+fn lacking_for(owners: &OwnerRecords, number: u64, owner: &Owner) -> StoreError
+    ensures { result ≡ (if knows number (owners_of owners.now) owner.now then OutOfMemory else UnknownOwner) }
+{
+    if is_known(owners, number, owner) {
+        StoreError::OutOfMemory
+    } else {
+        StoreError::UnknownOwner
     }
 }
 
 // Adds a record under a key. Want of memory changes nothing.
-pub(crate) fn add(
-    owners: &mut BTreeMap<u64, OwnerRecord>,
-    key: u64,
-    added: OwnerRecord,
-) -> Result<(), AllocError>
+pub(crate) fn add(owners: &mut OwnerRecords, key: u64, added: OwnerRecord) -> Result<(), AllocError>
     ensures ok { OnOk result (owners_of owners.new ≡ map.insert (owners_of owners.old) key (holding_of added)) }
     ensures err { OnErr result (owners_of owners.new ≡ owners_of owners.old) }
 {
-    match owners.insert(key, added) {
+    match owners.insert(Reverse(key), added) {
         Ok(_) => Ok(()),
         Err(_) => Err(AllocError),
     }
 }
 
 // Takes a record away: its boxes.
-pub(crate) fn take(
-    owners: &mut BTreeMap<u64, OwnerRecord>,
-    key: u64,
-    alloc: Global,
-) -> Vec<CellName>
+pub(crate) fn take(owners: &mut OwnerRecords, key: u64, alloc: Global) -> Vec<CellName>
     ensures after { owners_of owners.new ≡ map.remove (owners_of owners.old) key }
     ensures names { list_map name_seen result.items ≡ names_under (owners_of owners.old) key }
 {
-    match owners.remove(&key) {
+    match owners.remove(&Reverse(key)) {
         Some(found) => {
             let OwnerRecord { boxes, count: _ } = found;
             boxes
@@ -251,45 +262,23 @@ pub(crate) fn take(
 }
 
 // One owner value more of a record.
-pub(crate) fn count_up(owners: &mut BTreeMap<u64, OwnerRecord>, key: u64)
+pub(crate) fn count_up(owners: &mut OwnerRecords, key: u64)
     requires { IfSome (map.get (owners_of owners.old) key) (λ h. h.count < 18446744073709551615) }
     ensures { owners_of owners.new ≡ changed (owners_of owners.old) key one_more }
 {
-    match owners.get_mut(&key) {
+    match owners.get_mut(&Reverse(key)) {
         Some(found) => found.count += 1,
         None => {}
     }
 }
 
 // One owner value less of a record.
-pub(crate) fn count_down(owners: &mut BTreeMap<u64, OwnerRecord>, key: u64)
+pub(crate) fn count_down(owners: &mut OwnerRecords, key: u64)
     requires { IfSome (map.get (owners_of owners.old) key) (λ h. 0 < h.count) }
     ensures { owners_of owners.new ≡ changed (owners_of owners.old) key one_less }
 {
-    match owners.get_mut(&key) {
+    match owners.get_mut(&Reverse(key)) {
         Some(found) => found.count -= 1,
-        None => {}
-    }
-}
-
-// Makes room for one box more in a list. Want of memory changes no record.
-pub(crate) fn reserve(owners: &mut BTreeMap<u64, OwnerRecord>, key: u64) -> Result<(), AllocError>
-    ensures same { owners_of owners.new ≡ owners_of owners.old }
-    ensures room { OnOk result (HasRoom owners.new key) }
-{
-    match owners.get_mut(&key) {
-        Some(found) => found.boxes.reserve(1),
-        None => Ok(()),
-    }
-}
-
-// Puts a box at the end of a list that has room.
-pub(crate) fn list(owners: &mut BTreeMap<u64, OwnerRecord>, key: u64, name: CellName)
-    requires { HasRoom owners.old key }
-    ensures { owners_of owners.new ≡ changed (owners_of owners.old) key (one_listed (name_seen name)) }
-{
-    match owners.get_mut(&key) {
-        Some(found) => found.boxes.push_reserved(name),
         None => {}
     }
 }

@@ -26,13 +26,12 @@ use crate::error::{
     AlreadyBorrowedMutError, BorrowError, BorrowMutError, BorrowMutResult, BorrowResult, Location,
     Refusal, Refused, StoreError, ValueDroppedError,
 };
-use crate::owners::{self, CellName, Owner, OwnerRecord};
+use crate::owners::{self, CellName, Owner, OwnerRecord, OwnerRecords};
 use crate::pool::{LastFirst, SlotPool};
 use crate::references::{GenerationalRef, GenerationalRefMut};
 use crate::steps::StepCall;
 use crate::storage::{AnyStorage, Storage};
 use std::alloc::{AllocError, Global};
-use std::collections::BTreeMap;
 use std::marker::Model;
 
 /// A store of values of one type in recycled slots. Contracts see it as the state of the abstract
@@ -53,7 +52,7 @@ pub struct Store<T, P: SlotPool> {
     slots: Vec<StorageEntry<T>>,
     pool: P,
     // the records of owners, by their keys
-    owners: BTreeMap<u64, OwnerRecord>,
+    owners: OwnerRecords,
 }
 
 /// The store that takes the slot that was freed last.
@@ -114,7 +113,7 @@ impl<T, P: SlotPool> Store<T, P> {
             peak: 0,
             slots: Vec::new(alloc),
             pool: P::new(alloc),
-            owners: BTreeMap::new(alloc),
+            owners: OwnerRecords::new(alloc),
         }
     }
 }
@@ -341,6 +340,16 @@ fn end_cell<T: Drop>(slots: &mut Vec<StorageEntry<T>>, slot: usize)
     slots[slot].end();
 }
 
+// The generation of a slot's next cell.
+#[inline(always)]
+fn next_generation<T>(slots: &Vec<StorageEntry<T>>, slot: usize) -> u64
+    requires within { slot < vec_len slots.now }
+    requires below { IfSome (slice_get slots.now.items slot) (λ entry. entry.generation < 18446744073709551615) }
+    ensures { IfSome (slice_get slots.now.items slot) (λ entry. result ≡ entry.generation + 1) }
+{
+    slots[slot].generation() + 1
+}
+
 // Puts a cell into a slot that has none, under the next generation, which is answered.
 #[inline(always)]
 fn refill<T: Drop>(
@@ -548,29 +557,33 @@ impl<T: Drop, P: SlotPool> Storage<T> for Store<T, P> {
         location: Location,
         owner: Option<&Owner>,
     ) -> Result<GenerationalPointer, Refusal<T>> {
-        match owners::make_room_for(&mut self.owners, self.number, owner) {
-            Ok(()) => {}
-            Err(cause) => return Err(Refusal { value, cause }),
-        }
         match self.pool.take() {
             Some(slot) => {
-                let generation = refill(&mut self.slots, slot, value, location);
+                let generation = next_generation(&self.slots, slot);
+                let name = CellName { slot, generation };
+                if let Err(cause) = owners::list_for(&mut self.owners, self.number, owner, name) {
+                    self.pool.put(slot);
+                    return Err(Refusal { value, cause });
+                }
+                refill(&mut self.slots, slot, value, location);
                 count_one(&mut self.live, &mut self.peak);
-                owners::list_for(&mut self.owners, owner, CellName { slot, generation });
                 Ok(GenerationalPointer::new(self.number, slot, generation, location))
             }
             None => {
                 match make_room(&mut self.slots, &mut self.pool) {
                     Ok(()) => {}
                     Err(_) => {
-                        let cause = StoreError::OutOfMemory;
+                        let cause = owners::lacking(&self.owners, self.number, owner);
                         return Err(Refusal { value, cause });
                     }
                 }
-                let generation = self.start;
-                let slot = push_slot(&mut self.slots, generation, value, location);
+                let (slot, generation) = (self.slots.len(), self.start);
+                let name = CellName { slot, generation };
+                if let Err(cause) = owners::list_for(&mut self.owners, self.number, owner, name) {
+                    return Err(Refusal { value, cause });
+                }
+                push_slot(&mut self.slots, generation, value, location);
                 count_one(&mut self.live, &mut self.peak);
-                owners::list_for(&mut self.owners, owner, CellName { slot, generation });
                 Ok(GenerationalPointer::new(self.number, slot, generation, location))
             }
         }
