@@ -1,24 +1,26 @@
 -- What the release of an owner value leaves.
-use Rattle.std.proofs.Common.{◌≡◌, ◌≢◌, ℕ, ◌≤◌, ◌<◌, List, true, false, cond, not, ◌||◌}
+use Rattle.std.proofs.Common.{◌≡◌, ◌≢◌, ℕ, ◌≤◌, ◌<◌, List, [], ◌∷◌, true, false, cond, not, ◌||◌}
 use Rattle.std.proofs.Common.{Option, None, Some, refl, sym, ap, subst, ◌∙◌, ⊎_elim}
-use Rattle.std.proofs.lemmas.Bool.{true≢false, false_from_ne_true, lt-ltb, le-ltb, cases_lt}
+use Rattle.std.proofs.lemmas.Bool.{true≢false, false_from_ne_true, or_cases, lt-ltb, le-ltb, cases_lt}
+use Rattle.std.specs.List.{AllByRecursion}
 use Rattle.std.specs.FinMap as map
 use Rattle.generational_box.specs.Names.{Name, NameMap, among}
 use Rattle.generational_box.specs.Cells.{Cell, is_shared}
-use Rattle.generational_box.specs.State.{State, Holding, IsNamed, is_named}
+use Rattle.generational_box.specs.State.{State, Holding, IsSound, IsBoxed, IsNamed, is_named}
 use Rattle.generational_box.specs.Borrowing.{Trouble}
 use Rattle.generational_box.specs.Ending.{swept, without, left_by, close, hindered}
-use Rattle.generational_box.specs.Machine.{Answer, Outcome, OwnerName, let_go, unless}
+use Rattle.generational_box.specs.Machine.{Answer, Outcome, OwnerName, holding, let_go, unless}
 use Rattle.generational_box.specs.Machine.{with_owner}
 use Rattle.generational_box.specs.Machine.Action.{ReleaseOwner, LeakOwner}
 use Rattle.generational_box.specs.Machine.Answer.{Done}
 use Rattle.generational_box.specs.Records.{one_less}
 use Rattle.generational_box.specs.Releasing.{IsReleased}
 use Rattle.generational_box.specs.Steps.{Meets}
-use Rattle.generational_box.proofs.Maps.{by_name, by_number, get-keep, get-remove_here}
+use Rattle.generational_box.proofs.Maps.{by_name, by_number, name_same, get-keep, get-remove_here}
 use Rattle.generational_box.proofs.Maps.{get-remove_apart, get-insert_here, get-insert_apart}
 use Rattle.generational_box.proofs.Named.{named_gives, named_from}
 use Rattle.generational_box.proofs.Ends.{swept_ref, swept_was}
+use Rattle.generational_box.proofs.SoundCalls.{held_record}
 use Rattle.generational_box.proofs.Stepping.{is_refusal, meets_cases}
 
 module _ {T : Type 0} where
@@ -70,6 +72,20 @@ module _ {T : Type 0} where
       shared_stays named = left_get ∙ rw (without_get, shared, shared, named_before named) refl
 
   -- ---- the release
+
+  -- what stands in a list of names of boxes is one
+  boxed_among : (S : State T) (names : List Name) (n : Name)
+      → AllByRecursion (IsBoxed S) names → among names n ≡ true → IsBoxed S n
+  boxed_among S [] n all there = absurd (true≢false (sym there))
+  boxed_among S (m ∷ names) n all there =
+      ⊎_elim (λ is. subst (IsBoxed S) (sym (name_same n m is)) all.0)
+      (λ rest. boxed_among S names n all.1 rest) (or_cases _ _ there)
+
+  pub listed_boxed : (S : State T) (o : OwnerName) (h : Holding) (n : Name)
+      → IsSound S → holding S o ≡ Some h → among h.names n ≡ true
+      → is_shared (map.get S.cells n) ≡ false
+  listed_boxed S o h n s is there =
+      (boxed_among S h.names n (s.owned o.key h (held_record S o h is)) there).1
 
   done_only : (t : Option Trouble) (S R last : State T)
       → ◌≡◌ {A = Outcome T} (Done, R) (unless t S (Done, last)) → R ≡ last

@@ -51,14 +51,13 @@ pub fn shared_values_live_by_references<T>()
         IsSound S → IsNamed S.cells m → is_shared (map.get S.cells m) ≡ true }
 {}
 
-/// The last release of an owner ends the boxes of its list, and then the shared values that no
-/// live Ref names any more. Nothing else ends, and the record is gone. A release that isn't the
-/// last takes away one owner value and ends nothing. A leak changes nothing.
+/// The last release of an owner ends all boxes of its list, and then the shared values that no
+/// live Ref names any more. Nothing else ends or changes, and only the owner's record goes. A
+/// release that isn't the last takes away one owner value and ends nothing. A leak changes nothing.
 pub fn owners_last_release_ends_its_boxes<T>()
     ensures boxes { (S R : State T) (o : OwnerName) (h : Holding) (n : Name) →
-        IsReleased S o h R → h.count ≤ 1 →
-        among h.names n ≡ true → is_shared (map.get S.cells n) ≡ false →
-        map.get R.cells n ≡ None }
+        IsSound S → IsReleased S o h R → h.count ≤ 1 →
+        among h.names n ≡ true → map.get R.cells n ≡ None }
     ensures others { (S R : State T) (o : OwnerName) (h : Holding) (n : Name) →
         IsReleased S o h R → h.count ≤ 1 →
         among h.names n ≡ false → is_shared (map.get S.cells n) ≡ false →

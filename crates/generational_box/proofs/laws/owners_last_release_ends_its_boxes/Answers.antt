@@ -2,13 +2,14 @@ use Rattle.std.proofs.Common.{ap, sym, subst, ◌∙◌}
 use Rattle.std.specs.FinMap as map
 use Rattle.generational_box.specs.State.{IsNamed}
 use Rattle.generational_box.proofs.Releasing.{box_ends, box_stays, shared_ends, shared_stays}
-use Rattle.generational_box.proofs.Releasing.{last_cells, earlier_cells, last_record, earlier_record}
+use Rattle.generational_box.proofs.Releasing.{listed_boxed, last_cells, earlier_cells, last_record, earlier_record}
 use Rattle.generational_box.proofs.Releasing.{other_records, rest_stays, leak_changes_nothing}
 use Rattle.generational_box.proofs.laws.owners_last_release_ends_its_boxes.Goals as goal
 
 pub returns-clause-boxes : goal.returns-clause-boxes
-returns-clause-boxes g c = λ S R o h n r last there box.
-    ap (λ cells. map.get cells n) (last_cells r last) ∙ box_ends S.cells h.names n box there
+returns-clause-boxes g c = λ S R o h n sound r last there.
+    ap (λ cells. map.get cells n) (last_cells r last)
+    ∙ box_ends S.cells h.names n (listed_boxed S o h n sound r.held there) there
 
 pub returns-clause-others : goal.returns-clause-others
 returns-clause-others g c = λ S R o h n r last apart box.
