@@ -1,6 +1,7 @@
 -- What the release of an owner value leaves.
-use Rattle.std.proofs.Common.{◌≡◌, ◌≢◌, ℕ, ◌≤◌, ◌<◌, List, [], ◌∷◌, true, false, cond, not, ◌||◌}
+use Rattle.std.proofs.Common.{◌≡◌, ◌≢◌, ℕ, ◌≤◌, ◌<◌, List, [], ◌∷◌, Bool, true, false, cond, not, ◌||◌}
 use Rattle.std.proofs.Common.{Option, None, Some, refl, sym, ap, subst, ◌∙◌, ⊎_elim}
+use Rattle.std.specs.Prelude.{nat_lt}
 use Rattle.std.proofs.lemmas.Bool.{true≢false, false_from_ne_true, or_cases, lt-ltb, le-ltb, cases_lt}
 use Rattle.std.specs.List.{AllByRecursion}
 use Rattle.std.specs.FinMap as map
@@ -152,6 +153,35 @@ module _ {T : Type 0} where
       where
         rest : State T → Type 0
         rest X = X ≡ record S { cells = X.cells; owners = X.owners }
+
+  -- a release that isn't done changes nothing
+  unless_refused : (t : Option Trouble) (S last : State T) (out : Outcome T)
+      → out ≡ unless t S (Done, last) → out.0 ≢ Done → out.1 ≡ S
+  unless_refused None S last out e other = absurd (other (ap (λ (x : Outcome T). x.0) e))
+  unless_refused (Some t) S last out e other = ap (λ (x : Outcome T). x.1) e
+
+  let_go_refused : (S : State T) (o : OwnerName) (h : Option Holding) (out : Outcome T)
+      → out ≡ let_go S o h → out.0 ≢ Done → out.1 ≡ S
+  let_go_refused S o None out e other = ap (λ (x : Outcome T). x.1) e
+  let_go_refused S o (Some h) out e other = split (nat_lt 1 h.count) e
+    where
+      less : State T
+      less = with_owner S o.key (one_less h)
+
+      last : State T
+      last = record (close S h.names) { owners = map.remove S.owners o.key }
+
+      split : (b : Bool) → out ≡ cond b (Done, less) (unless (hindered S h.names) S (Done, last))
+          → out.1 ≡ S
+      split true is = absurd (other (ap (λ (x : Outcome T). x.0) is))
+      split false is = unless_refused (hindered S h.names) S last out is other
+
+  pub refused_release : (S R : State T) (o : OwnerName) (answer : Answer T)
+      → Meets S (ReleaseOwner o) answer R → answer ≢ Done → R ≡ S
+  refused_release S R o answer m other =
+      ⊎_elim (λ refused. refused.1)
+      (λ acts. let_go_refused S o (holding S o) (answer, R) acts.2 other)
+      (meets_cases S R (ReleaseOwner o) answer m)
 
   pub leak_changes_nothing : (S R : State T) (o : OwnerName) (answer : Answer T)
       → Meets S (LeakOwner o) answer R → R ≡ S

@@ -10,7 +10,8 @@ ghost use Rattle.generational_box.specs.Boxes.{name_of, has_same_id};
 ghost use Rattle.generational_box.specs.Borrowing.{read_trouble, write_trouble};
 ghost use Rattle.generational_box.specs.Borrowing.Trouble.{Dropped};
 ghost use Rattle.generational_box.specs.Machine.{Action, Answer, Fresh, OwnerName, act};
-ghost use Rattle.generational_box.specs.Machine.Action.{LeakOwner};
+ghost use Rattle.generational_box.specs.Machine.Action.{ReleaseOwner, LeakOwner};
+ghost use Rattle.generational_box.specs.Machine.Answer.{Done};
 ghost use Rattle.generational_box.specs.Records.{one_less};
 ghost use Rattle.generational_box.specs.Releasing.{IsReleased};
 ghost use Rattle.generational_box.specs.Steps.{Meets};
@@ -53,7 +54,8 @@ pub fn shared_values_live_by_references<T>()
 
 /// The last release of an owner ends all boxes of its list, and then the shared values that no
 /// live Ref names any more. Nothing else ends or changes, and only the owner's record goes. A
-/// release that isn't the last takes away one owner value and ends nothing. A leak changes nothing.
+/// release that isn't the last takes away one owner value and ends nothing. A release that is
+/// refused changes nothing, nor does a leak.
 pub fn owners_last_release_ends_its_boxes<T>()
     ensures boxes { (S R : State T) (o : OwnerName) (h : Holding) (n : Name) →
         IsSound S → IsReleased S o h R → h.count ≤ 1 →
@@ -80,6 +82,8 @@ pub fn owners_last_release_ends_its_boxes<T>()
         IsReleased S o h R → k ≢ o.key → map.get R.owners k ≡ map.get S.owners k }
     ensures rest { (S R : State T) (o : OwnerName) (h : Holding) →
         IsReleased S o h R → R ≡ record S { cells = R.cells; owners = R.owners } }
+    ensures refused { (S R : State T) (o : OwnerName) (answer : Answer T) →
+        Meets S (ReleaseOwner o) answer R → answer ≢ Done → R ≡ S }
     ensures leak { (S R : State T) (o : OwnerName) (answer : Answer T) →
         Meets S (LeakOwner o) answer R → R ≡ S }
 {}

@@ -3,7 +3,8 @@ use Rattle.std.specs.FinMap as map
 use Rattle.generational_box.specs.State.{IsNamed}
 use Rattle.generational_box.proofs.Releasing.{box_ends, box_stays, shared_ends, shared_stays}
 use Rattle.generational_box.proofs.Releasing.{listed_boxed, last_cells, earlier_cells, last_record, earlier_record}
-use Rattle.generational_box.proofs.Releasing.{other_records, rest_stays, leak_changes_nothing}
+use Rattle.generational_box.proofs.Releasing.{other_records, rest_stays, refused_release}
+use Rattle.generational_box.proofs.Releasing.{leak_changes_nothing}
 use Rattle.generational_box.proofs.laws.owners_last_release_ends_its_boxes.Goals as goal
 
 pub returns-clause-boxes : goal.returns-clause-boxes
@@ -41,6 +42,9 @@ returns-clause-records g c = λ S R o h k r apart. other_records r k apart
 
 pub returns-clause-rest : goal.returns-clause-rest
 returns-clause-rest g c = λ S R o h r. rest_stays r
+
+pub returns-clause-refused : goal.returns-clause-refused
+returns-clause-refused g c = λ S R o answer m other. refused_release S R o answer m other
 
 pub returns-clause-leak : goal.returns-clause-leak
 returns-clause-leak g c = λ S R o answer m. leak_changes_nothing S R o answer m
