@@ -1,5 +1,6 @@
 -- What ends when the boxes of an owner end, in a store whose cells are Values.
-use Rattle.std.proofs.Common.{◌≡◌, Bool, true, false, cond, List, [], ◌∷◌, Option, None, Some, refl, sym, ap, ◌∙◌}
+use Rattle.std.proofs.Common.{◌≡◌, Bool, true, false, cond, List, [], ◌∷◌, Option, None, Some, refl}
+use Rattle.std.proofs.Common.{sym, ap, ◌∙◌}
 use Rattle.std.specs.Prelude.{is_some, not, ◌||◌}
 use Rattle.std.proofs.lemmas.Bool.{eq-eqb, true≢false, false≢true}
 use Rattle.std.specs.FinMap as map
@@ -10,7 +11,8 @@ use Rattle.generational_box.specs.Cells.Cell.{Value, Shared, Ref}
 use Rattle.generational_box.specs.Boxes.{name_in}
 use Rattle.generational_box.specs.State.{State}
 use Rattle.generational_box.specs.Borrowing.{write_refusal}
-use Rattle.generational_box.specs.Ending.{close, left_by, hindered, hindrance_of, first_hindrance, or_else}
+use Rattle.generational_box.specs.Ending.{close, left_by, hindered, hindrance_of, first_hindrance}
+use Rattle.generational_box.specs.Ending.{or_else}
 use Rattle.generational_box.specs.Records.{first_borrowed}
 use Rattle.generational_box.specs.Slotted.{own_cell_at, is_value, OnlyValues}
 use Rattle.generational_box.proofs.Maps.{name_total, name_exact, name_here}

@@ -1,8 +1,10 @@
 -- What the release of an owner value leaves.
-use Rattle.std.proofs.Common.{◌≡◌, ◌≢◌, ℕ, ◌≤◌, ◌<◌, List, [], ◌∷◌, Bool, true, false, cond, not, ◌||◌}
+use Rattle.std.proofs.Common.{◌≡◌, ◌≢◌, ℕ, ◌≤◌, ◌<◌, List, [], ◌∷◌, Bool, true, false, cond, not}
+use Rattle.std.proofs.Common.{◌||◌}
 use Rattle.std.proofs.Common.{Option, None, Some, refl, sym, ap, subst, ◌∙◌, ⊎_elim}
 use Rattle.std.specs.Prelude.{nat_lt}
-use Rattle.std.proofs.lemmas.Bool.{true≢false, false_from_ne_true, or_cases, lt-ltb, le-ltb, cases_lt}
+use Rattle.std.proofs.lemmas.Bool.{true≢false, false_from_ne_true, or_cases, lt-ltb, le-ltb}
+use Rattle.std.proofs.lemmas.Bool.{cases_lt}
 use Rattle.std.specs.List.{AllByRecursion}
 use Rattle.std.specs.FinMap as map
 use Rattle.generational_box.specs.Names.{Name, NameMap, among}
@@ -35,12 +37,14 @@ module _ {T : Type 0} where
         get-keep by_name cells (λ q. is_shared (map.get cells q) || not (among names q)) n
 
     left_get : map.get (left_by cells names) n
-        ≡ cond (not (is_shared (map.get (without cells names) n)) || is_named (without cells names) n)
+        ≡ cond
+        (not (is_shared (map.get (without cells names) n)) || is_named (without cells names) n)
         (map.get (without cells names) n) None
     unfolding swept
     left_get =
         get-keep by_name (without cells names)
-        (λ q. not (is_shared (map.get (without cells names) q)) || is_named (without cells names) q) n
+        (λ q.
+        not (is_shared (map.get (without cells names) q)) || is_named (without cells names) q) n
 
     -- Refs of the cells that are left name what they named before
     named_left : (is_named (without cells names) n ≡ true) → IsNamed (left_by cells names) n

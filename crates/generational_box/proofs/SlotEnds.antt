@@ -95,14 +95,15 @@ module _ {T : Type 0} {number : ℕ} {slots : List (Entry T)} {id : Generational
     slotted_by : (now : set.FinSet nat_cmp)
         → ((k : ℕ) → set.contains now k ≡ is_reusable (slice_get (slice_set slots id.slot empty_entry) k))
         → set.len now ≤ set.len free + 1 → IsSlotted now rooms start (live - 1) peak ended
-    slotted_by now pooled more = subst (IsSlotted now rooms start (live - 1) peak) (sym ended_is) (record {
-      pooled = pooled;
-      roomy = rw length-set s.roomy;
-      begun = λ k. has_begun start k (s.begun k);
-      counted = ap (λ n. n - 1) s.counted ∙ sym count;
-      few = let le = s.few in let one = some_live live s.counted in omega arith;
-      bounded = rw length-set s.bounded;
-    })
+    slotted_by now pooled more =
+        subst (IsSlotted now rooms start (live - 1) peak) (sym ended_is) (record {
+          pooled = pooled;
+          roomy = rw length-set s.roomy;
+          begun = λ k. has_begun start k (s.begun k);
+          counted = ap (λ n. n - 1) s.counted ∙ sym count;
+          few = let le = s.few in let one = some_live live s.counted in omega arith;
+          bounded = rw length-set s.bounded;
+        })
 
     -- the slot is free from then on
     pub slotted-freed : id.generation < last_generation
@@ -112,7 +113,8 @@ module _ {T : Type 0} {number : ℕ} {slots : List (Entry T)} {id : Generational
         more : set.len (set.insert free id.slot) ≡ set.len free + 1
         more =
             set.len-insert by_number.total free id.slot
-            ∙ ap (λ b. cond b (set.len free) (set.len free + 1)) (not_pooled free (s.pooled id.slot))
+            ∙ ap (λ b. cond b (set.len free) (set.len free + 1))
+            (not_pooled free (s.pooled id.slot))
 
         each : (k : ℕ) → set.contains (set.insert free id.slot) k
             ≡ is_reusable (slice_get (slice_set slots id.slot empty_entry) k)

@@ -1,11 +1,13 @@
 //! Laws of the machine, each the contract of a function that does nothing.
 
-ghost use Rattle.std.specs.Prelude.{◌≡◌, ◌≢◌, ◌≤◌, ◌<◌, ◌+◌, ◌↔◌, true, false, ℕ, List, [], Some, None, map as map_list};
+ghost use Rattle.std.specs.Prelude.{◌≡◌, ◌≢◌, ◌≤◌, ◌<◌, ◌+◌, ◌↔◌, true, false, ℕ, List, [], Some};
+ghost use Rattle.std.specs.Prelude.{None, map as map_list};
 ghost use Rattle.std.specs.FinMap as map;
 ghost use Rattle.generational_box.specs.declared.boxes.GenerationalPointer.{GenerationalPointer};
 ghost use Rattle.generational_box.specs.Names.{Name, among};
 ghost use Rattle.generational_box.specs.Cells.{is_shared};
-ghost use Rattle.generational_box.specs.State.{State, Holding, IsSound, IsLive, IsEnded, IsNamed, fresh};
+ghost use Rattle.generational_box.specs.State.{State, Holding, IsSound, IsLive, IsEnded, IsNamed};
+ghost use Rattle.generational_box.specs.State.{fresh};
 ghost use Rattle.generational_box.specs.Boxes.{name_of, has_same_id};
 ghost use Rattle.generational_box.specs.Borrowing.{read_trouble, write_trouble};
 ghost use Rattle.generational_box.specs.Borrowing.Trouble.{Dropped};

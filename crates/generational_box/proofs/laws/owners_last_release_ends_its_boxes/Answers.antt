@@ -2,7 +2,8 @@ use Rattle.std.proofs.Common.{ap, sym, subst, ◌∙◌}
 use Rattle.std.specs.FinMap as map
 use Rattle.generational_box.specs.State.{IsNamed}
 use Rattle.generational_box.proofs.Releasing.{box_ends, box_stays, shared_ends, shared_stays}
-use Rattle.generational_box.proofs.Releasing.{listed_boxed, last_cells, earlier_cells, last_record, earlier_record}
+use Rattle.generational_box.proofs.Releasing.{listed_boxed, last_cells, earlier_cells, last_record}
+use Rattle.generational_box.proofs.Releasing.{earlier_record}
 use Rattle.generational_box.proofs.Releasing.{other_records, rest_stays, refused_release}
 use Rattle.generational_box.proofs.Releasing.{leak_changes_nothing}
 use Rattle.generational_box.proofs.laws.owners_last_release_ends_its_boxes.Goals as goal

@@ -9,4 +9,5 @@ use Rattle.generational_box.proofs.unsync.Store.end_all.Given as goal
 abbrev pub invariant-loop-name : goal.invariant-loop-name
 invariant-loop-name g l =
     OnlyValues l.self
-    × (close l.self (list_map name_seen (drop l.name-index l.fn.boxes.items)) ≡ close l.fn.self (list_map name_seen l.fn.boxes.items))
+    × (close l.self (list_map name_seen (drop l.name-index l.fn.boxes.items))
+    ≡ close l.fn.self (list_map name_seen l.fn.boxes.items))
