@@ -63,12 +63,12 @@ module _ {T : Type 0} where
   none_not_shared o e h = true≢false (sym h ∙ ap is_shared e)
 
   -- a Ref isn't taken away, nor what it names
-  swept_ref : (cells : NameMap (Cell T)) (n m : Name) (l : Location)
+  pub swept_ref : (cells : NameMap (Cell T)) (n m : Name) (l : Location)
       → map.get cells n ≡ Some (Ref m l) → map.get (swept cells) n ≡ Some (Ref m l)
   swept_ref cells n m l h = ⊎_elim
       (λ e. e.0 ∙ h) (λ e. absurd (true≢false (sym e.1 ∙ ap is_shared h))) (swept_view cells n)
 
-  swept_was : (cells : NameMap (Cell T)) (n m : Name) (l : Location)
+  pub swept_was : (cells : NameMap (Cell T)) (n m : Name) (l : Location)
       → map.get (swept cells) n ≡ Some (Ref m l) → map.get cells n ≡ Some (Ref m l)
   swept_was cells n m l h =
       ⊎_elim (λ e. sym e.0 ∙ h) (λ e. absurd (none≢some _ _ e.0 h)) (swept_view cells n)

@@ -13,6 +13,7 @@ use Rattle.generational_box.specs.State.{tickets_of, tickets_at}
 use Rattle.generational_box.specs.Borrowing.{filled, content_at}
 use Rattle.generational_box.proofs.Maps.{by_name}
 use Rattle.generational_box.proofs.Maps.{changed_view}
+use Rattle.generational_box.proofs.Soundness.{each_boxed}
 
 module _ {T : Type 0} where
   -- ---- another content in a cell
@@ -85,7 +86,8 @@ module _ {T : Type 0} where
       ap (λ o. list_any (nat_eq t) (tickets_of o)) had ∙ h in
       record {
         given = λ n h. s.given n (sym (filled_live S m c n) ∙ h);
-        owned = s.owned;
+        owned = λ k h is. each_boxed S (record (filled S m c) { next = next })
+            (λ n b. (b.0, filled_shared S m c n ∙ b.1)) h.names (s.owned k h is);
         targets = λ n k l h. filled_shared S m c k ∙ s.targets n k l (filled_was S m c n k l h);
         shared = λ k h. let it = s.shared k (sym (filled_shared S m c k) ∙ h) in
             (it.0, it.1, filled_ref S m c it.0 k it.1 it.2);

@@ -41,6 +41,7 @@ pub mod PlainSteps
 pub mod Playing
 pub mod PoolLemmas
 pub mod Readies
+pub mod Releasing
 pub mod Rows
 pub mod RowsBorrows
 pub mod RowsLimits

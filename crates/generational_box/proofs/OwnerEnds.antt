@@ -1,5 +1,6 @@
 -- What ends when the boxes of an owner end, in a store whose cells are Values.
-use Rattle.std.proofs.Common.{◌≡◌, Bool, true, false, cond, List, [], ◌∷◌, ◌++◌, Option, None, Some, refl, sym, ap, ◌∙◌}
+use Rattle.std.proofs.Common.{◌≡◌, Bool, true, false, cond, List, [], ◌∷◌, Option, None, Some, refl}
+use Rattle.std.proofs.Common.{sym, ap, ◌∙◌}
 use Rattle.std.specs.Prelude.{is_some, not, ◌||◌}
 use Rattle.std.proofs.lemmas.Bool.{eq-eqb, true≢false, false≢true}
 use Rattle.std.specs.FinMap as map
@@ -10,7 +11,8 @@ use Rattle.generational_box.specs.Cells.Cell.{Value, Shared, Ref}
 use Rattle.generational_box.specs.Boxes.{name_in}
 use Rattle.generational_box.specs.State.{State}
 use Rattle.generational_box.specs.Borrowing.{write_refusal}
-use Rattle.generational_box.specs.Ending.{left_by, hindered, hindrance_of, first_hindrance, or_else}
+use Rattle.generational_box.specs.Ending.{close, left_by, hindered, hindrance_of, first_hindrance}
+use Rattle.generational_box.specs.Ending.{or_else}
 use Rattle.generational_box.specs.Records.{first_borrowed}
 use Rattle.generational_box.specs.Slotted.{own_cell_at, is_value, OnlyValues}
 use Rattle.generational_box.proofs.Maps.{name_total, name_exact, name_here}
@@ -36,27 +38,16 @@ module _ {T : Type 0} (S : State T) (values : OnlyValues S) where
       at true = refl
       at false = values q
 
-  among_last : (names : List Name) (n q : Name)
-      → among (names ++ n ∷ []) q ≡ (is_name q n || among names q)
-  among_last [] n q = refl
-  among_last (m ∷ names) n q = ap (λ b. is_name q m || b) (among_last names n q) ∙ at (is_name q m) (is_name q n)
-    where
-      at : (a b : Bool) → (a || (b || among names q)) ≡ (b || (a || among names q))
-      at true true = refl
-      at true false = refl
-      at false b = refl
-
-  -- the last of the names, ended by itself
-  pub left_last : (names : List Name) (n : Name)
-      → left_by S.cells (names ++ n ∷ []) ≡ left_by (map.remove S.cells n) names
+  -- the first of the names, ended by itself
+  left_first : (n : Name) (names : List Name)
+      → left_by S.cells (n ∷ names) ≡ left_by (map.remove S.cells n) names
   unfolding is_name
-  left_last names n =
+  left_first n names =
       map.same_map name_total name_exact _ _ (λ q.
-      left_get S values (names ++ n ∷ []) q
-      ∙ (ap (λ b. cond (not b) (map.get S.cells q) None) (among_last names n q)
+      left_get S values (n ∷ names) q
       ∙ (at q (is_name q n) (among names q)
       ∙ (ap (λ o. cond (not (among names q)) o None) (sym (map.get-remove name_total S.cells n q))
-      ∙ sym (left_get (record S { cells = map.remove S.cells n }) (values_less n) names q)))))
+      ∙ sym (left_get (record S { cells = map.remove S.cells n }) (values_less n) names q))))
     where
       at : (q : Name) (a b : Bool) → cond (not (a || b)) (map.get S.cells q) None
           ≡ cond (not b) (cond a None (map.get S.cells q)) None
@@ -64,8 +55,12 @@ module _ {T : Type 0} (S : State T) (values : OnlyValues S) where
       at q true false = refl
       at q false b = refl
 
-  pub nothing_left : left_by S.cells [] ≡ S.cells
-  nothing_left = left_none S values
+  pub close_first : (n : Name) (names : List Name)
+      → close S (n ∷ names) ≡ close (record S { cells = map.remove S.cells n }) names
+  close_first n names = ap (λ cells. record S { cells = cells }) (left_first n names)
+
+  pub close_none : S ≡ close S []
+  close_none = ap (λ cells. record S { cells = cells }) (sym (left_none S values))
 
   or_true : (b : Bool) → (b || true) ≡ true
   or_true true = refl

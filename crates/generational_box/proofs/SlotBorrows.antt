@@ -42,7 +42,7 @@ module _ {T : Type 0} where
         roomy = rw length-set s.roomy;
         begun = λ k. has_begun k (s.begun k);
         counted = s.counted ∙ sym count;
-        peaked = s.peaked;
+        few = s.few;
         bounded = rw length-set s.bounded;
       })
     where

@@ -1,5 +1,5 @@
 -- What an end does to the slots.
-use Rattle.std.proofs.Common.{◌≡◌, ◌≢◌, ℕ, ◌-◌, ◌<◌, ◌≤◌, Bool, true, false, cond, List}
+use Rattle.std.proofs.Common.{◌≡◌, ◌≢◌, ℕ, ◌+◌, ◌-◌, ◌<◌, ◌≤◌, Bool, true, false, cond, List}
 use Rattle.std.proofs.Common.{refl, sym, ap, subst, ◌∙◌, arith, ⊎_elim, slice_get, slice_set}
 use Rattle.std.specs.Prelude.{is_some, nat_lt}
 use Rattle.std.specs.Ordering.{nat_cmp}
@@ -94,21 +94,28 @@ module _ {T : Type 0} {number : ℕ} {slots : List (Entry T)} {id : Generational
     -- the set of free slots, once what stands at each slot is known
     slotted_by : (now : set.FinSet nat_cmp)
         → ((k : ℕ) → set.contains now k ≡ is_reusable (slice_get (slice_set slots id.slot empty_entry) k))
-        → IsSlotted now rooms start (live - 1) peak ended
-    slotted_by now pooled = subst (IsSlotted now rooms start (live - 1) peak) (sym ended_is) (record {
-      pooled = pooled;
-      roomy = rw length-set s.roomy;
-      begun = λ k. has_begun start k (s.begun k);
-      counted = ap (λ n. n - 1) s.counted ∙ sym count;
-      peaked = let le = s.peaked in omega arith;
-      bounded = rw length-set s.bounded;
-    })
+        → set.len now ≤ set.len free + 1 → IsSlotted now rooms start (live - 1) peak ended
+    slotted_by now pooled more =
+        subst (IsSlotted now rooms start (live - 1) peak) (sym ended_is) (record {
+          pooled = pooled;
+          roomy = rw length-set s.roomy;
+          begun = λ k. has_begun start k (s.begun k);
+          counted = ap (λ n. n - 1) s.counted ∙ sym count;
+          few = let le = s.few in let one = some_live live s.counted in omega arith;
+          bounded = rw length-set s.bounded;
+        })
 
     -- the slot is free from then on
     pub slotted-freed : id.generation < last_generation
         → IsSlotted (set.insert free id.slot) rooms start (live - 1) peak ended
-    slotted-freed below = slotted_by (set.insert free id.slot) each
+    slotted-freed below = slotted_by (set.insert free id.slot) each (let one = more in omega arith)
       where
+        more : set.len (set.insert free id.slot) ≡ set.len free + 1
+        more =
+            set.len-insert by_number.total free id.slot
+            ∙ ap (λ b. cond b (set.len free) (set.len free + 1))
+            (not_pooled free (s.pooled id.slot))
+
         each : (k : ℕ) → set.contains (set.insert free id.slot) k
             ≡ is_reusable (slice_get (slice_set slots id.slot empty_entry) k)
         each k =
@@ -122,7 +129,7 @@ module _ {T : Type 0} {number : ℕ} {slots : List (Entry T)} {id : Generational
 
     -- a slot whose cell had the last generation is retired
     pub slotted-retired : last_generation ≤ id.generation → IsSlotted free rooms start (live - 1) peak ended
-    slotted-retired last = slotted_by free each
+    slotted-retired last = slotted_by free each (omega arith)
       where
         each : (k : ℕ) → set.contains free k ≡ is_reusable (slice_get (slice_set slots id.slot empty_entry) k)
         each k =

@@ -1,6 +1,8 @@
 -- What a making does to the slots.
-use Rattle.std.proofs.Common.{◌≡◌, ◌≢◌, ℕ, ◌+◌, ◌<◌, ◌≤◌, true, false, cond, ◌&&◌, List, [], ◌∷◌, ◌++◌, length}
-use Rattle.std.proofs.Common.{Option, None, Some, IfSome, refl, sym, ap, subst, ◌∙◌, arith, ⊎_elim, inl, inr, slice_get, slice_set, length-append}
+use Rattle.std.proofs.Common.{◌≡◌, ◌≢◌, ℕ, ◌+◌, ◌-◌, ◌<◌, ◌≤◌, true, false, cond, ◌&&◌, List, []}
+use Rattle.std.proofs.Common.{◌∷◌, ◌++◌, length}
+use Rattle.std.proofs.Common.{Option, None, Some, IfSome, refl, sym, ap, subst, ◌∙◌, arith, ⊎_elim}
+use Rattle.std.proofs.Common.{inl, inr, slice_get, slice_set, length-append}
 use Rattle.std.specs.Prelude.{is_some, not, nat_eq, nat_lt, max}
 use Rattle.std.specs.Ordering.{nat_cmp}
 use Rattle.std.specs.Cmp.{nat_cmp_total}
@@ -131,10 +133,15 @@ module _ {T : Type 0} where
       roomy = rw length-set s.roomy;
       begun = λ k. ⊎_elim (begun_at k) (begun_other k) (cases_eq k i);
       counted = sym count;
-      peaked = omega arith;
+      few = let le = s.few in let less = one_taken in omega arith;
       bounded = rw length-set (let le = s.bounded in let more = reuse_within in omega arith);
     }
       where
+        one_taken : set.len (set.remove free i) ≡ set.len free - 1
+        one_taken =
+            set.len-remove nat_cmp_total free i
+            ∙ ap (λ b. cond b (set.len free - 1) (set.len free)) member
+
         here : (k : ℕ) → k ≡ i → set.contains (set.remove free i) k ≡ is_reusable (slice_get (slice_set slots i next_entry) k)
         here k e =
             rw (e, get-set_same slots i next_entry reused.entry reused.there)
@@ -265,7 +272,7 @@ module _ {T : Type 0} where
       roomy = rw length-append (omega arith);
       begun = λ k. ⊎_elim (begun_at k) (begun_other k) (cases_eq k (length slots));
       counted = sym pushed_count;
-      peaked = omega arith;
+      few = let none = set.len-empty nat_cmp in omega arith;
       bounded = rw length-append (let le = s.bounded in let more = push_within in omega arith);
     }
       where

@@ -37,7 +37,7 @@ module _ {T : Type 0} where
         roomy = omega arith;
         begun = λ k. tt;
         counted = sym (map.len-empty name_cmp _);
-        peaked = omega arith;
+        few = let none = ap set.len unused ∙ set.len-empty nat_cmp in omega arith;
         bounded = omega arith;
       })
 

@@ -143,3 +143,9 @@ module _ {T : Type 0} {S : State T} {pool : set.FinSet nat_cmp} {rooms live : �
       let counted = slotted.counted in
       let free' = free_are owners number start next peak slots' slotted.begun pool slotted.pooled in
       let retired' = ap retired view in omega arith
+
+  -- a slot is made only where none is free
+  pub bound_seen : slots S ≤ S.peak + retired S
+  bound_seen =
+      let few = slotted.few in let all = all_seen in let here' = slots_seen in
+      let most : peak ≡ S.peak = ap (λ (X : State T). X.peak) view in omega arith

@@ -14,7 +14,7 @@ use Rattle.generational_box.specs.declared.entry.Borrow.{Borrow}
 use Rattle.generational_box.specs.Cells.{Content, Cell, is_shared}
 use Rattle.generational_box.specs.Cells.Content.{Here, Lent}
 use Rattle.generational_box.specs.Cells.Cell.{Value, Shared, Ref}
-use Rattle.generational_box.specs.State.{State, Holding, IsSound, IsGiven, tickets_of}
+use Rattle.generational_box.specs.State.{State, Holding, IsSound, IsGiven, IsBoxed, tickets_of}
 use Rattle.generational_box.specs.Borrowing.{Trouble, filled, reach, content_at}
 use Rattle.generational_box.specs.Borrowing.{read_trouble}
 use Rattle.generational_box.specs.Boxes.{name_of, has_same_id}
@@ -54,20 +54,28 @@ module _ {T : Type 0} where
 
   -- ---- owners
 
-  given_push : (S : State T) (names : List Name) (n : Name) → AllByRecursion (IsGiven S) names
-      → IsGiven S n → AllByRecursion (IsGiven S) (names ++ n ∷ [])
-  given_push S [] n h g = (g, tt)
-  given_push S (m ∷ names) n h g = (h.0, given_push S names n h.1 g)
+  boxed_push : (S : State T) (names : List Name) (n : Name) → AllByRecursion (IsBoxed S) names
+      → IsBoxed S n → AllByRecursion (IsBoxed S) (names ++ n ∷ [])
+  boxed_push S [] n h b = (b, tt)
+  boxed_push S (m ∷ names) n h b = (h.0, boxed_push S names n h.1 b)
+
+  -- the name of a new cell that is no Shared one
+  boxed_here : (S : State T) (n : Name) (c : Cell T)
+      → is_shared (Some c) ≡ false → IsBoxed (born S n c) n
+  boxed_here S n c plain = (
+    contains-insert_here by_name S.given n,
+    ap is_shared (get-insert_here by_name S.cells n c) ∙ plain,
+  )
 
   sound_listed : (S : State T) (o : Option OwnerName) (n : Name)
-      → IsSound S → IsGiven S n → IsSound (listed S o n)
+      → IsSound S → IsBoxed S n → IsSound (listed S o n)
   sound_listed S None n s g = s
   sound_listed S (Some o) n s g =
       let grow = λ (h : Holding). record h { names = h.names ++ n ∷ [] } in
       sound_owners S (changed S.owners o.key grow) S.next s (omega arith)
       (λ k h is. ⊎_elim (λ e. s.owned k h (sym e ∙ is))
-      (λ e. subst (λ (x : Holding). AllByRecursion (IsGiven S) x.names)
-      (same_some _ _ (sym e.3 ∙ is)) (given_push S e.1.names n (s.owned k e.1 e.2) g))
+      (λ e. subst (λ (x : Holding). AllByRecursion (IsBoxed S) x.names)
+      (same_some _ _ (sym e.3 ∙ is)) (boxed_push S e.1.names n (s.owned k e.1 e.2) g))
       (changed_view by_number S.owners o.key grow k))
       (λ k live. ⊎_elim (λ e. s.keys k (sym (ap is_some e) ∙ live)) (λ e. s.keys k (ap is_some e.2))
       (changed_view by_number S.owners o.key grow k))
@@ -75,13 +83,13 @@ module _ {T : Type 0} where
       same_some : (x y : Holding) → Some x ≡ Some y → x ≡ y
       same_some x y e = cc
 
-  -- an owner's record put in, whose names are given
+  -- an owner's record put in, whose names are names of boxes
   sound_recorded : (S : State T) (key next : ℕ) (h : Holding)
-      → IsSound S → S.next ≤ next → key < next → AllByRecursion (IsGiven S) h.names
+      → IsSound S → S.next ≤ next → key < next → AllByRecursion (IsBoxed S) h.names
       → IsSound (record S { owners = map.insert S.owners key h; next = next })
   sound_recorded S key next h s up below names =
       sound_owners S (map.insert S.owners key h) next s up
-      (λ k x is. ⊎_elim (λ e. subst (λ (y : Holding). AllByRecursion (IsGiven S) y.names)
+      (λ k x is. ⊎_elim (λ e. subst (λ (y : Holding). AllByRecursion (IsBoxed S) y.names)
       (same_some _ _ (sym (get-insert_here by_number
       S.owners key h) ∙ (ap (map.get (map.insert S.owners key h)) (sym e) ∙ is))) names)
       (λ ne. s.owned k x
@@ -107,7 +115,7 @@ module _ {T : Type 0} where
       (key_cases by_number k key))
 
   -- the record of an owner that the store knows
-  held_record : (S : State T) (o : OwnerName) (h : Holding)
+  pub held_record : (S : State T) (o : OwnerName) (h : Holding)
       → holding S o ≡ Some h → map.get S.owners o.key ≡ Some h
   held_record S o h = split (nat_eq o.store S.number)
     where
@@ -191,7 +199,7 @@ module _ {T : Type 0} where
   sound_referred S o b (Some m) (Some (Shared c l)) n s is new =
       sound_listed (born S n (Ref m l)) o n
       (sound_born S n (Ref m l) s new refl refl (λ k j e. ap (λ x. is_shared (map.get S.cells x))
-      (sym (target_of m k l j e)) ∙ ap is_shared is)) (contains-insert_here by_name S.given n)
+      (sym (target_of m k l j e)) ∙ ap is_shared is)) (boxed_here S n (Ref m l) refl)
     where
       target_of : (m k : Name) (l j : Location)
           → ◌≡◌ {A = Option (Cell T)} (Some (Ref m l)) (Some (Ref k j)) → m ≡ k
@@ -225,6 +233,16 @@ module _ {T : Type 0} where
       ∙ h)) (name_cases q a)) (λ e. absurd (true≢false (sym h ∙ ap is_some e.0)))
       (swept_view (map.insert S.cells a (Ref new l)) q)
 
+  turned_plain : (S : State T) (a new : Name) (l : Location) (q : Name)
+      → is_shared (map.get S.cells q) ≡ false
+      → is_shared (map.get (swept (map.insert S.cells a (Ref new l))) q) ≡ false
+  turned_plain S a new l q h =
+      let one = map.insert S.cells a (Ref new l) in
+      ⊎_elim (λ e. ap is_shared e.0 ∙ ⊎_elim (λ is. ap (λ k. is_shared (map.get one k)) is
+      ∙ ap is_shared (get-insert_here by_name S.cells a (Ref new l)))
+      (λ ne. ap is_shared (get-insert_apart by_name S.cells a (Ref new l) q ne) ∙ h)
+      (name_cases q a)) (λ e. ap is_shared e.0) (swept_view one q)
+
   sound_turned : (S : State T) (a old new : Name) (l : Location)
       → IsSound S → map.get S.cells a ≡ Some (Ref old l)
       → is_shared (map.get S.cells new) ≡ true → IsSound (turned S a old new l).1
@@ -234,7 +252,8 @@ module _ {T : Type 0} where
       (λ _. unless_sound S _ _ s (λ _. sound_cells S (swept one) S.given S.peak s
       (swept_targets one (turned_targets S a old new l s at_a shared)) (swept_named one)
       (no_more S.cells one (swept one) (inserted_tickets S.cells a (Ref new l) refl)
-      (swept_tickets one)) (turned_live S a old new l s at_a) (λ n h. h)))
+      (swept_tickets one)) (turned_live S a old new l s at_a)
+      (λ q h. (h.0, turned_plain S a new l q h.1))))
 
   sound_pointed : (S : State T) (a b : GenerationalPointer) (ca : Option (Cell T))
       (to : Option Name) (target : Option (Cell T)) → IsSound S → map.get S.cells (name_of a) ≡ ca
@@ -259,7 +278,7 @@ module _ {T : Type 0} where
   act_sound S (Make o v l) f s new = if_sound
       (is_known S o) _ _ (λ _. sound_listed (born S f.first (Value (Here v []) l)) o f.first
       (sound_born S f.first (Value (Here v []) l) s new refl refl (λ m k e. absurd (not_ref v l e)))
-      (contains-insert_here by_name S.given f.first)) (λ _. s)
+      (boxed_here S f.first (Value (Here v []) l) refl)) (λ _. s)
     where
       not_ref : (v : T) (l : Location) {m : Name} {k : Location}
           → Some (Value (Here v []) l) ≡ Some (Ref m k) → ⊥
@@ -267,7 +286,7 @@ module _ {T : Type 0} where
   act_sound S (MakeShared o v l) f s new = if_sound (is_known S o) _ _
       (λ _. sound_listed (born (born S f.first (Shared (Here v []) l)) f.second (Ref f.first l))
       o f.second (sound_pair S f.first f.second v l s new.0 new.1 new.2)
-      (contains-insert_here by_name _ f.second)) (λ _. s)
+      (boxed_here (born S f.first (Shared (Here v []) l)) f.second (Ref f.first l) refl)) (λ _. s)
   act_sound S (Refer o b) f s new = if_sound (is_known S o) _ _ (λ _. unless_sound S
       (read_trouble S b) _ s (λ _. sound_referred S o b (reach S b) _ f.first s refl new)) (λ _. s)
   act_sound S NewOwner f s new = sound_recorded S S.next

@@ -12,7 +12,7 @@ use Rattle.generational_box.specs.Names.{Name, NameMap, Names}
 use Rattle.generational_box.specs.Cells.{Cell, content_of, is_shared}
 use Rattle.generational_box.specs.Cells.Content.{Here}
 use Rattle.generational_box.specs.Cells.Cell.{Shared, Ref}
-use Rattle.generational_box.specs.State.{State, Holding, IsSound, IsGiven}
+use Rattle.generational_box.specs.State.{State, Holding, IsSound, IsBoxed}
 use Rattle.generational_box.specs.State.{tickets_of}
 use Rattle.generational_box.specs.Ending.{without, left_by, close}
 use Rattle.generational_box.specs.Machine.{born}
@@ -27,21 +27,21 @@ use Rattle.generational_box.proofs.Ends.{inserted_tickets, stands_before, still_
 module _ {T : Type 0} where
   -- ---- a state with other cells, owners or contents
 
-  each_given : (S R : State T) → ((n : Name) → IsGiven S n → IsGiven R n)
-      → (names : List Name) → AllByRecursion (IsGiven S) names → AllByRecursion (IsGiven R) names
-  each_given S R f [] h = tt
-  each_given S R f (n ∷ names) h = (f n h.0, each_given S R f names h.1)
+  pub each_boxed : (S R : State T) → ((n : Name) → IsBoxed S n → IsBoxed R n)
+      → (names : List Name) → AllByRecursion (IsBoxed S) names → AllByRecursion (IsBoxed R) names
+  each_boxed S R f [] h = tt
+  each_boxed S R f (n ∷ names) h = (f n h.0, each_boxed S R f names h.1)
 
   -- other cells, names and peak
   pub sound_cells : (S : State T) (cells : NameMap (Cell T)) (given : Names) (peak : ℕ)
       → IsSound S → HasTargets cells → HasNamed cells → NoNewTickets S.cells cells
       → ((n : Name) → is_some (map.get cells n) ≡ true → set.contains given n ≡ true)
-      → ((n : Name) → IsGiven S n → set.contains given n ≡ true)
+      → ((n : Name) → IsBoxed S n → IsBoxed (record S { cells = cells; given = given }) n)
       → IsSound (record S { cells = cells; given = given; peak = peak })
-  sound_cells S cells given peak s targets named tickets live more = record {
+  sound_cells S cells given peak s targets named tickets live boxed = record {
     given = live;
-    owned = λ k h is. each_given S
-        (record S { cells = cells; given = given; peak = peak }) more h.names (s.owned k h is);
+    owned = λ k h is. each_boxed S
+        (record S { cells = cells; given = given; peak = peak }) boxed h.names (s.owned k h is);
     targets = targets;
     shared = named;
     below = λ n t at. s.below n t (stands_before S.cells cells tickets n t at);
@@ -54,7 +54,7 @@ module _ {T : Type 0} where
   -- other owners, and more tickets
   pub sound_owners : (S : State T) (owners : map.FinMap nat_cmp Holding) (next : ℕ)
       → IsSound S → S.next ≤ next
-      → ((k : ℕ) (h : Holding) → map.get owners k ≡ Some h → AllByRecursion (IsGiven S) h.names)
+      → ((k : ℕ) (h : Holding) → map.get owners k ≡ Some h → AllByRecursion (IsBoxed S) h.names)
       → ((k : ℕ) → is_some (map.get owners k) ≡ true → k < next)
       → IsSound (record S { owners = owners; next = next })
   sound_owners S owners next s up owned keys = record {
@@ -75,13 +75,21 @@ module _ {T : Type 0} where
       (λ k. absurd (true≢false (sym h ∙ ap is_some (e.0 ∙ k.0)))) (without_view S.cells names n))
       (λ e. absurd (true≢false (sym h ∙ ap is_some e.0))) (swept_view (without S.cells names) n)
 
+  -- what is left of other cells than Shared ones is no Shared cell
+  left_plain : (S : State T) (names : List Name) (n : Name)
+      → is_shared (map.get S.cells n) ≡ false
+      → is_shared (map.get (left_by S.cells names) n) ≡ false
+  left_plain S names n h = ⊎_elim (λ e. ⊎_elim (λ k. ap is_shared (e.0 ∙ k) ∙ h)
+      (λ k. ap is_shared (e.0 ∙ k.0)) (without_view S.cells names n))
+      (λ e. ap is_shared e.0) (swept_view (without S.cells names) n)
+
   -- a state in which names end
   pub sound_close : (S : State T) (names : List Name) → IsSound S → IsSound (close S names)
   sound_close S names s = sound_cells S (left_by S.cells names) S.given S.peak s
       (swept_targets _ (without_targets S.cells names s.targets))
       (swept_named _) (no_more S.cells (without S.cells names) (left_by S.cells names)
       (without_tickets S.cells names) (swept_tickets (without S.cells names)))
-      (λ n h. s.given n (left_live S names n h)) (λ n h. h)
+      (λ n h. s.given n (left_live S names n h)) (λ n h. (h.0, left_plain S names n h.1))
 
   -- ---- a new cell
 
@@ -125,7 +133,11 @@ module _ {T : Type 0} where
       (it.0, it.1, other it.0 (new_apart S s n new it.0 (ap is_some it.2)) ∙ it.2))
       (name_cases m n))
       (inserted_tickets S.cells n c quiet)
-      (inserted_live S s n c) (λ q h. contains-insert_old by_name S.given n q h)
+      (inserted_live S s n c) (λ q h. (
+        contains-insert_old by_name S.given n q h.0,
+        ⊎_elim (λ is. ap (λ k. is_shared (map.get cells k)) is ∙ (ap is_shared here ∙ plain))
+            (λ ne. ap is_shared (other q ne) ∙ h.1) (name_cases q n),
+      ))
 
   -- a Shared cell and a Ref to it, at two new names
   pub sound_pair : (S : State T) (m n : Name) (v : T) (l : Location)
@@ -167,8 +179,14 @@ module _ {T : Type 0} where
       (inserted_live S s m (Shared (Here v []) l) q
       (sym (ap is_some (get-insert_apart by_name one n (Ref m l) q no)) ∙ h)))
       (name_cases q n))
-      (λ q h. contains-insert_old by_name given_one n q
-      (contains-insert_old by_name S.given m q h))
+      (λ q h. (
+        contains-insert_old by_name given_one n q
+            (contains-insert_old by_name S.given m q h.0),
+        ⊎_elim (λ is. ap (λ k. is_shared (map.get cells k)) is ∙ ap is_shared second_there)
+            (λ no. ap is_shared (other q
+            (λ is. true≢false (sym h.0 ∙ (ap (set.contains S.given) is ∙ new_m))) no) ∙ h.1)
+            (name_cases q n),
+      ))
     where
       target_of : (m k : Name) (l j : Location)
           → ◌≡◌ {A = Option (Cell T)} (Some (Ref m l)) (Some (Ref k j)) → m ≡ k

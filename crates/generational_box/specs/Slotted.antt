@@ -94,10 +94,11 @@ module _ {T : Type 0} where
     pub roomy : length slots ≤ rooms
     -- no slot's generation is below the first one
     pub begun : (k : ℕ) → HasBegun start (slice_get slots k)
-    -- the live cells are counted, there never were more than the peak, and that is no more than
-    -- there are slots
+    -- the live cells are counted
     pub counted : live ≡ map.len (cells_of slots)
-    pub peaked : live ≤ peak
+    -- a slot is made only where none is free: so the live and the free ones are no more than the
+    -- peak, which is no more than there are slots
+    pub few : live + set.len free ≤ peak
     pub bounded : peak ≤ length slots
 
   -- the slots with the i-th one changed by f, if there is one

@@ -1,5 +1,6 @@
 -- The state of a store, and when it is sound.
-use Rattle.std.specs.Prelude.{◌≡◌, ℕ, ◌<◌, Bool, true, List, [], ◌∷◌, Option, None, Some, is_some}
+use Rattle.std.specs.Prelude.{◌≡◌, ℕ, ◌<◌, Bool, true, false, List, [], ◌∷◌, Option, None, Some}
+use Rattle.std.specs.Prelude.{is_some}
 use Rattle.std.specs.Prelude.{nat_eq, map as list_map}
 use Rattle.std.specs.Ordering.{nat_cmp}
 use Rattle.std.specs.List.{list_any, IsDistinct, AllByRecursion}
@@ -82,13 +83,17 @@ module _ {T : Type 0} where
   abbrev pub IsGiven : State T → Name → Type 0
   IsGiven S n = set.contains S.given n ≡ true
 
+  -- a name that a box may have: it was given, and isn't a Shared cell's
+  abbrev pub IsBoxed : State T → Name → Type 0
+  IsBoxed S n = IsGiven S n × (is_shared (map.get S.cells n) ≡ false)
+
   -- That borrows stand at Value and Shared cells alone, and that a content is lent exactly under a
   -- writer, holds of every state, since the borrows are a part of the content.
   pub record IsSound (S : State T) : Type 0 where
-    -- live names and owners' names were given
+    -- live names and owners' names were given, and owners' names are names of boxes
     pub given : (n : Name) → IsLive S n → IsGiven S n
     pub owned : (k : ℕ) (h : Holding) → map.get S.owners k ≡ Some h
-        → AllByRecursion (IsGiven S) h.names
+        → AllByRecursion (IsBoxed S) h.names
     -- each live Ref names a live Shared cell
     pub targets : (n m : Name) (l : Location) → map.get S.cells n ≡ Some (Ref m l)
         → is_shared (map.get S.cells m) ≡ true

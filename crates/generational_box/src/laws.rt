@@ -1,15 +1,21 @@
 //! Laws of the machine, each the contract of a function that does nothing.
 
-ghost use Rattle.std.specs.Prelude.{◌≡◌, ◌≤◌, ◌+◌, ◌↔◌, true, ℕ, List, [], Some, map as map_list};
+ghost use Rattle.std.specs.Prelude.{◌≡◌, ◌≢◌, ◌≤◌, ◌<◌, ◌+◌, ◌↔◌, true, false, ℕ, List, [], Some};
+ghost use Rattle.std.specs.Prelude.{None, map as map_list};
 ghost use Rattle.std.specs.FinMap as map;
 ghost use Rattle.generational_box.specs.declared.boxes.GenerationalPointer.{GenerationalPointer};
-ghost use Rattle.generational_box.specs.Names.{Name};
+ghost use Rattle.generational_box.specs.Names.{Name, among};
 ghost use Rattle.generational_box.specs.Cells.{is_shared};
-ghost use Rattle.generational_box.specs.State.{State, IsSound, IsLive, IsEnded, IsNamed, fresh};
+ghost use Rattle.generational_box.specs.State.{State, Holding, IsSound, IsLive, IsEnded, IsNamed};
+ghost use Rattle.generational_box.specs.State.{fresh};
 ghost use Rattle.generational_box.specs.Boxes.{name_of, has_same_id};
 ghost use Rattle.generational_box.specs.Borrowing.{read_trouble, write_trouble};
 ghost use Rattle.generational_box.specs.Borrowing.Trouble.{Dropped};
 ghost use Rattle.generational_box.specs.Machine.{Action, Answer, Fresh, OwnerName, act, is_known};
+ghost use Rattle.generational_box.specs.Machine.Action.{ReleaseOwner, LeakOwner};
+ghost use Rattle.generational_box.specs.Machine.Answer.{Done};
+ghost use Rattle.generational_box.specs.Records.{one_less};
+ghost use Rattle.generational_box.specs.Releasing.{IsReleased};
 ghost use Rattle.generational_box.specs.Steps.{Meets};
 ghost use Rattle.generational_box.specs.Slots.{slots, retired};
 ghost use Rattle.generational_box.specs.Bounds.{IsBounded};
@@ -47,6 +53,42 @@ pub fn shared_values_live_by_references<T>()
         IsSound S → is_shared (map.get S.cells m) ≡ true → IsNamed S.cells m }
     ensures live { (S : State T) (m : Name) →
         IsSound S → IsNamed S.cells m → is_shared (map.get S.cells m) ≡ true }
+{}
+
+/// The last release of an owner ends all boxes of its list, and then the shared values that no
+/// live Ref names any more. Nothing else ends or changes, and only the owner's record goes. A
+/// release that isn't the last takes away one owner value and ends nothing. A release that is
+/// refused changes nothing, nor does a leak.
+pub fn owners_last_release_ends_its_boxes<T>()
+    ensures boxes { (S R : State T) (o : OwnerName) (h : Holding) (n : Name) →
+        IsSound S → IsReleased S o h R → h.count ≤ 1 →
+        among h.names n ≡ true → map.get R.cells n ≡ None }
+    ensures others { (S R : State T) (o : OwnerName) (h : Holding) (n : Name) →
+        IsReleased S o h R → h.count ≤ 1 →
+        among h.names n ≡ false → is_shared (map.get S.cells n) ≡ false →
+        map.get R.cells n ≡ map.get S.cells n }
+    ensures unnamed { (S R : State T) (o : OwnerName) (h : Holding) (n : Name) →
+        IsReleased S o h R → h.count ≤ 1 →
+        is_shared (map.get S.cells n) ≡ true → (IsNamed R.cells n → ⊥) →
+        map.get R.cells n ≡ None }
+    ensures named { (S R : State T) (o : OwnerName) (h : Holding) (n : Name) →
+        IsReleased S o h R → h.count ≤ 1 →
+        is_shared (map.get S.cells n) ≡ true → IsNamed R.cells n →
+        map.get R.cells n ≡ map.get S.cells n }
+    ensures gone { (S R : State T) (o : OwnerName) (h : Holding) →
+        IsReleased S o h R → h.count ≤ 1 → map.get R.owners o.key ≡ None }
+    ensures earlier { (S R : State T) (o : OwnerName) (h : Holding) →
+        IsReleased S o h R → 1 < h.count → R.cells ≡ S.cells }
+    ensures counted { (S R : State T) (o : OwnerName) (h : Holding) →
+        IsReleased S o h R → 1 < h.count → map.get R.owners o.key ≡ Some (one_less h) }
+    ensures records { (S R : State T) (o : OwnerName) (h : Holding) (k : ℕ) →
+        IsReleased S o h R → k ≢ o.key → map.get R.owners k ≡ map.get S.owners k }
+    ensures rest { (S R : State T) (o : OwnerName) (h : Holding) →
+        IsReleased S o h R → R ≡ record S { cells = R.cells; owners = R.owners } }
+    ensures refused { (S R : State T) (o : OwnerName) (answer : Answer T) →
+        Meets S (ReleaseOwner o) answer R → answer ≢ Done → R ≡ S }
+    ensures leak { (S R : State T) (o : OwnerName) (answer : Answer T) →
+        Meets S (LeakOwner o) answer R → R ≡ S }
 {}
 
 /// The slots of a store are never more than the most cells that were live at once and the slots

@@ -1,6 +1,6 @@
 //! What every store does.
 
-ghost use Rattle.std.specs.Prelude.{◌≡◌, ◌-◌, ◌↔◌, IsTrue, IfErr, None, option_copied};
+ghost use Rattle.std.specs.Prelude.{◌≡◌, ◌≤◌, ◌+◌, ◌-◌, ◌↔◌, IsTrue, IfErr, None, option_copied};
 ghost use Rattle.generational_box.specs.State.{State, IsFresh};
 ghost use Rattle.generational_box.specs.Slots.{slots, free, retired};
 ghost use Rattle.generational_box.specs.Machine.Action.{Make, NewOwner, CloneOwner, ReleaseOwner, Read, Write, ReleaseReader, ReleaseWriter, End};
@@ -33,9 +33,11 @@ pub trait AnyStorage<T> {
     fn is_fresh(&self) -> bool
         ensures { IsTrue result ↔ IsFresh (state self.now) };
 
-    /// How many slots were ever made: each is live, free or retired. Takes no memory.
+    /// How many slots were ever made: each is live, free or retired. They are never more than the
+    /// most cells that were live at once and the retired slots. Takes no memory.
     fn slots(&self) -> usize
-        ensures { result ≡ slots (state self.now) };
+        ensures count { result ≡ slots (state self.now) }
+        ensures bounded { slots (state self.now) ≤ (state self.now).peak + retired (state self.now) };
 
     /// How many slots have no live cell and may be used again. Takes no memory.
     fn free(&self) -> usize

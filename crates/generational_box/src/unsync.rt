@@ -222,16 +222,15 @@ impl<T: Drop, P: SlotPool> Store<T, P> {
         owners::take(&mut self.owners, key, self.alloc)
     }
 
-    // Ends the live cells among these.
+    // Ends the live cells among these, from the first to the last: so their slots go to the pool
+    // in the order of the list.
     fn end_all(&mut self, boxes: Vec<CellName>)
         requires { OnlyValues self.old }
         ensures { self.new ≡ close self.old (list_map name_seen boxes.items) }
     {
-        let mut boxes = boxes;
-        while let Some(name) = boxes.pop() {
-            self.end_named(name);
+        for name in boxes.as_slice() {
+            self.end_named(*name);
         }
-        boxes.destroy_empty();
     }
 
     // Ends a cell, if it is live.

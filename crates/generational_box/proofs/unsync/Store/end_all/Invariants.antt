@@ -1,4 +1,4 @@
-use Rattle.std.proofs.Common.{◌≡◌}
+use Rattle.std.proofs.Common.{◌≡◌, drop}
 use Rattle.std.specs.Prelude.{map as list_map}
 use Rattle.generational_box.specs.Ending.{close}
 use Rattle.generational_box.specs.Records.{name_seen}
@@ -9,7 +9,5 @@ use Rattle.generational_box.proofs.unsync.Store.end_all.Given as goal
 abbrev pub invariant-loop-name : goal.invariant-loop-name
 invariant-loop-name g l =
     OnlyValues l.self
-    × (close l.self (list_map name_seen l.boxes.items) ≡ close l.fn.self (list_map name_seen l.fn.boxes.items))
-
-abbrev pub decreases-loop-name : goal.decreases-loop-name
-decreases-loop-name g l = goal.left-loop-name g l
+    × (close l.self (list_map name_seen (drop l.name-index l.fn.boxes.items))
+    ≡ close l.fn.self (list_map name_seen l.fn.boxes.items))
