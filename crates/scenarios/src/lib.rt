@@ -3,15 +3,21 @@
 #![tactic(auto)]
 
 #[cfg(test)]
+mod counts;
+#[cfg(test)]
 mod ending;
 #[cfg(test)]
 mod expected;
+#[cfg(test)]
+mod ids;
 #[cfg(test)]
 mod lists;
 #[cfg(test)]
 mod memory;
 #[cfg(test)]
 mod numbers;
+#[cfg(test)]
+mod owners;
 #[cfg(test)]
 mod reading;
 #[cfg(test)]
