@@ -1,9 +1,10 @@
 //! Boxes that are read and ended, and slots that are used again.
 
 use crate::expected::{
-    assert_shows, assert_unread, begin, borrowed, dropped, leak, made, made_later, read,
+    assert_reads, assert_shows, assert_unread, begin, begin_write, borrowed, borrowed_mut, dropped,
+    leak, made, made_later, read, written,
 };
-use generational_box::{Store, UnsyncStorage};
+use generational_box::{AnyStorage, Store, UnsyncStorage};
 use std::test::Fail;
 
 // Nothing ends while its reader stands. Then the value is gone for good, also once its slot has
@@ -75,4 +76,28 @@ fn a_box_outlives_its_value(rt: HostRuntime) -> Result<(), Fail> {
     }
     assert!(rt; value.release(&mut store));
     Ok(())
+}
+
+// A value is ended by its pointer as by its box: not under a borrow, and no second time.
+#[test]
+fn a_pointer_is_recycled(rt: HostRuntime) {
+    let alloc = rt.alloc();
+    let mut store: UnsyncStorage<u32> = Store::new(alloc, 7);
+    let first = leak(&rt, &mut store, 1, made());
+    let guard = begin(&rt, &mut store, first, read());
+    let reader = borrowed(&rt, alloc, &[read()]);
+    assert_eq!(rt; store.recycle(first.pointer()), Err(reader));
+    assert!(rt; guard.release(&mut store));
+    let guard = begin_write(&rt, &mut store, first, written());
+    assert_eq!(rt;
+        store.recycle(first.pointer()),
+        Err(borrowed_mut(written()))
+    );
+    assert_eq!(rt; guard.release(&mut store), Ok(()));
+    assert_eq!(rt; store.recycle(first.pointer()), Ok(()));
+    assert_unread(&rt, &mut store, first, dropped(made()));
+
+    let second = leak(&rt, &mut store, 2, made_later());
+    assert_eq!(rt; store.recycle(first.pointer()), Ok(()));
+    assert_reads(&rt, &mut store, second, 2);
 }

@@ -1,8 +1,9 @@
 //! The places that the scenarios name, calls that must be answered, and what they must answer.
 
 use generational_box::{
-    AlreadyBorrowedError, BorrowError, BorrowMutError, GenerationalBox, GenerationalRef, Location,
-    Refused, Storage, ValueDroppedError,
+    AlreadyBorrowedError, AlreadyBorrowedMutError, AnyStorage, BorrowError, BorrowMutError,
+    GenerationalBox, GenerationalRef, GenerationalRefMut, Location, Owner, Refused, Storage,
+    ValueDroppedError,
 };
 use std::alloc::Global;
 use std::fmt::{Debug, Display};
@@ -21,6 +22,32 @@ pub(crate) fn made_later() -> Location {
 /// Where a value is read.
 pub(crate) fn read() -> Location {
     Location::new("r.rs", 1, 2)
+}
+
+/// Where a value is written.
+pub(crate) fn written() -> Location {
+    Location::new("w.rs", 4, 6)
+}
+
+/// What a store counts.
+#[derive(Clone, Copy, Debug, PartialEq)]
+pub(crate) struct Counts {
+    pub(crate) slots: usize,
+    pub(crate) free: usize,
+    pub(crate) retired: usize,
+    pub(crate) peak_live: usize,
+    pub(crate) tickets_left: u64,
+}
+
+/// What a store counts now.
+pub(crate) fn counts_of<T, S: AnyStorage<T>>(store: &S) -> Counts {
+    Counts {
+        slots: store.slots(),
+        free: store.free(),
+        retired: store.retired(),
+        peak_live: store.peak_live(),
+        tickets_left: store.tickets_left(),
+    }
 }
 
 /// Makes a box of a value.
@@ -44,6 +71,60 @@ pub(crate) fn begin<T, S: Storage<T>>(
     asked.try_read(store, began).expect(rt, "a guard")
 }
 
+/// Begins a write.
+pub(crate) fn begin_write<T, S: Storage<T>>(
+    rt: &impl Abort,
+    store: &mut S,
+    asked: GenerationalBox<T>,
+    began: Location,
+) -> GenerationalRefMut<T> {
+    asked.try_write(store, began).expect(rt, "a guard")
+}
+
+/// Makes an owner.
+pub(crate) fn new_owner<T, S: AnyStorage<T>>(rt: &impl Abort, store: &mut S) -> Owner {
+    store.owner().expect(rt, "an owner")
+}
+
+/// Makes a box of a value by an owner.
+pub(crate) fn insert<T: Drop, S: Storage<T>>(
+    rt: &impl Abort,
+    store: &mut S,
+    owner: &Owner,
+    value: T,
+    made: Location,
+) -> GenerationalBox<T> {
+    let answer = owner.insert(store, value, made);
+    answer.map_err(|refusal| refusal.cause).expect(rt, "a box")
+}
+
+/// Releases an owner.
+pub(crate) fn release<T, S: AnyStorage<T>>(rt: &impl Abort, store: &mut S, owner: Owner) {
+    match owner.release(store) {
+        Ok(()) => {}
+        Err((back, refusal)) => {
+            back.leak();
+            assert!(rt; false, "the owner came back: {refusal}");
+        }
+    }
+}
+
+/// The owner that comes back from a release that is refused so.
+pub(crate) fn assert_kept<T, S: AnyStorage<T>>(
+    rt: &impl Abort,
+    store: &mut S,
+    owner: Owner,
+    refusal: Refused<BorrowMutError>,
+) -> Owner {
+    match owner.release(store) {
+        Ok(()) => panic!(rt; "the owner was released"),
+        Err((back, found)) => {
+            assert_eq!(rt; found, refusal);
+            back
+        }
+    }
+}
+
 /// The refusal of a read of a box that was made at a location.
 pub(crate) fn dropped(made: Location) -> Refused<BorrowError> {
     Refused::Borrow(BorrowError::Dropped(ValueDroppedError::new(made)))
@@ -57,6 +138,23 @@ pub(crate) fn borrowed(
 ) -> Refused<BorrowMutError> {
     let began = began.to_vec(alloc).expect(rt, "memory");
     Refused::Borrow(BorrowMutError::AlreadyBorrowed(AlreadyBorrowedError::new(began)))
+}
+
+/// The refusal of an end while a writer stands that began at a location.
+pub(crate) fn borrowed_mut(began: Location) -> Refused<BorrowMutError> {
+    Refused::Borrow(BorrowMutError::AlreadyBorrowedMut(AlreadyBorrowedMutError::new(began)))
+}
+
+/// Asserts that a read gives this number.
+pub(crate) fn assert_reads<S: Storage<u32>>(
+    rt: &impl Abort,
+    store: &mut S,
+    asked: GenerationalBox<u32>,
+    number: u32,
+) {
+    let guard = begin(rt, store, asked, read());
+    assert_eq!(rt; guard.deref(store).map(|view| *view), Some(number));
+    assert!(rt; guard.release(store));
 }
 
 /// Asserts that a read is refused so.

@@ -3,9 +3,13 @@
 #![tactic(auto)]
 
 #[cfg(test)]
+mod counts;
+#[cfg(test)]
 mod ending;
 #[cfg(test)]
 mod expected;
+#[cfg(test)]
+mod ids;
 #[cfg(test)]
 mod lists;
 #[cfg(test)]
@@ -14,6 +18,8 @@ mod memory;
 mod numbers;
 #[cfg(test)]
 mod owned_lists;
+#[cfg(test)]
+mod owners;
 #[cfg(test)]
 mod reading;
 #[cfg(test)]

@@ -1,10 +1,14 @@
 //! Want of memory. Each test passes whichever one allocation is refused: `rt try --test
 //! --fail-alloc N` refuses the Nth of each test. What may lack memory is tried a second time.
 
-use crate::expected::{assert_unread, begin, dropped, leak, made, made_later, read};
+use crate::expected::{
+    assert_unread, begin, counts_of, dropped, insert, leak, made, made_later, new_owner, read,
+    release,
+};
 use generational_box::{
-    AlreadyBorrowedError, BorrowMutError, BoxAt, Call, GenerationalBox, Location, Refused, Reply,
-    Session, Storage, Store, StoreError, UnsyncStorage,
+    AlreadyBorrowedError, AnyStorage, BorrowMutError, BoxAt, Call, GenerationalBox,
+    GenerationalRef, Location, Owner, Refused, Reply, Session, Storage, Store, StoreError,
+    UnsyncStorage,
 };
 use std::alloc::{AllocError, Global};
 use std::process::Abort;
@@ -27,6 +31,86 @@ fn leak_or_again<S: Storage<u32>>(
     }
 }
 
+/// Begins a read beside another, the second time at the latest.
+fn begin_or_again<S: Storage<u32>>(
+    rt: &impl Abort,
+    store: &mut S,
+    asked: GenerationalBox<u32>,
+    began: Location,
+) -> GenerationalRef<u32> {
+    match asked.try_read(store, began) {
+        Err(Refused::Store(StoreError::OutOfMemory)) => begin(rt, store, asked, began),
+        answer => answer.expect(rt, "a guard"),
+    }
+}
+
+/// Makes an owner, the second time at the latest. Want of memory leaves the store as it was.
+fn owner_or_again<S: AnyStorage<u32>>(rt: &impl Abort, store: &mut S) -> Owner {
+    let before = (store.is_fresh(), counts_of(store));
+    match store.owner() {
+        Ok(given) => given,
+        Err(cause) => {
+            assert_eq!(rt; cause, StoreError::OutOfMemory);
+            assert_eq!(rt; (store.is_fresh(), counts_of(store)), before);
+            new_owner(rt, store)
+        }
+    }
+}
+
+/// Makes a box by an owner, the second time at the latest. A making that lacks memory hands the
+/// value back, and changes no count.
+fn insert_or_again<S: Storage<u32>>(
+    rt: &impl Abort,
+    store: &mut S,
+    owner: &Owner,
+    value: u32,
+) -> GenerationalBox<u32> {
+    let before = counts_of(store);
+    match owner.insert(store, value, made()) {
+        Ok(given) => given,
+        Err(refusal) => {
+            assert_eq!(rt;
+                (refusal.value, refusal.cause),
+                (value, StoreError::OutOfMemory)
+            );
+            assert_eq!(rt; counts_of(store), before);
+            insert(rt, store, owner, value, made())
+        }
+    }
+}
+
+/// The owner that comes back from a release that is refused, with these readers. One that lacks
+/// memory for them ends nothing either.
+fn assert_kept_by<S: AnyStorage<u32>>(
+    rt: &impl Abort,
+    alloc: Global,
+    store: &mut S,
+    owner: Owner,
+    began: &[Location],
+) -> Owner {
+    let before = counts_of(store);
+    let answer = match owner.release(store) {
+        Err((back, Refused::Store(StoreError::OutOfMemory))) => {
+            assert_eq!(rt; counts_of(store), before);
+            back.release(store)
+        }
+        answer => answer,
+    };
+    let (back, refusal) = answer.err().expect(rt, "a refusal");
+    assert_eq!(rt; refusal, readers(rt, alloc, began));
+    assert_eq!(rt; counts_of(store), before);
+    back
+}
+
+/// The refusal of an end with these readers.
+fn readers(rt: &impl Abort, alloc: Global, began: &[Location]) -> Refused<BorrowMutError> {
+    let began = match began.to_vec(alloc) {
+        Ok(began) => began,
+        Err(_) => began.to_vec(alloc).expect(rt, "memory"),
+    };
+    Refused::Borrow(BorrowMutError::AlreadyBorrowed(AlreadyBorrowedError::new(began)))
+}
+
 /// Asserts that an end is refused, with these readers.
 fn assert_borrowed<S: Storage<u32>>(
     rt: &impl Abort,
@@ -39,12 +123,7 @@ fn assert_borrowed<S: Storage<u32>>(
         Err(Refused::Store(StoreError::OutOfMemory)) => asked.manually_drop(store),
         answer => answer,
     };
-    let began = match began.to_vec(alloc) {
-        Ok(began) => began,
-        Err(_) => began.to_vec(alloc).expect(rt, "memory"),
-    };
-    let readers = BorrowMutError::AlreadyBorrowed(AlreadyBorrowedError::new(began));
-    assert_eq!(rt; refusal, Err(Refused::Borrow(readers)));
+    assert_eq!(rt; refusal, Err(readers(rt, alloc, began)));
 }
 
 // Only a making with no slot free may lack memory.
@@ -86,6 +165,61 @@ fn for_a_reader_beside_others(rt: HostRuntime) {
     assert_eq!(rt; guard.deref(&store).map(|view| *view), Some(5));
     assert!(rt; guard.release(&mut store));
     assert_eq!(rt; value.manually_drop(&mut store), Ok(()));
+}
+
+// The records of owners take memory. A refused owner took no ticket.
+#[test]
+fn for_owners(rt: HostRuntime) {
+    let mut store: UnsyncStorage<u32> = Store::new(rt.alloc(), 7);
+    for taken in 1..=20 {
+        let owner = owner_or_again(&rt, &mut store);
+        assert_eq!(rt; store.tickets_left(), 18446744073709551615 - taken);
+        owner.leak();
+    }
+}
+
+// A making by an owner may lack memory for the owner's list also where a slot is free, as at the
+// first box here. Each box stands in the list after the one before it: where both are read, the
+// earlier one is told of.
+#[test]
+fn for_the_boxes_of_an_owner(rt: HostRuntime) {
+    let alloc = rt.alloc();
+    let mut store: UnsyncStorage<u32> = Store::new(alloc, 7);
+    let ended = leak_or_again(&rt, &mut store, 9);
+    assert_eq!(rt; ended.manually_drop(&mut store), Ok(()));
+    let mut owner = owner_or_again(&rt, &mut store);
+    let mut earlier = insert_or_again(&rt, &mut store, &owner, 0);
+    for value in 1..6 {
+        let later = insert_or_again(&rt, &mut store, &owner, value);
+        let second = begin(&rt, &mut store, later, made_later());
+        let first = begin(&rt, &mut store, earlier, made());
+        owner = assert_kept_by(&rt, alloc, &mut store, owner, &[made()]);
+        assert_eq!(rt; second.deref(&store).map(|view| *view), Some(value));
+        assert!(rt; first.release(&mut store));
+        assert!(rt; second.release(&mut store));
+        earlier = later;
+    }
+    release(&rt, &mut store, owner);
+    assert_eq!(rt; (store.slots(), store.free()), (6, 6));
+}
+
+// A release that lacks memory to tell of two readers hands the owner back, and the readers go on.
+#[test]
+fn for_the_readers_of_an_owners_box(rt: HostRuntime) {
+    let alloc = rt.alloc();
+    let mut store: UnsyncStorage<u32> = Store::new(alloc, 7);
+    let owner = owner_or_again(&rt, &mut store);
+    let only = insert_or_again(&rt, &mut store, &owner, 5);
+    let first = begin(&rt, &mut store, only, made());
+    let second = begin_or_again(&rt, &mut store, only, made_later());
+    let owner = assert_kept_by(&rt, alloc, &mut store, owner, &[made(), made_later()]);
+    for guard in [&first, &second] {
+        assert_eq!(rt; guard.deref(&store).map(|view| *view), Some(5));
+    }
+    assert!(rt; first.release(&mut store));
+    assert!(rt; second.release(&mut store));
+    release(&rt, &mut store, owner);
+    assert_unread(&rt, &mut store, only, dropped(made()));
 }
 
 // Calls that find no room for their places or replies come back whole, and have no place: they can
