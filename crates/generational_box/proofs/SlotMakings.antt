@@ -169,26 +169,25 @@ module _ {T : Type 0} where
         set.contains-remove nat_cmp_total free i i
         ∙ ap (λ b. not b && set.contains free i) (key_here by_number i)
 
-    pub slotted-back : (free' : set.FinSet nat_cmp) (rooms' : ℕ) → free' ≡ set.insert (set.remove free i) i
-        → rooms' ≡ rooms → IsSlotted free' rooms' start live peak slots
-    slotted-back free' rooms' back room = rw (back, room) (record {
-      pooled = λ k. ⊎_elim (here k) (other k) (cases_eq k i);
-      roomy = s.roomy;
-      begun = s.begun;
-      counted = s.counted;
-      peaked = s.peaked;
-      bounded = s.bounded;
-    })
+    pub slotted-back : (free' : set.FinSet nat_cmp) (rooms' : ℕ)
+        → free' ≡ set.insert (set.remove free i) i → rooms' ≡ rooms
+        → IsSlotted free' rooms' start live peak slots
+    slotted-back free' rooms' back room = rw (back ∙ same, room) s
       where
-        here : (k : ℕ) → k ≡ i → set.contains (set.insert (set.remove free i) i) k ≡ is_reusable (slice_get slots k)
-        here k e = rw e (contains-insert_here by_number (set.remove free i) i ∙ (sym member ∙ s.pooled i))
+        here : (k : ℕ) → k ≡ i
+            → set.contains (set.insert (set.remove free i) i) k ≡ set.contains free k
+        here k e = rw e (contains-insert_here by_number (set.remove free i) i ∙ sym member)
 
-        other : (k : ℕ) → k ≢ i → set.contains (set.insert (set.remove free i) i) k ≡ is_reusable (slice_get slots k)
+        other : (k : ℕ) → k ≢ i
+            → set.contains (set.insert (set.remove free i) i) k ≡ set.contains free k
         other k ne =
             contains-insert_apart by_number (set.remove free i) i k ne
             ∙ (set.contains-remove nat_cmp_total free i k
-            ∙ (ap (λ b. not b && set.contains free k) (key_apart by_number k i ne)
-            ∙ s.pooled k))
+            ∙ ap (λ b. not b && set.contains free k) (key_apart by_number k i ne))
+
+        same : set.insert (set.remove free i) i ≡ free
+        same = set.same_set nat_cmp_total map.nat_cmp-IsAntisymmetric _ _
+            (λ k. ⊎_elim (here k) (other k) (cases_eq k i))
 
     -- the generation that is told before is the one that is given
     pub same_generation : (told given : ℕ) → IfSome (slice_get slots i) (λ e. told ≡ e.generation + 1)
