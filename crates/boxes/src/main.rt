@@ -3,10 +3,10 @@
 //!
 //! A line ends with the byte 0A alone, and a last line without it counts if it is not empty. The
 //! words of a line are parted by exactly one space, and a VALUE is all that follows the space after
-//! the last word, possibly nothing. Numbers name earlier lines: the box, the guard or the owner that
-//! a line gave is called by the line's number, decimal, from 1 to 1000000, without sign or leading
-//! zeros. B is a line that gave a box, G one that gave a guard, O one that gave an owner, and N one
-//! that gave a guard or an owner.
+//! the last word, possibly nothing. Numbers name earlier lines: the box, the guard or the owner
+//! that a line gave is called by the line's number, decimal, from 1 to 1000000, without sign or
+//! leading zeros. B is a line that gave a box, G one that gave a guard, O one that gave an owner,
+//! and N one that gave a guard or an owner.
 //!
 //! | line              | its reply                                           |
 //! |-------------------|-----------------------------------------------------|

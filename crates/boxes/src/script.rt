@@ -1,5 +1,6 @@
 //! The commands of a script, and their replies.
-ghost use Rattle.std.specs.Prelude.{◌≡◌, ◌↔◌, ℕ, ◌<◌, ◌≤◌, Some, OnOk, IsTrue, slice_index, vec_len};
+ghost use Rattle.std.specs.Prelude.{◌≡◌, ◌↔◌, ℕ, ◌<◌, ◌≤◌, Some, OnOk, IsTrue, slice_index};
+ghost use Rattle.std.specs.Prelude.{vec_len};
 ghost use Rattle.std.specs.Fmt.{decimal};
 
 use crate::fault::Fault;
@@ -298,7 +299,8 @@ fn line_and_value(rest: &str) -> Option<(u32, &str)> {
 
 // The number of a line: decimal, from 1 to the limit, without sign or leading zeros.
 fn line_number(word: &str) -> Option<u32>
-    ensures { (number : ℕ) → (result ≡ Some number) ↔ ((0 < number) × (number ≤ MOST_LINES) × (word.now ≡ decimal number)) }
+    ensures { (number : ℕ) → (result ≡ Some number) ↔
+        ((0 < number) × (number ≤ MOST_LINES) × (word.now ≡ decimal number)) }
 {
     if !begins_above_zero(word) {
         return None;

@@ -183,7 +183,8 @@ impl<T> GenerationalBox<T> {
     ghost use Rattle.generational_box.specs.Boxes.{pointer_of};
     ghost use Rattle.generational_box.specs.Machine.Action.{Make, Read, Write, End};
     ghost use Rattle.generational_box.specs.Steps.{Meets};
-    ghost use Rattle.generational_box.specs.Answers.{box_answer, read_answer, write_answer, end_answer};
+    ghost use Rattle.generational_box.specs.Answers.{box_answer, read_answer, write_answer};
+    ghost use Rattle.generational_box.specs.Answers.{end_answer};
 
     /// Makes a box of a value, which lives until it is ended by hand. Its id was never given
     /// before.
@@ -196,7 +197,8 @@ impl<T> GenerationalBox<T> {
         value: T,
         location: Location,
     ) -> Result<GenerationalBox<T>, Refusal<T>>
-        ensures step { Meets (S.state store.old) (Make None value location) (box_answer result) (S.state store.new) }
+        ensures step { Meets (S.state store.old) (Make None value location) (box_answer result)
+            (S.state store.new) }
         ensures back { IfErr result (λ refusal. refusal.value ≡ value) }
     {
         let raw = store.new(value, location, None)?;
@@ -227,7 +229,8 @@ impl<T> GenerationalBox<T> {
         store: &mut S,
         location: Location,
     ) -> BorrowResult<GenerationalRef<T>>
-        ensures { Meets (S.state store.old) (Read (pointer_of self) location) (read_answer result) (S.state store.new) }
+        ensures { Meets (S.state store.old) (Read (pointer_of self) location) (read_answer result)
+            (S.state store.new) }
     {
         store.try_read(self.raw, location)
     }
@@ -246,7 +249,8 @@ impl<T> GenerationalBox<T> {
         store: &mut S,
         location: Location,
     ) -> BorrowMutResult<GenerationalRefMut<T>>
-        ensures { Meets (S.state store.old) (Write (pointer_of self) location) (write_answer result) (S.state store.new) }
+        ensures { Meets (S.state store.old) (Write (pointer_of self) location) (write_answer result)
+            (S.state store.new) }
     {
         store.try_write(self.raw, location)
     }
@@ -261,7 +265,8 @@ impl<T> GenerationalBox<T> {
     /// else takes memory.
     #[inline(always)]
     pub fn manually_drop<S: Storage<T>>(self, store: &mut S) -> BorrowMutResult<()>
-        ensures { Meets (S.state store.old) (End (pointer_of self)) (end_answer result) (S.state store.new) }
+        ensures { Meets (S.state store.old) (End (pointer_of self)) (end_answer result)
+            (S.state store.new) }
     {
         store.recycle(self.raw)
     }

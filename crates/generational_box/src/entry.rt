@@ -43,18 +43,22 @@ impl<T> Model for StorageEntry<T> {
 
     ghost Value = { Entry T };
 
-    ghost view = { λ e. record { generation = e.generation; kept = kept_data e.created_at e.data } };
+    ghost view = { λ e.
+        record { generation = e.generation; kept = kept_data e.created_at e.data } };
 }
 
 impl<T> StorageEntry<T> {
-    ghost use Rattle.std.specs.Prelude.{◌≡◌, ◌<◌, ◌+◌, [], true, ◌↔◌, IsTrue, Some, is_ok, is_none, option_copied, option_map, OnOk, OnErr, IfErr};
+    ghost use Rattle.std.specs.Prelude.{◌≡◌, ◌<◌, ◌+◌, [], true, ◌↔◌, IsTrue, Some, is_ok, is_none};
+    ghost use Rattle.std.specs.Prelude.{option_copied, option_map, OnOk, OnErr, IfErr};
     ghost use Rattle.generational_box.specs.Cells.Content.{Here, Lent};
     ghost use Rattle.generational_box.specs.Borrowing.{read_refusal, write_refusal};
     ghost use Rattle.generational_box.specs.Borrowing.Trouble.{BeingWritten};
     ghost use Rattle.generational_box.specs.Machine.{has_reader, has_writer};
     ghost use Rattle.generational_box.specs.Steps.{has_readers};
     ghost use Rattle.generational_box.specs.Entry.Kept.{Empty, Live};
-    ghost use Rattle.generational_box.specs.Entry.{content_in, valid_at, is_free, with_reader, without_reader_in, lent_to, with_value, value_for, FoundBorrowed};
+    ghost use Rattle.generational_box.specs.Entry.{content_in, valid_at, is_free, with_reader};
+    ghost use Rattle.generational_box.specs.Entry.{without_reader_in, lent_to, with_value};
+    ghost use Rattle.generational_box.specs.Entry.{value_for, FoundBorrowed};
 
     // The first cell of a slot.
     #[inline(always)]
@@ -92,7 +96,8 @@ impl<T> StorageEntry<T> {
     // The writer that stands in the way of a read.
     #[inline(always)]
     pub(crate) fn borrow_error(&self) -> Option<AlreadyBorrowedMutError>
-        ensures { option_map (λ e. BeingWritten e.borrowed_mut_at) result ≡ read_refusal (content_in self.now.kept) }
+        ensures { option_map (λ e. BeingWritten e.borrowed_mut_at) result ≡ read_refusal
+            (content_in self.now.kept) }
     {
         match &self.data {
             StorageEntryData::Data(_, _) | StorageEntryData::Empty => None,
@@ -135,7 +140,8 @@ impl<T> StorageEntry<T> {
     // then nothing changes.
     #[inline(always)]
     pub(crate) fn borrow(&mut self, alloc: Global, borrow: Borrow) -> Result<(), AllocError>
-        ensures ok { OnOk result (self.new ≡ record self.old { kept = with_reader borrow self.old.kept }) }
+        ensures ok { OnOk result (self.new ≡ record self.old
+            { kept = with_reader borrow self.old.kept }) }
         ensures err { OnErr result (self.new ≡ self.old) }
         ensures first { OnErr result (has_readers (content_in self.old.kept) ≡ true) }
     {
@@ -185,7 +191,8 @@ impl<T> StorageEntry<T> {
         T: Drop,
         requires { self.old.generation < 18446744073709551615 }
         ensures generation { result ≡ self.old.generation + 1 }
-        ensures filled { self.new ≡ record { generation = result; kept = Live (Here value []) location } }
+        ensures filled { self.new ≡ record
+            { generation = result; kept = Live (Here value []) location } }
     {
         self.generation += 1;
         self.created_at = location;
@@ -214,8 +221,10 @@ impl<T> StorageEntry<T> {
     pub(crate) fn put_back(&mut self, ticket: u64, value: T) -> Result<(), T>
     where
         T: Drop,
-        ensures known { IsTrue (is_ok result) ↔ (has_writer (content_in self.old.kept) ticket ≡ true) }
-        ensures ok { OnOk result (self.new ≡ record self.old { kept = with_value value self.old.kept }) }
+        ensures known { IsTrue (is_ok result) ↔
+            (has_writer (content_in self.old.kept) ticket ≡ true) }
+        ensures ok { OnOk result (self.new ≡ record self.old
+            { kept = with_value value self.old.kept }) }
         ensures err { IfErr result (λ back. (back ≡ value) × (self.new ≡ self.old)) }
     {
         match &self.data {
@@ -255,7 +264,8 @@ fn readers_error_apart(readers: &Readers, alloc: Global) -> Refused<BorrowMutErr
 // The answer to a write or an end where a writer stands.
 #[inline(always)]
 fn writer_error(writer: &Borrow) -> Refused<BorrowMutError>
-    ensures { result ≡ refused.Borrow (writes.AlreadyBorrowedMut (record { borrowed_mut_at = writer.now.location })) }
+    ensures { result ≡ refused.Borrow (writes.AlreadyBorrowedMut
+        (record { borrowed_mut_at = writer.now.location })) }
 {
     writer_error_apart(writer)
 }
@@ -263,7 +273,8 @@ fn writer_error(writer: &Borrow) -> Refused<BorrowMutError>
 #[cold]
 #[inline(never)]
 fn writer_error_apart(writer: &Borrow) -> Refused<BorrowMutError>
-    ensures { result ≡ refused.Borrow (writes.AlreadyBorrowedMut (record { borrowed_mut_at = writer.now.location })) }
+    ensures { result ≡ refused.Borrow (writes.AlreadyBorrowedMut
+        (record { borrowed_mut_at = writer.now.location })) }
 {
     Refused::Borrow(BorrowMutError::AlreadyBorrowedMut(AlreadyBorrowedMutError::new(
         writer.location,

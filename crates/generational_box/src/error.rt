@@ -1,7 +1,10 @@
 //! Locations, the errors of borrows, the store's own refusals, and their texts.
 
 ghost use Rattle.std.specs.Prelude.{◌≡◌, Some};
-ghost use Rattle.generational_box.specs.Texts.{location_text, dropped_text, borrowed_mut_text, borrowed_text, borrow_error_text, borrow_mut_error_text, store_error_text, as_borrow_mut};
+ghost use Rattle.generational_box.specs.Texts.{location_text, dropped_text, borrowed_mut_text};
+ghost use Rattle.generational_box.specs.Texts.{borrowed_text, borrow_error_text};
+ghost use Rattle.generational_box.specs.Texts.{borrow_mut_error_text, store_error_text};
+ghost use Rattle.generational_box.specs.Texts.{as_borrow_mut};
 
 use std::error::Error;
 use std::fmt;
@@ -136,7 +139,8 @@ impl Model for AlreadyBorrowedError {
 
     ghost Value = { List Location };
 
-    ghost view = { λ e. e.borrowed_at.items };
+    ghost view = { λ e.
+        e.borrowed_at.items };
 }
 
 impl AlreadyBorrowedError {

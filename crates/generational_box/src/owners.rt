@@ -1,9 +1,14 @@
 //! Owners, and the records that a store keeps of them.
 
-ghost use Rattle.std.specs.Prelude.{◌≡◌, ℕ, ◌+◌, ◌-◌, ◌<◌, [], true, Some, None, IsSome, IfSome, IfErr, OnOk, OnErr, option_copied, option_map, map as list_map, if◌then◌else◌};
+ghost use Rattle.std.specs.Prelude.{◌≡◌, ℕ, ◌+◌, ◌-◌, ◌<◌, [], true, Some, None, IsSome, IfSome};
+ghost use Rattle.std.specs.Prelude.{IfErr, OnOk, OnErr, option_copied, option_map, map as list_map};
+ghost use Rattle.std.specs.Prelude.{if◌then◌else◌};
 ghost use Rattle.std.specs.FinMap as map;
-ghost use Rattle.generational_box.specs.Records.{owners_of, holding_of, name_seen, one_more, one_less, one_listed, count_under, names_under, knows, knows_any, listed_in, IsRefusal};
-ghost use Rattle.generational_box.specs.declared.error.StoreError.TheVariants.{OutOfMemory, UnknownOwner};
+ghost use Rattle.generational_box.specs.Records.{owners_of, holding_of, name_seen, one_more};
+ghost use Rattle.generational_box.specs.Records.{one_less, one_listed, count_under, names_under};
+ghost use Rattle.generational_box.specs.Records.{knows, knows_any, listed_in, IsRefusal};
+ghost use Rattle.generational_box.specs.declared.error.StoreError.TheVariants.{OutOfMemory};
+ghost use Rattle.generational_box.specs.declared.error.StoreError.TheVariants.{UnknownOwner};
 ghost use Rattle.generational_box.specs.Names.{changed};
 
 use crate::boxes::GenerationalBox;
@@ -70,7 +75,8 @@ impl Owner {
         value: T,
         location: Location,
     ) -> Result<GenerationalBox<T>, Refusal<T>>
-        ensures step { Meets (S.state store.old) (Make (Some self.now) value location) (box_answer result) (S.state store.new) }
+        ensures step { Meets (S.state store.old) (Make (Some self.now) value location)
+            (box_answer result) (S.state store.new) }
         ensures back { IfErr result (λ refusal. refusal.value ≡ value) }
     {
         let raw = store.new(value, location, Some(self))?;
@@ -84,7 +90,8 @@ impl Owner {
     ///
     /// Upstream's `Clone`.
     pub fn clone<T, S: AnyStorage<T>>(&self, store: &mut S) -> Result<Owner, StoreError>
-        ensures { Meets (S.state store.old) (CloneOwner self.now) (owner_answer result) (S.state store.new) }
+        ensures { Meets (S.state store.old) (CloneOwner self.now) (owner_answer result)
+            (S.state store.new) }
     {
         store.clone_owner(self)
     }
@@ -102,7 +109,8 @@ impl Owner {
         self,
         store: &mut S,
     ) -> Result<(), (Owner, Refused<BorrowMutError>)>
-        ensures step { Meets (S.state store.old) (ReleaseOwner self) (release_answer result) (S.state store.new) }
+        ensures step { Meets (S.state store.old) (ReleaseOwner self) (release_answer result)
+            (S.state store.new) }
         ensures back { IfErr result (λ refusal. refusal.0 ≡ self) }
     {
         store.release_owner(self)
@@ -177,10 +185,13 @@ pub(crate) fn list_for(
     owner: Option<&Owner>,
     name: CellName,
 ) -> Result<(), StoreError>
-    ensures known { OnOk result (knows_any number (owners_of owners.old) (option_copied owner.entry) ≡ true) }
-    ensures ok { OnOk result (owners_of owners.new ≡ listed_in (owners_of owners.old) (option_copied owner.entry) (name_seen name)) }
+    ensures known { OnOk result (knows_any number (owners_of owners.old) (option_copied owner.entry)
+        ≡ true) }
+    ensures ok { OnOk result (owners_of owners.new ≡ listed_in (owners_of owners.old)
+        (option_copied owner.entry) (name_seen name)) }
     ensures err { OnErr result (owners_of owners.new ≡ owners_of owners.old) }
-    ensures refused { IfErr result (λ cause. IsRefusal number (owners_of owners.old) (option_copied owner.entry) cause) }
+    ensures refused { IfErr result (λ cause. IsRefusal number (owners_of owners.old)
+        (option_copied owner.entry) cause) }
 {
     match owner {
         None => Ok(()),
@@ -196,9 +207,11 @@ fn list(
     name: CellName,
 ) -> Result<(), StoreError>
     ensures known { OnOk result (knows number (owners_of owners.old) owner.now ≡ true) }
-    ensures ok { OnOk result (owners_of owners.new ≡ changed (owners_of owners.old) owner.now.key (one_listed (name_seen name))) }
+    ensures ok { OnOk result (owners_of owners.new ≡ changed (owners_of owners.old) owner.now.key
+        (one_listed (name_seen name))) }
     ensures err { OnErr result (owners_of owners.new ≡ owners_of owners.old) }
-    ensures refused { IfErr result (λ cause. IsRefusal number (owners_of owners.old) (Some owner.now) cause) }
+    ensures refused { IfErr result (λ cause. IsRefusal number (owners_of owners.old)
+        (Some owner.now) cause) }
 {
     if owner.store() != number {
         return Err(StoreError::UnknownOwner);
@@ -215,7 +228,8 @@ fn list(
 // Why a making is refused for which there is no memory: its owner, if it has one, may be unknown.
 #[inline(always)]
 pub(crate) fn lacking(owners: &OwnerRecords, number: u64, owner: Option<&Owner>) -> StoreError
-    ensures { result ≡ (if knows_any number (owners_of owners.now) (option_copied owner.entry) then OutOfMemory else UnknownOwner) }
+    ensures { result ≡ (if knows_any number (owners_of owners.now) (option_copied owner.entry) then
+        OutOfMemory else UnknownOwner) }
 {
     match owner {
         None => StoreError::OutOfMemory,
@@ -227,7 +241,8 @@ pub(crate) fn lacking(owners: &OwnerRecords, number: u64, owner: Option<&Owner>)
 #[cold]
 #[inline(never)]
 fn lacking_for(owners: &OwnerRecords, number: u64, owner: &Owner) -> StoreError
-    ensures { result ≡ (if knows number (owners_of owners.now) owner.now then OutOfMemory else UnknownOwner) }
+    ensures { result ≡ (if knows number (owners_of owners.now) owner.now then OutOfMemory else
+        UnknownOwner) }
 {
     if is_known(owners, number, owner) {
         StoreError::OutOfMemory
@@ -238,7 +253,8 @@ fn lacking_for(owners: &OwnerRecords, number: u64, owner: &Owner) -> StoreError
 
 // Adds a record under a key. Want of memory changes nothing.
 pub(crate) fn add(owners: &mut OwnerRecords, key: u64, added: OwnerRecord) -> Result<(), AllocError>
-    ensures ok { OnOk result (owners_of owners.new ≡ map.insert (owners_of owners.old) key (holding_of added)) }
+    ensures ok { OnOk result (owners_of owners.new ≡ map.insert (owners_of owners.old) key
+        (holding_of added)) }
     ensures err { OnErr result (owners_of owners.new ≡ owners_of owners.old) }
 {
     match owners.insert(Reverse(key), added) {

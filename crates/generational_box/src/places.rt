@@ -1,6 +1,7 @@
 //! What the places of a session hold, and how its calls are answered.
 
-ghost use Rattle.std.specs.Prelude.{◌≡◌, List, IfSome, IfNone, Some, option_map, option_copied, slice_get, slice_set, vec_len, vec_capacity, map as list_map};
+ghost use Rattle.std.specs.Prelude.{◌≡◌, List, IfSome, IfNone, Some, option_map, option_copied};
+ghost use Rattle.std.specs.Prelude.{slice_get, slice_set, vec_len, vec_capacity, map as list_map};
 ghost use Rattle.std.specs.Option.{OnSome};
 ghost use Rattle.generational_box.specs.declared.calls.Call.TheVariants as call;
 ghost use Rattle.generational_box.specs.declared.places.Thing.TheVariants as thing;
@@ -8,7 +9,8 @@ ghost use Rattle.generational_box.specs.Boxes.{pointer_of};
 ghost use Rattle.generational_box.specs.State.{State};
 ghost use Rattle.generational_box.specs.Session.{Held, box_in, held, owner_held, let_go_of};
 ghost use Rattle.generational_box.specs.Session.Held.{Nothing};
-ghost use Rattle.generational_box.specs.Places.{thing_held, said_by, refusal_said, session_in, exchanged, Gives};
+ghost use Rattle.generational_box.specs.Places.{thing_held, said_by, refusal_said, session_in};
+ghost use Rattle.generational_box.specs.Places.{exchanged, Gives};
 
 use crate::boxes::GenerationalBox;
 use crate::calls::{BoxAt, Call, Reply};

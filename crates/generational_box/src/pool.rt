@@ -1,6 +1,7 @@
 //! Free slots.
 
-ghost use Rattle.std.specs.Prelude.{◌≡◌, ℕ, ◌+◌, ◌<◌, ◌≤◌, true, false, IfSome, IfNone, IfErr, OnOk, OnErr, vec_capacity};
+ghost use Rattle.std.specs.Prelude.{◌≡◌, ℕ, ◌+◌, ◌<◌, ◌≤◌, true, false, IfSome, IfNone, IfErr};
+ghost use Rattle.std.specs.Prelude.{OnOk, OnErr, vec_capacity};
 ghost use Rattle.std.specs.Ordering.{nat_cmp};
 ghost use Rattle.std.specs.FinSet as set;
 ghost use Rattle.generational_box.specs.declared.error.StoreError.TheVariants.{OutOfMemory};
@@ -34,7 +35,8 @@ pub trait SlotPool: Drop {
     fn take(&mut self) -> Option<usize>
         ensures rooms { rooms self.new ≡ rooms self.old }
         ensures member { IfSome result (λ slot. set.contains (members self.old) slot ≡ true) }
-        ensures taken { IfSome result (λ slot. members self.new ≡ set.remove (members self.old) slot) }
+        ensures taken { IfSome result (λ slot. members self.new ≡ set.remove (members self.old)
+            slot) }
         ensures none { IfNone result (members self.old ≡ set.empty) }
         ensures unchanged { IfNone result (members self.new ≡ members self.old) };
 
@@ -51,7 +53,8 @@ pub trait SlotPool: Drop {
 
     /// How many free slots there are.
     fn len(&self) -> usize
-        ensures { result ≡ set.len (members self.now) };
+        ensures { result
+            ≡ set.len (members self.now) };
 }
 
 /// Takes the slot that was put last. Contracts see it as the slots, the last one first, and the

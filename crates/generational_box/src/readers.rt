@@ -1,6 +1,7 @@
 //! The readers of a cell.
 
-ghost use Rattle.std.specs.Prelude.{◌≡◌, ◌≢◌, ◌∷◌, ◌++◌, [], IsTrue, ◌↔◌, IfOk, OnOk, OnErr, map, not, nat_eq};
+ghost use Rattle.std.specs.Prelude.{◌≡◌, ◌≢◌, ◌∷◌, ◌++◌, [], IsTrue, ◌↔◌, IfOk, OnOk, OnErr, map};
+ghost use Rattle.std.specs.Prelude.{not, nat_eq};
 ghost use Rattle.std.specs.List.{list_any, filter};
 ghost use Rattle.generational_box.specs.Readers.{readers_kept, IsKeptWell, IsNotOne};
 
@@ -160,7 +161,8 @@ fn remove_among(kept: &mut KeptReaders, ticket: u64) -> bool
     requires well { IsKeptWell kept.old }
     requires several { IsNotOne kept.old }
     ensures known { result ≡ list_any (λ r. nat_eq r.ticket ticket) (readers_kept kept.old) }
-    ensures after { readers_kept kept.new ≡ filter (λ r. not (nat_eq r.ticket ticket)) (readers_kept kept.old) }
+    ensures after { readers_kept kept.new ≡ filter (λ r. not (nat_eq r.ticket ticket))
+        (readers_kept kept.old) }
     ensures well { IsKeptWell kept.new }
 {
     match kept {

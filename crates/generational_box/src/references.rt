@@ -50,7 +50,12 @@ impl<T> GenerationalRef<T> {
     /// The cell that is read.
     #[inline(always)]
     pub(crate) fn id(&self) -> GenerationalBoxId
-        ensures { self.now ≡ record { store = result.store; cell = name_in result; ticket = self.now.ticket } }
+        ensures { self.now ≡ record {
+          store = result.store;
+          cell = name_in result;
+          ticket =
+              self.now.ticket;
+        } }
     {
         self.id
     }
@@ -66,7 +71,11 @@ impl<T> GenerationalRef<T> {
     // The cell and the ticket of a guard that is spent.
     #[inline(always)]
     pub(crate) fn into_parts(self) -> (GenerationalBoxId, u64)
-        ensures { self ≡ record { store = result.0.store; cell = name_in result.0; ticket = result.1 } }
+        ensures { self ≡ record {
+          store = result.0.store;
+          cell = name_in result.0;
+          ticket = result.1;
+        } }
     {
         let GenerationalRef {
             id,
@@ -140,7 +149,11 @@ impl<T> Model for GenerationalRefMut<T> {
 
     ghost Value = { WriteGuard T };
 
-    ghost view = { λ g. record { guard = record { store = g.id.store; cell = name_in g.id; ticket = g.ticket }; value = g.value } };
+    ghost view = { λ g. record {
+      guard = record
+          { store = g.id.store; cell = name_in g.id; ticket = g.ticket };
+      value = g.value;
+    } };
 }
 
 impl<T> GenerationalRefMut<T> {
@@ -155,7 +168,8 @@ impl<T> GenerationalRefMut<T> {
     // The guard of a writer.
     #[inline(always)]
     pub(crate) fn new(id: GenerationalBoxId, ticket: u64, value: T) -> GenerationalRefMut<T>
-        ensures guard { result.guard ≡ record { store = id.store; cell = name_in id; ticket = ticket } }
+        ensures guard { result.guard ≡ record
+            { store = id.store; cell = name_in id; ticket = ticket } }
         ensures value { result.value ≡ value }
     {
         GenerationalRefMut { id, ticket, value }
@@ -164,7 +178,8 @@ impl<T> GenerationalRefMut<T> {
     // The cell, the ticket and the value of a guard that is spent.
     #[inline(always)]
     pub(crate) fn into_parts(self) -> (GenerationalBoxId, u64, T)
-        ensures guard { self.guard ≡ record { store = result.0.store; cell = name_in result.0; ticket = result.1 } }
+        ensures guard { self.guard ≡ record
+            { store = result.0.store; cell = name_in result.0; ticket = result.1 } }
         ensures value { self.value ≡ result.2 }
     {
         let GenerationalRefMut { id, ticket, value } = self;
@@ -205,7 +220,8 @@ impl<T> GenerationalRefMut<T> {
     /// borrowed. Takes no memory.
     #[inline(always)]
     pub fn release<S: Storage<T>>(self, store: &mut S) -> Result<(), T>
-        ensures { Meets (S.state store.old) (ReleaseWriter self.guard self.value) (back_answer result) (S.state store.new) }
+        ensures { Meets (S.state store.old) (ReleaseWriter self.guard self.value)
+            (back_answer result) (S.state store.new) }
     {
         store.release_write(self)
     }

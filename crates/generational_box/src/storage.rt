@@ -3,11 +3,15 @@
 ghost use Rattle.std.specs.Prelude.{◌≡◌, ◌≤◌, ◌+◌, ◌-◌, ◌↔◌, IsTrue, IfErr, None, option_copied};
 ghost use Rattle.generational_box.specs.State.{State, IsFresh};
 ghost use Rattle.generational_box.specs.Slots.{slots, free, retired};
-ghost use Rattle.generational_box.specs.Machine.Action.{Make, NewOwner, CloneOwner, ReleaseOwner, Read, Write, ReleaseReader, ReleaseWriter, End};
+ghost use Rattle.generational_box.specs.Machine.Action.{Make, NewOwner, CloneOwner, ReleaseOwner};
+ghost use Rattle.generational_box.specs.Machine.Action.{Read, Write, ReleaseReader, ReleaseWriter};
+ghost use Rattle.generational_box.specs.Machine.Action.{End};
 ghost use Rattle.generational_box.specs.Machine.Answer.{Flag};
 ghost use Rattle.generational_box.specs.Steps.{Meets};
 ghost use Rattle.generational_box.specs.Readiness.{is_ready};
-ghost use Rattle.generational_box.specs.Answers.{make_answer, owner_answer, release_answer, read_answer, write_answer, back_answer, end_answer, opened};
+ghost use Rattle.generational_box.specs.Answers.{make_answer, owner_answer, release_answer};
+ghost use Rattle.generational_box.specs.Answers.{read_answer, write_answer, back_answer};
+ghost use Rattle.generational_box.specs.Answers.{end_answer, opened};
 
 use crate::boxes::GenerationalPointer;
 use crate::error::{
@@ -80,7 +84,8 @@ pub trait AnyStorage<T> {
     /// `NumbersExhausted`, where no ticket is left. A refused call changes nothing, and no call
     /// takes memory.
     fn clone_owner(&mut self, owner: &Owner) -> Result<Owner, StoreError>
-        ensures { Meets (state self.old) (CloneOwner owner.now) (owner_answer result) (state self.new) };
+        ensures { Meets (state self.old) (CloneOwner owner.now) (owner_answer result)
+            (state self.new) };
 
     /// Spends an owner value. With the last one of its record all live boxes of the list end, or
     /// nothing does.
@@ -90,7 +95,8 @@ pub trait AnyStorage<T> {
     /// in whose place `OutOfMemory` is answered if its list of locations finds no memory. The owner
     /// comes back then, and nothing changes.
     fn release_owner(&mut self, owner: Owner) -> Result<(), (Owner, Refused<BorrowMutError>)>
-        ensures step { Meets (state self.old) (ReleaseOwner owner) (release_answer result) (state self.new) }
+        ensures step { Meets (state self.old) (ReleaseOwner owner) (release_answer result)
+            (state self.new) }
         ensures back { IfErr result (λ refusal. refusal.0 ≡ owner) };
 
     /// Ends the cell that the pointer names, and its slot is free from then on; a slot whose cell
@@ -119,7 +125,8 @@ pub trait Storage<T>: AnyStorage<T> {
         location: Location,
         owner: Option<&Owner>,
     ) -> Result<GenerationalPointer, Refusal<T>>
-        ensures step { Meets (Self.state self.old) (Make (option_copied owner.entry) value location) (make_answer result) (Self.state self.new) }
+        ensures step { Meets (Self.state self.old) (Make (option_copied owner.entry) value location)
+            (make_answer result) (Self.state self.new) }
         ensures back { IfErr result (λ refusal. refusal.value ≡ value) };
 
     /// Begins a read.
@@ -132,7 +139,8 @@ pub trait Storage<T>: AnyStorage<T> {
         pointer: GenerationalPointer,
         location: Location,
     ) -> BorrowResult<GenerationalRef<T>>
-        ensures { Meets (Self.state self.old) (Read pointer location) (read_answer result) (Self.state self.new) };
+        ensures { Meets (Self.state self.old) (Read pointer location) (read_answer result)
+            (Self.state self.new) };
 
     /// The value that a reader's guard opens, exactly where the store knows the guard.
     fn open(&self, guard: &GenerationalRef<T>) -> Option<&T>
@@ -150,15 +158,18 @@ pub trait Storage<T>: AnyStorage<T> {
         pointer: GenerationalPointer,
         location: Location,
     ) -> BorrowMutResult<GenerationalRefMut<T>>
-        ensures { Meets (Self.state self.old) (Write pointer location) (write_answer result) (Self.state self.new) };
+        ensures { Meets (Self.state self.old) (Write pointer location) (write_answer result)
+            (Self.state self.new) };
 
     /// Ends a write, and puts the guard's value into the cell. Where the store doesn't know the
     /// guard, the value comes back and nothing changes. Takes no memory.
     fn release_write(&mut self, guard: GenerationalRefMut<T>) -> Result<(), T>
-        ensures { Meets (Self.state self.old) (ReleaseWriter guard.guard guard.value) (back_answer result) (Self.state self.new) };
+        ensures { Meets (Self.state self.old) (ReleaseWriter guard.guard guard.value)
+            (back_answer result) (Self.state self.new) };
 
     /// Ends a read. The answer is whether the store knew the guard; where it didn't, nothing
     /// changes. Takes no memory.
     fn release_read(&mut self, guard: GenerationalRef<T>) -> bool
-        ensures { Meets (Self.state self.old) (ReleaseReader guard) (Flag result) (Self.state self.new) };
+        ensures { Meets (Self.state self.old) (ReleaseReader guard) (Flag result)
+            (Self.state self.new) };
 }

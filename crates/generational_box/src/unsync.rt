@@ -1,6 +1,9 @@
 //! The sequential store.
 
-ghost use Rattle.std.specs.Prelude.{◌≡◌, ℕ, ◌+◌, ◌-◌, ◌^◌, ◌<◌, ◌≤◌, ◌∷◌, ◌++◌, [], true, max, length, is_some, vec_len, vec_capacity, slice_get, slice_set, option_copied, Some, None, IsSome, IfSome, IfOk, IfErr, OnOk, OnErr, IsTrue, is_ok, ◌↔◌, map as list_map};
+ghost use Rattle.std.specs.Prelude.{◌≡◌, ℕ, ◌+◌, ◌-◌, ◌^◌, ◌<◌, ◌≤◌, ◌∷◌, ◌++◌, [], true, max};
+ghost use Rattle.std.specs.Prelude.{length, is_some, vec_len, vec_capacity, slice_get, slice_set};
+ghost use Rattle.std.specs.Prelude.{option_copied, Some, None, IsSome, IfSome, IfOk, IfErr, OnOk};
+ghost use Rattle.std.specs.Prelude.{OnErr, IsTrue, is_ok, ◌↔◌, map as list_map};
 ghost use Rattle.std.specs.FinMap as map;
 ghost use Rattle.generational_box.specs.declared.error.Refused.TheVariants as refused;
 ghost use Rattle.generational_box.specs.declared.error.BorrowError.TheVariants as reads;
@@ -9,16 +12,20 @@ ghost use Rattle.generational_box.specs.Cells.Content.{Here};
 ghost use Rattle.generational_box.specs.Boxes.{name_in};
 ghost use Rattle.generational_box.specs.State.{fresh};
 ghost use Rattle.generational_box.specs.Borrowing.{content_at, filled};
-ghost use Rattle.generational_box.specs.Machine.{read_at, written_at, has_reader, has_writer, without_reader};
+ghost use Rattle.generational_box.specs.Machine.{read_at, written_at, has_reader, has_writer};
+ghost use Rattle.generational_box.specs.Machine.{without_reader};
 ghost use Rattle.generational_box.specs.Machine.Action.{ReleaseReader, ReleaseWriter};
 ghost use Rattle.generational_box.specs.Machine.Answer.{Flag};
 ghost use Rattle.generational_box.specs.Steps.{Meets, has_readers};
 ghost use Rattle.generational_box.specs.Ending.{close};
 ghost use Rattle.generational_box.specs.Records.{first_borrowed, names_under, name_seen};
-ghost use Rattle.generational_box.specs.Entry.{FoundBorrowed, content_in, is_live, valid_at, is_free, with_reader, without_reader_in, lent_to, with_value};
+ghost use Rattle.generational_box.specs.Entry.{FoundBorrowed, content_in, is_live, valid_at};
+ghost use Rattle.generational_box.specs.Entry.{is_free, with_reader, without_reader_in, lent_to};
+ghost use Rattle.generational_box.specs.Entry.{with_value};
 ghost use Rattle.generational_box.specs.Answers.{back_answer};
 ghost use Rattle.generational_box.specs.Entry.Kept.{Empty, Live};
-ghost use Rattle.generational_box.specs.Slotted.{cells_of, entry_changed, entry_in, cell_found, own_cell_at, is_here, is_unborrowed, OnlyValues};
+ghost use Rattle.generational_box.specs.Slotted.{cells_of, entry_changed, entry_in, cell_found};
+ghost use Rattle.generational_box.specs.Slotted.{own_cell_at, is_here, is_unborrowed, OnlyValues};
 
 use crate::boxes::{GenerationalBoxId, GenerationalPointer};
 use crate::entry::{Borrow, StorageEntry};
@@ -71,7 +78,8 @@ impl<T, P: SlotPool> Model for Store<T, P> {
 
     ghost view = { λ s. state_of (owners_of s.owners) s.number s.start s.next s.peak s.slots.items };
 
-    ghost invariant = { λ s. IsSlotted (P.members s.pool) (P.rooms s.pool) s.start s.live s.peak s.slots.items × AreCounted s.next (owners_of s.owners) };
+    ghost invariant = { λ s. IsSlotted (P.members s.pool) (P.rooms s.pool) s.start s.live s.peak
+        s.slots.items × AreCounted s.next (owners_of s.owners) };
 }
 
 /// Where a store's numbers begin.
@@ -138,7 +146,8 @@ impl<T: Drop, P: SlotPool> Store<T, P> {
         requires here { is_here (own_cell_at self.old id) ≡ true }
         requires numbers { self.old.next < 18446744073709551615 }
         ensures ticket { IfOk result (λ ticket. ticket ≡ self.old.next) }
-        ensures ok { OnOk result (self.new ≡ (read_at self.old location (Some (name_in id)) (content_at self.old (name_in id))).1) }
+        ensures ok { OnOk result (self.new ≡
+            (read_at self.old location (Some (name_in id)) (content_at self.old (name_in id))).1) }
         ensures err { OnErr result (self.new ≡ self.old) }
         ensures beside { OnErr result (has_readers (content_at self.old (name_in id)) ≡ true) }
     {
@@ -158,7 +167,8 @@ impl<T: Drop, P: SlotPool> Store<T, P> {
     fn end_read(&mut self, id: GenerationalBoxId, ticket: u64) -> bool
         requires { IsSome (own_cell_at self.old id) }
         ensures known { result ≡ has_reader (content_at self.old (name_in id)) ticket }
-        ensures after { self.new ≡ without_reader self.old (name_in id) ticket (content_at self.old (name_in id)) }
+        ensures after { self.new ≡ without_reader self.old (name_in id) ticket
+            (content_at self.old (name_in id)) }
     {
         remove_reader(&mut self.slots, id.slot, ticket)
     }
@@ -169,7 +179,8 @@ impl<T: Drop, P: SlotPool> Store<T, P> {
         requires free { is_unborrowed (own_cell_at self.old id) ≡ true }
         requires numbers { self.old.next < 18446744073709551615 }
         ensures value { content_at self.old (name_in id) ≡ Some (Here result []) }
-        ensures after { self.new ≡ (written_at self.old location (Some (name_in id)) (content_at self.old (name_in id))).1 }
+        ensures after { self.new ≡ (written_at self.old location (Some (name_in id))
+            (content_at self.old (name_in id))).1 }
     {
         let ticket = self.next;
         self.next = ticket + 1;
@@ -181,7 +192,8 @@ impl<T: Drop, P: SlotPool> Store<T, P> {
     #[inline(always)]
     fn end_write(&mut self, id: GenerationalBoxId, ticket: u64, value: T) -> Result<(), T>
         requires { IsSome (own_cell_at self.old id) }
-        ensures known { IsTrue (is_ok result) ↔ (has_writer (content_at self.old (name_in id)) ticket ≡ true) }
+        ensures known { IsTrue (is_ok result) ↔
+            (has_writer (content_at self.old (name_in id)) ticket ≡ true) }
         ensures ok { OnOk result (self.new ≡ filled self.old (name_in id) (Here value [])) }
         ensures err { IfErr result (λ back. (back ≡ value) × (self.new ≡ self.old)) }
     {
@@ -203,7 +215,8 @@ impl<T: Drop, P: SlotPool> Store<T, P> {
 
     // What hinders the end of the boxes of a record, at the first of them that is hindered.
     fn hindrance(&self, key: u64) -> BorrowMutResult<()>
-        ensures { FoundBorrowed (first_borrowed self.now.cells (names_under self.now.owners key)) result }
+        ensures { FoundBorrowed (first_borrowed self.now.cells (names_under self.now.owners key))
+            result }
     {
         match owners::find(&self.owners, key) {
             Some(record) => {
@@ -251,7 +264,8 @@ fn first_borrowed<T>(
     names: &[CellName],
     alloc: Global,
 ) -> BorrowMutResult<()>
-    ensures { FoundBorrowed (first_borrowed (cells_of slots.now) (list_map name_seen names.now)) result }
+    ensures { FoundBorrowed (first_borrowed (cells_of slots.now) (list_map name_seen names.now))
+        result }
 {
     for name in names {
         match entry_at(slots, name.slot, name.generation) {
@@ -285,9 +299,11 @@ fn add_reader<T>(
     borrow: Borrow,
 ) -> Result<(), AllocError>
     requires { slot < vec_len slots.old }
-    ensures ok { OnOk result (slots.new.items ≡ entry_changed slots.old.items slot (λ entry. record entry { kept = with_reader borrow entry.kept })) }
+    ensures ok { OnOk result (slots.new.items ≡ entry_changed slots.old.items slot
+        (λ entry. record entry { kept = with_reader borrow entry.kept })) }
     ensures err { OnErr result (slots.new.items ≡ slots.old.items) }
-    ensures beside { OnErr result (IfSome (slice_get slots.old.items slot) (λ entry. has_readers (content_in entry.kept) ≡ true)) }
+    ensures beside { OnErr result (IfSome (slice_get slots.old.items slot)
+        (λ entry. has_readers (content_in entry.kept) ≡ true)) }
 {
     slots[slot].borrow(alloc, borrow)
 }
@@ -296,8 +312,10 @@ fn add_reader<T>(
 #[inline(always)]
 fn remove_reader<T>(slots: &mut Vec<StorageEntry<T>>, slot: usize, ticket: u64) -> bool
     requires { slot < vec_len slots.old }
-    ensures known { IfSome (slice_get slots.old.items slot) (λ entry. result ≡ has_reader (content_in entry.kept) ticket) }
-    ensures after { slots.new.items ≡ entry_changed slots.old.items slot (λ entry. record entry { kept = without_reader_in ticket entry.kept }) }
+    ensures known { IfSome (slice_get slots.old.items slot)
+        (λ entry. result ≡ has_reader (content_in entry.kept) ticket) }
+    ensures after { slots.new.items ≡ entry_changed slots.old.items slot
+        (λ entry. record entry { kept = without_reader_in ticket entry.kept }) }
 {
     slots[slot].drop_borrow(ticket)
 }
@@ -306,9 +324,12 @@ fn remove_reader<T>(slots: &mut Vec<StorageEntry<T>>, slot: usize, ticket: u64) 
 #[inline(always)]
 fn lend_value<T: Drop>(slots: &mut Vec<StorageEntry<T>>, slot: usize, writer: Borrow) -> T
     requires within { slot < vec_len slots.old }
-    requires free { IfSome (slice_get slots.old.items slot) (λ entry. is_free (content_in entry.kept) ≡ true) }
-    ensures value { IfSome (slice_get slots.old.items slot) (λ entry. content_in entry.kept ≡ Some (Here result [])) }
-    ensures after { slots.new.items ≡ entry_changed slots.old.items slot (λ entry. record entry { kept = lent_to writer entry.kept }) }
+    requires free { IfSome (slice_get slots.old.items slot)
+        (λ entry. is_free (content_in entry.kept) ≡ true) }
+    ensures value { IfSome (slice_get slots.old.items slot)
+        (λ entry. content_in entry.kept ≡ Some (Here result [])) }
+    ensures after { slots.new.items ≡ entry_changed slots.old.items slot
+        (λ entry. record entry { kept = lent_to writer entry.kept }) }
 {
     slots[slot].lend(writer)
 }
@@ -323,8 +344,10 @@ fn put_value_back<T: Drop>(
     value: T,
 ) -> Result<(), T>
     requires { slot < vec_len slots.old }
-    ensures known { IfSome (slice_get slots.old.items slot) (λ entry. IsTrue (is_ok result) ↔ (has_writer (content_in entry.kept) ticket ≡ true)) }
-    ensures ok { OnOk result (slots.new.items ≡ entry_changed slots.old.items slot (λ entry. record entry { kept = with_value value entry.kept })) }
+    ensures known { IfSome (slice_get slots.old.items slot)
+        (λ entry. IsTrue (is_ok result) ↔ (has_writer (content_in entry.kept) ticket ≡ true)) }
+    ensures ok { OnOk result (slots.new.items ≡ entry_changed slots.old.items slot
+        (λ entry. record entry { kept = with_value value entry.kept })) }
     ensures err { IfErr result (λ back. (back ≡ value) × (slots.new.items ≡ slots.old.items)) }
 {
     slots[slot].put_back(ticket, value)
@@ -334,7 +357,8 @@ fn put_value_back<T: Drop>(
 #[inline(always)]
 fn end_cell<T: Drop>(slots: &mut Vec<StorageEntry<T>>, slot: usize)
     requires { slot < vec_len slots.old }
-    ensures { slots.new.items ≡ entry_changed slots.old.items slot (λ entry. record entry { kept = Empty }) }
+    ensures { slots.new.items ≡ entry_changed slots.old.items slot
+        (λ entry. record entry { kept = Empty }) }
 {
     slots[slot].end();
 }
@@ -343,7 +367,8 @@ fn end_cell<T: Drop>(slots: &mut Vec<StorageEntry<T>>, slot: usize)
 #[inline(always)]
 fn next_generation<T>(slots: &Vec<StorageEntry<T>>, slot: usize) -> u64
     requires within { slot < vec_len slots.now }
-    requires below { IfSome (slice_get slots.now.items slot) (λ entry. entry.generation < 18446744073709551615) }
+    requires below { IfSome (slice_get slots.now.items slot)
+        (λ entry. entry.generation < 18446744073709551615) }
     ensures { IfSome (slice_get slots.now.items slot) (λ entry. result ≡ entry.generation + 1) }
 {
     slots[slot].generation() + 1
@@ -358,9 +383,12 @@ fn refill<T: Drop>(
     location: Location,
 ) -> u64
     requires within { slot < vec_len slots.old }
-    requires below { IfSome (slice_get slots.old.items slot) (λ entry. entry.generation < 18446744073709551615) }
-    ensures generation { IfSome (slice_get slots.old.items slot) (λ entry. result ≡ entry.generation + 1) }
-    ensures filled { slots.new.items ≡ slice_set slots.old.items slot (record { generation = result; kept = Live (Here value []) location }) }
+    requires below { IfSome (slice_get slots.old.items slot)
+        (λ entry. entry.generation < 18446744073709551615) }
+    ensures generation { IfSome (slice_get slots.old.items slot)
+        (λ entry. result ≡ entry.generation + 1) }
+    ensures filled { slots.new.items ≡ slice_set slots.old.items slot
+        (record { generation = result; kept = Live (Here value []) location }) }
 {
     slots[slot].refill(value, location)
 }
@@ -375,7 +403,8 @@ fn push_slot<T: Drop>(
 ) -> usize
     requires { vec_len slots.old < vec_capacity slots.old }
     ensures slot { result ≡ length slots.old.items }
-    ensures pushed { slots.new.items ≡ slots.old.items ++ (record { generation = generation; kept = Live (Here value []) location }) ∷ [] }
+    ensures pushed { slots.new.items ≡ slots.old.items ++
+        (record { generation = generation; kept = Live (Here value []) location }) ∷ [] }
 {
     let slot = slots.len();
     slots.push_reserved(StorageEntry::new(generation, value, location));
@@ -635,7 +664,8 @@ impl<T: Drop, P: SlotPool> Storage<T> for Store<T, P> {
 
     #[inline(always)]
     fn release_write(&mut self, guard: GenerationalRefMut<T>) -> Result<(), T>
-        ensures { Meets self.old (ReleaseWriter guard.guard guard.value) (back_answer result) self.new }
+        ensures { Meets self.old (ReleaseWriter guard.guard guard.value) (back_answer result)
+            self.new }
     {
         let (id, ticket, value) = guard.into_parts();
         match self.entry(id) {

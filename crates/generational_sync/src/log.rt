@@ -30,7 +30,8 @@ impl<M: Count, L: Count, C: Count, R: Count> Model for Log<M, L, C, R> {
     ghost use Rattle.std.specs.Prelude.{◌≡◌, ◌+◌, ◌-◌, ◌≤◌, vec_len, vec_capacity};
     ghost use Rattle.generational_sync.specs.Kinds.{count};
     ghost use Rattle.generational_sync.specs.Shared.{LogState};
-    ghost use Rattle.generational_sync.specs.declared.step.Kind.TheVariants.{Made, Lent, Changed, Refused};
+    ghost use Rattle.generational_sync.specs.declared.step.Kind.TheVariants.{Made, Lent, Changed};
+    ghost use Rattle.generational_sync.specs.declared.step.Kind.TheVariants.{Refused};
 
     ghost Value = { LogState };
 
@@ -115,7 +116,8 @@ impl<M: Count, L: Count, C: Count, R: Count> Log<M, L, C, R> {
     // A borrow that stood is over: its release is appended, without any memory.
     pub(crate) fn borrow_ends(&mut self, call: StepCall, tally: &mut Tally<M, L, C, R>)
         requires { 0 < self.old.standing }
-        ensures steps { self.new.steps ≡ self.old.steps ++ step_of tally.old.worker call reply.Done ∷ [] }
+        ensures steps { self.new.steps ≡ self.old.steps ++ step_of tally.old.worker call reply.Done
+            ∷ [] }
         ensures standing { self.new.standing + 1 ≡ self.old.standing }
         ensures tally { tally.new ≡ raised Changed tally.old }
     {

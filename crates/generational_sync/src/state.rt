@@ -1,6 +1,7 @@
 //! What lies under the lock.
 
-ghost use Rattle.std.specs.Prelude.{◌≡◌, ◌<◌, true, [], None, Some, IfOk, IfErr, OnOk, option_copied};
+ghost use Rattle.std.specs.Prelude.{◌≡◌, ◌<◌, true, [], None, Some, IfOk, IfErr, OnOk};
+ghost use Rattle.std.specs.Prelude.{option_copied};
 ghost use Rattle.generational_box.specs.declared.error.StoreError.TheVariants.{OutOfMemory};
 ghost use Rattle.generational_box.specs.declared.error.Refused.TheVariants as refused;
 ghost use Rattle.generational_box.specs.declared.steps.StepCall.TheVariants as call;
@@ -86,9 +87,11 @@ impl<T: Drop, const NUMBER: u64, M: Count, L: Count, C: Count, R: Count> SyncSta
             × (M.workers ≡ workers) }
         requires lent { (lent.name ≡ L.name) × (lent.parts ≡ L.parts) × (lent.parts ≡ workers)
             × (L.workers ≡ workers) }
-        requires changed { (changed.name ≡ C.name) × (changed.parts ≡ C.parts) × (changed.parts ≡ workers)
+        requires changed { (changed.name ≡ C.name) × (changed.parts ≡ C.parts) ×
+            (changed.parts ≡ workers)
             × (C.workers ≡ workers) }
-        requires refused { (refused.name ≡ R.name) × (refused.parts ≡ R.parts) × (refused.parts ≡ workers)
+        requires refused { (refused.name ≡ R.name) × (refused.parts ≡ R.parts) ×
+            (refused.parts ≡ workers)
             × (R.workers ≡ workers) }
         ensures fresh { IfOk result (λ r. r.0 ≡ record { state = fresh NUMBER 1 0; history = [] }) }
         ensures tallies { IfOk result (λ r. r.1.items ≡ new_tallies workers) }
@@ -145,7 +148,8 @@ impl<T: Drop, const NUMBER: u64, M: Count, L: Count, C: Count, R: Count> SyncSta
         ensures step { Does self.old (Make None value location) (box_answer result) self.new }
         ensures refusal { IfErr result (λ r. (r.value ≡ value) × (r.cause ≡ OutOfMemory)) }
         ensures made { IfOk result (λ b. IsBoxOf NUMBER location (pointer_of b)) }
-        ensures recorded { Records self.old tally.old (call.Leak location) (box_answer result) self.new }
+        ensures recorded { Records self.old tally.old (call.Leak location) (box_answer result)
+            self.new }
         ensures tallied { Raises tally.old (box_answer result) tally.new }
     {
         if self.log.reserve(1).is_err() {
@@ -173,10 +177,12 @@ impl<T: Drop, const NUMBER: u64, M: Count, L: Count, C: Count, R: Count> SyncSta
         tally: &mut Tally<M, L, C, R>,
     ) -> BorrowResult<GenerationalRef<T>>
         requires { is_ready self.old.state (call.Read (pointer_of asked) location) ≡ true }
-        ensures step { Does self.old (Read (pointer_of asked) location) (read_answer result) self.new }
+        ensures step { Does self.old (Read (pointer_of asked) location) (read_answer result)
+            self.new }
         ensures guard { IfOk result (λ guard. guard.store ≡ NUMBER) }
         ensures refusal { IfErr result (λ e. MayRefuseRead (pointer_of asked) e) }
-        ensures recorded { Records self.old tally.old (call.Read (pointer_of asked) location) (read_answer result) self.new }
+        ensures recorded { Records self.old tally.old (call.Read (pointer_of asked) location)
+            (read_answer result) self.new }
         ensures tallied { Raises {T = T} tally.old (read_answer result) tally.new }
     {
         if self.log.reserve(2).is_err() {
@@ -206,7 +212,8 @@ impl<T: Drop, const NUMBER: u64, M: Count, L: Count, C: Count, R: Count> SyncSta
     pub fn release_read(&mut self, guard: GenerationalRef<T>, tally: &mut Tally<M, L, C, R>) -> bool
         ensures step { Meets self.old.state (ReleaseReader guard) (Flag result) self.new.state }
         ensures known { result ≡ knows_reader self.old.state guard }
-        ensures recorded { Records self.old tally.old (call.ReleaseRead guard.ticket) (Flag result) self.new }
+        ensures recorded { Records self.old tally.old (call.ReleaseRead guard.ticket) (Flag result)
+            self.new }
         ensures tallied { Raises {T = T} tally.old (Flag result) tally.new }
     {
         let call = StepCall::ReleaseRead(guard.ticket());
@@ -230,7 +237,8 @@ impl<T: Drop, const NUMBER: u64, M: Count, L: Count, C: Count, R: Count> SyncSta
         requires { is_ready self.old.state (call.ManuallyDrop (pointer_of asked)) ≡ true }
         ensures step { Does self.old (End (pointer_of asked)) (end_answer result) self.new }
         ensures refusal { IfErr result (λ e. e ≡ refused.Store OutOfMemory) }
-        ensures recorded { Records self.old tally.old (call.ManuallyDrop (pointer_of asked)) (end_answer result) self.new }
+        ensures recorded { Records self.old tally.old (call.ManuallyDrop (pointer_of asked))
+            (end_answer result) self.new }
         ensures tallied { Raises {T = T} tally.old (end_answer result) tally.new }
     {
         if self.log.reserve(1).is_err() {

@@ -68,9 +68,11 @@ impl<T: Drop + Send, const NUMBER: u64, M: Count, L: Count, C: Count, R: Count> 
             × (M.workers ≡ workers) }
         requires lent { (lent.name ≡ L.name) × (lent.parts ≡ L.parts) × (lent.parts ≡ workers)
             × (L.workers ≡ workers) }
-        requires changed { (changed.name ≡ C.name) × (changed.parts ≡ C.parts) × (changed.parts ≡ workers)
+        requires changed { (changed.name ≡ C.name) × (changed.parts ≡ C.parts) ×
+            (changed.parts ≡ workers)
             × (C.workers ≡ workers) }
-        requires refused { (refused.name ≡ R.name) × (refused.parts ≡ R.parts) × (refused.parts ≡ workers)
+        requires refused { (refused.name ≡ R.name) × (refused.parts ≡ R.parts) ×
+            (refused.parts ≡ workers)
             × (R.workers ≡ workers) }
         ensures tallies { IfOk result (λ r. r.1.items ≡ new_tallies workers) }
         ensures err { IfErr result (λ e. e ≡ OutOfMemory) }

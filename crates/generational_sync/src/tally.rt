@@ -145,8 +145,10 @@ pub(crate) fn tallies<M: Count, L: Count, C: Count, R: Count>(
     mut changed: Share<C>,
     mut refused: Share<R>,
 ) -> Result<Vec<Tally<M, L, C, R>>, StoreError>
-    requires made { (made.parts ≡ workers) × (made.amount ≡ 0) × (M.parts ≡ workers) × (M.workers ≡ workers) }
-    requires lent { (lent.parts ≡ workers) × (lent.amount ≡ 0) × (L.parts ≡ workers) × (L.workers ≡ workers) }
+    requires made { (made.parts ≡ workers) × (made.amount ≡ 0) × (M.parts ≡ workers) ×
+        (M.workers ≡ workers) }
+    requires lent { (lent.parts ≡ workers) × (lent.amount ≡ 0) × (L.parts ≡ workers) ×
+        (L.workers ≡ workers) }
     requires changed { (changed.parts ≡ workers) × (changed.amount ≡ 0) × (C.parts ≡ workers)
         × (C.workers ≡ workers) }
     requires refused { (refused.parts ≡ workers) × (refused.amount ≡ 0) × (R.parts ≡ workers)

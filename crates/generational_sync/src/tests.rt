@@ -174,8 +174,10 @@ fn readers_beside<
     changed: Blank,
     refused: Blank,
 ) -> Result<(Vec<Step>, Option<GenerationalBox<String>>), Fail>
-    requires made { (made.name ≡ A.name) × (made.parts ≡ A.parts) × (made.parts ≡ 2) × (A.workers ≡ 2) }
-    requires lent { (lent.name ≡ B.name) × (lent.parts ≡ B.parts) × (lent.parts ≡ 2) × (B.workers ≡ 2) }
+    requires made { (made.name ≡ A.name) × (made.parts ≡ A.parts) × (made.parts ≡ 2) ×
+        (A.workers ≡ 2) }
+    requires lent { (lent.name ≡ B.name) × (lent.parts ≡ B.parts) × (lent.parts ≡ 2) ×
+        (B.workers ≡ 2) }
     requires changed { (changed.name ≡ C.name) × (changed.parts ≡ C.parts) × (changed.parts ≡ 2)
         × (C.workers ≡ 2) }
     requires refused { (refused.name ≡ D.name) × (refused.parts ≡ D.parts) × (refused.parts ≡ 2)
@@ -299,10 +301,14 @@ fn end_beside<
     changed: Blank,
     refused: Blank,
 ) -> Result<Vec<Step>, Fail>
-    requires made { (made.name ≡ A.name) × (made.parts ≡ A.parts) × (made.parts ≡ 2) × (A.workers ≡ 2) }
-    requires lent { (lent.name ≡ B.name) × (lent.parts ≡ B.parts) × (lent.parts ≡ 2) × (B.workers ≡ 2) }
-    requires changed { (changed.name ≡ C.name) × (changed.parts ≡ C.parts) × (changed.parts ≡ 2) × (C.workers ≡ 2) }
-    requires refused { (refused.name ≡ D.name) × (refused.parts ≡ D.parts) × (refused.parts ≡ 2) × (D.workers ≡ 2) }
+    requires made { (made.name ≡ A.name) × (made.parts ≡ A.parts) × (made.parts ≡ 2) ×
+        (A.workers ≡ 2) }
+    requires lent { (lent.name ≡ B.name) × (lent.parts ≡ B.parts) × (lent.parts ≡ 2) ×
+        (B.workers ≡ 2) }
+    requires changed { (changed.name ≡ C.name) × (changed.parts ≡ C.parts) × (changed.parts ≡ 2) ×
+        (C.workers ≡ 2) }
+    requires refused { (refused.name ≡ D.name) × (refused.parts ≡ D.parts) × (refused.parts ≡ 2) ×
+        (D.workers ≡ 2) }
 {
     let (store, mut tallies) = SyncStorage::<String, 7, A, B, C, D>::new(
         alloc, 2, made, lent, changed, refused,
@@ -362,10 +368,14 @@ fn one_by_one<A: Count, B: Count, C: Count, D: Count>(
     changed: Blank,
     refused: Blank,
 ) -> Result<bool, Fail>
-    requires made { (made.name ≡ A.name) × (made.parts ≡ A.parts) × (made.parts ≡ 1) × (A.workers ≡ 1) }
-    requires lent { (lent.name ≡ B.name) × (lent.parts ≡ B.parts) × (lent.parts ≡ 1) × (B.workers ≡ 1) }
-    requires changed { (changed.name ≡ C.name) × (changed.parts ≡ C.parts) × (changed.parts ≡ 1) × (C.workers ≡ 1) }
-    requires refused { (refused.name ≡ D.name) × (refused.parts ≡ D.parts) × (refused.parts ≡ 1) × (D.workers ≡ 1) }
+    requires made { (made.name ≡ A.name) × (made.parts ≡ A.parts) × (made.parts ≡ 1) ×
+        (A.workers ≡ 1) }
+    requires lent { (lent.name ≡ B.name) × (lent.parts ≡ B.parts) × (lent.parts ≡ 1) ×
+        (B.workers ≡ 1) }
+    requires changed { (changed.name ≡ C.name) × (changed.parts ≡ C.parts) × (changed.parts ≡ 1) ×
+        (C.workers ≡ 1) }
+    requires refused { (refused.name ≡ D.name) × (refused.parts ≡ D.parts) × (refused.parts ≡ 1) ×
+        (D.workers ≡ 1) }
 {
     let (mut state, mut tallies) = SyncState::<String, 7, A, B, C, D>::new(
         alloc, 1, made, lent, changed, refused,
