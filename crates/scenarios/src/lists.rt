@@ -43,22 +43,22 @@ fn assert_lived(rt: &impl Abort, alloc: Global, place: usize, reply: Reply<u32>)
     }
 }
 
-#[test]
-fn a_run_answers_each_call_in_order(rt: HostRuntime) -> Result<(), Fail> {
-    let alloc = rt.alloc();
-    let calls = a_life(alloc)?;
+/// The replies to a list of calls over a new store.
+pub(crate) fn replies_to(rt: &impl Abort, alloc: Global, calls: Vec<Call<u32>>) -> Vec<Reply<u32>> {
     let store: UnsyncStorage<u32> = Store::new(alloc, 7);
     let mut session = Session::new(alloc, store);
     let ran = session.run(calls);
     session.finish();
-    match ran {
-        Ok(replies) => {
-            assert_eq!(rt; replies.len(), 7);
-            for (place, reply) in replies.into_iter().enumerate() {
-                assert_lived(&rt, alloc, place, reply);
-            }
-        }
-        Err(_) => assert!(rt; false, "the calls came back"),
+    ran.map_err(|_| AllocError).expect(rt, "replies")
+}
+
+#[test]
+fn a_run_answers_each_call_in_order(rt: HostRuntime) -> Result<(), Fail> {
+    let alloc = rt.alloc();
+    let replies = replies_to(&rt, alloc, a_life(alloc)?);
+    assert_eq!(rt; replies.len(), 7);
+    for (place, reply) in replies.into_iter().enumerate() {
+        assert_lived(&rt, alloc, place, reply);
     }
     Ok(())
 }

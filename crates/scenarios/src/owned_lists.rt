@@ -1,7 +1,7 @@
 //! Sessions: calls of owners, and questions about boxes.
 
 use crate::expected::{assert_shows, borrowed, dropped, leak, made, made_later, read};
-use crate::lists::call;
+use crate::lists::{call, replies_to};
 use generational_box::{
     BorrowError, BorrowMutError, BoxAt, Call, Location, Numbers, Refused, Reply, Session, Store,
     StoreError, UnsyncStorage,
@@ -59,19 +59,10 @@ fn assert_owned(rt: &impl Abort, alloc: Global, place: usize, reply: Reply<u32>)
 #[test]
 fn an_owners_boxes_end_with_its_last_value(rt: HostRuntime) -> Result<(), Fail> {
     let alloc = rt.alloc();
-    let calls = owners_life(alloc)?;
-    let store: UnsyncStorage<u32> = Store::new(alloc, 7);
-    let mut session = Session::new(alloc, store);
-    let ran = session.run(calls);
-    session.finish();
-    match ran {
-        Ok(replies) => {
-            assert_eq!(rt; replies.len(), 11);
-            for (place, reply) in replies.into_iter().enumerate() {
-                assert_owned(&rt, alloc, place, reply);
-            }
-        }
-        Err(_) => assert!(rt; false, "the calls came back"),
+    let replies = replies_to(&rt, alloc, owners_life(alloc)?);
+    assert_eq!(rt; replies.len(), 11);
+    for (place, reply) in replies.into_iter().enumerate() {
+        assert_owned(&rt, alloc, place, reply);
     }
     Ok(())
 }
@@ -210,11 +201,7 @@ fn questions_about_boxes(rt: HostRuntime) -> Result<(), Fail> {
         Call::CreatedAt(BoxAt::Foreign(same_number)),
         Call::PtrEq(BoxAt::Place(0), BoxAt::Foreign(same_number)),
     ]?;
-    let store: UnsyncStorage<u32> = Store::new(alloc, 7);
-    let mut session = Session::new(alloc, store);
-    let ran = session.run(calls);
-    session.finish();
-    let replies = ran.map_err(|_| AllocError)?;
+    let replies = replies_to(&rt, alloc, calls);
     assert_eq!(rt; replies.len(), 18);
     for (place, reply) in replies.into_iter().enumerate() {
         assert_told(&rt, alloc, place, reply);
