@@ -47,6 +47,29 @@ fn slots_are_used_again(rt: HostRuntime) {
     assert_shows(&rt, alloc, &third, "2@1");
 }
 
+// An owner's boxes end from the first to the last: so the slot of the last one is taken first.
+#[test]
+fn an_owners_slots_are_freed_in_order(rt: HostRuntime) {
+    let alloc = rt.alloc();
+    let mut store: UnsyncStorage<u32> = Store::new(alloc, 7);
+    let owner = store.owner().expect(&rt, "an owner");
+    for value in 0..3 {
+        let inserted = owner.insert(&mut store, value, made());
+        inserted.map_err(|refusal| refusal.cause).expect(&rt, "a box");
+    }
+    match owner.release(&mut store) {
+        Ok(()) => {}
+        Err((owner, refused)) => {
+            owner.leak();
+            assert_eq!(rt; Err(refused), Ok(()));
+        }
+    }
+    for name in ["2@2", "1@2", "0@2"] {
+        let next = leak(&rt, &mut store, 4, made_later());
+        assert_shows(&rt, alloc, &next, name);
+    }
+}
+
 // A box is copied freely and keeps nothing alive: each copy reads the value, each tells that it is
 // gone, and none ends the value that has the slot by then.
 #[test]
