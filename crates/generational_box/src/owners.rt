@@ -177,10 +177,13 @@ pub(crate) fn list_for(
     owner: Option<&Owner>,
     name: CellName,
 ) -> Result<(), StoreError>
-    ensures known { OnOk result (knows_any number (owners_of owners.old) (option_copied owner.entry) ≡ true) }
-    ensures ok { OnOk result (owners_of owners.new ≡ listed_in (owners_of owners.old) (option_copied owner.entry) (name_seen name)) }
+    ensures known { OnOk result
+        (knows_any number (owners_of owners.old) (option_copied owner.entry) ≡ true) }
+    ensures ok { OnOk result (owners_of owners.new
+        ≡ listed_in (owners_of owners.old) (option_copied owner.entry) (name_seen name)) }
     ensures err { OnErr result (owners_of owners.new ≡ owners_of owners.old) }
-    ensures refused { IfErr result (λ cause. IsRefusal number (owners_of owners.old) (option_copied owner.entry) cause) }
+    ensures refused { IfErr result
+        (λ cause. IsRefusal number (owners_of owners.old) (option_copied owner.entry) cause) }
 {
     match owner {
         None => Ok(()),
@@ -196,9 +199,11 @@ fn list(
     name: CellName,
 ) -> Result<(), StoreError>
     ensures known { OnOk result (knows number (owners_of owners.old) owner.now ≡ true) }
-    ensures ok { OnOk result (owners_of owners.new ≡ changed (owners_of owners.old) owner.now.key (one_listed (name_seen name))) }
+    ensures ok { OnOk result (owners_of owners.new
+        ≡ changed (owners_of owners.old) owner.now.key (one_listed (name_seen name))) }
     ensures err { OnErr result (owners_of owners.new ≡ owners_of owners.old) }
-    ensures refused { IfErr result (λ cause. IsRefusal number (owners_of owners.old) (Some owner.now) cause) }
+    ensures refused { IfErr result
+        (λ cause. IsRefusal number (owners_of owners.old) (Some owner.now) cause) }
 {
     if owner.store() != number {
         return Err(StoreError::UnknownOwner);
@@ -215,7 +220,8 @@ fn list(
 // Why a making is refused for which there is no memory: its owner, if it has one, may be unknown.
 #[inline(always)]
 pub(crate) fn lacking(owners: &OwnerRecords, number: u64, owner: Option<&Owner>) -> StoreError
-    ensures { result ≡ (if knows_any number (owners_of owners.now) (option_copied owner.entry) then OutOfMemory else UnknownOwner) }
+    ensures { result ≡ (if knows_any number (owners_of owners.now) (option_copied owner.entry)
+        then OutOfMemory else UnknownOwner) }
 {
     match owner {
         None => StoreError::OutOfMemory,
@@ -227,7 +233,8 @@ pub(crate) fn lacking(owners: &OwnerRecords, number: u64, owner: Option<&Owner>)
 #[cold]
 #[inline(never)]
 fn lacking_for(owners: &OwnerRecords, number: u64, owner: &Owner) -> StoreError
-    ensures { result ≡ (if knows number (owners_of owners.now) owner.now then OutOfMemory else UnknownOwner) }
+    ensures { result
+        ≡ (if knows number (owners_of owners.now) owner.now then OutOfMemory else UnknownOwner) }
 {
     if is_known(owners, number, owner) {
         StoreError::OutOfMemory

@@ -344,7 +344,8 @@ fn end_cell<T: Drop>(slots: &mut Vec<StorageEntry<T>>, slot: usize)
 #[inline(always)]
 fn next_generation<T>(slots: &Vec<StorageEntry<T>>, slot: usize) -> u64
     requires within { slot < vec_len slots.now }
-    requires below { IfSome (slice_get slots.now.items slot) (λ entry. entry.generation < 18446744073709551615) }
+    requires below { IfSome (slice_get slots.now.items slot)
+        (λ entry. entry.generation < 18446744073709551615) }
     ensures { IfSome (slice_get slots.now.items slot) (λ entry. result ≡ entry.generation + 1) }
 {
     slots[slot].generation() + 1
