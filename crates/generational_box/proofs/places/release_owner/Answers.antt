@@ -1,4 +1,4 @@
-use Rattle.std.proofs.Common.{ap, ◌∙◌, slice_set}
+use Rattle.std.proofs.Common.{◌≡◌, ap, ◌∙◌, slice_set}
 use Rattle.generational_box.specs.declared.places.Thing.TheVariants as thing
 use Rattle.generational_box.proofs.SessionCalls.{owner_released, owner_kept}
 use Rattle.generational_box.proofs.places.release_owner.Goals as goal
