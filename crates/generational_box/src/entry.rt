@@ -27,7 +27,7 @@ pub(crate) struct StorageEntry<T> {
     generation: u64,
     // where the last cell was made
     created_at: Location,
-    data: StorageEntryData<T>,
+    content: StorageEntryData<T>,
 }
 
 /// A live cell's value with its readers, or its writer while the value is lent; or nothing.
@@ -44,7 +44,7 @@ impl<T> Model for StorageEntry<T> {
     ghost Value = { Entry T };
 
     ghost view = { λ e.
-        record { generation = e.generation; kept = kept_data e.created_at e.data } };
+        record { generation = e.generation; kept = kept_data e.created_at e.content } };
 }
 
 impl<T> StorageEntry<T> {
@@ -68,7 +68,7 @@ impl<T> StorageEntry<T> {
         StorageEntry {
             generation,
             created_at: location,
-            data: StorageEntryData::Data(value, Readers::new()),
+            content: StorageEntryData::Data(value, Readers::new()),
         }
     }
 
@@ -86,7 +86,7 @@ impl<T> StorageEntry<T> {
         ensures { result ≡ valid_at generation self.now }
     {
         // an arm for each content: what is learnt here isn't asked again
-        match &self.data {
+        match &self.content {
             StorageEntryData::Data(_, _) => self.generation == generation,
             StorageEntryData::Lent(_) => self.generation == generation,
             StorageEntryData::Empty => false,
@@ -99,7 +99,7 @@ impl<T> StorageEntry<T> {
         ensures { option_map (λ e. BeingWritten e.borrowed_mut_at) result ≡ read_refusal
             (content_in self.now.kept) }
     {
-        match &self.data {
+        match &self.content {
             StorageEntryData::Data(_, _) | StorageEntryData::Empty => None,
             StorageEntryData::Lent(writer) => {
                 Some(AlreadyBorrowedMutError::new(writer.location))
@@ -112,7 +112,7 @@ impl<T> StorageEntry<T> {
     pub(crate) fn is_unborrowed(&self) -> bool
         ensures { result ≡ is_none (write_refusal (content_in self.now.kept)) }
     {
-        match &self.data {
+        match &self.content {
             StorageEntryData::Data(_, readers) => readers.is_empty(),
             StorageEntryData::Empty => true,
             StorageEntryData::Lent(_) => false,
@@ -124,7 +124,7 @@ impl<T> StorageEntry<T> {
     pub(crate) fn borrow_mut_error(&self, alloc: Global) -> BorrowMutResult<()>
         ensures { FoundBorrowed (write_refusal (content_in self.now.kept)) result }
     {
-        match &self.data {
+        match &self.content {
             StorageEntryData::Data(_, readers) => {
                 if readers.is_empty() {
                     return Ok(());
@@ -145,7 +145,7 @@ impl<T> StorageEntry<T> {
         ensures err { OnErr result (self.new ≡ self.old) }
         ensures first { OnErr result (has_readers (content_in self.old.kept) ≡ true) }
     {
-        match &mut self.data {
+        match &mut self.content {
             StorageEntryData::Data(_, readers) => readers.push(alloc, borrow),
             _ => Ok(()),
         }
@@ -157,7 +157,7 @@ impl<T> StorageEntry<T> {
         ensures known { result ≡ has_reader (content_in self.old.kept) ticket }
         ensures after { self.new ≡ record self.old { kept = without_reader_in ticket self.old.kept } }
     {
-        match &mut self.data {
+        match &mut self.content {
             StorageEntryData::Data(_, readers) => readers.remove(ticket),
             _ => false,
         }
@@ -168,7 +168,7 @@ impl<T> StorageEntry<T> {
     pub(crate) fn open(&self, ticket: u64) -> Option<&T>
         ensures { option_copied result ≡ value_for ticket (content_in self.now.kept) }
     {
-        match &self.data {
+        match &self.content {
             StorageEntryData::Data(value, readers) if readers.contains(ticket) => Some(value),
             _ => None,
         }
@@ -181,7 +181,7 @@ impl<T> StorageEntry<T> {
         T: Drop,
         ensures { self.new ≡ record self.old { kept = Empty } }
     {
-        self.data = StorageEntryData::Empty;
+        self.content = StorageEntryData::Empty;
     }
 
     // Puts a cell into a slot that has none, under the next generation, which is answered.
@@ -196,7 +196,7 @@ impl<T> StorageEntry<T> {
     {
         self.generation += 1;
         self.created_at = location;
-        self.data = StorageEntryData::Data(value, Readers::new());
+        self.content = StorageEntryData::Data(value, Readers::new());
         self.generation
     }
 
@@ -209,7 +209,7 @@ impl<T> StorageEntry<T> {
         ensures value { content_in self.old.kept ≡ Some (Here result []) }
         ensures after { self.new ≡ record self.old { kept = lent_to writer self.old.kept } }
     {
-        match mem::replace(&mut self.data, StorageEntryData::Lent(writer)) {
+        match mem::replace(&mut self.content, StorageEntryData::Lent(writer)) {
             StorageEntryData::Data(value, _) => value,
             _ => unreachable!(),
         }
@@ -227,9 +227,9 @@ impl<T> StorageEntry<T> {
             { kept = with_value value self.old.kept }) }
         ensures err { IfErr result (λ back. (back ≡ value) × (self.new ≡ self.old)) }
     {
-        match &self.data {
+        match &self.content {
             StorageEntryData::Lent(writer) if writer.ticket == ticket => {
-                self.data = StorageEntryData::Data(value, Readers::new());
+                self.content = StorageEntryData::Data(value, Readers::new());
                 Ok(())
             }
             _ => Err(value),
