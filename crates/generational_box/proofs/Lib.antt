@@ -52,6 +52,7 @@ pub mod RowsTurning
 pub mod SameIds
 pub mod Saying
 pub mod SessionCalls
+pub mod SessionReleases
 pub mod Sessions
 pub mod Sizes
 pub mod SliceGet

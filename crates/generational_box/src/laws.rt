@@ -11,7 +11,8 @@ ghost use Rattle.generational_box.specs.State.{fresh};
 ghost use Rattle.generational_box.specs.Boxes.{name_of, has_same_id};
 ghost use Rattle.generational_box.specs.Borrowing.{read_trouble, write_trouble};
 ghost use Rattle.generational_box.specs.Borrowing.Trouble.{Dropped};
-ghost use Rattle.generational_box.specs.Machine.{Action, Answer, Fresh, OwnerName, act, is_known};
+ghost use Rattle.generational_box.specs.Machine.{Action, Answer, Fresh, OwnerName, act, holding};
+ghost use Rattle.generational_box.specs.Machine.{is_known};
 ghost use Rattle.generational_box.specs.Machine.Action.{ReleaseOwner, LeakOwner};
 ghost use Rattle.generational_box.specs.Machine.Answer.{Done};
 ghost use Rattle.generational_box.specs.Records.{one_less};
@@ -20,8 +21,10 @@ ghost use Rattle.generational_box.specs.Steps.{Meets};
 ghost use Rattle.generational_box.specs.Slots.{slots, retired};
 ghost use Rattle.generational_box.specs.Bounds.{IsBounded};
 ghost use Rattle.generational_box.specs.declared.calls.Call.{Call};
+ghost use Rattle.generational_box.specs.declared.calls.Call.TheVariants as call;
 ghost use Rattle.generational_box.specs.Session.{SessionState, Said, SessionStep, Run, held};
 ghost use Rattle.generational_box.specs.Session.Held.{Owning};
+ghost use Rattle.generational_box.specs.Session.Said.{IsDone};
 ghost use Rattle.generational_box.specs.Holding.{IsKept};
 ghost use Rattle.generational_box.specs.Keeping.{Sets, IsUnwritten, IsUndisturbed, Undisturbed};
 ghost use Rattle.generational_box.specs.Keeping.{value_at, location_at};
@@ -58,7 +61,8 @@ pub fn shared_values_live_by_references<T>()
 /// The last release of an owner ends all boxes of its list, and then the shared values that no
 /// live Ref names any more. Nothing else ends or changes, and only the owner's record goes. A
 /// release that isn't the last takes away one owner value and ends nothing. A release that is
-/// refused changes nothing, nor does a leak.
+/// refused changes nothing, nor does a leak. In a session, an owner's release that is answered
+/// `Done` is such a release.
 pub fn owners_last_release_ends_its_boxes<T>()
     ensures boxes { (S R : State T) (o : OwnerName) (h : Holding) (n : Name) →
         IsSound S → IsReleased S o h R → h.count ≤ 1 →
@@ -89,6 +93,9 @@ pub fn owners_last_release_ends_its_boxes<T>()
         Meets S (ReleaseOwner o) answer R → answer ≢ Done → R ≡ S }
     ensures leak { (S R : State T) (o : OwnerName) (answer : Answer T) →
         Meets S (LeakOwner o) answer R → R ≡ S }
+    ensures session { (s r : SessionState T) (p : ℕ) (o : OwnerName) (h : Holding) →
+        SessionStep s (call.ReleaseOwner p) IsDone r → held s.table p ≡ Owning o →
+        holding s.state o ≡ Some h → IsReleased s.state o h r.state }
 {}
 
 /// The slots of a store are never more than the most cells that were live at once and the slots

@@ -6,6 +6,7 @@ use Rattle.generational_box.proofs.Releasing.{listed_boxed, last_cells, earlier_
 use Rattle.generational_box.proofs.Releasing.{earlier_record}
 use Rattle.generational_box.proofs.Releasing.{other_records, rest_stays, refused_release}
 use Rattle.generational_box.proofs.Releasing.{leak_changes_nothing}
+use Rattle.generational_box.proofs.SessionReleases.{session_released}
 use Rattle.generational_box.proofs.laws.owners_last_release_ends_its_boxes.Goals as goal
 
 pub returns-clause-boxes : goal.returns-clause-boxes
@@ -49,3 +50,6 @@ returns-clause-refused g c = λ S R o answer m other. refused_release S R o answ
 
 pub returns-clause-leak : goal.returns-clause-leak
 returns-clause-leak g c = λ S R o answer m. leak_changes_nothing S R o answer m
+
+pub returns-clause-session : goal.returns-clause-session
+returns-clause-session g c = session_released
