@@ -55,7 +55,9 @@ fn an_owners_slots_are_freed_in_order(rt: HostRuntime) {
     let owner = store.owner().expect(&rt, "an owner");
     for value in 0..3 {
         let inserted = owner.insert(&mut store, value, made());
-        inserted.map_err(|refusal| refusal.cause).expect(&rt, "a box");
+        inserted
+            .map_err(|refusal| refusal.cause)
+            .expect(&rt, "a box");
     }
     match owner.release(&mut store) {
         Ok(()) => {}

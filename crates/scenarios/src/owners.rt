@@ -48,6 +48,21 @@ fn a_box_outlives_a_leaked_owner(rt: HostRuntime) -> Result<(), Fail> {
     Ok(())
 }
 
+// Owners that come and go leave no record behind, also where several are held at once.
+#[test]
+fn released_owners_leave_no_record(rt: HostRuntime) {
+    let mut store: UnsyncStorage<u32> = Store::new(rt.alloc(), 7);
+    for _ in 0..500 {
+        let first = new_owner(&rt, &mut store);
+        let second = new_owner(&rt, &mut store);
+        assert!(rt; !store.is_fresh());
+        release(&rt, &mut store, first);
+        release(&rt, &mut store, second);
+        assert!(rt; store.is_fresh());
+    }
+    assert_eq!(rt; store.tickets_left(), u64::MAX - 1000);
+}
+
 // A box of the first owner has the slot of a box of the second. It is gone all the same, and can't
 // disturb the other one's writer.
 #[test]
