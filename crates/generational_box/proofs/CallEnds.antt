@@ -5,7 +5,9 @@ use Rattle.std.specs.Prelude.{is_some, not, nat_eq, ◌||◌}
 use Rattle.std.proofs.lemmas.Bool.{false≢true}
 use Rattle.std.specs.FinMap as map
 use Rattle.generational_box.specs.declared.error.Location.{Location}
-use Rattle.generational_box.specs.declared.error.StoreError.TheVariants.{OutOfMemory, NumbersExhausted, UnknownOwner}
+use Rattle.generational_box.specs.declared.error.StoreError.TheVariants.{OutOfMemory}
+use Rattle.generational_box.specs.declared.error.StoreError.TheVariants.{NumbersExhausted}
+use Rattle.generational_box.specs.declared.error.StoreError.TheVariants.{UnknownOwner}
 use Rattle.generational_box.specs.declared.error.BorrowMutError.{BorrowMutError}
 use Rattle.generational_box.specs.declared.error.Refused.{Refused}
 use Rattle.generational_box.specs.declared.error.Refused.TheVariants as refused
@@ -17,7 +19,8 @@ use Rattle.generational_box.specs.Boxes.{name_of}
 use Rattle.generational_box.specs.State.{State, is_named}
 use Rattle.generational_box.specs.Borrowing.{Trouble, write_refusal}
 use Rattle.generational_box.specs.Borrowing.Trouble.{Dropped, BeingRead, BeingWritten}
-use Rattle.generational_box.specs.Ending.{swept, without, left_by, close, hindered, hindrance_of, or_else}
+use Rattle.generational_box.specs.Ending.{swept, without, left_by, close, hindered, hindrance_of}
+use Rattle.generational_box.specs.Ending.{or_else}
 use Rattle.generational_box.specs.Machine.{Outcome, act, own_name, unless}
 use Rattle.generational_box.specs.Machine.Action.{End}
 use Rattle.generational_box.specs.Machine.Answer.{Done, Troubled, Refused as refuses}
@@ -26,7 +29,8 @@ use Rattle.generational_box.specs.Entry.{IsBeingRead, FoundBorrowed, Kept, conte
 use Rattle.generational_box.specs.Entry.Kept.{Empty, Live}
 use Rattle.generational_box.specs.Answers.{trouble_of, end_refused}
 use Rattle.generational_box.specs.Slotted.{own_cell_at, cell_of, OnlyValues}
-use Rattle.generational_box.proofs.Maps.{by_name, name_exact, name_total, name_same, get-keep, get-remove_here}
+use Rattle.generational_box.proofs.Maps.{by_name, name_exact, name_total, name_same, get-keep}
+use Rattle.generational_box.proofs.Maps.{get-remove_here}
 
 module _ {T : Type 0} (S : State T) (values : OnlyValues S) where
   without_get : (names : List Name) (q : Name)

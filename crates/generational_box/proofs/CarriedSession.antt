@@ -21,7 +21,8 @@ use Rattle.generational_box.specs.Machine.Answer.{Troubled, Refused}
 use Rattle.generational_box.specs.Carrying.{KnowsBox, KnowsGuard, KnowsCall, KnowsAnswer, moved_box}
 use Rattle.generational_box.specs.Carrying.{moved_guard, moved_owner, moved_action, moved_answer}
 use Rattle.generational_box.specs.Session.{Held, SessionState, Said, Asked, held, box_held, box_in}
-use Rattle.generational_box.specs.Session.{owner_held, owner_in, with_box, with_owner, told, released}
+use Rattle.generational_box.specs.Session.{owner_held, owner_in, with_box, with_owner, told}
+use Rattle.generational_box.specs.Session.{released}
 use Rattle.generational_box.specs.Session.{asked, said, gives, spent, settled}
 use Rattle.generational_box.specs.Session.{placed, replaced, swapped}
 use Rattle.generational_box.specs.Session.Held.{Boxed, Reading, Writing, Owning, Nothing}

@@ -1,21 +1,28 @@
 -- The calls of owners, as steps of the machine.
-use Rattle.std.proofs.Common.{◌≡◌, ℕ, ◌+◌, ◌-◌, ◌^◌, ◌<◌, ◌≤◌, Bool, true, false, cond, ◌&&◌, List, []}
+use Rattle.std.proofs.Common.{◌≡◌, ℕ, ◌+◌, ◌-◌, ◌^◌, ◌<◌, ◌≤◌, Bool, true, false, cond, ◌&&◌, List}
+use Rattle.std.proofs.Common.{[]}
 use Rattle.std.proofs.Common.{Option, None, Some, Err, refl, sym, ap, subst, ◌∙◌, arith, inl, inr}
 use Rattle.std.specs.Prelude.{is_some, not, nat_eq, nat_lt}
-use Rattle.std.proofs.lemmas.Bool.{eq-eqb, eqb-true, ne_eqb, lt-ltb, le-ltb, and_parts, false≢true, true≢false}
+use Rattle.std.proofs.lemmas.Bool.{eq-eqb, eqb-true, ne_eqb, lt-ltb, le-ltb, and_parts, false≢true}
+use Rattle.std.proofs.lemmas.Bool.{true≢false}
 use Rattle.std.specs.FinMap as map
 use Rattle.generational_box.specs.declared.error.Location.{Location}
 use Rattle.generational_box.specs.declared.error.StoreError.{StoreError}
-use Rattle.generational_box.specs.declared.error.StoreError.TheVariants.{OutOfMemory, NumbersExhausted, UnknownOwner}
+use Rattle.generational_box.specs.declared.error.StoreError.TheVariants.{OutOfMemory}
+use Rattle.generational_box.specs.declared.error.StoreError.TheVariants.{NumbersExhausted}
+use Rattle.generational_box.specs.declared.error.StoreError.TheVariants.{UnknownOwner}
 use Rattle.generational_box.specs.declared.boxes.GenerationalPointer.{GenerationalPointer}
 use Rattle.generational_box.specs.Names.{Name, changed}
 use Rattle.generational_box.specs.Boxes.{name_of, box_of}
 use Rattle.generational_box.specs.State.{State, Holding, Owners}
-use Rattle.generational_box.specs.Machine.{OwnerName, Answer, act, make_value, holding, is_known, listed, with_owner, cloned, let_go, unless}
+use Rattle.generational_box.specs.Machine.{OwnerName, Answer, act, make_value, holding, is_known}
+use Rattle.generational_box.specs.Machine.{listed, with_owner, cloned, let_go, unless}
 use Rattle.generational_box.specs.Machine.Action.{Make, NewOwner, CloneOwner, ReleaseOwner}
 use Rattle.generational_box.specs.Machine.Answer.{Made, Owned, Done, Refused}
 use Rattle.generational_box.specs.Steps.{Meets, limited, no_names, may_lack, is_made, is_being_read}
-use Rattle.generational_box.specs.Records.{knows, knows_any, listed_in, one_more, one_less, names_in, names_under, first_borrowed, count_in, count_under, IsRefusal}
+use Rattle.generational_box.specs.Records.{knows, knows_any, listed_in, one_more, one_less}
+use Rattle.generational_box.specs.Records.{names_in, names_under, first_borrowed, count_in}
+use Rattle.generational_box.specs.Records.{count_under, IsRefusal}
 use Rattle.generational_box.specs.Entry.{Entry}
 use Rattle.generational_box.specs.Slotted.{state_of}
 use Rattle.generational_box.specs.declared.error.Refused.{Refused as Refusing}

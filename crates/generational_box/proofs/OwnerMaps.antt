@@ -1,5 +1,7 @@
 -- The records of owners, read at a key.
-use Rattle.std.proofs.Common.{◌≡◌, ◌≢◌, ◌⊎◌, inl, inr, ℕ, ◌+◌, ◌<◌, Bool, true, false, cond, List, [], ◌∷◌, Option, None, Some, IfSome, IsSome, arith, refl, sym, ap, subst, ◌∙◌}
+use Rattle.std.proofs.Common.{◌≡◌, ◌≢◌, ◌⊎◌, inl, inr, ℕ, ◌+◌, ◌<◌, Bool, true, false, cond, List}
+use Rattle.std.proofs.Common.{[], ◌∷◌, Option, None, Some, IfSome, IsSome, arith, refl, sym, ap}
+use Rattle.std.proofs.Common.{subst, ◌∙◌}
 use Rattle.std.specs.Prelude.{is_some, option_map, map as list_map}
 use Rattle.std.proofs.Common.{Ordering}
 use Rattle.std.specs.Ordering.{nat_cmp, eq_by_cmp, is_eq}
@@ -14,9 +16,13 @@ use Rattle.std.specs.Map.{lookup}
 use Rattle.generational_box.specs.declared.owners.OwnerRecord.{OwnerRecord}
 use Rattle.generational_box.specs.Names.{Name, changed, changed_if}
 use Rattle.generational_box.specs.State.{Holding, Owners}
-use Rattle.generational_box.specs.Records.{owners_of, holding_of, one_more, one_less, one_listed, count_in, count_under, listed_in, knows, AreCounted, IsCounted}
+use Rattle.generational_box.specs.Records.{owners_of, holding_of, one_more, one_less, one_listed}
+use Rattle.generational_box.specs.Records.{count_in, count_under, listed_in, knows, AreCounted}
+use Rattle.generational_box.specs.Records.{IsCounted}
 use Rattle.generational_box.specs.Machine.{OwnerName}
-use Rattle.generational_box.proofs.Maps.{by_number, key_here, key_cases, changed_there, insert_there, get-insert_here, get-insert_apart, get-remove_here, get-remove_apart}
+use Rattle.generational_box.proofs.Maps.{by_number, key_here, key_cases, changed_there}
+use Rattle.generational_box.proofs.Maps.{insert_there, get-insert_here, get-insert_apart}
+use Rattle.generational_box.proofs.Maps.{get-remove_here, get-remove_apart}
 
 -- the order of the records, and a key in it
 abbrev pub newest_first : Reverse ℕ → Reverse ℕ → Ordering

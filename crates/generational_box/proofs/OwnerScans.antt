@@ -1,11 +1,14 @@
 -- The boxes of an owner, looked at in turn.
-use Rattle.std.proofs.Common.{◌≡◌, ℕ, ◌+◌, ◌<◌, zero, suc, List, [], ◌∷◌, length, drop, slice_index_or, Option, None, Some, Err, refl, sym, ap, ◌∙◌, arith}
+use Rattle.std.proofs.Common.{◌≡◌, ℕ, ◌+◌, ◌<◌, zero, suc, List, [], ◌∷◌, length, drop}
+use Rattle.std.proofs.Common.{slice_index_or, Option, None, Some, Err, refl, sym, ap, ◌∙◌, arith}
 use Rattle.std.specs.Prelude.{map as list_map, slice_get}
 use Rattle.std.specs.FinMap as map
 use Rattle.generational_box.specs.declared.error.Refused.{Refused}
 use Rattle.generational_box.specs.declared.error.Refused.TheVariants as refused
 use Rattle.generational_box.specs.declared.error.BorrowMutError.{BorrowMutError}
-use Rattle.generational_box.specs.declared.error.StoreError.TheVariants.{OutOfMemory, NumbersExhausted, UnknownOwner}
+use Rattle.generational_box.specs.declared.error.StoreError.TheVariants.{OutOfMemory}
+use Rattle.generational_box.specs.declared.error.StoreError.TheVariants.{NumbersExhausted}
+use Rattle.generational_box.specs.declared.error.StoreError.TheVariants.{UnknownOwner}
 use Rattle.generational_box.specs.declared.owners.CellName.{CellName}
 use Rattle.generational_box.specs.Names.{Name, NameMap}
 use Rattle.generational_box.specs.Cells.{Cell, content_of}

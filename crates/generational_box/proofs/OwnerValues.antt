@@ -1,6 +1,7 @@
 -- How many owner values each call of the machine gives and spends, beside what the records count.
 use Rattle.std.proofs.Common.{◌≡◌, ◌≢◌, ℕ, ◌+◌, ◌-◌, ◌≤◌, Bool, true, false, cond, []}
-use Rattle.std.proofs.Common.{Option, None, Some, refl, sym, ap, subst, ◌∙◌, inl, inr, ⊎_elim, arith}
+use Rattle.std.proofs.Common.{Option, None, Some, refl, sym, ap, subst, ◌∙◌, inl, inr, ⊎_elim}
+use Rattle.std.proofs.Common.{arith}
 use Rattle.std.specs.Prelude.{nat_eq, nat_lt, is_some, ◌++◌, ◌∷◌, ◌⊎◌}
 use Rattle.std.proofs.lemmas.Bool.{true≢false, eqb-true, ltb-false, false_from_ne_true}
 use Rattle.std.proofs.lemmas.Option.{none-some}
@@ -44,7 +45,8 @@ one_at_most true = omega arith
 one_at_most false = omega arith
 
 -- one key, and the others
-keys_differ : (k key : ℕ) → ((key ≡ k) × (nat_eq k key ≡ true)) ⊎ ((key ≢ k) × (nat_eq k key ≡ false))
+keys_differ : (k key : ℕ)
+    → ((key ≡ k) × (nat_eq k key ≡ true)) ⊎ ((key ≢ k) × (nat_eq k key ≡ false))
 keys_differ k key = ⊎_elim
     (λ e. inl (e, subst (λ j. nat_eq k j ≡ true) (sym e) (nat_eq_equiv.refl k)))
     (λ ne. inr (ne, false_from_ne_true _ (λ t. ne (sym (eqb-true k key t)))))
@@ -65,7 +67,8 @@ module _ {T : Type 0} where
   -- given is of the store.
   pub record Counts (S : State T) (call : Action T) (out : Outcome T) : Type 0 where
     pub counted : (key : ℕ)
-        → count_under S.owners key + gained out.0 key ≤ count_under out.1.owners key + lost call out.0 key
+        → count_under S.owners key + gained out.0 key
+        ≤ count_under out.1.owners key + lost call out.0 key
     pub own : (o : OwnerName) → out.0 ≡ Owned o → o.store ≡ S.number
 
   -- ---- answers that give no owner
@@ -146,7 +149,8 @@ module _ {T : Type 0} where
       → (o.store ≡ S.number) × (map.get S.owners o.key ≡ Some h)
   holding_is S o h is = split (nat_eq o.store S.number) refl is
     where
-      split : (b : Bool) → nat_eq o.store S.number ≡ b → cond b (map.get S.owners o.key) None ≡ Some h
+      split : (b : Bool)
+          → nat_eq o.store S.number ≡ b → cond b (map.get S.owners o.key) None ≡ Some h
           → (o.store ≡ S.number) × (map.get S.owners o.key ≡ Some h)
       split true e there = (eqb-true o.store S.number e, there)
       split false e there = absurd (none-some h there)
@@ -218,7 +222,8 @@ module _ {T : Type 0} where
         counted = λ key. ⊎_elim
             (λ e. subst (λ j. count_under S.owners j + 0
             ≤ count_under left.owners j + lost (ReleaseOwner o) Done j) (sym e.0)
-            (let low : h.count ≤ 1 = ltb-false 1 h.count few in let w = was in let u = one in omega arith))
+            (let low : h.count ≤ 1 = ltb-false 1 h.count few in
+            let w = was in let u = one in omega arith))
             (λ e. let same : count_under left.owners key ≡ count_under S.owners key =
             ap count_in (get-remove_apart by_number S.owners o.key key e.0) in omega arith)
             (keys_differ o.key key);

@@ -1,6 +1,7 @@
 -- What the code of a session leaves, as a session of the machine.
 use Rattle.std.proofs.Common.{◌≡◌, ℕ, zero, suc, Bool, List, [], ◌∷◌, ◌++◌, reverse, slice_get}
-use Rattle.std.proofs.Common.{slice_set, Some, None, Result, Ok, Err, refl, sym, ap, subst, ◌∙◌, inl}
+use Rattle.std.proofs.Common.{slice_set, Some, None, Result, Ok, Err, refl, sym, ap, subst, ◌∙◌}
+use Rattle.std.proofs.Common.{inl}
 use Rattle.std.proofs.Common.{append_assoc}
 use Rattle.std.specs.Prelude.{map as list_map}
 use Rattle.std.proofs.lemmas.List.{map-append, map-set, reverse-append, reverse-reverse}
@@ -92,7 +93,8 @@ module _ {T : Type 0} where
 
   -- a reader's guard at a place is released
   pub release_gives : (S R : State T) (items after : List (Thing T)) (p : ℕ) (g : Guard)
-      (known : Bool) → slice_get items p ≡ Some (thing.Reader g) → Meets S (ReleaseReader g) (Flag known) R
+      (known : Bool) → slice_get items p ≡ Some (thing.Reader g)
+      → Meets S (ReleaseReader g) (Flag known) R
       → after ≡ slice_set items p thing.Nothing
       → Gives (session_in S items) (call.Release p) IsDone Nothing (session_in R after)
   release_gives S R items after p g known there meets spends =
@@ -154,13 +156,14 @@ module _ {T : Type 0} where
       )
 
   -- its release is refused, and it goes back to its place
-  pub owner_kept : (S R : State T) (items taken after : List (Thing T)) (p : ℕ) (o : OwnerName)
-      (e : Refused BorrowMutError) → slice_get items p ≡ Some (thing.Owner o)
-      → Meets S (ReleaseOwner o) (end_refused e) R
-      → taken ≡ slice_set items p thing.Nothing → after ≡ slice_set taken p (thing.Owner o)
+  pub owner_kept : (S R : State T) (items taken after : List (Thing T)) (p : ℕ)
+      (o back : OwnerName) (e : Refused BorrowMutError)
+      → slice_get items p ≡ Some (thing.Owner o) → Meets S (ReleaseOwner o) (end_refused e) R
+      → taken ≡ slice_set items p thing.Nothing
+      → after ≡ slice_set taken p (thing.Owner back) → back ≡ o
       → Gives (session_in S items) (call.ReleaseOwner p) (refusal_said e) Nothing
       (session_in R after)
-  owner_kept S R items taken after p o e there meets spends puts =
+  owner_kept S R items taken after p o back e there meets spends puts is =
       by_owner S R items after (call.ReleaseOwner p) p o (λ o. Asks (ReleaseOwner o))
       (refusal_said e) there (end_refused e, meets, tells e, gives_none e, stays e)
     where
@@ -176,7 +179,7 @@ module _ {T : Type 0} where
 
       same : list_map thing_held after ≡ list_map thing_held items
       same = ap (list_map thing_held) (puts
-          ∙ (ap (λ xs. slice_set xs p (thing.Owner o)) spends ∙ set_back items p _ _ there))
+          ∙ ((λ i. slice_set (spends i) p (thing.Owner (is i))) ∙ set_back items p _ _ there))
 
       stays : (e : Refused BorrowMutError) → list_map thing_held after
           ≡ spent (call.ReleaseOwner p) (end_refused e) (list_map thing_held items)
@@ -269,7 +272,8 @@ module _ {T : Type 0} where
       ap (λ xs. all_let_go S (list_map thing_held xs)) (reversed_push items rest t e)
       ∙ ap (λ X. all_let_go X (list_map thing_held (reverse rest))) (sym leaves)
 
-  pub let_go_all : {s : SessionState T} (S : State T) (items : List (Thing T)) → session_in S items ≡ s
+  pub let_go_all : {s : SessionState T} (S : State T) (items : List (Thing T))
+      → session_in S items ≡ s
       → (turned : List (Thing T)) → turned ≡ reverse items
       → all_let_go S (list_map thing_held (reverse turned)) ≡ all_let_go s.state s.table
   let_go_all S items view turned e =

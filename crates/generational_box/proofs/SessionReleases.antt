@@ -14,7 +14,8 @@ use Rattle.generational_box.specs.Machine.Action.{ReleaseOwner}
 use Rattle.generational_box.specs.Machine.Answer.{Done, Troubled, Refused}
 use Rattle.generational_box.specs.Steps.{Meets}
 use Rattle.generational_box.specs.Releasing.{IsReleased}
-use Rattle.generational_box.specs.Session.{SessionState, Said, SessionStep, Settles, held, owner_held}
+use Rattle.generational_box.specs.Session.{SessionState, Said, SessionStep, Settles, held}
+use Rattle.generational_box.specs.Session.{owner_held}
 use Rattle.generational_box.specs.Session.{with_owner, said}
 use Rattle.generational_box.specs.Session.Held.{Owning}
 use Rattle.generational_box.specs.Session.Said.{IsDone}

@@ -1,5 +1,6 @@
 -- What stands at an index of a list after a write or a push.
-use Rattle.std.proofs.Common.{◌≡◌, ◌≢◌, ℕ, zero, suc, List, [], ◌∷◌, ◌++◌, length, Some, refl, ap, slice_get, slice_set}
+use Rattle.std.proofs.Common.{◌≡◌, ◌≢◌, ℕ, zero, suc, List, [], ◌∷◌, ◌++◌, length, Some, refl, ap}
+use Rattle.std.proofs.Common.{slice_get, slice_set}
 use Rattle.std.proofs.lemmas.Option.{none-some}
 
 module _ {A : Type 0} where

@@ -1,6 +1,7 @@
 -- What the begin and the end of a read do to the slots.
 use Rattle.std.proofs.Common.{◌≡◌, ◌≢◌, ℕ, ◌+◌, ◌<◌, Bool, true, cond, List, [], ◌∷◌, ◌++◌, length}
-use Rattle.std.proofs.Common.{Option, None, Some, IfSome, refl, sym, ap, subst, ◌∙◌, ⊎_elim, slice_get, slice_set}
+use Rattle.std.proofs.Common.{Option, None, Some, IfSome, refl, sym, ap, subst, ◌∙◌, ⊎_elim}
+use Rattle.std.proofs.Common.{slice_get, slice_set}
 use Rattle.std.specs.Prelude.{is_some, not, nat_eq}
 use Rattle.std.specs.Ordering.{nat_cmp}
 use Rattle.std.specs.List.{filter}
@@ -23,11 +24,13 @@ use Rattle.generational_box.specs.Steps.{has_readers}
 use Rattle.generational_box.specs.Machine.{read_at, has_reader, without_reader}
 use Rattle.generational_box.specs.Entry.{Entry, Kept, with_reader, without_reader_in, content_in}
 use Rattle.generational_box.specs.Entry.Kept.{Live}
-use Rattle.generational_box.specs.Slotted.{cell_of, cells_of, state_of, entry_changed, own_cell_at, is_here, is_reusable, HasBegun, IsSlotted}
+use Rattle.generational_box.specs.Slotted.{cell_of, cells_of, state_of, entry_changed, own_cell_at}
+use Rattle.generational_box.specs.Slotted.{is_here, is_reusable, HasBegun, IsSlotted}
 use Rattle.generational_box.proofs.Maps.{by_name, name_total, changed_there}
 use Rattle.generational_box.proofs.SliceGet.{get-set_same, get-set_other, set-own}
 use Rattle.generational_box.proofs.SlotCells.{get_own, cells-changed}
-use Rattle.generational_box.proofs.SlotFound.{IsFound, found, found_name, found_content, state-filled}
+use Rattle.generational_box.proofs.SlotFound.{IsFound, found, found_name, found_content}
+use Rattle.generational_box.proofs.SlotFound.{state-filled}
 
 module _ {T : Type 0} where
   -- what holds of the slots holds after a change of a cell's content

@@ -1,6 +1,7 @@
 -- What stands at a name in the slots, and what a write to a slot is in the machine's map.
 use Rattle.std.proofs.Common.{◌≡◌, ◌≢◌, ℕ, zero, suc, ◌+◌, ◌<◌, Bool, true, false, cond, ◌&&◌}
-use Rattle.std.proofs.Common.{List, [], ◌∷◌, ◌++◌, length, Option, None, Some, refl, sym, ap, ◌∙◌, arith, ⊎_elim, slice_get, slice_set, inr}
+use Rattle.std.proofs.Common.{List, [], ◌∷◌, ◌++◌, length, Option, None, Some, refl, sym, ap, ◌∙◌}
+use Rattle.std.proofs.Common.{arith, ⊎_elim, slice_get, slice_set, inr}
 use Rattle.std.specs.Prelude.{nat_eq, ◌⊎◌}
 use Rattle.std.specs.Cmp.{both_ways}
 use Rattle.std.proofs.lemmas.Bool.{eqb-true, eq-eqb, ne_eqb, and_parts, and_from, cases_eq}
@@ -12,9 +13,12 @@ use Rattle.generational_box.specs.Cells.{Content, Cell, refilled, is_shared}
 use Rattle.generational_box.specs.Cells.Cell.{Value}
 use Rattle.generational_box.specs.Entry.{Entry, Kept}
 use Rattle.generational_box.specs.Entry.Kept.{Empty, Live}
-use Rattle.generational_box.specs.Slotted.{is_value, cell_of, with_cell, live_from, cells_of, cell_in}
-use Rattle.generational_box.proofs.Maps.{by_name, name_exact, name_total, name_here, name_same, get-insert_name, changed_there}
-use Rattle.generational_box.proofs.SliceGet.{get-set_same, get-set_other, get-push_last, get-push_other}
+use Rattle.generational_box.specs.Slotted.{is_value, cell_of, with_cell, live_from, cells_of}
+use Rattle.generational_box.specs.Slotted.{cell_in}
+use Rattle.generational_box.proofs.Maps.{by_name, name_exact, name_total, name_here, name_same}
+use Rattle.generational_box.proofs.Maps.{get-insert_name, changed_there}
+use Rattle.generational_box.proofs.SliceGet.{get-set_same, get-set_other, get-push_last}
+use Rattle.generational_box.proofs.SliceGet.{get-push_other}
 
 -- two names are the same if both their numbers are
 pub name_test : (a b : Name) → is_name a b ≡ (nat_eq a.slot b.slot && nat_eq a.generation b.generation)

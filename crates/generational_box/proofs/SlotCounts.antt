@@ -1,10 +1,13 @@
 -- How many slots there are, which of them are free, and how many cells are live.
-use Rattle.std.proofs.Common.{◌≡◌, ◌≢◌, ℕ, zero, suc, ◌+◌, ◌-◌, ◌≤◌, Bool, true, false, cond, ◌&&◌, leb}
-use Rattle.std.proofs.Common.{List, [], ◌∷◌, length, Option, None, Some, refl, sym, ap, subst, ◌∙◌, arith, ⊎_elim, inl, inr, slice_get}
+use Rattle.std.proofs.Common.{◌≡◌, ◌≢◌, ℕ, zero, suc, ◌+◌, ◌-◌, ◌≤◌, Bool, true, false, cond, ◌&&◌}
+use Rattle.std.proofs.Common.{leb}
+use Rattle.std.proofs.Common.{List, [], ◌∷◌, length, Option, None, Some, refl, sym, ap, subst, ◌∙◌}
+use Rattle.std.proofs.Common.{arith, ⊎_elim, inl, inr, slice_get}
 use Rattle.std.specs.Prelude.{is_some, not, nat_lt, option_map, unwrap_or}
 use Rattle.std.specs.Ordering.{nat_cmp}
 use Rattle.std.specs.Cmp.{nat_cmp_total}
-use Rattle.std.proofs.lemmas.Bool.{true≢false, and_from, and_parts, leb-true, le-leb, lt-ltb, le-ltb, cases_eq}
+use Rattle.std.proofs.lemmas.Bool.{true≢false, and_from, and_parts, leb-true, le-leb, lt-ltb}
+use Rattle.std.proofs.lemmas.Bool.{le-ltb, cases_eq}
 use Rattle.std.proofs.lemmas.Bool.Decides.{nat_tests}
 use Rattle.std.proofs.lemmas.Option.{slice_get_past, slice_get_within, slice_get_cases}
 use Rattle.std.specs.FinMap as map
@@ -17,8 +20,10 @@ use Rattle.generational_box.specs.Slots.{slots_of, is_free, slots, free, last_na
 use Rattle.generational_box.specs.Steps.{IsNew}
 use Rattle.generational_box.specs.Entry.{Entry, Kept, is_live}
 use Rattle.generational_box.specs.Entry.Kept.{Empty, Live}
-use Rattle.generational_box.specs.Slotted.{cell_of, with_cell, live_from, cells_of, state_of, is_reusable, HasBegun}
-use Rattle.generational_box.proofs.Maps.{by_number, name_total, get-keep, get-remove_here, get-remove_apart}
+use Rattle.generational_box.specs.Slotted.{cell_of, with_cell, live_from, cells_of, state_of}
+use Rattle.generational_box.specs.Slotted.{is_reusable, HasBegun}
+use Rattle.generational_box.proofs.Maps.{by_number, name_total, get-keep, get-remove_here}
+use Rattle.generational_box.proofs.Maps.{get-remove_apart}
 use Rattle.generational_box.proofs.Lasts.{IsIn, IsLast, get_lasts, one_last}
 use Rattle.generational_box.proofs.SlotCells.{get_own, cond_same}
 use Rattle.generational_box.proofs.SlotNames.{get_given}

@@ -14,8 +14,10 @@ use Rattle.generational_box.specs.State.{State, Owners}
 use Rattle.generational_box.specs.Slots.{last_generation}
 use Rattle.generational_box.specs.Entry.{Entry}
 use Rattle.generational_box.specs.Entry.Kept.{Empty}
-use Rattle.generational_box.specs.Slotted.{cell_of, cells_of, state_of, entry_changed, is_reusable, HasBegun, IsSlotted}
-use Rattle.generational_box.proofs.Maps.{by_number, name_total, contains-insert_here, contains-insert_apart}
+use Rattle.generational_box.specs.Slotted.{cell_of, cells_of, state_of, entry_changed, is_reusable}
+use Rattle.generational_box.specs.Slotted.{HasBegun, IsSlotted}
+use Rattle.generational_box.proofs.Maps.{by_number, name_total, contains-insert_here}
+use Rattle.generational_box.proofs.Maps.{contains-insert_apart}
 use Rattle.generational_box.proofs.SliceGet.{get-set_same, get-set_other}
 use Rattle.generational_box.proofs.SlotCells.{get_own, cells-ended}
 use Rattle.generational_box.proofs.SlotNames.{given-set}

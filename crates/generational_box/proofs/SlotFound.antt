@@ -14,7 +14,8 @@ use Rattle.generational_box.specs.State.{State, Owners}
 use Rattle.generational_box.specs.Borrowing.{filled}
 use Rattle.generational_box.specs.Entry.{Entry, Kept, is_live}
 use Rattle.generational_box.specs.Entry.Kept.{Empty, Live}
-use Rattle.generational_box.specs.Slotted.{cell_of, cell_in, cells_of, state_of, entry_in, entry_changed, cell_found, own_cell_at}
+use Rattle.generational_box.specs.Slotted.{cell_of, cell_in, cells_of, state_of, entry_in}
+use Rattle.generational_box.specs.Slotted.{entry_changed, cell_found, own_cell_at}
 use Rattle.generational_box.proofs.SlotCells.{get_cells, get_own, cells-changed}
 use Rattle.generational_box.proofs.SlotNames.{given-set}
 

@@ -26,9 +26,12 @@ use Rattle.generational_box.specs.Slots.{last_generation}
 use Rattle.generational_box.specs.Steps.{Meets, IsNew}
 use Rattle.generational_box.specs.Entry.{Entry, Kept, is_live}
 use Rattle.generational_box.specs.Entry.Kept.{Empty, Live}
-use Rattle.generational_box.specs.Slotted.{cell_of, cells_of, state_of, is_reusable, HasBegun, IsSlotted}
-use Rattle.generational_box.proofs.Maps.{by_number, name_total, key_here, key_apart, contains-insert_here, contains-insert_apart}
-use Rattle.generational_box.proofs.SliceGet.{get-set_same, get-set_other, get-push_last, get-push_other}
+use Rattle.generational_box.specs.Slotted.{cell_of, cells_of, state_of, is_reusable, HasBegun}
+use Rattle.generational_box.specs.Slotted.{IsSlotted}
+use Rattle.generational_box.proofs.Maps.{by_number, name_total, key_here, key_apart}
+use Rattle.generational_box.proofs.Maps.{contains-insert_here, contains-insert_apart}
+use Rattle.generational_box.proofs.SliceGet.{get-set_same, get-set_other, get-push_last}
+use Rattle.generational_box.proofs.SliceGet.{get-push_other}
 use Rattle.generational_box.proofs.SlotCells.{cond_same, get_cells, cells-set, cells-push}
 use Rattle.generational_box.proofs.SlotNames.{given-next, given-push}
 use Rattle.generational_box.proofs.SlotCounts.{new_pushed, new_reused, none_free, live_within}

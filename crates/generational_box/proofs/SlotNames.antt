@@ -1,6 +1,8 @@
 -- Which names were given in the slots, and what a write to a slot gives.
-use Rattle.std.proofs.Common.{◌≡◌, ◌≢◌, ℕ, zero, suc, ◌+◌, ◌-◌, ◌<◌, ◌≤◌, Bool, true, false, ◌&&◌, ◌||◌, leb, ltb}
-use Rattle.std.proofs.Common.{List, [], ◌∷◌, ◌++◌, length, Some, refl, sym, ◌∙◌, arith, ⊎_elim, slice_get, slice_set}
+use Rattle.std.proofs.Common.{◌≡◌, ◌≢◌, ℕ, zero, suc, ◌+◌, ◌-◌, ◌<◌, ◌≤◌, Bool, true, false, ◌&&◌}
+use Rattle.std.proofs.Common.{◌||◌, leb, ltb}
+use Rattle.std.proofs.Common.{List, [], ◌∷◌, ◌++◌, length, Some, refl, sym, ◌∙◌, arith, ⊎_elim}
+use Rattle.std.proofs.Common.{slice_get, slice_set}
 use Rattle.std.specs.Prelude.{nat_eq}
 use Rattle.std.specs.Ordering.{eq_by_cmp}
 use Rattle.std.specs.List.{list_any}
@@ -13,7 +15,8 @@ use Rattle.generational_box.specs.Names.{Name, name_cmp, is_name}
 use Rattle.generational_box.specs.Entry.{Entry, Kept}
 use Rattle.generational_box.specs.Slotted.{names_up, given_from, given_of, given_in}
 use Rattle.generational_box.proofs.Maps.{name_exact, name_total, contains-insert_name}
-use Rattle.generational_box.proofs.SliceGet.{get-set_same, get-set_other, get-push_last, get-push_other}
+use Rattle.generational_box.proofs.SliceGet.{get-set_same, get-set_other, get-push_last}
+use Rattle.generational_box.proofs.SliceGet.{get-push_other}
 use Rattle.generational_box.proofs.SlotCells.{name_test}
 
 none_up : (a : Bool) (from g : ℕ) → false ≡ (a && (leb from g && ltb g (from + 0)))

@@ -10,7 +10,8 @@ use Rattle.generational_box.specs.Names.{Name, name_cmp}
 use Rattle.generational_box.specs.Boxes.{name_in}
 use Rattle.generational_box.specs.State.{State, fresh, IsFresh, Owners}
 use Rattle.generational_box.specs.Entry.{Entry}
-use Rattle.generational_box.specs.Slotted.{cells_of, given_of, state_of, HasBegun, IsSlotted, entry_in, cell_found, own_cell_at, OnlyValues}
+use Rattle.generational_box.specs.Slotted.{cells_of, given_of, state_of, HasBegun, IsSlotted}
+use Rattle.generational_box.specs.Slotted.{entry_in, cell_found, own_cell_at, OnlyValues}
 use Rattle.generational_box.proofs.SlotCells.{get_cells, values_alone}
 use Rattle.generational_box.proofs.SlotNames.{get_given}
 use Rattle.generational_box.proofs.SlotFound.{entry_cell}

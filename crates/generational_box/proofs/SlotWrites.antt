@@ -16,7 +16,8 @@ use Rattle.generational_box.specs.State.{State, Owners}
 use Rattle.generational_box.specs.Borrowing.{content_at, filled}
 use Rattle.generational_box.specs.Machine.{written_at, has_writer}
 use Rattle.generational_box.specs.Entry.{Entry, is_free, lent_to, with_value, content_in}
-use Rattle.generational_box.specs.Slotted.{state_of, entry_changed, own_cell_at, is_unborrowed, IsSlotted}
+use Rattle.generational_box.specs.Slotted.{state_of, entry_changed, own_cell_at, is_unborrowed}
+use Rattle.generational_box.specs.Slotted.{IsSlotted}
 use Rattle.generational_box.proofs.SlotFound.{IsFound, found, state-filled}
 use Rattle.generational_box.proofs.SlotBorrows.{content_seen, own_seen, slotted-filled}
 

@@ -18,7 +18,8 @@ use Rattle.generational_box.specs.Borrowing.Trouble.{Dropped, BeingRead, BeingWr
 use Rattle.generational_box.specs.Writing.{WriteGuard}
 use Rattle.generational_box.specs.declared.error.StoreError.{StoreError}
 use Rattle.generational_box.specs.Machine.{Answer, OwnerName, knows_reader}
-use Rattle.generational_box.specs.Machine.Answer.{Made, Owned, Reads, Writes, Back, Done, Troubled, Refused as refuses}
+use Rattle.generational_box.specs.Machine.Answer.{Made, Owned, Reads, Writes, Back, Done, Troubled}
+use Rattle.generational_box.specs.Machine.Answer.{Refused as refuses}
 
 -- why a read, and why a write or an end, was refused
 abbrev pub read_trouble_of : BorrowError → Trouble

@@ -16,7 +16,8 @@ use Rattle.generational_box.specs.Session.{Held, Said, SessionState, Asked, aske
 use Rattle.generational_box.specs.Session.{spent, swapped}
 use Rattle.generational_box.specs.Session.Asked.{Asks, Tells, Swaps}
 use Rattle.generational_box.specs.Session.Held.{Boxed, Reading, Writing, Owning, Nothing}
-use Rattle.generational_box.specs.Session.Said.{ABox, AnOwner, AReader, AWriter, IsDone, TheOld, Yes}
+use Rattle.generational_box.specs.Session.Said.{ABox, AnOwner, AReader, AWriter, IsDone, TheOld}
+use Rattle.generational_box.specs.Session.Said.{Yes}
 use Rattle.generational_box.specs.Session.Said.{TheId, TheSlot, Created, Error, Lacking, HandedBack}
 use Rattle.generational_box.specs.Session.Said.{NoSuch}
 use Rattle.generational_box.specs.Answers.{trouble_of}

@@ -1,13 +1,15 @@
 -- The records of owners, as the machine sees them.
 use Rattle.std.specs.Prelude.{◌≡◌, Bool, true, false, nat_eq, ◌&&◌, is_some, IsSome}
-use Rattle.std.specs.Prelude.{ℕ, ◌+◌, ◌-◌, ◌<◌, ◌≤◌, Option, None, Some, List, [], ◌∷◌, ◌++◌, map as list_map}
+use Rattle.std.specs.Prelude.{ℕ, ◌+◌, ◌-◌, ◌<◌, ◌≤◌, Option, None, Some, List, [], ◌∷◌, ◌++◌}
+use Rattle.std.specs.Prelude.{map as list_map}
 use Rattle.std.specs.FinMap as map
 use Rattle.std.specs.BTreeMap.{BTreeMap}
 use Rattle.std.specs.declared.cmp.Reverse.{Reverse}
 use Rattle.generational_box.specs.declared.owners.CellName.{CellName}
 use Rattle.generational_box.specs.declared.owners.OwnerRecord.{OwnerRecord}
 use Rattle.generational_box.specs.declared.error.StoreError.{StoreError}
-use Rattle.generational_box.specs.declared.error.StoreError.TheVariants.{UnknownOwner, OutOfMemory, NumbersExhausted}
+use Rattle.generational_box.specs.declared.error.StoreError.TheVariants.{UnknownOwner, OutOfMemory}
+use Rattle.generational_box.specs.declared.error.StoreError.TheVariants.{NumbersExhausted}
 use Rattle.generational_box.specs.Names.{Name, NameMap, changed}
 use Rattle.generational_box.specs.Cells.{Cell, content_of}
 use Rattle.generational_box.specs.Borrowing.{Trouble, write_refusal}

@@ -5,7 +5,8 @@ use Rattle.std.proofs.lemmas.List.{map-append}
 use Rattle.generational_box.specs.declared.owners.OwnerRecord.{OwnerRecord}
 use Rattle.generational_box.specs.Names.{changed}
 use Rattle.generational_box.specs.Records.{owners_of, one_listed, name_seen}
-use Rattle.generational_box.proofs.OwnerMaps.{newest_first, under, owners_written, owners_kept, known_there}
+use Rattle.generational_box.proofs.OwnerMaps.{newest_first, under, owners_written, owners_kept}
+use Rattle.generational_box.proofs.OwnerMaps.{known_there}
 use Rattle.generational_box.proofs.owners.list.Goals as goal
 
 pub returns-in-Ok-clause-known : goal.returns-in-Ok-clause-known

@@ -1,5 +1,3 @@
-use Rattle.std.proofs.Common.{◌≡◌, ap, ◌∙◌, slice_set}
-use Rattle.generational_box.specs.declared.places.Thing.TheVariants as thing
 use Rattle.generational_box.proofs.SessionCalls.{owner_released, owner_kept}
 use Rattle.generational_box.proofs.places.release_owner.Goals as goal
 
@@ -10,10 +8,6 @@ returns-in-Ok-clause-step g c =
 
 pub returns-in-Err-clause-step : goal.returns-in-Err-clause-step
 returns-in-Err-clause-step g c =
-    let taken = c.take_owner.new.things.items in
-    let put : c.put_owner.new.things.items
-    ≡ slice_set taken c.args.place (thing.Owner c.in-Some.owner) = c.put_owner.ensures.put
-    ∙ ap (λ o. slice_set taken c.args.place (thing.Owner o)) c.in-Err.ensures.back in
-    rw c.refusal.ensures (owner_kept _ _ c.args.things.now.items taken _ c.args.place
-    c.in-Some.owner c.in-Err.refused c.in-Some.ensures.there c.in-Err.ensures.step
-    c.in-Some.ensures.taken put)
+    rw c.refusal.ensures (owner_kept _ _ c.args.things.now.items c.take_owner.new.things.items _
+    c.args.place c.in-Some.owner c.in-Err.owner c.in-Err.refused c.in-Some.ensures.there
+    c.in-Err.ensures.step c.in-Some.ensures.taken c.put_owner.ensures.put c.in-Err.ensures.back)

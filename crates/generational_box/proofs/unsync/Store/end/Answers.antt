@@ -1,7 +1,8 @@
 use Rattle.std.proofs.Common.{arith}
 use Rattle.generational_box.proofs.SlotFound.{found}
 use Rattle.generational_box.proofs.SlotBorrows.{found_within}
-use Rattle.generational_box.proofs.SlotEnds.{end_state, some_live, not_pooled, slotted-freed, slotted-retired}
+use Rattle.generational_box.proofs.SlotEnds.{end_state, some_live, not_pooled, slotted-freed}
+use Rattle.generational_box.proofs.SlotEnds.{slotted-retired}
 use Rattle.generational_box.proofs.unsync.Store.end.Goals as goal
 
 pub end_cell-requires : goal.end_cell-requires

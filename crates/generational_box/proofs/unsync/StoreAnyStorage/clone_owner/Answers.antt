@@ -2,7 +2,8 @@ use Rattle.std.proofs.Common.{arith, subst, sym, ◌+◌, ◌∙◌, false, true
 use Rattle.generational_box.specs.Records.{owners_of, AreCounted}
 use Rattle.generational_box.proofs.CallReads.{next_of}
 use Rattle.generational_box.proofs.OwnerMaps.{counted_up}
-use Rattle.generational_box.proofs.OwnerCalls.{known_seen, clone_unknown, clone_exhausted, clone_step}
+use Rattle.generational_box.proofs.OwnerCalls.{known_seen, clone_unknown, clone_exhausted}
+use Rattle.generational_box.proofs.OwnerCalls.{clone_step}
 use Rattle.generational_box.proofs.unsync.StoreAnyStorage.clone_owner.Goals as goal
 
 pub returns-then-not-is_known : goal.returns-then-not-is_known

@@ -1,7 +1,8 @@
 use Rattle.std.proofs.Common.{sym, ap, ◌∙◌}
 use Rattle.std.specs.Prelude.{is_none}
 use Rattle.generational_box.specs.Readiness.{is_ready}
-use Rattle.generational_box.proofs.Readies.{none_map, read_ready, read_ready_gone, end_ready, end_ready_gone}
+use Rattle.generational_box.proofs.Readies.{none_map, read_ready, read_ready_gone, end_ready}
+use Rattle.generational_box.proofs.Readies.{end_ready_gone}
 use Rattle.generational_box.proofs.unsync.StoreAnyStorage.ready.Goals as goal
 
 pub returns-in-Some : goal.returns-in-Some

@@ -4,7 +4,8 @@ use Rattle.generational_box.specs.State.{State}
 use Rattle.generational_box.specs.Records.{owners_of, count_under, AreCounted}
 use Rattle.generational_box.specs.Slotted.{is_value, OnlyValues}
 use Rattle.generational_box.proofs.OwnerMaps.{counted_down}
-use Rattle.generational_box.proofs.OwnerCalls.{known_seen, release_unknown, less_step, last_refused, last_done}
+use Rattle.generational_box.proofs.OwnerCalls.{known_seen, release_unknown, less_step, last_refused}
+use Rattle.generational_box.proofs.OwnerCalls.{last_done}
 use Rattle.generational_box.proofs.SlotCells.{values_all, values_alone}
 use Rattle.generational_box.proofs.unsync.StoreAnyStorage.release_owner.Goals as goal
 

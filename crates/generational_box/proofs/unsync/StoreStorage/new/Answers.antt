@@ -5,7 +5,9 @@ use Rattle.generational_box.specs.Boxes.{box_of, name_of}
 use Rattle.generational_box.specs.Records.{owners_of, AreCounted}
 use Rattle.generational_box.proofs.OwnerMaps.{counted_listed}
 use Rattle.generational_box.proofs.OwnerCalls.{made_step, lacking_step, refused_step}
-use Rattle.generational_box.proofs.SlotMakings.{taken_within, not_left, slotted-back, same_generation, reuse_step, reuse_kept, push_step, push_kept, push_refused}
+use Rattle.generational_box.proofs.SlotMakings.{taken_within, not_left, slotted-back}
+use Rattle.generational_box.proofs.SlotMakings.{same_generation, reuse_step, reuse_kept, push_step}
+use Rattle.generational_box.proofs.SlotMakings.{push_kept, push_refused}
 use Rattle.generational_box.proofs.unsync.StoreStorage.new.Goals as goal
 
 pub put-requires-clause-absent : goal.put-requires-clause-absent

@@ -1,5 +1,6 @@
 use Rattle.std.proofs.Common.{arith}
-use Rattle.generational_box.proofs.CallReads.{read_gone, read_by_kept, exhausted_by_kept, begun_by_kept, lacks_by_kept, next_of}
+use Rattle.generational_box.proofs.CallReads.{read_gone, read_by_kept, exhausted_by_kept}
+use Rattle.generational_box.proofs.CallReads.{begun_by_kept, lacks_by_kept, next_of}
 use Rattle.generational_box.proofs.unsync.StoreStorage.try_read.Goals as goal
 
 pub returns-in-Some-borrow_error : goal.returns-in-Some-borrow_error

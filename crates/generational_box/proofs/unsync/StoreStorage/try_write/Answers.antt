@@ -1,6 +1,7 @@
 use Rattle.std.proofs.Common.{arith}
 use Rattle.generational_box.proofs.CallReads.{next_of}
-use Rattle.generational_box.proofs.CallWrites.{write_gone, write_refused, write_exhausted, write_begins}
+use Rattle.generational_box.proofs.CallWrites.{write_gone, write_refused, write_exhausted}
+use Rattle.generational_box.proofs.CallWrites.{write_begins}
 use Rattle.generational_box.proofs.unsync.StoreStorage.try_write.Goals as goal
 
 pub returns-in-Err : goal.returns-in-Err
