@@ -66,8 +66,10 @@ impl Owner {
     /// Its id was never given before, and it stands at the end of the record's list.
     ///
     /// Refused, in this order: `UnknownOwner`, where the store has no such record; `OutOfMemory`,
-    /// where neither a slot nor the list has room. The value comes back then, and the store stays
-    /// as it was.
+    /// where room for a slot or in the list was refused. The value comes back then, and the store
+    /// stays as it was.
+    ///
+    /// Upstream's `insert_with_caller`: its `insert` takes the caller's location.
     #[inline(always)]
     pub fn insert<T, S: Storage<T>>(
         &self,
