@@ -16,7 +16,7 @@ mod boxes;
 mod calls;
 mod entry;
 mod error;
-mod laws;
+pub mod laws;
 mod owners;
 mod places;
 mod pool;
