@@ -6,7 +6,6 @@ ghost use Rattle.std.specs.Option.{OnSome};
 ghost use Rattle.generational_box.specs.declared.calls.Call.TheVariants as call;
 ghost use Rattle.generational_box.specs.declared.places.Thing.TheVariants as thing;
 ghost use Rattle.generational_box.specs.Boxes.{pointer_of};
-ghost use Rattle.generational_box.specs.State.{State};
 ghost use Rattle.generational_box.specs.Session.{Held, box_in, held, owner_held, let_go_of};
 ghost use Rattle.generational_box.specs.Session.Held.{Nothing};
 ghost use Rattle.generational_box.specs.Places.{thing_held, said_by, refusal_said, session_in};
@@ -49,10 +48,10 @@ pub(crate) fn answer<T: Drop, S: Storage<T>>(
         Call::Owner => owner(store),
         Call::CloneOwner(place) => clone_owner(store, things.as_slice(), place),
         Call::ReleaseOwner(place) => release_owner(store, things, place),
-        Call::LeakOwner(place) => leak_owner(things, place),
+        Call::LeakOwner(place) => leak_owner(store, things, place),
         Call::TryRead(at, location) => try_read(store, things.as_slice(), at, location),
         Call::TryWrite(at, location) => try_write(store, things.as_slice(), at, location),
-        Call::Replace(place, value) => replace(things, place, value),
+        Call::Replace(place, value) => replace(store, things, place, value),
         Call::Release(place) => release(store, things, place),
         Call::ManuallyDrop(at) => manually_drop(store, things.as_slice(), at),
         Call::PtrEq(one, other) => (ptr_eq(store, things.as_slice(), one, other), Thing::Nothing),
@@ -183,10 +182,15 @@ fn release_owner<T, S: Storage<T>>(
     }
 }
 
-// Leaks the owner at a place, whatever the store is.
-fn leak_owner<T>(things: &mut Vec<Thing<T>>, place: usize) -> (Reply<T>, Thing<T>)
-    ensures step { (S : State T) → Gives (session_in S things.old.items) (call.LeakOwner place)
-        (said_by result.0) (thing_held result.1) (session_in S things.new.items) }
+// Leaks the owner at a place. The store isn't asked.
+fn leak_owner<T, S: Storage<T>>(
+    store: &S,
+    things: &mut Vec<Thing<T>>,
+    place: usize,
+) -> (Reply<T>, Thing<T>)
+    ensures step { Gives (session_in (S.state store.now) things.old.items) (call.LeakOwner place)
+        (said_by result.0) (thing_held result.1)
+        (session_in (S.state store.now) things.new.items) }
     ensures len { vec_len things.new ≡ vec_len things.old }
     ensures capacity { vec_capacity things.new ≡ vec_capacity things.old }
 {
@@ -282,11 +286,16 @@ fn try_write<T, S: Storage<T>>(
     }
 }
 
-// Puts another value into the writer at a place, whatever the store is.
-fn replace<T>(things: &mut Vec<Thing<T>>, place: usize, value: T) -> (Reply<T>, Thing<T>)
-    ensures step { (S : State T) → Gives (session_in S things.old.items)
+// Puts another value into the writer at a place. The store isn't asked.
+fn replace<T, S: Storage<T>>(
+    store: &S,
+    things: &mut Vec<Thing<T>>,
+    place: usize,
+    value: T,
+) -> (Reply<T>, Thing<T>)
+    ensures step { Gives (session_in (S.state store.now) things.old.items)
         (call.Replace place value) (said_by result.0) (thing_held result.1)
-        (session_in S things.new.items) }
+        (session_in (S.state store.now) things.new.items) }
     ensures len { vec_len things.new ≡ vec_len things.old }
     ensures capacity { vec_capacity things.new ≡ vec_capacity things.old }
 {

@@ -5,9 +5,9 @@ use Rattle.generational_box.proofs.SessionCalls.{replace_gives}
 use Rattle.generational_box.proofs.places.replace.Goals as goal
 
 pub returns-in-Some-clause-step : goal.returns-in-Some-clause-step
-returns-in-Some-clause-step g c = λ S.
+returns-in-Some-clause-step g c =
     let there : slice_get c.args.things.now.items c.args.place ≡ Some c.in-Some.thing.now =
     grind (arith, common_steps, gets, c.in-Some.ensures) in
-    replace_gives S c.args.things.now.items _ c.args.place c.args.value _
-    c.in-Some.thing.now c.exchange.new.thing there refl c.exchange.ensures.reply
+    replace_gives (g.S.AnyStorage.state c.args.store.now) c.args.things.now.items _ c.args.place
+    c.args.value _ c.in-Some.thing.now c.exchange.new.thing there refl c.exchange.ensures.reply
     c.exchange.ensures.thing

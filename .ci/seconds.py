@@ -1,0 +1,116 @@
+#!/usr/bin/env python3
+"""Runs the gate and prints how many seconds of processor time each part of it took.
+
+    python3 .ci/seconds.py                        runs `rt ci`
+    python3 .ci/seconds.py rt must-fail boxes     runs another command of rt
+
+Parts are a crate's proofs, its tests and each of its edits. The dearest twenty stand first, then
+the sums of the crates. Times are read from /proc five times a second, so a part may lack a fifth
+of a second for each of its processes. What the linker and the tests themselves take isn't counted.
+The exit status is that of the command.
+"""
+import os
+import signal
+import subprocess
+import sys
+import threading
+import time
+
+TICKS = os.sysconf("SC_CLK_TCK")
+PAUSE = 0.2
+DEAREST = 20
+
+
+def read_process(pid, session):
+    """Returns a checking process's key, its seconds, its words and its folder; None if it isn't
+    one of the session's."""
+    try:
+        with open(f"/proc/{pid}/stat", encoding="utf-8", errors="replace") as file:
+            name, fields = file.read().rsplit(")", 1)
+        fields = fields.split()
+        if not name.endswith("(rattle") or int(fields[3]) != session:
+            return None
+        with open(f"/proc/{pid}/cmdline", encoding="utf-8", errors="replace") as file:
+            words = file.read().split("\0")
+        folder = os.readlink(f"/proc/{pid}/cwd")
+    except (OSError, ValueError):
+        return None
+    seconds = (int(fields[11]) + int(fields[12])) / TICKS
+    return (int(fields[19]), pid), seconds, words, folder
+
+
+def watch(session, seen, is_over):
+    """Keeps the greatest time of each process of a session until the command is over."""
+    while not is_over.wait(PAUSE):
+        for pid in filter(str.isdigit, os.listdir("/proc")):
+            found = read_process(pid, session)
+            if found:
+                key, seconds, words, folder = found
+                seen[key] = (max(seconds, seen.get(key, (0,))[0]), words, folder)
+
+
+def edit_names(crate):
+    """The crate's edits in the order in which they are tried."""
+    folder = f"crates/{crate}/must-fail"
+    if not os.path.isdir(folder):
+        return []
+    return sorted(name for name in os.listdir(folder) if name.endswith(".edit"))
+
+
+def part_of(words, folder, rooms):
+    """Which part of the gate a process belongs to: its crate, and what of the crate."""
+    crate = words[words.index("--crate-name") + 1]
+    if "/rt-edit-" in folder:
+        room = rooms.setdefault(crate, {})
+        number = room.setdefault(folder, len(room))
+        names = edit_names(crate)
+        return crate, f"edit {names[number]}" if number < len(names) else "edits: the crate again"
+    return crate, "tests" if "--test" in words else "proofs"
+
+
+def parts_in(seen):
+    """The seconds of each part."""
+    parts, rooms = {}, {}
+    for _, (seconds, words, folder) in sorted(seen.items()):
+        if "--crate-name" in words:
+            part = part_of(words, folder, rooms)
+            parts[part] = parts.get(part, 0) + seconds
+    return parts
+
+
+def report(parts, clock):
+    """Prints the dearest parts, and the sums of the crates."""
+    dearest = sorted(parts.items(), key=lambda item: -item[1])
+    print(f"\nprocessor seconds, the dearest {DEAREST} parts first")
+    for (crate, part), seconds in dearest[:DEAREST]:
+        print(f"{seconds:9.1f}  {crate}: {part}")
+    print(f"\n{'crate':24}{'proofs':>9}{'tests':>9}{'edits':>9}{'in all':>9}")
+    for crate in sorted({crate for crate, _ in parts}):
+        sums = [0.0, 0.0, 0.0]
+        for (name, part), seconds in parts.items():
+            if name == crate:
+                sums[0 if part == "proofs" else 1 if part == "tests" else 2] += seconds
+        print(f"{crate:24}" + "".join(f"{it:9.1f}" for it in [*sums, sum(sums)]))
+    whole = sum(parts.values())
+    print(f"\n{whole:.0f} seconds, {whole / 60:.1f} minutes; {clock / 60:.1f} minutes by the clock")
+
+
+def main(command):
+    seen, is_over = {}, threading.Event()
+    began = time.time()
+    with subprocess.Popen(command, start_new_session=True) as running:
+        watcher = threading.Thread(target=watch, args=(running.pid, seen, is_over))
+        watcher.start()
+        try:
+            status = running.wait()
+        except KeyboardInterrupt:
+            os.killpg(running.pid, signal.SIGTERM)
+            status = running.wait()
+        is_over.set()
+        watcher.join()
+    report(parts_in(seen), time.time() - began)
+    return status
+
+
+if __name__ == "__main__":
+    sys.exit(main(sys.argv[1:] or ["rt", "ci"]))
