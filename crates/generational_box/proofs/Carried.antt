@@ -17,7 +17,9 @@ use Rattle.generational_box.specs.Boxes.{name_of, box_of}
 use Rattle.generational_box.specs.Borrowing.{Trouble, Guard, filled, stamped, reach}
 use Rattle.generational_box.specs.Borrowing.{reached, not_reached, content_at, read_trouble}
 use Rattle.generational_box.specs.Borrowing.{write_trouble, read_refusal, write_refusal}
+use Rattle.generational_box.specs.Borrowing.Trouble.{Dropped}
 use Rattle.generational_box.specs.Machine.{Answer, Outcome, born}
+use Rattle.generational_box.specs.Machine.Answer.{Troubled}
 use Rattle.generational_box.specs.Machine.{unless, found}
 use Rattle.generational_box.specs.Machine.{contents}
 use Rattle.generational_box.specs.Machine.{next_guard}
@@ -166,6 +168,15 @@ module _ {T U : Type 0} {f : Name → Name} {d : ℕ} {g : T → U}
       → KnowsBox Knows A.number b → (moved_box f d A.number b).created_at ≡ b.created_at
   created_moved b k =
       box_cases b k (λ x. x.created_at ≡ b.created_at) (λ own kn. refl) (λ strange. refl)
+
+  -- a box whose value is gone is told its own location in both
+  pub dropped : (b : GenerationalPointer) → KnowsBox Knows A.number b
+      → Alike (
+        Troubled (Dropped (moved_box f d A.number b).created_at),
+        S,
+      ) (Troubled (Dropped b.created_at), A)
+  dropped b k = stays
+      (Troubled (Dropped b.created_at)) (ap (λ l. Troubled (Dropped l)) (created_moved b k)) tt
 
   -- a read is refused alike, and so is a write
   pub read_trouble_moved : (b : GenerationalPointer)
