@@ -47,7 +47,7 @@ use Rattle.generational_box.proofs.NumberedStep.{box_agrees, StepMatches, Knows,
 use Rattle.generational_box.proofs.NumberedStep.{kept_step, settled_step, still_known, made_step}
 use Rattle.generational_box.proofs.NumberedStep.{first, second, one_numbers, two_numbers}
 use Rattle.generational_box.proofs.NumberedStep.{first_at, second_at, first_known, second_known}
-use Rattle.generational_box.proofs.NumberedStep.{with_one, with_two}
+use Rattle.generational_box.proofs.NumberedStep.{with_one, with_two, one_listed, two_listed}
 use Rattle.generational_box.proofs.Sessions.{session_sound}
 
 -- ---- replies that tell no want
@@ -124,13 +124,16 @@ module _ {T : Type 0} {s a : SessionState T} (m : Matches s a) where
 
     -- a call that is no making
     plain_asks : (x : Call T) (action : Action T) → KnowsCall (Knows m) a.state.number action
-        → KnowsFresh (Knows m) action (next_numbers a) → is_making action ≡ false → StepMatches
+        → KnowsFresh (Knows m) action (next_numbers a) → is_making (mine action) ≡ false
+        → is_making action ≡ false → StepMatches
         (settled s x (act s.state (mine action) (moved_fresh (named_by m.order) (next_numbers a))))
         (settled a x (act a.state action (next_numbers a)))
-    plain_asks x action k kn unmade = settled_step m x
+    plain_asks x action k kn unmade_s unmade = settled_step m x
         (act s.state (mine action) (moved_fresh (named_by m.order) (next_numbers a)))
         (act a.state action (next_numbers a))
         (act_matched m.carries.state action (next_numbers a) k kn)
+        ((act_start s.state (mine action)
+        (moved_fresh (named_by m.order) (next_numbers a))).given unmade_s)
         ((act_start a.state action (next_numbers a)).given unmade)
 
     abbrev with_first : Fresh → Name → Fresh
@@ -146,7 +149,8 @@ module _ {T : Type 0} {s a : SessionState T} (m : Matches s a) where
         let c = with_one m sound_s sound_a new.first fresh in
         let alike = act_matched c (Make o v l) (next_numbers a) tt (first_known m new.first []) in
         made_step m x names (set.insert s.state.given new.first)
-        (set.insert a.state.given (first m)) _ _ c (one_numbers m new.first)
+        (set.insert a.state.given (first m)) _ _ c
+        (one_listed m new.first fresh) (one_numbers m new.first)
         (subst (λ y. AlikeWith m names (act s.state (Make owner v l) (with_first new y))
         (act a.state (Make o v l) (next_numbers a))) (first_at m new.first []) alike)
         (made_value s.state owner v l new) (made_value a.state o v l (next_numbers a))
@@ -161,6 +165,7 @@ module _ {T : Type 0} {s a : SessionState T} (m : Matches s a) where
         (act a.state (MakeShared o v l) (next_numbers a)) in
         made_step m x names (set.insert (set.insert s.state.given new.first) new.second)
         (set.insert (set.insert a.state.given (first m)) (second m)) _ _ c
+        (two_listed m new.first new.second fresh.0 fresh.1 fresh.2)
         (two_numbers m new.first new.second)
         (subst (λ y. both y new.second) (first_at m new.first (new.second ∷ []))
         (subst (both (named_by (m.order ++ names) (first m)))
@@ -177,26 +182,27 @@ module _ {T : Type 0} {s a : SessionState T} (m : Matches s a) where
         box_agrees (named_by m.order) (named_by (m.order ++ names)) m.difference a.state.number
         (Knows m) (λ j e. named_front m.order names j e.1) b k in
         made_step m x names (set.insert s.state.given new.first)
-        (set.insert a.state.given (first m)) _ _ c (one_numbers m new.first)
+        (set.insert a.state.given (first m)) _ _ c
+        (one_listed m new.first fresh) (one_numbers m new.first)
         (subst (λ y. AlikeWith m names (act s.state (Refer owner box) (with_first new y))
         (act a.state (Refer o b) (next_numbers a))) (first_at m new.first [])
         (subst (λ q. AlikeWith m names
         (act s.state (Refer owner q) (with_first new (named_by (m.order ++ names) (first m))))
         (act a.state (Refer o b) (next_numbers a))) same alike))
         (made_reference s.state owner box new) (made_reference a.state o b (next_numbers a))
-    asks_step x NewOwner new k fresh = plain_asks x NewOwner k tt refl
-    asks_step x (CloneOwner o) new k fresh = plain_asks x (CloneOwner o) k tt refl
-    asks_step x (ReleaseOwner o) new k fresh = plain_asks x (ReleaseOwner o) k tt refl
-    asks_step x (LeakOwner o) new k fresh = plain_asks x (LeakOwner o) k tt refl
-    asks_step x (Read b l) new k fresh = plain_asks x (Read b l) k tt refl
-    asks_step x (Write b l) new k fresh = plain_asks x (Write b l) k tt refl
-    asks_step x (ReleaseReader g) new k fresh = plain_asks x (ReleaseReader g) k tt refl
-    asks_step x (ReleaseWriter g v) new k fresh = plain_asks x (ReleaseWriter g v) k tt refl
-    asks_step x (SetValue b v) new k fresh = plain_asks x (SetValue b v) k tt refl
-    asks_step x (End b) new k fresh = plain_asks x (End b) k tt refl
-    asks_step x (Point y b) new k fresh = plain_asks x (Point y b) k tt refl
-    asks_step x (CanRead b) new k fresh = plain_asks x (CanRead b) k tt refl
-    asks_step x (CanWrite b) new k fresh = plain_asks x (CanWrite b) k tt refl
+    asks_step x NewOwner new k fresh = plain_asks x NewOwner k tt refl refl
+    asks_step x (CloneOwner o) new k fresh = plain_asks x (CloneOwner o) k tt refl refl
+    asks_step x (ReleaseOwner o) new k fresh = plain_asks x (ReleaseOwner o) k tt refl refl
+    asks_step x (LeakOwner o) new k fresh = plain_asks x (LeakOwner o) k tt refl refl
+    asks_step x (Read b l) new k fresh = plain_asks x (Read b l) k tt refl refl
+    asks_step x (Write b l) new k fresh = plain_asks x (Write b l) k tt refl refl
+    asks_step x (ReleaseReader g) new k fresh = plain_asks x (ReleaseReader g) k tt refl refl
+    asks_step x (ReleaseWriter g v) new k fresh = plain_asks x (ReleaseWriter g v) k tt refl refl
+    asks_step x (SetValue b v) new k fresh = plain_asks x (SetValue b v) k tt refl refl
+    asks_step x (End b) new k fresh = plain_asks x (End b) k tt refl refl
+    asks_step x (Point y b) new k fresh = plain_asks x (Point y b) k tt refl refl
+    asks_step x (CanRead b) new k fresh = plain_asks x (CanRead b) k tt refl refl
+    asks_step x (CanWrite b) new k fresh = plain_asks x (CanWrite b) k tt refl refl
 
     -- ---- calls of the session
 
@@ -204,7 +210,7 @@ module _ {T : Type 0} {s a : SessionState T} (m : Matches s a) where
     wanting_step : (c : Call T) (e : StoreError)
         → StepMatches (settled s c (Refused e, s.state)) (settled a c (Refused e, a.state))
     wanting_step c e = settled_step m c (Refused e, s.state) (Refused e, a.state)
-        (record { answer = refl; state = m.carries.state; same = refl; known = tt }) refl
+        (record { answer = refl; state = m.carries.state; same = refl; known = tt }) refl refl
 
     settles_step : (c : Call T) (x : Said T) (r : SessionState T) (p q : Asked T)
         → AskedAlike (named_by m.order) m.difference (Knows m) a.state.number p q
@@ -243,7 +249,7 @@ module _ {T : Type 0} {s a : SessionState T} (m : Matches s a) where
         (subst (λ (o : Said T × SessionState T). StepMatches o (z, placed a Nothing))
         (sym (λ i. (step.0 i, step.1 i)))
         (kept_step m (y, placed s Nothing)
-        (z, placed a Nothing) (record { said = e; session = placed_alike m.carries }) refl))
+        (z, placed a Nothing) (record { said = e; session = placed_alike m.carries }) refl refl))
     settles_step c x r p q (both_swap place g v old known) step =
         let heard : refusal_in x ≡ None = ap refusal_in step.0 in
         let guard = moved_guard (named_by m.order) m.difference a.state.number g in
@@ -257,7 +263,7 @@ module _ {T : Type 0} {s a : SessionState T} (m : Matches s a) where
         (kept_step m mine theirs (record {
           said = refl;
           session = placed_alike (swapped_alike m.carries place g v known);
-        }) refl))
+        }) refl refl))
 
     -- whichever names are taken, the numbered machine answers the same, ids aside
     step_matches : (c : Call T) (x : Said T) (r : SessionState T)
@@ -303,12 +309,15 @@ module _ {T : Type 0} where
         given = λ k b. let lt = b.1 in absurd (omega arith);
         owners = λ key. map.get-empty nat_cmp (key + next)
             ∙ sym (ap (option_map (moved_holding (named_by []) next)) (map.get-empty nat_cmp key));
+        keys = λ key live.
+            absurd (true≢false (sym live ∙ ap is_some (map.get-empty nat_cmp key)));
         listed = λ key h is. absurd (none≢some _ h (map.get-empty nat_cmp key) is);
         apart = λ j k b. let lt = b.1 in absurd (omega arith);
       };
       table = refl;
       known = tt;
     };
+    names = record { count = set.len-empty name_cmp; all = λ n. set.contains-empty name_cmp n };
     numbers = record {
       count = set.len-empty name_cmp;
       all = λ k b. let lt = b.1 in absurd (omega arith);

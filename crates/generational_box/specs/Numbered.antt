@@ -8,8 +8,10 @@ use Rattle.generational_box.specs.declared.error.StoreError.{StoreError}
 use Rattle.generational_box.specs.declared.error.StoreError.TheVariants.{OutOfMemory}
 use Rattle.generational_box.specs.declared.error.StoreError.TheVariants.{NumbersExhausted}
 use Rattle.generational_box.specs.declared.error.StoreError.TheVariants.{UnknownOwner}
+use Rattle.generational_box.specs.declared.boxes.GenerationalBoxId.{GenerationalBoxId}
 use Rattle.generational_box.specs.declared.calls.Call.{Call}
-use Rattle.generational_box.specs.Names.{Name, Names}
+use Rattle.generational_box.specs.Names.{Name, Names, among}
+use Rattle.generational_box.specs.Boxes.{id_of}
 use Rattle.generational_box.specs.Machine.{Fresh, act}
 use Rattle.generational_box.specs.Machine.Answer.{Refused}
 use Rattle.generational_box.specs.Session.{SessionState, Held, Said, Asked, asked, settled}
@@ -62,11 +64,18 @@ pub record CarriesSession {T : Type 0}
   pub table : s.table ≡ list_map (moved_held f d a.state.number) a.table
   pub known : AllByRecursion (KnowsHeld Knows a.state.number) a.table
 
--- A session matches a numbered one: a list of all names given carries the one into the other.
+-- the names given are those of a list, in which each stands once
+pub record AreListed (order : List Name) (given : Names) : Type 0 where
+  pub count : set.len given ≡ length order
+  pub all : (n : Name) → set.contains given n ≡ among order n
+
+-- A session matches a numbered one: a list of all names given, each of them once, carries the one
+-- into the other.
 pub record Matches {T : Type 0} (s a : SessionState T) : Type 0 where
   pub order : List Name
   pub difference : ℕ
   pub carries : CarriesSession (named_by order) difference (IsNumberBelow (length order)) s a
+  pub names : AreListed order s.state.given
   pub numbers : AreNumbersBelow (length order) a.state.given
 
 -- the refusal of a store that can't go on, which the numbered machine doesn't know of itself
@@ -75,12 +84,16 @@ want OutOfMemory = Some OutOfMemory
 want NumbersExhausted = Some NumbersExhausted
 want UnknownOwner = None
 
+-- the id that stands for every id
+abbrev pub any_id : GenerationalBoxId
+any_id = id_of 0 (number 0)
+
 module _ {T : Type 0} where
-  -- a reply with ids and slot numbers set aside
+  -- a reply with ids and slot numbers set aside: it stays a box, an id or the number of a slot
   abbrev pub erase : Said T → Said T
-  erase (ABox b) = Created b.created_at
-  erase (TheId id) = IsDone
-  erase (TheSlot n) = IsDone
+  erase (ABox b) = ABox (record b { id = any_id })
+  erase (TheId id) = TheId any_id
+  erase (TheSlot n) = TheSlot 0
   erase AnOwner = AnOwner
   erase AReader = AReader
   erase AWriter = AWriter
