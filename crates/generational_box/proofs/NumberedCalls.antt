@@ -1,11 +1,11 @@
 -- Each call of a session is answered as the numbered machine answers it, ids aside, and so is a
 -- run.
-use Rattle.std.proofs.Common.{◌≡◌, ◌≢◌, ℕ, ◌+◌, Bool, false, List, [], ◌∷◌, ◌++◌}
-use Rattle.std.proofs.Common.{Option, None, Some, refl, sym, ap, subst, ◌∙◌, arith}
+use Rattle.std.proofs.Common.{◌≡◌, ℕ, ◌+◌, Bool, false, List, [], ◌∷◌, ◌++◌}
+use Rattle.std.proofs.Common.{None, Some, refl, sym, ap, subst, ◌∙◌, arith}
 use Rattle.std.proofs.Common.{⊎_elim}
-use Rattle.std.specs.Prelude.{is_some, option_map, map as list_map}
+use Rattle.std.specs.Prelude.{is_some, option_map}
 use Rattle.std.specs.Ordering.{nat_cmp}
-use Rattle.std.proofs.lemmas.Bool.{true≢false, false_from_ne_true}
+use Rattle.std.proofs.lemmas.Bool.{true≢false}
 use Rattle.std.specs.FinMap as map
 use Rattle.std.specs.FinSet as set
 use Rattle.generational_box.specs.declared.error.StoreError.{StoreError}
@@ -28,12 +28,11 @@ use Rattle.generational_box.specs.Session.{asked, said, settled, placed, swapped
 use Rattle.generational_box.specs.Session.Asked.{Asks, Tells, Swaps}
 use Rattle.generational_box.specs.Session.Said.{TheOld}
 use Rattle.generational_box.specs.Session.Held.{Nothing}
-use Rattle.generational_box.specs.Numbered.{number, named_by}
-use Rattle.generational_box.specs.Numbered.{Matches, want, erase, refusal_in, next_numbers}
-use Rattle.generational_box.specs.Numbered.{numbered, numbered_act, answers}
+use Rattle.generational_box.specs.Numbered.{named_by}
+use Rattle.generational_box.specs.Numbered.{Matches, want, refusal_in, next_numbers}
+use Rattle.generational_box.specs.Numbered.{numbered, numbered_act, AnswersAs, empty_session}
 use Rattle.generational_box.proofs.Fresh.{AreFresh}
 use Rattle.generational_box.proofs.Ends.{none≢some}
-use Rattle.generational_box.proofs.SoundCalls.{act_sound}
 use Rattle.generational_box.proofs.Saying.{wants, act_says}
 use Rattle.generational_box.proofs.Choosing.{meets_fresh}
 use Rattle.generational_box.proofs.Starting.{is_making, act_start}
@@ -42,6 +41,7 @@ use Rattle.generational_box.proofs.CarriedCalls.{act_matched}
 use Rattle.generational_box.proofs.CarriedSession.{AskedAlike, asked_alike, placed_alike}
 use Rattle.generational_box.proofs.CarriedSession.{swapped_alike}
 use Rattle.generational_box.proofs.CarriedSession.AskedAlike.{both_ask, both_tell, both_swap}
+use Rattle.generational_box.proofs.CarriedSound.{matched_sound}
 use Rattle.generational_box.proofs.Numbering.{named_front}
 use Rattle.generational_box.proofs.NumberedStep.{box_agrees, StepMatches, Knows, AlikeWith}
 use Rattle.generational_box.proofs.NumberedStep.{kept_step, settled_step, still_known, made_step}
@@ -76,45 +76,6 @@ module _ {T : Type 0} where
   told c (Refused e) = refusal_told c e
 
 module _ {T : Type 0} {s a : SessionState T} (m : Matches s a) where
-  -- ---- the numbers that are taken were never given
-
-  numbers_fresh : (action : Action T) → AreFresh a.state action (next_numbers a)
-  numbers_fresh action = each action
-    where
-      first_new : set.contains a.state.given (number (set.len a.state.given)) ≡ false
-      first_new = false_from_ne_true _
-          (λ e. let low = (m.numbers.only (number (set.len a.state.given)) e).1 in
-          let c = m.numbers.count in omega arith)
-
-      second_new : set.contains a.state.given (number (set.len a.state.given + 1)) ≡ false
-      second_new = false_from_ne_true _
-          (λ e. let low = (m.numbers.only (number (set.len a.state.given + 1)) e).1 in
-          let c = m.numbers.count in omega arith)
-
-      apart : number (set.len a.state.given) ≢ number (set.len a.state.given + 1)
-      apart e = let s = ap (λ (n : Name). n.slot) e in omega arith
-
-      each : (action : Action T) → AreFresh a.state action (next_numbers a)
-      each (Make o v l) = first_new
-      each (MakeShared o v l) = (first_new, second_new, apart)
-      each (Refer o b) = first_new
-      each _ = tt
-
-  numbered_sound : (c : Call T) (e : Option StoreError)
-      → IsSound a.state → IsSound (numbered_act a c e).1.state
-  numbered_sound c (Some e) sound = refused (asked a c)
-    where
-      refused : (q : Asked T) → IsSound (numbered a c q (Some e)).1.state
-      refused (Asks action) = sound
-      refused (Tells x) = sound
-      refused (Swaps p g v old) = sound
-  numbered_sound c None sound = each (asked a c)
-    where
-      each : (q : Asked T) → IsSound (numbered a c q None).1.state
-      each (Asks action) = act_sound a.state action (next_numbers a) sound (numbers_fresh action)
-      each (Tells x) = sound
-      each (Swaps p g v old) = sound
-
   -- ---- calls of the machine
 
   module _ (sound_s : IsSound s.state) (sound_a : IsSound a.state) where
@@ -272,26 +233,31 @@ module _ {T : Type 0} {s a : SessionState T} (m : Matches s a) where
         settles_step c x r (asked s c) (asked a c) (asked_alike m.carries c) step
 
 module _ {T : Type 0} where
-  -- so the replies of a run are those of the numbered machine, ids aside
+  -- so the replies of a run are those of the numbered machine, ids aside, and what it leaves matches
   pub run_answers : (calls : List (Call T)) (replies : List (Said T)) (s r a : SessionState T)
-      → Matches s a → IsSound s.state → IsSound a.state → Run s calls replies r
-      → list_map erase replies ≡ list_map erase (answers a calls (list_map refusal_in replies))
-  run_answers [] [] s r a m sound_s sound_a run = refl
-  run_answers (c ∷ calls) (x ∷ replies) s r a m sound_s sound_a run =
-      let one = step_matches m sound_s sound_a c x run.0 run.1 in
-      let rest = run_answers calls replies run.0 r
-      (numbered_act a c (refusal_in x)).1 one.after (session_sound s run.0 c x sound_s run.1)
-      (numbered_sound m c (refusal_in x) sound_a) run.2 in
-      λ i. one.said i ∷ rest i
-  run_answers [] (x ∷ replies) s r a m sound_s sound_a run = absurd run
-  run_answers (c ∷ calls) [] s r a m sound_s sound_a run = absurd run
+      → Matches s a → IsSound s.state → Run s calls replies r → AnswersAs a calls replies r
+  run_answers [] [] s r a m sound run =
+      record { same = refl; matches = subst (λ r. Matches r a) (sym run) m }
+  run_answers (c ∷ calls) (x ∷ replies) s r a m sound run =
+      let one = step_matches m sound (matched_sound m sound) c x run.0 run.1 in
+      let rest = run_answers calls replies run.0 r (numbered_act a c (refusal_in x)).1
+      one.after (session_sound s run.0 c x sound run.1) run.2 in
+      record { same = λ i. one.said i ∷ rest.same i; matches = rest.matches }
+  run_answers [] (x ∷ replies) s r a m sound run = absurd run
+  run_answers (c ∷ calls) [] s r a m sound run = absurd run
+
+  -- and one call is a run
+  pub call_answers : (c : Call T) (x : Said T) (s r a : SessionState T) → Matches s a
+      → IsSound s.state → SessionStep s c x r → AnswersAs a (c ∷ []) (x ∷ []) r
+  call_answers c x s r a m sound step =
+      run_answers (c ∷ []) (x ∷ []) s r a m sound (r, step, refl)
 
   -- ---- fresh stores
 
   -- a fresh store matches the numbered machine where nothing was called
   pub fresh_matches : (store start next : ℕ)
       → (let s : SessionState T = record { state = fresh store start next; table = [] } in
-      let a : SessionState T = record { state = fresh store 0 0; table = [] } in Matches s a)
+      Matches s (empty_session store))
   fresh_matches store start next = record {
     order = [];
     difference = next;

@@ -31,13 +31,15 @@ use Rattle.generational_box.specs.Session.{with_owner, spent}
 use Rattle.generational_box.specs.Session.Held.{Boxed, Reading, Writing, Owning, Nothing}
 use Rattle.generational_box.specs.Session.Said.{IsDone}
 use Rattle.generational_box.specs.Session.Asked.{Asks, Tells, Swaps}
+use Rattle.generational_box.specs.Numbered.{Matches, empty_session}
+use Rattle.generational_box.proofs.NumberedCalls.{fresh_matches}
 use Rattle.generational_box.specs.Holding.{IsKept}
 use Rattle.generational_box.specs.Keeping.{IsUndisturbed, Undisturbed, value_at}
 use Rattle.generational_box.specs.Names.{Name}
 use Rattle.generational_box.specs.declared.boxes.GenerationalPointer.{GenerationalPointer}
 use Rattle.generational_box.specs.Places.{thing_held, said_by, replies_said, session_in}
 use Rattle.generational_box.specs.Places.{refusal_said, exchanged, GivesAsked, Gives}
-use Rattle.generational_box.proofs.Sessions.{fresh_kept, session_kept, session_value, run_kept}
+use Rattle.generational_box.proofs.Sessions.{fresh_kept, session_value}
 use Rattle.generational_box.proofs.Sessions.{run_value}
 
 pub reversed_push : {X : Type 0} (xs ys : List X) (x : X)
@@ -83,6 +85,13 @@ module _ {T : Type 0} where
   new_kept S items f none =
       rw none (subst (λ X. IsKept (record { state = X; table = [] })) (sym f)
       (fresh_kept S.number S.start S.next))
+
+  -- and it matches the numbered session in which nothing was called
+  pub new_matches : (S : State T) (items : List (Thing T))
+      → IsFresh S → items ≡ [] → Matches (session_in S items) (empty_session S.number)
+  new_matches S items f none =
+      rw none (subst (λ X. Matches (record { state = X; table = [] }) (empty_session S.number))
+      (sym f) (fresh_matches S.number S.start S.next))
 
   -- what stands at a place
   pub held_there : (items : List (Thing T)) (p : ℕ) (t : Thing T) → slice_get items p ≡ Some t
@@ -233,11 +242,10 @@ module _ {T : Type 0} where
         subst Given (sym at) (given (thing_held t) (thing_held u) at
         (ap (list_map thing_held) changes ∙ map-set thing_held items p u) reply thing)
 
-  -- what holds of the session before a call holds after it
-  pub call_kept : {s : SessionState T} (S : State T) (items : List (Thing T)) (r : SessionState T)
-      (c : Call T) (x : Said T)
-      → session_in S items ≡ s → IsKept (session_in S items) → SessionStep s c x r → IsKept r
-  call_kept S items r c x view kept step = session_kept _ r c x (subst IsKept view kept) step
+  -- what holds of a session by its invariant, as its model is seen
+  pub kept_in : {s : SessionState T} (S : State T) (items : List (Thing T))
+      → session_in S items ≡ s → IsKept (session_in S items) → IsKept s
+  kept_in S items view kept = subst IsKept view kept
 
   -- a value that nothing disturbs stays in a call
   pub call_value : {s : SessionState T} (S : State T) (items : List (Thing T)) (r : SessionState T)
@@ -248,12 +256,6 @@ module _ {T : Type 0} where
       session_value s r c x b m (subst IsKept view kept).sound step undisturbed
 
   -- ---- runs, and the end
-
-  pub run_kept_in : {s : SessionState T} (S : State T) (items : List (Thing T))
-      (r : SessionState T) (calls : List (Call T)) (replies : List (Said T))
-      → session_in S items ≡ s → IsKept (session_in S items) → Run s calls replies r → IsKept r
-  run_kept_in {s} S items r calls replies view kept run =
-      run_kept calls replies s r (subst IsKept view kept) run
 
   pub run_value_in : {s : SessionState T} (S : State T) (items : List (Thing T))
       (r : SessionState T) (calls : List (Call T)) (replies : List (Said T))

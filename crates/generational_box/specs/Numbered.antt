@@ -12,6 +12,7 @@ use Rattle.generational_box.specs.declared.boxes.GenerationalBoxId.{Generational
 use Rattle.generational_box.specs.declared.calls.Call.{Call}
 use Rattle.generational_box.specs.Names.{Name, Names, among}
 use Rattle.generational_box.specs.Boxes.{id_of}
+use Rattle.generational_box.specs.State.{fresh}
 use Rattle.generational_box.specs.Machine.{Fresh, act}
 use Rattle.generational_box.specs.Machine.Answer.{Refused}
 use Rattle.generational_box.specs.Session.{SessionState, Held, Said, Asked, asked, settled}
@@ -136,3 +137,20 @@ module _ {T : Type 0} where
   answers a (c ∷ calls) (e ∷ refusals) =
       let out = numbered_act a c e in out.0 ∷ answers out.1 calls refusals
   answers a _ _ = []
+
+  -- the numbered session that is left after the calls
+  abbrev pub after : SessionState T → List (Call T) → List (Option StoreError) → SessionState T
+  after a (c ∷ calls) (e ∷ refusals) = after (numbered_act a c e).1 calls refusals
+  after a _ _ = a
+
+  -- The replies to calls are those of a numbered session, ids aside, that meets the refusals which
+  -- they tell; and what the calls left matches what they left of the numbered session.
+  pub record AnswersAs (a : SessionState T)
+      (calls : List (Call T)) (replies : List (Said T)) (r : SessionState T) : Type 0 where
+    pub same : list_map erase replies
+        ≡ list_map erase (answers a calls (list_map refusal_in replies))
+    pub matches : Matches r (after a calls (list_map refusal_in replies))
+
+  -- the numbered session of a store's number in which nothing was called
+  abbrev pub empty_session : ℕ → SessionState T
+  empty_session store = record { state = fresh store 0 0; table = [] }

@@ -28,7 +28,7 @@ ghost use Rattle.generational_box.specs.Session.Said.{IsDone};
 ghost use Rattle.generational_box.specs.Holding.{IsKept};
 ghost use Rattle.generational_box.specs.Keeping.{Sets, IsUnwritten, IsUndisturbed, Undisturbed};
 ghost use Rattle.generational_box.specs.Keeping.{value_at, location_at};
-ghost use Rattle.generational_box.specs.Numbered.{Matches, answers, erase, refusal_in};
+ghost use Rattle.generational_box.specs.Numbered.{Matches, AnswersAs, empty_session};
 ghost use Rattle.generational_box.specs.History.{plain, plain_call, plain_answer};
 
 /// A state in which nothing was made is sound, and each call leads from a sound state to a sound
@@ -155,7 +155,7 @@ pub fn sessions_are_bounded<T>()
     ensures step { (s r : SessionState T) (c : Call T) (reply : Said T) →
         IsSound s.state → IsBounded s.state → SessionStep s c reply r → IsBounded r.state }
     ensures run { (calls : List (Call T)) (replies : List (Said T)) (s r : SessionState T) →
-        IsKept s → IsBounded s.state → Run s calls replies r → IsBounded r.state }
+        IsKept s → Run s calls replies r → IsBounded r.state }
 {}
 
 /// The machine without values takes the very same steps: what is answered, and what is left, are
@@ -170,17 +170,14 @@ pub fn plain_states_step<T>()
 {}
 
 /// Ids aside, the replies of a run are those of the numbered machine, which has no choice: they
-/// depend on the calls alone, and on which of them wanted memory or numbers.
+/// depend on the calls, and on which of them memory or an exhausted number refused.
 pub fn replies_depend_on_calls<T>()
     ensures fresh { (number start next : ℕ) (calls : List (Call T)) (replies : List (Said T))
         (r : SessionState T) →
         let s : SessionState T = record { state = fresh number start next; table = [] } in
-        let a : SessionState T = record { state = fresh number 0 0; table = [] } in
-        Run s calls replies r →
-        map_list erase replies ≡ map_list erase (answers a calls (map_list refusal_in replies)) }
+        Run s calls replies r → AnswersAs (empty_session number) calls replies r }
     ensures run { (calls : List (Call T)) (replies : List (Said T)) (s r a : SessionState T) →
-        Matches s a → IsSound s.state → IsSound a.state → Run s calls replies r →
-        map_list erase replies ≡ map_list erase (answers a calls (map_list refusal_in replies)) }
+        Matches s a → IsSound s.state → Run s calls replies r → AnswersAs a calls replies r }
 {}
 
 /// Boxes are told apart by their ids: what `ptr_eq` answers is an equivalence, and it is true

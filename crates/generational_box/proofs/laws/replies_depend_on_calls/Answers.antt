@@ -5,7 +5,7 @@ use Rattle.generational_box.proofs.laws.replies_depend_on_calls.Goals as goal
 pub returns-clause-fresh : goal.returns-clause-fresh
 returns-clause-fresh g c = λ number start next calls replies r run.
     run_answers calls replies _ r _
-    (fresh_matches number start next) (fresh_sound number start next) (fresh_sound number 0 0) run
+    (fresh_matches number start next) (fresh_sound number start next) run
 
 pub returns-clause-run : goal.returns-clause-run
 returns-clause-run g c = run_answers
