@@ -1,5 +1,7 @@
 -- Each call of a session is answered as the numbered machine answers it, ids aside, and so is a
 -- run.
+use Rattle.std.proofs.Common.{◌-◌, true}
+use Rattle.generational_box.proofs.Moved.{some_map}
 use Rattle.std.proofs.Common.{◌≡◌, ℕ, ◌+◌, Bool, false, List, [], ◌∷◌, ◌++◌}
 use Rattle.std.proofs.Common.{None, Some, refl, sym, ap, subst, ◌∙◌, arith}
 use Rattle.std.proofs.Common.{⊎_elim}
@@ -12,7 +14,7 @@ use Rattle.generational_box.specs.declared.error.StoreError.{StoreError}
 use Rattle.generational_box.specs.declared.calls.Call.{Call}
 use Rattle.generational_box.specs.declared.calls.Call.TheVariants as call
 use Rattle.generational_box.specs.Names.{Name, name_cmp}
-use Rattle.generational_box.specs.State.{IsSound, fresh}
+use Rattle.generational_box.specs.State.{State, IsSound, IsFresh, fresh}
 use Rattle.generational_box.specs.Machine.{Action, Answer, Fresh, act}
 use Rattle.generational_box.specs.Machine.Action.{Make, MakeShared, Refer, NewOwner, CloneOwner}
 use Rattle.generational_box.specs.Machine.Action.{ReleaseOwner, LeakOwner, Read, Write}
@@ -28,6 +30,8 @@ use Rattle.generational_box.specs.Session.{asked, said, settled, placed, swapped
 use Rattle.generational_box.specs.Session.Asked.{Asks, Tells, Swaps}
 use Rattle.generational_box.specs.Session.Said.{TheOld}
 use Rattle.generational_box.specs.Session.Held.{Nothing}
+use Rattle.generational_box.specs.declared.places.Thing.{Thing}
+use Rattle.generational_box.specs.Places.{session_in}
 use Rattle.generational_box.specs.Numbered.{named_by}
 use Rattle.generational_box.specs.Numbered.{Matches, want, refusal_in, next_numbers}
 use Rattle.generational_box.specs.Numbered.{numbered, numbered_act, AnswersAs, empty_session}
@@ -252,6 +256,23 @@ module _ {T : Type 0} where
   call_answers c x s r a m sound step =
       run_answers (c ∷ []) (x ∷ []) s r a m sound (r, step, refl)
 
+  -- an owner of a session that matches is the other's
+  pub owner_matched : {s a : SessionState T} (m : Matches s a) (key : ℕ)
+      → is_some (map.get s.state.owners key) ≡ true
+      → (k : ℕ) × (key + a.state.next ≡ k + s.state.next)
+      × (is_some (map.get a.state.owners k) ≡ true)
+  owner_matched {s} {a} m key live =
+      let low = m.carries.state.keys key live in
+      let next = m.carries.state.next in
+      let same : key ≡ (key - m.difference) + m.difference = omega arith in
+      let owners = m.carries.state.owners (key - m.difference) in (
+        key - m.difference,
+        omega arith,
+        sym (some_map (moved_holding (named_by m.order) m.difference) _)
+            ∙ (sym (ap is_some owners)
+            ∙ (ap (λ q. is_some (map.get s.state.owners q)) (sym same) ∙ live)),
+      )
+
   -- ---- fresh stores
 
   -- a fresh store matches the numbered machine where nothing was called
@@ -290,3 +311,10 @@ module _ {T : Type 0} where
       only = λ k h. absurd (true≢false (sym h ∙ set.contains-empty name_cmp k));
     };
   }
+
+  -- so a session of a fresh store matches it
+  pub new_matches : (S : State T) (items : List (Thing T))
+      → IsFresh S → items ≡ [] → Matches (session_in S items) (empty_session S.number)
+  new_matches S items f none =
+      rw none (subst (λ X. Matches (record { state = X; table = [] }) (empty_session S.number))
+      (sym f) (fresh_matches S.number S.start S.next))

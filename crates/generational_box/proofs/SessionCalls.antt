@@ -31,8 +31,6 @@ use Rattle.generational_box.specs.Session.{with_owner, spent}
 use Rattle.generational_box.specs.Session.Held.{Boxed, Reading, Writing, Owning, Nothing}
 use Rattle.generational_box.specs.Session.Said.{IsDone}
 use Rattle.generational_box.specs.Session.Asked.{Asks, Tells, Swaps}
-use Rattle.generational_box.specs.Numbered.{Matches, empty_session}
-use Rattle.generational_box.proofs.NumberedCalls.{fresh_matches}
 use Rattle.generational_box.specs.Holding.{IsKept}
 use Rattle.generational_box.specs.Keeping.{IsUndisturbed, Undisturbed, value_at}
 use Rattle.generational_box.specs.Names.{Name}
@@ -85,13 +83,6 @@ module _ {T : Type 0} where
   new_kept S items f none =
       rw none (subst (λ X. IsKept (record { state = X; table = [] })) (sym f)
       (fresh_kept S.number S.start S.next))
-
-  -- and it matches the numbered session in which nothing was called
-  pub new_matches : (S : State T) (items : List (Thing T))
-      → IsFresh S → items ≡ [] → Matches (session_in S items) (empty_session S.number)
-  new_matches S items f none =
-      rw none (subst (λ X. Matches (record { state = X; table = [] }) (empty_session S.number))
-      (sym f) (fresh_matches S.number S.start S.next))
 
   -- what stands at a place
   pub held_there : (items : List (Thing T)) (p : ℕ) (t : Thing T) → slice_get items p ≡ Some t

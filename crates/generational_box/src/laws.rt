@@ -1,8 +1,9 @@
 //! Laws of the machine, each the contract of a function that does nothing.
 
 ghost use Rattle.std.specs.Prelude.{◌≡◌, ◌≢◌, ◌≤◌, ◌<◌, ◌+◌, ◌↔◌, true, false, ℕ, List, [], Some};
-ghost use Rattle.std.specs.Prelude.{None, map as map_list};
+ghost use Rattle.std.specs.Prelude.{None, is_some, map as map_list};
 ghost use Rattle.std.specs.FinMap as map;
+ghost use Rattle.std.specs.FinSet as set;
 ghost use Rattle.generational_box.specs.declared.boxes.GenerationalPointer.{GenerationalPointer};
 ghost use Rattle.generational_box.specs.Names.{Name, among};
 ghost use Rattle.generational_box.specs.Cells.{is_shared};
@@ -170,7 +171,8 @@ pub fn plain_states_step<T>()
 {}
 
 /// Ids aside, the replies of a run are those of the numbered machine, which has no choice: they
-/// depend on the calls, and on which of them memory or an exhausted number refused.
+/// depend on the calls, and on which of them memory or an exhausted number refused. Sessions that
+/// match were given equally many names, and the one has no owners but the other's.
 pub fn replies_depend_on_calls<T>()
     ensures fresh { (number start next : ℕ) (calls : List (Call T)) (replies : List (Said T))
         (r : SessionState T) →
@@ -178,6 +180,12 @@ pub fn replies_depend_on_calls<T>()
         Run s calls replies r → AnswersAs (empty_session number) calls replies r }
     ensures run { (calls : List (Call T)) (replies : List (Said T)) (s r a : SessionState T) →
         Matches s a → IsSound s.state → Run s calls replies r → AnswersAs a calls replies r }
+    ensures names { (s a : SessionState T) →
+        Matches s a → set.len s.state.given ≡ set.len a.state.given }
+    ensures owners { (s a : SessionState T) (key : ℕ) →
+        Matches s a → is_some (map.get s.state.owners key) ≡ true →
+        (k : ℕ) × (key + a.state.next ≡ k + s.state.next)
+        × (is_some (map.get a.state.owners k) ≡ true) }
 {}
 
 /// Boxes are told apart by their ids: what `ptr_eq` answers is an equivalence, and it is true

@@ -1,4 +1,5 @@
-use Rattle.generational_box.proofs.SessionCalls.{new_kept, new_matches}
+use Rattle.generational_box.proofs.NumberedCalls.{new_matches}
+use Rattle.generational_box.proofs.SessionCalls.{new_kept}
 use Rattle.generational_box.proofs.session.Session.new.Goals as goal
 
 pub invariant_of-result : goal.invariant_of-result
