@@ -110,10 +110,10 @@ module _ {T : Type 0} where
   without_bounded S n t (Some (Here v rs)) b = filled_bounded S n _ S.next b
   without_bounded S n t c b = b
 
-  set_bounded : (S : State T) (v : T) (m : Option Name) (c : Option (Content T))
-      → IsBounded S → IsBounded (set_at S v m c).1
-  set_bounded S v (Some m) (Some (Here old rs)) b = filled_bounded S m _ S.next b
-  set_bounded S v m c b = b
+  set_bounded : (S : State T) (x : GenerationalPointer) (v : T) (m : Option Name)
+      (c : Option (Content T)) → IsBounded S → IsBounded (set_at S x v m c).1
+  set_bounded S x v (Some m) (Some (Here old [])) b = filled_bounded S m _ S.next b
+  set_bounded S x v m c b = b
 
   turned_bounded : (S : State T) (a old new : Name) (l : Location)
       → is_some (map.get S.cells a) ≡ true → IsBounded S → IsBounded (turned S a old new l).1
@@ -197,7 +197,8 @@ module _ {T : Type 0} where
   act_bounded S (ReleaseWriter g v) f s new b =
       if_bounded (knows_writer S g) (Done, filled S g.cell (Here v [])) (Back v, S)
       (filled_bounded S g.cell (Here v []) S.next b) b
-  act_bounded S (SetValue x v) f s new b = set_bounded S v (reach S x) (contents S (reach S x)) b
+  act_bounded S (SetValue x v) f s new b =
+      set_bounded S x v (reach S x) (contents S (reach S x)) b
   act_bounded S (End x) f s new b = unless_bounded S (hindered S (own_name S x))
       (Done, close S (own_name S x)) b (close_bounded S (own_name S x) b)
   act_bounded S (Point a x) f s new b = if_bounded (has_same_id a x) (Done, S)

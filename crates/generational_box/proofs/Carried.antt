@@ -1,7 +1,7 @@
 -- Where one state carries another: what a box reaches in it, and what changes of both keep.
-use Rattle.std.proofs.Common.{◌≡◌, ℕ, ◌+◌, Bool, true, false, cond, ◌||◌}
+use Rattle.std.proofs.Common.{◌≡◌, ℕ, ◌+◌, ◌≤◌, Bool, true, false, cond, ◌||◌}
 use Rattle.std.proofs.Common.{Option, None, Some, refl, sym, ap, subst, ◌∙◌, arith}
-use Rattle.std.specs.Prelude.{max, nat_eq, option_map}
+use Rattle.std.specs.Prelude.{max, nat_eq, is_some, option_map}
 use Rattle.std.specs.Ordering.{nat_cmp}
 use Rattle.std.specs.Cmp.{nat_eq_equiv}
 use Rattle.std.specs.List.{AllByRecursion}
@@ -17,7 +17,9 @@ use Rattle.generational_box.specs.Boxes.{name_of, box_of}
 use Rattle.generational_box.specs.Borrowing.{Trouble, Guard, filled, stamped, reach}
 use Rattle.generational_box.specs.Borrowing.{reached, not_reached, content_at, read_trouble}
 use Rattle.generational_box.specs.Borrowing.{write_trouble, read_refusal, write_refusal}
+use Rattle.generational_box.specs.Borrowing.Trouble.{Dropped}
 use Rattle.generational_box.specs.Machine.{Answer, Outcome, born}
+use Rattle.generational_box.specs.Machine.Answer.{Troubled}
 use Rattle.generational_box.specs.Machine.{unless, found}
 use Rattle.generational_box.specs.Machine.{contents}
 use Rattle.generational_box.specs.Machine.{next_guard}
@@ -167,6 +169,15 @@ module _ {T U : Type 0} {f : Name → Name} {d : ℕ} {g : T → U}
   created_moved b k =
       box_cases b k (λ x. x.created_at ≡ b.created_at) (λ own kn. refl) (λ strange. refl)
 
+  -- a box whose value is gone is told its own location in both
+  pub dropped : (b : GenerationalPointer) → KnowsBox Knows A.number b
+      → Alike (
+        Troubled (Dropped (moved_box f d A.number b).created_at),
+        S,
+      ) (Troubled (Dropped b.created_at), A)
+  dropped b k = stays
+      (Troubled (Dropped b.created_at)) (ap (λ l. Troubled (Dropped l)) (created_moved b k)) tt
+
   -- a read is refused alike, and so is a write
   pub read_trouble_moved : (b : GenerationalPointer)
       → KnowsBox Knows A.number b → read_trouble S (moved_box f d A.number b) ≡ read_trouble A b
@@ -218,6 +229,7 @@ module _ {T U : Type 0} {f : Name → Name} {d : ℕ} {g : T → U}
     cells = h;
     given = c.given;
     owners = c.owners;
+    keys = c.keys;
     listed = c.listed;
     apart = c.apart;
   }
@@ -244,6 +256,7 @@ module _ {T U : Type 0} {f : Name → Name} {d : ℕ} {g : T → U}
             ∙ ((λ i. same_test c.apart k n kk kn i || c.given k kk i)
             ∙ sym (contains-insert_name A.given n k));
         owners = c.owners;
+        keys = c.keys;
         listed = c.listed;
         apart = c.apart;
       }
@@ -251,15 +264,17 @@ module _ {T U : Type 0} {f : Name → Name} {d : ℕ} {g : T → U}
   -- other owners, whose records are carried too
   pub with_owners : (new : map.FinMap nat_cmp Holding) (old : map.FinMap nat_cmp Holding)
       → ((key : ℕ) → map.get new (key + d) ≡ option_map (moved_holding f d) (map.get old key))
+      → ((key : ℕ) → is_some (map.get new key) ≡ true → d ≤ key)
       → ((key : ℕ) (h : Holding) → map.get old key ≡ Some h → AllByRecursion Knows h.names)
       → Carries f d g Knows (record S { owners = new }) (record A { owners = old })
-  with_owners new old h k = record {
+  with_owners new old h from k = record {
     number = c.number;
     next = c.next;
     peak = c.peak;
     cells = c.cells;
     given = c.given;
     owners = h;
+    keys = from;
     listed = k;
     apart = c.apart;
   }
@@ -273,6 +288,7 @@ module _ {T U : Type 0} {f : Name → Name} {d : ℕ} {g : T → U}
     cells = c.cells;
     given = c.given;
     owners = c.owners;
+    keys = c.keys;
     listed = c.listed;
     apart = c.apart;
   }

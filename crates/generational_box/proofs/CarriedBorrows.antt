@@ -6,6 +6,7 @@ use Rattle.std.specs.List.{filter}
 use Rattle.std.proofs.lemmas.Bool.{and_parts}
 use Rattle.generational_box.specs.declared.error.Location.{Location}
 use Rattle.generational_box.specs.declared.entry.Borrow.{Borrow}
+use Rattle.generational_box.specs.declared.boxes.GenerationalPointer.{GenerationalPointer}
 use Rattle.generational_box.specs.Names.{Name}
 use Rattle.generational_box.specs.Cells.{Content}
 use Rattle.generational_box.specs.Cells.Content.{Here, Lent}
@@ -19,13 +20,13 @@ use Rattle.generational_box.specs.Machine.{has_reader, has_writer, without_reade
 use Rattle.generational_box.specs.Machine.{next_borrow}
 use Rattle.generational_box.specs.Machine.Action.{ReleaseReader, ReleaseWriter}
 use Rattle.generational_box.specs.Machine.Answer.{Reads, Writes, Done, Flag, Back}
-use Rattle.generational_box.specs.Carrying.{Carries, KnowsGuard}
+use Rattle.generational_box.specs.Carrying.{Carries, KnowsBox, KnowsGuard, moved_box}
 use Rattle.generational_box.specs.Carrying.{moved_fresh, moved_borrow}
 use Rattle.generational_box.specs.Carrying.{moved_guard}
 use Rattle.generational_box.specs.Carrying.{moved_content}
 use Rattle.generational_box.proofs.Moved.{map_append, others_moved}
 use Rattle.generational_box.proofs.Moved.{reader_moved, writer_moved}
-use Rattle.generational_box.proofs.Carried.{IfThere, Alike, if_alike, stays}
+use Rattle.generational_box.proofs.Carried.{IfThere, Alike, if_alike, stays, dropped}
 use Rattle.generational_box.proofs.Carried.{content_there, own_number, strange_number}
 use Rattle.generational_box.proofs.Carried.{made_guard, with_content}
 use Rattle.generational_box.proofs.Carried.{next_moved}
@@ -93,14 +94,16 @@ module _ {T U : Type 0} {f : Name → Name} {d : ℕ} {g : T → U}
   }
 
   -- a value that is replaced
-  pub set_at_matched : (v : T) (m : Option Name) (x : Option (Content T))
-      → IfThere m Knows → Alike c
-      (set_at S (g v) (option_map f m) (option_map (moved_content f d g) x)) (set_at A v m x)
-  set_at_matched v None x k = stays c (Back v) refl tt
-  set_at_matched v (Some n) None k = stays c (Back v) refl tt
-  set_at_matched v (Some n) (Some (Lent w)) k = stays c (Back v) refl tt
-  set_at_matched v (Some n) (Some (Here old readers)) k = record
-      { answer = refl; same = refl; known = tt; state = with_content c n _ (Here v readers) k refl }
+  pub set_at_matched : (b : GenerationalPointer) (v : T) (m : Option Name) (x : Option (Content T))
+      → KnowsBox Knows A.number b → IfThere m Knows
+      → Alike c (set_at S (moved_box f d A.number b) (g v) (option_map f m)
+      (option_map (moved_content f d g) x)) (set_at A b v m x)
+  set_at_matched b v None x kb k = dropped c b kb
+  set_at_matched b v (Some n) None kb k = stays c (Back v) refl tt
+  set_at_matched b v (Some n) (Some (Lent w)) kb k = stays c (Back v) refl tt
+  set_at_matched b v (Some n) (Some (Here old (r ∷ readers))) kb k = stays c (Back v) refl tt
+  set_at_matched b v (Some n) (Some (Here old [])) kb k = record
+      { answer = refl; same = refl; known = tt; state = with_content c n _ (Here v []) k refl }
 
   -- ---- guards
 

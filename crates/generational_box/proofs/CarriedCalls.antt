@@ -119,8 +119,9 @@ module _ {T U : Type 0} {f : Name → Name} {d : ℕ} {g : T → U}
   act_matched (ReleaseReader guard) new k kn = release_reader_matched c guard new k
   act_matched (ReleaseWriter guard v) new k kn = release_writer_matched c guard v new k
   act_matched (SetValue b v) new k kn = with_contents c b k
-      (λ to x. Alike c (set_at S (g v) to x) (set_at A v (reach A b) (contents A (reach A b))))
-      (set_at_matched c v (reach A b) (contents A (reach A b)) (reach_known c b k))
+      (λ to x. Alike c (set_at S (moved_box f d A.number b) (g v) to x)
+      (set_at A b v (reach A b) (contents A (reach A b))))
+      (set_at_matched c b v (reach A b) (contents A (reach A b)) k (reach_known c b k))
   act_matched (End b) new k kn = end_matched c b new k
   act_matched (Point a b) new k kn =
       let mine = moved_box f d A.number a in

@@ -61,10 +61,10 @@ module _ {f : Name → Name} {Knows : Name → Type 0}
 module _ {T U : Type 0} {f : Name → Name} {d : ℕ} {g : T → U} {Knows : Name → Type 0}
     (apart : (j k : Name) → Knows j → Knows k → f j ≡ f k → j ≡ k) where
   module _ {S : NameMap (Cell U)} {A : NameMap (Cell T)} (c : CarriesCells f d g Knows S A) where
-    shared_at : (k : Name) → Knows k → is_shared (map.get S (f k)) ≡ is_shared (map.get A k)
+    pub shared_at : (k : Name) → Knows k → is_shared (map.get S (f k)) ≡ is_shared (map.get A k)
     shared_at k kk = ap is_shared (c.at k kk) ∙ shared_moved f d g (map.get A k)
 
-    named_moved : (m : Name) → Knows m → is_named S (f m) ≡ is_named A m
+    pub named_moved : (m : Name) → Knows m → is_named S (f m) ≡ is_named A m
     named_moved m km = both_ways (is_named S (f m)) (is_named A m) there back
       where
         there : is_named S (f m) ≡ true → is_named A m ≡ true

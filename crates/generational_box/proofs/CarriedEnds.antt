@@ -33,7 +33,7 @@ use Rattle.generational_box.proofs.CarriedCells.{same_test, cells_swept}
 use Rattle.generational_box.proofs.CarriedCells.{hindrance_at_moved, cells_insert}
 use Rattle.generational_box.proofs.Carried.{IfThere, Alike, if_alike, stays, unless_alike}
 use Rattle.generational_box.proofs.Carried.{own_number, strange_number, box_cases}
-use Rattle.generational_box.proofs.Carried.{created_moved}
+use Rattle.generational_box.proofs.Carried.{created_moved, dropped}
 use Rattle.generational_box.proofs.Carried.{made_box}
 use Rattle.generational_box.proofs.Carried.{with_cells, with_born}
 use Rattle.generational_box.proofs.CarriedOwners.{listed_number}
@@ -111,25 +111,16 @@ module _ {T U : Type 0} {f : Name → Name} {d : ℕ} {g : T → U}
     {Knows : Name → Type 0} {S : State U} {A : State T} (c : Carries f d g Knows S A) where
   -- ---- a new reference
 
-  -- nothing is refused but for a box whose value is gone
-  dropped : (b : GenerationalPointer) → KnowsBox Knows A.number b
-      → Alike c (
-        Troubled (Dropped (moved_box f d A.number b).created_at),
-        S,
-      ) (Troubled (Dropped b.created_at), A)
-  dropped b k = stays c
-      (Troubled (Dropped b.created_at)) (ap (λ l. Troubled (Dropped l)) (created_moved c b k)) tt
-
   -- a new Ref to what was reached
   pub referred_matched : (o : Option OwnerName)
       (b : GenerationalPointer) (to : Option Name) (x : Option (Cell T)) (n : Name)
       → KnowsBox Knows A.number b → is_known A o ≡ true → IfThere to Knows → Knows n
       → Alike c (referred S (option_map (moved_owner f d A.number) o) (moved_box f d A.number b)
       (option_map f to) (option_map (moved_cell f d g) x) (f n)) (referred A o b to x n)
-  referred_matched o b None x n kb ko k kn = dropped b kb
-  referred_matched o b (Some m) None n kb ko k kn = dropped b kb
-  referred_matched o b (Some m) (Some (Value y l)) n kb ko k kn = dropped b kb
-  referred_matched o b (Some m) (Some (Ref q l)) n kb ko k kn = dropped b kb
+  referred_matched o b None x n kb ko k kn = dropped c b kb
+  referred_matched o b (Some m) None n kb ko k kn = dropped c b kb
+  referred_matched o b (Some m) (Some (Value y l)) n kb ko k kn = dropped c b kb
+  referred_matched o b (Some m) (Some (Ref q l)) n kb ko k kn = dropped c b kb
   referred_matched o b (Some m) (Some (Shared y l)) n kb ko k kn = record {
     answer = ap Made (made_box c n l);
     same = listed_number (born A n (Ref m l)) o n;

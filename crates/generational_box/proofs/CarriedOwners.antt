@@ -1,5 +1,5 @@
 -- Owners, where one state carries another.
-use Rattle.std.proofs.Common.{◌≡◌, ℕ, ◌+◌, ◌-◌, Bool, true, false, cond, List, []}
+use Rattle.std.proofs.Common.{◌≡◌, arith, ℕ, ◌+◌, ◌-◌, Bool, true, false, cond, List, []}
 use Rattle.std.proofs.Common.{◌∷◌, ◌++◌, Option, None, Some, refl, sym, ap, subst, ◌∙◌}
 use Rattle.std.proofs.Common.{⊎_elim}
 use Rattle.std.specs.Prelude.{is_some, nat_eq, nat_lt, option_map, map as list_map}
@@ -95,6 +95,9 @@ module _ {T U : Type 0} {f : Name → Name} {d : ℕ} {g : T → U}
       (q + d) ∙ ((λ i. cond (key_moved d q key i) (Some (moved_holding f d h)) (c.owners q i))
       ∙ (map_cond (moved_holding f d) (eq_by_cmp nat_cmp q key) (Some h) (map.get A.owners q)
       ∙ sym (ap (option_map (moved_holding f d)) (map.get-insert nat_cmp_total A.owners key h q)))))
+      (λ q live. ⊎_elim (λ e. omega arith) (λ ne. c.keys q
+      (sym (ap is_some (get-insert_apart by_number S.owners (key + d) (moved_holding f d h) q ne))
+      ∙ live)) (key_cases by_number q (key + d)))
       (λ q x is. ⊎_elim (λ e. subst (λ (y : Holding). AllByRecursion Knows y.names)
       (same_some _ _ (sym (get-insert_here by_number A.owners key h)
       ∙ (ap (map.get (map.insert A.owners key h)) (sym e) ∙ is))) k) (λ ne. c.listed q x
@@ -111,6 +114,9 @@ module _ {T U : Type 0} {f : Name → Name} {d : ℕ} {g : T → U}
       ∙ ((λ i. cond (key_moved d q key i) None (c.owners q i))
       ∙ (map_cond (moved_holding f d) (eq_by_cmp nat_cmp q key) None (map.get A.owners q)
       ∙ sym (ap (option_map (moved_holding f d)) (map.get-remove nat_cmp_total A.owners key q)))))
+      (λ q live. ⊎_elim (λ e. omega arith) (λ ne. c.keys q
+      (sym (ap is_some (get-remove_apart by_number S.owners (key + d) q ne)) ∙ live))
+      (key_cases by_number q (key + d)))
       (λ q x is. ⊎_elim (λ e. absurd (none≢some _ _ (ap (map.get (map.remove A.owners key)) e
       ∙ get-remove_here by_number A.owners key) is)) (λ ne. c.listed q x
       (sym (get-remove_apart by_number A.owners key q ne) ∙ is)) (key_cases by_number q key))

@@ -26,10 +26,10 @@ use Rattle.generational_box.specs.Session.{released}
 use Rattle.generational_box.specs.Session.{asked, said, gives, spent, settled}
 use Rattle.generational_box.specs.Session.{placed, replaced, swapped}
 use Rattle.generational_box.specs.Session.Held.{Boxed, Reading, Writing, Owning, Nothing}
-use Rattle.generational_box.specs.Session.Said.{Yes, Created, NoSuch}
+use Rattle.generational_box.specs.Session.Said.{ABox, Yes, Created, NoSuch}
 use Rattle.generational_box.specs.Session.Asked.{Asks, Tells, Swaps}
 use Rattle.generational_box.specs.Numbered.{moved_held, KnowsHeld, CarriesSession, erase}
-use Rattle.generational_box.specs.Numbered.{refusal_in}
+use Rattle.generational_box.specs.Numbered.{any_id, refusal_in}
 use Rattle.generational_box.proofs.Moved.{map_append}
 use Rattle.generational_box.proofs.Carried.{Matched}
 use Rattle.generational_box.proofs.CarriedEnds.{same_box_moved}
@@ -92,7 +92,8 @@ module _ {T : Type 0} (f : Name → Name) (d : ℕ) (number : ℕ) where
   -- what is said is the same, but for a box's id
   said_moved : (x : Call T) (answer : Answer T)
       → erase (said x (moved_answer f d (λ (v : T). v) number answer)) ≡ erase (said x answer)
-  said_moved x (Made b) = ap Created (split (nat_eq b.id.store number))
+  said_moved x (Made b) = ap (λ l. ABox (record { id = any_id; created_at = l }))
+      (split (nat_eq b.id.store number))
     where
       split : (own : Bool)
           → (cond own (box_of number (f (name_of b)) b.created_at) b).created_at ≡ b.created_at

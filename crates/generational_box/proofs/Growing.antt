@@ -192,10 +192,10 @@ module _ {T : Type 0} where
   follows_without S n t (Some (Here v readers)) = follows_filled S n _ S.next (omega arith)
   follows_without S n t c = follows_same S
 
-  follows_set : (S : State T) (v : T) (m : Option Name) (c : Option (Content T))
-      → Follows S (set_at S v m c).1
-  follows_set S v (Some m) (Some (Here old readers)) = follows_filled S m _ S.next (omega arith)
-  follows_set S v m c = follows_same S
+  follows_set : (S : State T) (b : GenerationalPointer) (v : T)
+      (m : Option Name) (c : Option (Content T)) → Follows S (set_at S b v m c).1
+  follows_set S b v (Some m) (Some (Here old [])) = follows_filled S m _ S.next (omega arith)
+  follows_set S b v m c = follows_same S
 
   second_new : (S : State T) (f : Fresh) (c : Cell T) → set.contains S.given f.second ≡ false
       → f.first ≢ f.second → set.contains (born S f.first c).given f.second ≡ false
@@ -225,7 +225,7 @@ module _ {T : Type 0} where
       follows_if S _ _ _ (follows_without S g.cell g.ticket _) (follows_same S)
   act_follows S (ReleaseWriter g v) f new =
       follows_if S _ _ _ (follows_filled S g.cell _ S.next (omega arith)) (follows_same S)
-  act_follows S (SetValue b v) f new = follows_set S v _ _
+  act_follows S (SetValue b v) f new = follows_set S b v _ _
   act_follows S (End b) f new = follows_unless S _ _ (follows_close S _)
   act_follows S (Point a b) f new =
       follows_if S _ _ _ (follows_same S) (follows_unless S _ _ (follows_point S a b))

@@ -11,6 +11,7 @@ pub mod CarriedCells
 pub mod CarriedEnds
 pub mod CarriedOwners
 pub mod CarriedSession
+pub mod CarriedSound
 pub mod CarriedTables
 pub mod Choosing
 pub mod Ends
@@ -40,6 +41,7 @@ pub mod Plain
 pub mod PlainSteps
 pub mod Playing
 pub mod PoolLemmas
+pub mod Promises
 pub mod Readies
 pub mod Releasing
 pub mod Rows

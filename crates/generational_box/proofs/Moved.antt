@@ -34,7 +34,7 @@ map_append h (x ∷ xs) ys = ap (λ zs. h x ∷ zs) (map_append h xs ys)
 -- ---- tickets and keys
 
 module _ (d : ℕ) where
-  ticket_moved : (a t : ℕ) → nat_eq (a + d) (t + d) ≡ nat_eq a t
+  pub ticket_moved : (a t : ℕ) → nat_eq (a + d) (t + d) ≡ nat_eq a t
   ticket_moved a t =
       both_ways _ _ (λ h. let e = eqb-true (a + d) (t + d) h in eq-eqb a t (omega arith))
       (λ h. let e = eqb-true a t h in eq-eqb (a + d) (t + d) (omega arith))

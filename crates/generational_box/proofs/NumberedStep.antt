@@ -24,12 +24,14 @@ use Rattle.generational_box.specs.Session.{Held, SessionState, Said, settled}
 use Rattle.generational_box.specs.Session.Held.{Boxed, Reading, Writing, Owning, Nothing}
 use Rattle.generational_box.specs.Numbered.{number, IsNumberBelow, AreNumbersBelow, named_by}
 use Rattle.generational_box.specs.Numbered.{moved_held, KnowsHeld, CarriesSession, Matches, erase}
-use Rattle.generational_box.specs.Numbered.{next_numbers}
+use Rattle.generational_box.specs.Numbered.{AreListed, next_numbers}
 use Rattle.generational_box.proofs.Stepping.{is_refusal}
 use Rattle.generational_box.proofs.Making.{IsMade, MadeOrRefused}
 use Rattle.generational_box.proofs.Carried.{Matched}
 use Rattle.generational_box.proofs.CarriedSession.{SessionsMatched, settled_alike}
+use Rattle.generational_box.proofs.Maps.{by_name, contains-insert_apart}
 use Rattle.generational_box.proofs.Numbering.{named_front, named_back, numbers_more, one_more}
+use Rattle.generational_box.proofs.Numbering.{listed_more}
 
 -- ---- renamings that agree on the names known
 
@@ -143,22 +145,24 @@ module _ {T : Type 0} {s a : SessionState T} (m : Matches s a) where
   -- no names were given
   pub kept_step : (x y : Said T × SessionState T)
       → SessionsMatched (named_by m.order) m.difference Knows x y
-      → y.1.state.given ≡ a.state.given → StepMatches x y
-  kept_step x y h e = record {
+      → x.1.state.given ≡ s.state.given → y.1.state.given ≡ a.state.given → StepMatches x y
+  kept_step x y h was e = record {
     said = h.said;
     after = record {
       order = m.order;
       difference = m.difference;
       carries = h.session;
+      names = subst (AreListed m.order) (sym was) m.names;
       numbers = subst (AreNumbersBelow (length m.order)) (sym e) m.numbers;
     };
   }
 
   -- an answer for which no names were given
-  pub settled_step : (x : Call T) (out was : Outcome T) → Alike out was
-      → was.1.given ≡ a.state.given → StepMatches (settled s x out) (settled a x was)
-  settled_step x out was h e =
-      kept_step (settled s x out) (settled a x was) (settled_alike m.carries x out was h) e
+  pub settled_step : (x : Call T) (out was : Outcome T)
+      → Alike out was → out.1.given ≡ s.state.given → was.1.given ≡ a.state.given
+      → StepMatches (settled s x out) (settled a x was)
+  settled_step x out was h =
+      kept_step (settled s x out) (settled a x was) (settled_alike m.carries x out was h)
 
   -- what was known is known still
   pub still_known : (names : List Name) (k : Name) → Knows k → More names k
@@ -177,10 +181,10 @@ module _ {T : Type 0} {s a : SessionState T} (m : Matches s a) where
 
   -- a making, once the new names are numbered behind the others
   pub made_step : (x : Call T) (names : List Name) (given_s given : Names) (out was : Outcome T)
-      → CarriesWith names → AreNumbersBelow (length (m.order ++ names)) given
-      → AlikeWith names out was → MadeOrRefused s.state given_s out
+      → CarriesWith names → AreListed (m.order ++ names) given_s
+      → AreNumbersBelow (length (m.order ++ names)) given → AlikeWith names out was → MadeOrRefused s.state given_s out
       → MadeOrRefused a.state given was → StepMatches (settled s x out) (settled a x was)
-  made_step x names given_s given out was c numbers h of_s of_a = ⊎_elim refused made of_a
+  made_step x names given_s given out was c listed numbers h of_s of_a = ⊎_elim refused made of_a
     where
       refused : (is_refusal was.0 ≡ true)
           × (was.1 ≡ a.state) → StepMatches (settled s x out) (settled a x was)
@@ -202,7 +206,15 @@ module _ {T : Type 0} {s a : SessionState T} (m : Matches s a) where
             same = h.same;
             known = refused_known Knows a.state.number was.0 q.0;
           })
+          (ap (λ (R : State T). R.given) same)
           (ap (λ (R : State T). R.given) q.1)
+
+      -- where the numbered machine makes a box, so does the store
+      made_s : IsMade given was → out.1.given ≡ given_s
+      made_s e = ⊎_elim
+          (λ q. absurd (true≢false (sym q.0 ∙ (ap is_refusal h.answer
+          ∙ (refusal_moved (named_by (m.order ++ names)) m.difference a.state.number was.0
+          ∙ ap is_refusal e.1))))) (λ it. it.2) of_s
 
       made : IsMade given was → StepMatches (settled s x out) (settled a x was)
       made e =
@@ -213,6 +225,7 @@ module _ {T : Type 0} {s a : SessionState T} (m : Matches s a) where
               order = m.order ++ names;
               difference = m.difference;
               carries = both.session;
+              names = subst (AreListed (m.order ++ names)) (sym (made_s e)) listed;
               numbers = subst (AreNumbersBelow (length (m.order ++ names))) (sym e.2) numbers;
             };
           }
@@ -249,6 +262,21 @@ module _ {T : Type 0} {s a : SessionState T} (m : Matches s a) where
       subst (λ n. AreNumbersBelow n (set.insert (set.insert a.state.given first) second)) long
       (subst (λ n. AreNumbersBelow (length m.order + 1 + 1) (set.insert
       (set.insert a.state.given (number n)) (number (n + 1)))) (sym m.numbers.count) two)
+
+  -- the list of the names given after one more, and after two
+  pub one_listed : (y : Name) → set.contains s.state.given y ≡ false
+      → AreListed (m.order ++ y ∷ []) (set.insert s.state.given y)
+  one_listed y new = listed_more m.order s.state.given y new m.names
+
+  pub two_listed : (y z : Name) → set.contains s.state.given y ≡ false
+      → set.contains s.state.given z ≡ false → y ≢ z
+      → AreListed (m.order ++ y ∷ z ∷ []) (set.insert (set.insert s.state.given y) z)
+  two_listed y z new_y new_z apart =
+      subst (λ (o : List Name). AreListed o (set.insert (set.insert s.state.given y) z))
+      (append_assoc m.order (y ∷ []) (z ∷ []))
+      (listed_more (m.order ++ y ∷ []) (set.insert s.state.given y) z
+      (contains-insert_apart by_name s.state.given y z (λ is. apart (sym is)) ∙ new_z)
+      (one_listed y new_y))
 
   -- the next numbers stand for the new names
   pub first_at : (y : Name) (names : List Name) → named_by (m.order ++ y ∷ names) first ≡ y

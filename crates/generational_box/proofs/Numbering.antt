@@ -1,22 +1,26 @@
 -- New names are numbered behind the old ones.
 use Rattle.std.proofs.Common.{◌≡◌, ◌≢◌, ℕ, zero, suc, ◌+◌, ◌≤◌, ◌<◌, true, false, cond, List, []}
+use Rattle.std.proofs.Common.{Bool, ◌||◌}
 use Rattle.std.proofs.Common.{◌∷◌, ◌++◌, length, Option, None, Some, refl, sym, ap, subst, ◌∙◌, inl}
 use Rattle.std.proofs.Common.{inr, arith, ⊎_elim}
 use Rattle.std.specs.Prelude.{is_some, ◌⊎◌, option_map, map as list_map}
-use Rattle.std.specs.List.{AllByRecursion, slice_index_or}
+use Rattle.std.specs.List.{AllByRecursion, slice_index_or, list_any}
 use Rattle.std.proofs.lemmas.Bool.{true≢false, false_from_ne_true, cases_lt}
+use Rattle.std.proofs.lemmas.List.{length_push}
+use Rattle.std.proofs.lemmas.List.Folds.{list_any-append}
 use Rattle.std.specs.FinMap as map
 use Rattle.std.specs.FinSet as set
 use Rattle.generational_box.specs.declared.error.Location.{Location}
-use Rattle.generational_box.specs.Names.{Name, Names}
+use Rattle.generational_box.specs.Names.{Name, Names, is_name, among}
 use Rattle.generational_box.specs.Cells.{Cell}
 use Rattle.generational_box.specs.Cells.Content.{Here, Lent}
 use Rattle.generational_box.specs.Cells.Cell.{Value, Shared, Ref}
 use Rattle.generational_box.specs.State.{State, Holding, IsSound}
 use Rattle.generational_box.specs.Carrying.{Carries, moved_cell, moved_holding}
 use Rattle.generational_box.specs.Numbered.{number, IsNumberBelow, AreNumbersBelow, named_by}
+use Rattle.generational_box.specs.Numbered.{AreListed}
 use Rattle.generational_box.proofs.Maps.{by_name, name_total, name_cases, contains-insert_here}
-use Rattle.generational_box.proofs.Maps.{contains-insert_old, contains-insert_apart}
+use Rattle.generational_box.proofs.Maps.{contains-insert_old, contains-insert_apart, contains-insert_name}
 
 -- ---- a renaming that agrees with another one on the names known
 
@@ -85,6 +89,7 @@ carries_more {f = f} {d = d} {g = g}
           (λ new. new.0 ∙ sym new.1) (cases k mk);
       owners = λ key. c.owners key
           ∙ sym (holding_agrees f h Knows agree d (map.get A.owners key) (c.listed key));
+      keys = c.keys;
       listed = λ key y e. more_listed Knows More y.names more (c.listed key y e);
       apart = apart;
     }
@@ -118,6 +123,24 @@ named_back order more k i e = ap (λ s. slice_index_or (order ++ more) s k) e �
 -- numbers by their slots
 number_of : (n : ℕ) (k : Name) → k.generation ≡ 0 → k.slot ≡ n → k ≡ number n
 number_of n k g s = λ i. record { slot = s i; generation = g i }
+
+-- a name more, which was never given, at the end of the list
+pub listed_more : (order : List Name) (given : Names) (y : Name) → set.contains given y ≡ false
+    → AreListed order given → AreListed (order ++ y ∷ []) (set.insert given y)
+listed_more order given y new h = record {
+  count = set.len-insert name_total given y
+      ∙ (ap (λ b. cond b (set.len given) (set.len given + 1)) new
+      ∙ (ap (λ x. x + 1) h.count ∙ sym (length_push order y)));
+  all = λ n. contains-insert_name given y n
+      ∙ (ap (λ b. is_name n y || b) (h.all n) ∙ (last (is_name n y) (among order n)
+      ∙ sym (list_any-append (is_name n) order (y ∷ []))));
+}
+  where
+    last : (a b : Bool) → (a || b) ≡ (b || list_any (λ (x : Bool). x) (a ∷ []))
+    last true true = refl
+    last true false = refl
+    last false true = refl
+    last false false = refl
 
 -- the next number is given
 pub numbers_more : (given : Names) (n : ℕ)

@@ -251,11 +251,12 @@ module _ {T : Type 0} where
       quiet S _ call (Writes _ v) (λ key. refl, λ o e. cc) refl
   counts_write S call l m c = quiet S S call Done done_none refl
 
-  counts_set : (S : State T) (call : Action T) (v : T) (m : Option Name) (c : Option (Content T))
-      → Counts S call (set_at S v m c)
-  counts_set S call v (Some m) (Some (Here old readers)) =
+  counts_set : (S : State T) (call : Action T) (b : GenerationalPointer) (v : T)
+      (m : Option Name) (c : Option (Content T)) → Counts S call (set_at S b v m c)
+  counts_set S call b v (Some m) (Some (Here old [])) =
       quiet S _ call (Old old) (λ key. refl, λ o e. cc) refl
-  counts_set S call v m c = quiet S S call (Back v) (λ key. refl, λ o e. cc) refl
+  counts_set S call b v None c = quiet S S call _ (λ key. refl, λ o e. cc) refl
+  counts_set S call b v m c = quiet S S call (Back v) (λ key. refl, λ o e. cc) refl
 
   unread_owners : (S : State T) (n : Name) (t : ℕ) (c : Option (Content T))
       → (without_reader S n t c).owners ≡ S.owners
@@ -312,7 +313,7 @@ module _ {T : Type 0} where
       (quiet S _ (ReleaseWriter g v) Done done_none refl)
       (quiet S S (ReleaseWriter g v) (Back v) (λ key. refl, λ o e. cc) refl)
   act_counts S (SetValue b v) f sound =
-      counts_set S (SetValue b v) v (reach S b) (contents S (reach S b))
+      counts_set S (SetValue b v) b v (reach S b) (contents S (reach S b))
   act_counts S (End b) f sound = counts_unless S (End b) (hindered S (own_name S b)) _
       (quiet S (close S (own_name S b)) (End b) Done done_none refl)
   act_counts S (Point a b) f sound = counts_if S (Point a b) (has_same_id a b) (Done, S) _

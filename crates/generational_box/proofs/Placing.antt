@@ -29,6 +29,7 @@ use Rattle.generational_box.proofs.Stepping.{meets_sound, meets_number, meets_gi
 use Rattle.generational_box.proofs.Stepping.{meets_says, reads_known, writes_known, reader_stays}
 use Rattle.generational_box.proofs.Stepping.{writer_stays, ends_reader, ends_writer}
 use Rattle.generational_box.proofs.OwnerValues.{one_if, gained, lost, Counts, meets_counts}
+use Rattle.generational_box.proofs.Bounding.{meets_bounded}
 use Rattle.generational_box.proofs.Tables.{held_pushed, count_pushed}
 
 module _ {T : Type 0} where
@@ -226,6 +227,7 @@ module _ {T : Type 0} where
         (let r : SessionState T = record { state = R; table = table ++ gives answer ∷ [] } in r)
     kept_after = record {
       sound = meets_sound s.state R action answer kept.sound meets;
+      bounded = meets_bounded s.state R action answer kept.sound kept.bounded meets;
       number = λ p b is. ⊎_elim (λ e. kept.number p b e) (λ e. e.1.number) (box_place p b is)
           ∙ sym (meets_number s.state R action answer meets);
       given = λ p b is.

@@ -133,6 +133,7 @@ module _ {T : Type 0} where
     given = λ k _. refl;
     owners = λ key. ap (map.get S.owners) (let e : key + 0 ≡ key = omega arith in e)
         ∙ sym (same_holding (map.get S.owners key));
+    keys = λ key _. omega arith;
     listed = λ key h _. any_listed h.names;
     apart = λ j k _ _ e. e;
   }

@@ -209,6 +209,39 @@ module _ {T : Type 0} (u v w : T) (L M R W : Location) where
       call 2 (λ x e. simp entries at e) refl (
       look (simp entries) done))))))
 
+  -- A value is set only where nothing borrows it: it comes back under a reader and under a writer,
+  -- who keep what they have, and an ended box is told its own location.
+  pub what-is-borrowed-or-gone-is-not-set : Tells (fresh 7 1 0) (
+      (Call (Make None u L) (one (name 0 1)), Says (Made (box (name 0 1) L)))
+      ∷ (Ask (Read (box (name 0 1) L) R), Says (Reads (guard (name 0 1) 0)))
+      ∷ (Ask (SetValue (box (name 0 1) L) v), Says (Back v))
+      ∷ (Open (guard (name 0 1) 0), Opens (Some u))
+      ∷ (Ask (ReleaseReader (guard (name 0 1) 0)), Says (Flag true))
+      ∷ (Ask (Write (box (name 0 1) L) W), Says (Writes (guard (name 0 1) 1) u))
+      ∷ (Ask (SetValue (box (name 0 1) L) v), Says (Back v))
+      ∷ (Ask (ReleaseWriter (guard (name 0 1) 1) u), Says Done)
+      ∷ (Ask (SetValue (box (name 0 1) L) v), Says (Old u))
+      ∷ (Ask (SetValue (box (name 0 1) L) w), Says (Old v))
+      ∷ (Ask (End (box (name 0 1) L)), Says Done)
+      ∷ (Ask (SetValue (box (name 0 1) L) u), Says (Troubled (Dropped L)))
+      ∷ []
+      )
+  unfolding is_name reach read_trouble write_trouble hindered
+  what-is-borrowed-or-gone-is-not-set =
+      from (
+      makes 1 (λ x e. simp entries at e) (
+      call 1 (λ x e. simp entries at e) refl (
+      call 1 (λ x e. simp entries at e) refl (
+      look (simp entries) (
+      call 1 (λ x e. simp entries at e) refl (
+      call 2 (λ x e. simp entries at e) refl (
+      call 2 (λ x e. simp entries at e) refl (
+      call 2 (λ x e. simp entries at e) refl (
+      call 2 (λ x e. simp entries at e) refl (
+      call 2 (λ x e. simp entries at e) refl (
+      call 2 (λ x e. simp entries at e) refl (
+      call 2 (λ x e. simp entries at e) refl done))))))))))))
+
   -- A box whose slot has a new cell is told its own location, and its end leaves the new cell's
   -- writer alone.
   pub an-ended-box-tells-of-no-other : Tells (fresh 7 1 0) (

@@ -72,7 +72,7 @@ module _ {T : Type 0} (v w : T) (L M R W : Location) where
       (Call (MakeShared None v M) (two (name 0 1) (name 1 1)), Says (Made (box (name 1 1) M)))
       ∷ (Ask (Read (box_of 8 (name 1 1) L) R), Says (Troubled (Dropped L)))
       ∷ (Ask (Write (box_of 8 (name 1 1) L) R), Says (Troubled (Dropped L)))
-      ∷ (Ask (SetValue (box_of 8 (name 1 1) L) w), Says (Back w))
+      ∷ (Ask (SetValue (box_of 8 (name 1 1) L) w), Says (Troubled (Dropped L)))
       ∷ (Ask (Refer None (box_of 8 (name 1 1) L)), Says (Troubled (Dropped L)))
       ∷ (Ask (End (box_of 8 (name 1 1) L)), Says Done)
       ∷ (Ask (Point (box_of 8 (name 1 1) L) (box (name 1 1) M)), Says (Troubled (Dropped L)))

@@ -172,10 +172,11 @@ module _ {T : Type 0} where
       record { so = (record { is = refl; next = refl }, known); able = refl }
   says_write S l m c had = record { so = tt; able = refl }
 
-  says_set : (S : State T) (v : T) (m : Option Name) (c : Option (Content T))
-      → IsSaid S (set_at S v m c)
-  says_set S v (Some m) (Some (Here old readers)) = record { so = tt; able = refl }
-  says_set S v m c = record { so = tt; able = refl }
+  says_set : (S : State T) (b : GenerationalPointer) (v : T) (m : Option Name)
+      (c : Option (Content T)) → IsSaid S (set_at S b v m c)
+  says_set S b v (Some m) (Some (Here old [])) = record { so = tt; able = refl }
+  says_set S b v None c = record { so = tt; able = refl }
+  says_set S b v m c = record { so = tt; able = refl }
 
   says_turned : (S : State T) (a old new : Name) (l : Location) → IsSaid S (turned S a old new l)
   says_turned S a old new l =
@@ -224,7 +225,7 @@ module _ {T : Type 0} where
       says_if S
       (knows_writer S g) (Done, after)
       (Back v, S) (record { so = tt; able = refl }) (record { so = tt; able = refl })
-  act_says S (SetValue b v) f new = says_set S v (reach S b) (contents S (reach S b))
+  act_says S (SetValue b v) f new = says_set S b v (reach S b) (contents S (reach S b))
   act_says S (End b) f new = says_done S (close S (own_name S b)) (hindered S (own_name S b))
   act_says S (Point a b) f new =
       let out : Outcome T = pointed S a b (own_cell S a) (reach S b) (found S (reach S b)) in

@@ -37,7 +37,7 @@ use Rattle.generational_box.specs.Names.{Name}
 use Rattle.generational_box.specs.declared.boxes.GenerationalPointer.{GenerationalPointer}
 use Rattle.generational_box.specs.Places.{thing_held, said_by, replies_said, session_in}
 use Rattle.generational_box.specs.Places.{refusal_said, exchanged, GivesAsked, Gives}
-use Rattle.generational_box.proofs.Sessions.{fresh_kept, session_kept, session_value, run_kept}
+use Rattle.generational_box.proofs.Sessions.{fresh_kept, session_value}
 use Rattle.generational_box.proofs.Sessions.{run_value}
 
 pub reversed_push : {X : Type 0} (xs ys : List X) (x : X)
@@ -233,11 +233,10 @@ module _ {T : Type 0} where
         subst Given (sym at) (given (thing_held t) (thing_held u) at
         (ap (list_map thing_held) changes ∙ map-set thing_held items p u) reply thing)
 
-  -- what holds of the session before a call holds after it
-  pub call_kept : {s : SessionState T} (S : State T) (items : List (Thing T)) (r : SessionState T)
-      (c : Call T) (x : Said T)
-      → session_in S items ≡ s → IsKept (session_in S items) → SessionStep s c x r → IsKept r
-  call_kept S items r c x view kept step = session_kept _ r c x (subst IsKept view kept) step
+  -- what holds of a session by its invariant, as its model is seen
+  pub kept_in : {s : SessionState T} (S : State T) (items : List (Thing T))
+      → session_in S items ≡ s → IsKept (session_in S items) → IsKept s
+  kept_in S items view kept = subst IsKept view kept
 
   -- a value that nothing disturbs stays in a call
   pub call_value : {s : SessionState T} (S : State T) (items : List (Thing T)) (r : SessionState T)
@@ -248,12 +247,6 @@ module _ {T : Type 0} where
       session_value s r c x b m (subst IsKept view kept).sound step undisturbed
 
   -- ---- runs, and the end
-
-  pub run_kept_in : {s : SessionState T} (S : State T) (items : List (Thing T))
-      (r : SessionState T) (calls : List (Call T)) (replies : List (Said T))
-      → session_in S items ≡ s → IsKept (session_in S items) → Run s calls replies r → IsKept r
-  run_kept_in {s} S items r calls replies view kept run =
-      run_kept calls replies s r (subst IsKept view kept) run
 
   pub run_value_in : {s : SessionState T} (S : State T) (items : List (Thing T))
       (r : SessionState T) (calls : List (Call T)) (replies : List (Said T))

@@ -29,7 +29,7 @@ use Rattle.generational_box.specs.Holding.{IsKept, holds_owner}
 use Rattle.generational_box.specs.Bounds.{IsBounded}
 use Rattle.generational_box.specs.Keeping.{AskedSets, IsUndisturbed, Undisturbed, value_at}
 use Rattle.generational_box.proofs.Undisturbed.{meets_value}
-use Rattle.generational_box.proofs.Bounding.{meets_bounded}
+use Rattle.generational_box.proofs.Bounding.{meets_bounded, fresh_bounded}
 use Rattle.generational_box.specs.Session.{asked}
 use Rattle.generational_box.proofs.Lasting.{fresh_sound}
 use Rattle.generational_box.proofs.Stepping.{meets_sound, meets_ended}
@@ -46,6 +46,7 @@ module _ {T : Type 0} where
   kept_told : (s : SessionState T) → IsKept s → IsKept (placed s Nothing)
   kept_told s kept = record {
     sound = kept.sound;
+    bounded = kept.bounded;
     number = λ p b is. kept.number p b (was p (Boxed b) is (λ none. cc));
     given = λ p b is. kept.given p b (was p (Boxed b) is (λ none. cc));
     apart = λ p q b c is at same.
@@ -71,6 +72,7 @@ module _ {T : Type 0} where
       → IsKept s → held s.table p ≡ Writing g old → IsKept (swapped s p g v)
   kept_swapped s p g v old kept there = record {
     sound = kept.sound;
+    bounded = kept.bounded;
     number = λ q b is. kept.number q b (was q (Boxed b) is (λ h w e. cc));
     given = λ q b is. kept.given q b (was q (Boxed b) is (λ h w e. cc));
     apart = λ q r b c is at same. kept.apart q r b c
@@ -258,7 +260,7 @@ module _ {T : Type 0} where
   -- ---- what a call does to the store
 
   -- it leaves the store as it was, or is one call of the machine
-  settles_meets : (s r : SessionState T) (c : Call T) (x : Said T) (a : Asked T)
+  pub settles_meets : (s r : SessionState T) (c : Call T) (x : Said T) (a : Asked T)
       → Settles s c a x r → (r.state ≡ s.state)
       ⊎ ((action : Action T) × (answer : Answer T) × Meets s.state action answer r.state)
   settles_meets s r c x (Asks action) step =
@@ -316,6 +318,7 @@ module _ {T : Type 0} where
       s)
   fresh_kept number start next = record {
     sound = fresh_sound number start next;
+    bounded = fresh_bounded number start next;
     number = λ p b is. cc;
     given = λ p b is. cc;
     apart = λ p q b c is at same. cc;
@@ -372,9 +375,5 @@ module _ {T : Type 0} where
 
   -- a run keeps the bound on slots
   pub run_bounded : (calls : List (Call T)) (replies : List (Said T)) (s r : SessionState T)
-      → IsKept s → IsBounded s.state → Run s calls replies r → IsBounded r.state
-  run_bounded calls replies s r kept bounded run =
-      (by_run (λ s. IsKept s × IsBounded s.state) (λ s r c x h step. (
-        session_kept s r c x h.0 step,
-        session_bounded s r c x h.0.sound h.1 step,
-      )) calls replies s r (kept, bounded) run).1
+      → IsKept s → Run s calls replies r → IsBounded r.state
+  run_bounded calls replies s r kept run = (run_kept calls replies s r kept run).bounded

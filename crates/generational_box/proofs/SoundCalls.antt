@@ -184,12 +184,12 @@ module _ {T : Type 0} where
   sound_returned S n t v (Some c) s is h = sound_filled S n
       (Here v []) c S.next s is (omega arith) tt (λ u e. absurd (true≢false (sym e)))
 
-  sound_set : (S : State T) (v : T) (m : Option Name) (c : Option (Content T))
-      → IsSound S → contents S m ≡ c → IsSound (set_at S v m c).1
-  sound_set S v (Some m) (Some (Here old readers)) s is =
-      sound_filled S m (Here v readers) (Here old readers) S.next s is
-      (omega arith) (subst (λ x. IsDistinct nat_eq (tickets_of x)) is (s.apart m)) (λ t h. inl h)
-  sound_set S v m c s is = s
+  sound_set : (S : State T) (b : GenerationalPointer) (v : T) (m : Option Name)
+      (c : Option (Content T)) → IsSound S → contents S m ≡ c → IsSound (set_at S b v m c).1
+  sound_set S b v (Some m) (Some (Here old [])) s is = sound_filled S m (Here v []) (Here old [])
+      S.next s is (omega arith)
+      (subst (λ x. IsDistinct nat_eq (tickets_of x)) is (s.apart m)) (λ t h. inl h)
+  sound_set S b v m c s is = s
 
   -- ---- references
 
@@ -303,7 +303,8 @@ module _ {T : Type 0} where
   act_sound S (ReleaseWriter g v) f s new = if_sound (knows_writer S g) _ _
       (λ h. sound_returned S g.cell g.ticket v (content_at S g.cell) s refl (and_parts _ _ h).1)
       (λ _. s)
-  act_sound S (SetValue b v) f s new = sound_set S v (reach S b) (contents S (reach S b)) s refl
+  act_sound S (SetValue b v) f s new =
+      sound_set S b v (reach S b) (contents S (reach S b)) s refl
   act_sound S (End b) f s new = unless_sound S (hindered S (own_name S b))
       (Done, close S (own_name S b)) s (λ _. sound_close S (own_name S b) s)
   act_sound S (Point a b) f s new = if_sound (has_same_id a b) (Done, S)

@@ -99,10 +99,11 @@ module _ {T : Type 0} where
   without_given S n t (Some (Here v readers)) = refl
   without_given S n t c = refl
 
-  begins_set : (S : State T) (v : T) (m : Option Name) (c : Option (Content T))
-      → Begins false S (set_at S v m c)
-  begins_set S v (Some m) (Some (Here old readers)) = begins S _ _ refl refl
-  begins_set S v m c = begins S _ _ refl refl
+  begins_set : (S : State T) (b : GenerationalPointer) (v : T) (m : Option Name)
+      (c : Option (Content T)) → Begins false S (set_at S b v m c)
+  begins_set S b v (Some m) (Some (Here old [])) = begins S _ _ refl refl
+  begins_set S b v None c = begins S _ _ refl refl
+  begins_set S b v m c = begins S _ _ refl refl
 
   begins_turned : (S : State T) (a old new : Name) (l : Location)
       → Begins false S (turned S a old new l)
@@ -146,7 +147,7 @@ module _ {T : Type 0} where
       (without_given S g.cell g.ticket (content_at S g.cell))) (begins S (Flag false) S refl refl)
   act_start S (ReleaseWriter g v) f = begins_if S (knows_writer S g)
       (begins S Done (filled S g.cell (Here v [])) refl refl) (begins S (Back v) S refl refl)
-  act_start S (SetValue b v) f = begins_set S v (reach S b) (contents S (reach S b))
+  act_start S (SetValue b v) f = begins_set S b v (reach S b) (contents S (reach S b))
   act_start S (End b) f =
       begins_unless S (hindered S (own_name S b)) (begins S Done (close S (own_name S b)) refl refl)
   act_start S (Point a b) f =

@@ -159,11 +159,11 @@ module _ {T : Type 0} (p : Option (Content T) → Bool) (is : IsBorrow p) where
       stays_filled S n _ (Some (Here v readers)) had (still v readers)
   stays_without S n t c had still = stays_same S
 
-  stays_set : (S : State T) (v : T) (m : Option Name) (c : Option (Content T))
-      → contents S m ≡ c → Stays S (set_at S v m c).1
-  stays_set S v (Some m) (Some (Here old readers)) had =
-      stays_filled S m _ (Some (Here old readers)) had (is.replaced old v readers)
-  stays_set S v m c had = stays_same S
+  stays_set : (S : State T) (b : GenerationalPointer) (v : T) (m : Option Name)
+      (c : Option (Content T)) → contents S m ≡ c → Stays S (set_at S b v m c).1
+  stays_set S b v (Some m) (Some (Here old [])) had =
+      stays_filled S m _ (Some (Here old [])) had (is.replaced old v [])
+  stays_set S b v m c had = stays_same S
 
   stays_turned : (S : State T) (a old new : Name) (l : Location)
       → IsSound S → map.get S.cells a ≡ Some (Ref old l) → Stays S (turned S a old new l).1
@@ -228,7 +228,7 @@ module _ {T : Type 0} (p : Option (Content T) → Bool) (is : IsBorrow p) where
       (knows_writer S g) _ _ (λ known. stays_filled S g.cell (Here v []) (content_at S g.cell) refl
       (λ h. absurd (spared (content_at S g.cell) (and_parts _ _ known).1 h))) (λ _. stays_same S)
   act_stays S (SetValue b v) f s new spared =
-      stays_set S v (reach S b) (contents S (reach S b)) refl
+      stays_set S b v (reach S b) (contents S (reach S b)) refl
   act_stays S (End b) f s new spared =
       stays_unless S (hindered S (own_name S b)) (Done, close S (own_name S b))
       (λ free. stays_cells S (close S (own_name S b)) (borrowed_left S (own_name S b) s free))

@@ -190,11 +190,11 @@ module _ {T : Type 0} (Allowed : Type 0) (m : Name) where
       lent (Some (Here w readers)) h k = true≢false (sym h)
       lent (Some (Lent w)) h k = true≢false (sym k)
 
-  kept_set : (S : State T) (v : T) (to : Option Name) (c : Option (Content T))
-      → (Allowed → to ≡ Some m → ⊥) → KeptIn S (set_at S v to c).1
-  kept_set S v (Some n) (Some (Here old readers)) other = kept_filled S n _
+  kept_set : (S : State T) (b : GenerationalPointer) (v : T) (to : Option Name)
+      (c : Option (Content T)) → (Allowed → to ≡ Some m → ⊥) → KeptIn S (set_at S b v to c).1
+  kept_set S b v (Some n) (Some (Here old [])) other = kept_filled S n _
       (λ is allowed h k. absurd (other allowed (ap Some (sym is))))
-  kept_set S v to c other = kept_same refl
+  kept_set S b v to c other = kept_same refl
 
   -- ---- another target
 
@@ -269,7 +269,7 @@ module _ {T : Type 0} where
   act_keeps S (ReleaseWriter g v) f m s new = kept_if _ m S (knows_writer S g) _ _
       (λ known. kept_back _ m S g v known) (λ _. kept_same _ m refl)
   act_keeps S (SetValue b v) f m s new =
-      kept_set _ m S v (reach S b) (contents S (reach S b)) (λ allowed e. allowed e)
+      kept_set _ m S b v (reach S b) (contents S (reach S b)) (λ allowed e. allowed e)
   act_keeps S (End b) f m s new = kept_unless _ m S (hindered S (own_name S b)) _
       (kept_close _ m S (own_name S b))
   act_keeps S (Point a b) f m s new =

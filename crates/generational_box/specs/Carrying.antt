@@ -1,6 +1,6 @@
 -- When one state carries another into itself: its names by a renaming, its tickets and keys by a
 -- difference, its values by a function.
-use Rattle.std.specs.Prelude.{◌≡◌, ℕ, ◌+◌, true, if◌then◌else◌, nat_eq, Some, is_some, option_map}
+use Rattle.std.specs.Prelude.{◌≡◌, ℕ, ◌+◌, ◌≤◌, true, if◌then◌else◌, nat_eq, Some, is_some, option_map}
 use Rattle.std.specs.Prelude.{map as list_map}
 use Rattle.std.specs.List.{AllByRecursion}
 use Rattle.std.specs.FinMap as map
@@ -99,6 +99,8 @@ module _ (f : Name → Name) (d : ℕ) where
       pub given : (k : Name) → Knows k → set.contains S.given (f k) ≡ set.contains A.given k
       pub owners : (key : ℕ)
           → map.get S.owners (key + d) ≡ option_map moved_holding (map.get A.owners key)
+      -- S has no other owners
+      pub keys : (key : ℕ) → is_some (map.get S.owners key) ≡ true → d ≤ key
       pub listed : (key : ℕ) (h : Holding)
           → map.get A.owners key ≡ Some h → AllByRecursion Knows h.names
       -- known names keep apart

@@ -1,4 +1,5 @@
--- What holds of every session: its state is sound, and what its places hold is the store's own.
+-- What holds of every session: its state is sound, its slots are bounded, and what its places hold
+-- is the store's own.
 use Rattle.std.specs.Prelude.{◌≡◌, ℕ, ◌≤◌, Bool, true, false, nat_eq}
 use Rattle.std.specs.List.{count_by}
 use Rattle.generational_box.specs.declared.boxes.GenerationalPointer.{GenerationalPointer}
@@ -6,6 +7,7 @@ use Rattle.generational_box.specs.Boxes.{name_of}
 use Rattle.generational_box.specs.State.{IsSound, IsGiven}
 use Rattle.generational_box.specs.Borrowing.{Guard}
 use Rattle.generational_box.specs.Machine.{OwnerName, knows_reader, knows_writer}
+use Rattle.generational_box.specs.Bounds.{IsBounded}
 use Rattle.generational_box.specs.Records.{count_under}
 use Rattle.generational_box.specs.Session.{SessionState, Held, held}
 use Rattle.generational_box.specs.Session.Held.{Boxed, Reading, Writing, Owning}
@@ -17,6 +19,8 @@ holds_owner key _ = false
 
 pub record IsKept {T : Type 0} (s : SessionState T) : Type 0 where
   pub sound : IsSound s.state
+  -- a slot is made only where none is free
+  pub bounded : IsBounded s.state
   -- boxes are of this store, and their names were given
   pub number : (p : ℕ) (b : GenerationalPointer) → held s.table p ≡ Boxed b
       → b.id.store ≡ s.state.number

@@ -190,9 +190,12 @@ module _ {T : Type 0} where
       filled S n (Here v (filter (λ r. not (nat_eq r.ticket t)) readers))
   without_reader S n t _ = S
 
-  abbrev pub set_at : State T → T → Option Name → Option (Content T) → Outcome T
-  set_at S v (Some m) (Some (Here old readers)) = (Old old, filled S m (Here v readers))
-  set_at S v _ _ = (Back v, S)
+  -- another value where there is no borrow; the value comes back from what is read or lent
+  abbrev pub set_at : State T → GenerationalPointer → T
+      → Option Name → Option (Content T) → Outcome T
+  set_at S b v None c = (Troubled (Dropped b.created_at), S)
+  set_at S b v (Some m) (Some (Here old [])) = (Old old, filled S m (Here v []))
+  set_at S b v (Some m) _ = (Back v, S)
 
   -- the name of a box, if the box is of this store
   abbrev pub own_name : State T → GenerationalPointer → List Name
@@ -248,7 +251,7 @@ module _ {T : Type 0} where
       else (Flag false, S)
   act S (ReleaseWriter g v) f =
       if knows_writer S g then (Done, filled S g.cell (Here v [])) else (Back v, S)
-  act S (SetValue b v) f = set_at S v (reach S b) (contents S (reach S b))
+  act S (SetValue b v) f = set_at S b v (reach S b) (contents S (reach S b))
   act S (End b) f = unless (hindered S (own_name S b)) S (Done, close S (own_name S b))
   act S (Point a b) f =
       if has_same_id a b

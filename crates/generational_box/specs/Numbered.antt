@@ -8,8 +8,11 @@ use Rattle.generational_box.specs.declared.error.StoreError.{StoreError}
 use Rattle.generational_box.specs.declared.error.StoreError.TheVariants.{OutOfMemory}
 use Rattle.generational_box.specs.declared.error.StoreError.TheVariants.{NumbersExhausted}
 use Rattle.generational_box.specs.declared.error.StoreError.TheVariants.{UnknownOwner}
+use Rattle.generational_box.specs.declared.boxes.GenerationalBoxId.{GenerationalBoxId}
 use Rattle.generational_box.specs.declared.calls.Call.{Call}
-use Rattle.generational_box.specs.Names.{Name, Names}
+use Rattle.generational_box.specs.Names.{Name, Names, among}
+use Rattle.generational_box.specs.Boxes.{id_of}
+use Rattle.generational_box.specs.State.{fresh}
 use Rattle.generational_box.specs.Machine.{Fresh, act}
 use Rattle.generational_box.specs.Machine.Answer.{Refused}
 use Rattle.generational_box.specs.Session.{SessionState, Held, Said, Asked, asked, settled}
@@ -62,11 +65,18 @@ pub record CarriesSession {T : Type 0}
   pub table : s.table ≡ list_map (moved_held f d a.state.number) a.table
   pub known : AllByRecursion (KnowsHeld Knows a.state.number) a.table
 
--- A session matches a numbered one: a list of all names given carries the one into the other.
+-- the names given are those of a list, in which each stands once
+pub record AreListed (order : List Name) (given : Names) : Type 0 where
+  pub count : set.len given ≡ length order
+  pub all : (n : Name) → set.contains given n ≡ among order n
+
+-- A session matches a numbered one: a list of all names given, each of them once, carries the one
+-- into the other.
 pub record Matches {T : Type 0} (s a : SessionState T) : Type 0 where
   pub order : List Name
   pub difference : ℕ
   pub carries : CarriesSession (named_by order) difference (IsNumberBelow (length order)) s a
+  pub names : AreListed order s.state.given
   pub numbers : AreNumbersBelow (length order) a.state.given
 
 -- the refusal of a store that can't go on, which the numbered machine doesn't know of itself
@@ -75,12 +85,16 @@ want OutOfMemory = Some OutOfMemory
 want NumbersExhausted = Some NumbersExhausted
 want UnknownOwner = None
 
+-- the id that stands for every id
+abbrev pub any_id : GenerationalBoxId
+any_id = id_of 0 (number 0)
+
 module _ {T : Type 0} where
-  -- a reply with ids and slot numbers set aside
+  -- a reply with ids and slot numbers set aside: it stays a box, an id or the number of a slot
   abbrev pub erase : Said T → Said T
-  erase (ABox b) = Created b.created_at
-  erase (TheId id) = IsDone
-  erase (TheSlot n) = IsDone
+  erase (ABox b) = ABox (record b { id = any_id })
+  erase (TheId id) = TheId any_id
+  erase (TheSlot n) = TheSlot 0
   erase AnOwner = AnOwner
   erase AReader = AReader
   erase AWriter = AWriter
@@ -123,3 +137,20 @@ module _ {T : Type 0} where
   answers a (c ∷ calls) (e ∷ refusals) =
       let out = numbered_act a c e in out.0 ∷ answers out.1 calls refusals
   answers a _ _ = []
+
+  -- the numbered session that is left after the calls
+  abbrev pub after : SessionState T → List (Call T) → List (Option StoreError) → SessionState T
+  after a (c ∷ calls) (e ∷ refusals) = after (numbered_act a c e).1 calls refusals
+  after a _ _ = a
+
+  -- The replies to calls are those of a numbered session, ids aside, that meets the refusals which
+  -- they tell; and what the calls left matches what they left of the numbered session.
+  pub record AnswersAs (a : SessionState T)
+      (calls : List (Call T)) (replies : List (Said T)) (r : SessionState T) : Type 0 where
+    pub same : list_map erase replies
+        ≡ list_map erase (answers a calls (list_map refusal_in replies))
+    pub matches : Matches r (after a calls (list_map refusal_in replies))
+
+  -- the numbered session of a store's number in which nothing was called
+  abbrev pub empty_session : ℕ → SessionState T
+  empty_session store = record { state = fresh store 0 0; table = [] }

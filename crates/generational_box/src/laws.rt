@@ -1,8 +1,9 @@
 //! Laws of the machine, each the contract of a function that does nothing.
 
 ghost use Rattle.std.specs.Prelude.{◌≡◌, ◌≢◌, ◌≤◌, ◌<◌, ◌+◌, ◌↔◌, true, false, ℕ, List, [], Some};
-ghost use Rattle.std.specs.Prelude.{None, map as map_list};
+ghost use Rattle.std.specs.Prelude.{None, is_some, map as map_list};
 ghost use Rattle.std.specs.FinMap as map;
+ghost use Rattle.std.specs.FinSet as set;
 ghost use Rattle.generational_box.specs.declared.boxes.GenerationalPointer.{GenerationalPointer};
 ghost use Rattle.generational_box.specs.Names.{Name, among};
 ghost use Rattle.generational_box.specs.Cells.{is_shared};
@@ -28,7 +29,7 @@ ghost use Rattle.generational_box.specs.Session.Said.{IsDone};
 ghost use Rattle.generational_box.specs.Holding.{IsKept};
 ghost use Rattle.generational_box.specs.Keeping.{Sets, IsUnwritten, IsUndisturbed, Undisturbed};
 ghost use Rattle.generational_box.specs.Keeping.{value_at, location_at};
-ghost use Rattle.generational_box.specs.Numbered.{Matches, answers, erase, refusal_in};
+ghost use Rattle.generational_box.specs.Numbered.{Matches, AnswersAs, empty_session};
 ghost use Rattle.generational_box.specs.History.{plain, plain_call, plain_answer};
 
 /// A state in which nothing was made is sound, and each call leads from a sound state to a sound
@@ -155,7 +156,7 @@ pub fn sessions_are_bounded<T>()
     ensures step { (s r : SessionState T) (c : Call T) (reply : Said T) →
         IsSound s.state → IsBounded s.state → SessionStep s c reply r → IsBounded r.state }
     ensures run { (calls : List (Call T)) (replies : List (Said T)) (s r : SessionState T) →
-        IsKept s → IsBounded s.state → Run s calls replies r → IsBounded r.state }
+        IsKept s → Run s calls replies r → IsBounded r.state }
 {}
 
 /// The machine without values takes the very same steps: what is answered, and what is left, are
@@ -170,17 +171,21 @@ pub fn plain_states_step<T>()
 {}
 
 /// Ids aside, the replies of a run are those of the numbered machine, which has no choice: they
-/// depend on the calls alone, and on which of them wanted memory or numbers.
+/// depend on the calls, and on which of them memory or an exhausted number refused. Sessions that
+/// match were given equally many names, and the one has no owners but the other's.
 pub fn replies_depend_on_calls<T>()
     ensures fresh { (number start next : ℕ) (calls : List (Call T)) (replies : List (Said T))
         (r : SessionState T) →
         let s : SessionState T = record { state = fresh number start next; table = [] } in
-        let a : SessionState T = record { state = fresh number 0 0; table = [] } in
-        Run s calls replies r →
-        map_list erase replies ≡ map_list erase (answers a calls (map_list refusal_in replies)) }
+        Run s calls replies r → AnswersAs (empty_session number) calls replies r }
     ensures run { (calls : List (Call T)) (replies : List (Said T)) (s r a : SessionState T) →
-        Matches s a → IsSound s.state → IsSound a.state → Run s calls replies r →
-        map_list erase replies ≡ map_list erase (answers a calls (map_list refusal_in replies)) }
+        Matches s a → IsSound s.state → Run s calls replies r → AnswersAs a calls replies r }
+    ensures names { (s a : SessionState T) →
+        Matches s a → set.len s.state.given ≡ set.len a.state.given }
+    ensures owners { (s a : SessionState T) (key : ℕ) →
+        Matches s a → is_some (map.get s.state.owners key) ≡ true →
+        (k : ℕ) × (key + a.state.next ≡ k + s.state.next)
+        × (is_some (map.get a.state.owners k) ≡ true) }
 {}
 
 /// Boxes are told apart by their ids: what `ptr_eq` answers is an equivalence, and it is true

@@ -39,19 +39,27 @@ impl<T, S: Storage<T>> Model for Session<T, S> {
 }
 
 impl<T: Drop, S: Storage<T>> Session<T, S> {
-    ghost use Rattle.std.specs.Prelude.{◌≡◌, [], IfOk, IfErr, OnErr, option_copied};
+    ghost use Rattle.std.specs.Prelude.{◌≡◌, ◌≤◌, ◌+◌, [], ◌∷◌, IfOk, IfErr, OnErr};
+    ghost use Rattle.std.specs.Prelude.{option_copied};
     ghost use Rattle.generational_box.specs.Names.{Name};
     ghost use Rattle.generational_box.specs.State.{IsFresh, IsEnded};
-    ghost use Rattle.generational_box.specs.Session.{SessionStep, Run, viewed, all_let_go};
+    ghost use Rattle.generational_box.specs.Session.{SessionState, SessionStep, Run, viewed};
+    ghost use Rattle.generational_box.specs.Session.{all_let_go};
     ghost use Rattle.generational_box.specs.Holding.{IsKept};
     ghost use Rattle.generational_box.specs.Keeping.{IsUndisturbed, Undisturbed, value_at};
     ghost use Rattle.generational_box.specs.Places.{said_by, replies_said};
+    ghost use Rattle.generational_box.specs.Slots.{slots, retired};
+    ghost use Rattle.generational_box.specs.Numbered.{Matches, AnswersAs, empty_session};
+    ghost use Rattle.generational_box.specs.Replies.{TellsEnds, GivesNewBox, EndsOwned};
+    ghost use Rattle.generational_box.specs.Replies.{AllKeepPromises, GiveBoxesApart};
 
     /// A session over a store in which nothing was made yet (`is_fresh` is the test). Takes no
     /// memory.
     pub fn new(alloc: Global, store: S) -> Session<T, S>
         requires { IsFresh (S.state store) }
-        ensures { result ≡ record { state = S.state store; table = [] } }
+        ensures session { result ≡ record { state = S.state store; table = [] } }
+        // It matches the machine whose names are plain numbers, where nothing was called.
+        ensures matches { Matches result (empty_session (S.state store).number) }
     {
         Session {
             alloc,
@@ -68,10 +76,22 @@ impl<T: Drop, S: Storage<T>> Session<T, S> {
         ensures back { IfErr result (λ back. back ≡ call) }
         ensures unchanged { OnErr result (self.new ≡ self.old) }
 
+        // Ids aside, the reply is the numbered machine's, which has no slots: it depends on the
+        // calls, and on which of them memory or an exhausted number refused.
+        ensures same_answer { IfOk result (λ reply. (a : SessionState T) → Matches self.old a →
+            AnswersAs a (call ∷ []) (said_by reply ∷ []) self.new) }
+
+        // A box whose name has ended is told so. A box that is given was never given before. The
+        // last release of an owner that is done ends the boxes of its list.
+        ensures tells_ends { IfOk result (λ reply. TellsEnds self.old call (said_by reply)) }
+        ensures new_box { IfOk result (λ reply. GivesNewBox self.old (said_by reply)) }
+        ensures ends_owned { IfOk result (λ reply. EndsOwned self.old call (said_by reply) self.new) }
+
         // The state is sound, boxes at different places have different ids, and the store knows
-        // the held guards and owners. A name that has ended is never live again. A value that
-        // nothing disturbs stays.
+        // the held guards and owners. There are no more slots than were live at once and are
+        // retired. A name that has ended is never live again. A value that nothing disturbs stays.
         ensures kept { IsKept self.new }
+        ensures bounded { slots self.new.state ≤ self.new.state.peak + retired self.new.state }
         ensures ended { (n : Name) → IsEnded self.old.state n → IsEnded self.new.state n }
         ensures kept_value { (b : GenerationalPointer) (m : Name) →
             IsUndisturbed b m self.old call self.new →
@@ -94,8 +114,23 @@ impl<T: Drop, S: Storage<T>> Session<T, S> {
         ensures back { IfErr result (λ back. back.items ≡ calls.items) }
         ensures unchanged { OnErr result (self.new ≡ self.old) }
 
+        // Ids aside, the replies are the numbered machine's, which has no slots: they depend on the
+        // calls, and on which of them memory or an exhausted number refused.
+        ensures same_answers { IfOk result (λ replies. (a : SessionState T) → Matches self.old a →
+            AnswersAs a calls.items (replies_said replies.items) self.new) }
+
+        // What `call` promises of a call holds of each call of the run. No two replies give boxes
+        // with one id.
+        ensures promises { IfOk result (λ replies.
+            let said = replies_said replies.items in
+            (run : Run self.old calls.items said self.new) →
+            AllKeepPromises self.old calls.items said self.new run) }
+        ensures boxes_apart { IfOk result (λ replies.
+            GiveBoxesApart (replies_said replies.items)) }
+
         // What `call` keeps, each run keeps.
         ensures kept { IsKept self.new }
+        ensures bounded { slots self.new.state ≤ self.new.state.peak + retired self.new.state }
         ensures ended { (n : Name) → IsEnded self.old.state n → IsEnded self.new.state n }
         ensures kept_value { IfOk result (λ replies.
             let said = replies_said replies.items in

@@ -1,7 +1,9 @@
 use Rattle.std.proofs.Common.{◌≡◌, [], arith}
 use Rattle.std.proofs.lemmas.Grind.{common_steps}
-use Rattle.generational_box.proofs.SessionCalls.{run_goes, run_ends, run_kept_in, run_value_in}
-use Rattle.generational_box.proofs.Sessions.{run_ended}
+use Rattle.generational_box.proofs.NumberedCalls.{run_answers}
+use Rattle.generational_box.proofs.Promises.{all_keep_promises, boxes_apart}
+use Rattle.generational_box.proofs.SessionCalls.{run_goes, run_ends, kept_in, run_value_in}
+use Rattle.generational_box.proofs.Sessions.{run_kept, run_ended}
 use Rattle.generational_box.proofs.session.Session.run.Goals as goal
 
 pub loop-call-preserved : goal.loop-call-preserved
@@ -18,23 +20,37 @@ returns-clause-run g c =
     let none : c.loop-call.calls.items ≡ [] = grind (arith, common_steps) in
     run_ends _ _ _ _ _ c.loop-call.replies.items none c.loop-call.invariant.run
 
+pub returns-clause-same_answers : goal.returns-clause-same_answers
+returns-clause-same_answers g c a matches =
+    run_answers c.args.calls.items _ _ _ a matches
+    (kept_in _ _ c.self.view_is c.self.invariant).sound (returns-clause-run g c)
+
+pub returns-clause-promises : goal.returns-clause-promises
+returns-clause-promises g c run =
+    all_keep_promises c.args.calls.items _ _ _
+    (kept_in _ _ c.self.view_is c.self.invariant) run
+
+pub returns-clause-boxes_apart : goal.returns-clause-boxes_apart
+returns-clause-boxes_apart g c =
+    boxes_apart c.args.calls.items _ _ _ (returns-clause-run g c)
+
 pub invariant_of-self-in_default : goal.invariant_of-self-in_default
 invariant_of-self-in_default g c =
     let none : c.loop-call.calls.items ≡ [] = grind (arith, common_steps) in
-    run_kept_in _ _ _ c.args.calls.items _ c.self.view_is c.self.invariant
+    run_kept c.args.calls.items _ _ _ (kept_in _ _ c.self.view_is c.self.invariant)
     (run_ends _ _ _ _ _ c.loop-call.replies.items none c.loop-call.invariant.run)
 
 pub returns-clause-kept : goal.returns-clause-kept
 returns-clause-kept g c =
-    let none : c.loop-call.calls.items ≡ [] = grind (arith, common_steps) in
-    run_kept_in _ _ _ c.args.calls.items _ c.self.view_is c.self.invariant
-    (run_ends _ _ _ _ _ c.loop-call.replies.items none c.loop-call.invariant.run)
+    run_kept c.args.calls.items _ _ _
+    (kept_in _ _ c.self.view_is c.self.invariant) (returns-clause-run g c)
+
+pub returns-clause-bounded : goal.returns-clause-bounded
+returns-clause-bounded g c = (returns-clause-kept g c).bounded.few
 
 pub returns-clause-ended : goal.returns-clause-ended
 returns-clause-ended g c n ended =
-    let none : c.loop-call.calls.items ≡ [] = grind (arith, common_steps) in
-    run_ended c.args.calls.items _ c.args.self.now _
-    (run_ends _ _ _ _ _ c.loop-call.replies.items none c.loop-call.invariant.run) n ended
+    run_ended c.args.calls.items _ c.args.self.now _ (returns-clause-run g c) n ended
 
 pub returns-clause-kept_value : goal.returns-clause-kept_value
 returns-clause-kept_value g c b m run undisturbed =
