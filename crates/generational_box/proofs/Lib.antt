@@ -37,10 +37,12 @@ pub mod OwnerScans
 pub mod OwnerValues
 pub mod Placing
 pub mod Plain
+pub mod PlainFresh
 pub mod PlainSteps
 pub mod Playing
 pub mod PoolLemmas
 pub mod Readies
+pub mod Recording
 pub mod Releasing
 pub mod Rows
 pub mod RowsBorrows
