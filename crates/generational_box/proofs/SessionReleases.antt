@@ -1,12 +1,14 @@
 -- The release of an owner that a place of a session holds.
-use Rattle.std.proofs.Common.{◌≡◌, ◌≢◌, ℕ, Bool, true, false, cond, Option, None, Some, refl}
-use Rattle.std.proofs.Common.{sym, ap, subst, inl, inr, ⊎_elim}
+use Rattle.std.proofs.Common.{◌≡◌, ◌≢◌, ℕ, ◌-◌, Bool, true, false, cond, Option, None, Some, refl}
+use Rattle.std.proofs.Common.{sym, ap, subst, ◌∙◌, inl, inr, ⊎_elim}
 use Rattle.std.specs.Prelude.{nat_lt, ◌⊎◌}
 use Rattle.std.proofs.lemmas.Bool.{true≢false}
+use Rattle.std.specs.FinMap as map
+use Rattle.generational_box.specs.declared.calls.Call.{Call}
 use Rattle.generational_box.specs.declared.calls.Call.TheVariants as call
 use Rattle.generational_box.specs.State.{State, Holding}
 use Rattle.generational_box.specs.Borrowing.{Trouble}
-use Rattle.generational_box.specs.Ending.{hindered}
+use Rattle.generational_box.specs.Ending.{close, hindered}
 use Rattle.generational_box.specs.Machine.{Answer, Outcome, OwnerName, holding, let_go, unless}
 use Rattle.generational_box.specs.Machine.Action.{ReleaseOwner}
 use Rattle.generational_box.specs.Machine.Answer.{Done, Troubled, Refused}
