@@ -38,11 +38,13 @@ pub mod OwnerScans
 pub mod OwnerValues
 pub mod Placing
 pub mod Plain
+pub mod PlainFresh
 pub mod PlainSteps
 pub mod Playing
 pub mod PoolLemmas
 pub mod Promises
 pub mod Readies
+pub mod Recording
 pub mod Releasing
 pub mod Rows
 pub mod RowsBorrows

@@ -31,6 +31,15 @@ ghost use Rattle.generational_box.specs.Keeping.{Sets, IsUnwritten, IsUndisturbe
 ghost use Rattle.generational_box.specs.Keeping.{value_at, location_at};
 ghost use Rattle.generational_box.specs.Numbered.{Matches, AnswersAs, empty_session};
 ghost use Rattle.generational_box.specs.History.{plain, plain_call, plain_answer};
+ghost use Rattle.std.specs.Prelude.{not};
+ghost use Rattle.std.specs.FinSet as set;
+ghost use Rattle.generational_box.specs.declared.steps.StepCall.{StepCall};
+ghost use Rattle.generational_box.specs.Borrowing.{Guard};
+ghost use Rattle.generational_box.specs.Machine.{knows_reader, knows_writer};
+ghost use Rattle.generational_box.specs.Machine.Answer.{Made, Reads, Writes};
+ghost use Rattle.generational_box.specs.State.{IsGiven};
+ghost use Rattle.generational_box.specs.Readiness.{is_ready};
+ghost use Rattle.generational_box.specs.Recording.{recorded_as, is_hindered};
 
 /// A state in which nothing was made is sound, and each call leads from a sound state to a sound
 /// one.
@@ -196,4 +205,55 @@ pub fn boxes_are_told_apart_by_ids()
     ensures onward { (a b c : GenerationalPointer) →
         has_same_id a b ≡ true → has_same_id b c ≡ true → has_same_id a c ≡ true }
     ensures ids { (a b : GenerationalPointer) → (has_same_id a b ≡ true) ↔ (a.id ≡ b.id) }
+{}
+
+/// A call that is recorded is ready exactly where the machine's answer tells of no borrow, neither
+/// of readers nor of a writer; a release by a ticket is the release of any guard with that ticket.
+/// So a call that is ready is never answered so.
+pub fn calls_are_ready_where_no_borrow_is_told<T>()
+    ensures answer { (S : State T) (call : Action T) (step : StepCall) (new : Fresh) →
+        recorded_as call ≡ Some step → is_ready S step ≡ not (is_hindered (act S call new).0) }
+    ensures ready { (S R : State T) (call : Action T) (step : StepCall) (answer : Answer T) →
+        recorded_as call ≡ Some step → is_ready S step ≡ true → Meets S call answer R →
+        is_hindered answer ≡ false }
+{}
+
+/// No call changes the store's number or the first generation of its slots. Tickets never go
+/// back, and a name that was given stays given.
+pub fn steps_keep_the_store<T>()
+    ensures number { (S R : State T) (call : Action T) (answer : Answer T) →
+        Meets S call answer R → R.number ≡ S.number }
+    ensures start { (S R : State T) (call : Action T) (answer : Answer T) →
+        Meets S call answer R → R.start ≡ S.start }
+    ensures next { (S R : State T) (call : Action T) (answer : Answer T) →
+        Meets S call answer R → S.next ≤ R.next }
+    ensures given { (S R : State T) (call : Action T) (answer : Answer T) (n : Name) →
+        Meets S call answer R → IsGiven S n → IsGiven R n }
+{}
+
+/// A box that a call gives is of the store; its name was never given before, and is given from
+/// then on. A guard that a call gives is of the store, which knows it; its ticket is the next one.
+pub fn boxes_and_guards_are_new<T>()
+    ensures made { (S R : State T) (call : Action T) (b : GenerationalPointer) →
+        Meets S call (Made b) R → b.id.store ≡ S.number }
+    ensures name { (S R : State T) (call : Action T) (b : GenerationalPointer) →
+        Meets S call (Made b) R → set.contains S.given (name_of b) ≡ false }
+    ensures given { (S R : State T) (call : Action T) (b : GenerationalPointer) →
+        Meets S call (Made b) R → IsGiven R (name_of b) }
+    ensures guard { (S R : State T) (call : Action T) (g : Guard) →
+        Meets S call (Reads g) R → g.store ≡ S.number }
+    ensures reader { (S R : State T) (call : Action T) (g : Guard) →
+        Meets S call (Reads g) R → knows_reader R g ≡ true }
+    ensures reader_ticket { (S R : State T) (call : Action T) (g : Guard) →
+        Meets S call (Reads g) R → g.ticket ≡ S.next }
+    ensures writer { (S R : State T) (call : Action T) (g : Guard) (v : T) →
+        Meets S call (Writes g v) R → knows_writer R g ≡ true }
+    ensures writer_ticket { (S R : State T) (call : Action T) (g : Guard) (v : T) →
+        Meets S call (Writes g v) R → g.ticket ≡ S.next }
+{}
+
+/// A fresh state without its values is the fresh state of the machine without values.
+pub fn fresh_states_are_plain<T>()
+    ensures { (number start next : ℕ) →
+        plain (fresh {T = T} number start next) ≡ fresh number start next }
 {}

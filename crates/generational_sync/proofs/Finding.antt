@@ -13,9 +13,15 @@ use Rattle.generational_box.specs.Cells.Content.{Here, Lent}
 use Rattle.generational_box.specs.State.{IsSound, tickets_of}
 use Rattle.generational_box.specs.Borrowing.{content_at}
 use Rattle.generational_box.specs.Machine.{has_reader}
-use Rattle.generational_box.proofs.Maps.{by_name, key_same}
-use Rattle.generational_box.proofs.Named.{passes_both}
 use Rattle.generational_sync.specs.History.{Plain, first_name, reader_cell}
+use Rattle.generational_sync.proofs.Naming.{name_same}
+
+-- an element that passes one test passes another
+passes_both : {A : Type 0} (p q : A → Bool) → ((x : A) → q x ≡ true → p x ≡ true)
+    → (xs : List A) → list_any q xs ≡ true → list_any p xs ≡ true
+passes_both p q f [] h = h
+passes_both p q f (x ∷ xs) h =
+    ⊎_elim (λ e. or_left _ _ (f x e)) (λ e. or_right _ _ (passes_both p q f xs e)) (or_cases _ _ h)
 
 -- the one name that passes is found
 one_found : (test : Name → Bool) (m : Name) → ((n : Name) → test n ≡ true → n ≡ m)
@@ -60,6 +66,6 @@ reader_found P m t s h =
     s.one_cell n m t (reader_stands (content_at P n) t e) (reader_stands (content_at P m) t h))
     (map.keys P.cells)
     (passes_both test (eq_by_cmp name_cmp m)
-    (λ n e. ap test (sym (key_same by_name m n e)) ∙ h)
+    (λ n e. ap test (sym (name_same m n e)) ∙ h)
     (map.keys P.cells)
     (sym (map.contains_key-keys P.cells m) ∙ reader_live (map.get P.cells m) t h))

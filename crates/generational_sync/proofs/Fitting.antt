@@ -1,22 +1,17 @@
--- The test whether a name is new says what it should, with and without values.
-use Rattle.std.proofs.Common.{◌≡◌, ℕ, true, not, ◌&&◌, ap, ◌∙◌}
-use Rattle.std.proofs.Common.{inl, inr, ⊎_elim}
-use Rattle.std.specs.Prelude.{is_some, nat_eq, nat_lt}
+-- The test whether a name is new says what it should.
+use Rattle.std.proofs.Common.{◌≡◌, true, not, ap, inl, inr, ⊎_elim}
+use Rattle.std.specs.Prelude.{nat_eq}
 use Rattle.std.proofs.lemmas.Bool.{and_parts, and_from, or_left, or_right, or_cases, eqb-true}
-use Rattle.std.proofs.lemmas.Bool.{eq-eqb}
-use Rattle.std.proofs.lemmas.Bool.{not-true}
+use Rattle.std.proofs.lemmas.Bool.{eq-eqb, not-true}
 use Rattle.std.specs.FinMap as map
 use Rattle.std.specs.FinSet as set
 use Rattle.generational_box.specs.Names.{Name}
-use Rattle.generational_box.specs.State.{State}
-use Rattle.generational_box.specs.History.{plain}
-use Rattle.generational_box.specs.Slots.{Fits, slots_of, slots, free, is_free, is_last_live}
-use Rattle.generational_box.specs.Slots.{last_name}
-use Rattle.generational_box.specs.Slots.{last_generation}
+use Rattle.generational_box.specs.Boxes.{name_of}
+use Rattle.generational_box.specs.Slots.{Fits, slots_of, slots, free, is_free}
 use Rattle.generational_box.specs.Steps.{IsNew}
-use Rattle.generational_box.proofs.Moved.{some_map}
-use Rattle.generational_box.proofs.Plain.{carries_plain}
-use Rattle.generational_sync.specs.History.{Plain, fits, is_new}
+use Rattle.generational_sync.specs.declared.step.StepReply.{StepReply}
+use Rattle.generational_sync.specs.declared.step.StepReply.TheVariants as reply
+use Rattle.generational_sync.specs.History.{Plain, GivesNew, fits, is_new, gives_new}
 
 -- what passes the test fits, and what fits passes it
 pub fits_from : (P : Plain) (n : Name) → fits P n ≡ true → Fits P n
@@ -40,22 +35,13 @@ pub new_from : (P : Plain) (n : Name) → is_new P n ≡ true → IsNew P n
 new_from P n h = let e = and_parts (not (set.contains P.given n)) _ h in
     record { fresh = not-true _ e.0; fits = fits_from P n e.1 }
 
-module _ {T : Type 0} (S : State T) where
-  live_plain : (s : ℕ) → is_last_live (plain S) s ≡ is_last_live S s
-  live_plain s =
-      ap is_some ((carries_plain S).cells.at (last_name S s) tt)
-      ∙ some_map _ (map.get S.cells (last_name S s))
+pub new_to : (P : Plain) (n : Name) → IsNew P n → is_new P n ≡ true
+new_to P n new = and_from _ _ (ap not new.fresh) (fits_to P n new.fits)
 
-  free_slot : (s : ℕ) → is_free (plain S) s ≡ is_free S s
-  free_slot s =
-      ap (λ b. not b && nat_lt (last_name S s).generation last_generation) (live_plain s)
-
-  free_plain : free (plain S) ≡ free S
-  free_plain = ap (λ p. map.len (map.retain_keys (slots_of S) p)) (λ i s. free_slot s i)
-
-  -- a name that is new in a state is new in it without values
-  pub new_plain : (n : Name) → IsNew S n → is_new (plain S) n ≡ true
-  new_plain n new =
-      and_from _ _ (ap not new.fresh)
-      (fits_to (plain S) n (⊎_elim (λ e. inl (free_plain ∙ e.0, e.1, e.2))
-      (λ e. inr (e.0, free_slot n.slot ∙ e.1, e.2)) new.fits))
+-- what a recorded reply gives is new, where it passes
+pub gives_from : (P : Plain) (r : StepReply) → gives_new P r ≡ true → GivesNew P r
+gives_from P (reply.Made b) h = new_from P (name_of b) h
+gives_from P (reply.Reader t) h = tt
+gives_from P reply.Done h = tt
+gives_from P (reply.Dropped l) h = tt
+gives_from P (reply.Store e) h = tt

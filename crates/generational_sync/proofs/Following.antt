@@ -1,174 +1,261 @@
 -- The state without values takes the recorded step.
-use Rattle.std.proofs.Common.{◌≡◌, Bool, true, false, cond, ◌&&◌, Option, None, Some, refl}
-use Rattle.std.proofs.Common.{sym, ap, ◌∙◌, inl, inr}
-use Rattle.std.specs.Prelude.{not, nat_eq, ◌-◌, ◌^◌, option_map}
-use Rattle.std.proofs.lemmas.Bool.{and_parts, and_from, eqb-true}
+use Rattle.std.proofs.Common.{◌≡◌, Bool, true, false, cond, not, ◌&&◌, Option, None, Some}
+use Rattle.std.proofs.Common.{refl, sym, ap, subst, ◌∙◌, inl, inr}
+use Rattle.std.specs.Prelude.{nat_eq, ◌-◌, ◌^◌, option_map}
+use Rattle.std.proofs.lemmas.Bool.{true≢false, and_parts, and_from, eqb-true}
 use Rattle.generational_box.specs.declared.error.Location.{Location}
-use Rattle.generational_box.specs.declared.error.StoreError.TheVariants.{NumbersExhausted}
-use Rattle.generational_box.specs.declared.boxes.GenerationalPointer.{GenerationalPointer}
+use Rattle.generational_box.specs.declared.error.StoreError.TheVariants.{
+  OutOfMemory,
+  NumbersExhausted,
+  UnknownOwner,
+}
 use Rattle.generational_box.specs.declared.steps.StepCall.{StepCall}
 use Rattle.generational_box.specs.declared.steps.StepCall.TheVariants as call
-use Rattle.generational_box.specs.Boxes.{name_of}
 use Rattle.generational_box.specs.Names.{Name}
+use Rattle.generational_box.specs.Cells.{Content}
+use Rattle.generational_box.specs.Cells.Content.{Here, Lent}
 use Rattle.generational_box.specs.State.{State, IsSound}
-use Rattle.generational_box.specs.Borrowing.{Trouble, Guard, content_at, read_trouble}
+use Rattle.generational_box.specs.Borrowing.{Trouble, Guard, content_at, read_trouble, reach}
 use Rattle.generational_box.specs.Borrowing.Trouble.{Dropped, BeingRead, BeingWritten}
-use Rattle.generational_box.specs.Ending.{hindered}
+use Rattle.generational_box.specs.Ending.{hindered, close}
 use Rattle.generational_box.specs.Machine.{Action, Answer, Fresh, Outcome, act, unless, make_value}
-use Rattle.generational_box.specs.Machine.{knows_reader, without_reader, own_name}
-use Rattle.generational_box.specs.Machine.Action.{Make, Read, ReleaseReader, End}
+use Rattle.generational_box.specs.Machine.{knows_reader, without_reader, own_name, read_at}
+use Rattle.generational_box.specs.Machine.{contents}
+use Rattle.generational_box.specs.Machine.Action.{Make, MakeShared, Refer, NewOwner, CloneOwner}
+use Rattle.generational_box.specs.Machine.Action.{ReleaseOwner, LeakOwner, Read, Write}
+use Rattle.generational_box.specs.Machine.Action.{ReleaseReader, ReleaseWriter, SetValue, End}
+use Rattle.generational_box.specs.Machine.Action.{Point, CanRead, CanWrite}
 use Rattle.generational_box.specs.Machine.Answer.{Made, Owned, Reads, Writes, Done, Old, Flag, Back}
 use Rattle.generational_box.specs.Machine.Answer.{Troubled, Refused}
-use Rattle.generational_box.specs.Steps.{Meets, limited, takes_ticket}
-use Rattle.generational_box.specs.Readiness.{is_ready, tells_of_borrow}
+use Rattle.generational_box.specs.Steps.{IsNew, Meets, Takes, limited, takes_ticket, is_made}
+use Rattle.generational_box.specs.Readiness.{is_ready}
+use Rattle.generational_box.specs.Recording.{recorded_as, is_hindered}
 use Rattle.generational_box.specs.History.{plain, plain_call, plain_answer}
-use Rattle.generational_box.proofs.Plain.{plain_act}
 use Rattle.generational_sync.specs.declared.step.StepReply.{StepReply}
 use Rattle.generational_sync.specs.declared.step.StepReply.TheVariants as reply
 use Rattle.generational_sync.specs.Replies.{reply_to}
 use Rattle.generational_sync.specs.History.{Plain, plain_step, step_by, action_of, names_in}
-use Rattle.generational_sync.specs.History.{gives_new, is_lawful, is_new, guard_at}
+use Rattle.generational_sync.specs.History.{gives_new, guard_at}
 use Rattle.generational_sync.proofs.Replying.{recorded_is, plain_reply}
-use Rattle.generational_sync.proofs.Fitting.{new_plain}
+use Rattle.generational_sync.proofs.Fitting.{new_to}
 use Rattle.generational_sync.proofs.Finding.{reader_found}
 
--- ---- a lawful step
+-- what the laws of the machine say: a call is ready where its answer tells of no borrow, and each
+-- call is one of the state without values
+abbrev IsTold : Type 0
+IsTold = (P : Plain) (a : Action (Unit {0})) (c : StepCall) (new : Fresh)
+    → recorded_as a ≡ Some c → is_ready P c ≡ not (is_hindered (act P a new).0)
 
--- a call whose answer is recorded met no borrow in its way
-ready_by : (P : Plain) (t : Option Trouble) (other out : Outcome (Unit {0})) (r : StepReply)
-    → limited P (unless t P other) ≡ out → reply_to out.0 ≡ Some r → not (tells_of_borrow t) ≡ true
-ready_by P None other out r e h = refl
-ready_by P (Some (Dropped l)) other out r e h = refl
-ready_by P (Some (BeingRead ls)) other out r e h =
-    let none : reply_to out.0 ≡ None = ap (λ (o : Outcome (Unit {0})). reply_to o.0) (sym e) in
-    absurd cc
-ready_by P (Some (BeingWritten l)) other out r e h =
-    let none : reply_to out.0 ≡ None = ap (λ (o : Outcome (Unit {0})). reply_to o.0) (sym e) in
-    absurd cc
+abbrev IsPlain : Type 0 → Type 0
+IsPlain T = (S R : State T) (a : Action T) (answer : Answer T) → Meets S a answer R
+    → Meets (plain S) (plain_call a) (plain_answer answer) (plain R)
 
-lawful : (P : Plain) (c : StepCall) (r : StepReply)
-    (a : Action (Unit {0})) (out : Outcome (Unit {0}))
-    → action_of P c ≡ Some a → limited P (act P a (names_in r)) ≡ out → is_ready P c ≡ true
-    → gives_new P r ≡ true → reply_to out.0 ≡ Some r → plain_step P c r ≡ Some out.1
-unfolding plain_step
-lawful P c r a out action e ready new h =
-    ap (step_by P c r) action
-    ∙ (ap (λ (o : Outcome (Unit {0})). cond (is_lawful P c r o.0) (Some o.1) None) e
-    ∙ ap (λ b. cond b (Some out.1) None)
-    (and_from _ _ ready (and_from _ _ new (recorded_is (reply_to out.0) r h))))
+-- ---- what answers are recorded
+
+-- an answer that is recorded tells of no borrow
+unhindered : (P : Plain) (out : Outcome (Unit {0})) (r : StepReply)
+    → reply_to (limited P out).0 ≡ Some r → is_hindered out.0 ≡ false
+unhindered P (Troubled (BeingRead ls), Q) r h = absurd cc
+unhindered P (Troubled (BeingWritten l), Q) r h = absurd cc
+unhindered P (Troubled (Dropped l), Q) r h = refl
+unhindered P (Made b, Q) r h = refl
+unhindered P (Owned o, Q) r h = refl
+unhindered P (Reads g, Q) r h = refl
+unhindered P (Writes g v, Q) r h = refl
+unhindered P (Done, Q) r h = refl
+unhindered P (Old v, Q) r h = refl
+unhindered P (Flag b, Q) r h = refl
+unhindered P (Back v, Q) r h = refl
+unhindered P (Refused e, Q) r h = refl
+
+-- an answer that gives no box is recorded without one
+unnamed : (P : Plain) (answer : Answer (Unit {0})) (r : StepReply)
+    → is_made answer ≡ false → reply_to answer ≡ Some r → gives_new P r ≡ true
+unnamed P (Made b) r none h = absurd (true≢false none)
+unnamed P answer (reply.Reader t) none h = refl
+unnamed P answer reply.Done none h = refl
+unnamed P answer (reply.Dropped l) none h = refl
+unnamed P answer (reply.Store e) none h = refl
+unnamed P (Reads g) (reply.Made c) none h = absurd cc
+unnamed P Done (reply.Made c) none h = absurd cc
+unnamed P (Flag true) (reply.Made c) none h = absurd cc
+unnamed P (Flag false) (reply.Made c) none h = absurd cc
+unnamed P (Troubled (Dropped l)) (reply.Made c) none h = absurd cc
+unnamed P (Troubled (BeingRead ls)) (reply.Made c) none h = absurd cc
+unnamed P (Troubled (BeingWritten l)) (reply.Made c) none h = absurd cc
+unnamed P (Refused OutOfMemory) (reply.Made c) none h = absurd cc
+unnamed P (Refused NumbersExhausted) (reply.Made c) none h = absurd cc
+unnamed P (Refused UnknownOwner) (reply.Made c) none h = absurd cc
+unnamed P (Owned o) (reply.Made c) none h = absurd cc
+unnamed P (Writes g v) (reply.Made c) none h = absurd cc
+unnamed P (Old v) (reply.Made c) none h = absurd cc
+unnamed P (Back v) (reply.Made c) none h = absurd cc
+
+-- a read gives no box
+limited_unmade : (P : Plain) (out : Outcome (Unit {0}))
+    → is_made out.0 ≡ false → is_made (limited P out).0 ≡ false
+limited_unmade P out h = at (takes_ticket out.0 && nat_eq P.next (2 ^ 64 - 1))
+  where
+    at : (b : Bool)
+        → let x : Outcome (Unit {0}) = cond b (Refused NumbersExhausted, P) out in
+        is_made x.0 ≡ false
+    at true = refl
+    at false = h
+
+unless_unmade : (P : Plain) (t : Option Trouble) (out : Outcome (Unit {0}))
+    → is_made out.0 ≡ false → is_made (unless t P out).0 ≡ false
+unless_unmade P None out h = h
+unless_unmade P (Some t) out h = refl
+
+read_unmade : (P : Plain) (l : Location) (o : Option Name) (c : Option (Content (Unit {0})))
+    → is_made (read_at P l o c).0 ≡ false
+read_unmade P l None c = refl
+read_unmade P l (Some m) None = refl
+read_unmade P l (Some m) (Some (Here v rs)) = refl
+read_unmade P l (Some m) (Some (Lent w)) = refl
+
+-- a release whose answer is recorded was of a guard that the state knew
+known_by : (b : Bool) (P Q : Plain) (r : StepReply)
+    → let out : Outcome (Unit {0}) = limited P (cond b (Flag true, Q) (Flag false, P)) in
+    reply_to out.0 ≡ Some r → b ≡ true
+known_by true P Q r h = refl
+known_by false P Q r h = absurd cc
+
+flag_unmade : (b : Bool) (P Q : Plain)
+    → let out : Outcome (Unit {0}) = limited P (cond b (Flag true, Q) (Flag false, P)) in
+    is_made out.0 ≡ false
+flag_unmade true P Q = refl
+flag_unmade false P Q = refl
+
+-- ---- a step without values
+
+module _ (told : IsTold) (P : Plain) where
+  -- a call is a lawful step, where the names in its reply are those that it takes
+  lawful : (c : StepCall) (r : StepReply) (a : Action (Unit {0})) → recorded_as a ≡ Some c
+      → action_of P c ≡ Some a → gives_new P r ≡ true
+      → reply_to (limited P (act P a (names_in r))).0 ≡ Some r
+      → plain_step P c r ≡ Some (limited P (act P a (names_in r))).1
+  unfolding plain_step
+  lawful c r a as_call action new h =
+      let out : Outcome (Unit {0}) = limited P (act P a (names_in r)) in
+      let free = ap not (unhindered P (act P a (names_in r)) r h) in
+      let ready = told P a c (names_in r) as_call ∙ free in
+      ap (step_by P c r) action ∙ ap (λ b. cond b (Some out.1) None)
+      (and_from _ _ ready (and_from _ _ new (recorded_is (reply_to out.0) r h)))
+
+  -- the same, by what is left
+  leads : (c : StepCall) (r : StepReply) (a : Action (Unit {0})) (answer : Answer (Unit {0}))
+      (Q : Plain) → recorded_as a ≡ Some c → action_of P c ≡ Some a
+      → is_made (limited P (act P a (names_in r))).0 ≡ false
+      → (answer, Q) ≡ limited P (act P a (names_in r)) → reply_to answer ≡ Some r
+      → plain_step P c r ≡ Some Q
+  leads c r a answer Q as_call action none m h =
+      let said = ap (λ (o : Outcome (Unit {0})). reply_to o.0) (sym m) ∙ h in
+      lawful c r a as_call action (unnamed P _ r none said) said
+      ∙ ap (λ (o : Outcome (Unit {0})). Some o.1) (sym m)
+
+  made_follows : (l : Location) (f : Fresh) (answer : Answer (Unit {0})) (Q : Plain)
+      (r : StepReply) → IsNew P f.first → (answer, Q) ≡ make_value P None tt l f.first
+      → reply_to answer ≡ Some r → plain_step P (call.Leak l) r ≡ Some Q
+  made_follows l f answer Q r new m h =
+      let said = ap (λ (o : Outcome (Unit {0})). reply_to o.0) (sym m) ∙ h in
+      subst (λ x. plain_step P (call.Leak l) x ≡ Some Q) (some_is _ _ said)
+      (lawful (call.Leak l) _ (Make None tt l) refl refl (new_to P f.first new) refl
+      ∙ ap (λ (o : Outcome (Unit {0})). Some o.1) (sym m))
+    where
+      some_is : (x y : StepReply) → Some x ≡ Some y → x ≡ y
+      some_is x y e = cc
+
+  release_follows : (g : Guard) (new : Fresh) (answer : Answer (Unit {0})) (Q : Plain)
+      (r : StepReply) → IsSound P → (answer, Q) ≡ limited P (act P (ReleaseReader g) new)
+      → reply_to answer ≡ Some r → plain_step P (call.ReleaseRead g.ticket) r ≡ Some Q
+  release_follows g new answer Q r sound m h =
+      let said = ap (λ (o : Outcome (Unit {0})). reply_to o.0) (sym m) ∙ h in
+      let left = without_reader P g.cell g.ticket (content_at P g.cell) in
+      let parts = and_parts (nat_eq g.store P.number) _
+      (known_by (knows_reader P g) P left r said) in
+      let own : guard_at P g.ticket g.cell ≡ g = λ i.
+      record {
+        store = sym (eqb-true g.store P.number parts.0) i;
+        cell = g.cell;
+        ticket = g.ticket;
+      } in
+      leads (call.ReleaseRead g.ticket) r (ReleaseReader g) answer Q refl
+      (ap (option_map (λ n. ReleaseReader (guard_at P g.ticket n)))
+      (reader_found P g.cell g.ticket sound parts.1) ∙ ap (λ x. Some (ReleaseReader x)) own)
+      (flag_unmade (knows_reader P g) P left) m h
+
+  -- a step of a recorded call, under the names that it takes
+  does : (a : Action (Unit {0})) (c : StepCall) (new : Fresh) (answer : Answer (Unit {0}))
+      (Q : Plain) (r : StepReply) → IsSound P → recorded_as a ≡ Some c
+      → Takes P a answer new → (answer, Q) ≡ limited P (act P a new) → reply_to answer ≡ Some r
+      → plain_step P c r ≡ Some Q
+  does (Make None v l) c new answer Q r sound e takes m h =
+      let same : call.Leak l ≡ c = cc in
+      let fits = subst (λ (o : Outcome (Unit {0})). Takes P (Make None v l) o.0 new) m takes in
+      subst (λ x. plain_step P x r ≡ Some Q) same (made_follows l new answer Q r fits m h)
+  does (Read b l) c new answer Q r sound e takes m h =
+      let same : call.Read b l ≡ c = cc in
+      let read = read_at P l (reach P b) (contents P (reach P b)) in
+      let none = unless_unmade P (read_trouble P b) read
+      (read_unmade P l (reach P b) (contents P (reach P b))) in
+      subst (λ x. plain_step P x r ≡ Some Q) same
+      (leads (call.Read b l) r (Read b l) answer Q refl refl (limited_unmade P _ none) m h)
+  does (ReleaseReader g) c new answer Q r sound e takes m h =
+      let same : call.ReleaseRead g.ticket ≡ c = cc in
+      subst (λ x. plain_step P x r ≡ Some Q) same (release_follows g new answer Q r sound m h)
+  does (End b) c new answer Q r sound e takes m h =
+      let same : call.ManuallyDrop b ≡ c = cc in
+      let none = unless_unmade P (hindered P (own_name P b)) (Done, close P (own_name P b)) refl in
+      subst (λ x. plain_step P x r ≡ Some Q) same
+      (leads (call.ManuallyDrop b) r (End b) answer Q refl refl (limited_unmade P _ none) m h)
+  does (Make (Some o) v l) c new answer Q r sound e takes m h = absurd cc
+  does (MakeShared o v l) c new answer Q r sound e takes m h = absurd cc
+  does (Refer o b) c new answer Q r sound e takes m h = absurd cc
+  does NewOwner c new answer Q r sound e takes m h = absurd cc
+  does (CloneOwner o) c new answer Q r sound e takes m h = absurd cc
+  does (ReleaseOwner o) c new answer Q r sound e takes m h = absurd cc
+  does (LeakOwner o) c new answer Q r sound e takes m h = absurd cc
+  does (Write b l) c new answer Q r sound e takes m h = absurd cc
+  does (ReleaseWriter g v) c new answer Q r sound e takes m h = absurd cc
+  does (SetValue b v) c new answer Q r sound e takes m h = absurd cc
+  does (Point a b) c new answer Q r sound e takes m h = absurd cc
+  does (CanRead b) c new answer Q r sound e takes m h = absurd cc
+  does (CanWrite b) c new answer Q r sound e takes m h = absurd cc
+
+  follows : (a : Action (Unit {0})) (c : StepCall) (answer : Answer (Unit {0})) (Q : Plain)
+      (r : StepReply) → IsSound P → recorded_as a ≡ Some c → Meets P a answer Q
+      → reply_to answer ≡ Some r → plain_step P c r ≡ Some Q
+  follows a c answer Q r sound e (inl m) h = does a c m.0 answer Q r sound e m.1 m.2 h
+  follows a c answer Q r sound e (inr m) h =
+      let none : reply_to answer ≡ None = ap reply_to m.1 in absurd cc
 
 -- ---- a step of the store, without values
 
 module _ {T : Type 0} where
-  -- the flag that an answer is, or another
-  abbrev flag_or : Bool → Answer T → Bool
-  flag_or b (Flag c) = c
-  flag_or b _ = b
+  plain_recorded : (a : Action T) → recorded_as (plain_call a) ≡ recorded_as a
+  plain_recorded (Make None v l) = refl
+  plain_recorded (Make (Some o) v l) = refl
+  plain_recorded (MakeShared o v l) = refl
+  plain_recorded (Refer o b) = refl
+  plain_recorded NewOwner = refl
+  plain_recorded (CloneOwner o) = refl
+  plain_recorded (ReleaseOwner o) = refl
+  plain_recorded (LeakOwner o) = refl
+  plain_recorded (Read b l) = refl
+  plain_recorded (Write b l) = refl
+  plain_recorded (ReleaseReader g) = refl
+  plain_recorded (ReleaseWriter g v) = refl
+  plain_recorded (SetValue b v) = refl
+  plain_recorded (End b) = refl
+  plain_recorded (Point a b) = refl
+  plain_recorded (CanRead b) = refl
+  plain_recorded (CanWrite b) = refl
 
-  -- a guard that was released was known
-  pub release_known : (S R : State T) (g : Guard) (known : Bool)
-      → Meets S (ReleaseReader g) (Flag known) R → known ≡ knows_reader S g
-  release_known S R g known (inl m) = at (knows_reader S g) m.2
-    where
-      at : (b : Bool) → (Flag known, R) ≡ limited S (cond b
-          (Flag true, without_reader S g.cell g.ticket (content_at S g.cell)) (Flag false, S))
-          → known ≡ b
-      at true e = ap (λ (o : Outcome T). flag_or known o.0) e
-      at false e = ap (λ (o : Outcome T). flag_or known o.0) e
-  release_known S R g known (inr m) = absurd cc
-
-module _ {T : Type 0} where
-  abbrev plain_out : Outcome T → Outcome (Unit {0})
-  plain_out out = (plain_answer out.0, plain out.1)
-
-  plain_takes : (answer : Answer T) → takes_ticket (plain_answer answer) ≡ takes_ticket answer
-  plain_takes (Made b) = refl
-  plain_takes (Owned o) = refl
-  plain_takes (Reads g) = refl
-  plain_takes (Writes g v) = refl
-  plain_takes Done = refl
-  plain_takes (Old v) = refl
-  plain_takes (Flag b) = refl
-  plain_takes (Back v) = refl
-  plain_takes (Troubled t) = refl
-  plain_takes (Refused e) = refl
-
-  plain_limited : (S : State T) (out : Outcome T)
-      → limited (plain S) (plain_out out) ≡ plain_out (limited S out)
-  plain_limited S out =
-      ap (λ b. cond (b && last) (Refused NumbersExhausted, plain S) (plain_out out))
-      (plain_takes out.0) ∙ at (takes_ticket out.0 && last)
-    where
-      last : Bool
-      last = nat_eq S.next (2 ^ 64 - 1)
-
-      at : (b : Bool) → cond b (Refused NumbersExhausted, plain S) (plain_out out)
-          ≡ plain_out (cond b (Refused NumbersExhausted, S) out)
-      at true = refl
-      at false = refl
-
-  plain_does : (S R : State T) (a : Action T) (answer : Answer T) (new : Fresh)
-      → (answer, R) ≡ limited S (act S a new)
-      → limited (plain S) (act (plain S) (plain_call a) new) ≡ (plain_answer answer, plain R)
-  plain_does S R a answer new e =
-      ap (limited (plain S)) (plain_act S a new)
-      ∙ (plain_limited S (act S a new) ∙ sym (ap plain_out e))
-
-  -- the name that an answer gives, or another
-  abbrev name_or : Name → Answer T → Name
-  name_or n (Made b) = name_of b
-  name_or n _ = n
-
-  -- ---- by the calls
-
-  pub made_follows : (S R : State T) (v : T) (l : Location) (b : GenerationalPointer)
-      → Meets S (Make None v l) (Made b) R
-      → plain_step (plain S) (call.Leak l) (reply.Made b) ≡ Some (plain R)
-  made_follows S R v l b (inl m) =
-      let same : name_of b ≡ m.0.first = ap (λ (o : Outcome T). name_or (name_of b) o.0) m.2 in
-      lawful (plain S) (call.Leak l) (reply.Made b) (Make None tt l) (Made b, plain R) refl
-      (ap (λ n. limited (plain S) (make_value (plain S) None tt l n)) same
-      ∙ plain_does S R (Make None v l) (Made b) m.0 m.2)
-      refl (ap (λ n. is_new (plain S) n) same ∙ new_plain S m.0.first m.1) refl
-  made_follows S R v l b (inr m) = absurd cc
-
-  pub read_follows : (S R : State T) (b : GenerationalPointer) (l : Location) (answer : Answer T)
-      (r : StepReply) → Meets S (Read b l) answer R → reply_to answer ≡ Some r
-      → gives_new (plain S) r ≡ true
-      → plain_step (plain S) (call.Read b l) r ≡ Some (plain R)
-  read_follows S R b l answer r (inl m) h new =
-      let does = plain_does S R (Read b l) answer m.0 m.2 in
-      let said = plain_reply answer ∙ h in
-      lawful (plain S) (call.Read b l) r (Read b l) (plain_answer answer, plain R) refl does
-      (ready_by (plain S) (read_trouble (plain S) b) _ _ r does said) new said
-  read_follows S R b l answer r (inr m) h new =
-      let none : reply_to answer ≡ None = ap reply_to m.1 in absurd cc
-
-  pub end_follows : (S R : State T) (b : GenerationalPointer) → Meets S (End b) Done R
-      → plain_step (plain S) (call.ManuallyDrop b) reply.Done ≡ Some (plain R)
-  end_follows S R b (inl m) =
-      let does = plain_does S R (End b) Done m.0 m.2 in
-      lawful (plain S) (call.ManuallyDrop b) reply.Done (End b) (Done, plain R) refl does
-      (ready_by (plain S) (hindered (plain S) (own_name (plain S) b)) _ _ reply.Done does refl)
-      refl refl
-  end_follows S R b (inr m) = absurd cc
-
-  pub release_follows : (S R : State T) (g : Guard) → IsSound (plain S)
-      → Meets S (ReleaseReader g) (Flag true) R
-      → plain_step (plain S) (call.ReleaseRead g.ticket) reply.Done ≡ Some (plain R)
-  release_follows S R g sound (inl m) =
-      let does = plain_does S R (ReleaseReader g) (Flag true) m.0 m.2 in
-      let known = release_known (plain S) (plain R) g true (inl (m.0, tt, sym does)) in
-      let parts = and_parts (nat_eq g.store S.number) _ (sym known) in
-      let at = reader_found (plain S) g.cell g.ticket sound parts.1 in
-      let own : guard_at (plain S) g.ticket g.cell ≡ g = λ i.
-      record {
-        store = sym (eqb-true g.store S.number parts.0) i;
-        cell = g.cell;
-        ticket = g.ticket;
-      } in
-      lawful (plain S) (call.ReleaseRead g.ticket) reply.Done (ReleaseReader g) (Flag true, plain R)
-      (ap (option_map (λ n. ReleaseReader (guard_at (plain S) g.ticket n))) at
-      ∙ ap (λ x. Some (ReleaseReader x)) own)
-      does refl refl refl
-  release_follows S R g sound (inr m) = absurd cc
+  pub plain_follows : IsTold → IsPlain T → (S R : State T) (a : Action T) (c : StepCall)
+      (answer : Answer T) (r : StepReply) → IsSound (plain S) → recorded_as a ≡ Some c
+      → Meets S a answer R → reply_to answer ≡ Some r
+      → plain_step (plain S) c r ≡ Some (plain R)
+  plain_follows told without S R a c answer r sound e m h =
+      follows told (plain S) (plain_call a) c (plain_answer answer) (plain R) r sound
+      (plain_recorded a ∙ e) (without S R a answer m) (plain_reply answer ∙ h)

@@ -2,6 +2,7 @@ pub mod Finding
 pub mod Fitting
 pub mod Following
 pub mod Keeping
+pub mod Naming
 pub mod Refusing
 pub mod Replaying
 pub mod Replying

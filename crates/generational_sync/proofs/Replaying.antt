@@ -1,7 +1,8 @@
 -- What holds of each history that replays: its states are sound, and of the one store.
-use Rattle.std.proofs.Common.{◌≡◌, ℕ, Bool, true, false, cond, ◌&&◌, List, [], ◌∷◌, ◌++◌, Option}
+use Rattle.std.proofs.Common.{◌≡◌, ℕ, Bool, true, false, cond, List, [], ◌∷◌, ◌++◌, Option}
 use Rattle.std.proofs.Common.{None, Some, refl, sym, ap, subst, ◌∙◌, inl}
 use Rattle.std.specs.Prelude.{option_map}
+use Rattle.std.proofs.lemmas.Bool.{and_parts}
 use Rattle.generational_box.specs.declared.steps.StepCall.{StepCall}
 use Rattle.generational_box.specs.declared.steps.StepCall.TheVariants.{
   Leak,
@@ -15,85 +16,139 @@ use Rattle.generational_box.specs.Boxes.{name_of}
 use Rattle.generational_box.specs.Machine.{Action, Answer, Fresh, Outcome, act}
 use Rattle.generational_box.specs.Machine.Action.{Make, Read as ReadBox, ReleaseReader, End}
 use Rattle.generational_box.specs.Machine.Answer.{Made}
-use Rattle.generational_box.specs.Steps.{AreNew, Takes, limited}
+use Rattle.generational_box.specs.Steps.{AreNew, Takes, Meets, limited}
+use Rattle.generational_box.specs.Readiness.{is_ready}
 use Rattle.generational_box.specs.History.{plain}
-use Rattle.generational_box.proofs.Lasting.{fresh_sound}
-use Rattle.generational_box.proofs.Stepping.{meets_sound, meets_number}
 use Rattle.generational_sync.specs.declared.step.Step.{Step}
 use Rattle.generational_sync.specs.declared.step.StepReply.{StepReply}
 use Rattle.generational_sync.specs.declared.step.StepReply.TheVariants as reply
-use Rattle.generational_sync.specs.History.{Plain, plain_step, step_by, names_in}
-use Rattle.generational_sync.specs.History.{is_new, is_lawful, guard_at, reader_cell}
-use Rattle.generational_sync.specs.History.{replay_on, replay_from, start, IsTaken}
-use Rattle.generational_sync.proofs.Fitting.{new_from}
+use Rattle.generational_sync.specs.History.{Plain, plain_step, step_by, names_in, action_of}
+use Rattle.generational_sync.specs.History.{gives_new, is_lawful, guard_at, reader_cell}
+use Rattle.generational_sync.specs.History.{replay_on, replay_from, start, IsTaken, LeadsOver}
+use Rattle.generational_sync.proofs.Fitting.{new_from, gives_from}
 
 takes_any : (P : Plain) (a : Action (Unit {0})) (answer : Answer (Unit {0})) (f : Fresh)
     → AreNew P a f → Takes P a answer f
 takes_any P a (Made b) f new = new
 takes_any P a _ f new = tt
 
+-- a step that is lawful is taken
 taken_by : (P Q : Plain) (c : StepCall) (r : StepReply) (a : Action (Unit {0}))
-    → AreNew P a (names_in r) → step_by P c r (Some a) ≡ Some Q → IsTaken P Q
-taken_by P Q c r a new e = at (is_lawful P c r (limited P (act P a (names_in r))).0) e
+    → action_of P c ≡ Some a → (gives_new P r ≡ true → AreNew P a (names_in r))
+    → step_by P c r (Some a) ≡ Some Q → IsTaken P c r Q
+taken_by P Q c r a asks new e = at (is_lawful P c r out.0) refl e
   where
-    at : (b : Bool) → cond b (Some (limited P (act P a (names_in r))).1) None ≡ Some Q → IsTaken P Q
-    at true e =
-        let out : Outcome (Unit {0}) = limited P (act P a (names_in r)) in
-        let same : out.1 ≡ Q = cc in (
-          a,
-          out.0,
-          inl (names_in r, takes_any P a out.0 (names_in r) new, λ i. (out.0, sym same i)),
-        )
-    at false e = absurd cc
+    out : Outcome (Unit {0})
+    out = limited P (act P a (names_in r))
 
--- a box that was recorded had a new name
-new_recorded : (P : Plain) (n : Name) (b : Bool) (Q R : Plain)
-    → cond (is_new P n && b) (Some Q) None ≡ Some R → is_new P n ≡ true
-new_recorded P n b Q R e = at (is_new P n) e
-  where
-    at : (x : Bool) → cond (x && b) (Some Q) None ≡ Some R → x ≡ true
-    at true e = refl
-    at false e = absurd cc
+    at : (b : Bool) → is_lawful P c r out.0 ≡ b → cond b (Some out.1) None ≡ Some Q
+        → IsTaken P c r Q
+    at true is e =
+        let ready = and_parts (is_ready P c) _ is in
+        let gives = and_parts (gives_new P r) _ ready.1 in
+        let same : out.1 ≡ Q = cc in
+        record {
+          action = a;
+          asked = asks;
+          ready = ready.0;
+          answer = out.0;
+          met = inl (
+            names_in r,
+            takes_any P a out.0 (names_in r) (new gives.0),
+            λ i. (out.0, sym same i),
+          );
+          replied = gives.1;
+          named = gives_from P r gives.0;
+        }
+    at false is e = absurd cc
 
 pub step_taken : (P Q : Plain) (c : StepCall) (r : StepReply)
-    → plain_step P c r ≡ Some Q → IsTaken P Q
+    → plain_step P c r ≡ Some Q → IsTaken P c r Q
 unfolding plain_step
 step_taken P Q (Leak l) (reply.Made b) e =
-    taken_by P Q (Leak l) (reply.Made b) (Make None tt l)
-    (new_from P (name_of b) (new_recorded P (name_of b) _ _ Q e)) e
+    taken_by P Q (Leak l) (reply.Made b) (Make None tt l) refl (new_from P (name_of b)) e
 step_taken P Q (Leak l) (reply.Reader t) e = absurd cc
 step_taken P Q (Leak l) reply.Done e = absurd cc
 step_taken P Q (Leak l) (reply.Dropped d) e = absurd cc
 step_taken P Q (Leak l) (reply.Store s) e = absurd cc
-step_taken P Q (Read b l) r e = taken_by P Q (Read b l) r (ReadBox b l) tt e
-step_taken P Q (ReleaseRead t) r e = at (reader_cell P t) e
+step_taken P Q (Read b l) r e = taken_by P Q (Read b l) r (ReadBox b l) refl (λ h. tt) e
+step_taken P Q (ReleaseRead t) r e = at (reader_cell P t) refl e
   where
-    at : (o : Option Name)
+    at : (o : Option Name) → reader_cell P t ≡ o
         → step_by P (ReleaseRead t) r (option_map (λ n. ReleaseReader (guard_at P t n)) o) ≡ Some Q
-        → IsTaken P Q
-    at None e = absurd cc
-    at (Some n) e = taken_by P Q (ReleaseRead t) r (ReleaseReader (guard_at P t n)) tt e
-step_taken P Q (ManuallyDrop b) r e = taken_by P Q (ManuallyDrop b) r (End b) tt e
+        → IsTaken P (ReleaseRead t) r Q
+    at None is e = absurd cc
+    at (Some n) is e =
+        taken_by P Q (ReleaseRead t) r (ReleaseReader (guard_at P t n))
+        (ap (option_map (λ m. ReleaseReader (guard_at P t m))) is) (λ h. tt) e
+step_taken P Q (ManuallyDrop b) r e = taken_by P Q (ManuallyDrop b) r (End b) refl (λ h. tt) e
+
+-- ---- a step within a history
+
+module _ (x : Step) (after : List Step) (R : Plain) where
+  -- the steps before it lead somewhere
+  led_before : (before : List Step) (o : Option Plain)
+      → replay_on (before ++ x ∷ after) o ≡ Some R
+      → (S : Plain) × (replay_on before o ≡ Some S) × (replay_on (x ∷ after) (Some S) ≡ Some R)
+  led_before [] None e = absurd cc
+  led_before [] (Some S) e = (S, refl, e)
+  led_before (y ∷ ys) None e = absurd cc
+  led_before (y ∷ ys) (Some S) e = led_before ys (plain_step S y.call y.reply) e
+
+-- and so does the step, where those after it go on
+led_by : (xs : List Step) (o : Option Plain) (R : Plain) → replay_on xs o ≡ Some R
+    → (Q : Plain) × (o ≡ Some Q) × (replay_on xs (Some Q) ≡ Some R)
+led_by xs (Some Q) R e = (Q, refl, e)
+led_by [] None R e = absurd cc
+led_by (x ∷ xs) None R e = absurd cc
+
+pub leads_over : (P R : Plain) (before : List Step) (x : Step) (after : List Step)
+    → replay_from P (before ++ x ∷ after) ≡ Some R → LeadsOver P before x after R
+leads_over P R before x after e =
+    let here = led_before x after R before (Some P) e in
+    let there = led_by after (plain_step here.0 x.call x.reply) R here.2 in
+    (here.0, there.0, here.1, step_taken here.0 there.0 x.call x.reply there.1, there.2)
+
+-- ---- what holds of all states of a history
 
 -- a state is sound, and of the store of this number
 abbrev Good : ℕ → Plain → Type 0
 Good number P = IsSound P × (P.number ≡ number)
 
-step_good : (number : ℕ) (P Q : Plain) (c : StepCall) (r : StepReply)
-    → Good number P → plain_step P c r ≡ Some Q → Good number Q
-step_good number P Q c r good e =
-    let took = step_taken P Q c r e in (
-      meets_sound P Q took.0 took.1 good.0 took.2,
-      meets_number P Q took.0 took.1 took.2 ∙ good.1,
-    )
+-- what the laws of the machine say of states without values
+abbrev KeepsSound : Type 0
+KeepsSound = (P Q : Plain) (a : Action (Unit {0})) (answer : Answer (Unit {0}))
+    → IsSound P → Meets P a answer Q → IsSound Q
 
-replay_good : (number : ℕ) (steps : List Step) (o : Option Plain) (Q : Plain)
-    → ((P : Plain) → o ≡ Some P → Good number P) → replay_on steps o ≡ Some Q → Good number Q
-replay_good number [] o Q good e = good Q e
-replay_good number (x ∷ xs) None Q good e = absurd cc
-replay_good number (x ∷ xs) (Some P) Q good e =
-    replay_good number xs (plain_step P x.call x.reply) Q
-    (λ R k. step_good number P R x.call x.reply (good P refl) k) e
+abbrev KeepsNumber : Type 0
+KeepsNumber = (P Q : Plain) (a : Action (Unit {0})) (answer : Answer (Unit {0}))
+    → Meets P a answer Q → Q.number ≡ P.number
+
+module _ (sound : KeepsSound) (numbered : KeepsNumber) where
+  step_good : (number : ℕ) (P Q : Plain) (c : StepCall) (r : StepReply)
+      → Good number P → plain_step P c r ≡ Some Q → Good number Q
+  step_good number P Q c r good e =
+      let took = step_taken P Q c r e in (
+        sound P Q took.action took.answer good.0 took.met,
+        numbered P Q took.action took.answer took.met ∙ good.1,
+      )
+
+  replay_good : (number : ℕ) (steps : List Step) (o : Option Plain) (Q : Plain)
+      → ((P : Plain) → o ≡ Some P → Good number P) → replay_on steps o ≡ Some Q → Good number Q
+  replay_good number [] o Q good e = good Q e
+  replay_good number (x ∷ xs) None Q good e = absurd cc
+  replay_good number (x ∷ xs) (Some P) Q good e =
+      replay_good number xs (plain_step P x.call x.reply) Q
+      (λ R k. step_good number P R x.call x.reply (good P refl) k) e
+
+  -- a state to which a history replays is sound, and of the store with the number of its start
+  pub replay_kept : (number : ℕ) (steps : List Step) (Q : Plain) → IsSound (start number)
+      → replay_from (start number) steps ≡ Some Q → Good number Q
+  replay_kept number steps Q begins e =
+      replay_good number steps (Some (start number)) Q
+      (λ P k.
+      let same : start number ≡ P = cc in
+      subst (Good number) same (begins, refl)) e
 
 -- one lawful step more
 replay_more : (steps : List Step) (o : Option Plain) (P Q : Plain) (x : Step)
@@ -102,15 +157,6 @@ replay_more : (steps : List Step) (o : Option Plain) (P Q : Plain) (x : Step)
 replay_more [] o P Q x e k = ap (replay_on (x ∷ [])) e ∙ k
 replay_more (y ∷ ys) None P Q x e k = absurd cc
 replay_more (y ∷ ys) (Some R) P Q x e k = replay_more ys (plain_step R y.call y.reply) P Q x e k
-
--- a state to which a history replays is sound, and of the store with the number of its start
-pub replay_kept : (number : ℕ) (steps : List Step) (Q : Plain)
-    → replay_from (start number) steps ≡ Some Q → Good number Q
-replay_kept number steps Q e =
-    replay_good number steps (Some (start number)) Q
-    (λ P k.
-    let same : start number ≡ P = cc in
-    subst (Good number) same (fresh_sound number 1 0, refl)) e
 
 module _ {T : Type 0} where
   -- the history after a step more replays to the state after it

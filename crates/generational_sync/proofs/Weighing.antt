@@ -9,8 +9,8 @@ use Rattle.std.proofs.lemmas.Bool.{and_parts, and_from}
 use Rattle.std.specs.FinMap as map
 use Rattle.generational_box.specs.Names.{Name, NameMap, name_cmp, changed, changed_if}
 use Rattle.generational_box.specs.Cells.{Cell}
-use Rattle.generational_box.proofs.Maps.{name_total, name_exact}
 use Rattle.generational_sync.specs.Standing.{borrows_of, borrows_in}
+use Rattle.generational_sync.proofs.Naming.{name_total, name_exact}
 
 less : (r : Ordering) → is_lt r ≡ true → r ≡ Less
 less Less h = refl

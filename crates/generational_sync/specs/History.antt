@@ -1,5 +1,5 @@
 -- Histories of steps, and what they make of a state without values.
-use Rattle.std.specs.Prelude.{ℕ, ◌+◌, Bool, true, not, ◌&&◌, ◌||◌, nat_eq}
+use Rattle.std.specs.Prelude.{◌≡◌, ℕ, ◌+◌, Bool, true, not, ◌&&◌, ◌||◌, nat_eq}
 use Rattle.std.specs.Prelude.{if◌then◌else◌, List, [], ◌∷◌, Option, Some, None, option_map}
 use Rattle.std.specs.FinMap as map
 use Rattle.std.specs.FinSet as set
@@ -17,7 +17,7 @@ use Rattle.generational_box.specs.Borrowing.{Guard, content_at}
 use Rattle.generational_box.specs.Machine.{Action, Answer, Fresh, Outcome, act, has_reader}
 use Rattle.generational_box.specs.Machine.Action.{Make, Read as ReadBox, ReleaseReader, End}
 use Rattle.generational_box.specs.Slots.{slots_of, slots, free, is_free, last_name}
-use Rattle.generational_box.specs.Steps.{Meets, limited, no_names}
+use Rattle.generational_box.specs.Steps.{Meets, IsNew, limited, no_names}
 use Rattle.generational_box.specs.Readiness.{is_ready}
 use Rattle.generational_sync.specs.declared.step.Step.{Step}
 use Rattle.generational_sync.specs.declared.step.StepReply.{StepReply}
@@ -102,6 +102,28 @@ replay_on (x ∷ xs) (Some P) = replay_on xs (plain_step P x.call x.reply)
 abbrev pub replay_from : Plain → List Step → Option Plain
 replay_from P steps = replay_on steps (Some P)
 
--- some step of the machine leads from one state to another
-abbrev pub IsTaken : Plain → Plain → Type 0
-IsTaken P Q = (a : Action (Unit {0})) × (answer : Answer (Unit {0})) × Meets P a answer Q
+-- a name that a recorded reply gives was never given before, and fits
+abbrev pub GivesNew : Plain → StepReply → Type 0
+GivesNew P (reply.Made b) = IsNew P (name_of b)
+GivesNew P _ = Unit {0}
+
+-- A recorded step as the machine takes it, from one state to another.
+pub record IsTaken (P : Plain) (c : StepCall) (r : StepReply) (Q : Plain) : Type 0 where
+  -- what the recorded call asks of the machine
+  pub action : Action (Unit {0})
+  pub asked : action_of P c ≡ Some action
+  -- no borrow stood in its way
+  pub ready : is_ready P c ≡ true
+  -- the machine answers it so, and goes on to the other state
+  pub answer : Answer (Unit {0})
+  pub met : Meets P action answer Q
+  -- the recorded reply is this answer
+  pub replied : is_recorded (reply_to answer) r ≡ true
+  -- and a name that it gives was new
+  pub named : GivesNew P r
+
+-- a history led over a recorded step: to a state before it, by it to another, and on from there
+abbrev pub LeadsOver : Plain → List Step → Step → List Step → Plain → Type 0
+LeadsOver P before x after R =
+    (S : Plain) × (Q : Plain) × (replay_from P before ≡ Some S) × IsTaken S x.call x.reply Q
+    × (replay_from Q after ≡ Some R)

@@ -1,18 +1,45 @@
 //! Laws of histories, each the contract of a function that does nothing.
 
-ghost use Rattle.std.specs.Prelude.{◌≡◌, ℕ, List, Some};
-ghost use Rattle.generational_box.specs.State.{IsSound};
+ghost use Rattle.std.specs.Prelude.{◌≡◌, ℕ, List, ◌∷◌, ◌++◌, Some};
+ghost use Rattle.generational_box.specs.State.{State, IsSound, fresh};
 ghost use Rattle.generational_box.specs.declared.steps.StepCall.{StepCall};
+ghost use Rattle.generational_box.specs.Machine.{Action, Answer};
+ghost use Rattle.generational_box.specs.Steps.{Meets};
+ghost use Rattle.generational_box.specs.Recording.{recorded_as};
+ghost use Rattle.generational_box.specs.History.{plain};
 ghost use Rattle.generational_sync.specs.declared.step.Step.{Step};
 ghost use Rattle.generational_sync.specs.declared.step.StepReply.{StepReply};
-ghost use Rattle.generational_sync.specs.History.{Plain, IsTaken, plain_step, replay_from, start};
+ghost use Rattle.generational_sync.specs.Replies.{reply_to};
+ghost use Rattle.generational_sync.specs.History.{Plain, IsTaken, LeadsOver, plain_step, start};
+ghost use Rattle.generational_sync.specs.History.{replay_from};
 
-/// Each recorded step of a history that replays is a step of the machine without values, which
-/// gave new names where the reply has one.
+use generational_box::laws;
+
+/// Each recorded step of a history that replays is the machine's step of this very call, taken
+/// without values in the state to which the steps before it led. No borrow stood in its way there,
+/// the machine's answer is the recorded reply, and the name of a box that it gave was never given
+/// before and fits. The steps after it go on from where it led. Boxes are compared by their ids
+/// and locations, and locations by text, line and column.
 pub fn recorded_steps_are_taken()
-    ensures { (P Q : Plain) (call : StepCall) (reply : StepReply) →
-        plain_step P call reply ≡ Some Q → IsTaken P Q }
+    ensures step { (P Q : Plain) (call : StepCall) (reply : StepReply) →
+        plain_step P call reply ≡ Some Q → IsTaken P call reply Q }
+    ensures history { (P R : Plain) (before : List Step) (x : Step) (after : List Step) →
+        replay_from P (before ++ x ∷ after) ≡ Some R → LeadsOver P before x after R }
 {}
+
+/// A call of a store whose answer is recorded is a lawful step: taken without values, it leads from
+/// the store's state before it to that after it. A history starts where an empty store does.
+pub fn recorded_calls_are_lawful<T>()
+    ensures start { (number : ℕ) → start number ≡ plain (fresh {T = T} number 1 0) }
+    ensures step { (S R : State T) (action : Action T) (call : StepCall) (answer : Answer T)
+        (reply : StepReply) →
+        IsSound (plain S) → recorded_as action ≡ Some call → Meets S action answer R →
+        reply_to answer ≡ Some reply → plain_step (plain S) call reply ≡ Some (plain R) }
+{
+    laws::fresh_states_are_plain::<T>();
+    laws::plain_states_step::<T>();
+    laws::calls_are_ready_where_no_borrow_is_told::<()>();
+}
 
 /// A history that replays from an empty store leads to a sound state, so that a ticket alone names
 /// a reader in it, and to one of the store with the same number.
@@ -21,4 +48,7 @@ pub fn histories_lead_to_sound_states()
         replay_from (start number) steps ≡ Some P → IsSound P }
     ensures number { (number : ℕ) (steps : List Step) (P : Plain) →
         replay_from (start number) steps ≡ Some P → P.number ≡ number }
-{}
+{
+    laws::steps_are_sound::<()>();
+    laws::steps_keep_the_store::<()>();
+}

@@ -11,7 +11,7 @@
 //! [`SyncState`] is what lies under the lock. It needs no threads.
 #![tactic(auto)]
 
-mod laws;
+pub mod laws;
 mod log;
 mod state;
 mod step;

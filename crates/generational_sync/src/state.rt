@@ -18,9 +18,12 @@ ghost use Rattle.generational_sync.specs.Kinds.{IsCounted};
 ghost use Rattle.generational_sync.specs.Shared.{Does, Replays, Records, Raises};
 ghost use Rattle.generational_sync.specs.Shared.{IsBoxOf, MayRefuseRead};
 
+// A law does nothing when it is called: the caller's proof cites it.
+use crate::laws::{histories_lead_to_sound_states, recorded_calls_are_lawful};
 use crate::log::Log;
 use crate::step::{Step, StepReply, read_refusal};
 use crate::tally::{Count, Tally, tallies};
+use generational_box::laws::boxes_and_guards_are_new;
 use generational_box::{
     AnyStorage, BorrowMutResult, BorrowResult, GenerationalBox, GenerationalRef, Location, Refusal,
     Refused, StepCall, Storage, StoreError, UnsyncStorage,
@@ -97,6 +100,7 @@ impl<T: Drop, const NUMBER: u64, M: Count, L: Count, C: Count, R: Count> SyncSta
         ensures tallies { IfOk result (λ r. r.1.items ≡ new_tallies workers) }
         ensures err { IfErr result (λ e. e ≡ OutOfMemory) }
     {
+        recorded_calls_are_lawful::<T>();
         let (made, made_rest) = made.open::<M>();
         let (lent, lent_rest) = lent.open::<L>();
         let (changed, changed_rest) = changed.open::<C>();
@@ -152,6 +156,9 @@ impl<T: Drop, const NUMBER: u64, M: Count, L: Count, C: Count, R: Count> SyncSta
             self.new }
         ensures tallied { Raises tally.old (box_answer result) tally.new }
     {
+        recorded_calls_are_lawful::<T>();
+        histories_lead_to_sound_states();
+        boxes_and_guards_are_new::<T>();
         if self.log.reserve(1).is_err() {
             let cause = StoreError::OutOfMemory;
             return Err(Refusal { value, cause });
@@ -185,6 +192,9 @@ impl<T: Drop, const NUMBER: u64, M: Count, L: Count, C: Count, R: Count> SyncSta
             (read_answer result) self.new }
         ensures tallied { Raises {T = T} tally.old (read_answer result) tally.new }
     {
+        recorded_calls_are_lawful::<T>();
+        histories_lead_to_sound_states();
+        boxes_and_guards_are_new::<T>();
         if self.log.reserve(2).is_err() {
             return Err(Refused::Store(StoreError::OutOfMemory));
         }
@@ -216,6 +226,8 @@ impl<T: Drop, const NUMBER: u64, M: Count, L: Count, C: Count, R: Count> SyncSta
             self.new }
         ensures tallied { Raises {T = T} tally.old (Flag result) tally.new }
     {
+        recorded_calls_are_lawful::<T>();
+        histories_lead_to_sound_states();
         let call = StepCall::ReleaseRead(guard.ticket());
         if !self.store.release_read(guard) {
             return false;
@@ -241,6 +253,8 @@ impl<T: Drop, const NUMBER: u64, M: Count, L: Count, C: Count, R: Count> SyncSta
             (end_answer result) self.new }
         ensures tallied { Raises {T = T} tally.old (end_answer result) tally.new }
     {
+        recorded_calls_are_lawful::<T>();
+        histories_lead_to_sound_states();
         if self.log.reserve(1).is_err() {
             return Err(Refused::Store(StoreError::OutOfMemory));
         }

@@ -1,5 +1,8 @@
-use Rattle.generational_sync.proofs.Replaying.{step_taken}
+use Rattle.generational_sync.proofs.Replaying.{step_taken, leads_over}
 use Rattle.generational_sync.proofs.laws.recorded_steps_are_taken.Goals as goal
 
-pub returns : goal.returns
-returns c P Q call reply e = step_taken P Q call reply e
+pub returns-clause-step : goal.returns-clause-step
+returns-clause-step c = step_taken
+
+pub returns-clause-history : goal.returns-clause-history
+returns-clause-history c = leads_over

@@ -13,7 +13,8 @@ unreachable-requires g c =
 
 pub invariant_of-self-2 : goal.invariant_of-self-2
 invariant_of-self-2 g c =
-    ok_kept g.row.NUMBER c.self.inside.store c.recycle.new.self c.self.inside.log
+    ok_kept c.recorded_calls_are_lawful.ensures.step c.histories_lead_to_sound_states.ensures.sound
+    g.row.NUMBER c.self.inside.store c.recycle.new.self c.self.inside.log
     c.reserve.new.self c.append.new.self c.args.tally.now.worker c.self.invariant
     c.reserve.ensures.steps c.pointer-pointer.result c.recycle.result c.append.ensures.steps
     c.reserve.ensures.standing c.append.ensures.standing c.recycle.ensures

@@ -1,12 +1,14 @@
 use Rattle.std.proofs.Common.{ap, ◌∙◌, arith}
+use Rattle.generational_box.specs.Machine.Action.{Read}
 use Rattle.generational_sync.specs.Shared.{SharedState}
-use Rattle.generational_sync.proofs.Keeping.{read_kept, refused_kept, guard_own}
+use Rattle.generational_sync.proofs.Keeping.{read_kept, refused_kept, number_kept}
 use Rattle.generational_sync.proofs.Refusing.{read_refused_as}
 use Rattle.generational_sync.proofs.state.SyncState.try_read.Goals as goal
 
 pub invariant_of-self-in-Ok : goal.invariant_of-self-in-Ok
 invariant_of-self-in-Ok g c =
-    read_kept g.row.NUMBER c.self.inside.store c.try_read.new.self c.self.inside.log
+    read_kept c.recorded_calls_are_lawful.ensures.step c.histories_lead_to_sound_states.ensures.sound
+    g.row.NUMBER c.self.inside.store c.try_read.new.self c.self.inside.log
     c.reserve.new.self c.borrow_begins.new.self c.args.tally.now.worker c.self.invariant
     c.reserve.ensures.steps c.pointer-pointer.result c.args.location c.in-Ok.guard
     c.ticket.result c.ticket.ensures (c.borrow_begins.ensures.steps ∙ c.append.ensures.steps)
@@ -16,7 +18,8 @@ invariant_of-self-in-Ok g c =
 
 pub invariant_of-self-in-Some : goal.invariant_of-self-in-Some
 invariant_of-self-in-Some g c =
-    refused_kept g.row.NUMBER c.self.inside.store c.try_read.new.self c.self.inside.log
+    refused_kept c.recorded_calls_are_lawful.ensures.step c.histories_lead_to_sound_states.ensures.sound
+    g.row.NUMBER c.self.inside.store c.try_read.new.self c.self.inside.log
     c.reserve.new.self c.append-in-Some.new.self c.args.tally.now.worker c.self.invariant
     c.reserve.ensures.steps c.pointer-pointer.result c.args.location c.in-Err.refused
     c.in-Some.reply c.append-in-Some.ensures.steps c.reserve.ensures.standing
@@ -24,8 +27,10 @@ invariant_of-self-in-Some g c =
 
 pub returns-in-Ok-clause-guard : goal.returns-in-Ok-clause-guard
 returns-in-Ok-clause-guard g c =
-    guard_own g.row.NUMBER c.self.inside.store c.try_read.new.self c.self.inside.log
-    c.self.invariant c.pointer-pointer.result c.args.location c.in-Ok.guard c.in-Ok.ensures
+    c.boxes_and_guards_are_new.ensures.guard c.self.inside.store c.try_read.new.self
+    (Read c.pointer-pointer.result c.args.location) c.in-Ok.guard c.in-Ok.ensures
+    ∙ number_kept g.row.NUMBER c.self.inside.store c.try_read.new.self c.self.inside.log
+    c.self.invariant c.histories_lead_to_sound_states.ensures.number
 
 pub returns-after-read_refusal-clause-refusal : goal.returns-after-read_refusal-clause-refusal
 returns-after-read_refusal-clause-refusal g c =
