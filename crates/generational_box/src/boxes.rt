@@ -1,6 +1,6 @@
 //! Ids, pointers and boxes.
 
-ghost use Rattle.std.specs.Prelude.{◌≡◌, Some};
+ghost use Rattle.std.specs.Prelude.{◌≡◌, Some, ⊤};
 ghost use Rattle.generational_box.specs.Boxes.{box_of};
 ghost use Rattle.generational_box.specs.Texts.{id_text};
 
@@ -104,8 +104,11 @@ pub struct GenerationalBox<T> {
     marker: PhantomData<T>,
 }
 
+/// Never refused, and takes no memory.
 impl<T> Clone for GenerationalBox<T> {
     ghost is_clone = { λ a b. b ≡ a };
+
+    ghost is_infallible = { λ _. ⊤ };
 
     fn clone(&self) -> Result<Self, AllocError> {
         Ok(*self)

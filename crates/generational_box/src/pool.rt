@@ -1,7 +1,7 @@
 //! Free slots.
 
-ghost use Rattle.std.specs.Prelude.{◌≡◌, ℕ, ◌+◌, ◌<◌, ◌≤◌, true, false, IfSome, IfNone, IfErr};
-ghost use Rattle.std.specs.Prelude.{OnOk, OnErr, vec_capacity};
+ghost use Rattle.std.specs.Prelude.{◌≡◌, ℕ, ◌+◌, ◌<◌, ◌≤◌, ◌∷◌, true, false, IfSome, IfNone, IfErr};
+ghost use Rattle.std.specs.Prelude.{OnOk, OnErr, vec_capacity, slice_get, drop};
 ghost use Rattle.std.specs.Ordering.{nat_cmp};
 ghost use Rattle.std.specs.FinSet as set;
 ghost use Rattle.generational_box.specs.declared.error.StoreError.TheVariants.{OutOfMemory};
@@ -52,9 +52,8 @@ pub trait SlotPool: Drop {
         ensures { result ≡ rooms self.now };
 
     /// How many free slots there are.
-    fn len(&self) -> usize
-        ensures { result
-            ≡ set.len (members self.now) };
+    fn free(&self) -> usize
+        ensures { result ≡ set.len (members self.now) };
 }
 
 /// Takes the slot that was put last. Contracts see it as the slots, the last one first, and the
@@ -78,8 +77,9 @@ impl Model for LastFirst {
 
 impl SlotPool for LastFirst {
     ghost use Rattle.std.specs.FinSet as set;
+    ghost use Rattle.generational_box.specs.Pools.{members_of};
 
-    ghost members = { λ p. set.from_list p.slots };
+    ghost members = { members_of };
 
     ghost rooms = { λ p. p.rooms };
 
@@ -100,13 +100,28 @@ impl SlotPool for LastFirst {
     }
 
     #[inline(always)]
-    fn take(&mut self) -> Option<usize> {
+    fn take(&mut self) -> Option<usize>
+        ensures first { result ≡ slice_get self.old.slots 0 }
+        ensures rest { self.new.slots ≡ drop 1 self.old.slots }
+        ensures rooms { self.new.rooms ≡ self.old.rooms }
+        ensures member { IfSome result (λ slot. set.contains (members_of self.old) slot ≡ true) }
+        ensures taken { IfSome result (λ slot. members_of self.new
+            ≡ set.remove (members_of self.old) slot) }
+        ensures none { IfNone result (members_of self.old ≡ set.empty) }
+        ensures unchanged { IfNone result (members_of self.new ≡ members_of self.old) }
+    {
         let slot = self.slots.pop()?;
         Some(slot)
     }
 
     #[inline(always)]
-    fn put(&mut self, slot: usize) {
+    fn put(&mut self, slot: usize)
+        requires room { slot < self.old.rooms }
+        requires absent { set.contains (members_of self.old) slot ≡ false }
+        ensures first { self.new.slots ≡ slot ∷ self.old.slots }
+        ensures rooms { self.new.rooms ≡ self.old.rooms }
+        ensures added { members_of self.new ≡ set.insert (members_of self.old) slot }
+    {
         self.slots.push_reserved(slot);
     }
 
@@ -115,7 +130,7 @@ impl SlotPool for LastFirst {
         self.room
     }
 
-    fn len(&self) -> usize {
+    fn free(&self) -> usize {
         self.slots.len()
     }
 }

@@ -198,12 +198,19 @@ impl<T> GenerationalRefMut<T> {
     /// on. Takes no memory.
     #[inline(always)]
     pub fn deref_mut(&mut self) -> Mut<'_, T>
-        ensures* writes_back { sem 𝓛 (LendsValue T.row self.entry result.value) }
-        ensures value { result.value.now ≡ self.old.value }
+        ensures same_guard { result.guard.ghost_name ≡ self.entry.ghost_name }
+        ensures unchanged { result.guard.now ≡ self.old }
     {
-        Mut {
-            value: &mut self.value,
-        }
+        Mut { guard: self }
+    }
+
+    // The value for writing.
+    #[inline(always)]
+    fn value_mut(&mut self) -> &mut T
+        ensures* writes_back { sem 𝓛 (LendsValue T.row self.entry result) }
+        ensures value { result.now ≡ self.old.value }
+    {
+        &mut self.value
     }
 
     /// Puts another value in the place of the guard's, and answers the old one. Takes no memory.
@@ -227,28 +234,39 @@ impl<T> GenerationalRefMut<T> {
     }
 }
 
-/// A view of a value that is written.
+/// A view of a value that is written. It borrows the value's guard.
 #[derive(Drop)]
 pub struct Mut<'a, T> {
-    value: &'a mut T,
+    guard: &'a mut GenerationalRefMut<T>,
 }
 
 impl<'a, T> Deref for Mut<'a, T> {
     type Target = T;
 
-    ghost deref_gives = { λ m x. x ≡ m.value.now };
+    ghost deref_gives = { λ m x. x ≡ m.guard.now.value };
 
     #[inline(always)]
     fn deref(&self) -> &T {
-        &*self.value
+        let guard: &GenerationalRefMut<T> = &*self.guard;
+        guard.deref()
     }
 }
 
 impl<'a, T> DerefMut for Mut<'a, T> {
-    ghost deref_mut_gives = { λ m x. x ≡ m.value.now };
+    ghost use Rattle.std.specs.Prelude.{[]};
+    ghost use Rattle.std.specs.Borrow.{sem, follows};
+    ghost use mir.Syntax.{named};
+    ghost use Rattle.generational_box.specs.Views.{writes_through};
+    ghost use Rattle.generational_box.specs.contracts.references.Mut.{the_row};
+
+    ghost deref_mut_gives = { λ m x. x ≡ m.guard.now.value };
 
     #[inline(always)]
-    fn deref_mut(&mut self) -> &mut T {
-        &mut *self.value
+    fn deref_mut(&mut self) -> &mut T
+        ensures* writes_back { sem 𝓛 (follows (the_row (record { mir = named 1; lft = [] }) T.row)
+            T.row self.entry.ghost_name result.ghost_name (writes_through self.old)) }
+        ensures value { result.now ≡ self.old.guard.now.value }
+    {
+        self.guard.value_mut()
     }
 }

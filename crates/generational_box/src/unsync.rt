@@ -484,11 +484,11 @@ impl<T: Drop, P: SlotPool> AnyStorage<T> for Store<T, P> {
     }
 
     fn free(&self) -> usize {
-        self.pool.len()
+        self.pool.free()
     }
 
     fn retired(&self) -> usize {
-        self.slots.len() - self.live - self.pool.len()
+        self.slots.len() - self.live - self.pool.free()
     }
 
     fn peak_live(&self) -> usize {

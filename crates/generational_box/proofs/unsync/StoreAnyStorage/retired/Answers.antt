@@ -10,9 +10,9 @@ overflow_sub-result g c =
 pub overflow_sub-result-2 : goal.overflow_sub-result-2
 overflow_sub-result-2 g c =
     let all = all_seen _ _ _ _ _ _ c.self.view_is c.self.invariant.0 in
-    omega (arith, c.len.ensures, c.len-2.ensures, c.self.inside.slots.ok.0)
+    omega (arith, c.len.ensures, c.free.ensures, c.self.inside.slots.ok.0)
 
 pub returns : goal.returns
 returns g c =
     let all = all_seen _ _ _ _ _ _ c.self.view_is c.self.invariant.0 in
-    omega (arith, c.len.ensures, c.len-2.ensures, c.self.inside.slots.ok.0)
+    omega (arith, c.len.ensures, c.free.ensures, c.self.inside.slots.ok.0)

@@ -3,7 +3,7 @@ use Rattle.std.proofs.lemmas.List.{length-reverse}
 use Rattle.generational_box.specs.Pools.{Pool}
 use Rattle.generational_box.proofs.PoolLemmas.{pool-count, members}
 use Rattle.std.specs.FinSet as set
-use Rattle.generational_box.proofs.pool.LastFirstSlotPool.len.Goals as goal
+use Rattle.generational_box.proofs.pool.LastFirstSlotPool.free.Goals as goal
 
 pub returns : goal.returns
 returns c =

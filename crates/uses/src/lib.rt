@@ -1,0 +1,5 @@
+//! Small callers of the boxes' crate, which show that its contracts say what a caller needs.
+#![tactic(auto)]
+
+pub mod slots;
+pub mod writing;
