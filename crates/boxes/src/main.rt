@@ -36,15 +36,7 @@
 //! were written, unless writing is what failed.
 #![tactic(auto)]
 
-mod fault;
-mod lines;
-mod run;
-mod script;
-#[cfg(test)]
-mod tests;
-
-use crate::fault::Fault;
-use crate::run::{boxes_run, report};
+use boxes_script::{Fault, boxes_run, report};
 use std::env;
 use std::io::ErrorKind;
 use std::process::ExitCode;

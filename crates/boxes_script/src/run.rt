@@ -1,7 +1,9 @@
 //! Runs of a script: its streams, its faults and its exit status.
 use crate::fault::Fault;
 use crate::lines::Lines;
-use crate::script::{MOST_LINES, Script};
+use crate::script::Script;
+use generational_box::{Storage, UnsyncStorage};
+use line_number::MOST_LINES;
 use std::alloc::Global;
 use std::io::{BufWriter, Read, Write};
 
@@ -45,15 +47,15 @@ fn run<R: Read, W: Write>(
     }
     let mut lines = Lines::new(alloc, input)?;
     let mut replies = BufWriter::new(alloc, output).map_err(|_| Fault::Memory)?;
-    let mut script = Script::new(alloc);
+    let mut script = Script::new(alloc, UnsyncStorage::new(alloc, 1));
     let answered = answer_lines(&mut script, &mut lines, &mut replies);
-    script.finish();
+    let _store = script.finish();
     end_replies(answered, replies)
 }
 
 // Answers the lines up to the input's end or the first fault.
-fn answer_lines<R: Read + Drop, W: Write>(
-    script: &mut Script,
+fn answer_lines<S: Storage<String>, R: Read + Drop, W: Write>(
+    script: &mut Script<S>,
     lines: &mut Lines<R>,
     replies: &mut W,
 ) -> Result<(), Fault> {

@@ -1,18 +1,13 @@
 //! The commands of a script, and their replies.
-ghost use Rattle.std.specs.Prelude.{◌≡◌, ◌↔◌, ℕ, ◌<◌, ◌≤◌, Some, OnOk, IsTrue, slice_index};
-ghost use Rattle.std.specs.Prelude.{vec_len};
-ghost use Rattle.std.specs.Fmt.{decimal};
+ghost use Rattle.std.specs.Prelude.{◌<◌, ◌≤◌, OnOk, vec_len};
+ghost use Rattle.generational_box.specs.State.{IsFresh};
 
 use crate::fault::Fault;
-use generational_box::{
-    AnyStorage, BoxAt, Call, Location, Reply, Session, StoreError, UnsyncStorage,
-};
+use generational_box::{BoxAt, Call, Location, Reply, Session, Storage, StoreError};
+use line_number::line_number;
 use std::alloc::{AllocError, Global};
 use std::io;
 use std::io::Write;
-
-/// The most lines of a script.
-pub const MOST_LINES: u32 = 1_000_000;
 
 /// A command. Its numbers are those of lines.
 #[derive(Clone, Copy)]
@@ -103,16 +98,18 @@ impl Places {
 /// A script that is being answered, over a store of texts.
 ///
 /// It must be spent by `finish`.
-pub struct Script {
+pub struct Script<S: Storage<String>> {
     alloc: Global,
-    session: Session<String, UnsyncStorage<String>>,
+    session: Session<String, S>,
     places: Places,
 }
 
-impl Script {
-    /// A script of which no line is answered yet.
-    pub fn new(alloc: Global) -> Script {
-        let store = UnsyncStorage::new(alloc, 1);
+impl<S: Storage<String>> Script<S> {
+    /// A script of which no line is answered yet, over a store in which nothing stands (`is_fresh`
+    /// is the test). Takes no memory.
+    pub fn new(alloc: Global, store: S) -> Script<S>
+        requires { IsFresh (S.state store) }
+    {
         Script {
             alloc,
             session: Session::new(alloc, store),
@@ -141,6 +138,26 @@ impl Script {
             Request::Stats => self.stats(output),
         }
         .map_err(|_| Fault::Output)
+    }
+
+    /// Answers the next line by a call, which may be one that no command says.
+    pub fn answer_call<W: Write>(
+        &mut self,
+        call: Call<String>,
+        output: &mut W,
+    ) -> Result<(), Fault> {
+        self.places.add_line().map_err(|_| Fault::Memory)?;
+        self.call(call, output).map_err(|_| Fault::Output)
+    }
+
+    /// Leaves the next line without a call and without a reply.
+    pub fn pass_line(&mut self) -> Result<(), Fault> {
+        self.places.add_line().map_err(|_| Fault::Memory)
+    }
+
+    /// The session that the script calls.
+    pub fn session(&self) -> &Session<String, S> {
+        &self.session
     }
 
     // What a command asks of the session.
@@ -226,14 +243,14 @@ impl Script {
         )
     }
 
-    /// Lets the store go, with all that it holds.
-    pub fn finish(self) {
+    /// The store, after the session has ended: its guards are released and its owners leaked.
+    pub fn finish(self) -> S {
         let Script {
             alloc: _,
             session,
             places: _,
         } = self;
-        let _store = session.finish();
+        session.finish()
     }
 }
 
@@ -295,36 +312,6 @@ fn of_line<'a>(word: &str, line: u32) -> Option<Command<'a>> {
 fn line_and_value(rest: &str) -> Option<(u32, &str)> {
     let (line, value) = rest.split_once(' ')?;
     Some((line_number(line)?, value))
-}
-
-// The number of a line: decimal, from 1 to the limit, without sign or leading zeros.
-fn line_number(word: &str) -> Option<u32>
-    ensures { (number : ℕ) → (result ≡ Some number) ↔
-        ((0 < number) × (number ≤ MOST_LINES) × (word.now ≡ decimal number)) }
-{
-    if !begins_above_zero(word) {
-        return None;
-    }
-    match word.parse::<u32>() {
-        Ok(number) => {
-            if number <= MOST_LINES {
-                Some(number)
-            } else {
-                None
-            }
-        }
-        Err(_) => None,
-    }
-}
-
-// Whether the first byte is above that of '0', as no sign is.
-fn begins_above_zero(word: &str) -> bool
-    ensures { IsTrue result ↔ (48 < slice_index word.now 0) }
-{
-    match word.as_bytes().first() {
-        Some(first) => *first > b'0',
-        None => false,
-    }
 }
 
 // Writes the reply to a call.

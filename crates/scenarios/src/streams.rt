@@ -1,50 +1,12 @@
-//! Tests of whole runs, over streams in memory and streams that fail.
-use crate::run::boxes_run;
+//! Whole runs of the program, over streams in memory and streams that fail.
+
+use crate::runs::{assert_ended, run, run_words, text};
+use boxes_script::boxes_run;
 use std::alloc::Global;
+use std::io;
 use std::io::{Error, ErrorKind, Read, Write, repeat};
 use std::process::Abort;
 use std::test::Fail;
-use std::{io, str};
-
-/// What a run answered and wrote.
-#[derive(Drop)]
-struct Outcome {
-    status: u8,
-    output: Vec<u8>,
-    faults: Vec<u8>,
-}
-
-fn run_words<R: Read>(alloc: Global, words: &[String], input: &mut R) -> Outcome {
-    let mut output = Vec::new(alloc);
-    let mut faults = Vec::new(alloc);
-    let status = boxes_run(alloc, words, input, &mut output, &mut faults);
-    Outcome {
-        status,
-        output,
-        faults,
-    }
-}
-
-fn run<R: Read>(alloc: Global, input: &mut R) -> Outcome {
-    run_words(alloc, &[], input)
-}
-
-fn text(bytes: &Vec<u8>) -> &str {
-    str::from_utf8(bytes.as_slice()).unwrap_or("bytes that are not UTF-8")
-}
-
-/// Asserts how a run ended and what it wrote.
-fn assert_ended(rt: &impl Abort, outcome: &Outcome, status: u8, output: &str, faults: &str) {
-    assert_eq!(rt; text(&outcome.output), output);
-    assert_eq!(rt; text(&outcome.faults), faults);
-    assert_eq!(rt; outcome.status, status);
-}
-
-/// Asserts that the replies to a script are these, and that its run ends well.
-fn assert_replies(rt: &impl Abort, alloc: Global, script: &str, replies: &str) {
-    let mut input = script.as_bytes();
-    assert_ended(rt, &run(alloc, &mut input), 0, replies, "");
-}
 
 /// Gives a line a read, and fails once no read is left.
 #[derive(Drop)]
@@ -128,104 +90,8 @@ const SIX_REPLIES: &str =
     "box 0@1\nreader\nvalue hello world\nok\nok\nerror: Failed to borrow because the value was dropped.created_at: script:1:1\n";
 
 #[test]
-fn a_value_is_read_and_ended(rt: HostRuntime) {
-    assert_replies(&rt, rt.alloc(), SIX_LINES, SIX_REPLIES);
-}
-
-#[test]
-fn lines_that_name_nothing_or_are_bad(rt: HostRuntime) {
-    assert_replies(
-        &rt,
-        rt.alloc(),
-        "leak a\nshow 1\nleek b\ntry_read 01\ntry_read 9\nleak\n",
-        "box 0@1\nno such\nbad line\nbad line\nno such\nbad line\n",
-    );
-}
-
-#[test]
-fn a_value_is_replaced(rt: HostRuntime) {
-    assert_replies(
-        &rt,
-        rt.alloc(),
-        "leak a\ntry_write 1\ntry_read 1\nreplace 2 b\nshow 2\nrelease 2\ntry_read 1\nshow 7\n",
-        "box 0@1\nwriter\nerror: Failed to borrow because the value was already borrowed mutably.borrowed_mut_at: script:2:1\nold a\nvalue b\nok\nreader\nvalue b\n",
-    );
-}
-
-#[test]
-fn values_are_replaced_by_writers_alone(rt: HostRuntime) {
-    assert_replies(
-        &rt,
-        rt.alloc(),
-        "leak a\ntry_read 1\nreplace 2 b\nreplace 1 b\nshow 2\nrelease 2\ntry_write 1\nreplace 7\nreplace 7 \nshow 7\nreplace 7  b c\nrelease 7\nreplace 7 d\ntry_read 1\nshow 14\n",
-        "box 0@1\nreader\nno such\nno such\nvalue a\nok\nwriter\nbad line\nold a\nvalue \nold \nok\nno such\nreader\nvalue  b c\n",
-    );
-}
-
-#[test]
-fn writers_keep_others_out(rt: HostRuntime) {
-    assert_replies(
-        &rt,
-        rt.alloc(),
-        "leak a\ntry_write 1\ntry_write 1\nend 1\nrelease 2\ntry_read 1\ntry_read 1\ntry_write 1\nrelease 6\nrelease 7\nend 1\ntry_write 1\n",
-        "box 0@1\nwriter\nerror: Failed to borrow because the value was already borrowed mutably.borrowed_mut_at: script:2:1\nerror: Failed to borrow because the value was already borrowed mutably.borrowed_mut_at: script:2:1\nok\nreader\nreader\nerror: Failed to borrow mutably because the value was already borrowed immutably.borrowed_at:\tscript:6:1\tscript:7:1\nok\nok\nok\nerror: Failed to borrow because the value was dropped.created_at: script:1:1\n",
-    );
-}
-
-const NINE_LINES: &str =
-    "owner\ninsert 1 hello world\ntry_read 2\nshow 3\nrelease 1\nrelease 3\nrelease 1\ntry_read 2\nstats\n";
-
-const NINE_REPLIES: &str =
-    "owner\nbox 0@1\nreader\nvalue hello world\nerror: Failed to borrow mutably because the value was already borrowed immutably.borrowed_at:\tscript:3:1\nok\nok\nerror: Failed to borrow because the value was dropped.created_at: script:2:1\nslots 1 free 1 retired 0 peak 1\n";
-
-#[test]
-fn an_owner_ends_its_box_once_nobody_reads_it(rt: HostRuntime) {
-    assert_replies(&rt, rt.alloc(), NINE_LINES, NINE_REPLIES);
-}
-
-#[test]
-fn owners_are_cloned_and_released(rt: HostRuntime) {
-    assert_replies(
-        &rt,
-        rt.alloc(),
-        "owner\nclone 1\ninsert 2 a\ninsert 1\ninsert 1 \ninsert 3 b\nrelease 1\nrelease 1\ninsert 1 c\ntry_read 3\nrelease 2\nshow 10\nrelease 10\nrelease 2\ntry_read 3\ntry_read 5\nstats\nclone 2\n",
-        "owner\nowner\nbox 0@1\nbad line\nbox 1@1\nno such\nok\nno such\nno such\nreader\nerror: Failed to borrow mutably because the value was already borrowed immutably.borrowed_at:\tscript:10:1\nvalue a\nok\nok\nerror: Failed to borrow because the value was dropped.created_at: script:3:1\nerror: Failed to borrow because the value was dropped.created_at: script:5:1\nslots 2 free 2 retired 0 peak 2\nno such\n",
-    );
-}
-
-#[test]
-fn boxes_of_a_leaked_owner_stay(rt: HostRuntime) {
-    assert_replies(
-        &rt,
-        rt.alloc(),
-        "owner\ninsert 1 a\nclone 1\nleak_owner 3\nleak_owner 3\nrelease 1\ntry_read 2\nshow 7\nrelease 3\nleak_owner 2\n",
-        "owner\nbox 0@1\nowner\nok\nno such\nok\nreader\nvalue a\nno such\nno such\n",
-    );
-}
-
-#[test]
-fn boxes_are_told_apart(rt: HostRuntime) {
-    assert_replies(
-        &rt,
-        rt.alloc(),
-        "leak a\nleak b\nptr_eq 1 1\nptr_eq 1 2\nend 1\nleak c\nptr_eq 1 6\nid 1\nid 6\ncreated_at 1\ncreated_at 6\nptr_eq 1\nptr_eq 1 12\nid 3\ncreated_at 0\nstats\n",
-        "box 0@1\nbox 1@1\ntrue\nfalse\nok\nbox 0@2\nfalse\n0@1\n0@2\nscript:1:1\nscript:6:1\nbad line\nno such\nno such\nbad line\nslots 2 free 0 retired 0 peak 2\n",
-    );
-}
-
-#[test]
-fn commands_of_one_word(rt: HostRuntime) {
-    assert_replies(
-        &rt,
-        rt.alloc(),
-        "stats\nstats \nowner \nowner 1\nclone\nrelease\nowner\nrelease 7\nstats\n",
-        "slots 0 free 0 retired 0 peak 0\nbad line\nbad line\nbad line\nbad line\nbad line\nowner\nok\nslots 0 free 0 retired 0 peak 0\n",
-    );
-}
-
-#[test]
 fn no_input_and_no_fault(rt: HostRuntime) {
-    assert_replies(&rt, rt.alloc(), "", "");
+    assert_ended(&rt, &run(rt.alloc(), &mut "".as_bytes()), 0, "", "");
 }
 
 #[test]
@@ -237,16 +103,6 @@ fn any_argument_is_a_fault(rt: HostRuntime) -> Result<(), Fail> {
         assert_ended(&rt, &outcome, 2, "", usage);
     }
     Ok(())
-}
-
-#[test]
-fn lines_are_named_and_not_places(rt: HostRuntime) {
-    assert_replies(
-        &rt,
-        rt.alloc(),
-        "leek\nleak a\nshow 2\ntry_read 2\ntry_read 9\nleak b\ntry_read 6\nshow 7\nshow 4\nend 6\nrelease 4\nrelease 4\nshow 4\nend 2\nleak c\ntry_read 15\nshow 16\nrelease 15\nend 5\n",
-        "bad line\nbox 0@1\nno such\nreader\nno such\nbox 1@1\nreader\nvalue b\nvalue a\nerror: Failed to borrow mutably because the value was already borrowed immutably.borrowed_at:\tscript:7:1\nok\nno such\nno such\nok\nbox 0@2\nreader\nvalue c\nno such\nno such\n",
-    );
 }
 
 #[test]
