@@ -4,33 +4,33 @@ use Rattle.std.proofs.Common.{Option, None, Some, refl, sym, ap, ◌∙◌, inl,
 use Rattle.std.specs.Prelude.{is_some, not, nat_eq, ◌||◌}
 use Rattle.std.proofs.lemmas.Bool.{false≢true}
 use Rattle.std.specs.FinMap as map
-use Rattle.generational_box.specs.declared.error.Location.{Location}
-use Rattle.generational_box.specs.declared.error.StoreError.TheVariants.{OutOfMemory}
-use Rattle.generational_box.specs.declared.error.StoreError.TheVariants.{NumbersExhausted}
-use Rattle.generational_box.specs.declared.error.StoreError.TheVariants.{UnknownOwner}
-use Rattle.generational_box.specs.declared.error.BorrowMutError.{BorrowMutError}
-use Rattle.generational_box.specs.declared.error.Refused.{Refused}
-use Rattle.generational_box.specs.declared.error.Refused.TheVariants as refused
-use Rattle.generational_box.specs.declared.boxes.GenerationalPointer.{GenerationalPointer}
-use Rattle.generational_box.specs.Names.{Name, is_name, among}
-use Rattle.generational_box.specs.Cells.{Content, Cell, content_of, is_shared}
-use Rattle.generational_box.specs.Cells.Cell.{Value}
-use Rattle.generational_box.specs.Boxes.{name_of}
-use Rattle.generational_box.specs.State.{State, is_named}
-use Rattle.generational_box.specs.Borrowing.{Trouble, write_refusal}
-use Rattle.generational_box.specs.Borrowing.Trouble.{Dropped, BeingRead, BeingWritten}
-use Rattle.generational_box.specs.Ending.{swept, without, left_by, close, hindered, hindrance_of}
-use Rattle.generational_box.specs.Ending.{or_else}
-use Rattle.generational_box.specs.Machine.{Outcome, act, own_name, unless}
-use Rattle.generational_box.specs.Machine.Action.{End}
-use Rattle.generational_box.specs.Machine.Answer.{Done, Troubled, Refused as refuses}
-use Rattle.generational_box.specs.Steps.{Meets, limited, no_names, is_being_read}
+use Rattle.generational_core.specs.declared.error.Location.{Location}
+use Rattle.generational_core.specs.declared.error.StoreError.TheVariants.{OutOfMemory}
+use Rattle.generational_core.specs.declared.error.StoreError.TheVariants.{NumbersExhausted}
+use Rattle.generational_core.specs.declared.error.StoreError.TheVariants.{UnknownOwner}
+use Rattle.generational_core.specs.declared.error.BorrowMutError.{BorrowMutError}
+use Rattle.generational_core.specs.declared.error.Refused.{Refused}
+use Rattle.generational_core.specs.declared.error.Refused.TheVariants as refused
+use Rattle.generational_core.specs.declared.boxes.GenerationalPointer.{GenerationalPointer}
+use Rattle.generational_core.specs.Names.{Name, is_name, among}
+use Rattle.generational_core.specs.Cells.{Content, Cell, content_of, is_shared}
+use Rattle.generational_core.specs.Cells.Cell.{Value}
+use Rattle.generational_core.specs.Boxes.{name_of}
+use Rattle.generational_core.specs.State.{State, is_named}
+use Rattle.generational_core.specs.Borrowing.{Trouble, write_refusal}
+use Rattle.generational_core.specs.Borrowing.Trouble.{Dropped, BeingRead, BeingWritten}
+use Rattle.generational_core.specs.Ending.{swept, without, left_by, close, hindered, hindrance_of}
+use Rattle.generational_core.specs.Ending.{or_else}
+use Rattle.generational_core.specs.Machine.{Outcome, act, own_name, unless}
+use Rattle.generational_core.specs.Machine.Action.{End}
+use Rattle.generational_core.specs.Machine.Answer.{Done, Troubled, Refused as refuses}
+use Rattle.generational_core.specs.Steps.{Meets, limited, no_names, is_being_read}
 use Rattle.generational_box.specs.Entry.{IsBeingRead, FoundBorrowed, Kept, content_in, is_live}
 use Rattle.generational_box.specs.Entry.Kept.{Empty, Live}
-use Rattle.generational_box.specs.Answers.{trouble_of, end_refused}
+use Rattle.generational_core.specs.Answers.{trouble_of, end_refused}
 use Rattle.generational_box.specs.Slotted.{own_cell_at, cell_of, OnlyValues}
-use Rattle.generational_box.proofs.Maps.{by_name, name_exact, name_total, name_same, get-keep}
-use Rattle.generational_box.proofs.Maps.{get-remove_here}
+use Rattle.generational_core.proofs.Maps.{by_name, name_exact, name_total, name_same, get-keep}
+use Rattle.generational_core.proofs.Maps.{get-remove_here}
 
 module _ {T : Type 0} (S : State T) (values : OnlyValues S) where
   without_get : (names : List Name) (q : Name)

@@ -6,31 +6,31 @@ use Rattle.std.specs.Prelude.{not, nat_eq, ◌||◌}
 use Rattle.std.specs.List.{list_any, filter}
 use Rattle.std.proofs.lemmas.Bool.{true≢false, false≢true, eq-eqb, eqb-true, ne_eqb}
 use Rattle.std.specs.FinMap as map
-use Rattle.generational_box.specs.declared.error.Location.{Location}
-use Rattle.generational_box.specs.declared.error.StoreError.TheVariants.{OutOfMemory}
-use Rattle.generational_box.specs.declared.error.StoreError.TheVariants.{NumbersExhausted}
-use Rattle.generational_box.specs.declared.entry.Borrow.{Borrow}
-use Rattle.generational_box.specs.declared.boxes.GenerationalBoxId.{GenerationalBoxId}
-use Rattle.generational_box.specs.declared.boxes.GenerationalPointer.{GenerationalPointer}
-use Rattle.generational_box.specs.Names.{Name, changed}
-use Rattle.generational_box.specs.Cells.{Content, Cell, content_of, refilled}
-use Rattle.generational_box.specs.Cells.Content.{Here, Lent}
-use Rattle.generational_box.specs.Cells.Cell.{Value, Shared, Ref}
-use Rattle.generational_box.specs.Boxes.{name_of, name_in}
-use Rattle.generational_box.specs.State.{State}
-use Rattle.generational_box.specs.Borrowing.{Trouble, Guard, reach, reached, read_trouble}
-use Rattle.generational_box.specs.Borrowing.{read_refusal, content_at, filled}
-use Rattle.generational_box.specs.Borrowing.Trouble.{Dropped}
-use Rattle.generational_box.specs.Machine.{act, read_at, next_guard, contents, knows_reader}
-use Rattle.generational_box.specs.Machine.{has_reader, without_reader, unless}
-use Rattle.generational_box.specs.Machine.Action.{Read, ReleaseReader}
-use Rattle.generational_box.specs.Machine.Answer.{Reads, Flag, Troubled, Refused}
-use Rattle.generational_box.specs.Steps.{Meets, limited, no_names, has_readers, is_reader}
-use Rattle.generational_box.specs.Steps.{answer_to}
+use Rattle.generational_core.specs.declared.error.Location.{Location}
+use Rattle.generational_core.specs.declared.error.StoreError.TheVariants.{OutOfMemory}
+use Rattle.generational_core.specs.declared.error.StoreError.TheVariants.{NumbersExhausted}
+use Rattle.generational_core.specs.declared.borrow.Borrow.{Borrow}
+use Rattle.generational_core.specs.declared.boxes.GenerationalBoxId.{GenerationalBoxId}
+use Rattle.generational_core.specs.declared.boxes.GenerationalPointer.{GenerationalPointer}
+use Rattle.generational_core.specs.Names.{Name, changed}
+use Rattle.generational_core.specs.Cells.{Content, Cell, content_of, refilled}
+use Rattle.generational_core.specs.Cells.Content.{Here, Lent}
+use Rattle.generational_core.specs.Cells.Cell.{Value, Shared, Ref}
+use Rattle.generational_core.specs.Boxes.{name_of, name_in}
+use Rattle.generational_core.specs.State.{State}
+use Rattle.generational_core.specs.Borrowing.{Trouble, Guard, reach, reached, read_trouble}
+use Rattle.generational_core.specs.Borrowing.{read_refusal, content_at, filled}
+use Rattle.generational_core.specs.Borrowing.Trouble.{Dropped}
+use Rattle.generational_core.specs.Machine.{act, read_at, next_guard, contents, knows_reader}
+use Rattle.generational_core.specs.Machine.{has_reader, without_reader, unless}
+use Rattle.generational_core.specs.Machine.Action.{Read, ReleaseReader}
+use Rattle.generational_core.specs.Machine.Answer.{Reads, Flag, Troubled, Refused}
+use Rattle.generational_core.specs.Steps.{Meets, limited, no_names, has_readers, is_reader}
+use Rattle.generational_core.specs.Steps.{answer_to}
 use Rattle.generational_box.specs.Entry.{Kept, content_in, is_live}
 use Rattle.generational_box.specs.Entry.Kept.{Empty, Live}
 use Rattle.generational_box.specs.Slotted.{own_cell_at, cell_of}
-use Rattle.generational_box.proofs.Maps.{by_name, name_exact, name_total, changed_view}
+use Rattle.generational_core.proofs.Maps.{by_name, name_exact, name_total, changed_view}
 
 -- a list without the ticket stays as it is
 nothing_left : (t : ℕ) (rs : List Borrow) → list_any (λ r. nat_eq r.ticket t) rs ≡ false

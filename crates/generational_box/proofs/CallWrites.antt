@@ -5,30 +5,30 @@ use Rattle.std.proofs.Common.{◌∙◌, arith, inl, inr}
 use Rattle.std.specs.Prelude.{nat_eq, is_ok, IfErr, OnOk}
 use Rattle.std.proofs.lemmas.Bool.{false≢true, eq-eqb, ne_eqb, false_from_ne_true}
 use Rattle.std.specs.FinMap as map
-use Rattle.generational_box.specs.declared.error.Location.{Location}
-use Rattle.generational_box.specs.declared.error.BorrowMutError.{BorrowMutError}
-use Rattle.generational_box.specs.declared.error.StoreError.TheVariants.{OutOfMemory}
-use Rattle.generational_box.specs.declared.error.StoreError.TheVariants.{NumbersExhausted}
-use Rattle.generational_box.specs.declared.error.StoreError.TheVariants.{UnknownOwner}
-use Rattle.generational_box.specs.declared.error.Refused.{Refused}
-use Rattle.generational_box.specs.declared.error.Refused.TheVariants as refused
-use Rattle.generational_box.specs.declared.boxes.GenerationalBoxId.{GenerationalBoxId}
-use Rattle.generational_box.specs.declared.boxes.GenerationalPointer.{GenerationalPointer}
-use Rattle.generational_box.specs.Cells.{Content, content_of}
-use Rattle.generational_box.specs.Cells.Content.{Here, Lent}
-use Rattle.generational_box.specs.Cells.Cell.{Value}
-use Rattle.generational_box.specs.Boxes.{name_of, name_in}
-use Rattle.generational_box.specs.State.{State}
-use Rattle.generational_box.specs.Borrowing.{Trouble, Guard, reach, write_trouble, write_refusal}
-use Rattle.generational_box.specs.Borrowing.{content_at, filled}
-use Rattle.generational_box.specs.Borrowing.Trouble.{Dropped, BeingRead, BeingWritten}
-use Rattle.generational_box.specs.Writing.{WriteGuard}
-use Rattle.generational_box.specs.Machine.{Outcome, act, written_at, next_guard, contents}
-use Rattle.generational_box.specs.Machine.{knows_writer, has_writer, unless}
-use Rattle.generational_box.specs.Machine.Action.{Write, ReleaseWriter}
-use Rattle.generational_box.specs.Machine.Answer.{Writes, Back, Done, Troubled, Refused as refuses}
-use Rattle.generational_box.specs.Steps.{Meets, limited, no_names, is_being_read}
-use Rattle.generational_box.specs.Answers.{trouble_of, end_refused, back_answer}
+use Rattle.generational_core.specs.declared.error.Location.{Location}
+use Rattle.generational_core.specs.declared.error.BorrowMutError.{BorrowMutError}
+use Rattle.generational_core.specs.declared.error.StoreError.TheVariants.{OutOfMemory}
+use Rattle.generational_core.specs.declared.error.StoreError.TheVariants.{NumbersExhausted}
+use Rattle.generational_core.specs.declared.error.StoreError.TheVariants.{UnknownOwner}
+use Rattle.generational_core.specs.declared.error.Refused.{Refused}
+use Rattle.generational_core.specs.declared.error.Refused.TheVariants as refused
+use Rattle.generational_core.specs.declared.boxes.GenerationalBoxId.{GenerationalBoxId}
+use Rattle.generational_core.specs.declared.boxes.GenerationalPointer.{GenerationalPointer}
+use Rattle.generational_core.specs.Cells.{Content, content_of}
+use Rattle.generational_core.specs.Cells.Content.{Here, Lent}
+use Rattle.generational_core.specs.Cells.Cell.{Value}
+use Rattle.generational_core.specs.Boxes.{name_of, name_in}
+use Rattle.generational_core.specs.State.{State}
+use Rattle.generational_core.specs.Borrowing.{Trouble, Guard, reach, write_trouble, write_refusal}
+use Rattle.generational_core.specs.Borrowing.{content_at, filled}
+use Rattle.generational_core.specs.Borrowing.Trouble.{Dropped, BeingRead, BeingWritten}
+use Rattle.generational_core.specs.Writing.{WriteGuard}
+use Rattle.generational_core.specs.Machine.{Outcome, act, written_at, next_guard, contents}
+use Rattle.generational_core.specs.Machine.{knows_writer, has_writer, unless}
+use Rattle.generational_core.specs.Machine.Action.{Write, ReleaseWriter}
+use Rattle.generational_core.specs.Machine.Answer.{Writes, Back, Done, Troubled, Refused as refuses}
+use Rattle.generational_core.specs.Steps.{Meets, limited, no_names, is_being_read}
+use Rattle.generational_core.specs.Answers.{trouble_of, end_refused, back_answer}
 use Rattle.generational_box.specs.Entry.{IsBeingRead, FoundBorrowed, Kept, content_in, is_live}
 use Rattle.generational_box.specs.Entry.Kept.{Empty, Live}
 use Rattle.generational_box.specs.Slotted.{own_cell_at, cell_of}

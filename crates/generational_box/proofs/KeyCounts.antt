@@ -7,8 +7,8 @@ use Rattle.std.specs.Ordering.{eq_by_cmp}
 use Rattle.std.specs.List.{AllByRecursion, IsDistinct, list_any, filter}
 use Rattle.std.specs.FinMap as map
 use Rattle.std.specs.FinSet as set
-use Rattle.generational_box.proofs.Maps.{IsKeyOrder, get-keep, key_same}
-use Rattle.generational_box.proofs.Lengths.{keys_apart, len_keys}
+use Rattle.generational_core.proofs.Maps.{IsKeyOrder, get-keep, key_same}
+use Rattle.generational_core.proofs.Lengths.{keys_apart, len_keys}
 
 -- elements that pass one test, those that pass only another, and those that pass neither are all
 list_parts : {K : Type 0} (p q : K → Bool) (ks : List K) → length ks ≡ length (filter p ks)

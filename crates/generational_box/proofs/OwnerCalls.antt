@@ -6,36 +6,39 @@ use Rattle.std.specs.Prelude.{is_some, not, nat_eq, nat_lt}
 use Rattle.std.proofs.lemmas.Bool.{eq-eqb, eqb-true, ne_eqb, lt-ltb, le-ltb, and_parts, false≢true}
 use Rattle.std.proofs.lemmas.Bool.{true≢false}
 use Rattle.std.specs.FinMap as map
-use Rattle.generational_box.specs.declared.error.Location.{Location}
-use Rattle.generational_box.specs.declared.error.StoreError.{StoreError}
-use Rattle.generational_box.specs.declared.error.StoreError.TheVariants.{OutOfMemory}
-use Rattle.generational_box.specs.declared.error.StoreError.TheVariants.{NumbersExhausted}
-use Rattle.generational_box.specs.declared.error.StoreError.TheVariants.{UnknownOwner}
-use Rattle.generational_box.specs.declared.boxes.GenerationalPointer.{GenerationalPointer}
-use Rattle.generational_box.specs.Names.{Name, changed}
-use Rattle.generational_box.specs.Boxes.{name_of, box_of}
-use Rattle.generational_box.specs.State.{State, Holding, Owners}
-use Rattle.generational_box.specs.Machine.{OwnerName, Answer, act, make_value, holding, is_known}
-use Rattle.generational_box.specs.Machine.{listed, with_owner, cloned, let_go, unless}
-use Rattle.generational_box.specs.Machine.Action.{Make, NewOwner, CloneOwner, ReleaseOwner}
-use Rattle.generational_box.specs.Machine.Answer.{Made, Owned, Done, Refused}
-use Rattle.generational_box.specs.Steps.{Meets, limited, no_names, may_lack, is_made, is_being_read}
-use Rattle.generational_box.specs.Records.{knows, knows_any, listed_in, one_more, one_less}
-use Rattle.generational_box.specs.Records.{names_in, names_under, first_borrowed, count_in}
-use Rattle.generational_box.specs.Records.{count_under, IsRefusal}
+use Rattle.generational_core.specs.declared.error.Location.{Location}
+use Rattle.generational_core.specs.declared.error.StoreError.{StoreError}
+use Rattle.generational_core.specs.declared.error.StoreError.TheVariants.{OutOfMemory}
+use Rattle.generational_core.specs.declared.error.StoreError.TheVariants.{NumbersExhausted}
+use Rattle.generational_core.specs.declared.error.StoreError.TheVariants.{UnknownOwner}
+use Rattle.generational_core.specs.declared.boxes.GenerationalPointer.{GenerationalPointer}
+use Rattle.generational_core.specs.Names.{Name, changed}
+use Rattle.generational_core.specs.Boxes.{name_of, box_of}
+use Rattle.generational_core.specs.State.{State, Holding, Owners}
+use Rattle.generational_core.specs.Machine.{OwnerName, Answer, act, make_value, holding, is_known}
+use Rattle.generational_core.specs.Machine.{listed, with_owner, cloned, let_go, unless}
+use Rattle.generational_core.specs.Machine.Action.{Make, NewOwner, CloneOwner, ReleaseOwner}
+use Rattle.generational_core.specs.Machine.Answer.{Made, Owned, Done, Refused}
+use Rattle.generational_core.specs.Steps.{Meets, limited, no_names, may_lack, is_made, is_being_read}
+use Rattle.generational_core.specs.Records.{one_more, one_less}
+use Rattle.generational_box.specs.OwnerRecords.{knows, knows_any, listed_in}
+use Rattle.generational_core.specs.Records.{names_in, names_under, count_in}
+use Rattle.generational_box.specs.OwnerRecords.{first_borrowed}
+use Rattle.generational_core.specs.Records.{count_under}
+use Rattle.generational_box.specs.OwnerRecords.{IsRefusal}
 use Rattle.generational_box.specs.Entry.{Entry}
 use Rattle.generational_box.specs.Slotted.{state_of}
-use Rattle.generational_box.specs.declared.error.Refused.{Refused as Refusing}
-use Rattle.generational_box.specs.declared.error.Refused.TheVariants as refused
-use Rattle.generational_box.specs.declared.error.BorrowMutError.{BorrowMutError}
-use Rattle.generational_box.specs.Borrowing.{Trouble}
-use Rattle.generational_box.specs.Borrowing.Trouble.{Dropped, BeingRead, BeingWritten}
-use Rattle.generational_box.specs.Ending.{close, hindered}
-use Rattle.generational_box.specs.Answers.{trouble_of, end_refused}
+use Rattle.generational_core.specs.declared.error.Refused.{Refused as Refusing}
+use Rattle.generational_core.specs.declared.error.Refused.TheVariants as refused
+use Rattle.generational_core.specs.declared.error.BorrowMutError.{BorrowMutError}
+use Rattle.generational_core.specs.Borrowing.{Trouble}
+use Rattle.generational_core.specs.Borrowing.Trouble.{Dropped, BeingRead, BeingWritten}
+use Rattle.generational_core.specs.Ending.{close, hindered}
+use Rattle.generational_core.specs.Answers.{trouble_of, end_refused}
 use Rattle.generational_box.specs.Entry.{FoundBorrowed, IsBeingRead}
 use Rattle.generational_box.specs.Slotted.{is_value, OnlyValues}
 use Rattle.generational_box.proofs.OwnerEnds.{hindered_is}
-use Rattle.generational_box.proofs.Maps.{by_number, changed_there}
+use Rattle.generational_core.proofs.Maps.{by_number, changed_there}
 
 module _ {T : Type 0} where
   known_is : (S : State T) (o : OwnerName) → is_some (holding S o) ≡ knows S.number S.owners o

@@ -4,18 +4,18 @@ use Rattle.std.proofs.Common.{sym, ap, ◌∙◌}
 use Rattle.std.specs.Prelude.{is_some, not, ◌||◌}
 use Rattle.std.proofs.lemmas.Bool.{eq-eqb, true≢false, false≢true}
 use Rattle.std.specs.FinMap as map
-use Rattle.generational_box.specs.declared.boxes.GenerationalBoxId.{GenerationalBoxId}
-use Rattle.generational_box.specs.Names.{Name, NameMap, is_name, among}
-use Rattle.generational_box.specs.Cells.{Cell, content_of, is_shared}
-use Rattle.generational_box.specs.Cells.Cell.{Value, Shared, Ref}
-use Rattle.generational_box.specs.Boxes.{name_in}
-use Rattle.generational_box.specs.State.{State}
-use Rattle.generational_box.specs.Borrowing.{write_refusal}
-use Rattle.generational_box.specs.Ending.{close, left_by, hindered, hindrance_of, first_hindrance}
-use Rattle.generational_box.specs.Ending.{or_else}
-use Rattle.generational_box.specs.Records.{first_borrowed}
+use Rattle.generational_core.specs.declared.boxes.GenerationalBoxId.{GenerationalBoxId}
+use Rattle.generational_core.specs.Names.{Name, NameMap, is_name, among}
+use Rattle.generational_core.specs.Cells.{Cell, content_of, is_shared}
+use Rattle.generational_core.specs.Cells.Cell.{Value, Shared, Ref}
+use Rattle.generational_core.specs.Boxes.{name_in}
+use Rattle.generational_core.specs.State.{State}
+use Rattle.generational_core.specs.Borrowing.{write_refusal}
+use Rattle.generational_core.specs.Ending.{close, left_by, hindered, hindrance_of, first_hindrance}
+use Rattle.generational_core.specs.Ending.{or_else}
+use Rattle.generational_box.specs.OwnerRecords.{first_borrowed}
 use Rattle.generational_box.specs.Slotted.{own_cell_at, is_value, OnlyValues}
-use Rattle.generational_box.proofs.Maps.{name_total, name_exact, name_here}
+use Rattle.generational_core.proofs.Maps.{name_total, name_exact, name_here}
 use Rattle.generational_box.proofs.CallEnds.{left_get, left_none, removed_none}
 
 module _ {T : Type 0} (S : State T) where

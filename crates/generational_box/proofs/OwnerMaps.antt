@@ -14,15 +14,17 @@ use Rattle.std.specs.BTreeMap.{BTreeMap, get, is_at, WritesThrough}
 use Rattle.std.specs.declared.cmp.Reverse.{Reverse}
 use Rattle.std.specs.Map.{lookup}
 use Rattle.generational_box.specs.declared.owners.OwnerRecord.{OwnerRecord}
-use Rattle.generational_box.specs.Names.{Name, changed, changed_if}
-use Rattle.generational_box.specs.State.{Holding, Owners}
-use Rattle.generational_box.specs.Records.{owners_of, holding_of, one_more, one_less, one_listed}
-use Rattle.generational_box.specs.Records.{count_in, count_under, listed_in, knows, AreCounted}
-use Rattle.generational_box.specs.Records.{IsCounted}
-use Rattle.generational_box.specs.Machine.{OwnerName}
-use Rattle.generational_box.proofs.Maps.{by_number, key_here, key_cases, changed_there}
-use Rattle.generational_box.proofs.Maps.{insert_there, get-insert_here, get-insert_apart}
-use Rattle.generational_box.proofs.Maps.{get-remove_here, get-remove_apart}
+use Rattle.generational_core.specs.Names.{Name, changed, changed_if}
+use Rattle.generational_core.specs.State.{Holding, Owners}
+use Rattle.generational_core.specs.Records.{one_more, one_less, one_listed}
+use Rattle.generational_box.specs.OwnerRecords.{owners_of, holding_of}
+use Rattle.generational_core.specs.Records.{count_in, count_under}
+use Rattle.generational_box.specs.OwnerRecords.{listed_in, knows, AreCounted}
+use Rattle.generational_box.specs.OwnerRecords.{IsCounted}
+use Rattle.generational_core.specs.Machine.{OwnerName}
+use Rattle.generational_core.proofs.Maps.{by_number, key_here, key_cases, changed_there}
+use Rattle.generational_core.proofs.Maps.{insert_there, get-insert_here, get-insert_apart}
+use Rattle.generational_core.proofs.Maps.{get-remove_here, get-remove_apart}
 
 -- the order of the records, and a key in it
 abbrev pub newest_first : Reverse ℕ → Reverse ℕ → Ordering

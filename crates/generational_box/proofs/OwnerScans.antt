@@ -3,20 +3,20 @@ use Rattle.std.proofs.Common.{◌≡◌, ℕ, ◌+◌, ◌<◌, zero, suc, List,
 use Rattle.std.proofs.Common.{slice_index_or, Option, None, Some, Err, refl, sym, ap, ◌∙◌, arith}
 use Rattle.std.specs.Prelude.{map as list_map, slice_get}
 use Rattle.std.specs.FinMap as map
-use Rattle.generational_box.specs.declared.error.Refused.{Refused}
-use Rattle.generational_box.specs.declared.error.Refused.TheVariants as refused
-use Rattle.generational_box.specs.declared.error.BorrowMutError.{BorrowMutError}
-use Rattle.generational_box.specs.declared.error.StoreError.TheVariants.{OutOfMemory}
-use Rattle.generational_box.specs.declared.error.StoreError.TheVariants.{NumbersExhausted}
-use Rattle.generational_box.specs.declared.error.StoreError.TheVariants.{UnknownOwner}
+use Rattle.generational_core.specs.declared.error.Refused.{Refused}
+use Rattle.generational_core.specs.declared.error.Refused.TheVariants as refused
+use Rattle.generational_core.specs.declared.error.BorrowMutError.{BorrowMutError}
+use Rattle.generational_core.specs.declared.error.StoreError.TheVariants.{OutOfMemory}
+use Rattle.generational_core.specs.declared.error.StoreError.TheVariants.{NumbersExhausted}
+use Rattle.generational_core.specs.declared.error.StoreError.TheVariants.{UnknownOwner}
 use Rattle.generational_box.specs.declared.owners.CellName.{CellName}
-use Rattle.generational_box.specs.Names.{Name, NameMap}
-use Rattle.generational_box.specs.Cells.{Cell, content_of}
-use Rattle.generational_box.specs.Borrowing.{Trouble, write_refusal}
-use Rattle.generational_box.specs.Ending.{or_else}
+use Rattle.generational_core.specs.Names.{Name, NameMap}
+use Rattle.generational_core.specs.Cells.{Cell, content_of}
+use Rattle.generational_core.specs.Borrowing.{Trouble, write_refusal}
+use Rattle.generational_core.specs.Ending.{or_else}
 use Rattle.generational_box.specs.Entry.{Entry, Kept, FoundBorrowed, content_in}
 use Rattle.generational_box.specs.Entry.Kept.{Empty, Live}
-use Rattle.generational_box.specs.Records.{first_borrowed, name_seen}
+use Rattle.generational_box.specs.OwnerRecords.{first_borrowed, name_seen}
 use Rattle.generational_box.specs.Slotted.{cells_of, cell_of, cell_found, entry_in}
 use Rattle.generational_box.proofs.SlotCells.{get_cells}
 use Rattle.generational_box.proofs.SlotFound.{entry_cell}

@@ -11,7 +11,7 @@ use Rattle.std.specs.List.{list_any, IsDistinct, AllByRecursion}
 use Rattle.std.specs.FinMap.{nat_cmp-IsAntisymmetric}
 use Rattle.std.specs.FinSet as set
 use Rattle.generational_box.specs.Pools.{IsPool}
-use Rattle.generational_box.proofs.Maps.{by_number, key_same}
+use Rattle.generational_core.proofs.Maps.{by_number, key_same}
 
 -- whether a slot is in the list
 abbrev pub holds : List ℕ → ℕ → Bool

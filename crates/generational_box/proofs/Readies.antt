@@ -4,16 +4,16 @@ use Rattle.std.proofs.Common.{refl, sym, ap, ◌∙◌}
 use Rattle.std.specs.Prelude.{is_none, is_some, option_map, not, nat_eq}
 use Rattle.std.proofs.lemmas.Bool.{false≢true}
 use Rattle.std.specs.FinMap as map
-use Rattle.generational_box.specs.declared.error.Location.{Location}
-use Rattle.generational_box.specs.declared.boxes.GenerationalPointer.{GenerationalPointer}
-use Rattle.generational_box.specs.declared.steps.StepCall.TheVariants.{Read, ManuallyDrop}
-use Rattle.generational_box.specs.Boxes.{name_of}
-use Rattle.generational_box.specs.Cells.{Content}
-use Rattle.generational_box.specs.Cells.Content.{Here, Lent}
-use Rattle.generational_box.specs.State.{State}
-use Rattle.generational_box.specs.Borrowing.{read_refusal, write_refusal}
-use Rattle.generational_box.specs.Ending.{hindered}
-use Rattle.generational_box.specs.Readiness.{is_ready, tells_of_borrow}
+use Rattle.generational_core.specs.declared.error.Location.{Location}
+use Rattle.generational_core.specs.declared.boxes.GenerationalPointer.{GenerationalPointer}
+use Rattle.generational_core.specs.declared.steps.StepCall.TheVariants.{Read, ManuallyDrop}
+use Rattle.generational_core.specs.Boxes.{name_of}
+use Rattle.generational_core.specs.Cells.{Content}
+use Rattle.generational_core.specs.Cells.Content.{Here, Lent}
+use Rattle.generational_core.specs.State.{State}
+use Rattle.generational_core.specs.Borrowing.{read_refusal, write_refusal}
+use Rattle.generational_core.specs.Ending.{hindered}
+use Rattle.generational_core.specs.Readiness.{is_ready, tells_of_borrow}
 use Rattle.generational_box.specs.Entry.{Kept, content_in, is_live}
 use Rattle.generational_box.specs.Entry.Kept.{Empty, Live}
 use Rattle.generational_box.specs.Slotted.{own_cell_at, cell_of, OnlyValues}

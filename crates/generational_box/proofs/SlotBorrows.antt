@@ -10,23 +10,23 @@ use Rattle.std.proofs.lemmas.List.{length-set}
 use Rattle.std.proofs.lemmas.Option.{slice_get_within}
 use Rattle.std.specs.FinMap as map
 use Rattle.std.specs.FinSet as set
-use Rattle.generational_box.specs.declared.error.Location.{Location}
-use Rattle.generational_box.specs.declared.entry.Borrow.{Borrow}
-use Rattle.generational_box.specs.declared.boxes.GenerationalBoxId.{GenerationalBoxId}
-use Rattle.generational_box.specs.Names.{Name}
-use Rattle.generational_box.specs.Cells.{Content, Cell, refilled}
-use Rattle.generational_box.specs.Cells.Content.{Here, Lent}
-use Rattle.generational_box.specs.Cells.Cell.{Value}
-use Rattle.generational_box.specs.Boxes.{name_in}
-use Rattle.generational_box.specs.State.{State, Owners}
-use Rattle.generational_box.specs.Borrowing.{content_at, filled}
-use Rattle.generational_box.specs.Steps.{has_readers}
-use Rattle.generational_box.specs.Machine.{read_at, has_reader, without_reader}
+use Rattle.generational_core.specs.declared.error.Location.{Location}
+use Rattle.generational_core.specs.declared.borrow.Borrow.{Borrow}
+use Rattle.generational_core.specs.declared.boxes.GenerationalBoxId.{GenerationalBoxId}
+use Rattle.generational_core.specs.Names.{Name}
+use Rattle.generational_core.specs.Cells.{Content, Cell, refilled}
+use Rattle.generational_core.specs.Cells.Content.{Here, Lent}
+use Rattle.generational_core.specs.Cells.Cell.{Value}
+use Rattle.generational_core.specs.Boxes.{name_in}
+use Rattle.generational_core.specs.State.{State, Owners}
+use Rattle.generational_core.specs.Borrowing.{content_at, filled}
+use Rattle.generational_core.specs.Steps.{has_readers}
+use Rattle.generational_core.specs.Machine.{read_at, has_reader, without_reader}
 use Rattle.generational_box.specs.Entry.{Entry, Kept, with_reader, without_reader_in, content_in}
 use Rattle.generational_box.specs.Entry.Kept.{Live}
 use Rattle.generational_box.specs.Slotted.{cell_of, cells_of, state_of, entry_changed, own_cell_at}
 use Rattle.generational_box.specs.Slotted.{is_here, is_reusable, HasBegun, IsSlotted}
-use Rattle.generational_box.proofs.Maps.{by_name, name_total, changed_there}
+use Rattle.generational_core.proofs.Maps.{by_name, name_total, changed_there}
 use Rattle.generational_box.proofs.SliceGet.{get-set_same, get-set_other, set-own}
 use Rattle.generational_box.proofs.SlotCells.{get_own, cells-changed}
 use Rattle.generational_box.proofs.SlotFound.{IsFound, found, found_name, found_content}

@@ -3,35 +3,22 @@ use Rattle.std.proofs.Common.{◌≡◌, ◌≢◌, ℕ, zero, suc, ◌+◌, ◌
 use Rattle.std.proofs.Common.{List, [], ◌∷◌, ◌++◌, length, Option, None, Some, refl, sym, ap, ◌∙◌}
 use Rattle.std.proofs.Common.{arith, ⊎_elim, slice_get, slice_set, inr}
 use Rattle.std.specs.Prelude.{nat_eq, ◌⊎◌}
-use Rattle.std.specs.Cmp.{both_ways}
-use Rattle.std.proofs.lemmas.Bool.{eqb-true, eq-eqb, ne_eqb, and_parts, and_from, cases_eq}
+use Rattle.std.proofs.lemmas.Bool.{eqb-true, eq-eqb, ne_eqb, cases_eq}
 use Rattle.std.proofs.lemmas.Option.{slice_get_past}
 use Rattle.std.specs.FinMap as map
-use Rattle.generational_box.specs.declared.error.Location.{Location}
-use Rattle.generational_box.specs.Names.{Name, name_cmp, is_name, changed}
-use Rattle.generational_box.specs.Cells.{Content, Cell, refilled, is_shared}
-use Rattle.generational_box.specs.Cells.Cell.{Value}
+use Rattle.generational_core.specs.declared.error.Location.{Location}
+use Rattle.generational_core.specs.Names.{Name, name_cmp, is_name, changed}
+use Rattle.generational_core.specs.Cells.{Content, Cell, refilled, is_shared}
+use Rattle.generational_core.specs.Cells.Cell.{Value}
 use Rattle.generational_box.specs.Entry.{Entry, Kept}
 use Rattle.generational_box.specs.Entry.Kept.{Empty, Live}
 use Rattle.generational_box.specs.Slotted.{is_value, cell_of, with_cell, live_from, cells_of}
 use Rattle.generational_box.specs.Slotted.{cell_in}
-use Rattle.generational_box.proofs.Maps.{by_name, name_exact, name_total, name_here, name_same}
-use Rattle.generational_box.proofs.Maps.{get-insert_name, changed_there}
+use Rattle.generational_core.proofs.Maps.{by_name, name_exact, name_total, name_here, name_same}
+use Rattle.generational_core.proofs.SameNames.{name_test}
+use Rattle.generational_core.proofs.Maps.{get-insert_name, changed_there}
 use Rattle.generational_box.proofs.SliceGet.{get-set_same, get-set_other, get-push_last}
 use Rattle.generational_box.proofs.SliceGet.{get-push_other}
-
--- two names are the same if both their numbers are
-pub name_test : (a b : Name) → is_name a b ≡ (nat_eq a.slot b.slot && nat_eq a.generation b.generation)
-name_test a b =
-    both_ways _ _
-    (λ h. let e = name_same a b h in
-    and_from _ _ (eq-eqb a.slot b.slot (ap (λ (n : Name). n.slot) e))
-    (eq-eqb a.generation b.generation (ap (λ (n : Name). n.generation) e)))
-    (λ h. let p = and_parts _ _ h in
-    let s = eqb-true a.slot b.slot p.0 in
-    let g = eqb-true a.generation b.generation p.1 in
-    let e : a ≡ b = λ i. record { slot = s i; generation = g i } in
-    ap (λ n. is_name n b) e ∙ name_here b)
 
 pub cond_same : {A : Type 0} (b : Bool) (x : A) → cond b x x ≡ x
 cond_same true x = refl

@@ -13,18 +13,18 @@ use Rattle.std.proofs.lemmas.Option.{slice_get_past, slice_get_within, slice_get
 use Rattle.std.specs.FinMap as map
 use Rattle.std.specs.FinMap.{nat_cmp-IsAntisymmetric}
 use Rattle.std.specs.FinSet as set
-use Rattle.generational_box.specs.Names.{Name, name_cmp}
-use Rattle.generational_box.specs.Cells.{Cell}
-use Rattle.generational_box.specs.State.{State, Owners}
-use Rattle.generational_box.specs.Slots.{slots_of, is_free, slots, free, last_name, last_generation}
-use Rattle.generational_box.specs.Steps.{IsNew}
+use Rattle.generational_core.specs.Names.{Name, name_cmp}
+use Rattle.generational_core.specs.Cells.{Cell}
+use Rattle.generational_core.specs.State.{State, Owners}
+use Rattle.generational_core.specs.Slots.{slots_of, is_free, slots, free, last_name, last_generation}
+use Rattle.generational_core.specs.Steps.{IsNew}
 use Rattle.generational_box.specs.Entry.{Entry, Kept, is_live}
 use Rattle.generational_box.specs.Entry.Kept.{Empty, Live}
 use Rattle.generational_box.specs.Slotted.{cell_of, with_cell, live_from, cells_of, state_of}
 use Rattle.generational_box.specs.Slotted.{is_reusable, HasBegun}
-use Rattle.generational_box.proofs.Maps.{by_number, name_total, get-keep, get-remove_here}
-use Rattle.generational_box.proofs.Maps.{get-remove_apart}
-use Rattle.generational_box.proofs.Lasts.{IsIn, IsLast, get_lasts, one_last}
+use Rattle.generational_core.proofs.Maps.{by_number, name_total, get-keep, get-remove_here}
+use Rattle.generational_core.proofs.Maps.{get-remove_apart}
+use Rattle.generational_core.proofs.Lasts.{IsIn, IsLast, get_lasts, one_last}
 use Rattle.generational_box.proofs.SlotCells.{get_own, cond_same}
 use Rattle.generational_box.proofs.SlotNames.{get_given}
 

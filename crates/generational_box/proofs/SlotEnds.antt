@@ -7,17 +7,17 @@ use Rattle.std.proofs.lemmas.Bool.{true≢false, cases_eq, lt-ltb, le-ltb}
 use Rattle.std.proofs.lemmas.List.{length-set}
 use Rattle.std.specs.FinMap as map
 use Rattle.std.specs.FinSet as set
-use Rattle.generational_box.specs.declared.boxes.GenerationalBoxId.{GenerationalBoxId}
-use Rattle.generational_box.specs.Names.{Name}
-use Rattle.generational_box.specs.Boxes.{name_in}
-use Rattle.generational_box.specs.State.{State, Owners}
-use Rattle.generational_box.specs.Slots.{last_generation}
+use Rattle.generational_core.specs.declared.boxes.GenerationalBoxId.{GenerationalBoxId}
+use Rattle.generational_core.specs.Names.{Name}
+use Rattle.generational_core.specs.Boxes.{name_in}
+use Rattle.generational_core.specs.State.{State, Owners}
+use Rattle.generational_core.specs.Slots.{last_generation}
 use Rattle.generational_box.specs.Entry.{Entry}
 use Rattle.generational_box.specs.Entry.Kept.{Empty}
 use Rattle.generational_box.specs.Slotted.{cell_of, cells_of, state_of, entry_changed, is_reusable}
 use Rattle.generational_box.specs.Slotted.{HasBegun, IsSlotted}
-use Rattle.generational_box.proofs.Maps.{by_number, name_total, contains-insert_here}
-use Rattle.generational_box.proofs.Maps.{contains-insert_apart}
+use Rattle.generational_core.proofs.Maps.{by_number, name_total, contains-insert_here}
+use Rattle.generational_core.proofs.Maps.{contains-insert_apart}
 use Rattle.generational_box.proofs.SliceGet.{get-set_same, get-set_other}
 use Rattle.generational_box.proofs.SlotCells.{get_own, cells-ended}
 use Rattle.generational_box.proofs.SlotNames.{given-set}

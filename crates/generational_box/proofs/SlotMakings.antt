@@ -11,25 +11,25 @@ use Rattle.std.proofs.lemmas.List.{length-set}
 use Rattle.std.proofs.lemmas.Option.{slice_get_past, slice_get_within}
 use Rattle.std.specs.FinMap as map
 use Rattle.std.specs.FinSet as set
-use Rattle.generational_box.specs.declared.error.Location.{Location}
-use Rattle.generational_box.specs.declared.boxes.GenerationalPointer.{GenerationalPointer}
-use Rattle.generational_box.specs.declared.error.StoreError.TheVariants.{OutOfMemory}
-use Rattle.generational_box.specs.Names.{Name}
-use Rattle.generational_box.specs.Cells.Content.{Here}
-use Rattle.generational_box.specs.Cells.Cell.{Value}
-use Rattle.generational_box.specs.Boxes.{box_of}
-use Rattle.generational_box.specs.State.{State, Owners}
-use Rattle.generational_box.specs.Machine.{born}
-use Rattle.generational_box.specs.Machine.Action.{Make}
-use Rattle.generational_box.specs.Machine.Answer.{Made, Refused}
-use Rattle.generational_box.specs.Slots.{last_generation}
-use Rattle.generational_box.specs.Steps.{Meets, IsNew}
+use Rattle.generational_core.specs.declared.error.Location.{Location}
+use Rattle.generational_core.specs.declared.boxes.GenerationalPointer.{GenerationalPointer}
+use Rattle.generational_core.specs.declared.error.StoreError.TheVariants.{OutOfMemory}
+use Rattle.generational_core.specs.Names.{Name}
+use Rattle.generational_core.specs.Cells.Content.{Here}
+use Rattle.generational_core.specs.Cells.Cell.{Value}
+use Rattle.generational_core.specs.Boxes.{box_of}
+use Rattle.generational_core.specs.State.{State, Owners}
+use Rattle.generational_core.specs.Machine.{born}
+use Rattle.generational_core.specs.Machine.Action.{Make}
+use Rattle.generational_core.specs.Machine.Answer.{Made, Refused}
+use Rattle.generational_core.specs.Slots.{last_generation}
+use Rattle.generational_core.specs.Steps.{Meets, IsNew}
 use Rattle.generational_box.specs.Entry.{Entry, Kept, is_live}
 use Rattle.generational_box.specs.Entry.Kept.{Empty, Live}
 use Rattle.generational_box.specs.Slotted.{cell_of, cells_of, state_of, is_reusable, HasBegun}
 use Rattle.generational_box.specs.Slotted.{IsSlotted}
-use Rattle.generational_box.proofs.Maps.{by_number, name_total, key_here, key_apart}
-use Rattle.generational_box.proofs.Maps.{contains-insert_here, contains-insert_apart}
+use Rattle.generational_core.proofs.Maps.{by_number, name_total, key_here, key_apart}
+use Rattle.generational_core.proofs.Maps.{contains-insert_here, contains-insert_apart}
 use Rattle.generational_box.proofs.SliceGet.{get-set_same, get-set_other, get-push_last}
 use Rattle.generational_box.proofs.SliceGet.{get-push_other}
 use Rattle.generational_box.proofs.SlotCells.{cond_same, get_cells, cells-set, cells-push}

@@ -11,13 +11,13 @@ use Rattle.std.proofs.lemmas.Bool.Decides.{nat_tests}
 use Rattle.std.proofs.lemmas.List.Folds.{list_any-append}
 use Rattle.std.proofs.lemmas.Option.{slice_get_past}
 use Rattle.std.specs.FinSet as set
-use Rattle.generational_box.specs.Names.{Name, name_cmp, is_name}
+use Rattle.generational_core.specs.Names.{Name, name_cmp, is_name}
 use Rattle.generational_box.specs.Entry.{Entry, Kept}
 use Rattle.generational_box.specs.Slotted.{names_up, given_from, given_of, given_in}
-use Rattle.generational_box.proofs.Maps.{name_exact, name_total, contains-insert_name}
+use Rattle.generational_core.proofs.Maps.{name_exact, name_total, contains-insert_name}
 use Rattle.generational_box.proofs.SliceGet.{get-set_same, get-set_other, get-push_last}
 use Rattle.generational_box.proofs.SliceGet.{get-push_other}
-use Rattle.generational_box.proofs.SlotCells.{name_test}
+use Rattle.generational_core.proofs.SameNames.{name_test}
 
 none_up : (a : Bool) (from g : ℕ) → false ≡ (a && (leb from g && ltb g (from + 0)))
 none_up true from g = grind (arith, nat_tests)

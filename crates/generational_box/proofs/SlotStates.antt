@@ -5,10 +5,10 @@ use Rattle.std.specs.Ordering.{nat_cmp}
 use Rattle.std.proofs.lemmas.Bool.{true≢false, and_from, le-leb, eq-eqb}
 use Rattle.std.specs.FinMap as map
 use Rattle.std.specs.FinSet as set
-use Rattle.generational_box.specs.declared.boxes.GenerationalBoxId.{GenerationalBoxId}
-use Rattle.generational_box.specs.Names.{Name, name_cmp}
-use Rattle.generational_box.specs.Boxes.{name_in}
-use Rattle.generational_box.specs.State.{State, fresh, IsFresh, Owners}
+use Rattle.generational_core.specs.declared.boxes.GenerationalBoxId.{GenerationalBoxId}
+use Rattle.generational_core.specs.Names.{Name, name_cmp}
+use Rattle.generational_core.specs.Boxes.{name_in}
+use Rattle.generational_core.specs.State.{State, fresh, IsFresh, Owners}
 use Rattle.generational_box.specs.Entry.{Entry}
 use Rattle.generational_box.specs.Slotted.{cells_of, given_of, state_of, HasBegun, IsSlotted}
 use Rattle.generational_box.specs.Slotted.{entry_in, cell_found, own_cell_at, OnlyValues}

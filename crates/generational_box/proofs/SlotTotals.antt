@@ -10,21 +10,21 @@ use Rattle.std.proofs.lemmas.Map.Made.{length-le_from_is_member}
 use Rattle.std.proofs.lemmas.List.{length-map}
 use Rattle.std.specs.FinMap as map
 use Rattle.std.specs.FinSet as set
-use Rattle.generational_box.specs.Names.{Name, name_cmp}
-use Rattle.generational_box.specs.Cells.{Cell}
-use Rattle.generational_box.specs.State.{State, Owners}
-use Rattle.generational_box.specs.Slots.{slots_of, last_name, is_last_live, is_free, slots, free}
-use Rattle.generational_box.specs.Slots.{retired, last_generation}
+use Rattle.generational_core.specs.Names.{Name, name_cmp}
+use Rattle.generational_core.specs.Cells.{Cell}
+use Rattle.generational_core.specs.State.{State, Owners}
+use Rattle.generational_core.specs.Slots.{slots_of, last_name, is_last_live, is_free, slots, free}
+use Rattle.generational_core.specs.Slots.{retired, last_generation}
 use Rattle.generational_box.specs.Entry.{Entry}
 use Rattle.generational_box.specs.Slotted.{cell_of, state_of, is_reusable}
 use Rattle.generational_box.specs.Slotted.{HasBegun, IsSlotted}
-use Rattle.generational_box.proofs.Maps.{by_name, by_number, name_total, get-keep, key_here}
-use Rattle.generational_box.proofs.Maps.{key_same}
-use Rattle.generational_box.proofs.Lengths.{keys_apart, len_keys, kept_key}
+use Rattle.generational_core.proofs.Maps.{by_name, by_number, name_total, get-keep, key_here}
+use Rattle.generational_core.proofs.Maps.{key_same}
+use Rattle.generational_core.proofs.Lengths.{keys_apart, len_keys, kept_key}
 use Rattle.generational_box.proofs.KeyCounts.{len_alike, len_parts}
 use Rattle.generational_box.proofs.SlotCells.{get_cells, cond_same}
 use Rattle.generational_box.proofs.SlotCounts.{get_last, own_name, free_is, slots_are}
-use Rattle.generational_box.proofs.SlotBound.{live_cells}
+use Rattle.generational_core.proofs.SlotBound.{live_cells}
 
 module _ {T : Type 0} (owners : Owners) (number start next peak : ℕ) (slots' : List (Entry T))
     (begun : (k : ℕ) → HasBegun start (slice_get slots' k)) where

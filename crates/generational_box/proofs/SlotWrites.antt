@@ -6,15 +6,15 @@ use Rattle.std.specs.Prelude.{is_some, OnOk, IfErr}
 use Rattle.std.specs.Ordering.{nat_cmp}
 use Rattle.std.specs.FinSet as set
 use Rattle.std.proofs.lemmas.Bool.{false≢true}
-use Rattle.generational_box.specs.declared.error.Location.{Location}
-use Rattle.generational_box.specs.declared.entry.Borrow.{Borrow}
-use Rattle.generational_box.specs.declared.boxes.GenerationalBoxId.{GenerationalBoxId}
-use Rattle.generational_box.specs.Cells.{Content, Cell}
-use Rattle.generational_box.specs.Cells.Content.{Here, Lent}
-use Rattle.generational_box.specs.Boxes.{name_in}
-use Rattle.generational_box.specs.State.{State, Owners}
-use Rattle.generational_box.specs.Borrowing.{content_at, filled}
-use Rattle.generational_box.specs.Machine.{written_at, has_writer}
+use Rattle.generational_core.specs.declared.error.Location.{Location}
+use Rattle.generational_core.specs.declared.borrow.Borrow.{Borrow}
+use Rattle.generational_core.specs.declared.boxes.GenerationalBoxId.{GenerationalBoxId}
+use Rattle.generational_core.specs.Cells.{Content, Cell}
+use Rattle.generational_core.specs.Cells.Content.{Here, Lent}
+use Rattle.generational_core.specs.Boxes.{name_in}
+use Rattle.generational_core.specs.State.{State, Owners}
+use Rattle.generational_core.specs.Borrowing.{content_at, filled}
+use Rattle.generational_core.specs.Machine.{written_at, has_writer}
 use Rattle.generational_box.specs.Entry.{Entry, is_free, lent_to, with_value, content_in}
 use Rattle.generational_box.specs.Slotted.{state_of, entry_changed, own_cell_at, is_unborrowed}
 use Rattle.generational_box.specs.Slotted.{IsSlotted}

@@ -1,6 +1,6 @@
 -- What the representation of a cell's readers means.
 use Rattle.std.specs.Prelude.{◌≢◌, List, [], ◌∷◌}
-use Rattle.generational_box.specs.declared.entry.Borrow.{Borrow}
+use Rattle.generational_core.specs.declared.borrow.Borrow.{Borrow}
 use Rattle.generational_box.specs.declared.readers.KeptReaders.{KeptReaders}
 use Rattle.generational_box.specs.declared.readers.KeptReaders.TheVariants as kept
 

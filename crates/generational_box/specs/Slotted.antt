@@ -5,16 +5,16 @@ use Rattle.std.specs.Prelude.{List, [], ◌∷◌, ◌++◌, Option, None, Some,
 use Rattle.std.specs.Ordering.{nat_cmp}
 use Rattle.std.specs.FinMap as map
 use Rattle.std.specs.FinSet as set
-use Rattle.generational_box.specs.Names.{Name, NameMap, Names}
-use Rattle.generational_box.specs.declared.boxes.GenerationalBoxId.{GenerationalBoxId}
-use Rattle.generational_box.specs.Boxes.{name_in}
-use Rattle.generational_box.specs.Cells.{Cell, is_shared}
-use Rattle.generational_box.specs.Cells.Content.{Here, Lent}
-use Rattle.generational_box.specs.Cells.Cell.{Value, Shared, Ref}
-use Rattle.generational_box.specs.State.{State, Owners}
+use Rattle.generational_core.specs.Names.{Name, NameMap, Names}
+use Rattle.generational_core.specs.declared.boxes.GenerationalBoxId.{GenerationalBoxId}
+use Rattle.generational_core.specs.Boxes.{name_in}
+use Rattle.generational_core.specs.Cells.{Cell, is_shared}
+use Rattle.generational_core.specs.Cells.Content.{Here, Lent}
+use Rattle.generational_core.specs.Cells.Cell.{Value, Shared, Ref}
+use Rattle.generational_core.specs.State.{State, Owners}
 use Rattle.generational_box.specs.Entry.{Entry, Kept, is_live, valid_at, is_free}
 use Rattle.generational_box.specs.Entry.Kept.{Empty, Live}
-use Rattle.generational_box.specs.Slots.{last_generation}
+use Rattle.generational_core.specs.Slots.{last_generation}
 
 -- count names of a slot, upwards from a generation
 abbrev pub names_up : ℕ → ℕ → ℕ → List Name

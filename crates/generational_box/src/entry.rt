@@ -2,24 +2,18 @@
 
 ghost use Rattle.std.specs.Prelude.{◌≡◌, ◌≢◌, []};
 ghost use Rattle.generational_box.specs.Entry.{FoundReaders};
-ghost use Rattle.generational_box.specs.declared.error.Refused.TheVariants as refused;
-ghost use Rattle.generational_box.specs.declared.error.BorrowMutError.TheVariants as writes;
+ghost use Rattle.generational_core.specs.declared.error.Refused.TheVariants as refused;
+ghost use Rattle.generational_core.specs.declared.error.BorrowMutError.TheVariants as writes;
 
-use crate::error::{
+use crate::readers::Readers;
+use generational_core::parts::Borrow;
+use generational_core::{
     AlreadyBorrowedError, AlreadyBorrowedMutError, BorrowMutError, BorrowMutResult, Location,
     Refused, StoreError,
 };
-use crate::readers::Readers;
 use std::alloc::{AllocError, Global};
 use std::marker::Model;
 use std::mem;
-
-/// A borrow that stands: its ticket, and the location where it was asked for.
-#[derive(Clone, Copy, Debug, PartialEq, Eq)]
-pub(crate) struct Borrow {
-    pub(crate) ticket: u64,
-    pub(crate) location: Location,
-}
 
 /// A slot: the generation of its last cell, and that cell while it is live.
 #[derive(Drop)]
@@ -50,11 +44,11 @@ impl<T> Model for StorageEntry<T> {
 impl<T> StorageEntry<T> {
     ghost use Rattle.std.specs.Prelude.{◌≡◌, ◌<◌, ◌+◌, [], true, ◌↔◌, IsTrue, Some, is_ok, is_none};
     ghost use Rattle.std.specs.Prelude.{option_copied, option_map, OnOk, OnErr, IfErr};
-    ghost use Rattle.generational_box.specs.Cells.Content.{Here, Lent};
-    ghost use Rattle.generational_box.specs.Borrowing.{read_refusal, write_refusal};
-    ghost use Rattle.generational_box.specs.Borrowing.Trouble.{BeingWritten};
-    ghost use Rattle.generational_box.specs.Machine.{has_reader, has_writer};
-    ghost use Rattle.generational_box.specs.Steps.{has_readers};
+    ghost use Rattle.generational_core.specs.Cells.Content.{Here, Lent};
+    ghost use Rattle.generational_core.specs.Borrowing.{read_refusal, write_refusal};
+    ghost use Rattle.generational_core.specs.Borrowing.Trouble.{BeingWritten};
+    ghost use Rattle.generational_core.specs.Machine.{has_reader, has_writer};
+    ghost use Rattle.generational_core.specs.Steps.{has_readers};
     ghost use Rattle.generational_box.specs.Entry.Kept.{Empty, Live};
     ghost use Rattle.generational_box.specs.Entry.{content_in, valid_at, is_free, with_reader};
     ghost use Rattle.generational_box.specs.Entry.{without_reader_in, lent_to, with_value};

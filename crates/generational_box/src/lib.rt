@@ -12,31 +12,17 @@
 //! stand in `specs/`, and in plain words in `docs/machine.md` at the repository's root.
 #![tactic(auto)]
 
-mod boxes;
-mod calls;
 mod entry;
-mod error;
-pub mod laws;
 mod owners;
-mod places;
 mod pool;
 mod readers;
-mod references;
-mod session;
-mod steps;
-mod storage;
 mod unsync;
 
-pub use crate::boxes::{GenerationalBox, GenerationalBoxId, GenerationalPointer};
-pub use crate::calls::{BoxAt, Call, Reply};
-pub use crate::error::{
-    AlreadyBorrowedError, AlreadyBorrowedMutError, BorrowError, BorrowMutError, BorrowMutResult,
-    BorrowResult, Location, Refusal, Refused, StoreError, ValueDroppedError,
-};
-pub use crate::owners::Owner;
 pub use crate::pool::{LastFirst, SlotPool};
-pub use crate::references::{GenerationalRef, GenerationalRefMut, Mut, Ref};
-pub use crate::session::Session;
-pub use crate::steps::StepCall;
-pub use crate::storage::{AnyStorage, Storage};
 pub use crate::unsync::{Numbers, Store, UnsyncStorage};
+pub use generational_core::{
+    AlreadyBorrowedError, AlreadyBorrowedMutError, AnyStorage, BorrowError, BorrowMutError,
+    BorrowMutResult, BorrowResult, BoxAt, Call, GenerationalBox, GenerationalBoxId,
+    GenerationalPointer, GenerationalRef, GenerationalRefMut, Location, Mut, Owner, Ref, Refusal,
+    Refused, Reply, Session, StepCall, Storage, StoreError, ValueDroppedError, laws,
+};

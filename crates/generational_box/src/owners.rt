@@ -1,129 +1,22 @@
-//! Owners, and the records that a store keeps of them.
+//! The records that a store keeps of owners.
 
 ghost use Rattle.std.specs.Prelude.{◌≡◌, ℕ, ◌+◌, ◌-◌, ◌<◌, [], true, Some, None, IsSome, IfSome};
 ghost use Rattle.std.specs.Prelude.{IfErr, OnOk, OnErr, option_copied, option_map, map as list_map};
 ghost use Rattle.std.specs.Prelude.{if◌then◌else◌};
 ghost use Rattle.std.specs.FinMap as map;
-ghost use Rattle.generational_box.specs.Records.{owners_of, holding_of, name_seen, one_more};
-ghost use Rattle.generational_box.specs.Records.{one_less, one_listed, count_under, names_under};
-ghost use Rattle.generational_box.specs.Records.{knows, knows_any, listed_in, IsRefusal};
-ghost use Rattle.generational_box.specs.declared.error.StoreError.TheVariants.{OutOfMemory};
-ghost use Rattle.generational_box.specs.declared.error.StoreError.TheVariants.{UnknownOwner};
-ghost use Rattle.generational_box.specs.Names.{changed};
+ghost use Rattle.generational_core.specs.Records.{one_more};
+ghost use Rattle.generational_box.specs.OwnerRecords.{owners_of, holding_of, name_seen};
+ghost use Rattle.generational_core.specs.Records.{one_less, one_listed, count_under, names_under};
+ghost use Rattle.generational_box.specs.OwnerRecords.{knows, knows_any, listed_in, IsRefusal};
+ghost use Rattle.generational_core.specs.declared.error.StoreError.TheVariants.{OutOfMemory};
+ghost use Rattle.generational_core.specs.declared.error.StoreError.TheVariants.{UnknownOwner};
+ghost use Rattle.generational_core.specs.Names.{changed};
 
-use crate::boxes::GenerationalBox;
-use crate::error::{BorrowMutError, Location, Refusal, Refused, StoreError};
-use crate::storage::{AnyStorage, Storage};
+use generational_core::parts::{key_of, number_of};
+use generational_core::{Owner, StoreError};
 use std::alloc::{AllocError, Global};
 use std::cmp::Reverse;
 use std::collections::BTreeMap;
-use std::marker::Model;
-
-/// An owner of boxes. Contracts see it as its store's number and its key.
-///
-/// It names a record in its store and holds no reference. It has no `Drop`: `release` or `leak`
-/// must spend it.
-pub struct Owner {
-    store: u64,
-    key: u64,
-}
-
-impl Model for Owner {
-    ghost use Rattle.generational_box.specs.Machine.{OwnerName};
-
-    ghost Value = { OwnerName };
-
-    ghost view = { λ o. record { store = o.store; key = o.key } };
-}
-
-impl Owner {
-    ghost use Rattle.generational_box.specs.Machine.Action.{Make, CloneOwner, ReleaseOwner};
-    ghost use Rattle.generational_box.specs.Steps.{Meets};
-    ghost use Rattle.generational_box.specs.Answers.{box_answer, owner_answer, release_answer};
-
-    // The owner whose record has this key.
-    pub(crate) fn new(store: u64, key: u64) -> Owner
-        ensures { result ≡ record { store = store; key = key } }
-    {
-        Owner { store, key }
-    }
-
-    // The number of the owner's store.
-    pub(crate) fn store(&self) -> u64
-        ensures { result ≡ self.now.store }
-    {
-        self.store
-    }
-
-    // The key of the owner's record.
-    pub(crate) fn key(&self) -> u64
-        ensures { result ≡ self.now.key }
-    {
-        self.key
-    }
-
-    /// Makes a box of a value, which ends when the last owner value of this record is released.
-    /// Its id was never given before, and it stands at the end of the record's list.
-    ///
-    /// Refused, in this order: `UnknownOwner`, where the store has no such record; `OutOfMemory`,
-    /// where room for a slot or in the list was refused. The value comes back then, and the store
-    /// stays as it was.
-    ///
-    /// Upstream's `insert_with_caller`: its `insert` takes the caller's location.
-    #[inline(always)]
-    pub fn insert<T, S: Storage<T>>(
-        &self,
-        store: &mut S,
-        value: T,
-        location: Location,
-    ) -> Result<GenerationalBox<T>, Refusal<T>>
-        ensures step { Meets (S.state store.old) (Make (Some self.now) value location)
-            (box_answer result) (S.state store.new) }
-        ensures back { IfErr result (λ refusal. refusal.value ≡ value) }
-    {
-        let raw = store.new(value, location, Some(self))?;
-        Ok(GenerationalBox::from_pointer(raw))
-    }
-
-    /// Another owner value of the same record: its boxes live until both are released.
-    ///
-    /// Refused, in this order: `UnknownOwner`, where the store has no such record;
-    /// `NumbersExhausted`, where no ticket is left. Takes no memory.
-    ///
-    /// Upstream's `Clone`.
-    pub fn clone<T, S: AnyStorage<T>>(&self, store: &mut S) -> Result<Owner, StoreError>
-        ensures { Meets (S.state store.old) (CloneOwner self.now) (owner_answer result)
-            (S.state store.new) }
-    {
-        store.clone_owner(self)
-    }
-
-    /// Spends the owner value. With the last one of its record all live boxes of the list end, or
-    /// nothing does.
-    ///
-    /// Refused, in this order: `UnknownOwner`, where the store has no such record; the answer of a
-    /// write at the first box of the list, in order of insertion, that would end and is borrowed:
-    /// `AlreadyBorrowedMut`, or `AlreadyBorrowed`, in whose place `OutOfMemory` is answered if its
-    /// list finds no memory. The owner comes back then, and the store stays as it was.
-    ///
-    /// Upstream's owners end their boxes by their Drop.
-    pub fn release<T, S: AnyStorage<T>>(
-        self,
-        store: &mut S,
-    ) -> Result<(), (Owner, Refused<BorrowMutError>)>
-        ensures step { Meets (S.state store.old) (ReleaseOwner self) (release_answer result)
-            (S.state store.new) }
-        ensures back { IfErr result (λ refusal. refusal.0 ≡ self) }
-    {
-        store.release_owner(self)
-    }
-
-    /// Spends the owner value and leaves its record as it is: the record's boxes never end by an
-    /// owner from then on.
-    pub fn leak(self) {
-        let Owner { store: _, key: _ } = self;
-    }
-}
 
 /// The name of a cell of the store that keeps it.
 #[derive(Clone, Copy)]
@@ -176,7 +69,7 @@ pub(crate) fn find(owners: &OwnerRecords, key: u64) -> Option<&OwnerRecord>
 pub(crate) fn is_known(owners: &OwnerRecords, number: u64, owner: &Owner) -> bool
     ensures { result ≡ knows number (owners_of owners.now) owner.now }
 {
-    owner.store() == number && find(owners, owner.key()).is_some()
+    number_of(owner) == number && find(owners, key_of(owner)).is_some()
 }
 
 // Puts a box at the end of the owner's list, if there is an owner. A refusal changes no record.
@@ -215,10 +108,10 @@ fn list(
     ensures refused { IfErr result (λ cause. IsRefusal number (owners_of owners.old)
         (Some owner.now) cause) }
 {
-    if owner.store() != number {
+    if number_of(owner) != number {
         return Err(StoreError::UnknownOwner);
     }
-    match owners.get_mut(&Reverse(owner.key())) {
+    match owners.get_mut(&Reverse(key_of(owner))) {
         Some(found) => match found.boxes.push(name) {
             Ok(()) => Ok(()),
             Err(_) => Err(StoreError::OutOfMemory),

@@ -4,9 +4,9 @@ ghost use Rattle.std.specs.Prelude.{◌≡◌, ℕ, ◌+◌, ◌<◌, ◌≤◌,
 ghost use Rattle.std.specs.Prelude.{OnOk, OnErr, vec_capacity, slice_get, drop};
 ghost use Rattle.std.specs.Ordering.{nat_cmp};
 ghost use Rattle.std.specs.FinSet as set;
-ghost use Rattle.generational_box.specs.declared.error.StoreError.TheVariants.{OutOfMemory};
+ghost use Rattle.generational_core.specs.declared.error.StoreError.TheVariants.{OutOfMemory};
 
-use crate::error::StoreError;
+use generational_core::StoreError;
 use std::alloc::Global;
 use std::marker::Model;
 

@@ -5,8 +5,8 @@ ghost use Rattle.std.specs.Prelude.{not, nat_eq};
 ghost use Rattle.std.specs.List.{list_any, filter};
 ghost use Rattle.generational_box.specs.Readers.{readers_kept, IsKeptWell, IsNotOne};
 
-use crate::entry::Borrow;
-use crate::error::Location;
+use generational_core::Location;
+use generational_core::parts::Borrow;
 use std::alloc::{AllocError, Global};
 use std::marker::Model;
 
@@ -28,7 +28,7 @@ enum KeptReaders {
 
 impl Model for Readers {
     ghost use Rattle.std.specs.Prelude.{List};
-    ghost use Rattle.generational_box.specs.declared.entry.Borrow.{Borrow};
+    ghost use Rattle.generational_core.specs.declared.borrow.Borrow.{Borrow};
     ghost use Rattle.generational_box.specs.Readers.{readers_kept, IsKeptWell};
 
     ghost Value = { List Borrow };

@@ -5,39 +5,41 @@ ghost use Rattle.std.specs.Prelude.{length, is_some, vec_len, vec_capacity, slic
 ghost use Rattle.std.specs.Prelude.{option_copied, Some, None, IsSome, IfSome, IfOk, IfErr, OnOk};
 ghost use Rattle.std.specs.Prelude.{OnErr, IsTrue, is_ok, ◌↔◌, map as list_map};
 ghost use Rattle.std.specs.FinMap as map;
-ghost use Rattle.generational_box.specs.declared.error.Refused.TheVariants as refused;
-ghost use Rattle.generational_box.specs.declared.error.BorrowError.TheVariants as reads;
-ghost use Rattle.generational_box.specs.declared.error.BorrowMutError.TheVariants as writes;
-ghost use Rattle.generational_box.specs.Cells.Content.{Here};
-ghost use Rattle.generational_box.specs.Boxes.{name_in};
-ghost use Rattle.generational_box.specs.State.{fresh};
-ghost use Rattle.generational_box.specs.Borrowing.{content_at, filled};
-ghost use Rattle.generational_box.specs.Machine.{read_at, written_at, has_reader, has_writer};
-ghost use Rattle.generational_box.specs.Machine.{without_reader};
-ghost use Rattle.generational_box.specs.Machine.Action.{ReleaseReader, ReleaseWriter};
-ghost use Rattle.generational_box.specs.Machine.Answer.{Flag};
-ghost use Rattle.generational_box.specs.Steps.{Meets, has_readers};
-ghost use Rattle.generational_box.specs.Ending.{close};
-ghost use Rattle.generational_box.specs.Records.{first_borrowed, names_under, name_seen};
+ghost use Rattle.generational_core.specs.declared.error.Refused.TheVariants as refused;
+ghost use Rattle.generational_core.specs.declared.error.BorrowError.TheVariants as reads;
+ghost use Rattle.generational_core.specs.declared.error.BorrowMutError.TheVariants as writes;
+ghost use Rattle.generational_core.specs.Cells.Content.{Here};
+ghost use Rattle.generational_core.specs.Boxes.{name_in};
+ghost use Rattle.generational_core.specs.State.{fresh};
+ghost use Rattle.generational_core.specs.Borrowing.{content_at, filled};
+ghost use Rattle.generational_core.specs.Machine.{read_at, written_at, has_reader, has_writer};
+ghost use Rattle.generational_core.specs.Machine.{without_reader};
+ghost use Rattle.generational_core.specs.Machine.Action.{ReleaseReader, ReleaseWriter};
+ghost use Rattle.generational_core.specs.Machine.Answer.{Flag};
+ghost use Rattle.generational_core.specs.Steps.{Meets, has_readers};
+ghost use Rattle.generational_core.specs.Ending.{close};
+ghost use Rattle.generational_core.specs.Records.{names_under};
+ghost use Rattle.generational_box.specs.OwnerRecords.{first_borrowed, name_seen};
 ghost use Rattle.generational_box.specs.Entry.{FoundBorrowed, content_in, is_live, valid_at};
 ghost use Rattle.generational_box.specs.Entry.{is_free, with_reader, without_reader_in, lent_to};
 ghost use Rattle.generational_box.specs.Entry.{with_value};
-ghost use Rattle.generational_box.specs.Answers.{back_answer};
+ghost use Rattle.generational_core.specs.Answers.{back_answer};
 ghost use Rattle.generational_box.specs.Entry.Kept.{Empty, Live};
 ghost use Rattle.generational_box.specs.Slotted.{cells_of, entry_changed, entry_in, cell_found};
 ghost use Rattle.generational_box.specs.Slotted.{own_cell_at, is_here, is_unborrowed, OnlyValues};
 
-use crate::boxes::{GenerationalBoxId, GenerationalPointer};
-use crate::entry::{Borrow, StorageEntry};
-use crate::error::{
-    AlreadyBorrowedMutError, BorrowError, BorrowMutError, BorrowMutResult, BorrowResult, Location,
-    Refusal, Refused, StoreError, ValueDroppedError,
-};
-use crate::owners::{self, CellName, Owner, OwnerRecord, OwnerRecords};
+use crate::entry::StorageEntry;
+use crate::owners::{self, CellName, OwnerRecord, OwnerRecords};
 use crate::pool::{LastFirst, SlotPool};
-use crate::references::{GenerationalRef, GenerationalRefMut};
-use crate::steps::StepCall;
-use crate::storage::{AnyStorage, Storage};
+use generational_core::parts::{
+    Borrow, id_at, id_read, into_reader, into_writer, key_of, owner_at, pointer_at, reader_at,
+    writer_at,
+};
+use generational_core::{
+    AlreadyBorrowedMutError, AnyStorage, BorrowError, BorrowMutError, BorrowMutResult,
+    BorrowResult, GenerationalBoxId, GenerationalPointer, GenerationalRef, GenerationalRefMut,
+    Location, Owner, Refusal, Refused, StepCall, Storage, StoreError, ValueDroppedError,
+};
 use std::alloc::{AllocError, Global};
 use std::marker::Model;
 
@@ -68,9 +70,9 @@ pub type UnsyncStorage<T> = Store<T, LastFirst>;
 impl<T, P: SlotPool> Model for Store<T, P> {
     ghost use Rattle.std.specs.Coded.{codes};
     ghost use Rattle.std.specs.FinMap as map;
-    ghost use Rattle.generational_box.specs.State.{State};
+    ghost use Rattle.generational_core.specs.State.{State};
     ghost use Rattle.generational_box.specs.Slotted.{state_of, IsSlotted};
-    ghost use Rattle.generational_box.specs.Records.{owners_of, AreCounted};
+    ghost use Rattle.generational_box.specs.OwnerRecords.{owners_of, AreCounted};
 
     ghost Value = { State T };
 
@@ -250,7 +252,7 @@ impl<T: Drop, P: SlotPool> Store<T, P> {
     fn end_named(&mut self, name: CellName)
         ensures { self.new ≡ record self.old { cells = map.remove self.old.cells (name_seen name) } }
     {
-        let id = GenerationalBoxId::new(self.number, name.slot, name.generation);
+        let id = id_at(self.number, name.slot, name.generation);
         match self.entry(id) {
             Some(_) => self.end(id),
             None => {}
@@ -514,7 +516,7 @@ impl<T: Drop, P: SlotPool> AnyStorage<T> for Store<T, P> {
             Err(_) => return Err(StoreError::OutOfMemory),
         }
         self.next = key + 1;
-        Ok(Owner::new(self.number, key))
+        Ok(owner_at(self.number, key))
     }
 
     fn clone_owner(&mut self, owner: &Owner) -> Result<Owner, StoreError> {
@@ -524,16 +526,16 @@ impl<T: Drop, P: SlotPool> AnyStorage<T> for Store<T, P> {
         if self.next == u64::MAX {
             return Err(StoreError::NumbersExhausted);
         }
-        owners::count_up(&mut self.owners, owner.key());
+        owners::count_up(&mut self.owners, key_of(owner));
         self.next += 1;
-        Ok(Owner::new(self.number, owner.key()))
+        Ok(owner_at(self.number, key_of(owner)))
     }
 
     fn release_owner(&mut self, owner: Owner) -> Result<(), (Owner, Refused<BorrowMutError>)> {
         if !owners::is_known(&self.owners, self.number, &owner) {
             return Err((owner, Refused::Store(StoreError::UnknownOwner)));
         }
-        let key = owner.key();
+        let key = key_of(&owner);
         if owners::count(&self.owners, key) > 1 {
             owners::count_down(&mut self.owners, key);
             owner.leak();
@@ -595,7 +597,7 @@ impl<T: Drop, P: SlotPool> Storage<T> for Store<T, P> {
                 }
                 refill(&mut self.slots, slot, value, location);
                 count_one(&mut self.live, &mut self.peak);
-                Ok(GenerationalPointer::new(self.number, slot, generation, location))
+                Ok(pointer_at(self.number, slot, generation, location))
             }
             None => {
                 match make_room(&mut self.slots, &mut self.pool) {
@@ -612,7 +614,7 @@ impl<T: Drop, P: SlotPool> Storage<T> for Store<T, P> {
                 }
                 push_slot(&mut self.slots, generation, value, location);
                 count_one(&mut self.live, &mut self.peak);
-                Ok(GenerationalPointer::new(self.number, slot, generation, location))
+                Ok(pointer_at(self.number, slot, generation, location))
             }
         }
     }
@@ -635,7 +637,7 @@ impl<T: Drop, P: SlotPool> Storage<T> for Store<T, P> {
             return Err(Refused::Store(StoreError::NumbersExhausted));
         }
         match self.begin_read(id, location) {
-            Ok(ticket) => Ok(GenerationalRef::new(id, ticket)),
+            Ok(ticket) => Ok(reader_at(id, ticket)),
             Err(_) => Err(Refused::Store(StoreError::OutOfMemory)),
         }
     }
@@ -659,7 +661,7 @@ impl<T: Drop, P: SlotPool> Storage<T> for Store<T, P> {
         }
         let ticket = self.next;
         let value = self.begin_write(id, location);
-        Ok(GenerationalRefMut::new(id, ticket, value))
+        Ok(writer_at(id, ticket, value))
     }
 
     #[inline(always)]
@@ -667,7 +669,7 @@ impl<T: Drop, P: SlotPool> Storage<T> for Store<T, P> {
         ensures { Meets self.old (ReleaseWriter guard.guard guard.value) (back_answer result)
             self.new }
     {
-        let (id, ticket, value) = guard.into_parts();
+        let (id, ticket, value) = into_writer(guard);
         match self.entry(id) {
             Some(_) => self.end_write(id, ticket, value),
             None => Err(value),
@@ -676,14 +678,14 @@ impl<T: Drop, P: SlotPool> Storage<T> for Store<T, P> {
 
     #[inline(always)]
     fn open(&self, guard: &GenerationalRef<T>) -> Option<&T> {
-        self.entry(guard.id())?.open(guard.ticket())
+        self.entry(id_read(guard))?.open(guard.ticket())
     }
 
     #[inline(always)]
     fn release_read(&mut self, guard: GenerationalRef<T>) -> bool
         ensures { Meets self.old (ReleaseReader guard) (Flag result) self.new }
     {
-        let (id, ticket) = guard.into_parts();
+        let (id, ticket) = into_reader(guard);
         match self.entry(id) {
             Some(_) => self.end_read(id, ticket),
             None => false,

@@ -6,13 +6,13 @@ use Rattle.std.specs.Ordering.{eq_by_cmp}
 use Rattle.std.specs.List.{list_any}
 use Rattle.std.proofs.lemmas.Bool.{true≢false, or_cases, eqb-true, eq-eqb, or_left, or_right}
 use Rattle.std.specs.FinMap as map
-use Rattle.generational_box.specs.declared.entry.Borrow.{Borrow}
-use Rattle.generational_box.specs.Names.{Name, name_cmp}
-use Rattle.generational_box.specs.Cells.{Content, Cell, content_of}
-use Rattle.generational_box.specs.Cells.Content.{Here, Lent}
-use Rattle.generational_box.specs.State.{IsSound, tickets_of}
-use Rattle.generational_box.specs.Borrowing.{content_at}
-use Rattle.generational_box.specs.Machine.{has_reader}
+use Rattle.generational_core.specs.declared.borrow.Borrow.{Borrow}
+use Rattle.generational_core.specs.Names.{Name, name_cmp}
+use Rattle.generational_core.specs.Cells.{Content, Cell, content_of}
+use Rattle.generational_core.specs.Cells.Content.{Here, Lent}
+use Rattle.generational_core.specs.State.{IsSound, tickets_of}
+use Rattle.generational_core.specs.Borrowing.{content_at}
+use Rattle.generational_core.specs.Machine.{has_reader}
 use Rattle.generational_sync.specs.History.{Plain, first_name, reader_cell}
 use Rattle.generational_sync.proofs.Naming.{name_same}
 

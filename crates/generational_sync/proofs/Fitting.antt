@@ -5,10 +5,10 @@ use Rattle.std.proofs.lemmas.Bool.{and_parts, and_from, or_left, or_right, or_ca
 use Rattle.std.proofs.lemmas.Bool.{eq-eqb, not-true}
 use Rattle.std.specs.FinMap as map
 use Rattle.std.specs.FinSet as set
-use Rattle.generational_box.specs.Names.{Name}
-use Rattle.generational_box.specs.Boxes.{name_of}
-use Rattle.generational_box.specs.Slots.{Fits, slots_of, slots, free, is_free}
-use Rattle.generational_box.specs.Steps.{IsNew}
+use Rattle.generational_core.specs.Names.{Name}
+use Rattle.generational_core.specs.Boxes.{name_of}
+use Rattle.generational_core.specs.Slots.{Fits, slots_of, slots, free, is_free}
+use Rattle.generational_core.specs.Steps.{IsNew}
 use Rattle.generational_sync.specs.declared.step.StepReply.{StepReply}
 use Rattle.generational_sync.specs.declared.step.StepReply.TheVariants as reply
 use Rattle.generational_sync.specs.History.{Plain, GivesNew, fits, is_new, gives_new}

@@ -3,34 +3,34 @@ use Rattle.std.proofs.Common.{◌≡◌, Bool, true, false, cond, not, ◌&&◌,
 use Rattle.std.proofs.Common.{refl, sym, ap, subst, ◌∙◌, inl, inr}
 use Rattle.std.specs.Prelude.{nat_eq, ◌-◌, ◌^◌, option_map}
 use Rattle.std.proofs.lemmas.Bool.{true≢false, and_parts, and_from, eqb-true}
-use Rattle.generational_box.specs.declared.error.Location.{Location}
-use Rattle.generational_box.specs.declared.error.StoreError.TheVariants.{
+use Rattle.generational_core.specs.declared.error.Location.{Location}
+use Rattle.generational_core.specs.declared.error.StoreError.TheVariants.{
   OutOfMemory,
   NumbersExhausted,
   UnknownOwner,
 }
-use Rattle.generational_box.specs.declared.steps.StepCall.{StepCall}
-use Rattle.generational_box.specs.declared.steps.StepCall.TheVariants as call
-use Rattle.generational_box.specs.Names.{Name}
-use Rattle.generational_box.specs.Cells.{Content}
-use Rattle.generational_box.specs.Cells.Content.{Here, Lent}
-use Rattle.generational_box.specs.State.{State, IsSound}
-use Rattle.generational_box.specs.Borrowing.{Trouble, Guard, content_at, read_trouble, reach}
-use Rattle.generational_box.specs.Borrowing.Trouble.{Dropped, BeingRead, BeingWritten}
-use Rattle.generational_box.specs.Ending.{hindered, close}
-use Rattle.generational_box.specs.Machine.{Action, Answer, Fresh, Outcome, act, unless, make_value}
-use Rattle.generational_box.specs.Machine.{knows_reader, without_reader, own_name, read_at}
-use Rattle.generational_box.specs.Machine.{contents}
-use Rattle.generational_box.specs.Machine.Action.{Make, MakeShared, Refer, NewOwner, CloneOwner}
-use Rattle.generational_box.specs.Machine.Action.{ReleaseOwner, LeakOwner, Read, Write}
-use Rattle.generational_box.specs.Machine.Action.{ReleaseReader, ReleaseWriter, SetValue, End}
-use Rattle.generational_box.specs.Machine.Action.{Point, CanRead, CanWrite}
-use Rattle.generational_box.specs.Machine.Answer.{Made, Owned, Reads, Writes, Done, Old, Flag, Back}
-use Rattle.generational_box.specs.Machine.Answer.{Troubled, Refused}
-use Rattle.generational_box.specs.Steps.{IsNew, Meets, Takes, limited, takes_ticket, is_made}
-use Rattle.generational_box.specs.Readiness.{is_ready}
-use Rattle.generational_box.specs.Recording.{recorded_as, is_hindered}
-use Rattle.generational_box.specs.History.{plain, plain_call, plain_answer}
+use Rattle.generational_core.specs.declared.steps.StepCall.{StepCall}
+use Rattle.generational_core.specs.declared.steps.StepCall.TheVariants as call
+use Rattle.generational_core.specs.Names.{Name}
+use Rattle.generational_core.specs.Cells.{Content}
+use Rattle.generational_core.specs.Cells.Content.{Here, Lent}
+use Rattle.generational_core.specs.State.{State, IsSound}
+use Rattle.generational_core.specs.Borrowing.{Trouble, Guard, content_at, read_trouble, reach}
+use Rattle.generational_core.specs.Borrowing.Trouble.{Dropped, BeingRead, BeingWritten}
+use Rattle.generational_core.specs.Ending.{hindered, close}
+use Rattle.generational_core.specs.Machine.{Action, Answer, Fresh, Outcome, act, unless, make_value}
+use Rattle.generational_core.specs.Machine.{knows_reader, without_reader, own_name, read_at}
+use Rattle.generational_core.specs.Machine.{contents}
+use Rattle.generational_core.specs.Machine.Action.{Make, MakeShared, Refer, NewOwner, CloneOwner}
+use Rattle.generational_core.specs.Machine.Action.{ReleaseOwner, LeakOwner, Read, Write}
+use Rattle.generational_core.specs.Machine.Action.{ReleaseReader, ReleaseWriter, SetValue, End}
+use Rattle.generational_core.specs.Machine.Action.{Point, CanRead, CanWrite}
+use Rattle.generational_core.specs.Machine.Answer.{Made, Owned, Reads, Writes, Done, Old, Flag, Back}
+use Rattle.generational_core.specs.Machine.Answer.{Troubled, Refused}
+use Rattle.generational_core.specs.Steps.{IsNew, Meets, Takes, limited, takes_ticket, is_made}
+use Rattle.generational_core.specs.Readiness.{is_ready}
+use Rattle.generational_core.specs.Recording.{recorded_as, is_hindered}
+use Rattle.generational_core.specs.History.{plain, plain_call, plain_answer}
 use Rattle.generational_sync.specs.declared.step.StepReply.{StepReply}
 use Rattle.generational_sync.specs.declared.step.StepReply.TheVariants as reply
 use Rattle.generational_sync.specs.Replies.{reply_to}

@@ -6,31 +6,31 @@ use Rattle.std.proofs.Common.{inr}
 use Rattle.std.specs.Result.{is_err}
 use Rattle.std.proofs.lemmas.Bool.{true≢false}
 use Rattle.std.specs.FinMap as map
-use Rattle.generational_box.specs.declared.error.Location.{Location}
-use Rattle.generational_box.specs.declared.error.BorrowError.{BorrowError}
-use Rattle.generational_box.specs.declared.error.BorrowError.TheVariants as reads
-use Rattle.generational_box.specs.declared.error.BorrowMutError.{BorrowMutError}
-use Rattle.generational_box.specs.declared.error.Refused.{Refused}
-use Rattle.generational_box.specs.declared.error.Refused.TheVariants as refused
-use Rattle.generational_box.specs.declared.error.StoreError.TheVariants.{
+use Rattle.generational_core.specs.declared.error.Location.{Location}
+use Rattle.generational_core.specs.declared.error.BorrowError.{BorrowError}
+use Rattle.generational_core.specs.declared.error.BorrowError.TheVariants as reads
+use Rattle.generational_core.specs.declared.error.BorrowMutError.{BorrowMutError}
+use Rattle.generational_core.specs.declared.error.Refused.{Refused}
+use Rattle.generational_core.specs.declared.error.Refused.TheVariants as refused
+use Rattle.generational_core.specs.declared.error.StoreError.TheVariants.{
   OutOfMemory,
   NumbersExhausted,
   UnknownOwner,
 }
-use Rattle.generational_box.specs.declared.boxes.GenerationalPointer.{GenerationalPointer}
-use Rattle.generational_box.specs.declared.steps.StepCall.{StepCall}
-use Rattle.generational_box.specs.declared.steps.StepCall.TheVariants as call
-use Rattle.generational_box.specs.Names.{Name, name_cmp}
-use Rattle.generational_box.specs.Cells.{Cell}
-use Rattle.generational_box.specs.State.{State, IsSound, fresh}
-use Rattle.generational_box.specs.Borrowing.{Guard}
-use Rattle.generational_box.specs.Machine.{Action, Answer, Outcome}
-use Rattle.generational_box.specs.Machine.Action.{Make, Read, ReleaseReader, End}
-use Rattle.generational_box.specs.Machine.Answer.{Made, Reads, Done, Flag}
-use Rattle.generational_box.specs.Steps.{Meets}
-use Rattle.generational_box.specs.Answers.{read_refused, end_answer}
-use Rattle.generational_box.specs.Recording.{recorded_as}
-use Rattle.generational_box.specs.History.{plain}
+use Rattle.generational_core.specs.declared.boxes.GenerationalPointer.{GenerationalPointer}
+use Rattle.generational_core.specs.declared.steps.StepCall.{StepCall}
+use Rattle.generational_core.specs.declared.steps.StepCall.TheVariants as call
+use Rattle.generational_core.specs.Names.{Name, name_cmp}
+use Rattle.generational_core.specs.Cells.{Cell}
+use Rattle.generational_core.specs.State.{State, IsSound, fresh}
+use Rattle.generational_core.specs.Borrowing.{Guard}
+use Rattle.generational_core.specs.Machine.{Action, Answer, Outcome}
+use Rattle.generational_core.specs.Machine.Action.{Make, Read, ReleaseReader, End}
+use Rattle.generational_core.specs.Machine.Answer.{Made, Reads, Done, Flag}
+use Rattle.generational_core.specs.Steps.{Meets}
+use Rattle.generational_core.specs.Answers.{read_refused, end_answer}
+use Rattle.generational_core.specs.Recording.{recorded_as}
+use Rattle.generational_core.specs.History.{plain}
 use Rattle.generational_sync.specs.declared.step.Step.{Step}
 use Rattle.generational_sync.specs.declared.step.StepReply.{StepReply}
 use Rattle.generational_sync.specs.declared.step.StepReply.TheVariants as reply

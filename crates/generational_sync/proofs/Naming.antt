@@ -6,7 +6,7 @@ use Rattle.std.specs.Ordering.{nat_cmp}
 use Rattle.std.proofs.lemmas.Cmp.{on_total, then_total}
 use Rattle.std.proofs.lemmas.Map.Lookups.{exact_unsigned, exact_pairs}
 use Rattle.std.specs.FinMap as map
-use Rattle.generational_box.specs.Names.{Name, name_cmp}
+use Rattle.generational_core.specs.Names.{Name, name_cmp}
 
 pub name_exact : map.IsAntisymmetric name_cmp
 name_exact a b h = ap (λ (p : ℕ × ℕ). record { slot = p.0; generation = p.1 }) (exact_pairs nat_cmp

@@ -5,36 +5,36 @@ use Rattle.std.specs.Prelude.{nat_eq, ◌-◌, ◌^◌}
 use Rattle.std.specs.Result.{is_err}
 use Rattle.std.proofs.lemmas.Bool.{true≢false}
 use Rattle.std.specs.FinMap as map
-use Rattle.generational_box.specs.declared.error.Location.{Location}
-use Rattle.generational_box.specs.declared.error.BorrowError.{BorrowError}
-use Rattle.generational_box.specs.declared.error.BorrowError.TheVariants as reads
-use Rattle.generational_box.specs.declared.error.BorrowMutError.{BorrowMutError}
-use Rattle.generational_box.specs.declared.error.Refused.{Refused}
-use Rattle.generational_box.specs.declared.error.Refused.TheVariants as refused
-use Rattle.generational_box.specs.declared.error.StoreError.TheVariants.{
+use Rattle.generational_core.specs.declared.error.Location.{Location}
+use Rattle.generational_core.specs.declared.error.BorrowError.{BorrowError}
+use Rattle.generational_core.specs.declared.error.BorrowError.TheVariants as reads
+use Rattle.generational_core.specs.declared.error.BorrowMutError.{BorrowMutError}
+use Rattle.generational_core.specs.declared.error.Refused.{Refused}
+use Rattle.generational_core.specs.declared.error.Refused.TheVariants as refused
+use Rattle.generational_core.specs.declared.error.StoreError.TheVariants.{
   OutOfMemory,
   NumbersExhausted,
   UnknownOwner,
 }
-use Rattle.generational_box.specs.declared.boxes.GenerationalPointer.{GenerationalPointer}
-use Rattle.generational_box.specs.declared.steps.StepCall.TheVariants as call
-use Rattle.generational_box.specs.Names.{Name, NameMap}
-use Rattle.generational_box.specs.Cells.{Content, Cell}
-use Rattle.generational_box.specs.Cells.Content.{Here, Lent}
-use Rattle.generational_box.specs.Cells.Cell.{Value, Shared, Ref}
-use Rattle.generational_box.specs.State.{State}
-use Rattle.generational_box.specs.Borrowing.{Trouble, reach, content_at, read_trouble, not_reached}
-use Rattle.generational_box.specs.Borrowing.{read_refusal, write_refusal}
-use Rattle.generational_box.specs.Borrowing.Trouble.{Dropped, BeingRead, BeingWritten}
-use Rattle.generational_box.specs.Ending.{hindered, first_hindrance, hindrance_of}
-use Rattle.generational_box.specs.Ending.{is_doomed, left_by, or_else, close}
-use Rattle.generational_box.specs.Machine.{Answer, Outcome, unless, read_at, contents}
-use Rattle.generational_box.specs.Machine.{own_name}
-use Rattle.generational_box.specs.Machine.Action.{Read, End}
-use Rattle.generational_box.specs.Machine.Answer.{Done, Troubled, Refused as refuses}
-use Rattle.generational_box.specs.Steps.{Meets, limited, is_being_read}
-use Rattle.generational_box.specs.Answers.{read_refused, end_refused, end_answer}
-use Rattle.generational_box.specs.Readiness.{is_ready, tells_of_borrow}
+use Rattle.generational_core.specs.declared.boxes.GenerationalPointer.{GenerationalPointer}
+use Rattle.generational_core.specs.declared.steps.StepCall.TheVariants as call
+use Rattle.generational_core.specs.Names.{Name, NameMap}
+use Rattle.generational_core.specs.Cells.{Content, Cell}
+use Rattle.generational_core.specs.Cells.Content.{Here, Lent}
+use Rattle.generational_core.specs.Cells.Cell.{Value, Shared, Ref}
+use Rattle.generational_core.specs.State.{State}
+use Rattle.generational_core.specs.Borrowing.{Trouble, reach, content_at, read_trouble, not_reached}
+use Rattle.generational_core.specs.Borrowing.{read_refusal, write_refusal}
+use Rattle.generational_core.specs.Borrowing.Trouble.{Dropped, BeingRead, BeingWritten}
+use Rattle.generational_core.specs.Ending.{hindered, first_hindrance, hindrance_of}
+use Rattle.generational_core.specs.Ending.{is_doomed, left_by, or_else, close}
+use Rattle.generational_core.specs.Machine.{Answer, Outcome, unless, read_at, contents}
+use Rattle.generational_core.specs.Machine.{own_name}
+use Rattle.generational_core.specs.Machine.Action.{Read, End}
+use Rattle.generational_core.specs.Machine.Answer.{Done, Troubled, Refused as refuses}
+use Rattle.generational_core.specs.Steps.{Meets, limited, is_being_read}
+use Rattle.generational_core.specs.Answers.{read_refused, end_refused, end_answer}
+use Rattle.generational_core.specs.Readiness.{is_ready, tells_of_borrow}
 use Rattle.generational_sync.specs.Shared.{MayRefuseRead}
 
 module _ {T : Type 0} where

@@ -3,22 +3,22 @@ use Rattle.std.proofs.Common.{◌≡◌, ℕ, Bool, true, false, cond, List, [],
 use Rattle.std.proofs.Common.{None, Some, refl, sym, ap, subst, ◌∙◌, inl}
 use Rattle.std.specs.Prelude.{option_map}
 use Rattle.std.proofs.lemmas.Bool.{and_parts}
-use Rattle.generational_box.specs.declared.steps.StepCall.{StepCall}
-use Rattle.generational_box.specs.declared.steps.StepCall.TheVariants.{
+use Rattle.generational_core.specs.declared.steps.StepCall.{StepCall}
+use Rattle.generational_core.specs.declared.steps.StepCall.TheVariants.{
   Leak,
   Read,
   ReleaseRead,
   ManuallyDrop,
 }
-use Rattle.generational_box.specs.Names.{Name}
-use Rattle.generational_box.specs.State.{State, IsSound}
-use Rattle.generational_box.specs.Boxes.{name_of}
-use Rattle.generational_box.specs.Machine.{Action, Answer, Fresh, Outcome, act}
-use Rattle.generational_box.specs.Machine.Action.{Make, Read as ReadBox, ReleaseReader, End}
-use Rattle.generational_box.specs.Machine.Answer.{Made}
-use Rattle.generational_box.specs.Steps.{AreNew, Takes, Meets, limited}
-use Rattle.generational_box.specs.Readiness.{is_ready}
-use Rattle.generational_box.specs.History.{plain}
+use Rattle.generational_core.specs.Names.{Name}
+use Rattle.generational_core.specs.State.{State, IsSound}
+use Rattle.generational_core.specs.Boxes.{name_of}
+use Rattle.generational_core.specs.Machine.{Action, Answer, Fresh, Outcome, act}
+use Rattle.generational_core.specs.Machine.Action.{Make, Read as ReadBox, ReleaseReader, End}
+use Rattle.generational_core.specs.Machine.Answer.{Made}
+use Rattle.generational_core.specs.Steps.{AreNew, Takes, Meets, limited}
+use Rattle.generational_core.specs.Readiness.{is_ready}
+use Rattle.generational_core.specs.History.{plain}
 use Rattle.generational_sync.specs.declared.step.Step.{Step}
 use Rattle.generational_sync.specs.declared.step.StepReply.{StepReply}
 use Rattle.generational_sync.specs.declared.step.StepReply.TheVariants as reply

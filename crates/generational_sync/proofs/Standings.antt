@@ -7,23 +7,23 @@ use Rattle.std.specs.List.{list_any, filter}
 use Rattle.std.proofs.lemmas.Bool.{true≢false, and_parts}
 use Rattle.std.proofs.lemmas.List.{length-map}
 use Rattle.std.specs.FinMap as map
-use Rattle.generational_box.specs.declared.error.Location.{Location}
-use Rattle.generational_box.specs.declared.error.StoreError.TheVariants.{NumbersExhausted}
-use Rattle.generational_box.specs.declared.entry.Borrow.{Borrow}
-use Rattle.generational_box.specs.declared.boxes.GenerationalPointer.{GenerationalPointer}
-use Rattle.generational_box.specs.Names.{Name, NameMap, among}
-use Rattle.generational_box.specs.Cells.{Content, Cell, content_of, refilled, is_shared}
-use Rattle.generational_box.specs.Cells.Content.{Here, Lent}
-use Rattle.generational_box.specs.Cells.Cell.{Value, Shared, Ref}
-use Rattle.generational_box.specs.State.{State, tickets_of, is_named}
-use Rattle.generational_box.specs.Borrowing.{Trouble, Guard, content_at, filled, reach}
-use Rattle.generational_box.specs.Borrowing.{read_trouble}
-use Rattle.generational_box.specs.Ending.{swept, without, close, hindered}
-use Rattle.generational_box.specs.Machine.{Answer, Outcome, unless, read_at, contents}
-use Rattle.generational_box.specs.Machine.{has_reader, knows_reader, without_reader, own_name}
-use Rattle.generational_box.specs.Machine.Action.{Make, Read, ReleaseReader, End}
-use Rattle.generational_box.specs.Machine.Answer.{Made, Reads, Done, Flag, Refused}
-use Rattle.generational_box.specs.Steps.{Meets, limited, takes_ticket}
+use Rattle.generational_core.specs.declared.error.Location.{Location}
+use Rattle.generational_core.specs.declared.error.StoreError.TheVariants.{NumbersExhausted}
+use Rattle.generational_core.specs.declared.borrow.Borrow.{Borrow}
+use Rattle.generational_core.specs.declared.boxes.GenerationalPointer.{GenerationalPointer}
+use Rattle.generational_core.specs.Names.{Name, NameMap, among}
+use Rattle.generational_core.specs.Cells.{Content, Cell, content_of, refilled, is_shared}
+use Rattle.generational_core.specs.Cells.Content.{Here, Lent}
+use Rattle.generational_core.specs.Cells.Cell.{Value, Shared, Ref}
+use Rattle.generational_core.specs.State.{State, tickets_of, is_named}
+use Rattle.generational_core.specs.Borrowing.{Trouble, Guard, content_at, filled, reach}
+use Rattle.generational_core.specs.Borrowing.{read_trouble}
+use Rattle.generational_core.specs.Ending.{swept, without, close, hindered}
+use Rattle.generational_core.specs.Machine.{Answer, Outcome, unless, read_at, contents}
+use Rattle.generational_core.specs.Machine.{has_reader, knows_reader, without_reader, own_name}
+use Rattle.generational_core.specs.Machine.Action.{Make, Read, ReleaseReader, End}
+use Rattle.generational_core.specs.Machine.Answer.{Made, Reads, Done, Flag, Refused}
+use Rattle.generational_core.specs.Steps.{Meets, limited, takes_ticket}
 use Rattle.generational_sync.specs.Standing.{borrows, borrows_in}
 use Rattle.generational_sync.proofs.Weighing.{borrows_retained, borrows_inserted, borrows_changed}
 

@@ -7,8 +7,8 @@ use Rattle.std.specs.declared.cmp.Ordering.TheVariants.{Less, Equal, Greater}
 use Rattle.std.specs.Ordering.{is_eq, is_lt}
 use Rattle.std.proofs.lemmas.Bool.{and_parts, and_from}
 use Rattle.std.specs.FinMap as map
-use Rattle.generational_box.specs.Names.{Name, NameMap, name_cmp, changed, changed_if}
-use Rattle.generational_box.specs.Cells.{Cell}
+use Rattle.generational_core.specs.Names.{Name, NameMap, name_cmp, changed, changed_if}
+use Rattle.generational_core.specs.Cells.{Cell}
 use Rattle.generational_sync.specs.Standing.{borrows_of, borrows_in}
 use Rattle.generational_sync.proofs.Naming.{name_total, name_exact}
 

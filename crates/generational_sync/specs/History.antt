@@ -3,22 +3,22 @@ use Rattle.std.specs.Prelude.{◌≡◌, ℕ, ◌+◌, Bool, true, not, ◌&&◌
 use Rattle.std.specs.Prelude.{if◌then◌else◌, List, [], ◌∷◌, Option, Some, None, option_map}
 use Rattle.std.specs.FinMap as map
 use Rattle.std.specs.FinSet as set
-use Rattle.generational_box.specs.declared.steps.StepCall.{StepCall}
-use Rattle.generational_box.specs.declared.steps.StepCall.TheVariants.{
+use Rattle.generational_core.specs.declared.steps.StepCall.{StepCall}
+use Rattle.generational_core.specs.declared.steps.StepCall.TheVariants.{
   Leak,
   Read,
   ReleaseRead,
   ManuallyDrop,
 }
-use Rattle.generational_box.specs.Names.{Name}
-use Rattle.generational_box.specs.Boxes.{name_of}
-use Rattle.generational_box.specs.State.{State, fresh}
-use Rattle.generational_box.specs.Borrowing.{Guard, content_at}
-use Rattle.generational_box.specs.Machine.{Action, Answer, Fresh, Outcome, act, has_reader}
-use Rattle.generational_box.specs.Machine.Action.{Make, Read as ReadBox, ReleaseReader, End}
-use Rattle.generational_box.specs.Slots.{slots_of, slots, free, is_free, last_name}
-use Rattle.generational_box.specs.Steps.{Meets, IsNew, limited, no_names}
-use Rattle.generational_box.specs.Readiness.{is_ready}
+use Rattle.generational_core.specs.Names.{Name}
+use Rattle.generational_core.specs.Boxes.{name_of}
+use Rattle.generational_core.specs.State.{State, fresh}
+use Rattle.generational_core.specs.Borrowing.{Guard, content_at}
+use Rattle.generational_core.specs.Machine.{Action, Answer, Fresh, Outcome, act, has_reader}
+use Rattle.generational_core.specs.Machine.Action.{Make, Read as ReadBox, ReleaseReader, End}
+use Rattle.generational_core.specs.Slots.{slots_of, slots, free, is_free, last_name}
+use Rattle.generational_core.specs.Steps.{Meets, IsNew, limited, no_names}
+use Rattle.generational_core.specs.Readiness.{is_ready}
 use Rattle.generational_sync.specs.declared.step.Step.{Step}
 use Rattle.generational_sync.specs.declared.step.StepReply.{StepReply}
 use Rattle.generational_sync.specs.declared.step.StepReply.TheVariants as reply

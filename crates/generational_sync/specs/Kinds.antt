@@ -1,6 +1,6 @@
 -- Kinds of steps, and how many steps of a kind a history has.
 use Rattle.std.specs.Prelude.{◌≡◌, ℕ, Bool, true, false, List, count_by}
-use Rattle.generational_box.specs.declared.steps.StepCall.{StepCall}
+use Rattle.generational_core.specs.declared.steps.StepCall.{StepCall}
 use Rattle.generational_sync.specs.declared.step.Step.{Step}
 use Rattle.generational_sync.specs.declared.step.StepReply.{StepReply}
 use Rattle.generational_sync.specs.declared.step.StepReply.TheVariants as reply

@@ -1,18 +1,18 @@
 -- Which reply of a call is recorded, and what is recorded and counted of it.
 use Rattle.std.specs.Prelude.{ℕ, Bool, true, false, ◌&&◌, nat_eq, List, ◌∷◌, [], ◌++◌}
 use Rattle.std.specs.Prelude.{Option, Some, None}
-use Rattle.generational_box.specs.declared.error.StoreError.{StoreError}
-use Rattle.generational_box.specs.declared.error.StoreError.TheVariants.{
+use Rattle.generational_core.specs.declared.error.StoreError.{StoreError}
+use Rattle.generational_core.specs.declared.error.StoreError.TheVariants.{
   OutOfMemory,
   NumbersExhausted,
   UnknownOwner,
 }
-use Rattle.generational_box.specs.declared.steps.StepCall.{StepCall}
-use Rattle.generational_box.specs.Boxes.{has_same_id}
-use Rattle.generational_box.specs.Texts.{same_location}
-use Rattle.generational_box.specs.Borrowing.Trouble.{Dropped}
-use Rattle.generational_box.specs.Machine.{Answer}
-use Rattle.generational_box.specs.Machine.Answer.{Made, Reads, Done, Flag, Troubled, Refused}
+use Rattle.generational_core.specs.declared.steps.StepCall.{StepCall}
+use Rattle.generational_core.specs.Boxes.{has_same_id}
+use Rattle.generational_core.specs.Texts.{same_location}
+use Rattle.generational_core.specs.Borrowing.Trouble.{Dropped}
+use Rattle.generational_core.specs.Machine.{Answer}
+use Rattle.generational_core.specs.Machine.Answer.{Made, Reads, Done, Flag, Troubled, Refused}
 use Rattle.generational_sync.specs.declared.step.Step.{Step}
 use Rattle.generational_sync.specs.declared.step.StepReply.{StepReply}
 use Rattle.generational_sync.specs.declared.step.StepReply.TheVariants as reply

@@ -1,22 +1,22 @@
 -- What lies under the lock, as contracts see it.
 use Rattle.std.specs.Prelude.{◌≡◌, ℕ, ◌≤◌, ◌⊎◌, true, List, Some, is_some}
-use Rattle.generational_box.specs.declared.error.Location.{Location}
-use Rattle.generational_box.specs.declared.boxes.GenerationalPointer.{GenerationalPointer}
-use Rattle.generational_box.specs.declared.error.BorrowError.{BorrowError}
-use Rattle.generational_box.specs.declared.error.BorrowError.TheVariants as reads
-use Rattle.generational_box.specs.declared.error.Refused.{Refused}
-use Rattle.generational_box.specs.declared.error.Refused.TheVariants as refused
-use Rattle.generational_box.specs.declared.error.StoreError.TheVariants.{
+use Rattle.generational_core.specs.declared.error.Location.{Location}
+use Rattle.generational_core.specs.declared.boxes.GenerationalPointer.{GenerationalPointer}
+use Rattle.generational_core.specs.declared.error.BorrowError.{BorrowError}
+use Rattle.generational_core.specs.declared.error.BorrowError.TheVariants as reads
+use Rattle.generational_core.specs.declared.error.Refused.{Refused}
+use Rattle.generational_core.specs.declared.error.Refused.TheVariants as refused
+use Rattle.generational_core.specs.declared.error.StoreError.TheVariants.{
   OutOfMemory,
   NumbersExhausted,
   UnknownOwner,
 }
-use Rattle.generational_box.specs.declared.steps.StepCall.{StepCall}
-use Rattle.generational_box.specs.State.{State}
-use Rattle.generational_box.specs.Machine.{Action, Answer}
-use Rattle.generational_box.specs.Machine.Answer.{Refused as refuses}
-use Rattle.generational_box.specs.Steps.{Meets}
-use Rattle.generational_box.specs.History.{plain}
+use Rattle.generational_core.specs.declared.steps.StepCall.{StepCall}
+use Rattle.generational_core.specs.State.{State}
+use Rattle.generational_core.specs.Machine.{Action, Answer}
+use Rattle.generational_core.specs.Machine.Answer.{Refused as refuses}
+use Rattle.generational_core.specs.Steps.{Meets}
+use Rattle.generational_core.specs.History.{plain}
 use Rattle.generational_sync.specs.declared.step.Step.{Step}
 use Rattle.generational_sync.specs.Counts.{Counts}
 use Rattle.generational_sync.specs.Replies.{reply_to, recorded, tallied}

@@ -1,9 +1,9 @@
 -- How many borrows stand in a state.
 use Rattle.std.specs.Prelude.{ℕ, ◌+◌, List, [], ◌∷◌, Some, length}
 use Rattle.std.specs.FinMap as map
-use Rattle.generational_box.specs.Names.{Name}
-use Rattle.generational_box.specs.Cells.{Cell, content_of}
-use Rattle.generational_box.specs.State.{State, tickets_of}
+use Rattle.generational_core.specs.Names.{Name}
+use Rattle.generational_core.specs.Cells.{Cell, content_of}
+use Rattle.generational_core.specs.State.{State, tickets_of}
 
 module _ {T : Type 0} where
   -- at a cell

@@ -1,12 +1,12 @@
 //! Laws of histories, each the contract of a function that does nothing.
 
 ghost use Rattle.std.specs.Prelude.{◌≡◌, ℕ, List, ◌∷◌, ◌++◌, Some};
-ghost use Rattle.generational_box.specs.State.{State, IsSound, fresh};
-ghost use Rattle.generational_box.specs.declared.steps.StepCall.{StepCall};
-ghost use Rattle.generational_box.specs.Machine.{Action, Answer};
-ghost use Rattle.generational_box.specs.Steps.{Meets};
-ghost use Rattle.generational_box.specs.Recording.{recorded_as};
-ghost use Rattle.generational_box.specs.History.{plain};
+ghost use Rattle.generational_core.specs.State.{State, IsSound, fresh};
+ghost use Rattle.generational_core.specs.declared.steps.StepCall.{StepCall};
+ghost use Rattle.generational_core.specs.Machine.{Action, Answer};
+ghost use Rattle.generational_core.specs.Steps.{Meets};
+ghost use Rattle.generational_core.specs.Recording.{recorded_as};
+ghost use Rattle.generational_core.specs.History.{plain};
 ghost use Rattle.generational_sync.specs.declared.step.Step.{Step};
 ghost use Rattle.generational_sync.specs.declared.step.StepReply.{StepReply};
 ghost use Rattle.generational_sync.specs.Replies.{reply_to};

@@ -2,17 +2,17 @@
 
 ghost use Rattle.std.specs.Prelude.{◌≡◌, ◌<◌, true, [], None, Some, IfOk, IfErr, OnOk};
 ghost use Rattle.std.specs.Prelude.{option_copied};
-ghost use Rattle.generational_box.specs.declared.error.StoreError.TheVariants.{OutOfMemory};
-ghost use Rattle.generational_box.specs.declared.error.Refused.TheVariants as refused;
-ghost use Rattle.generational_box.specs.declared.steps.StepCall.TheVariants as call;
-ghost use Rattle.generational_box.specs.State.{fresh};
-ghost use Rattle.generational_box.specs.Boxes.{pointer_of};
-ghost use Rattle.generational_box.specs.Machine.{knows_reader};
-ghost use Rattle.generational_box.specs.Machine.Action.{Make, Read, ReleaseReader, End};
-ghost use Rattle.generational_box.specs.Machine.Answer.{Flag};
-ghost use Rattle.generational_box.specs.Steps.{Meets};
-ghost use Rattle.generational_box.specs.Answers.{box_answer, read_answer, end_answer, opened};
-ghost use Rattle.generational_box.specs.Readiness.{is_ready};
+ghost use Rattle.generational_core.specs.declared.error.StoreError.TheVariants.{OutOfMemory};
+ghost use Rattle.generational_core.specs.declared.error.Refused.TheVariants as refused;
+ghost use Rattle.generational_core.specs.declared.steps.StepCall.TheVariants as call;
+ghost use Rattle.generational_core.specs.State.{fresh};
+ghost use Rattle.generational_core.specs.Boxes.{pointer_of};
+ghost use Rattle.generational_core.specs.Machine.{knows_reader};
+ghost use Rattle.generational_core.specs.Machine.Action.{Make, Read, ReleaseReader, End};
+ghost use Rattle.generational_core.specs.Machine.Answer.{Flag};
+ghost use Rattle.generational_core.specs.Steps.{Meets};
+ghost use Rattle.generational_core.specs.Answers.{box_answer, read_answer, end_answer, opened};
+ghost use Rattle.generational_core.specs.Readiness.{is_ready};
 ghost use Rattle.generational_sync.specs.Counts.{new_tallies};
 ghost use Rattle.generational_sync.specs.Kinds.{IsCounted};
 ghost use Rattle.generational_sync.specs.Shared.{Does, Replays, Records, Raises};
@@ -28,6 +28,7 @@ use generational_box::{
     AnyStorage, BorrowMutResult, BorrowResult, GenerationalBox, GenerationalRef, Location, Refusal,
     Refused, StepCall, Storage, StoreError, UnsyncStorage,
 };
+use generational_core::parts::box_at;
 use std::alloc::Global;
 use std::marker::Model;
 use std::sync::ledger::Blank;
@@ -166,7 +167,7 @@ impl<T: Drop, const NUMBER: u64, M: Count, L: Count, C: Count, R: Count> SyncSta
         let made = self.store.new(value, location, None)?;
         let call = StepCall::Leak(location);
         self.log.append(call, StepReply::Made(made), tally);
-        Ok(GenerationalBox::from(made))
+        Ok(box_at(made))
     }
 
     /// Begins a read of the box's value, in whose way no writer stands. The guard has the store's

@@ -1,7 +1,7 @@
 //! Steps and their kinds.
 
 ghost use Rattle.std.specs.Prelude.{◌≡◌};
-ghost use Rattle.generational_box.specs.Answers.{read_refused};
+ghost use Rattle.generational_core.specs.Answers.{read_refused};
 ghost use Rattle.generational_sync.specs.Kinds.{kind_of};
 ghost use Rattle.generational_sync.specs.Replies.{reply_to};
 

@@ -1,7 +1,7 @@
 //! What workers count of their steps.
 
 ghost use Rattle.std.specs.Prelude.{◌≡◌, ◌+◌, ◌↔◌, ◌<◌, ◌≤◌, IsTrue, MatchResult, IfOk, IfErr};
-ghost use Rattle.generational_box.specs.declared.error.StoreError.TheVariants.{OutOfMemory};
+ghost use Rattle.generational_core.specs.declared.error.StoreError.TheVariants.{OutOfMemory};
 ghost use Rattle.generational_sync.specs.Counts.{Counts, raised, merged, new_tallies};
 
 use generational_box::StoreError;

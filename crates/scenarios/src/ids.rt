@@ -49,7 +49,5 @@ fn boxes_of_several_slots(rt: HostRuntime) {
         assert_eq!(rt; given.raw_ptr(), slot);
         assert_eq!(rt; store.data_ptr(given.pointer()), slot);
         assert!(rt; !given.ptr_eq(&foreign), "in slot {slot}");
-        let same = GenerationalBox::from(given.pointer());
-        assert!(rt; same.ptr_eq(&given));
     }
 }

@@ -1,6 +1,6 @@
 use Rattle.std.proofs.Common.{◌<◌, ◌+◌, refl, arith}
 use Rattle.generational_box.specs.declared.owners.OwnerRecord.{OwnerRecord}
-use Rattle.generational_box.specs.Records.{one_more}
+use Rattle.generational_core.specs.Records.{one_more}
 use Rattle.generational_box.proofs.OwnerMaps.{owners_written, owners_absent, owners_hold}
 use Rattle.generational_box.proofs.owners.count_up.Goals as goal
 

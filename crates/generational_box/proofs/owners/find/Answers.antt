@@ -1,6 +1,6 @@
 use Rattle.std.proofs.Common.{ap, sym, ◌∙◌}
 use Rattle.std.specs.Prelude.{option_map}
-use Rattle.generational_box.specs.Records.{holding_of}
+use Rattle.generational_box.specs.OwnerRecords.{holding_of}
 use Rattle.generational_box.proofs.OwnerMaps.{owners_get}
 use Rattle.generational_box.proofs.owners.find.Goals as goal
 

@@ -1,6 +1,7 @@
 use Rattle.std.proofs.Common.{ap, sym, ◌∙◌}
 use Rattle.std.specs.Prelude.{map as list_map, option_map}
-use Rattle.generational_box.specs.Records.{holding_of, name_seen, names_in}
+use Rattle.generational_core.specs.Records.{names_in}
+use Rattle.generational_box.specs.OwnerRecords.{holding_of, name_seen}
 use Rattle.generational_box.proofs.OwnerMaps.{owners_get, owners_remove}
 use Rattle.generational_box.proofs.owners.take.Goals as goal
 

@@ -1,8 +1,8 @@
 use Rattle.std.proofs.Common.{ap, sym, subst, None, Some, Err, ◌∙◌, ◌+◌, drop, slice_index_or}
 use Rattle.std.specs.Prelude.{map as list_map}
-use Rattle.generational_box.specs.Ending.{or_else}
+use Rattle.generational_core.specs.Ending.{or_else}
 use Rattle.generational_box.specs.Entry.{FoundBorrowed}
-use Rattle.generational_box.specs.Records.{first_borrowed, name_seen}
+use Rattle.generational_box.specs.OwnerRecords.{first_borrowed, name_seen}
 use Rattle.generational_box.specs.Slotted.{cells_of}
 use Rattle.generational_box.proofs.OwnerScans.{found_first, scan, refusal_seen}
 use Rattle.generational_box.proofs.unsync.first_borrowed.Goals as goal

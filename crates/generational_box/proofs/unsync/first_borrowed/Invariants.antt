@@ -1,6 +1,6 @@
 use Rattle.std.proofs.Common.{◌≡◌, drop}
 use Rattle.std.specs.Prelude.{map as list_map}
-use Rattle.generational_box.specs.Records.{first_borrowed, name_seen}
+use Rattle.generational_box.specs.OwnerRecords.{first_borrowed, name_seen}
 use Rattle.generational_box.specs.Slotted.{cells_of}
 use Rattle.generational_box.proofs.unsync.first_borrowed.Given as goal
 

@@ -3,7 +3,7 @@ use Rattle.generational_box.specs.Entry.{with_reader}
 use Rattle.generational_box.proofs.SlotBorrows.{found_here, found_within, begin_state}
 use Rattle.generational_box.proofs.SlotBorrows.{slotted-filled}
 use Rattle.generational_box.proofs.SlotBorrows.{more_read, with_reader-live, beside_seen}
-use Rattle.generational_box.specs.Records.{owners_of}
+use Rattle.generational_box.specs.OwnerRecords.{owners_of}
 use Rattle.generational_box.proofs.OwnerMaps.{counted_more}
 use Rattle.generational_box.proofs.unsync.Store.begin_read.Goals as goal
 

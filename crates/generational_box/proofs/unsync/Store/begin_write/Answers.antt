@@ -1,9 +1,9 @@
 use Rattle.std.proofs.Common.{arith, refl}
-use Rattle.generational_box.specs.Cells.Content.{Lent}
+use Rattle.generational_core.specs.Cells.Content.{Lent}
 use Rattle.generational_box.specs.Entry.{lent_to}
 use Rattle.generational_box.proofs.SlotBorrows.{found_within, slotted-filled}
 use Rattle.generational_box.proofs.SlotWrites.{found_unborrowed, free_seen, lent_seen, write_state}
-use Rattle.generational_box.specs.Records.{owners_of}
+use Rattle.generational_box.specs.OwnerRecords.{owners_of}
 use Rattle.generational_box.proofs.OwnerMaps.{counted_more}
 use Rattle.generational_box.proofs.unsync.Store.begin_write.Goals as goal
 

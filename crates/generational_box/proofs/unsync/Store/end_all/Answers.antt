@@ -4,8 +4,8 @@ use Rattle.std.specs.Prelude.{map as list_map}
 use Rattle.std.specs.FinMap as map
 use Rattle.std.proofs.lemmas.List.{at_drop_more, at_drop_all}
 use Rattle.generational_box.specs.declared.owners.CellName.{CellName}
-use Rattle.generational_box.specs.Ending.{close}
-use Rattle.generational_box.specs.Records.{name_seen}
+use Rattle.generational_core.specs.Ending.{close}
+use Rattle.generational_box.specs.OwnerRecords.{name_seen}
 use Rattle.generational_box.specs.Slotted.{OnlyValues}
 use Rattle.generational_box.proofs.OwnerEnds.{values_less, close_first, close_none}
 use Rattle.generational_box.proofs.unsync.Store.end_all.Goals as goal

@@ -1,7 +1,7 @@
 use Rattle.std.proofs.Common.{◌≡◌, drop}
 use Rattle.std.specs.Prelude.{map as list_map}
-use Rattle.generational_box.specs.Ending.{close}
-use Rattle.generational_box.specs.Records.{name_seen}
+use Rattle.generational_core.specs.Ending.{close}
+use Rattle.generational_box.specs.OwnerRecords.{name_seen}
 use Rattle.generational_box.specs.Slotted.{OnlyValues}
 use Rattle.generational_box.proofs.unsync.Store.end_all.Given as goal
 

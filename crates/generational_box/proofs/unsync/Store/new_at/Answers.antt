@@ -1,5 +1,5 @@
 use Rattle.std.proofs.Common.{subst, sym}
-use Rattle.generational_box.specs.Records.{AreCounted}
+use Rattle.generational_box.specs.OwnerRecords.{AreCounted}
 use Rattle.generational_box.proofs.SlotStates.{new_state, slotted_new}
 use Rattle.generational_box.proofs.OwnerMaps.{owners_empty, counted_empty}
 use Rattle.generational_box.proofs.unsync.Store.new_at.Goals as goal

@@ -1,5 +1,5 @@
 use Rattle.std.proofs.Common.{sym, subst}
-use Rattle.generational_box.specs.Records.{owners_of, AreCounted}
+use Rattle.generational_box.specs.OwnerRecords.{owners_of, AreCounted}
 use Rattle.generational_box.proofs.OwnerMaps.{counted_remove}
 use Rattle.generational_box.proofs.SlotCells.{values_alone}
 use Rattle.generational_box.proofs.unsync.Store.take_boxes.Goals as goal

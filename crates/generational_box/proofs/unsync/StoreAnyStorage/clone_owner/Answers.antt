@@ -1,5 +1,5 @@
 use Rattle.std.proofs.Common.{arith, subst, sym, ◌+◌, ◌∙◌, false, true}
-use Rattle.generational_box.specs.Records.{owners_of, AreCounted}
+use Rattle.generational_box.specs.OwnerRecords.{owners_of, AreCounted}
 use Rattle.generational_box.proofs.CallReads.{next_of}
 use Rattle.generational_box.proofs.OwnerMaps.{counted_up}
 use Rattle.generational_box.proofs.OwnerCalls.{known_seen, clone_unknown, clone_exhausted}
@@ -22,10 +22,10 @@ pub invariant_of-self : goal.invariant_of-self
 invariant_of-self g c = (
   c.self.invariant.0,
   subst (AreCounted (c.self.inside.next + 1)) (sym c.count_up.ensures)
-      (counted_up c.self.inside.next (owners_of c.self.inside.owners) c.key.result c.self.invariant.1),
+      (counted_up c.self.inside.next (owners_of c.self.inside.owners) c.key_of.result c.self.invariant.1),
 )
 
 pub returns : goal.returns
 returns g c =
-    clone_step (owners_of c.self.inside.owners) _ _ _ _ _ c.self.view_is c.args.owner.now c.new.result c.key.result c.key-2.result
-    _ (sym c.is_known.ensures ∙ c.if-not-is_known.false) (omega arith) c.new.ensures c.key-2.ensures c.key.ensures c.count_up.ensures
+    clone_step (owners_of c.self.inside.owners) _ _ _ _ _ c.self.view_is c.args.owner.now c.owner_at.result c.key_of.result c.key_of-2.result
+    _ (sym c.is_known.ensures ∙ c.if-not-is_known.false) (omega arith) c.owner_at.ensures c.key_of-2.ensures c.key_of.ensures c.count_up.ensures

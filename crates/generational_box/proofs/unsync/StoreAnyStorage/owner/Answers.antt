@@ -1,5 +1,5 @@
 use Rattle.std.proofs.Common.{arith, ap, subst, sym, ◌+◌}
-use Rattle.generational_box.specs.Records.{owners_of, holding_of, AreCounted}
+use Rattle.generational_box.specs.OwnerRecords.{owners_of, holding_of, AreCounted}
 use Rattle.generational_box.proofs.CallReads.{next_of}
 use Rattle.generational_box.proofs.OwnerMaps.{counted_new}
 use Rattle.generational_box.proofs.OwnerCalls.{new_exhausted, new_step}
@@ -19,5 +19,5 @@ invariant_of-self-2 g c = (
 
 pub returns : goal.returns
 returns g c =
-    new_step (owners_of c.self.inside.owners) _ _ _ _ _ c.self.view_is c.new.result _ (holding_of c.new-record.result) (omega arith)
-    c.new.ensures c.new-record.ensures c.in-Ok.ensures.ok
+    new_step (owners_of c.self.inside.owners) _ _ _ _ _ c.self.view_is c.owner_at.result _ (holding_of c.new-record.result) (omega arith)
+    c.owner_at.ensures c.new-record.ensures c.in-Ok.ensures.ok

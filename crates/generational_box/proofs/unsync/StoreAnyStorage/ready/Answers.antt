@@ -1,6 +1,6 @@
 use Rattle.std.proofs.Common.{sym, ap, ◌∙◌}
 use Rattle.std.specs.Prelude.{is_none}
-use Rattle.generational_box.specs.Readiness.{is_ready}
+use Rattle.generational_core.specs.Readiness.{is_ready}
 use Rattle.generational_box.proofs.Readies.{none_map, read_ready, read_ready_gone, end_ready}
 use Rattle.generational_box.proofs.Readies.{end_ready_gone}
 use Rattle.generational_box.proofs.unsync.StoreAnyStorage.ready.Goals as goal

@@ -1,8 +1,8 @@
 use Rattle.std.proofs.Common.{arith, ap, length, refl, subst, sym, ◌∙◌}
 use Rattle.std.specs.Prelude.{option_copied}
 use Rattle.std.specs.FinSet as set
-use Rattle.generational_box.specs.Boxes.{box_of, name_of}
-use Rattle.generational_box.specs.Records.{owners_of, AreCounted}
+use Rattle.generational_core.specs.Boxes.{box_of, name_of}
+use Rattle.generational_box.specs.OwnerRecords.{owners_of, AreCounted}
 use Rattle.generational_box.proofs.OwnerMaps.{counted_listed}
 use Rattle.generational_box.proofs.OwnerCalls.{made_step, lacking_step, refused_step}
 use Rattle.generational_box.proofs.SlotMakings.{taken_within, not_left, slotted-back}
@@ -47,15 +47,15 @@ invariant_of-self-in-Some g c = (
 pub returns-in_default-clause-step : goal.returns-in_default-clause-step
 returns-in_default-clause-step g c =
     made_step (owners_of c.self.inside.owners) _ _ _ _ _ c.self.view_is (option_copied c.args.owner) c.args.value c.args.location
-    c.new.result _ _ _ _ _ c.in_default.ensures.known
+    c.pointer_at.result _ _ _ _ _ c.in_default.ensures.known
     (reuse_step _ _ _ _ _ _ _ _ _ c.self.invariant.0 c.in-Some.slot c.in-Some.ensures.member c.args.value c.args.location
     _ _ _ _ c.refill.ensures.generation c.refill.ensures.filled c.count_one.ensures.live c.count_one.ensures.peak
     _ c.self.view_is
-    (c.new.ensures
+    (c.pointer_at.ensures
     ∙ ap (λ generation. box_of c.self.inside.number (record { slot = c.in-Some.slot; generation = generation }) c.args.location)
     (same_generation (owners_of c.self.inside.owners) c.self.inside.number c.self.inside.start c.self.inside.next _ _ _ _ _ c.self.invariant.0 c.in-Some.slot c.in-Some.ensures.member c.args.value c.args.location
     _ _ c.next_generation-generation.ensures c.refill.ensures.generation)))
-    refl c.in_default.ensures.ok (sym (ap name_of c.new.ensures))
+    refl c.in_default.ensures.ok (sym (ap name_of c.pointer_at.ensures))
 
 pub returns-in-Err-make_room-clause-step : goal.returns-in-Err-make_room-clause-step
 returns-in-Err-make_room-clause-step g c =
@@ -84,8 +84,8 @@ pub returns-in_default-list_for-clause-step : goal.returns-in_default-list_for-c
 returns-in_default-list_for-clause-step g c =
     let s = rw c.in-None.ensures.none at c.self.invariant.0 in
     made_step (owners_of c.self.inside.owners) _ _ _ _ _ c.self.view_is (option_copied c.args.owner) c.args.value c.args.location
-    c.new-in-None.result _ _ _ _ _ c.in_default-list_for.ensures.known
+    c.pointer_at-in-None.result _ _ _ _ _ c.in_default-list_for.ensures.known
     (push_step _ _ _ _ _ _ _ _ s c.args.value c.args.location
     _ _ _ (rw c.make_room.ensures.slots at c.push_slot.ensures.pushed) c.count_one-in-None.ensures.live c.count_one-in-None.ensures.peak
-    _ _ c.self.view_is c.new-in-None.ensures (omega (arith, c.len-slot.ensures, c.make_room.new.slots.ok.0, ap length c.make_room.ensures.slots)))
-    refl c.in_default-list_for.ensures.ok (sym (ap name_of c.new-in-None.ensures))
+    _ _ c.self.view_is c.pointer_at-in-None.ensures (omega (arith, c.len-slot.ensures, c.make_room.new.slots.ok.0, ap length c.make_room.ensures.slots)))
+    refl c.in_default-list_for.ensures.ok (sym (ap name_of c.pointer_at-in-None.ensures))

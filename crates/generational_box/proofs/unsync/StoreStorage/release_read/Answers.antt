@@ -3,8 +3,8 @@ use Rattle.generational_box.proofs.unsync.StoreStorage.release_read.Goals as goa
 
 pub returns-in-Some : goal.returns-in-Some
 returns-in-Some g c =
-    released_by_kept _ c.args.guard _ _ c.into_parts-ticket.ensures _ _ _ c.in-Some.ensures.cell c.in-Some.ensures.live c.end_read.ensures.known c.end_read.ensures.after
+    released_by_kept _ c.args.guard _ _ c.into_reader-ticket.ensures _ _ _ c.in-Some.ensures.cell c.in-Some.ensures.live c.end_read.ensures.known c.end_read.ensures.after
 
 pub returns-in-None : goal.returns-in-None
 returns-in-None g c =
-    release_of_gone _ c.args.guard _ _ c.into_parts-ticket.ensures c.in-None.ensures.cell
+    release_of_gone _ c.args.guard _ _ c.into_reader-ticket.ensures c.in-None.ensures.cell

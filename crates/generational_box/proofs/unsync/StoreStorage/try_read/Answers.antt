@@ -21,7 +21,7 @@ pub returns-in-Ok : goal.returns-in-Ok
 returns-in-Ok g c =
     let same = next_of c.self.view_is in
     begun_by_kept _ c.args.pointer c.args.location _ _ _ _ c.in-Some.ensures.cell c.in-Some.ensures.live c.in-None-borrow_error.ensures (omega arith)
-    c.new.ensures c.in-Ok.ensures.ticket c.in-Ok.ensures.ok
+    c.reader_at.ensures c.in-Ok.ensures.ticket c.in-Ok.ensures.ok
 
 pub returns-in-Err : goal.returns-in-Err
 returns-in-Err g c =

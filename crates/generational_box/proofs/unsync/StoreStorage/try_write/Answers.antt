@@ -21,4 +21,4 @@ pub returns : goal.returns
 returns g c =
     let same = next_of c.self.view_is in
     write_begins _ c.args.pointer c.args.location _ _ _ _ _ c.in-Some.ensures.cell c.in-Some.ensures.live c.in-Ok.ensures (omega arith)
-    c.new.ensures.guard same c.new.ensures.value c.begin_write-value.ensures.value c.begin_write-value.ensures.after
+    c.writer_at.ensures.guard same c.writer_at.ensures.value c.begin_write-value.ensures.value c.begin_write-value.ensures.after

@@ -1,5 +1,5 @@
 use Rattle.std.proofs.Common.{ap, ◌∙◌, None}
-use Rattle.generational_box.specs.Machine.Action.{Make}
+use Rattle.generational_core.specs.Machine.Action.{Make}
 use Rattle.generational_sync.proofs.Keeping.{made_kept, number_kept, made_at}
 use Rattle.generational_sync.proofs.state.SyncState.leak.Goals as goal
 

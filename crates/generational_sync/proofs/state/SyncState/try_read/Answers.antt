@@ -1,5 +1,5 @@
 use Rattle.std.proofs.Common.{ap, ◌∙◌, arith}
-use Rattle.generational_box.specs.Machine.Action.{Read}
+use Rattle.generational_core.specs.Machine.Action.{Read}
 use Rattle.generational_sync.specs.Shared.{SharedState}
 use Rattle.generational_sync.proofs.Keeping.{read_kept, refused_kept, number_kept}
 use Rattle.generational_sync.proofs.Refusing.{read_refused_as}

@@ -1,9 +1,0 @@
-use Rattle.generational_box.proofs.Lasting.{fresh_sound}
-use Rattle.generational_box.proofs.Stepping.{meets_sound}
-use Rattle.generational_box.proofs.laws.steps_are_sound.Goals as goal
-
-pub returns-clause-fresh : goal.returns-clause-fresh
-returns-clause-fresh g c = fresh_sound
-
-pub returns-clause-step : goal.returns-clause-step
-returns-clause-step g c = meets_sound

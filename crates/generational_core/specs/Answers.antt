@@ -1,0 +1,85 @@
+-- The results of calls as answers of the machine.
+use Rattle.std.specs.Prelude.{if◌then◌else◌, Option, Some, None, Result, Ok, Err}
+use Rattle.generational_core.specs.declared.error.BorrowError.{BorrowError}
+use Rattle.generational_core.specs.declared.error.BorrowError.TheVariants as reads
+use Rattle.generational_core.specs.declared.error.BorrowMutError.{BorrowMutError}
+use Rattle.generational_core.specs.declared.error.BorrowMutError.TheVariants as writes
+use Rattle.generational_core.specs.declared.error.Refused.{Refused}
+use Rattle.generational_core.specs.declared.error.Refused.TheVariants as refused
+use Rattle.generational_core.specs.declared.error.Refusal.{Refusal}
+use Rattle.generational_core.specs.declared.boxes.GenerationalPointer.{GenerationalPointer}
+use Rattle.generational_core.specs.declared.boxes.GenerationalBox.{GenerationalBox}
+use Rattle.generational_core.specs.Boxes.{pointer_of}
+use Rattle.generational_core.specs.Cells.{Content}
+use Rattle.generational_core.specs.Cells.Content.{Here, Lent}
+use Rattle.generational_core.specs.State.{State}
+use Rattle.generational_core.specs.Borrowing.{Trouble, Guard, content_at}
+use Rattle.generational_core.specs.Borrowing.Trouble.{Dropped, BeingRead, BeingWritten}
+use Rattle.generational_core.specs.Writing.{WriteGuard}
+use Rattle.generational_core.specs.declared.error.StoreError.{StoreError}
+use Rattle.generational_core.specs.Machine.{Answer, OwnerName, knows_reader}
+use Rattle.generational_core.specs.Machine.Answer.{Made, Owned, Reads, Writes, Back, Done, Troubled}
+use Rattle.generational_core.specs.Machine.Answer.{Refused as refuses}
+
+-- why a read, and why a write or an end, was refused
+abbrev pub read_trouble_of : BorrowError → Trouble
+read_trouble_of (reads.Dropped e) = Dropped e.created_at
+read_trouble_of (reads.AlreadyBorrowedMut e) = BeingWritten e.borrowed_mut_at
+
+abbrev pub trouble_of : BorrowMutError → Trouble
+trouble_of (writes.Dropped e) = Dropped e.created_at
+trouble_of (writes.AlreadyBorrowed e) = BeingRead e
+trouble_of (writes.AlreadyBorrowedMut e) = BeingWritten e.borrowed_mut_at
+
+module _ {T : Type 0} where
+  abbrev pub read_refused : Refused BorrowError → Answer T
+  read_refused (refused.Borrow e) = Troubled (read_trouble_of e)
+  read_refused (refused.Store e) = refuses e
+
+  abbrev pub end_refused : Refused BorrowMutError → Answer T
+  end_refused (refused.Borrow e) = Troubled (trouble_of e)
+  end_refused (refused.Store e) = refuses e
+
+  -- what a making, a read and an end answer
+  abbrev pub make_answer : Result GenerationalPointer (Refusal T) → Answer T
+  make_answer (Ok b) = Made b
+  make_answer (Err r) = refuses r.cause
+
+  abbrev pub box_answer : Result (GenerationalBox T) (Refusal T) → Answer T
+  box_answer (Ok b) = Made (pointer_of b)
+  box_answer (Err r) = refuses r.cause
+
+  abbrev pub read_answer : Result Guard (Refused BorrowError) → Answer T
+  read_answer (Ok g) = Reads g
+  read_answer (Err e) = read_refused e
+
+  abbrev pub write_answer : Result (WriteGuard T) (Refused BorrowMutError) → Answer T
+  write_answer (Ok g) = Writes g.guard g.value
+  write_answer (Err e) = end_refused e
+
+  -- what the release of a writer answers
+  abbrev pub back_answer : {U : Type 0} → Result U T → Answer T
+  back_answer (Ok u) = Done
+  back_answer (Err v) = Back v
+
+  abbrev pub end_answer : {U : Type 0} → Result U (Refused BorrowMutError) → Answer T
+  end_answer (Ok u) = Done
+  end_answer (Err e) = end_refused e
+
+  -- what a making of an owner, and its release, answer
+  abbrev pub owner_answer : Result OwnerName StoreError → Answer T
+  owner_answer (Ok o) = Owned o
+  owner_answer (Err e) = refuses e
+
+  abbrev pub release_answer : {U V : Type 0} → Result U (V × Refused BorrowMutError) → Answer T
+  release_answer (Ok u) = Done
+  release_answer (Err e) = end_refused e.1
+
+  abbrev pub value_of : Option (Content T) → Option T
+  value_of None = None
+  value_of (Some (Here v readers)) = Some v
+  value_of (Some (Lent w)) = None
+
+  -- the value that a reader's guard opens, if the state knows the guard
+  abbrev pub opened : State T → Guard → Option T
+  opened S g = if knows_reader S g then value_of (content_at S g.cell) else None

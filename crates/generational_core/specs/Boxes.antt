@@ -1,0 +1,34 @@
+-- Boxes and their names.
+use Rattle.std.specs.Prelude.{ℕ, Bool, nat_eq}
+use Rattle.std.specs.Ordering.{eq_of_both, on}
+use Rattle.generational_core.specs.declared.error.Location.{Location}
+use Rattle.generational_core.specs.declared.boxes.GenerationalBoxId.{GenerationalBoxId}
+use Rattle.generational_core.specs.declared.boxes.GenerationalPointer.{GenerationalPointer}
+use Rattle.generational_core.specs.declared.boxes.GenerationalBox.{GenerationalBox}
+use Rattle.generational_core.specs.Names.{Name}
+
+-- the box without its element type
+abbrev pub pointer_of : {T : Type 0} → GenerationalBox T → GenerationalPointer
+pointer_of b = b.raw
+
+-- the name in an id, and in a box
+abbrev pub name_in : GenerationalBoxId → Name
+name_in id = record { slot = id.slot; generation = id.generation }
+
+abbrev pub name_of : GenerationalPointer → Name
+name_of b = name_in b.id
+
+-- the id of a name in a store
+abbrev pub id_of : ℕ → Name → GenerationalBoxId
+id_of number n = record { store = number; slot = n.slot; generation = n.generation }
+
+-- the box of a name in a store
+abbrev pub box_of : ℕ → Name → Location → GenerationalPointer
+box_of number n l = record { id = id_of number n; created_at = l }
+
+-- whether two ids are the same, by their three numbers
+abbrev pub has_same_id : GenerationalPointer → GenerationalPointer → Bool
+has_same_id =
+    eq_of_both
+    (on (λ b. b.id.store) nat_eq)
+    (eq_of_both (on (λ b. b.id.slot) nat_eq) (on (λ b. b.id.generation) nat_eq))

@@ -1,0 +1,156 @@
+-- The numbered machine: the k-th name given is the number k, tickets count without end, and there
+-- are no slots. What it answers depends on the calls, and on the refusals that they met.
+use Rattle.std.specs.Prelude.{◌≡◌, ℕ, ◌+◌, ◌<◌, true, List, [], ◌∷◌, Option, None, Some, length}
+use Rattle.std.specs.Prelude.{map as list_map}
+use Rattle.std.specs.List.{slice_index_or, AllByRecursion}
+use Rattle.std.specs.FinSet as set
+use Rattle.generational_core.specs.declared.error.StoreError.{StoreError}
+use Rattle.generational_core.specs.declared.error.StoreError.TheVariants.{OutOfMemory}
+use Rattle.generational_core.specs.declared.error.StoreError.TheVariants.{NumbersExhausted}
+use Rattle.generational_core.specs.declared.error.StoreError.TheVariants.{UnknownOwner}
+use Rattle.generational_core.specs.declared.boxes.GenerationalBoxId.{GenerationalBoxId}
+use Rattle.generational_core.specs.declared.calls.Call.{Call}
+use Rattle.generational_core.specs.Names.{Name, Names, among}
+use Rattle.generational_core.specs.Boxes.{id_of}
+use Rattle.generational_core.specs.State.{fresh}
+use Rattle.generational_core.specs.Machine.{Fresh, act}
+use Rattle.generational_core.specs.Machine.Answer.{Refused}
+use Rattle.generational_core.specs.Session.{SessionState, Held, Said, Asked, asked, settled}
+use Rattle.generational_core.specs.Session.{placed, swapped}
+use Rattle.generational_core.specs.Session.Asked.{Asks, Tells, Swaps}
+use Rattle.generational_core.specs.Session.Held.{Boxed, Reading, Writing, Owning, Nothing}
+use Rattle.generational_core.specs.Session.Said.{ABox, AnOwner, AReader, AWriter, IsDone, TheOld}
+use Rattle.generational_core.specs.Session.Said.{Yes}
+use Rattle.generational_core.specs.Session.Said.{TheId, TheSlot, Created, Error, Lacking, HandedBack}
+use Rattle.generational_core.specs.Session.Said.{Unready, NoSuch}
+use Rattle.generational_core.specs.Carrying.{Carries, KnowsBox, KnowsGuard, moved_box, moved_guard}
+use Rattle.generational_core.specs.Carrying.{moved_owner}
+
+-- a name of the numbered machine
+abbrev pub number : ℕ → Name
+number k = record { slot = k; generation = 0 }
+
+abbrev pub IsNumberBelow : ℕ → Name → Type 0
+IsNumberBelow n k = (k.generation ≡ 0) × (k.slot < n)
+
+-- the numbers given are those below n
+pub record AreNumbersBelow (n : ℕ) (given : Names) : Type 0 where
+  pub count : set.len given ≡ n
+  pub all : (k : Name) → IsNumberBelow n k → set.contains given k ≡ true
+  pub only : (k : Name) → set.contains given k ≡ true → IsNumberBelow n k
+
+-- the name in a list for which a number stands
+abbrev pub named_by : List Name → Name → Name
+named_by order k = slice_index_or order k.slot k
+
+module _ {T : Type 0} (f : Name → Name) (d : ℕ) (store : ℕ) where
+  abbrev pub moved_held : Held T → Held T
+  moved_held (Boxed b) = Boxed (moved_box f d store b)
+  moved_held (Reading g) = Reading (moved_guard f d store g)
+  moved_held (Writing g v) = Writing (moved_guard f d store g) v
+  moved_held (Owning o) = Owning (moved_owner f d store o)
+  moved_held Nothing = Nothing
+
+abbrev pub KnowsHeld : {T : Type 0} → (Name → Type 0) → ℕ → Held T → Type 0
+KnowsHeld Knows store (Boxed b) = KnowsBox Knows store b
+KnowsHeld Knows store (Reading g) = KnowsGuard Knows store g
+KnowsHeld Knows store (Writing g v) = KnowsGuard Knows store g
+KnowsHeld Knows store (Owning o) = Unit {0}
+KnowsHeld Knows store Nothing = Unit {0}
+
+-- a session's state and table are those of another, names and tickets aside
+pub record CarriesSession {T : Type 0}
+    (f : Name → Name) (d : ℕ) (Knows : Name → Type 0) (s a : SessionState T) : Type 0 where
+  pub state : Carries f d (λ v. v) Knows s.state a.state
+  pub table : s.table ≡ list_map (moved_held f d a.state.number) a.table
+  pub known : AllByRecursion (KnowsHeld Knows a.state.number) a.table
+
+-- the names given are those of a list, in which each stands once
+pub record AreListed (order : List Name) (given : Names) : Type 0 where
+  pub count : set.len given ≡ length order
+  pub all : (n : Name) → set.contains given n ≡ among order n
+
+-- A session matches a numbered one: a list of all names given, each of them once, carries the one
+-- into the other.
+pub record Matches {T : Type 0} (s a : SessionState T) : Type 0 where
+  pub order : List Name
+  pub difference : ℕ
+  pub carries : CarriesSession (named_by order) difference (IsNumberBelow (length order)) s a
+  pub names : AreListed order s.state.given
+  pub numbers : AreNumbersBelow (length order) a.state.given
+
+-- the refusal of a store that can't go on, which the numbered machine doesn't know of itself
+abbrev pub want : StoreError → Option StoreError
+want OutOfMemory = Some OutOfMemory
+want NumbersExhausted = Some NumbersExhausted
+want UnknownOwner = None
+
+-- the id that stands for every id
+abbrev pub any_id : GenerationalBoxId
+any_id = id_of 0 (number 0)
+
+module _ {T : Type 0} where
+  -- a reply with ids and slot numbers set aside: it stays a box, an id or the number of a slot
+  abbrev pub erase : Said T → Said T
+  erase (ABox b) = ABox (record b { id = any_id })
+  erase (TheId id) = TheId any_id
+  erase (TheSlot n) = TheSlot 0
+  erase AnOwner = AnOwner
+  erase AReader = AReader
+  erase AWriter = AWriter
+  erase IsDone = IsDone
+  erase (TheOld v) = TheOld v
+  erase (Yes b) = Yes b
+  erase (Created l) = Created l
+  erase (Error t) = Error t
+  erase (Lacking e) = Lacking e
+  erase (HandedBack v e) = HandedBack v e
+  erase (Unready o) = Unready o
+  erase (NoSuch o) = NoSuch o
+
+  -- the want of memory or of numbers that a reply tells
+  abbrev pub refusal_in : Said T → Option StoreError
+  refusal_in (Lacking e) = want e
+  refusal_in (HandedBack v e) = want e
+  refusal_in _ = None
+
+  -- the numbers behind all that were given
+  abbrev pub next_numbers : SessionState T → Fresh
+  next_numbers a =
+      let count = set.len a.state.given in
+      record { first = number count; second = number (count + 1) }
+
+  -- what a call comes to in the numbered machine, where it meets no refusal, or this one
+  abbrev pub numbered : SessionState T
+      → Call T → Asked T → Option StoreError → Said T × SessionState T
+  numbered a c (Asks action) None = settled a c (act a.state action (next_numbers a))
+  numbered a c (Tells x) None = (x, placed a Nothing)
+  numbered a c (Swaps p g v old) None = (TheOld old, placed (swapped a p g v) Nothing)
+  numbered a c _ (Some e) = settled a c (Refused e, a.state)
+
+  -- a call of the numbered machine
+  abbrev pub numbered_act : SessionState T → Call T → Option StoreError → Said T × SessionState T
+  numbered_act a c e = numbered a c (asked a c) e
+
+  -- the replies to calls, with the refusals that they met
+  abbrev pub answers : SessionState T → List (Call T) → List (Option StoreError) → List (Said T)
+  answers a (c ∷ calls) (e ∷ refusals) =
+      let out = numbered_act a c e in out.0 ∷ answers out.1 calls refusals
+  answers a _ _ = []
+
+  -- the numbered session that is left after the calls
+  abbrev pub after : SessionState T → List (Call T) → List (Option StoreError) → SessionState T
+  after a (c ∷ calls) (e ∷ refusals) = after (numbered_act a c e).1 calls refusals
+  after a _ _ = a
+
+  -- The replies to calls are those of a numbered session, ids aside, that meets the refusals which
+  -- they tell; and what the calls left matches what they left of the numbered session.
+  pub record AnswersAs (a : SessionState T)
+      (calls : List (Call T)) (replies : List (Said T)) (r : SessionState T) : Type 0 where
+    pub same : list_map erase replies
+        ≡ list_map erase (answers a calls (list_map refusal_in replies))
+    pub matches : Matches r (after a calls (list_map refusal_in replies))
+
+  -- the numbered session of a store's number in which nothing was called
+  abbrev pub empty_session : ℕ → SessionState T
+  empty_session store = record { state = fresh store 0 0; table = [] }

@@ -1,0 +1,71 @@
+-- What the replies of a session promise, call by call.
+use Rattle.std.specs.Prelude.{◌≡◌, ℕ, ◌≤◌, false, List, [], ◌∷◌, Some, slice_get}
+use Rattle.std.specs.FinSet as set
+use Rattle.generational_core.specs.declared.boxes.GenerationalPointer.{GenerationalPointer}
+use Rattle.generational_core.specs.declared.calls.Call.{Call}
+use Rattle.generational_core.specs.declared.calls.Call.TheVariants as call
+use Rattle.generational_core.specs.State.{State, Holding, IsEnded}
+use Rattle.generational_core.specs.Boxes.{name_of}
+use Rattle.generational_core.specs.Borrowing.Trouble.{Dropped}
+use Rattle.generational_core.specs.Machine.{OwnerName, holding}
+use Rattle.generational_core.specs.Releasing.{AreEnded}
+use Rattle.generational_core.specs.Session.{SessionState, Said, Run, box_in, held}
+use Rattle.generational_core.specs.Session.Held.{Owning}
+use Rattle.generational_core.specs.Session.Said.{ABox, IsDone, Error}
+
+module _ {T : Type 0} where
+  -- a call is a read or a write of this box
+  abbrev pub Borrows : SessionState T → Call T → GenerationalPointer → Type 0
+  Borrows s (call.TryRead b l) box = box_in s b ≡ Some box
+  Borrows s (call.TryWrite b l) box = box_in s b ≡ Some box
+  Borrows s _ box = ⊥
+
+  -- a read or a write of a box whose name has ended is answered so, with the box's own location
+  abbrev pub TellsEnds : SessionState T → Call T → Said T → Type 0
+  TellsEnds s c x = (b : GenerationalPointer)
+      → Borrows s c b → IsEnded s.state (name_of b) → x ≡ Error (Dropped b.created_at)
+
+  -- a box of this store, whose name was never given before
+  pub record IsFirstGiven (S : State T) (b : GenerationalPointer) : Type 0 where
+    pub number : b.id.store ≡ S.number
+    pub fresh : set.contains S.given (name_of b) ≡ false
+
+  -- a reply gives no box but one that is given for the first time
+  abbrev pub GivesNewBox : SessionState T → Said T → Type 0
+  GivesNewBox s x = (b : GenerationalPointer) → x ≡ ABox b → IsFirstGiven s.state b
+
+  -- a call releases the last owner value of a record
+  pub record ReleasesLast (s : SessionState T) (c : Call T) (h : Holding) : Type 0 where
+    pub place : ℕ
+    pub owner : OwnerName
+    pub releases : c ≡ call.ReleaseOwner place
+    pub there : held s.table place ≡ Owning owner
+    pub known : holding s.state owner ≡ Some h
+    pub last : h.count ≤ 1
+
+  -- the last release of an owner that is answered `Done` ends the boxes of its list
+  abbrev pub EndsOwned : SessionState T → Call T → Said T → SessionState T → Type 0
+  EndsOwned s c x r = (h : Holding)
+      → ReleasesLast s c h → x ≡ IsDone → AreEnded s.state h.names r.state
+
+  -- what each call of a session promises
+  pub record KeepsPromises (s : SessionState T) (c : Call T) (x : Said T) (r : SessionState T)
+      : Type 0 where
+    pub tells_ends : TellsEnds s c x
+    pub new_box : GivesNewBox s x
+    pub ends_owned : EndsOwned s c x r
+
+  -- each call of a run keeps its promises
+  abbrev pub AllKeepPromises : (s : SessionState T) (calls : List (Call T)) (replies : List (Said T))
+      (r : SessionState T) → Run s calls replies r → Type 0
+  AllKeepPromises s [] [] r run = Unit {0}
+  AllKeepPromises s (c ∷ calls) (x ∷ replies) r run =
+      KeepsPromises s c x run.0 × AllKeepPromises run.0 calls replies r run.2
+  AllKeepPromises s [] (x ∷ replies) r run = ⊥
+  AllKeepPromises s (c ∷ calls) [] r run = ⊥
+
+  -- no two of the replies give boxes with one id
+  abbrev pub GiveBoxesApart : List (Said T) → Type 0
+  GiveBoxesApart replies = (i j : ℕ) (b c : GenerationalPointer)
+      → slice_get replies i ≡ Some (ABox b) → slice_get replies j ≡ Some (ABox c)
+      → b.id ≡ c.id → i ≡ j

@@ -1,0 +1,107 @@
+-- A step of the machine: the names that it may take, the end of tickets, and want of memory.
+use Rattle.std.specs.Prelude.{◌≡◌, ◌-◌, ◌^◌, Bool, true, false, if◌then◌else◌, not, ◌&&◌, ◌⊎◌}
+use Rattle.std.specs.Prelude.{nat_eq, nat_lt, [], ◌∷◌, Option, None, Some}
+use Rattle.std.specs.FinSet as set
+use Rattle.generational_core.specs.declared.error.StoreError.TheVariants.{
+  NumbersExhausted,
+  OutOfMemory,
+}
+use Rattle.generational_core.specs.Names.{Name}
+use Rattle.generational_core.specs.Cells.{Content}
+use Rattle.generational_core.specs.Cells.Content.{Here, Lent}
+use Rattle.generational_core.specs.Cells.Cell.{Shared}
+use Rattle.generational_core.specs.State.{State}
+use Rattle.generational_core.specs.Borrowing.{reach}
+use Rattle.generational_core.specs.Borrowing.Trouble.{BeingRead}
+use Rattle.generational_core.specs.Machine.{Action, Answer, Fresh, Outcome}
+use Rattle.generational_core.specs.Machine.{act, born, is_known, contents}
+use Rattle.generational_core.specs.Machine.Action.{Make, MakeShared, Refer, NewOwner, ReleaseOwner}
+use Rattle.generational_core.specs.Machine.Action.{Read, Write, End, Point}
+use Rattle.generational_core.specs.Machine.Answer.{Made, Owned, Reads, Writes, Troubled, Refused}
+use Rattle.generational_core.specs.Slots.{Fits, free}
+
+-- names for calls that take none
+abbrev pub no_names : Fresh
+no_names =
+    let none : Name = record { slot = 0; generation = 0 } in
+    record { first = none; second = none }
+
+module _ {T : Type 0} where
+  -- a name that was never given, and that fits
+  pub record IsNew (S : State T) (n : Name) : Type 0 where
+    pub fresh : set.contains S.given n ≡ false
+    pub fits : Fits S n
+
+  -- the names that a making takes; a shared value's second name is new beside its first
+  abbrev pub AreNew : State T → Action T → Fresh → Type 0
+  AreNew S (Make o v l) f = IsNew S f.first
+  AreNew S (MakeShared o v l) f =
+      IsNew S f.first × IsNew (born S f.first (Shared (Here v []) l)) f.second
+  AreNew S (Refer o b) f = IsNew S f.first
+  AreNew S _ f = Unit {0}
+
+  -- names are asked for only where the answer gives a box
+  abbrev pub Takes : State T → Action T → Answer T → Fresh → Type 0
+  Takes S call (Made b) f = AreNew S call f
+  Takes S call _ f = Unit {0}
+
+  -- whether an answer gives a ticket
+  abbrev pub takes_ticket : Answer T → Bool
+  takes_ticket (Owned o) = true
+  takes_ticket (Reads g) = true
+  takes_ticket (Writes g v) = true
+  takes_ticket _ = false
+
+  -- the last number is never given as a ticket: there the call is refused, and changes nothing
+  abbrev pub limited : State T → Outcome T → Outcome T
+  limited S out =
+      if takes_ticket out.0 && nat_eq S.next (2 ^ 64 - 1)
+      then (Refused NumbersExhausted, S)
+      else out
+
+  abbrev pub is_being_read : Answer T → Bool
+  is_being_read (Troubled (BeingRead l)) = true
+  is_being_read _ = false
+
+  abbrev pub is_made : Answer T → Bool
+  is_made (Made b) = true
+  is_made _ = false
+
+  abbrev pub is_reader : Answer T → Bool
+  is_reader (Reads g) = true
+  is_reader _ = false
+
+  abbrev pub has_readers : Option (Content T) → Bool
+  has_readers None = false
+  has_readers (Some (Here v [])) = false
+  has_readers (Some (Here v (r ∷ readers))) = true
+  has_readers (Some (Lent w)) = false
+
+  -- a call's answer; of what kind it is doesn't depend on the names that the call takes
+  abbrev pub answer_to : State T → Action T → Answer T
+  answer_to S call = (limited S (act S call no_names)).0
+
+  -- whether a call may lack memory: for a slot where too few are free, for an owner's record or
+  -- list, for a reader beside another, and for the list of locations in a refusal
+  abbrev pub may_lack : State T → Action T → Bool
+  may_lack S (Make None v l) = nat_eq (free S) 0
+  may_lack S (Make (Some o) v l) = is_known S (Some o)
+  may_lack S (MakeShared None v l) = nat_lt (free S) 2
+  may_lack S (MakeShared (Some o) v l) = is_known S (Some o)
+  may_lack S (Refer None b) = is_made (answer_to S (Refer None b)) && nat_eq (free S) 0
+  may_lack S (Refer (Some o) b) = is_made (answer_to S (Refer (Some o) b))
+  may_lack S NewOwner = not (nat_eq S.next (2 ^ 64 - 1))
+  may_lack S (Read b l) =
+      is_reader (answer_to S (Read b l)) && has_readers (contents S (reach S b))
+  may_lack S (ReleaseOwner o) = is_being_read (answer_to S (ReleaseOwner o))
+  may_lack S (Write b l) = is_being_read (answer_to S (Write b l))
+  may_lack S (End b) = is_being_read (answer_to S (End b))
+  may_lack S (Point a b) = is_being_read (answer_to S (Point a b))
+  may_lack S _ = false
+
+  -- A call meets the machine if, for some new names, it answers and leaves what the machine does;
+  -- or if memory lacked where it may, and then nothing changes.
+  abbrev pub Meets : State T → Action T → Answer T → State T → Type 0
+  Meets S call answer R =
+      ((new : Fresh) × Takes S call answer new × ((answer, R) ≡ limited S (act S call new)))
+      ⊎ ((may_lack S call ≡ true) × (answer ≡ Refused OutOfMemory) × (R ≡ S))

@@ -1,0 +1,267 @@
+//! Ids, pointers and boxes.
+
+ghost use Rattle.std.specs.Prelude.{◌≡◌, Some, ⊤};
+ghost use Rattle.generational_core.specs.Boxes.{box_of, pointer_of};
+ghost use Rattle.generational_core.specs.Texts.{id_text};
+
+use crate::error::{BorrowMutResult, BorrowResult, Location, Refusal};
+use crate::references::{GenerationalRef, GenerationalRefMut};
+use crate::storage::Storage;
+use std::alloc::AllocError;
+use std::fmt;
+use std::marker::PhantomData;
+
+/// The name of a cell: its store's number, its slot, and the slot's generation when it was made.
+///
+/// Two ids are equal if all three are. A name is never given twice, so an id names one cell for
+/// good, also when the cell has ended.
+#[derive(Clone, Copy, PartialEq, Eq, Hash)]
+#[non_exhaustive]
+pub struct GenerationalBoxId {
+    /// The number of the store.
+    pub store: u64,
+    /// The slot.
+    pub slot: usize,
+    /// The slot's generation when the cell was made.
+    pub generation: u64,
+}
+
+/// The id of a slot of a store at a generation.
+#[inline(always)]
+pub fn id_at(store: u64, slot: usize, generation: u64) -> GenerationalBoxId
+    ensures { result ≡ record { store = store; slot = slot; generation = generation } }
+{
+    GenerationalBoxId {
+        store,
+        slot,
+        generation,
+    }
+}
+
+/// Prints `slot@generation`, both in decimal.
+impl fmt::Debug for GenerationalBoxId {
+    ghost debug_output = { λ id. Some (id_text id) };
+
+    fn fmt<W: fmt::Write>(&self, f: &mut fmt::Formatter<W>) -> fmt::Result {
+        write!(f, "{}@{}", self.slot, self.generation)
+    }
+}
+
+/// A box without its element type: an id, and the location at which its cell was made.
+///
+/// The location takes no part in equality.
+#[derive(Clone, Copy)]
+#[non_exhaustive]
+pub struct GenerationalPointer {
+    /// The id.
+    pub id: GenerationalBoxId,
+    /// Where the cell was made.
+    pub created_at: Location,
+}
+
+/// The pointer to a slot of a store at a generation.
+#[inline(always)]
+pub fn pointer_at(
+    store: u64,
+    slot: usize,
+    generation: u64,
+    created_at: Location,
+) -> GenerationalPointer
+    ensures { result ≡ box_of store (record { slot = slot; generation = generation }) created_at }
+{
+    GenerationalPointer {
+        id: id_at(store, slot, generation),
+        created_at,
+    }
+}
+
+/// Equal if the ids are, wherever the two were made.
+impl PartialEq for GenerationalPointer {
+    ghost use Rattle.std.proofs.Common.{rules};
+    ghost use Rattle.std.specs.Cmp.Rules.{comparing};
+    ghost use Rattle.generational_core.specs.Boxes.{has_same_id};
+
+    ghost eq = { has_same_id };
+
+    ghost laws = { Prim.search (comparing, rules) };
+
+    fn eq(&self, other: &GenerationalPointer) -> bool {
+        self.id == other.id
+    }
+}
+
+/// Prints the id.
+impl fmt::Debug for GenerationalPointer {
+    ghost debug_output = { λ it. Some (id_text it.id) };
+
+    fn fmt<W: fmt::Write>(&self, f: &mut fmt::Formatter<W>) -> fmt::Result {
+        write!(f, "{:?}", self.id)
+    }
+}
+
+/// A box: a name that is copied freely, for any element type.
+///
+/// A box owns nothing and keeps nothing alive. It is Send where `T` is.
+pub struct GenerationalBox<T> {
+    pub(crate) raw: GenerationalPointer,
+    marker: PhantomData<T>,
+}
+
+/// Never refused, and takes no memory.
+impl<T> Clone for GenerationalBox<T> {
+    ghost is_clone = { λ a b. b ≡ a };
+
+    ghost is_infallible = { λ _. ⊤ };
+
+    fn clone(&self) -> Result<Self, AllocError> {
+        Ok(*self)
+    }
+}
+
+impl<T> Copy for GenerationalBox<T> {}
+
+/// Prints the id.
+impl<T> fmt::Debug for GenerationalBox<T> {
+    ghost debug_output = { λ it. Some (id_text it.raw.id) };
+
+    fn fmt<W: fmt::Write>(&self, f: &mut fmt::Formatter<W>) -> fmt::Result {
+        write!(f, "{:?}", self.raw)
+    }
+}
+
+impl<T> GenerationalBox<T> {
+    ghost use Rattle.std.specs.Prelude.{◌≡◌};
+    ghost use Rattle.generational_core.specs.Boxes.{pointer_of, has_same_id};
+
+    /// The box without its element type, as a recorded call names it.
+    pub fn pointer(&self) -> GenerationalPointer
+        ensures { result ≡ pointer_of self.now }
+    {
+        self.raw
+    }
+
+    /// The box's id, which outlives its cell. Looks at no store, and takes no memory.
+    pub fn id(&self) -> GenerationalBoxId
+        ensures { result ≡ (pointer_of self.now).id }
+    {
+        self.raw.id
+    }
+
+    /// The number of the box's slot in its store. Looks at no store, and takes no memory.
+    ///
+    /// Other boxes have had this slot, and others will: only the whole id tells boxes apart.
+    pub fn raw_ptr(&self) -> usize
+        ensures { result ≡ (pointer_of self.now).id.slot }
+    {
+        self.raw.id.slot
+    }
+
+    /// Whether both boxes have one id, wherever the two were made. Looks at no store, so ended
+    /// boxes are told apart as well. Takes no memory.
+    pub fn ptr_eq(&self, other: &Self) -> bool
+        ensures { result ≡ has_same_id (pointer_of self.now) (pointer_of other.now) }
+    {
+        self.raw == other.raw
+    }
+
+    /// The location at which the box's cell was made. Looks at no store, and takes no memory.
+    pub fn created_at(&self) -> Location
+        ensures { result ≡ (pointer_of self.now).created_at }
+    {
+        self.raw.created_at
+    }
+}
+
+impl<T> GenerationalBox<T> {
+    ghost use Rattle.std.specs.Prelude.{◌≡◌, IfErr, None};
+    ghost use Rattle.generational_core.specs.Boxes.{pointer_of};
+    ghost use Rattle.generational_core.specs.Machine.Action.{Make, Read, Write, End};
+    ghost use Rattle.generational_core.specs.Steps.{Meets};
+    ghost use Rattle.generational_core.specs.Answers.{box_answer, read_answer, write_answer};
+    ghost use Rattle.generational_core.specs.Answers.{end_answer};
+
+    /// Makes a box of a value, which lives until it is ended by hand. Its id was never given
+    /// before.
+    ///
+    /// Refused by `OutOfMemory`, only where no slot is free: the value comes back, and the store
+    /// stays as it was. With a slot free the call takes no memory.
+    #[inline(always)]
+    pub fn leak<S: Storage<T>>(
+        store: &mut S,
+        value: T,
+        location: Location,
+    ) -> Result<GenerationalBox<T>, Refusal<T>>
+        ensures step { Meets (S.state store.old) (Make None value location) (box_answer result)
+            (S.state store.new) }
+        ensures back { IfErr result (λ refusal. refusal.value ≡ value) }
+    {
+        let raw = store.new(value, location, None)?;
+        Ok(box_at(raw))
+    }
+
+    /// Begins a read of the value, asked for at a location. The guard must be released; the value
+    /// is seen through its `deref`.
+    ///
+    /// Refused, in this order: `Dropped` with the box's own creation location, where its cell has
+    /// ended or is of another store; `AlreadyBorrowedMut` with the writer's location;
+    /// `NumbersExhausted`, where no ticket is left; `OutOfMemory`, only for a reader beside
+    /// another. A refused call leaves the store as it was.
+    #[inline(always)]
+    pub fn try_read<S: Storage<T>>(
+        self,
+        store: &mut S,
+        location: Location,
+    ) -> BorrowResult<GenerationalRef<T>>
+        ensures { Meets (S.state store.old) (Read (pointer_of self) location) (read_answer result)
+            (S.state store.new) }
+    {
+        store.try_read(self.raw, location)
+    }
+
+    /// Begins a write of the value, asked for at a location. The guard owns the value until it is
+    /// released.
+    ///
+    /// Refused, in this order: `Dropped` with the box's own creation location, where its cell has
+    /// ended or is of another store; `AlreadyBorrowedMut` with the writer's location;
+    /// `AlreadyBorrowed` with the readers' locations in the order in which they began, in whose
+    /// place `OutOfMemory` is answered if that list finds no memory; `NumbersExhausted`, where no
+    /// ticket is left. A refused call leaves the store as it was. Nothing else takes memory.
+    #[inline(always)]
+    pub fn try_write<S: Storage<T>>(
+        self,
+        store: &mut S,
+        location: Location,
+    ) -> BorrowMutResult<GenerationalRefMut<T>>
+        ensures { Meets (S.state store.old) (Write (pointer_of self) location) (write_answer result)
+            (S.state store.new) }
+    {
+        store.try_write(self.raw, location)
+    }
+
+    /// Ends the box's cell, and the value with it: every box of this id is `Dropped` from then on,
+    /// and no box ever has the id again. A box whose cell has ended or is of another store is Ok
+    /// and changes nothing.
+    ///
+    /// Refused, and nothing ends, where the value is borrowed: `AlreadyBorrowedMut` with the
+    /// writer's location, or `AlreadyBorrowed` with the readers' locations in the order in which
+    /// they began, in whose place `OutOfMemory` is answered if that list finds no memory. Nothing
+    /// else takes memory.
+    #[inline(always)]
+    pub fn manually_drop<S: Storage<T>>(self, store: &mut S) -> BorrowMutResult<()>
+        ensures { Meets (S.state store.old) (End (pointer_of self)) (end_answer result)
+            (S.state store.new) }
+    {
+        store.recycle(self.raw)
+    }
+}
+
+/// The box of a pointer. It makes no cell: as every box, it reaches the cell that its name has.
+#[inline(always)]
+pub fn box_at<T>(raw: GenerationalPointer) -> GenerationalBox<T>
+    ensures { pointer_of result ≡ raw }
+{
+    GenerationalBox {
+        raw,
+        marker: PhantomData,
+    }
+}

@@ -1,0 +1,259 @@
+//! Laws of the machine, each the contract of a function that does nothing.
+
+ghost use Rattle.std.specs.Prelude.{◌≡◌, ◌≢◌, ◌≤◌, ◌<◌, ◌+◌, ◌↔◌, true, false, ℕ, List, [], Some};
+ghost use Rattle.std.specs.Prelude.{None, is_some, map as map_list};
+ghost use Rattle.std.specs.FinMap as map;
+ghost use Rattle.std.specs.FinSet as set;
+ghost use Rattle.generational_core.specs.declared.boxes.GenerationalPointer.{GenerationalPointer};
+ghost use Rattle.generational_core.specs.Names.{Name, among};
+ghost use Rattle.generational_core.specs.Cells.{is_shared};
+ghost use Rattle.generational_core.specs.State.{State, Holding, IsSound, IsLive, IsEnded, IsNamed};
+ghost use Rattle.generational_core.specs.State.{fresh};
+ghost use Rattle.generational_core.specs.Boxes.{name_of, has_same_id};
+ghost use Rattle.generational_core.specs.Borrowing.{read_trouble, write_trouble};
+ghost use Rattle.generational_core.specs.Borrowing.Trouble.{Dropped};
+ghost use Rattle.generational_core.specs.Machine.{Action, Answer, Fresh, OwnerName, act, holding};
+ghost use Rattle.generational_core.specs.Machine.{is_known};
+ghost use Rattle.generational_core.specs.Machine.Action.{ReleaseOwner, LeakOwner};
+ghost use Rattle.generational_core.specs.Machine.Answer.{Done};
+ghost use Rattle.generational_core.specs.Records.{one_less};
+ghost use Rattle.generational_core.specs.Releasing.{IsReleased};
+ghost use Rattle.generational_core.specs.Steps.{Meets};
+ghost use Rattle.generational_core.specs.Slots.{slots, retired};
+ghost use Rattle.generational_core.specs.Bounds.{IsBounded};
+ghost use Rattle.generational_core.specs.declared.calls.Call.{Call};
+ghost use Rattle.generational_core.specs.declared.calls.Call.TheVariants as call;
+ghost use Rattle.generational_core.specs.Session.{SessionState, Said, SessionStep, Run, held};
+ghost use Rattle.generational_core.specs.Session.Held.{Owning};
+ghost use Rattle.generational_core.specs.Session.Said.{IsDone};
+ghost use Rattle.generational_core.specs.Holding.{IsKept};
+ghost use Rattle.generational_core.specs.Keeping.{Sets, IsUnwritten, IsUndisturbed, Undisturbed};
+ghost use Rattle.generational_core.specs.Keeping.{value_at, location_at};
+ghost use Rattle.generational_core.specs.Numbered.{Matches, AnswersAs, empty_session};
+ghost use Rattle.generational_core.specs.History.{plain, plain_call, plain_answer};
+ghost use Rattle.std.specs.Prelude.{not};
+ghost use Rattle.std.specs.FinSet as set;
+ghost use Rattle.generational_core.specs.declared.steps.StepCall.{StepCall};
+ghost use Rattle.generational_core.specs.Borrowing.{Guard};
+ghost use Rattle.generational_core.specs.Machine.{knows_reader, knows_writer};
+ghost use Rattle.generational_core.specs.Machine.Answer.{Made, Reads, Writes};
+ghost use Rattle.generational_core.specs.State.{IsGiven};
+ghost use Rattle.generational_core.specs.Readiness.{is_ready};
+ghost use Rattle.generational_core.specs.Recording.{recorded_as, is_hindered};
+
+/// A state in which nothing was made is sound, and each call leads from a sound state to a sound
+/// one.
+pub fn steps_are_sound<T>()
+    ensures fresh { (number start next : ℕ) → IsSound (fresh {T = T} number start next) }
+    ensures step { (S R : State T) (call : Action T) (answer : Answer T) →
+        IsSound S → Meets S call answer R → IsSound R }
+{}
+
+/// A name that has ended is never live again, and a box of such a name is answered that its value
+/// is gone, with the box's own location.
+pub fn ended_names_stay_ended<T>()
+    ensures step { (S R : State T) (call : Action T) (answer : Answer T) (n : Name) →
+        Meets S call answer R → IsEnded S n → IsEnded R n }
+    ensures read { (S : State T) (b : GenerationalPointer) →
+        IsEnded S (name_of b) → read_trouble S b ≡ Some (Dropped b.created_at) }
+    ensures write { (S : State T) (b : GenerationalPointer) →
+        IsEnded S (name_of b) → write_trouble S b ≡ Some (Dropped b.created_at) }
+{}
+
+/// In a sound state, a shared value is live exactly while a live Ref names it.
+pub fn shared_values_live_by_references<T>()
+    ensures named { (S : State T) (m : Name) →
+        IsSound S → is_shared (map.get S.cells m) ≡ true → IsNamed S.cells m }
+    ensures live { (S : State T) (m : Name) →
+        IsSound S → IsNamed S.cells m → is_shared (map.get S.cells m) ≡ true }
+{}
+
+/// The last release of an owner ends all boxes of its list, and then the shared values that no
+/// live Ref names any more. Nothing else ends or changes, and only the owner's record goes. A
+/// release that isn't the last takes away one owner value and ends nothing. A release that is
+/// refused changes nothing, nor does a leak. In a session, an owner's release that is answered
+/// `Done` is such a release.
+pub fn owners_last_release_ends_its_boxes<T>()
+    ensures boxes { (S R : State T) (o : OwnerName) (h : Holding) (n : Name) →
+        IsSound S → IsReleased S o h R → h.count ≤ 1 →
+        among h.names n ≡ true → map.get R.cells n ≡ None }
+    ensures others { (S R : State T) (o : OwnerName) (h : Holding) (n : Name) →
+        IsReleased S o h R → h.count ≤ 1 →
+        among h.names n ≡ false → is_shared (map.get S.cells n) ≡ false →
+        map.get R.cells n ≡ map.get S.cells n }
+    ensures unnamed { (S R : State T) (o : OwnerName) (h : Holding) (n : Name) →
+        IsReleased S o h R → h.count ≤ 1 →
+        is_shared (map.get S.cells n) ≡ true → (IsNamed R.cells n → ⊥) →
+        map.get R.cells n ≡ None }
+    ensures named { (S R : State T) (o : OwnerName) (h : Holding) (n : Name) →
+        IsReleased S o h R → h.count ≤ 1 →
+        is_shared (map.get S.cells n) ≡ true → IsNamed R.cells n →
+        map.get R.cells n ≡ map.get S.cells n }
+    ensures gone { (S R : State T) (o : OwnerName) (h : Holding) →
+        IsReleased S o h R → h.count ≤ 1 → map.get R.owners o.key ≡ None }
+    ensures earlier { (S R : State T) (o : OwnerName) (h : Holding) →
+        IsReleased S o h R → 1 < h.count → R.cells ≡ S.cells }
+    ensures counted { (S R : State T) (o : OwnerName) (h : Holding) →
+        IsReleased S o h R → 1 < h.count → map.get R.owners o.key ≡ Some (one_less h) }
+    ensures records { (S R : State T) (o : OwnerName) (h : Holding) (k : ℕ) →
+        IsReleased S o h R → k ≢ o.key → map.get R.owners k ≡ map.get S.owners k }
+    ensures rest { (S R : State T) (o : OwnerName) (h : Holding) →
+        IsReleased S o h R → R ≡ record S { cells = R.cells; owners = R.owners } }
+    ensures refused { (S R : State T) (o : OwnerName) (answer : Answer T) →
+        Meets S (ReleaseOwner o) answer R → answer ≢ Done → R ≡ S }
+    ensures leak { (S R : State T) (o : OwnerName) (answer : Answer T) →
+        Meets S (LeakOwner o) answer R → R ≡ S }
+    ensures session { (s r : SessionState T) (p : ℕ) (o : OwnerName) (h : Holding) →
+        SessionStep s (call.ReleaseOwner p) IsDone r → held s.table p ≡ Owning o →
+        holding s.state o ≡ Some h → IsReleased s.state o h r.state }
+{}
+
+/// The slots of a store are never more than the most cells that were live at once and the slots
+/// whose generations are used up.
+pub fn slots_are_bounded<T>()
+    ensures fresh { (number start next : ℕ) → IsBounded (fresh {T = T} number start next) }
+    ensures step { (S R : State T) (call : Action T) (answer : Answer T) →
+        IsSound S → IsBounded S → Meets S call answer R → IsBounded R }
+    ensures few { (S : State T) → IsBounded S → slots S ≤ S.peak + retired S }
+{}
+
+/// What holds of every session: of one of a fresh store, after each call, and so after each run.
+/// The store knows each owner that a place holds.
+pub fn sessions_are_kept<T>()
+    ensures fresh { (number start next : ℕ) →
+        let s : SessionState T = record { state = fresh number start next; table = [] } in
+        IsKept s }
+    ensures step { (s r : SessionState T) (c : Call T) (reply : Said T) →
+        IsKept s → SessionStep s c reply r → IsKept r }
+    ensures run { (calls : List (Call T)) (replies : List (Said T)) (s r : SessionState T) →
+        IsKept s → Run s calls replies r → IsKept r }
+    ensures owners { (s : SessionState T) (p : ℕ) (o : OwnerName) →
+        IsKept s → held s.table p ≡ Owning o → is_known s.state (Some o) ≡ true }
+{}
+
+/// No call of a session makes an ended name live again, and no run does.
+pub fn sessions_keep_names_ended<T>()
+    ensures step { (s r : SessionState T) (c : Call T) (reply : Said T) (n : Name) →
+        SessionStep s c reply r → IsEnded s.state n → IsEnded r.state n }
+    ensures run { (calls : List (Call T)) (replies : List (Said T)) (s r : SessionState T)
+        (n : Name) → Run s calls replies r → IsEnded s.state n → IsEnded r.state n }
+{}
+
+/// A value stays as it is while nothing disturbs it: while the box lives on and isn't pointed
+/// elsewhere, no writer has the value, and no call sets it. A cell's location stays with the cell.
+pub fn undisturbed_values_stay<T>()
+    ensures step { (S R : State T) (call : Action T) (answer : Answer T)
+        (b : GenerationalPointer) (m : Name) →
+        IsSound S → Meets S call answer R →
+        IsUnwritten b m S → IsUnwritten b m R → (Sets S call m → ⊥) →
+        value_at R m ≡ value_at S m }
+    ensures location { (S R : State T) (call : Action T) (answer : Answer T) (m : Name) →
+        IsSound S → Meets S call answer R → IsLive S m → IsLive R m →
+        location_at R m ≡ location_at S m }
+    ensures session { (s r : SessionState T) (c : Call T) (reply : Said T)
+        (b : GenerationalPointer) (m : Name) →
+        IsKept s → SessionStep s c reply r → IsUndisturbed b m s c r →
+        value_at r.state m ≡ value_at s.state m }
+    ensures run { (calls : List (Call T)) (replies : List (Said T)) (s r : SessionState T)
+        (b : GenerationalPointer) (m : Name) →
+        IsKept s → (run : Run s calls replies r) → Undisturbed b m s calls replies r run →
+        value_at r.state m ≡ value_at s.state m }
+{}
+
+/// The bound on slots holds after each call of a session, and after each run.
+pub fn sessions_are_bounded<T>()
+    ensures step { (s r : SessionState T) (c : Call T) (reply : Said T) →
+        IsSound s.state → IsBounded s.state → SessionStep s c reply r → IsBounded r.state }
+    ensures run { (calls : List (Call T)) (replies : List (Said T)) (s r : SessionState T) →
+        IsKept s → Run s calls replies r → IsBounded r.state }
+{}
+
+/// The machine without values takes the very same steps: what is answered, and what is left, are
+/// those of the machine with values, without the values.
+pub fn plain_states_step<T>()
+    ensures step { (S : State T) (call : Action T) (new : Fresh) →
+        act (plain S) (plain_call call) new
+        ≡ (plain_answer (act S call new).0, plain (act S call new).1) }
+    ensures meets { (S R : State T) (call : Action T) (answer : Answer T) →
+        Meets S call answer R →
+        Meets (plain S) (plain_call call) (plain_answer answer) (plain R) }
+{}
+
+/// Ids aside, the replies of a run are those of the numbered machine, which has no choice: they
+/// depend on the calls, and on which of them memory or an exhausted number refused. Sessions that
+/// match were given equally many names, and the one has no owners but the other's.
+pub fn replies_depend_on_calls<T>()
+    ensures fresh { (number start next : ℕ) (calls : List (Call T)) (replies : List (Said T))
+        (r : SessionState T) →
+        let s : SessionState T = record { state = fresh number start next; table = [] } in
+        Run s calls replies r → AnswersAs (empty_session number) calls replies r }
+    ensures run { (calls : List (Call T)) (replies : List (Said T)) (s r a : SessionState T) →
+        Matches s a → IsSound s.state → Run s calls replies r → AnswersAs a calls replies r }
+    ensures names { (s a : SessionState T) →
+        Matches s a → set.len s.state.given ≡ set.len a.state.given }
+    ensures owners { (s a : SessionState T) (key : ℕ) →
+        Matches s a → is_some (map.get s.state.owners key) ≡ true →
+        (k : ℕ) × (key + a.state.next ≡ k + s.state.next)
+        × (is_some (map.get a.state.owners k) ≡ true) }
+{}
+
+/// Boxes are told apart by their ids: what `ptr_eq` answers is an equivalence, and it is true
+/// exactly where the ids are one.
+pub fn boxes_are_told_apart_by_ids()
+    ensures itself { (a : GenerationalPointer) → has_same_id a a ≡ true }
+    ensures turned { (a b : GenerationalPointer) → has_same_id a b ≡ has_same_id b a }
+    ensures onward { (a b c : GenerationalPointer) →
+        has_same_id a b ≡ true → has_same_id b c ≡ true → has_same_id a c ≡ true }
+    ensures ids { (a b : GenerationalPointer) → (has_same_id a b ≡ true) ↔ (a.id ≡ b.id) }
+{}
+
+/// A call that is recorded is ready exactly where the machine's answer tells of no borrow, neither
+/// of readers nor of a writer; a release by a ticket is the release of any guard with that ticket.
+/// So a call that is ready is never answered so.
+pub fn calls_are_ready_where_no_borrow_is_told<T>()
+    ensures answer { (S : State T) (call : Action T) (step : StepCall) (new : Fresh) →
+        recorded_as call ≡ Some step → is_ready S step ≡ not (is_hindered (act S call new).0) }
+    ensures ready { (S R : State T) (call : Action T) (step : StepCall) (answer : Answer T) →
+        recorded_as call ≡ Some step → is_ready S step ≡ true → Meets S call answer R →
+        is_hindered answer ≡ false }
+{}
+
+/// No call changes the store's number or the first generation of its slots. Tickets never go
+/// back, and a name that was given stays given.
+pub fn steps_keep_the_store<T>()
+    ensures number { (S R : State T) (call : Action T) (answer : Answer T) →
+        Meets S call answer R → R.number ≡ S.number }
+    ensures start { (S R : State T) (call : Action T) (answer : Answer T) →
+        Meets S call answer R → R.start ≡ S.start }
+    ensures next { (S R : State T) (call : Action T) (answer : Answer T) →
+        Meets S call answer R → S.next ≤ R.next }
+    ensures given { (S R : State T) (call : Action T) (answer : Answer T) (n : Name) →
+        Meets S call answer R → IsGiven S n → IsGiven R n }
+{}
+
+/// A box that a call gives is of the store; its name was never given before, and is given from
+/// then on. A guard that a call gives is of the store, which knows it; its ticket is the next one.
+pub fn boxes_and_guards_are_new<T>()
+    ensures made { (S R : State T) (call : Action T) (b : GenerationalPointer) →
+        Meets S call (Made b) R → b.id.store ≡ S.number }
+    ensures name { (S R : State T) (call : Action T) (b : GenerationalPointer) →
+        Meets S call (Made b) R → set.contains S.given (name_of b) ≡ false }
+    ensures given { (S R : State T) (call : Action T) (b : GenerationalPointer) →
+        Meets S call (Made b) R → IsGiven R (name_of b) }
+    ensures guard { (S R : State T) (call : Action T) (g : Guard) →
+        Meets S call (Reads g) R → g.store ≡ S.number }
+    ensures reader { (S R : State T) (call : Action T) (g : Guard) →
+        Meets S call (Reads g) R → knows_reader R g ≡ true }
+    ensures reader_ticket { (S R : State T) (call : Action T) (g : Guard) →
+        Meets S call (Reads g) R → g.ticket ≡ S.next }
+    ensures writer { (S R : State T) (call : Action T) (g : Guard) (v : T) →
+        Meets S call (Writes g v) R → knows_writer R g ≡ true }
+    ensures writer_ticket { (S R : State T) (call : Action T) (g : Guard) (v : T) →
+        Meets S call (Writes g v) R → g.ticket ≡ S.next }
+{}
+
+/// A fresh state without its values is the fresh state of the machine without values.
+pub fn fresh_states_are_plain<T>()
+    ensures { (number start next : ℕ) →
+        plain (fresh {T = T} number start next) ≡ fresh number start next }
+{}

@@ -1,0 +1,114 @@
+//! Owners.
+
+ghost use Rattle.std.specs.Prelude.{◌≡◌, Some, IfErr};
+
+use crate::boxes::{GenerationalBox, box_at};
+use crate::error::{BorrowMutError, Location, Refusal, Refused, StoreError};
+use crate::storage::{AnyStorage, Storage};
+use std::marker::Model;
+
+/// An owner of boxes. Contracts see it as its store's number and its key.
+///
+/// It names a record in its store and holds no reference. It has no `Drop`: `release` or `leak`
+/// must spend it.
+pub struct Owner {
+    store: u64,
+    key: u64,
+}
+
+impl Model for Owner {
+    ghost use Rattle.generational_core.specs.Machine.{OwnerName};
+
+    ghost Value = { OwnerName };
+
+    ghost view = { λ o. record { store = o.store; key = o.key } };
+}
+
+impl Owner {
+    ghost use Rattle.generational_core.specs.Machine.Action.{Make, CloneOwner, ReleaseOwner};
+    ghost use Rattle.generational_core.specs.Steps.{Meets};
+    ghost use Rattle.generational_core.specs.Answers.{box_answer, owner_answer, release_answer};
+
+    /// Makes a box of a value, which ends when the last owner value of this record is released.
+    /// Its id was never given before, and it stands at the end of the record's list.
+    ///
+    /// Refused, in this order: `UnknownOwner`, where the store has no such record; `OutOfMemory`,
+    /// where room for a slot or in the list was refused. The value comes back then, and the store
+    /// stays as it was.
+    ///
+    /// Upstream's `insert_with_caller`: its `insert` takes the caller's location.
+    #[inline(always)]
+    pub fn insert<T, S: Storage<T>>(
+        &self,
+        store: &mut S,
+        value: T,
+        location: Location,
+    ) -> Result<GenerationalBox<T>, Refusal<T>>
+        ensures step { Meets (S.state store.old) (Make (Some self.now) value location)
+            (box_answer result) (S.state store.new) }
+        ensures back { IfErr result (λ refusal. refusal.value ≡ value) }
+    {
+        let raw = store.new(value, location, Some(self))?;
+        Ok(box_at(raw))
+    }
+
+    /// Another owner value of the same record: its boxes live until both are released.
+    ///
+    /// Refused, in this order: `UnknownOwner`, where the store has no such record;
+    /// `NumbersExhausted`, where no ticket is left. Takes no memory.
+    ///
+    /// Upstream's `Clone`.
+    pub fn clone<T, S: AnyStorage<T>>(&self, store: &mut S) -> Result<Owner, StoreError>
+        ensures { Meets (S.state store.old) (CloneOwner self.now) (owner_answer result)
+            (S.state store.new) }
+    {
+        store.clone_owner(self)
+    }
+
+    /// Spends the owner value. With the last one of its record all live boxes of the list end, or
+    /// nothing does.
+    ///
+    /// Refused, in this order: `UnknownOwner`, where the store has no such record; the answer of a
+    /// write at the first box of the list, in order of insertion, that would end and is borrowed:
+    /// `AlreadyBorrowedMut`, or `AlreadyBorrowed`, in whose place `OutOfMemory` is answered if its
+    /// list finds no memory. The owner comes back then, and the store stays as it was.
+    ///
+    /// Upstream's owners end their boxes by their Drop.
+    pub fn release<T, S: AnyStorage<T>>(
+        self,
+        store: &mut S,
+    ) -> Result<(), (Owner, Refused<BorrowMutError>)>
+        ensures step { Meets (S.state store.old) (ReleaseOwner self) (release_answer result)
+            (S.state store.new) }
+        ensures back { IfErr result (λ refusal. refusal.0 ≡ self) }
+    {
+        store.release_owner(self)
+    }
+
+    /// Spends the owner value and leaves its record as it is: the record's boxes never end by an
+    /// owner from then on.
+    pub fn leak(self) {
+        let Owner { store: _, key: _ } = self;
+    }
+}
+
+/// The owner whose record has this key in the store with this number.
+pub fn owner_at(store: u64, key: u64) -> Owner
+    ensures { result ≡ record { store = store; key = key } }
+{
+    Owner { store, key }
+}
+
+/// The number of the owner's store.
+pub fn number_of(owner: &Owner) -> u64
+    ensures { result ≡ owner.now.store }
+{
+    owner.store
+}
+
+/// The key of the owner's record.
+pub fn key_of(owner: &Owner) -> u64
+    ensures { result ≡ owner.now.key }
+{
+    owner.key
+}

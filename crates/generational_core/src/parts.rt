@@ -1,0 +1,7 @@
+//! What a storage makes and takes apart: for who implements one. Who uses boxes needs none of it,
+//! and `generational_box` doesn't export it.
+
+pub use crate::borrow::Borrow;
+pub use crate::boxes::{box_at, id_at, pointer_at};
+pub use crate::owner::{key_of, number_of, owner_at};
+pub use crate::references::{id_read, into_reader, into_writer, reader_at, writer_at};

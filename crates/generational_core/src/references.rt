@@ -1,0 +1,265 @@
+//! Guards and views.
+
+ghost use Rattle.std.specs.Prelude.{◌≡◌};
+ghost use Rattle.std.specs.Borrow.{sem};
+ghost use Rattle.generational_core.specs.Boxes.{name_in};
+
+use crate::boxes::GenerationalBoxId;
+use crate::storage::Storage;
+use std::marker::{Model, PhantomData};
+use std::mem;
+use std::ops::{Deref, DerefMut};
+
+/// A reader's guard. Contracts see it as its store's number, its cell's name and its ticket.
+///
+/// It names a borrow and holds no reference, so the store may be used while it stands. It has no
+/// `Drop`: `release` must spend it.
+pub struct GenerationalRef<T> {
+    id: GenerationalBoxId,
+    ticket: u64,
+    marker: PhantomData<T>,
+}
+
+impl<T> Model for GenerationalRef<T> {
+    ghost use Rattle.generational_core.specs.Borrowing.{Guard};
+    ghost use Rattle.generational_core.specs.Boxes.{name_in};
+
+    ghost Value = { Guard };
+
+    ghost view = { λ g. record { store = g.id.store; cell = name_in g.id; ticket = g.ticket } };
+}
+
+impl<T> GenerationalRef<T> {
+    ghost use Rattle.generational_core.specs.Answers.{opened};
+    ghost use Rattle.generational_core.specs.Machine.Action.{ReleaseReader};
+    ghost use Rattle.generational_core.specs.Machine.Answer.{Flag};
+    ghost use Rattle.generational_core.specs.Steps.{Meets};
+
+    /// The number of the borrow, by which a recorded release names it.
+    #[inline(always)]
+    pub fn ticket(&self) -> u64
+        ensures { result ≡ self.now.ticket }
+    {
+        self.ticket
+    }
+
+    /// A view of the value, exactly where the store knows the guard: where the store's number is
+    /// the guard's, and a reader with its ticket stands at its cell. Takes no memory.
+    #[inline(always)]
+    pub fn deref<'a, S: Storage<T>>(&self, store: &'a S) -> Option<Ref<'a, T>>
+        ensures { result ≡ opened (S.state store.now) self.now }
+    {
+        let value = store.open(self)?;
+        Some(Ref { value })
+    }
+
+    /// Ends the read. The answer is whether the store knew the guard; where it didn't, the guard
+    /// is spent and the store stays as it was. Takes no memory.
+    ///
+    /// Upstream's guards end by their Drop.
+    #[inline(always)]
+    pub fn release<S: Storage<T>>(self, store: &mut S) -> bool
+        ensures { Meets (S.state store.old) (ReleaseReader self) (Flag result) (S.state store.new) }
+    {
+        store.release_read(self)
+    }
+}
+
+/// The guard of a reader of a cell.
+#[inline(always)]
+pub fn reader_at<T>(id: GenerationalBoxId, ticket: u64) -> GenerationalRef<T>
+    ensures { result ≡ record { store = id.store; cell = name_in id; ticket = ticket } }
+{
+    GenerationalRef {
+        id,
+        ticket,
+        marker: PhantomData,
+    }
+}
+
+/// The cell that a guard reads.
+#[inline(always)]
+pub fn id_read<T>(guard: &GenerationalRef<T>) -> GenerationalBoxId
+    ensures { guard.now ≡ record
+        { store = result.store; cell = name_in result; ticket = guard.now.ticket } }
+{
+    guard.id
+}
+
+/// The cell and the ticket of a reader's guard, which is spent.
+#[inline(always)]
+pub fn into_reader<T>(guard: GenerationalRef<T>) -> (GenerationalBoxId, u64)
+    ensures { guard ≡ record
+        { store = result.0.store; cell = name_in result.0; ticket = result.1 } }
+{
+    let GenerationalRef {
+        id,
+        ticket,
+        marker: _,
+    } = guard;
+    (id, ticket)
+}
+
+/// The guard of a writer of a cell, which owns the value.
+#[inline(always)]
+pub fn writer_at<T>(id: GenerationalBoxId, ticket: u64, value: T) -> GenerationalRefMut<T>
+    ensures guard { result.guard ≡ record
+        { store = id.store; cell = name_in id; ticket = ticket } }
+    ensures value { result.value ≡ value }
+{
+    GenerationalRefMut { id, ticket, value }
+}
+
+/// The cell, the ticket and the value of a writer's guard, which is spent.
+#[inline(always)]
+pub fn into_writer<T>(guard: GenerationalRefMut<T>) -> (GenerationalBoxId, u64, T)
+    ensures guard { guard.guard ≡ record
+        { store = result.0.store; cell = name_in result.0; ticket = result.1 } }
+    ensures value { guard.value ≡ result.2 }
+{
+    let GenerationalRefMut { id, ticket, value } = guard;
+    (id, ticket, value)
+}
+
+/// A view of a value that is read. It may be let go at any time: its guard's borrow stands until
+/// the guard is released.
+#[derive(Drop)]
+pub struct Ref<'a, T> {
+    value: &'a T,
+}
+
+impl<'a, T> Model for Ref<'a, T> {
+    ghost Value = { T };
+
+    ghost coded = { T.code };
+
+    ghost view = { λ r. r.value.now };
+}
+
+impl<'a, T> Deref for Ref<'a, T> {
+    type Target = T;
+
+    ghost deref_gives = { λ r x. x ≡ r };
+
+    #[inline(always)]
+    fn deref(&self) -> &T {
+        self.value
+    }
+}
+
+/// A writer's guard, which owns the value meanwhile. Contracts see it as a guard and the value.
+///
+/// The value is read and written without the store. The guard has no `Drop`: `release` must spend
+/// it, which puts the value back.
+pub struct GenerationalRefMut<T> {
+    id: GenerationalBoxId,
+    ticket: u64,
+    value: T,
+}
+
+impl<T> Model for GenerationalRefMut<T> {
+    ghost use Rattle.generational_core.specs.Writing.{WriteGuard};
+    ghost use Rattle.generational_core.specs.Boxes.{name_in};
+
+    ghost Value = { WriteGuard T };
+
+    ghost view = { λ g. record {
+      guard = record
+          { store = g.id.store; cell = name_in g.id; ticket = g.ticket };
+      value = g.value;
+    } };
+}
+
+impl<T> GenerationalRefMut<T> {
+    ghost use Rattle.std.specs.Prelude.{◌≡◌};
+    ghost use Rattle.std.specs.Borrow.{sem};
+    ghost use Rattle.generational_core.specs.Boxes.{name_in};
+    ghost use Rattle.generational_core.specs.Guards.{LendsValue};
+    ghost use Rattle.generational_core.specs.Machine.Action.{ReleaseWriter};
+    ghost use Rattle.generational_core.specs.Answers.{back_answer};
+    ghost use Rattle.generational_core.specs.Steps.{Meets};
+
+    /// The value. Takes no memory.
+    #[inline(always)]
+    pub fn deref(&self) -> &T
+        ensures { result.now ≡ self.now.value }
+    {
+        &self.value
+    }
+
+    /// A view of the value for writing: what is written through it is the guard's value from then
+    /// on. Takes no memory.
+    #[inline(always)]
+    pub fn deref_mut(&mut self) -> Mut<'_, T>
+        ensures same_guard { result.guard.ghost_name ≡ self.entry.ghost_name }
+        ensures unchanged { result.guard.now ≡ self.old }
+    {
+        Mut { guard: self }
+    }
+
+    // The value for writing.
+    #[inline(always)]
+    fn value_mut(&mut self) -> &mut T
+        ensures* writes_back { sem 𝓛 (LendsValue T.row self.entry result) }
+        ensures value { result.now ≡ self.old.value }
+    {
+        &mut self.value
+    }
+
+    /// Puts another value in the place of the guard's, and answers the old one. Takes no memory.
+    #[inline(always)]
+    pub fn replace(&mut self, value: T) -> T
+        ensures old { result ≡ self.old.value }
+        ensures after { self.new ≡ record self.old { value = value } }
+    {
+        mem::replace(&mut self.value, value)
+    }
+
+    /// Ends the write, and puts the value into the cell. A store that doesn't know the guard hands
+    /// the value back and stays as it was; the guard is spent all the same, and its own cell stays
+    /// borrowed. Takes no memory.
+    #[inline(always)]
+    pub fn release<S: Storage<T>>(self, store: &mut S) -> Result<(), T>
+        ensures { Meets (S.state store.old) (ReleaseWriter self.guard self.value)
+            (back_answer result) (S.state store.new) }
+    {
+        store.release_write(self)
+    }
+}
+
+/// A view of a value that is written. It borrows the value's guard.
+#[derive(Drop)]
+pub struct Mut<'a, T> {
+    guard: &'a mut GenerationalRefMut<T>,
+}
+
+impl<'a, T> Deref for Mut<'a, T> {
+    type Target = T;
+
+    ghost deref_gives = { λ m x. x ≡ m.guard.now.value };
+
+    #[inline(always)]
+    fn deref(&self) -> &T {
+        let guard: &GenerationalRefMut<T> = &*self.guard;
+        guard.deref()
+    }
+}
+
+impl<'a, T> DerefMut for Mut<'a, T> {
+    ghost use Rattle.std.specs.Prelude.{[]};
+    ghost use Rattle.std.specs.Borrow.{sem, follows};
+    ghost use mir.Syntax.{named};
+    ghost use Rattle.generational_core.specs.Views.{writes_through};
+    ghost use Rattle.generational_core.specs.contracts.references.Mut.{the_row};
+
+    ghost deref_mut_gives = { λ m x. x ≡ m.guard.now.value };
+
+    #[inline(always)]
+    fn deref_mut(&mut self) -> &mut T
+        ensures* writes_back { sem 𝓛 (follows (the_row (record { mir = named 1; lft = [] }) T.row)
+            T.row self.entry.ghost_name result.ghost_name (writes_through self.old)) }
+        ensures value { result.now ≡ self.old.guard.now.value }
+    {
+        self.guard.value_mut()
+    }
+}

@@ -1,0 +1,195 @@
+//! Sessions: calls by their places, and runs of them.
+
+ghost use Rattle.std.specs.Prelude.{◌≡◌};
+ghost use Rattle.generational_core.specs.declared.boxes.GenerationalPointer.{GenerationalPointer};
+
+use crate::calls::{Call, Reply};
+use crate::places::{Thing, answer, let_go};
+use crate::storage::Storage;
+use std::alloc::Global;
+use std::marker::Model;
+
+/// A store, and what its calls gave. Contracts see it as the machine's state and a table of what
+/// each place holds.
+///
+/// It has no `Drop`: `finish` must spend it.
+pub struct Session<T, S: Storage<T>> {
+    alloc: Global,
+    store: S,
+    things: Vec<Thing<T>>,
+}
+
+impl<T, S: Storage<T>> Model for Session<T, S> {
+    ghost use Rattle.std.specs.Coded.{codes};
+    ghost use Rattle.std.specs.FinMap as map;
+    ghost use Rattle.std.specs.Prelude.{map as list_map};
+    ghost use Rattle.generational_core.specs.Session.{SessionState};
+    ghost use Rattle.generational_core.specs.Holding.{IsKept};
+    ghost use Rattle.generational_core.specs.Places.{thing_held};
+
+    ghost Value = { SessionState T };
+
+    ghost coded = { Prim.hlevel (codes, map.code) };
+
+    ghost view = { λ s.
+        record { state = S.state s.store; table = list_map thing_held s.things.items } };
+
+    ghost invariant = { λ s. IsKept
+        (record { state = S.state s.store; table = list_map thing_held s.things.items }) };
+}
+
+impl<T: Drop, S: Storage<T>> Session<T, S> {
+    ghost use Rattle.std.specs.Prelude.{◌≡◌, ◌≤◌, ◌+◌, [], ◌∷◌, IfOk, IfErr, OnErr};
+    ghost use Rattle.std.specs.Prelude.{option_copied};
+    ghost use Rattle.generational_core.specs.Names.{Name};
+    ghost use Rattle.generational_core.specs.State.{IsFresh, IsEnded};
+    ghost use Rattle.generational_core.specs.Session.{SessionState, SessionStep, Run, viewed};
+    ghost use Rattle.generational_core.specs.Session.{all_let_go};
+    ghost use Rattle.generational_core.specs.Holding.{IsKept};
+    ghost use Rattle.generational_core.specs.Keeping.{IsUndisturbed, Undisturbed, value_at};
+    ghost use Rattle.generational_core.specs.Places.{said_by, replies_said};
+    ghost use Rattle.generational_core.specs.Slots.{slots, retired};
+    ghost use Rattle.generational_core.specs.Numbered.{Matches, AnswersAs, empty_session};
+    ghost use Rattle.generational_core.specs.Replies.{TellsEnds, GivesNewBox, EndsOwned};
+    ghost use Rattle.generational_core.specs.Replies.{AllKeepPromises, GiveBoxesApart};
+
+    /// A session over a store in which nothing was made yet (`is_fresh` is the test). Takes no
+    /// memory.
+    pub fn new(alloc: Global, store: S) -> Session<T, S>
+        requires { IsFresh (S.state store) }
+        ensures session { result ≡ record { state = S.state store; table = [] } }
+        // It matches the machine whose names are plain numbers, where nothing was called.
+        ensures matches { Matches result (empty_session (S.state store).number) }
+    {
+        Session {
+            alloc,
+            store,
+            things: Vec::new(alloc),
+        }
+    }
+
+    /// Answers a call, and gives it the next place, whatever the reply. The call comes back where
+    /// its place finds no memory: then it has no place, and nothing changes.
+    pub fn call(&mut self, call: Call<T>) -> Result<Reply<T>, Call<T>>
+        // The call is a step of the machine on what the places hold.
+        ensures step { IfOk result (λ reply. SessionStep self.old call (said_by reply) self.new) }
+        ensures back { IfErr result (λ back. back ≡ call) }
+        ensures unchanged { OnErr result (self.new ≡ self.old) }
+
+        // Ids aside, the reply is the numbered machine's, which has no slots: it depends on the
+        // calls, and on which of them memory or an exhausted number refused.
+        ensures same_answer { IfOk result (λ reply. (a : SessionState T) → Matches self.old a →
+            AnswersAs a (call ∷ []) (said_by reply ∷ []) self.new) }
+
+        // A box whose name has ended is told so. A box that is given was never given before. The
+        // last release of an owner that is done ends the boxes of its list.
+        ensures tells_ends { IfOk result (λ reply. TellsEnds self.old call (said_by reply)) }
+        ensures new_box { IfOk result (λ reply. GivesNewBox self.old (said_by reply)) }
+        ensures ends_owned { IfOk result (λ reply. EndsOwned self.old call (said_by reply) self.new) }
+
+        // The state is sound, boxes at different places have different ids, and the store knows
+        // the held guards and owners. There are no more slots than were live at once and are
+        // retired. A name that has ended is never live again. A value that nothing disturbs stays.
+        ensures kept { IsKept self.new }
+        ensures bounded { slots self.new.state ≤ self.new.state.peak + retired self.new.state }
+        ensures ended { (n : Name) → IsEnded self.old.state n → IsEnded self.new.state n }
+        ensures kept_value { (b : GenerationalPointer) (m : Name) →
+            IsUndisturbed b m self.old call self.new →
+            value_at self.new.state m ≡ value_at self.old.state m }
+    {
+        if self.things.reserve(1).is_err() {
+            return Err(call);
+        }
+        let (reply, thing) = answer(&mut self.store, &mut self.things, call);
+        self.things.push_reserved(thing);
+        Ok(reply)
+    }
+
+    /// Answers calls in order, each as `call` does. All calls come back where memory for the
+    /// replies or the places is lacking: then none has a place, and nothing changes.
+    pub fn run(&mut self, mut calls: Vec<Call<T>>) -> Result<Vec<Reply<T>>, Vec<Call<T>>>
+        // The calls and their replies are a run of the machine.
+        ensures run { IfOk result (λ replies.
+            Run self.old calls.items (replies_said replies.items) self.new) }
+        ensures back { IfErr result (λ back. back.items ≡ calls.items) }
+        ensures unchanged { OnErr result (self.new ≡ self.old) }
+
+        // Ids aside, the replies are the numbered machine's, which has no slots: they depend on the
+        // calls, and on which of them memory or an exhausted number refused.
+        ensures same_answers { IfOk result (λ replies. (a : SessionState T) → Matches self.old a →
+            AnswersAs a calls.items (replies_said replies.items) self.new) }
+
+        // What `call` promises of a call holds of each call of the run. No two replies give boxes
+        // with one id.
+        ensures promises { IfOk result (λ replies.
+            let said = replies_said replies.items in
+            (run : Run self.old calls.items said self.new) →
+            AllKeepPromises self.old calls.items said self.new run) }
+        ensures boxes_apart { IfOk result (λ replies.
+            GiveBoxesApart (replies_said replies.items)) }
+
+        // What `call` keeps, each run keeps.
+        ensures kept { IsKept self.new }
+        ensures bounded { slots self.new.state ≤ self.new.state.peak + retired self.new.state }
+        ensures ended { (n : Name) → IsEnded self.old.state n → IsEnded self.new.state n }
+        ensures kept_value { IfOk result (λ replies.
+            let said = replies_said replies.items in
+            (b : GenerationalPointer) (m : Name) (run : Run self.old calls.items said self.new) →
+            Undisturbed b m self.old calls.items said self.new run →
+            value_at self.new.state m ≡ value_at self.old.state m) }
+    {
+        let count = calls.len();
+        if self.things.reserve(count).is_err() {
+            return Err(calls);
+        }
+        let mut replies = match Vec::with_capacity(self.alloc, count) {
+            Ok(replies) => replies,
+            Err(_) => return Err(calls),
+        };
+        calls.reverse();
+        while let Some(call) = calls.pop() {
+            let (reply, thing) = answer(&mut self.store, &mut self.things, call);
+            self.things.push_reserved(thing);
+            replies.push_reserved(reply);
+        }
+        calls.destroy_empty();
+        Ok(replies)
+    }
+
+    /// The value that the guard at a place lends, a writer's being its own: None where the place
+    /// holds no guard. Takes no memory.
+    pub fn view(&self, place: usize) -> Option<&T>
+        ensures { option_copied result ≡ viewed self.now place }
+    {
+        match self.things.get(place) {
+            Some(Thing::Reader(guard)) => self.store.open(guard),
+            Some(Thing::Writer(guard)) => Some(guard.deref()),
+            _ => None,
+        }
+    }
+
+    /// The store. Takes no memory.
+    pub fn store(&self) -> &S
+        ensures { S.state result.now ≡ self.now.state }
+    {
+        &self.store
+    }
+
+    /// The store, after the held guards were released in order of place; the values of writers are
+    /// put back, and owners are leaked. Takes no memory.
+    pub fn finish(self) -> S
+        ensures { S.state result ≡ all_let_go self.state self.table }
+    {
+        let Session {
+            alloc: _,
+            mut store,
+            mut things,
+        } = self;
+        things.reverse();
+        while let Some(thing) = things.pop() {
+            let_go(&mut store, thing);
+        }
+        things.destroy_empty();
+        store
+    }
+}

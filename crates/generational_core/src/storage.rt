@@ -1,0 +1,175 @@
+//! What every store does.
+
+ghost use Rattle.std.specs.Prelude.{◌≡◌, ◌≤◌, ◌+◌, ◌-◌, ◌↔◌, IsTrue, IfErr, None, option_copied};
+ghost use Rattle.generational_core.specs.State.{State, IsFresh};
+ghost use Rattle.generational_core.specs.Slots.{slots, free, retired};
+ghost use Rattle.generational_core.specs.Machine.Action.{Make, NewOwner, CloneOwner, ReleaseOwner};
+ghost use Rattle.generational_core.specs.Machine.Action.{Read, Write, ReleaseReader, ReleaseWriter};
+ghost use Rattle.generational_core.specs.Machine.Action.{End};
+ghost use Rattle.generational_core.specs.Machine.Answer.{Flag};
+ghost use Rattle.generational_core.specs.Steps.{Meets};
+ghost use Rattle.generational_core.specs.Readiness.{is_ready};
+ghost use Rattle.generational_core.specs.Answers.{make_answer, owner_answer, release_answer};
+ghost use Rattle.generational_core.specs.Answers.{read_answer, write_answer, back_answer};
+ghost use Rattle.generational_core.specs.Answers.{end_answer, opened};
+
+use crate::boxes::GenerationalPointer;
+use crate::error::{
+    BorrowMutError, BorrowMutResult, BorrowResult, Location, Refusal, Refused, StoreError,
+};
+use crate::owner::Owner;
+use crate::references::{GenerationalRef, GenerationalRefMut};
+use crate::steps::StepCall;
+
+/// What a store of values of one type does, whatever it keeps.
+///
+/// Every clause speaks of the abstract state alone, and says that the call is a step of the
+/// machine (`docs/machine.md`). The trait is implemented by this crate's sequential stores.
+pub trait AnyStorage<T> {
+    /// The state of the abstract machine for which the store stands.
+    ghost state: { Self → State T };
+
+    /// The number that the store's maker chose.
+    fn number(&self) -> u64
+        ensures { result ≡ (state self.now).number };
+
+    /// Whether nothing was ever made in the store.
+    fn is_fresh(&self) -> bool
+        ensures { IsTrue result ↔ IsFresh (state self.now) };
+
+    /// How many slots were ever made: each is live, free or retired. They are never more than the
+    /// most cells that were live at once and the retired slots. Takes no memory.
+    fn slots(&self) -> usize
+        ensures count { result ≡ slots (state self.now) }
+        ensures bounded { slots (state self.now) ≤ (state self.now).peak + retired (state self.now) };
+
+    /// How many slots have no live cell and may be used again. Takes no memory.
+    fn free(&self) -> usize
+        ensures { result ≡ free (state self.now) };
+
+    /// How many slots are never used again, since their last cell had the last generation and has
+    /// ended. Takes no memory.
+    fn retired(&self) -> usize
+        ensures { result ≡ retired (state self.now) };
+
+    /// The most cells that were live at once. Takes no memory.
+    fn peak_live(&self) -> usize
+        ensures { result ≡ (state self.now).peak };
+
+    /// How many tickets are left: each owner, each owner's clone and each borrow takes one. Takes
+    /// no memory.
+    fn tickets_left(&self) -> u64
+        ensures { result ≡ 18446744073709551615 - (state self.now).next };
+
+    /// The number of the slot that the pointer names. Looks at no slot: the cell may have ended,
+    /// or be of another store. Takes no memory.
+    fn data_ptr(&self, pointer: GenerationalPointer) -> usize
+        ensures { result ≡ pointer.id.slot };
+
+    /// Whether the call would be answered without telling of a borrow in its way: a read meets no
+    /// writer, and an end no borrow of a value that would end. Takes no memory.
+    fn ready(&self, call: &StepCall) -> bool
+        ensures { result ≡ is_ready (state self.now) call.now };
+
+    /// An owner without boxes, of a record of its own.
+    ///
+    /// Refused, in this order: `NumbersExhausted`, where no ticket is left; `OutOfMemory`. A
+    /// refused call changes nothing.
+    fn owner(&mut self) -> Result<Owner, StoreError>
+        ensures { Meets (state self.old) NewOwner (owner_answer result) (state self.new) };
+
+    /// Another owner value of the same record.
+    ///
+    /// Refused, in this order: `UnknownOwner`, where the owner is of another store;
+    /// `NumbersExhausted`, where no ticket is left. A refused call changes nothing, and no call
+    /// takes memory.
+    fn clone_owner(&mut self, owner: &Owner) -> Result<Owner, StoreError>
+        ensures { Meets (state self.old) (CloneOwner owner.now) (owner_answer result)
+            (state self.new) };
+
+    /// Spends an owner value. With the last one of its record all live boxes of the list end, or
+    /// nothing does.
+    ///
+    /// Refused, in this order: `UnknownOwner`, where the owner is of another store; the answer of a
+    /// write at the first box of the list, in order of insertion, that would end and is borrowed,
+    /// in whose place `OutOfMemory` is answered if its list of locations finds no memory. The owner
+    /// comes back then, and nothing changes.
+    fn release_owner(&mut self, owner: Owner) -> Result<(), (Owner, Refused<BorrowMutError>)>
+        ensures step { Meets (state self.old) (ReleaseOwner owner) (release_answer result)
+            (state self.new) }
+        ensures back { IfErr result (λ refusal. refusal.0 ≡ owner) };
+
+    /// Ends the cell that the pointer names, and its slot is free from then on; a slot whose cell
+    /// ends at the last generation is retired instead. A pointer that names no live cell of this
+    /// store is Ok and changes nothing.
+    ///
+    /// Refused, in this order, where the value would end and is borrowed: `AlreadyBorrowedMut`
+    /// with the writer's location, or `AlreadyBorrowed` with the readers' locations in order, in
+    /// whose place `OutOfMemory` is answered if that list finds no memory. A refused call changes
+    /// nothing, and nothing else takes memory.
+    fn recycle(&mut self, pointer: GenerationalPointer) -> BorrowMutResult<()>
+        ensures { Meets (state self.old) (End pointer) (end_answer result) (state self.new) };
+}
+
+/// What a store of values of one type does with values.
+pub trait Storage<T>: AnyStorage<T> {
+    /// Makes a cell of a value, under a name that was never given before. With an owner it stands
+    /// at the end of the owner's list.
+    ///
+    /// Refused, in this order: `UnknownOwner`, where there is an owner that the store doesn't know;
+    /// `OutOfMemory`, only where no slot is free or the owner's list has no room. The value comes
+    /// back, and nothing changes.
+    fn new(
+        &mut self,
+        value: T,
+        location: Location,
+        owner: Option<&Owner>,
+    ) -> Result<GenerationalPointer, Refusal<T>>
+        ensures step { Meets (Self.state self.old) (Make (option_copied owner.entry) value location)
+            (make_answer result) (Self.state self.new) }
+        ensures back { IfErr result (λ refusal. refusal.value ≡ value) };
+
+    /// Begins a read.
+    ///
+    /// Refused, in this order: `Dropped` with the pointer's own location, where it reaches no
+    /// value; `AlreadyBorrowedMut` with the writer's location; `NumbersExhausted`, where no ticket
+    /// is left; `OutOfMemory`, only for a reader beside another. A refused call changes nothing.
+    fn try_read(
+        &mut self,
+        pointer: GenerationalPointer,
+        location: Location,
+    ) -> BorrowResult<GenerationalRef<T>>
+        ensures { Meets (Self.state self.old) (Read pointer location) (read_answer result)
+            (Self.state self.new) };
+
+    /// The value that a reader's guard opens, exactly where the store knows the guard.
+    fn open(&self, guard: &GenerationalRef<T>) -> Option<&T>
+        ensures { option_copied result ≡ opened (Self.state self.now) guard.now };
+
+    /// Begins a write, which takes the value out of the cell and into the guard.
+    ///
+    /// Refused, in this order: `Dropped` with the pointer's own location, where it reaches no
+    /// value; `AlreadyBorrowedMut` with the writer's location; `AlreadyBorrowed` with the readers'
+    /// locations in the order in which they began, in whose place `OutOfMemory` is answered if that
+    /// list finds no memory; `NumbersExhausted`, where no ticket is left. A refused call changes
+    /// nothing, and nothing else takes memory.
+    fn try_write(
+        &mut self,
+        pointer: GenerationalPointer,
+        location: Location,
+    ) -> BorrowMutResult<GenerationalRefMut<T>>
+        ensures { Meets (Self.state self.old) (Write pointer location) (write_answer result)
+            (Self.state self.new) };
+
+    /// Ends a write, and puts the guard's value into the cell. Where the store doesn't know the
+    /// guard, the value comes back and nothing changes. Takes no memory.
+    fn release_write(&mut self, guard: GenerationalRefMut<T>) -> Result<(), T>
+        ensures { Meets (Self.state self.old) (ReleaseWriter guard.guard guard.value)
+            (back_answer result) (Self.state self.new) };
+
+    /// Ends a read. The answer is whether the store knew the guard; where it didn't, nothing
+    /// changes. Takes no memory.
+    fn release_read(&mut self, guard: GenerationalRef<T>) -> bool
+        ensures { Meets (Self.state self.old) (ReleaseReader guard) (Flag result)
+            (Self.state self.new) };
+}
