@@ -32,9 +32,9 @@ impl Owner {
     /// Makes a box of a value, which ends when the last owner value of this record is released.
     /// Its id was never given before, and it stands at the end of the record's list.
     ///
-    /// Refused, in this order: `UnknownOwner`, where the store has no such record; `OutOfMemory`,
-    /// where room for a slot or in the list was refused. The value comes back then, and the store
-    /// stays as it was.
+    /// Refused, in this order: `UnknownOwner`, where the store has no record of the owner;
+    /// `OutOfMemory`, where room for a slot or in the list was refused. The value comes back then,
+    /// and the store stays as it was.
     ///
     /// Upstream's `insert_with_caller`: its `insert` takes the caller's location.
     #[inline(always)]
@@ -54,7 +54,7 @@ impl Owner {
 
     /// Another owner value of the same record: its boxes live until both are released.
     ///
-    /// Refused, in this order: `UnknownOwner`, where the store has no such record;
+    /// Refused, in this order: `UnknownOwner`, where the store has no record of the owner;
     /// `NumbersExhausted`, where no ticket is left. Takes no memory.
     ///
     /// Upstream's `Clone`.
@@ -68,10 +68,11 @@ impl Owner {
     /// Spends the owner value. With the last one of its record all live boxes of the list end, or
     /// nothing does.
     ///
-    /// Refused, in this order: `UnknownOwner`, where the store has no such record; the answer of a
-    /// write at the first box of the list, in order of insertion, that would end and is borrowed:
-    /// `AlreadyBorrowedMut`, or `AlreadyBorrowed`, in whose place `OutOfMemory` is answered if its
-    /// list finds no memory. The owner comes back then, and the store stays as it was.
+    /// Refused, in this order: `UnknownOwner`, where the store has no record of the owner; the
+    /// answer of a write at the first box of the list, in order of insertion, that would end and is
+    /// borrowed: `AlreadyBorrowedMut`, or `AlreadyBorrowed`, in whose place `OutOfMemory` is
+    /// answered if its list finds no memory. The owner comes back then, and the store stays as it
+    /// was.
     ///
     /// Upstream's owners end their boxes by their Drop.
     pub fn release<T, S: AnyStorage<T>>(

@@ -53,8 +53,7 @@ impl<T: Drop, S: Storage<T>> Session<T, S> {
     ghost use Rattle.generational_core.specs.Replies.{TellsEnds, GivesNewBox, EndsOwned};
     ghost use Rattle.generational_core.specs.Replies.{AllKeepPromises, GiveBoxesApart};
 
-    /// A session over a store in which nothing was made yet (`is_fresh` is the test). Takes no
-    /// memory.
+    /// A session over a fresh store (`is_fresh` is the test). Takes no memory.
     pub fn new(alloc: Global, store: S) -> Session<T, S>
         requires { IsFresh (S.state store) }
         ensures session { result ≡ record { state = S.state store; table = [] } }

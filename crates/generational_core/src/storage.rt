@@ -33,7 +33,9 @@ pub trait AnyStorage<T> {
     fn number(&self) -> u64
         ensures { result ≡ (state self.now).number };
 
-    /// Whether nothing was ever made in the store.
+    /// Whether the store is as a new one, but for its numbers: no slot was made, and no owner's
+    /// record stands. It is so again once all owners of a store without slots are released. Takes no
+    /// memory.
     fn is_fresh(&self) -> bool
         ensures { IsTrue result ↔ IsFresh (state self.now) };
 
@@ -80,7 +82,7 @@ pub trait AnyStorage<T> {
 
     /// Another owner value of the same record.
     ///
-    /// Refused, in this order: `UnknownOwner`, where the owner is of another store;
+    /// Refused, in this order: `UnknownOwner`, where the store has no record of the owner;
     /// `NumbersExhausted`, where no ticket is left. A refused call changes nothing, and no call
     /// takes memory.
     fn clone_owner(&mut self, owner: &Owner) -> Result<Owner, StoreError>
@@ -90,10 +92,10 @@ pub trait AnyStorage<T> {
     /// Spends an owner value. With the last one of its record all live boxes of the list end, or
     /// nothing does.
     ///
-    /// Refused, in this order: `UnknownOwner`, where the owner is of another store; the answer of a
-    /// write at the first box of the list, in order of insertion, that would end and is borrowed,
-    /// in whose place `OutOfMemory` is answered if its list of locations finds no memory. The owner
-    /// comes back then, and nothing changes.
+    /// Refused, in this order: `UnknownOwner`, where the store has no record of the owner; the
+    /// answer of a write at the first box of the list, in order of insertion, that would end and is
+    /// borrowed, in whose place `OutOfMemory` is answered if its list of locations finds no memory.
+    /// The owner comes back then, and nothing changes.
     fn release_owner(&mut self, owner: Owner) -> Result<(), (Owner, Refused<BorrowMutError>)>
         ensures step { Meets (state self.old) (ReleaseOwner owner) (release_answer result)
             (state self.new) }
@@ -116,7 +118,7 @@ pub trait Storage<T>: AnyStorage<T> {
     /// Makes a cell of a value, under a name that was never given before. With an owner it stands
     /// at the end of the owner's list.
     ///
-    /// Refused, in this order: `UnknownOwner`, where there is an owner that the store doesn't know;
+    /// Refused, in this order: `UnknownOwner`, where the store has no record of the owner;
     /// `OutOfMemory`, only where no slot is free or the owner's list has no room. The value comes
     /// back, and nothing changes.
     fn new(
