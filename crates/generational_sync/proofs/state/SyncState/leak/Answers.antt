@@ -13,12 +13,12 @@ invariant_of-self-2 g c =
 
 pub returns-clause-made : goal.returns-clause-made
 returns-clause-made g c = (
-  ap (λ p. p.id.store) c.from.ensures
+  ap (λ p. p.id.store) c.box_at.ensures
       ∙ (c.boxes_and_guards_are_new.ensures.made c.self.inside.store c.new.new.self
       (Make None c.args.value c.args.location) c.in_ok-made.made c.in_ok-made.ensures.step
       ∙ number_kept g.row.NUMBER c.self.inside.store c.new.new.self c.self.inside.log
       c.self.invariant c.histories_lead_to_sound_states.ensures.number),
-  ap (λ p. p.created_at) c.from.ensures
+  ap (λ p. p.created_at) c.box_at.ensures
       ∙ made_at g.row.NUMBER c.self.inside.store c.new.new.self c.self.inside.log c.self.invariant
       c.args.value c.args.location c.in_ok-made.made c.in_ok-made.ensures.step,
 )
