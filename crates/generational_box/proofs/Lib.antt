@@ -53,6 +53,7 @@ pub mod RowsSlots
 pub mod RowsTurning
 pub mod SameIds
 pub mod Saying
+pub mod SessionBoxes
 pub mod SessionCalls
 pub mod SessionReleases
 pub mod Sessions
