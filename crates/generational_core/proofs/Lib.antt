@@ -46,6 +46,7 @@ pub mod RowsTurning
 pub mod SameIds
 pub mod SameNames
 pub mod Saying
+pub mod SessionBoxes
 pub mod SessionCalls
 pub mod SessionReleases
 pub mod Sessions

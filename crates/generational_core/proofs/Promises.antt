@@ -1,7 +1,7 @@
 -- Each call of a session keeps its promises, and so does each call of a run.
-use Rattle.std.proofs.Common.{◌≡◌, ◌≢◌, ℕ, zero, suc, false, List, [], ◌∷◌, slice_get}
+use Rattle.std.proofs.Common.{◌≡◌, ◌≢◌, ℕ, false, List, [], ◌∷◌}
 use Rattle.std.proofs.Common.{Bool, ◌&&◌, ◌≤◌, inl, inr}
-use Rattle.std.proofs.Common.{Option, None, Some, refl, sym, ap, subst, ◌∙◌, ⊎_elim}
+use Rattle.std.proofs.Common.{Option, None, Some, refl, sym, ap, subst, ◌∙◌}
 use Rattle.std.proofs.lemmas.Bool.{true≢false}
 use Rattle.std.specs.FinMap as map
 use Rattle.std.specs.FinSet as set
@@ -10,9 +10,8 @@ use Rattle.generational_core.specs.declared.error.StoreError.{StoreError}
 use Rattle.generational_core.specs.declared.boxes.GenerationalPointer.{GenerationalPointer}
 use Rattle.generational_core.specs.declared.calls.Call.{Call}
 use Rattle.generational_core.specs.declared.calls.Call.TheVariants as call
-use Rattle.generational_core.specs.Names.{Name}
 use Rattle.generational_core.specs.State.{State, Holding, IsSound, IsGiven, IsEnded, IsNamed}
-use Rattle.generational_core.specs.Boxes.{name_of, name_in}
+use Rattle.generational_core.specs.Boxes.{name_of}
 use Rattle.generational_core.specs.Borrowing.{Trouble, reach}
 use Rattle.generational_core.specs.Borrowing.Trouble.{Dropped}
 use Rattle.generational_core.specs.Machine.{Action, Answer, Fresh, Outcome, OwnerName, act}
@@ -32,13 +31,13 @@ use Rattle.generational_core.specs.Session.Said.{ABox, IsDone}
 use Rattle.generational_core.specs.Holding.{IsKept}
 use Rattle.generational_core.specs.Replies.{TellsEnds, GivesNewBox}
 use Rattle.generational_core.specs.Replies.{EndsOwned, KeepsPromises}
-use Rattle.generational_core.specs.Replies.{AllKeepPromises, GiveBoxesApart}
+use Rattle.generational_core.specs.Replies.{AllKeepPromises}
 use Rattle.generational_core.proofs.Lasting.{ended_read, ended_write}
-use Rattle.generational_core.proofs.Stepping.{meets_given, made_new}
+use Rattle.generational_core.proofs.Stepping.{made_new}
 use Rattle.generational_core.proofs.Releasing.{box_ends, box_stays, shared_ends, shared_stays}
 use Rattle.generational_core.proofs.Releasing.{listed_boxed, last_cells}
 use Rattle.generational_core.proofs.SessionReleases.{session_released}
-use Rattle.generational_core.proofs.Sessions.{session_kept, settles_meets}
+use Rattle.generational_core.proofs.Sessions.{session_kept}
 
 module _ {T : Type 0} where
   -- ---- ended boxes
@@ -166,7 +165,7 @@ module _ {T : Type 0} where
   said_made c (Refused e) b h = absurd (refusal_no_box c e b h)
 
   -- a box that is given was never given before, and is given from then on
-  abbrev IsNew : SessionState T → GenerationalPointer → SessionState T → Type 0
+  abbrev pub IsNew : SessionState T → GenerationalPointer → SessionState T → Type 0
   IsNew s b r = (b.id.store ≡ s.state.number) × (set.contains s.state.given (name_of b) ≡ false)
       × IsGiven r.state (name_of b)
 
@@ -181,7 +180,7 @@ module _ {T : Type 0} where
   settles_new s r c x (Tells y) none step b is = absurd (none b (sym step.0 ∙ is))
   settles_new s r c x (Swaps p g v old) none step b is = let e = sym step.0 ∙ is in cc
 
-  session_new : (s r : SessionState T) (c : Call T) (x : Said T)
+  pub session_new : (s r : SessionState T) (c : Call T) (x : Said T)
       → SessionStep s c x r → (b : GenerationalPointer) → x ≡ ABox b → IsNew s b r
   session_new s r c x step = settles_new s r c x (asked s c) (no_box_told s c) step
 
@@ -236,43 +235,3 @@ module _ {T : Type 0} where
   )
   all_keep_promises [] (x ∷ replies) s r kept run = absurd run
   all_keep_promises (c ∷ calls) [] s r kept run = absurd run
-
-  -- ---- boxes of a run
-
-  -- names stay given
-  session_given : (s r : SessionState T) (c : Call T) (x : Said T) (n : Name)
-      → SessionStep s c x r → IsGiven s.state n → IsGiven r.state n
-  session_given s r c x n step given =
-      ⊎_elim (λ e. subst (λ (S : State T). IsGiven S n) (sym e) given)
-      (λ e. meets_given s.state r.state e.0 e.1 e.2 n given)
-      (settles_meets s r c x (asked s c) step)
-
-  -- no reply gives a box of a name that was given before the run
-  run_new : (calls : List (Call T)) (replies : List (Said T)) (s r : SessionState T)
-      → Run s calls replies r → (i : ℕ) (b : GenerationalPointer)
-      → slice_get replies i ≡ Some (ABox b) → IsGiven s.state (name_of b) → ⊥
-  run_new [] [] s r run i b is given = cc
-  run_new (c ∷ calls) (x ∷ replies) s r run zero b is given =
-      true≢false (sym given ∙ (session_new s run.0 c x run.1 b cc).1)
-  run_new (c ∷ calls) (x ∷ replies) s r run (suc i) b is given =
-      run_new calls replies run.0 r run.2 i b is
-      (session_given s run.0 c x (name_of b) run.1 given)
-  run_new [] (x ∷ replies) s r run i b is given = absurd run
-  run_new (c ∷ calls) [] s r run i b is given = absurd run
-
-  pub boxes_apart : (calls : List (Call T)) (replies : List (Said T)) (s r : SessionState T)
-      → Run s calls replies r → GiveBoxesApart replies
-  boxes_apart [] [] s r run i j b c is at same = cc
-  boxes_apart (k ∷ calls) (x ∷ replies) s r run zero zero b c is at same = refl
-  boxes_apart (k ∷ calls) (x ∷ replies) s r run zero (suc j) b c is at same =
-      absurd (run_new calls replies run.0 r run.2 j c at
-      (subst (λ id. IsGiven run.0.state (name_in id)) same
-      (session_new s run.0 k x run.1 b cc).2))
-  boxes_apart (k ∷ calls) (x ∷ replies) s r run (suc i) zero b c is at same =
-      absurd (run_new calls replies run.0 r run.2 i b is
-      (subst (λ id. IsGiven run.0.state (name_in id)) (sym same)
-      (session_new s run.0 k x run.1 c cc).2))
-  boxes_apart (k ∷ calls) (x ∷ replies) s r run (suc i) (suc j) b c is at same =
-      ap suc (boxes_apart calls replies run.0 r run.2 i j b c is at same)
-  boxes_apart [] (x ∷ replies) s r run i j b c is at same = absurd run
-  boxes_apart (k ∷ calls) [] s r run i j b c is at same = absurd run

@@ -331,7 +331,7 @@ module _ {T : Type 0} where
   }
 
   -- what each call keeps, a run keeps
-  by_run : (P : SessionState T → Type 0)
+  pub by_run : (P : SessionState T → Type 0)
       → ((s r : SessionState T) (c : Call T) (x : Said T) → P s → SessionStep s c x r → P r)
       → (calls : List (Call T)) (replies : List (Said T)) (s r : SessionState T)
       → P s → Run s calls replies r → P r

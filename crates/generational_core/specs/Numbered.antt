@@ -132,16 +132,18 @@ module _ {T : Type 0} where
   abbrev pub numbered_act : SessionState T → Call T → Option StoreError → Said T × SessionState T
   numbered_act a c e = numbered a c (asked a c) e
 
-  -- the replies to calls, with the refusals that they met
+  -- the replies to calls, with the refusals that they met; calls beyond the refusals met none
   abbrev pub answers : SessionState T → List (Call T) → List (Option StoreError) → List (Said T)
+  answers a [] refusals = []
   answers a (c ∷ calls) (e ∷ refusals) =
       let out = numbered_act a c e in out.0 ∷ answers out.1 calls refusals
-  answers a _ _ = []
+  answers a (c ∷ calls) [] = let out = numbered_act a c None in out.0 ∷ answers out.1 calls []
 
   -- the numbered session that is left after the calls
   abbrev pub after : SessionState T → List (Call T) → List (Option StoreError) → SessionState T
+  after a [] refusals = a
   after a (c ∷ calls) (e ∷ refusals) = after (numbered_act a c e).1 calls refusals
-  after a _ _ = a
+  after a (c ∷ calls) [] = after (numbered_act a c None).1 calls []
 
   -- The replies to calls are those of a numbered session, ids aside, that meets the refusals which
   -- they tell; and what the calls left matches what they left of the numbered session.

@@ -10,7 +10,7 @@ use Rattle.generational_core.specs.Borrowing.Trouble.{Dropped}
 use Rattle.generational_core.specs.Machine.{OwnerName, holding}
 use Rattle.generational_core.specs.Releasing.{AreEnded}
 use Rattle.generational_core.specs.Session.{SessionState, Said, Run, box_in, held}
-use Rattle.generational_core.specs.Session.Held.{Owning}
+use Rattle.generational_core.specs.Session.Held.{Boxed, Owning}
 use Rattle.generational_core.specs.Session.Said.{ABox, IsDone, Error}
 
 module _ {T : Type 0} where
@@ -63,6 +63,17 @@ module _ {T : Type 0} where
       KeepsPromises s c x run.0 × AllKeepPromises run.0 calls replies r run.2
   AllKeepPromises s [] (x ∷ replies) r run = ⊥
   AllKeepPromises s (c ∷ calls) [] r run = ⊥
+
+  -- In a run, a read or a write of a box whose name had ended before the run is answered so.
+  abbrev pub AllTellEnds : SessionState T → List (Call T) → List (Said T) → Type 0
+  AllTellEnds s calls replies = (i : ℕ) (c : Call T) (b : GenerationalPointer)
+      → slice_get calls i ≡ Some c → Borrows s c b → IsEnded s.state (name_of b)
+      → slice_get replies i ≡ Some (Error (Dropped b.created_at))
+
+  -- each place keeps its box
+  abbrev pub KeepBoxes : SessionState T → SessionState T → Type 0
+  KeepBoxes s r = (p : ℕ) (b : GenerationalPointer)
+      → held s.table p ≡ Boxed b → held r.table p ≡ Boxed b
 
   -- no two of the replies give boxes with one id
   abbrev pub GiveBoxesApart : List (Said T) → Type 0

@@ -1,5 +1,6 @@
-//! Small callers of the boxes' crate, which show that its contracts say what a caller needs.
+//! Small callers of the boxes' crates, which show that their contracts say what a caller needs.
 #![tactic(auto)]
 
+pub mod sessions;
 pub mod slots;
 pub mod writing;

@@ -1,5 +1,6 @@
 use Rattle.generational_core.proofs.NumberedCalls.{call_answers}
 use Rattle.generational_core.proofs.Promises.{tells_ends, gives_new_box, ends_owned}
+use Rattle.generational_core.proofs.SessionBoxes.{keep_boxes}
 use Rattle.generational_core.proofs.SessionCalls.{call_step, kept_in, call_value}
 use Rattle.generational_core.proofs.Sessions.{session_kept, session_ended}
 use Rattle.generational_core.proofs.session.Session.call.Goals as goal
@@ -19,6 +20,9 @@ returns-clause-tells_ends g c = tells_ends _ _ c.args.call _ (returns-clause-ste
 
 pub returns-clause-new_box : goal.returns-clause-new_box
 returns-clause-new_box g c = gives_new_box _ _ c.args.call _ (returns-clause-step g c)
+
+pub returns-clause-keep_boxes : goal.returns-clause-keep_boxes
+returns-clause-keep_boxes g c = keep_boxes _ _ c.args.call _ (returns-clause-step g c)
 
 pub returns-clause-ends_owned : goal.returns-clause-ends_owned
 returns-clause-ends_owned g c =

@@ -1,7 +1,8 @@
 use Rattle.std.proofs.Common.{◌≡◌, [], arith}
 use Rattle.std.proofs.lemmas.Grind.{common_steps}
 use Rattle.generational_core.proofs.NumberedCalls.{run_answers}
-use Rattle.generational_core.proofs.Promises.{all_keep_promises, boxes_apart}
+use Rattle.generational_core.proofs.Promises.{all_keep_promises}
+use Rattle.generational_core.proofs.SessionBoxes.{all_tell_ends, run_keep_boxes, boxes_apart}
 use Rattle.generational_core.proofs.SessionCalls.{run_goes, run_ends, kept_in, run_value_in}
 use Rattle.generational_core.proofs.Sessions.{run_kept, run_ended}
 use Rattle.generational_core.proofs.session.Session.run.Goals as goal
@@ -29,6 +30,13 @@ pub returns-clause-promises : goal.returns-clause-promises
 returns-clause-promises g c run =
     all_keep_promises c.args.calls.items _ _ _
     (kept_in _ _ c.self.view_is c.self.invariant) run
+
+pub returns-clause-tell_ends : goal.returns-clause-tell_ends
+returns-clause-tell_ends g c = all_tell_ends c.args.calls.items _ _ _ (returns-clause-run g c)
+
+pub returns-clause-keep_boxes : goal.returns-clause-keep_boxes
+returns-clause-keep_boxes g c =
+    run_keep_boxes c.args.calls.items _ _ _ (returns-clause-run g c)
 
 pub returns-clause-boxes_apart : goal.returns-clause-boxes_apart
 returns-clause-boxes_apart g c =

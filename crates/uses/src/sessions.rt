@@ -1,0 +1,77 @@
+//! Callers of sessions, proved from the clauses of `Session` alone, for every storage.
+
+ghost use Rattle.std.specs.Prelude.{◌≡◌, IfSome, Some, map as list_map};
+ghost use Rattle.generational_core.specs.declared.boxes.GenerationalPointer.{GenerationalPointer};
+ghost use Rattle.generational_core.specs.Boxes.{name_of};
+ghost use Rattle.generational_core.specs.State.{IsFresh, IsEnded};
+ghost use Rattle.generational_core.specs.Borrowing.Trouble.{Dropped};
+ghost use Rattle.generational_core.specs.Session.{held};
+ghost use Rattle.generational_core.specs.Session.Held.{Boxed};
+ghost use Rattle.generational_core.specs.Session.Said.{Error};
+ghost use Rattle.generational_core.specs.Places.{said_by, replies_said};
+ghost use Rattle.generational_core.specs.Numbered.{answers, erase, refusal_in, empty_session};
+
+use generational_box::{BoxAt, Call, Location, Reply, Session, Storage};
+use std::alloc::Global;
+
+/// Answers a call, and then a read of the box at a place. None where a place finds no memory.
+pub fn read_later<S: Storage<u64>>(
+    session: &mut Session<u64, S>,
+    call: Call<u64>,
+    place: usize,
+    here: Location,
+) -> Option<(Reply<u64>, Reply<u64>)>
+    // A box whose name had ended before is told so, with its own location.
+    ensures { IfSome result (λ replies. (b : GenerationalPointer) →
+        held session.old.table place ≡ Boxed b → IsEnded session.old.state (name_of b) →
+        said_by replies.1 ≡ Error (Dropped b.created_at)) }
+{
+    let reply = session.call(call).ok()?;
+    let read = session.call(Call::TryRead(BoxAt::Place(place), here)).ok()?;
+    Some((reply, read))
+}
+
+/// The replies to calls in a session over a store in which nothing was made. None where the session
+/// finds no memory.
+pub fn replies_over<S: Storage<u64> + Drop>(
+    alloc: Global,
+    store: S,
+    calls: Vec<Call<u64>>,
+) -> Option<Vec<Reply<u64>>>
+    requires { IsFresh (S.state store) }
+    // Ids aside they are those of a machine without slots, where the same calls are refused.
+    ensures { IfSome result (λ replies.
+        let said = replies_said replies.items in
+        let first = empty_session (S.state store).number in
+        list_map erase said ≡ list_map erase (answers first calls.items (list_map refusal_in said))) }
+{
+    let mut session = Session::new(alloc, store);
+    let replies = session.run(calls).ok();
+    session.finish();
+    replies
+}
+
+/// The replies to the same calls over two stores of one number.
+pub fn replies_over_both<S: Storage<u64> + Drop, R: Storage<u64> + Drop>(
+    alloc: Global,
+    first: S,
+    second: R,
+    calls: Vec<Call<u64>>,
+    again: Vec<Call<u64>>,
+) -> Option<(Vec<Reply<u64>>, Vec<Reply<u64>>)>
+    requires first { IsFresh (S.state first) }
+    requires second { IsFresh (R.state second) }
+    requires number { (S.state first).number ≡ (R.state second).number }
+    requires calls { calls.items ≡ again.items }
+    // Where the same calls were refused for want of memory or of numbers, all replies are the same,
+    // ids aside.
+    ensures { IfSome result (λ both.
+        let said = replies_said both.0.items in
+        let said_again = replies_said both.1.items in
+        list_map refusal_in said ≡ list_map refusal_in said_again →
+        list_map erase said ≡ list_map erase said_again) }
+{
+    let replies = replies_over(alloc, first, calls)?;
+    let replies_again = replies_over(alloc, second, again)?;
+    Some((replies, replies_again))
+}
