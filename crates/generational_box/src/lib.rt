@@ -18,6 +18,7 @@ mod entry;
 mod error;
 pub mod laws;
 mod owners;
+mod parts;
 mod places;
 mod pool;
 mod readers;
@@ -25,7 +26,7 @@ mod references;
 mod session;
 mod steps;
 mod storage;
-mod unsync;
+mod store;
 
 pub use crate::boxes::{GenerationalBox, GenerationalBoxId, GenerationalPointer};
 pub use crate::calls::{BoxAt, Call, Reply};
@@ -34,9 +35,10 @@ pub use crate::error::{
     BorrowResult, Location, Refusal, Refused, StoreError, ValueDroppedError,
 };
 pub use crate::owners::Owner;
+pub use crate::parts::Numbers;
 pub use crate::pool::{LastFirst, SlotPool};
 pub use crate::references::{GenerationalRef, GenerationalRefMut, Mut, Ref};
 pub use crate::session::Session;
 pub use crate::steps::StepCall;
 pub use crate::storage::{AnyStorage, Storage};
-pub use crate::unsync::{Numbers, Store, UnsyncStorage};
+pub use crate::store::{Store, UnsyncStorage};

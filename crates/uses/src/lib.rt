@@ -2,4 +2,5 @@
 #![tactic(auto)]
 
 pub mod slots;
+pub mod soundness;
 pub mod writing;

@@ -1,0 +1,8 @@
+use Rattle.generational_box.specs.Machine.Action.{CloneOwner}
+use Rattle.generational_box.proofs.Bounding.{meets_kept}
+use Rattle.generational_box.proofs.store.StoreAnyStorage.clone_owner.Goals as goal
+
+pub invariant_of-self-inside : goal.invariant_of-self-inside
+invariant_of-self-inside g c =
+    meets_kept _ _ (CloneOwner c.args.owner.now) _
+    c.self.inside.sound c.self.inside.bounded c.clone_owner.ensures

@@ -1,0 +1,8 @@
+use Rattle.generational_box.specs.Machine.Action.{NewOwner}
+use Rattle.generational_box.proofs.Bounding.{meets_kept}
+use Rattle.generational_box.proofs.store.StoreAnyStorage.owner.Goals as goal
+
+pub invariant_of-self-inside : goal.invariant_of-self-inside
+invariant_of-self-inside g c =
+    meets_kept _ _ NewOwner _
+    c.self.inside.sound c.self.inside.bounded c.owner.ensures

@@ -1,0 +1,9 @@
+use Rattle.std.specs.Prelude.{option_copied}
+use Rattle.generational_box.specs.Machine.Action.{Make}
+use Rattle.generational_box.proofs.Bounding.{meets_kept}
+use Rattle.generational_box.proofs.store.StoreStorage.new.Goals as goal
+
+pub invariant_of-self-inside : goal.invariant_of-self-inside
+invariant_of-self-inside g c =
+    meets_kept _ _ (Make (option_copied c.args.owner) c.args.value c.args.location) _
+    c.self.inside.sound c.self.inside.bounded c.make.ensures.step
