@@ -7,19 +7,22 @@
 //! began or where the box was made. [`Session`] runs lists of calls that name each other by their
 //! places.
 //!
-//! Every call is proved to be a step of a small abstract machine, for every element type and
-//! every storage: the clauses of [`AnyStorage`] and [`Storage`] say which step. The definitions
-//! stand in `specs/`, and in plain words in `docs/machine.md` at the repository's root.
+//! Every call is proved to be a step of a small abstract machine, for every element type that can
+//! be let go and every storage: the clauses of [`AnyStorage`] and [`Storage`] say which step. The
+//! definitions stand in the `specs/` of `generational_core`, and in plain words in
+//! `docs/machine.md` at the repository's root.
 #![tactic(auto)]
 
 mod entry;
 mod owners;
+mod parts;
 mod pool;
 mod readers;
 mod unsync;
 
+pub use crate::parts::Numbers;
 pub use crate::pool::{LastFirst, SlotPool};
-pub use crate::unsync::{Numbers, Store, UnsyncStorage};
+pub use crate::unsync::{Store, UnsyncStorage};
 pub use generational_core::{
     AlreadyBorrowedError, AlreadyBorrowedMutError, AnyStorage, BorrowError, BorrowMutError,
     BorrowMutResult, BorrowResult, BoxAt, Call, GenerationalBox, GenerationalBoxId,

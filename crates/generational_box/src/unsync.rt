@@ -1,103 +1,55 @@
 //! The sequential store.
 
-ghost use Rattle.std.specs.Prelude.{◌≡◌, ℕ, ◌+◌, ◌-◌, ◌^◌, ◌<◌, ◌≤◌, ◌∷◌, ◌++◌, [], true, max};
-ghost use Rattle.std.specs.Prelude.{length, is_some, vec_len, vec_capacity, slice_get, slice_set};
-ghost use Rattle.std.specs.Prelude.{option_copied, Some, None, IsSome, IfSome, IfOk, IfErr, OnOk};
-ghost use Rattle.std.specs.Prelude.{OnErr, IsTrue, is_ok, ◌↔◌, map as list_map};
-ghost use Rattle.std.specs.FinMap as map;
-ghost use Rattle.generational_core.specs.declared.error.Refused.TheVariants as refused;
-ghost use Rattle.generational_core.specs.declared.error.BorrowError.TheVariants as reads;
-ghost use Rattle.generational_core.specs.declared.error.BorrowMutError.TheVariants as writes;
-ghost use Rattle.generational_core.specs.Cells.Content.{Here};
-ghost use Rattle.generational_core.specs.Boxes.{name_in};
-ghost use Rattle.generational_core.specs.State.{fresh};
-ghost use Rattle.generational_core.specs.Borrowing.{content_at, filled};
-ghost use Rattle.generational_core.specs.Machine.{read_at, written_at, has_reader, has_writer};
-ghost use Rattle.generational_core.specs.Machine.{without_reader};
-ghost use Rattle.generational_core.specs.Machine.Action.{ReleaseReader, ReleaseWriter};
-ghost use Rattle.generational_core.specs.Machine.Answer.{Flag};
-ghost use Rattle.generational_core.specs.Steps.{Meets, has_readers};
-ghost use Rattle.generational_core.specs.Ending.{close};
-ghost use Rattle.generational_core.specs.Records.{names_under};
-ghost use Rattle.generational_box.specs.OwnerRecords.{first_borrowed, name_seen};
-ghost use Rattle.generational_box.specs.Entry.{FoundBorrowed, content_in, is_live, valid_at};
-ghost use Rattle.generational_box.specs.Entry.{is_free, with_reader, without_reader_in, lent_to};
-ghost use Rattle.generational_box.specs.Entry.{with_value};
-ghost use Rattle.generational_core.specs.Answers.{back_answer};
-ghost use Rattle.generational_box.specs.Entry.Kept.{Empty, Live};
-ghost use Rattle.generational_box.specs.Slotted.{cells_of, entry_changed, entry_in, cell_found};
-ghost use Rattle.generational_box.specs.Slotted.{own_cell_at, is_here, is_unborrowed, OnlyValues};
+ghost use Rattle.generational_core.specs.State.{IsSound};
+ghost use Rattle.generational_core.specs.Bounds.{IsBounded};
+ghost use Rattle.generational_core.specs.Sound.{IsSound-prop, IsBounded-prop};
 
-use crate::entry::StorageEntry;
-use crate::owners::{self, CellName, OwnerRecord, OwnerRecords};
+use crate::parts::{Numbers, Parts};
 use crate::pool::{LastFirst, SlotPool};
-use generational_core::parts::{
-    Borrow, id_at, id_read, into_reader, into_writer, key_of, owner_at, pointer_at, reader_at,
-    writer_at,
-};
 use generational_core::{
-    AlreadyBorrowedMutError, AnyStorage, BorrowError, BorrowMutError, BorrowMutResult,
-    BorrowResult, GenerationalBoxId, GenerationalPointer, GenerationalRef, GenerationalRefMut,
-    Location, Owner, Refusal, Refused, StepCall, Storage, StoreError, ValueDroppedError,
+    AnyStorage, BorrowMutError, BorrowMutResult, BorrowResult, GenerationalPointer,
+    GenerationalRef, GenerationalRefMut, Location, Owner, Refusal, Refused, StepCall, Storage,
+    StoreError,
 };
-use std::alloc::{AllocError, Global};
+use std::alloc::Global;
 use std::marker::Model;
 
 /// A store of values of one type in recycled slots. Contracts see it as the state of the abstract
-/// machine. `P` chooses which free slot is taken.
+/// machine, with the proofs that the state is sound and that its slots are bounded. `P` chooses
+/// which free slot is taken.
 ///
 /// It isn't `Clone`, and whoever makes it hands it to each call.
 #[derive(Drop)]
 pub struct Store<T, P: SlotPool> {
-    alloc: Global,
-    number: u64,
-    // the first generation of a slot
-    start: u64,
-    // the next ticket
-    next: u64,
-    // how many cells are live, and the most that were live at once
-    live: usize,
-    peak: usize,
-    slots: Vec<StorageEntry<T>>,
-    pool: P,
-    // the records of owners, by their keys
-    owners: OwnerRecords,
+    parts: Parts<T, P>,
+    ghost sound: { IsSound parts } by { IsSound-prop parts },
+    ghost bounded: { IsBounded parts } by { IsBounded-prop parts },
 }
 
 /// The store that takes the slot that was freed last.
 pub type UnsyncStorage<T> = Store<T, LastFirst>;
 
 impl<T, P: SlotPool> Model for Store<T, P> {
+    ghost use base.Stored.{coded_via};
     ghost use Rattle.std.specs.Coded.{codes};
     ghost use Rattle.std.specs.FinMap as map;
-    ghost use Rattle.generational_core.specs.State.{State};
-    ghost use Rattle.generational_box.specs.Slotted.{state_of, IsSlotted};
-    ghost use Rattle.generational_box.specs.OwnerRecords.{owners_of, AreCounted};
+    ghost use Rattle.generational_core.specs.Sound.{SoundState, same_sound};
 
-    ghost Value = { State T };
+    ghost Value = { SoundState T };
 
-    ghost coded = { Prim.hlevel (codes, map.code) };
+    ghost coded = { coded_via (Prim.hlevel (codes, map.code)) (λ s. s.state) same_sound };
 
-    ghost view = { λ s. state_of (owners_of s.owners) s.number s.start s.next s.peak s.slots.items };
-
-    ghost invariant = { λ s. IsSlotted (P.members s.pool) (P.rooms s.pool) s.start s.live s.peak
-        s.slots.items × AreCounted s.next (owners_of s.owners) };
-}
-
-/// Where a store's numbers begin.
-#[derive(Clone, Copy, Debug, PartialEq, Eq)]
-pub struct Numbers {
-    /// The generation of a slot's first cell.
-    pub generation: u64,
-    /// The first ticket.
-    pub ticket: u64,
+    ghost view = { λ s. record { state = s.parts; sound = s.sound; bounded = s.bounded } };
 }
 
 impl<T, P: SlotPool> Store<T, P> {
+    ghost use Rattle.std.specs.Prelude.{◌≡◌, ◌≤◌};
+    ghost use Rattle.generational_core.specs.State.{fresh};
+
     /// An empty store with this number, by which it tells its boxes from those of other stores:
     /// its maker chooses it. Generations begin at 1, and tickets at 0. Takes no memory.
     pub fn new(alloc: Global, number: u64) -> Self
-        ensures { result ≡ fresh number 1 0 }
+        ensures { result.state ≡ fresh number 1 0 }
     {
         Self::new_at(
             alloc,
@@ -112,393 +64,48 @@ impl<T, P: SlotPool> Store<T, P> {
     /// The same with other first numbers, to see what happens at their ends. Takes no memory.
     pub fn new_at(alloc: Global, number: u64, numbers: Numbers) -> Self
         requires { 1 ≤ numbers.generation }
-        ensures { result ≡ fresh number numbers.generation numbers.ticket }
+        ensures { result.state ≡ fresh number numbers.generation numbers.ticket }
     {
         Store {
-            alloc,
-            number,
-            start: numbers.generation,
-            next: numbers.ticket,
-            live: 0,
-            peak: 0,
-            slots: Vec::new(alloc),
-            pool: P::new(alloc),
-            owners: OwnerRecords::new(alloc),
+            parts: Parts::new_at(alloc, number, numbers),
         }
-    }
-}
-
-impl<T: Drop, P: SlotPool> Store<T, P> {
-    // The slot whose live cell has this id.
-    #[inline(always)]
-    fn entry(&self, id: GenerationalBoxId) -> Option<&StorageEntry<T>>
-        ensures cell { own_cell_at self.now id ≡ cell_found (option_copied result) }
-        ensures live { IfSome result (λ entry. is_live entry.now.kept ≡ true) }
-        ensures values { OnlyValues self.now }
-    {
-        if id.store != self.number {
-            return None;
-        }
-        entry_at(self.slots.as_slice(), id.slot, id.generation)
-    }
-
-    // Begins a read of a live cell that isn't lent. Want of memory changes nothing.
-    #[inline(always)]
-    fn begin_read(&mut self, id: GenerationalBoxId, location: Location) -> Result<u64, AllocError>
-        requires here { is_here (own_cell_at self.old id) ≡ true }
-        requires numbers { self.old.next < 18446744073709551615 }
-        ensures ticket { IfOk result (λ ticket. ticket ≡ self.old.next) }
-        ensures ok { OnOk result (self.new ≡
-            (read_at self.old location (Some (name_in id)) (content_at self.old (name_in id))).1) }
-        ensures err { OnErr result (self.new ≡ self.old) }
-        ensures beside { OnErr result (has_readers (content_at self.old (name_in id)) ≡ true) }
-    {
-        let ticket = self.next;
-        let borrow = Borrow { ticket, location };
-        match add_reader(&mut self.slots, self.alloc, id.slot, borrow) {
-            Ok(()) => {
-                self.next = ticket + 1;
-                Ok(ticket)
-            }
-            Err(error) => Err(error),
-        }
-    }
-
-    // Takes a reader away from a live cell. The answer is whether it stood.
-    #[inline(always)]
-    fn end_read(&mut self, id: GenerationalBoxId, ticket: u64) -> bool
-        requires { IsSome (own_cell_at self.old id) }
-        ensures known { result ≡ has_reader (content_at self.old (name_in id)) ticket }
-        ensures after { self.new ≡ without_reader self.old (name_in id) ticket
-            (content_at self.old (name_in id)) }
-    {
-        remove_reader(&mut self.slots, id.slot, ticket)
-    }
-
-    // Lends the value of a cell without borrows to a writer.
-    #[inline(always)]
-    fn begin_write(&mut self, id: GenerationalBoxId, location: Location) -> T
-        requires free { is_unborrowed (own_cell_at self.old id) ≡ true }
-        requires numbers { self.old.next < 18446744073709551615 }
-        ensures value { content_at self.old (name_in id) ≡ Some (Here result []) }
-        ensures after { self.new ≡ (written_at self.old location (Some (name_in id))
-            (content_at self.old (name_in id))).1 }
-    {
-        let ticket = self.next;
-        self.next = ticket + 1;
-        lend_value(&mut self.slots, id.slot, Borrow { ticket, location })
-    }
-
-    // Puts a writer's value back into a live cell, or hands it back where the writer doesn't
-    // stand, which changes nothing.
-    #[inline(always)]
-    fn end_write(&mut self, id: GenerationalBoxId, ticket: u64, value: T) -> Result<(), T>
-        requires { IsSome (own_cell_at self.old id) }
-        ensures known { IsTrue (is_ok result) ↔
-            (has_writer (content_at self.old (name_in id)) ticket ≡ true) }
-        ensures ok { OnOk result (self.new ≡ filled self.old (name_in id) (Here value [])) }
-        ensures err { IfErr result (λ back. (back ≡ value) × (self.new ≡ self.old)) }
-    {
-        put_value_back(&mut self.slots, id.slot, ticket, value)
-    }
-
-    // Ends a live cell. Its slot is free from then on, unless its generation is the last.
-    #[inline(always)]
-    fn end(&mut self, id: GenerationalBoxId)
-        requires { IsSome (own_cell_at self.old id) }
-        ensures { self.new ≡ record self.old { cells = map.remove self.old.cells (name_in id) } }
-    {
-        end_cell(&mut self.slots, id.slot);
-        self.live -= 1;
-        if id.generation < u64::MAX {
-            self.pool.put(id.slot);
-        }
-    }
-
-    // What hinders the end of the boxes of a record, at the first of them that is hindered.
-    fn hindrance(&self, key: u64) -> BorrowMutResult<()>
-        ensures { FoundBorrowed (first_borrowed self.now.cells (names_under self.now.owners key))
-            result }
-    {
-        match owners::find(&self.owners, key) {
-            Some(record) => {
-                first_borrowed(self.slots.as_slice(), record.boxes.as_slice(), self.alloc)
-            }
-            None => Ok(()),
-        }
-    }
-
-    // Takes a record away: its boxes.
-    fn take_boxes(&mut self, key: u64) -> Vec<CellName>
-        ensures names { list_map name_seen result.items ≡ names_under self.old.owners key }
-        ensures after { self.new ≡ record self.old { owners = map.remove self.old.owners key } }
-        ensures values { OnlyValues self.new }
-    {
-        owners::take(&mut self.owners, key, self.alloc)
-    }
-
-    // Ends the live cells among these, from the first to the last: so their slots go to the pool
-    // in the order of the list.
-    fn end_all(&mut self, boxes: Vec<CellName>)
-        requires { OnlyValues self.old }
-        ensures { self.new ≡ close self.old (list_map name_seen boxes.items) }
-    {
-        for name in boxes.as_slice() {
-            self.end_named(*name);
-        }
-    }
-
-    // Ends a cell, if it is live.
-    fn end_named(&mut self, name: CellName)
-        ensures { self.new ≡ record self.old { cells = map.remove self.old.cells (name_seen name) } }
-    {
-        let id = id_at(self.number, name.slot, name.generation);
-        match self.entry(id) {
-            Some(_) => self.end(id),
-            None => {}
-        }
-    }
-}
-
-// What hinders the end of these cells, at the first of them that is hindered.
-fn first_borrowed<T>(
-    slots: &[StorageEntry<T>],
-    names: &[CellName],
-    alloc: Global,
-) -> BorrowMutResult<()>
-    ensures { FoundBorrowed (first_borrowed (cells_of slots.now) (list_map name_seen names.now))
-        result }
-{
-    for name in names {
-        match entry_at(slots, name.slot, name.generation) {
-            Some(entry) => match entry.borrow_mut_error(alloc) {
-                Ok(()) => {}
-                Err(refused) => return Err(refused),
-            },
-            None => {}
-        }
-    }
-    Ok(())
-}
-
-// The slot, if its live cell has this generation.
-#[inline(always)]
-fn entry_at<T>(slots: &[StorageEntry<T>], slot: usize, generation: u64) -> Option<&StorageEntry<T>>
-    ensures { option_copied result ≡ entry_in generation (slice_get slots.now slot) }
-{
-    match slots.get(slot) {
-        Some(entry) if entry.valid(generation) => Some(entry),
-        _ => None,
-    }
-}
-
-// Adds a reader to the cell of a slot. Want of memory changes nothing.
-#[inline(always)]
-fn add_reader<T>(
-    slots: &mut Vec<StorageEntry<T>>,
-    alloc: Global,
-    slot: usize,
-    borrow: Borrow,
-) -> Result<(), AllocError>
-    requires { slot < vec_len slots.old }
-    ensures ok { OnOk result (slots.new.items ≡ entry_changed slots.old.items slot
-        (λ entry. record entry { kept = with_reader borrow entry.kept })) }
-    ensures err { OnErr result (slots.new.items ≡ slots.old.items) }
-    ensures beside { OnErr result (IfSome (slice_get slots.old.items slot)
-        (λ entry. has_readers (content_in entry.kept) ≡ true)) }
-{
-    slots[slot].borrow(alloc, borrow)
-}
-
-// Takes a reader away from the cell of a slot. The answer is whether it stood.
-#[inline(always)]
-fn remove_reader<T>(slots: &mut Vec<StorageEntry<T>>, slot: usize, ticket: u64) -> bool
-    requires { slot < vec_len slots.old }
-    ensures known { IfSome (slice_get slots.old.items slot)
-        (λ entry. result ≡ has_reader (content_in entry.kept) ticket) }
-    ensures after { slots.new.items ≡ entry_changed slots.old.items slot
-        (λ entry. record entry { kept = without_reader_in ticket entry.kept }) }
-{
-    slots[slot].drop_borrow(ticket)
-}
-
-// Lends the value of the cell of a slot, which has no borrows, to a writer.
-#[inline(always)]
-fn lend_value<T: Drop>(slots: &mut Vec<StorageEntry<T>>, slot: usize, writer: Borrow) -> T
-    requires within { slot < vec_len slots.old }
-    requires free { IfSome (slice_get slots.old.items slot)
-        (λ entry. is_free (content_in entry.kept) ≡ true) }
-    ensures value { IfSome (slice_get slots.old.items slot)
-        (λ entry. content_in entry.kept ≡ Some (Here result [])) }
-    ensures after { slots.new.items ≡ entry_changed slots.old.items slot
-        (λ entry. record entry { kept = lent_to writer entry.kept }) }
-{
-    slots[slot].lend(writer)
-}
-
-// Puts a writer's value back into the cell of a slot, or hands it back where the writer doesn't
-// stand, which changes nothing.
-#[inline(always)]
-fn put_value_back<T: Drop>(
-    slots: &mut Vec<StorageEntry<T>>,
-    slot: usize,
-    ticket: u64,
-    value: T,
-) -> Result<(), T>
-    requires { slot < vec_len slots.old }
-    ensures known { IfSome (slice_get slots.old.items slot)
-        (λ entry. IsTrue (is_ok result) ↔ (has_writer (content_in entry.kept) ticket ≡ true)) }
-    ensures ok { OnOk result (slots.new.items ≡ entry_changed slots.old.items slot
-        (λ entry. record entry { kept = with_value value entry.kept })) }
-    ensures err { IfErr result (λ back. (back ≡ value) × (slots.new.items ≡ slots.old.items)) }
-{
-    slots[slot].put_back(ticket, value)
-}
-
-// Ends the cell of a slot.
-#[inline(always)]
-fn end_cell<T: Drop>(slots: &mut Vec<StorageEntry<T>>, slot: usize)
-    requires { slot < vec_len slots.old }
-    ensures { slots.new.items ≡ entry_changed slots.old.items slot
-        (λ entry. record entry { kept = Empty }) }
-{
-    slots[slot].end();
-}
-
-// The generation of a slot's next cell.
-#[inline(always)]
-fn next_generation<T>(slots: &Vec<StorageEntry<T>>, slot: usize) -> u64
-    requires within { slot < vec_len slots.now }
-    requires below { IfSome (slice_get slots.now.items slot)
-        (λ entry. entry.generation < 18446744073709551615) }
-    ensures { IfSome (slice_get slots.now.items slot) (λ entry. result ≡ entry.generation + 1) }
-{
-    slots[slot].generation() + 1
-}
-
-// Puts a cell into a slot that has none, under the next generation, which is answered.
-#[inline(always)]
-fn refill<T: Drop>(
-    slots: &mut Vec<StorageEntry<T>>,
-    slot: usize,
-    value: T,
-    location: Location,
-) -> u64
-    requires within { slot < vec_len slots.old }
-    requires below { IfSome (slice_get slots.old.items slot)
-        (λ entry. entry.generation < 18446744073709551615) }
-    ensures generation { IfSome (slice_get slots.old.items slot)
-        (λ entry. result ≡ entry.generation + 1) }
-    ensures filled { slots.new.items ≡ slice_set slots.old.items slot
-        (record { generation = result; kept = Live (Here value []) location }) }
-{
-    slots[slot].refill(value, location)
-}
-
-// Adds a slot with a cell. There is room for it.
-#[inline(always)]
-fn push_slot<T: Drop>(
-    slots: &mut Vec<StorageEntry<T>>,
-    generation: u64,
-    value: T,
-    location: Location,
-) -> usize
-    requires { vec_len slots.old < vec_capacity slots.old }
-    ensures slot { result ≡ length slots.old.items }
-    ensures pushed { slots.new.items ≡ slots.old.items ++
-        (record { generation = generation; kept = Live (Here value []) location }) ∷ [] }
-{
-    let slot = slots.len();
-    slots.push_reserved(StorageEntry::new(generation, value, location));
-    slot
-}
-
-// Makes room for one more slot, and for its number among the free ones. Want of memory changes no
-// slot.
-#[inline(always)]
-fn make_room<T, P: SlotPool>(
-    slots: &mut Vec<StorageEntry<T>>,
-    pool: &mut P,
-) -> Result<(), StoreError>
-    requires { vec_len slots.old ≤ P.rooms pool.old }
-    ensures slots { slots.new.items ≡ slots.old.items }
-    ensures pool { P.members pool.new ≡ P.members pool.old }
-    ensures rooms { P.rooms pool.old ≤ P.rooms pool.new }
-    ensures ok { OnOk result (vec_len slots.new < vec_capacity slots.new) }
-    ensures grown { OnOk result (vec_len slots.new < P.rooms pool.new) }
-{
-    if slots.len() < slots.capacity() {
-        if slots.len() < pool.room() {
-            return Ok(());
-        }
-        return pool.grow();
-    }
-    grow(slots, pool)
-}
-
-// The same where there is no room.
-#[cold]
-#[inline(never)]
-fn grow<T, P: SlotPool>(slots: &mut Vec<StorageEntry<T>>, pool: &mut P) -> Result<(), StoreError>
-    requires { vec_len slots.old ≤ P.rooms pool.old }
-    ensures slots { slots.new.items ≡ slots.old.items }
-    ensures pool { P.members pool.new ≡ P.members pool.old }
-    ensures rooms { P.rooms pool.old ≤ P.rooms pool.new }
-    ensures ok { OnOk result (vec_len slots.new < vec_capacity slots.new) }
-    ensures grown { OnOk result (vec_len slots.new < P.rooms pool.new) }
-{
-    if slots.reserve(1).is_err() {
-        return Err(StoreError::OutOfMemory);
-    }
-    if pool.room() == slots.len() {
-        pool.grow()?;
-    }
-    Ok(())
-}
-
-// One more cell is live.
-#[inline(always)]
-fn count_one(live: &mut usize, peak: &mut usize)
-    requires { live.old < 18446744073709551615 }
-    ensures live { live.new ≡ live.old + 1 }
-    ensures peak { peak.new ≡ max peak.old live.new }
-{
-    *live += 1;
-    if *peak < *live {
-        *peak = *live;
     }
 }
 
 impl<T: Drop, P: SlotPool> AnyStorage<T> for Store<T, P> {
-    ghost state = { λ s. s };
+    ghost state = { λ s. s.state };
+
+    ghost sound = { λ s. s.sound };
+
+    ghost bounded = { λ s. s.bounded.few };
 
     #[inline(always)]
     fn number(&self) -> u64 {
-        self.number
+        self.parts.number()
     }
 
     fn is_fresh(&self) -> bool {
-        self.slots.is_empty() && self.owners.is_empty()
+        self.parts.is_fresh()
     }
 
     fn slots(&self) -> usize {
-        self.slots.len()
+        self.parts.slots()
     }
 
     fn free(&self) -> usize {
-        self.pool.free()
+        self.parts.free()
     }
 
     fn retired(&self) -> usize {
-        self.slots.len() - self.live - self.pool.free()
+        self.parts.retired()
     }
 
     fn peak_live(&self) -> usize {
-        self.peak
+        self.parts.peak_live()
     }
 
     fn tickets_left(&self) -> u64 {
-        u64::MAX - self.next
+        self.parts.tickets_left()
     }
 
     fn data_ptr(&self, pointer: GenerationalPointer) -> usize {
@@ -506,80 +113,33 @@ impl<T: Drop, P: SlotPool> AnyStorage<T> for Store<T, P> {
     }
 
     fn owner(&mut self) -> Result<Owner, StoreError> {
-        let key = self.next;
-        if key == u64::MAX {
-            return Err(StoreError::NumbersExhausted);
-        }
-        let record = OwnerRecord::new(self.alloc);
-        match owners::add(&mut self.owners, key, record) {
-            Ok(()) => {}
-            Err(_) => return Err(StoreError::OutOfMemory),
-        }
-        self.next = key + 1;
-        Ok(owner_at(self.number, key))
+        self.parts.owner()
     }
 
     fn clone_owner(&mut self, owner: &Owner) -> Result<Owner, StoreError> {
-        if !owners::is_known(&self.owners, self.number, owner) {
-            return Err(StoreError::UnknownOwner);
-        }
-        if self.next == u64::MAX {
-            return Err(StoreError::NumbersExhausted);
-        }
-        owners::count_up(&mut self.owners, key_of(owner));
-        self.next += 1;
-        Ok(owner_at(self.number, key_of(owner)))
+        self.parts.clone_owner(owner)
     }
 
     fn release_owner(&mut self, owner: Owner) -> Result<(), (Owner, Refused<BorrowMutError>)> {
-        if !owners::is_known(&self.owners, self.number, &owner) {
-            return Err((owner, Refused::Store(StoreError::UnknownOwner)));
-        }
-        let key = key_of(&owner);
-        if owners::count(&self.owners, key) > 1 {
-            owners::count_down(&mut self.owners, key);
-            owner.leak();
-            return Ok(());
-        }
-        match self.hindrance(key) {
-            Ok(()) => {}
-            Err(refused) => return Err((owner, refused)),
-        }
-        let boxes = self.take_boxes(key);
-        self.end_all(boxes);
-        owner.leak();
-        Ok(())
+        self.parts.release_owner(owner)
     }
 
     fn ready(&self, call: &StepCall) -> bool {
-        match call {
-            StepCall::Leak(_) | StepCall::ReleaseRead(_) => true,
-            StepCall::Read(pointer, _) => match self.entry(pointer.id) {
-                Some(entry) => entry.borrow_error().is_none(),
-                None => true,
-            },
-            StepCall::ManuallyDrop(pointer) => match self.entry(pointer.id) {
-                Some(entry) => entry.is_unborrowed(),
-                None => true,
-            },
-        }
+        self.parts.ready(call)
     }
 
     #[inline(always)]
     fn recycle(&mut self, pointer: GenerationalPointer) -> BorrowMutResult<()> {
-        match self.entry(pointer.id) {
-            Some(entry) => match entry.borrow_mut_error(self.alloc) {
-                Ok(()) => {}
-                Err(refused) => return Err(refused),
-            },
-            None => return Ok(()),
-        }
-        self.end(pointer.id);
-        Ok(())
+        self.parts.recycle(pointer)
     }
 }
 
 impl<T: Drop, P: SlotPool> Storage<T> for Store<T, P> {
+    ghost use Rattle.generational_core.specs.Machine.Action.{ReleaseReader, ReleaseWriter};
+    ghost use Rattle.generational_core.specs.Machine.Answer.{Flag};
+    ghost use Rattle.generational_core.specs.Steps.{Meets};
+    ghost use Rattle.generational_core.specs.Answers.{back_answer};
+
     #[inline(always)]
     fn new(
         &mut self,
@@ -587,36 +147,7 @@ impl<T: Drop, P: SlotPool> Storage<T> for Store<T, P> {
         location: Location,
         owner: Option<&Owner>,
     ) -> Result<GenerationalPointer, Refusal<T>> {
-        match self.pool.take() {
-            Some(slot) => {
-                let generation = next_generation(&self.slots, slot);
-                let name = CellName { slot, generation };
-                if let Err(cause) = owners::list_for(&mut self.owners, self.number, owner, name) {
-                    self.pool.put(slot);
-                    return Err(Refusal { value, cause });
-                }
-                refill(&mut self.slots, slot, value, location);
-                count_one(&mut self.live, &mut self.peak);
-                Ok(pointer_at(self.number, slot, generation, location))
-            }
-            None => {
-                match make_room(&mut self.slots, &mut self.pool) {
-                    Ok(()) => {}
-                    Err(_) => {
-                        let cause = owners::lacking(&self.owners, self.number, owner);
-                        return Err(Refusal { value, cause });
-                    }
-                }
-                let (slot, generation) = (self.slots.len(), self.start);
-                let name = CellName { slot, generation };
-                if let Err(cause) = owners::list_for(&mut self.owners, self.number, owner, name) {
-                    return Err(Refusal { value, cause });
-                }
-                push_slot(&mut self.slots, generation, value, location);
-                count_one(&mut self.live, &mut self.peak);
-                Ok(pointer_at(self.number, slot, generation, location))
-            }
-        }
+        self.parts.make(value, location, owner)
     }
 
     #[inline(always)]
@@ -625,21 +156,7 @@ impl<T: Drop, P: SlotPool> Storage<T> for Store<T, P> {
         pointer: GenerationalPointer,
         location: Location,
     ) -> BorrowResult<GenerationalRef<T>> {
-        let id = pointer.id;
-        match self.entry(id) {
-            Some(entry) => match entry.borrow_error() {
-                None => {}
-                Some(writer) => return Err(lent(writer)),
-            },
-            None => return Err(dropped(pointer)),
-        }
-        if self.next == u64::MAX {
-            return Err(Refused::Store(StoreError::NumbersExhausted));
-        }
-        match self.begin_read(id, location) {
-            Ok(ticket) => Ok(reader_at(id, ticket)),
-            Err(_) => Err(Refused::Store(StoreError::OutOfMemory)),
-        }
+        self.parts.try_read(pointer, location)
     }
 
     #[inline(always)]
@@ -648,68 +165,26 @@ impl<T: Drop, P: SlotPool> Storage<T> for Store<T, P> {
         pointer: GenerationalPointer,
         location: Location,
     ) -> BorrowMutResult<GenerationalRefMut<T>> {
-        let id = pointer.id;
-        match self.entry(id) {
-            Some(entry) => match entry.borrow_mut_error(self.alloc) {
-                Ok(()) => {}
-                Err(refused) => return Err(refused),
-            },
-            None => return Err(dropped_mut(pointer)),
-        }
-        if self.next == u64::MAX {
-            return Err(Refused::Store(StoreError::NumbersExhausted));
-        }
-        let ticket = self.next;
-        let value = self.begin_write(id, location);
-        Ok(writer_at(id, ticket, value))
+        self.parts.try_write(pointer, location)
     }
 
     #[inline(always)]
     fn release_write(&mut self, guard: GenerationalRefMut<T>) -> Result<(), T>
-        ensures { Meets self.old (ReleaseWriter guard.guard guard.value) (back_answer result)
-            self.new }
+        ensures { Meets self.old.state (ReleaseWriter guard.guard guard.value)
+            (back_answer result) self.new.state }
     {
-        let (id, ticket, value) = into_writer(guard);
-        match self.entry(id) {
-            Some(_) => self.end_write(id, ticket, value),
-            None => Err(value),
-        }
+        self.parts.release_write(guard)
     }
 
     #[inline(always)]
     fn open(&self, guard: &GenerationalRef<T>) -> Option<&T> {
-        self.entry(id_read(guard))?.open(guard.ticket())
+        self.parts.open(guard)
     }
 
     #[inline(always)]
     fn release_read(&mut self, guard: GenerationalRef<T>) -> bool
-        ensures { Meets self.old (ReleaseReader guard) (Flag result) self.new }
+        ensures { Meets self.old.state (ReleaseReader guard) (Flag result) self.new.state }
     {
-        let (id, ticket) = into_reader(guard);
-        match self.entry(id) {
-            Some(_) => self.end_read(id, ticket),
-            None => false,
-        }
+        self.parts.release_read(guard)
     }
-}
-
-// The answer to a read of a value that is lent.
-fn lent(writer: AlreadyBorrowedMutError) -> Refused<BorrowError>
-    ensures { result ≡ refused.Borrow (reads.AlreadyBorrowedMut writer) }
-{
-    Refused::Borrow(BorrowError::AlreadyBorrowedMut(writer))
-}
-
-// The answer to a read of a box that reaches nothing.
-fn dropped(pointer: GenerationalPointer) -> Refused<BorrowError>
-    ensures { result ≡ refused.Borrow (reads.Dropped (record { created_at = pointer.created_at })) }
-{
-    Refused::Borrow(BorrowError::Dropped(ValueDroppedError::new(pointer.created_at)))
-}
-
-// The answer to a write of a box that reaches nothing.
-fn dropped_mut(pointer: GenerationalPointer) -> Refused<BorrowMutError>
-    ensures { result ≡ refused.Borrow (writes.Dropped (record { created_at = pointer.created_at })) }
-{
-    Refused::Borrow(BorrowMutError::Dropped(ValueDroppedError::new(pointer.created_at)))
 }

@@ -14,7 +14,7 @@ use Rattle.generational_core.specs.Steps.{Meets}
 use Rattle.generational_core.specs.Slots.{lasts, slots_of}
 use Rattle.generational_core.specs.Bounds.{IsBounded}
 use Rattle.generational_core.proofs.ActBounded.{act_bounded}
-use Rattle.generational_core.proofs.Stepping.{meets_cases}
+use Rattle.generational_core.proofs.Stepping.{meets_cases, meets_sound}
 
 -- where no name was given there is no slot
 pub no_slots : lasts (set.items (set.empty {R = name_cmp})) ≡ map.empty
@@ -43,3 +43,9 @@ module _ {T : Type 0} where
         dense = λ s h. absurd (true≢false (sym h
             ∙ (ap (λ m. map.contains_key m s) no_slots ∙ ap is_some (map.get-empty nat_cmp s))));
       }
+
+  -- so a call takes a sound and bounded state to another one
+  pub meets_kept : (S R : State T) (call : Action T) (answer : Answer T)
+      → IsSound S → IsBounded S → Meets S call answer R → IsSound R × (IsBounded R × Unit {0})
+  meets_kept S R call answer s b m =
+      (meets_sound S R call answer s m, (meets_bounded S R call answer s b m, tt))

@@ -15,7 +15,6 @@ use Rattle.generational_core.specs.Carrying.{Carries, moved_borrow, moved_conten
 use Rattle.generational_core.specs.Carrying.{moved_holding}
 use Rattle.generational_core.specs.Session.{SessionState}
 use Rattle.generational_core.specs.Numbered.{Matches}
-use Rattle.generational_core.proofs.Named.{named_gives, named_from}
 use Rattle.generational_core.proofs.Moved.{ticket_moved, content_moved, some_map}
 use Rattle.generational_core.proofs.CarriedCells.{named_moved, shared_at}
 
@@ -108,8 +107,8 @@ module _ {T U : Type 0} {f : Name → Name} {d : ℕ} {g : T → U}
         ∙ s.targets (f n) (f m) l (c.cells.at n (c.cells.known n (ap is_some is))
         ∙ ap (option_map (moved_cell f d g)) is);
     shared = λ m h. let known = c.cells.known m (shared_live (map.get A.cells m) h) in
-        named_gives A.cells m (sym (named_moved c.apart c.cells m known)
-        ∙ named_from S.cells (f m) (s.shared (f m) (shared_at c.apart c.cells m known ∙ h)));
+        sym (named_moved c.apart c.cells m known)
+        ∙ s.shared (f m) (shared_at c.apart c.cells m known ∙ h);
     below = λ n t h. let low = s.below (f n) (t + d) (stands_there n t h) in
         let next = c.next in omega arith;
     apart = λ n. apart_there n (map.get A.cells n) refl;

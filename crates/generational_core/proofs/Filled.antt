@@ -14,6 +14,7 @@ use Rattle.generational_core.specs.Borrowing.{filled, content_at}
 use Rattle.generational_core.proofs.Maps.{by_name}
 use Rattle.generational_core.proofs.Maps.{changed_view}
 use Rattle.generational_core.proofs.Soundness.{each_boxed}
+use Rattle.generational_core.proofs.Named.{named_gives, named_from}
 
 module _ {T : Type 0} where
   -- ---- another content in a cell
@@ -89,8 +90,9 @@ module _ {T : Type 0} where
         owned = λ k h is. each_boxed S (record (filled S m c) { next = next })
             (λ n b. (b.0, filled_shared S m c n ∙ b.1)) h.names (s.owned k h is);
         targets = λ n k l h. filled_shared S m c k ∙ s.targets n k l (filled_was S m c n k l h);
-        shared = λ k h. let it = s.shared k (sym (filled_shared S m c k) ∙ h) in
-            (it.0, it.1, filled_ref S m c it.0 k it.1 it.2);
+        shared = λ k h.
+            let it = named_gives S.cells k (s.shared k (sym (filled_shared S m c k) ∙ h)) in
+            named_from _ k (it.0, it.1, filled_ref S m c it.0 k it.1 it.2);
         below = λ n t h. ⊎_elim
             (λ e. ⊎_elim (λ o. let b = s.below m t (before t o) in omega arith)
             (λ o. o.1) (new t (sym (ap (list_any (nat_eq t)) e.1) ∙ h)))

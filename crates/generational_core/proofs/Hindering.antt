@@ -14,7 +14,7 @@ use Rattle.generational_core.specs.Ending.{swept, without, left_by, close, or_el
 use Rattle.generational_core.specs.Ending.{hindrance_of, first_hindrance, hindered}
 use Rattle.generational_core.proofs.Maps.{by_name, name_cases, name_same}
 use Rattle.generational_core.proofs.Maps.{get-insert_apart, keep_view}
-use Rattle.generational_core.proofs.Named.{named_from}
+use Rattle.generational_core.proofs.Named.{named_from, named_gives}
 use Rattle.generational_core.proofs.Ends.{none≢some, swept_view, without_view}
 
 module _ {T : Type 0} where
@@ -99,7 +99,7 @@ module _ {T : Type 0} where
       (without_view S.cells names n))
       (λ e. ⊎_elim
       (λ k.
-      let it = s.shared n (ap is_shared (sym k) ∙ e.1) in
+      let it = named_gives S.cells n (s.shared n (ap is_shared (sym k) ∙ e.1)) in
       let named : IsNamed (without S.cells names) n =
       (it.0, it.1, shared_named S.cells names it.0 n it.1 free it.2 e.0 borrowed) in
       absurd (true≢false (sym (named_from (without S.cells names) n named) ∙ e.2)))
@@ -127,7 +127,7 @@ module _ {T : Type 0} where
       ∙ ap (λ c. is_some (write_refusal (content_of c))) (ap (map.get S.cells) is ∙ at_a)) in
       ⊎_elim (λ e. e.0 ∙ other n apart)
       (λ e.
-      let it = s.shared n (ap is_shared (sym (other n apart)) ∙ e.1) in
+      let it = named_gives S.cells n (s.shared n (ap is_shared (sym (other n apart)) ∙ e.1)) in
       ⊎_elim
       (λ is.
       let same = target_of old n l it.1 (sym at_a ∙ (ap (map.get S.cells) (sym is) ∙ it.2)) in

@@ -23,6 +23,7 @@ use Rattle.generational_core.proofs.Ends.{HasTargets, HasNamed, NoNewTickets, sw
 use Rattle.generational_core.proofs.Ends.{without_view, swept_targets, swept_named, swept_tickets}
 use Rattle.generational_core.proofs.Ends.{without_targets, without_tickets, no_more}
 use Rattle.generational_core.proofs.Ends.{inserted_tickets, stands_before, still_apart}
+use Rattle.generational_core.proofs.Named.{named_gives, named_from}
 
 module _ {T : Type 0} where
   -- ---- a state with other cells, owners or contents
@@ -43,7 +44,7 @@ module _ {T : Type 0} where
     owned = λ k h is. each_boxed S
         (record S { cells = cells; given = given; peak = peak }) boxed h.names (s.owned k h is);
     targets = targets;
-    shared = named;
+    shared = λ m h. named_from cells m (named m h);
     below = λ n t at. s.below n t (stands_before S.cells cells tickets n t at);
     apart = λ n. still_apart S.cells cells tickets n (s.apart n);
     one_cell = λ n m t a b. s.one_cell n m t
@@ -129,7 +130,7 @@ module _ {T : Type 0} where
       (λ ne. stays m (s.targets q m l (sym (other q ne) ∙ h))) (name_cases q n))
       (λ m h. ⊎_elim (λ is. absurd (true≢false
       (sym h ∙ (ap (λ k. is_shared (map.get cells k)) is ∙ (ap is_shared here ∙ plain)))))
-      (λ ne. let it = s.shared m (sym (ap is_shared (other m ne)) ∙ h) in
+      (λ ne. let it = named_gives S.cells m (s.shared m (sym (ap is_shared (other m ne)) ∙ h)) in
       (it.0, it.1, other it.0 (new_apart S s n new it.0 (ap is_some it.2)) ∙ it.2))
       (name_cases m n))
       (inserted_tickets S.cells n c quiet)
@@ -168,7 +169,7 @@ module _ {T : Type 0} where
       ⊎_elim (λ is. (n, l, subst (λ x. map.get cells n ≡ Some (Ref x l)) (sym is) second_there))
       (λ ne. ⊎_elim (λ is. absurd
       (true≢false (sym h ∙ (ap (λ x. is_shared (map.get cells x)) is ∙ ap is_shared second_there))))
-      (λ no. let it = s.shared k (sym (ap is_shared (other k ne no)) ∙ h) in
+      (λ no. let it = named_gives S.cells k (s.shared k (sym (ap is_shared (other k ne no)) ∙ h)) in
       (it.0, it.1, stays it.0 (ap is_some it.2) ∙ it.2)) (name_cases k n))
       (name_cases k m))
       (no_more S.cells one cells (inserted_tickets S.cells m (Shared (Here v []) l) refl)

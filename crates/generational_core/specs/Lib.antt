@@ -20,6 +20,7 @@ pub mod Releasing
 pub mod Replies
 pub mod Session
 pub mod Slots
+pub mod Sound
 pub mod State
 pub mod Steps
 pub mod Texts

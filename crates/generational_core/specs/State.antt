@@ -98,7 +98,7 @@ module _ {T : Type 0} where
     pub targets : (n m : Name) (l : Location) → map.get S.cells n ≡ Some (Ref m l)
         → is_shared (map.get S.cells m) ≡ true
     -- each live Shared cell is named by a live Ref
-    pub shared : (m : Name) → is_shared (map.get S.cells m) ≡ true → IsNamed S.cells m
+    pub shared : (m : Name) → is_shared (map.get S.cells m) ≡ true → is_named S.cells m ≡ true
     -- tickets are below the next one, and no ticket stands twice
     pub below : (n : Name) (t : ℕ) → Stands S.cells n t → t < S.next
     pub apart : (n : Name) → IsDistinct nat_eq (tickets_at S.cells n)

@@ -1,7 +1,7 @@
 //! What every store does.
 
 ghost use Rattle.std.specs.Prelude.{◌≡◌, ◌≤◌, ◌+◌, ◌-◌, ◌↔◌, IsTrue, IfErr, None, option_copied};
-ghost use Rattle.generational_core.specs.State.{State, IsFresh};
+ghost use Rattle.generational_core.specs.State.{State, IsFresh, IsSound};
 ghost use Rattle.generational_core.specs.Slots.{slots, free, retired};
 ghost use Rattle.generational_core.specs.Machine.Action.{Make, NewOwner, CloneOwner, ReleaseOwner};
 ghost use Rattle.generational_core.specs.Machine.Action.{Read, Write, ReleaseReader, ReleaseWriter};
@@ -111,6 +111,12 @@ pub trait AnyStorage<T> {
     /// nothing, and nothing else takes memory.
     fn recycle(&mut self, pointer: GenerationalPointer) -> BorrowMutResult<()>
         ensures { Meets (state self.old) (End pointer) (end_answer result) (state self.new) };
+
+    /// The state of a store is sound at any time.
+    ghost sound: { (s : Self) → IsSound (state s) };
+
+    /// There are never more slots than the most cells that were live at once and the retired slots.
+    ghost bounded: { (s : Self) → slots (state s) ≤ (state s).peak + retired (state s) };
 }
 
 /// What a store of values of one type does with values.

@@ -61,9 +61,9 @@ impl<T, const NUMBER: u64, M: Count, L: Count, C: Count, R: Count> Model
 
     ghost coded = { Prim.hlevel (codes, map.code) };
 
-    ghost view = { λ s. record { state = s.store; history = s.log.steps } };
+    ghost view = { λ s. record { state = s.store.state; history = s.log.steps } };
 
-    ghost invariant = { λ s. IsKept NUMBER s.store s.log };
+    ghost invariant = { λ s. IsKept NUMBER s.store.state s.log };
 }
 
 impl<T: Drop, const NUMBER: u64, M: Count, L: Count, C: Count, R: Count> SyncState<

@@ -3,4 +3,5 @@
 
 pub mod sessions;
 pub mod slots;
+pub mod soundness;
 pub mod writing;

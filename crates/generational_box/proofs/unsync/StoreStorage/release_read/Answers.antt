@@ -1,10 +1,8 @@
-use Rattle.generational_box.proofs.CallReads.{released_by_kept, release_of_gone}
+use Rattle.generational_core.specs.Machine.Action.{ReleaseReader}
+use Rattle.generational_core.proofs.Bounding.{meets_kept}
 use Rattle.generational_box.proofs.unsync.StoreStorage.release_read.Goals as goal
 
-pub returns-in-Some : goal.returns-in-Some
-returns-in-Some g c =
-    released_by_kept _ c.args.guard _ _ c.into_reader-ticket.ensures _ _ _ c.in-Some.ensures.cell c.in-Some.ensures.live c.end_read.ensures.known c.end_read.ensures.after
-
-pub returns-in-None : goal.returns-in-None
-returns-in-None g c =
-    release_of_gone _ c.args.guard _ _ c.into_reader-ticket.ensures c.in-None.ensures.cell
+pub invariant_of-self-inside : goal.invariant_of-self-inside
+invariant_of-self-inside g c =
+    meets_kept _ _ (ReleaseReader c.args.guard) _
+    c.self.inside.sound c.self.inside.bounded c.release_read.ensures

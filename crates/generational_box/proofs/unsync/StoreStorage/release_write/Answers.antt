@@ -1,11 +1,8 @@
-use Rattle.generational_box.proofs.CallWrites.{back_of_gone, back_by_kept}
+use Rattle.generational_core.specs.Machine.Action.{ReleaseWriter}
+use Rattle.generational_core.proofs.Bounding.{meets_kept}
 use Rattle.generational_box.proofs.unsync.StoreStorage.release_write.Goals as goal
 
-pub returns-in-Some : goal.returns-in-Some
-returns-in-Some g c =
-    back_by_kept _ c.args.guard _ _ _ c.into_writer-ticket.ensures.guard c.into_writer-ticket.ensures.value _ _ _ c.in-Some.ensures.cell c.in-Some.ensures.live
-    c.end_write.ensures.known c.end_write.ensures.ok c.end_write.ensures.err
-
-pub returns-in-None : goal.returns-in-None
-returns-in-None g c =
-    back_of_gone _ c.args.guard _ _ _ c.into_writer-ticket.ensures.guard c.into_writer-ticket.ensures.value c.in-None.ensures.cell
+pub invariant_of-self-inside : goal.invariant_of-self-inside
+invariant_of-self-inside g c =
+    meets_kept _ _ (ReleaseWriter c.args.guard.guard c.args.guard.value) _
+    c.self.inside.sound c.self.inside.bounded c.release_write.ensures

@@ -1,0 +1,13 @@
+use Rattle.std.proofs.Common.{◌≡◌, drop}
+use Rattle.std.specs.Prelude.{map as list_map}
+use Rattle.generational_core.specs.Ending.{close}
+use Rattle.generational_box.specs.OwnerRecords.{name_seen}
+use Rattle.generational_box.specs.Slotted.{OnlyValues}
+use Rattle.generational_box.proofs.parts.Parts.end_all.Given as goal
+
+-- the end of what is left leads to the end of all
+abbrev pub invariant-loop-name : goal.invariant-loop-name
+invariant-loop-name g l =
+    OnlyValues l.self
+    × (close l.self (list_map name_seen (drop l.name-index l.fn.boxes.items))
+    ≡ close l.fn.self (list_map name_seen l.fn.boxes.items))

@@ -1,0 +1,15 @@
+use Rattle.std.proofs.Common.{arith}
+use Rattle.generational_box.proofs.SlotTotals.{slots_seen, bound_seen}
+use Rattle.generational_box.proofs.parts.Parts.slots.Goals as goal
+
+pub returns-clause-count : goal.returns-clause-count
+returns-clause-count g c =
+    omega (
+      arith,
+      c.len.ensures,
+      c.self.inside.slots.ok.0,
+      slots_seen _ _ _ _ _ _ c.self.view_is c.self.invariant.0,
+    )
+
+pub returns-clause-bounded : goal.returns-clause-bounded
+returns-clause-bounded g c = bound_seen _ _ _ _ _ _ c.self.view_is c.self.invariant.0
