@@ -22,6 +22,3 @@ pub use crate::state::SyncState;
 pub use crate::step::{Kind, Step, StepReply};
 pub use crate::storage::SyncStorage;
 pub use crate::tally::{Count, Tally};
-
-#[cfg(test)]
-mod tests;
