@@ -1,6 +1,7 @@
 //! The history of a store, with its books.
 
 ghost use Rattle.std.specs.Prelude.{◌≡◌, ◌+◌, ◌<◌, ◌≤◌, [], ◌∷◌, ◌++◌, IfOk, OnOk};
+ghost use Rattle.std.specs.Prelude.{vec_len, vec_capacity};
 ghost use Rattle.generational_sync.specs.Counts.{raised};
 ghost use Rattle.generational_sync.specs.Kinds.{IsCounted, kind_of, step_of};
 ghost use Rattle.generational_sync.specs.declared.step.Kind.TheVariants.{Changed};
@@ -89,13 +90,8 @@ impl<M: Count, L: Count, C: Count, R: Count> Log<M, L, C, R> {
         ensures room { self.new.room + 1 ≡ self.old.room }
         ensures tally { tally.new ≡ raised (kind_of reply) tally.old }
     {
-        let worker = tally.worker();
-        let step = Step {
-            worker,
-            call,
-            reply,
-        };
-        self.history.push_reserved(step);
+        let step = tally.step(call, reply);
+        put_last(&mut self.history, step);
         match step.kind() {
             Kind::Made => self.made.add(&mut tally.made, 1),
             Kind::Lent => self.lent.add(&mut tally.lent, 1),
@@ -143,4 +139,14 @@ impl<M: Count, L: Count, C: Count, R: Count> Log<M, L, C, R> {
         self.refused.audit(&mut whole.refused);
         self.history.as_slice().to_vec(self.alloc)
     }
+}
+
+// Puts a step behind the others, for which there is room.
+fn put_last(history: &mut Vec<Step>, step: Step)
+    requires { vec_len history.old < vec_capacity history.old }
+    ensures items { history.new.items ≡ history.old.items ++ step ∷ [] }
+    ensures len { vec_len history.new ≡ vec_len history.old + 1 }
+    ensures capacity { vec_capacity history.new ≡ vec_capacity history.old }
+{
+    history.push_reserved(step);
 }

@@ -25,8 +25,8 @@ use crate::step::{Step, StepReply, read_refusal};
 use crate::tally::{Count, Tally, tallies};
 use generational_box::laws::boxes_and_guards_are_new;
 use generational_box::{
-    AnyStorage, BorrowMutResult, BorrowResult, GenerationalBox, GenerationalRef, Location, Refusal,
-    Refused, StepCall, Storage, StoreError, UnsyncStorage,
+    AnyStorage, BorrowMutResult, BorrowResult, GenerationalBox, GenerationalPointer,
+    GenerationalRef, Location, Refusal, Refused, StepCall, Storage, StoreError, UnsyncStorage,
 };
 use generational_core::parts::box_at;
 use std::alloc::Global;
@@ -201,7 +201,7 @@ impl<T: Drop, const NUMBER: u64, M: Count, L: Count, C: Count, R: Count> SyncSta
         }
         let pointer = asked.pointer();
         let call = StepCall::Read(pointer, location);
-        match self.store.try_read(pointer, location) {
+        match begin_read(&mut self.store, pointer, location) {
             Ok(guard) => {
                 let reply = StepReply::Reader(guard.ticket());
                 self.log.append(call, reply, tally);
@@ -283,4 +283,15 @@ impl<T: Drop, const NUMBER: u64, M: Count, L: Count, C: Count, R: Count> SyncSta
             Err(_) => Err(StoreError::OutOfMemory),
         }
     }
+}
+
+// Begins a read in the store, before it is recorded.
+fn begin_read<T: Drop>(
+    store: &mut UnsyncStorage<T>,
+    asked: GenerationalPointer,
+    location: Location,
+) -> BorrowResult<GenerationalRef<T>>
+    ensures { Meets store.old.state (Read asked location) (read_answer result) store.new.state }
+{
+    store.try_read(asked, location)
 }

@@ -37,7 +37,8 @@ struct Shared<T, const NUMBER: u64, M: Count, L: Count, C: Count, R: Count> {
 /// call that takes a tally raises that tally's count of its reply's kind by one; `OutOfMemory` and
 /// the release of a guard that the store doesn't know raise none. A call waits while a borrow
 /// stands in its way, and looks at everything anew after each wake. A thread that waits for a guard
-/// of its own waits for ever.
+/// of its own waits for ever. That a call that waits is woken, that calls are handed on with their
+/// own boxes, locations and guards, and that an audit is a copy of the history, no clause says.
 #[derive(Drop)]
 pub struct SyncStorage<T, const NUMBER: u64, M: Count, L: Count, C: Count, R: Count> {
     shared: Arc<Shared<T, NUMBER, M, L, C, R>, Global>,
@@ -218,7 +219,7 @@ impl<T: Drop + Send, const NUMBER: u64, M: Count, L: Count, C: Count, R: Count> 
         Some(f(value))
     }
 
-    /// A copy of the history, asked for with a whole tally (`is_whole` is the test). The list
+    /// The history, asked for with a whole tally (`is_whole` is the test). The list that comes back
     /// replays from an empty store with this number, and it has, of each kind, exactly as many
     /// steps as the tally counts. It isn't a step.
     ///

@@ -3,8 +3,10 @@
 ghost use Rattle.std.specs.Prelude.{◌≡◌, ◌+◌, ◌↔◌, ◌<◌, ◌≤◌, IsTrue, MatchResult, IfOk, IfErr};
 ghost use Rattle.generational_core.specs.declared.error.StoreError.TheVariants.{OutOfMemory};
 ghost use Rattle.generational_sync.specs.Counts.{Counts, raised, merged, new_tallies};
+ghost use Rattle.generational_sync.specs.Kinds.{step_of};
 
-use generational_box::StoreError;
+use crate::step::{Step, StepReply};
+use generational_box::{StepCall, StoreError};
 use std::alloc::Global;
 use std::marker::{Brand, Model, PhantomData};
 use std::sync::ledger::{Ledger, Share};
@@ -93,6 +95,18 @@ impl<M: Count, L: Count, C: Count, R: Count> Tally<M, L, C, R> {
         ensures { result ≡ self.now.worker }
     {
         self.worker
+    }
+
+    // The step of the tally's worker that has this call and this reply.
+    pub(crate) fn step(&self, call: StepCall, reply: StepReply) -> Step
+        ensures { result ≡ step_of self.now.worker call reply }
+    {
+        let worker = self.worker;
+        Step {
+            worker,
+            call,
+            reply,
+        }
     }
 
     /// Whether the tallies of all workers are merged in it. Takes no memory.

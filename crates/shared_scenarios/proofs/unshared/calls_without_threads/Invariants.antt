@@ -1,4 +1,4 @@
-use Rattle.generational_sync.proofs.tests.calls_without_threads.Given as goal
+use Rattle.shared_scenarios.proofs.unshared.calls_without_threads.Given as goal
 
 abbrev pub ghosts-one_by_one-A-Ledger : goal.ghosts-one_by_one-A-Ledger
 ghosts-one_by_one-A-Ledger g a = record { name = a.made.name; parts = a.made.parts }

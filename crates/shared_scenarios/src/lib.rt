@@ -1,0 +1,20 @@
+//! Scenarios of stores that threads share: what calls answer, what the audited history has, and
+//! that each call that waits is answered. The expected values are worked out by hand.
+#![tactic(auto)]
+
+#[cfg(test)]
+mod gates;
+#[cfg(test)]
+mod passing;
+#[cfg(test)]
+mod places;
+#[cfg(test)]
+mod reading;
+#[cfg(test)]
+mod stages;
+#[cfg(test)]
+mod unshared;
+#[cfg(test)]
+mod waking;
+#[cfg(test)]
+mod workers;
