@@ -64,18 +64,28 @@ fn make<S: Storage<u32>>(rt: &impl Abort, store: &mut S) {
     }
 }
 
+/// Makes boxes by nobody, and looks how the memory grows.
+fn leaked<R: Files + AllocGlobal + Abort, S: Storage<u32>>(
+    rt: &R,
+    store: &mut S,
+    gauge: &mut Gauge,
+) -> Result<(), Fail> {
+    leak(rt, store, 0, made());
+    gauge.look(rt)?;
+    gauge.assert_grew(rt, 1_000);
+    for _ in 0..1_000 {
+        make(rt, store);
+        gauge.look(rt)?;
+    }
+    Ok(())
+}
+
 // A hundred thousand slots.
 #[test]
 fn slots(rt: HostRuntime) -> Result<(), Fail> {
     let mut store: UnsyncStorage<u32> = Store::new(rt.alloc(), 7);
     let mut gauge = Gauge::new(&rt)?;
-    leak(&rt, &mut store, 0, made());
-    gauge.look(&rt)?;
-    gauge.assert_grew(&rt, 1_000);
-    for _ in 0..1_000 {
-        make(&rt, &mut store);
-        gauge.look(&rt)?;
-    }
+    leaked(&rt, &mut store, &mut gauge)?;
     gauge.assert_grew(&rt, 8_000);
     Ok(())
 }
