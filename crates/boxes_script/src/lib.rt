@@ -11,4 +11,4 @@ mod script;
 
 pub use crate::fault::Fault;
 pub use crate::run::{boxes_run, report};
-pub use crate::script::Script;
+pub use crate::script::{Script, write_reply};

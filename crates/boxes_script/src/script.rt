@@ -133,21 +133,21 @@ impl<S: Storage<String>> Script<S> {
         let location = Location::new("script", number, 1);
         let request = self.request(command, location).map_err(|_| Fault::Memory)?;
         match request {
-            Request::Call(call) => self.call(call, output),
+            Request::Call(call) => match self.call(call) {
+                Some(reply) => write_reply(output, reply),
+                None => writeln!(output, "refused: {}", StoreError::OutOfMemory),
+            },
             Request::View(place) => self.view(place, output),
             Request::Stats => self.stats(output),
         }
         .map_err(|_| Fault::Output)
     }
 
-    /// Answers the next line by a call, which may be one that no command says.
-    pub fn answer_call<W: Write>(
-        &mut self,
-        call: Call<String>,
-        output: &mut W,
-    ) -> Result<(), Fault> {
+    /// Makes a call on the next line, which may be one that no command says, and answers its
+    /// reply. The only fault is `Memory`: then no call was made.
+    pub fn call_next(&mut self, call: Call<String>) -> Result<Reply<String>, Fault> {
         self.places.add_line().map_err(|_| Fault::Memory)?;
-        self.call(call, output).map_err(|_| Fault::Output)
+        self.call(call).ok_or(Fault::Memory)
     }
 
     /// Leaves the next line without a call and without a reply.
@@ -208,18 +208,13 @@ impl<S: Storage<String>> Script<S> {
         }
     }
 
-    // Makes a call and writes its reply. A call that comes back gave the line no place.
-    fn call<W: Write>(&mut self, call: Call<String>, output: &mut W) -> io::Result<()>
+    // Makes a call. One that finds no memory gives the line no place.
+    fn call(&mut self, call: Call<String>) -> Option<Reply<String>>
         requires { self.old.places.given < vec_len self.old.places.by_line }
     {
-        match self.session.call(call) {
-            Ok(reply) => {
-                let is_owner = matches!(reply, Reply::Owner);
-                self.places.give_place(is_owner);
-                write_reply(output, reply)
-            }
-            Err(_) => writeln!(output, "refused: {}", StoreError::OutOfMemory),
-        }
+        let reply = self.session.call(call).ok()?;
+        self.places.give_place(matches!(reply, Reply::Owner));
+        Some(reply)
     }
 
     // Writes the value that the guard at a place lends.
@@ -314,8 +309,8 @@ fn line_and_value(rest: &str) -> Option<(u32, &str)> {
     Some((line_number(line)?, value))
 }
 
-// Writes the reply to a call.
-fn write_reply<W: Write>(output: &mut W, reply: Reply<String>) -> io::Result<()> {
+/// Writes the reply to a call, as a script does.
+pub fn write_reply<W: Write>(output: &mut W, reply: Reply<String>) -> io::Result<()> {
     match reply {
         Reply::Box(made) => writeln!(output, "box {made:?}"),
         Reply::Owner => writeln!(output, "owner"),

@@ -8,16 +8,12 @@
 //! An export answers 1 where memory was refused, and 0 for a workload that isn't there yet.
 #![tactic(auto)]
 
-mod calls;
-mod element;
-mod random;
 #[cfg(test)]
 mod tests;
-mod workloads;
 
 ghost use Rattle.std.specs.Prelude.{◌≡◌};
 
-use crate::workloads::{answer, churn, insert_and_read, own_and_release, read_often, write_often};
+use gbox_workloads::{answer, churn, insert_and_read, own_and_release, read_often, write_often};
 use generational_box::UnsyncStorage;
 use std::alloc::Global;
 

@@ -1,4 +1,5 @@
-//! The places that the scenarios name, calls that must be answered, and what they must answer.
+//! The places that the scenarios name, and calls over any store, one a function, with what they
+//! must answer.
 
 use generational_box::{
     AlreadyBorrowedError, AlreadyBorrowedMutError, AnyStorage, BorrowError, BorrowMutError,
@@ -171,6 +172,70 @@ pub(crate) fn assert_unread<T: Drop, S: Storage<T>>(
         }
         Err(found) => assert_eq!(rt; found, refusal),
     }
+}
+
+/// Asserts that a guard opens this number, or nothing.
+pub(crate) fn assert_opens<S: Storage<u32>>(
+    rt: &impl Abort,
+    store: &S,
+    guard: &GenerationalRef<u32>,
+    number: Option<u32>,
+) {
+    assert_eq!(rt; guard.deref(store).map(|view| *view), number);
+}
+
+/// Ends a read that the store knows, or one that it doesn't.
+pub(crate) fn assert_released<T, S: Storage<T>>(
+    rt: &impl Abort,
+    store: &mut S,
+    guard: GenerationalRef<T>,
+    is_known: bool,
+) {
+    assert_eq!(rt; guard.release(store), is_known);
+}
+
+/// Ends a write.
+pub(crate) fn put_back<S: Storage<u32>>(
+    rt: &impl Abort,
+    store: &mut S,
+    guard: GenerationalRefMut<u32>,
+) {
+    assert_eq!(rt; guard.release(store), Ok(()));
+}
+
+/// Ends a box's cell.
+pub(crate) fn end<T, S: Storage<T>>(rt: &impl Abort, store: &mut S, asked: GenerationalBox<T>) {
+    assert_eq!(rt; asked.manually_drop(store), Ok(()));
+}
+
+/// Asserts that the end of a box's cell is refused so.
+pub(crate) fn assert_stays<T, S: Storage<T>>(
+    rt: &impl Abort,
+    store: &mut S,
+    asked: GenerationalBox<T>,
+    refusal: Refused<BorrowMutError>,
+) {
+    assert_eq!(rt; asked.manually_drop(store), Err(refusal));
+}
+
+/// Ends the cell of a box's pointer.
+pub(crate) fn recycle<T, S: Storage<T>>(rt: &impl Abort, store: &mut S, asked: GenerationalBox<T>) {
+    assert_eq!(rt; store.recycle(asked.pointer()), Ok(()));
+}
+
+/// Asserts that the end of the cell of a box's pointer is refused so.
+pub(crate) fn assert_not_recycled<T, S: Storage<T>>(
+    rt: &impl Abort,
+    store: &mut S,
+    asked: GenerationalBox<T>,
+    refusal: Refused<BorrowMutError>,
+) {
+    assert_eq!(rt; store.recycle(asked.pointer()), Err(refusal));
+}
+
+/// Asserts what a store counts.
+pub(crate) fn assert_counts<T, S: AnyStorage<T>>(rt: &impl Abort, store: &S, counted: Counts) {
+    assert_eq!(rt; counts_of(store), counted);
 }
 
 /// Asserts that a value is printed so.

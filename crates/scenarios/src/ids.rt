@@ -1,8 +1,13 @@
 //! Ids: what tells boxes apart that had one slot, also once their values are gone.
 
 use crate::expected::{assert_shows, insert, leak, made, made_later, new_owner, release};
-use generational_box::{AnyStorage, GenerationalBox, Store, UnsyncStorage};
+use generational_box::{
+    AnyStorage, GenerationalBox, GenerationalBoxId, Location, Storage, Store, UnsyncStorage,
+};
+use std::alloc::Global;
+use std::collections::BTreeSet;
 use std::hash::{DefaultHasher, Hash, Hasher};
+use std::process::Abort;
 
 /// What a value hashes to.
 fn hash_of<T: Hash>(hashed: &T) -> u64 {
@@ -11,31 +16,77 @@ fn hash_of<T: Hash>(hashed: &T) -> u64 {
     hasher.finish()
 }
 
+/// Asserts the name of a box of slot 0, and where it was made. A copy has the same id.
+fn assert_id(
+    rt: &impl Abort,
+    alloc: Global,
+    given: GenerationalBox<u32>,
+    name: &str,
+    place: Location,
+) {
+    assert_shows(rt, alloc, &given.id(), name);
+    assert_eq!(rt; given.raw_ptr(), 0);
+    assert_eq!(rt; given.created_at(), place);
+    let copy = given;
+    assert!(rt; given.ptr_eq(&given) && given.ptr_eq(&copy));
+    assert!(rt; given.id() == copy.id());
+    assert_eq!(rt; hash_of(&given.id()), hash_of(&copy.id()));
+}
+
+/// Asserts that two boxes have different ids.
+fn assert_apart(rt: &impl Abort, one: GenerationalBox<u32>, other: GenerationalBox<u32>) {
+    assert!(rt; !one.ptr_eq(&other) && !other.ptr_eq(&one));
+    assert!(rt; one.id() != other.id());
+}
+
+/// Asserts the slot of a box, of whatever store.
+fn assert_slot<S: Storage<u32>>(
+    rt: &impl Abort,
+    store: &S,
+    given: GenerationalBox<u32>,
+    slot: usize,
+) {
+    assert_eq!(rt; given.raw_ptr(), slot);
+    assert_eq!(rt; store.data_ptr(given.pointer()), slot);
+}
+
+fn boxes_one_after_the_other<S: Storage<u32>>(rt: &impl Abort, alloc: Global, store: &mut S) {
+    let owner = new_owner(rt, store);
+    let first = insert(rt, store, &owner, 1, made());
+    release(rt, store, owner);
+    let owner = new_owner(rt, store);
+    let second = insert(rt, store, &owner, 1234, made_later());
+
+    assert_eq!(rt; store.slots(), 1);
+    assert_id(rt, alloc, first, "0@1", made());
+    assert_id(rt, alloc, second, "0@2", made_later());
+    assert_slot(rt, store, first, 0);
+    assert_slot(rt, store, second, 0);
+    assert_apart(rt, first, second);
+    release(rt, store, owner);
+}
+
 // Two owners use one slot, one after the other.
 #[test]
 fn boxes_of_one_slot(rt: HostRuntime) {
-    let alloc = rt.alloc();
-    let mut store: UnsyncStorage<u32> = Store::new(alloc, 7);
-    let owner = new_owner(&rt, &mut store);
-    let first = insert(&rt, &mut store, &owner, 1, made());
-    release(&rt, &mut store, owner);
-    let owner = new_owner(&rt, &mut store);
-    let second = insert(&rt, &mut store, &owner, 1234, made_later());
+    let mut store: UnsyncStorage<u32> = Store::new(rt.alloc(), 7);
+    boxes_one_after_the_other(&rt, rt.alloc(), &mut store);
+}
 
-    assert_eq!(rt; store.slots(), 1);
-    for (given, name, place) in [(first, "0@1", made()), (second, "0@2", made_later())] {
-        assert_shows(&rt, alloc, &given.id(), name);
-        assert_eq!(rt; given.raw_ptr(), 0);
-        assert_eq!(rt; store.data_ptr(given.pointer()), 0);
-        assert_eq!(rt; given.created_at(), place);
-        let copy = given;
-        assert!(rt; given.ptr_eq(&given) && given.ptr_eq(&copy));
-        assert!(rt; given.id() == copy.id());
-        assert_eq!(rt; hash_of(&given.id()), hash_of(&copy.id()));
+/// Asserts that a box that is made of a box's pointer has its id.
+fn assert_same(rt: &impl Abort, given: GenerationalBox<u32>) {
+    let same: GenerationalBox<u32> = GenerationalBox::from(given.pointer());
+    assert!(rt; same.ptr_eq(&given));
+}
+
+fn boxes_beside_another_store<S: Storage<u32>>(rt: &impl Abort, store: &mut S, eight: &mut S) {
+    let foreign = leak(rt, eight, 0, made());
+    for slot in 0..3 {
+        let given = leak(rt, store, 1, made());
+        assert_slot(rt, store, given, slot);
+        assert_apart(rt, given, foreign);
+        assert_same(rt, given);
     }
-    assert!(rt; !first.ptr_eq(&second) && !second.ptr_eq(&first));
-    assert!(rt; first.id() != second.id());
-    release(&rt, &mut store, owner);
 }
 
 // Slots are told by their numbers. A box that is made of a pointer is the pointer's own.
@@ -43,11 +94,47 @@ fn boxes_of_one_slot(rt: HostRuntime) {
 fn boxes_of_several_slots(rt: HostRuntime) {
     let mut store: UnsyncStorage<u32> = Store::new(rt.alloc(), 7);
     let mut eight: UnsyncStorage<u32> = Store::new(rt.alloc(), 8);
-    let foreign = leak(&rt, &mut eight, 0, made());
-    for slot in 0..3 {
-        let given = leak(&rt, &mut store, 1, made());
-        assert_eq!(rt; given.raw_ptr(), slot);
-        assert_eq!(rt; store.data_ptr(given.pointer()), slot);
-        assert!(rt; !given.ptr_eq(&foreign), "in slot {slot}");
+    boxes_beside_another_store(&rt, &mut store, &mut eight);
+}
+
+/// The id of a box that is made and ended.
+fn id_of_next<S: Storage<u32>>(rt: &impl Abort, store: &mut S, is_kept: bool) -> GenerationalBoxId {
+    let given = leak(rt, store, 1, made());
+    if !is_kept {
+        assert_eq!(rt; given.manually_drop(store), Ok(()));
     }
+    given.id()
+}
+
+/// How many different hashes so many ids have, of which each takes a slot of its own or none.
+fn hashes<S: Storage<u32>>(
+    rt: &impl Abort,
+    alloc: Global,
+    store: &mut S,
+    is_kept: bool,
+    count: usize,
+) -> usize {
+    let mut hashes = BTreeSet::new(alloc);
+    for _ in 0..count {
+        let hash = hash_of(&id_of_next(rt, store, is_kept));
+        hashes.insert(hash).expect(rt, "memory");
+    }
+    hashes.len()
+}
+
+// Ids that differ in the slot alone, in the generation alone, or in the store alone.
+#[test]
+fn ids_have_many_hashes(rt: HostRuntime) {
+    let alloc = rt.alloc();
+    let mut store: UnsyncStorage<u32> = Store::new(alloc, 7);
+    assert!(rt; hashes(&rt, alloc, &mut store, true, 100) > 90);
+    let mut store: UnsyncStorage<u32> = Store::new(alloc, 7);
+    assert!(rt; hashes(&rt, alloc, &mut store, false, 100) > 90);
+    let mut stores = BTreeSet::new(alloc);
+    for number in 0..100 {
+        let mut store: UnsyncStorage<u32> = Store::new(alloc, number);
+        let hash = hash_of(&id_of_next(&rt, &mut store, true));
+        stores.insert(hash).expect(&rt, "memory");
+    }
+    assert!(rt; stores.len() > 90);
 }

@@ -3,11 +3,21 @@
 #![tactic(auto)]
 
 #[cfg(test)]
+mod borrows;
+#[cfg(test)]
 mod counts;
+#[cfg(test)]
+mod dialect;
+#[cfg(test)]
+mod drops;
 #[cfg(test)]
 mod ending;
 #[cfg(test)]
+mod equality;
+#[cfg(test)]
 mod expected;
+#[cfg(test)]
+mod growth;
 #[cfg(test)]
 mod ids;
 #[cfg(test)]
@@ -15,11 +25,15 @@ mod lists;
 #[cfg(test)]
 mod memory;
 #[cfg(test)]
+mod naming;
+#[cfg(test)]
 mod numbers;
 #[cfg(test)]
 mod owned_lists;
 #[cfg(test)]
 mod owners;
+#[cfg(test)]
+mod plenty;
 #[cfg(test)]
 mod reading;
 #[cfg(test)]
@@ -27,9 +41,13 @@ mod runs;
 #[cfg(test)]
 mod scripts;
 #[cfg(test)]
+mod sessions;
+#[cfg(test)]
 mod strangers;
 #[cfg(test)]
 mod streams;
+#[cfg(test)]
+mod tables;
 #[cfg(test)]
 mod texts;
 #[cfg(test)]

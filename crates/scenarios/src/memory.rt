@@ -2,8 +2,8 @@
 //! --fail-alloc N` refuses the Nth of each test. What may lack memory is tried a second time.
 
 use crate::expected::{
-    assert_unread, begin, counts_of, dropped, insert, leak, made, made_later, new_owner, read,
-    release,
+    assert_opens, assert_reads, assert_released, assert_unread, begin, counts_of, dropped, end,
+    insert, leak, made, made_later, new_owner, read, release,
 };
 use generational_box::{
     AlreadyBorrowedError, AnyStorage, BorrowMutError, BoxAt, Call, GenerationalBox,
@@ -126,56 +126,109 @@ fn assert_borrowed<S: Storage<u32>>(
     assert_eq!(rt; refusal, Err(readers(rt, alloc, began)));
 }
 
+/// Begins a read beside another, if there is memory. One that lacks it changes nothing.
+fn begin_if_memory<S: Storage<u32>>(
+    rt: &impl Abort,
+    store: &mut S,
+    asked: GenerationalBox<u32>,
+    began: Location,
+) -> Option<GenerationalRef<u32>> {
+    match asked.try_read(store, began) {
+        Ok(second) => Some(second),
+        Err(refused) => {
+            assert_eq!(rt; refused, Refused::Store(StoreError::OutOfMemory));
+            None
+        }
+    }
+}
+
+fn slots<S: Storage<u32>>(rt: &impl Abort, store: &mut S) {
+    for value in 0..9 {
+        let used = leak_or_again(rt, store, value);
+        assert_reads(rt, store, used, value);
+        end(rt, store, used);
+        assert_unread(rt, store, used, dropped(made()));
+        leak(rt, store, value, made());
+    }
+}
+
 // Only a making with no slot free may lack memory.
 #[test]
 fn for_a_new_slot(rt: HostRuntime) {
     let mut store: UnsyncStorage<u32> = Store::new(rt.alloc(), 7);
-    for value in 0..9 {
-        let used = leak_or_again(&rt, &mut store, value);
-        let guard = begin(&rt, &mut store, used, read());
-        assert_eq!(rt; guard.deref(&store).map(|view| *view), Some(value));
-        assert!(rt; guard.release(&mut store));
-        assert_eq!(rt; used.manually_drop(&mut store), Ok(()));
-        assert_unread(&rt, &mut store, used, dropped(made()));
-        leak(&rt, &mut store, value, made());
+    slots(&rt, &mut store);
+}
+
+fn readers_beside_others<S: Storage<u32>>(rt: &impl Abort, alloc: Global, store: &mut S) {
+    let value = leak_or_again(rt, store, 5);
+    let guard = begin(rt, store, value, made());
+    if let Some(second) = begin_if_memory(rt, store, value, made_later()) {
+        assert_released(rt, store, second, true);
     }
+    assert_opens(rt, store, &guard, Some(5));
+    assert_borrowed(rt, alloc, store, value, &[made()]);
+    if let Some(second) = begin_if_memory(rt, store, value, read()) {
+        assert_borrowed(rt, alloc, store, value, &[made(), read()]);
+        assert_released(rt, store, second, true);
+    }
+    assert_opens(rt, store, &guard, Some(5));
+    assert_released(rt, store, guard, true);
+    end(rt, store, value);
 }
 
 // A cell's first reader takes no memory. One that lacks it beside others leaves those as they
 // were, and the store goes on once there is memory.
 #[test]
 fn for_a_reader_beside_others(rt: HostRuntime) {
-    let alloc = rt.alloc();
-    let mut store: UnsyncStorage<u32> = Store::new(alloc, 7);
-    let value = leak_or_again(&rt, &mut store, 5);
-    let guard = begin(&rt, &mut store, value, made());
-    match value.try_read(&mut store, made_later()) {
-        Ok(second) => assert!(rt; second.release(&mut store)),
-        Err(refused) => assert_eq!(rt; refused, Refused::Store(StoreError::OutOfMemory)),
+    let mut store: UnsyncStorage<u32> = Store::new(rt.alloc(), 7);
+    readers_beside_others(&rt, rt.alloc(), &mut store);
+}
+
+fn owners<S: Storage<u32>>(rt: &impl Abort, store: &mut S) {
+    for taken in 1..=20 {
+        let owner = owner_or_again(rt, store);
+        assert_eq!(rt; store.tickets_left(), 18446744073709551615 - taken);
+        owner.leak();
     }
-    assert_eq!(rt; guard.deref(&store).map(|view| *view), Some(5));
-    assert_borrowed(&rt, alloc, &mut store, value, &[made()]);
-    match value.try_read(&mut store, read()) {
-        Ok(second) => {
-            assert_borrowed(&rt, alloc, &mut store, value, &[made(), read()]);
-            assert!(rt; second.release(&mut store));
-        }
-        Err(refused) => assert_eq!(rt; refused, Refused::Store(StoreError::OutOfMemory)),
-    }
-    assert_eq!(rt; guard.deref(&store).map(|view| *view), Some(5));
-    assert!(rt; guard.release(&mut store));
-    assert_eq!(rt; value.manually_drop(&mut store), Ok(()));
 }
 
 // The records of owners take memory. A refused owner took no ticket.
 #[test]
 fn for_owners(rt: HostRuntime) {
     let mut store: UnsyncStorage<u32> = Store::new(rt.alloc(), 7);
-    for taken in 1..=20 {
-        let owner = owner_or_again(&rt, &mut store);
-        assert_eq!(rt; store.tickets_left(), 18446744073709551615 - taken);
-        owner.leak();
+    owners(&rt, &mut store);
+}
+
+/// The owner that comes back while the later of two boxes is read, and then the earlier one, too.
+fn assert_told_of_earlier<S: Storage<u32>>(
+    rt: &impl Abort,
+    alloc: Global,
+    store: &mut S,
+    owner: Owner,
+    [earlier, later]: [GenerationalBox<u32>; 2],
+    value: u32,
+) -> Owner {
+    let second = begin(rt, store, later, made_later());
+    let first = begin(rt, store, earlier, made());
+    let owner = assert_kept_by(rt, alloc, store, owner, &[made()]);
+    assert_opens(rt, store, &second, Some(value));
+    assert_released(rt, store, first, true);
+    assert_released(rt, store, second, true);
+    owner
+}
+
+fn boxes_of_an_owner<S: Storage<u32>>(rt: &impl Abort, alloc: Global, store: &mut S) {
+    let ended = leak_or_again(rt, store, 9);
+    end(rt, store, ended);
+    let mut owner = owner_or_again(rt, store);
+    let mut earlier = insert_or_again(rt, store, &owner, 0);
+    for value in 1..6 {
+        let later = insert_or_again(rt, store, &owner, value);
+        owner = assert_told_of_earlier(rt, alloc, store, owner, [earlier, later], value);
+        earlier = later;
     }
+    release(rt, store, owner);
+    assert_eq!(rt; (store.slots(), store.free()), (6, 6));
 }
 
 // A making by an owner may lack memory for the owner's list also where a slot is free, as at the
@@ -183,58 +236,48 @@ fn for_owners(rt: HostRuntime) {
 // earlier one is told of.
 #[test]
 fn for_the_boxes_of_an_owner(rt: HostRuntime) {
-    let alloc = rt.alloc();
-    let mut store: UnsyncStorage<u32> = Store::new(alloc, 7);
-    let ended = leak_or_again(&rt, &mut store, 9);
-    assert_eq!(rt; ended.manually_drop(&mut store), Ok(()));
-    let mut owner = owner_or_again(&rt, &mut store);
-    let mut earlier = insert_or_again(&rt, &mut store, &owner, 0);
-    for value in 1..6 {
-        let later = insert_or_again(&rt, &mut store, &owner, value);
-        let second = begin(&rt, &mut store, later, made_later());
-        let first = begin(&rt, &mut store, earlier, made());
-        owner = assert_kept_by(&rt, alloc, &mut store, owner, &[made()]);
-        assert_eq!(rt; second.deref(&store).map(|view| *view), Some(value));
-        assert!(rt; first.release(&mut store));
-        assert!(rt; second.release(&mut store));
-        earlier = later;
-    }
-    release(&rt, &mut store, owner);
-    assert_eq!(rt; (store.slots(), store.free()), (6, 6));
+    let mut store: UnsyncStorage<u32> = Store::new(rt.alloc(), 7);
+    boxes_of_an_owner(&rt, rt.alloc(), &mut store);
+}
+
+fn readers_of_an_owners_box<S: Storage<u32>>(rt: &impl Abort, alloc: Global, store: &mut S) {
+    let owner = owner_or_again(rt, store);
+    let only = insert_or_again(rt, store, &owner, 5);
+    let first = begin(rt, store, only, made());
+    let second = begin_or_again(rt, store, only, made_later());
+    let owner = assert_kept_by(rt, alloc, store, owner, &[made(), made_later()]);
+    assert_opens(rt, store, &first, Some(5));
+    assert_opens(rt, store, &second, Some(5));
+    assert_released(rt, store, first, true);
+    assert_released(rt, store, second, true);
+    release(rt, store, owner);
+    assert_unread(rt, store, only, dropped(made()));
 }
 
 // A release that lacks memory to tell of two readers hands the owner back, and the readers go on.
 #[test]
 fn for_the_readers_of_an_owners_box(rt: HostRuntime) {
-    let alloc = rt.alloc();
-    let mut store: UnsyncStorage<u32> = Store::new(alloc, 7);
-    let owner = owner_or_again(&rt, &mut store);
-    let only = insert_or_again(&rt, &mut store, &owner, 5);
-    let first = begin(&rt, &mut store, only, made());
-    let second = begin_or_again(&rt, &mut store, only, made_later());
-    let owner = assert_kept_by(&rt, alloc, &mut store, owner, &[made(), made_later()]);
-    for guard in [&first, &second] {
-        assert_eq!(rt; guard.deref(&store).map(|view| *view), Some(5));
-    }
-    assert!(rt; first.release(&mut store));
-    assert!(rt; second.release(&mut store));
-    release(&rt, &mut store, owner);
-    assert_unread(&rt, &mut store, only, dropped(made()));
+    let mut store: UnsyncStorage<u32> = Store::new(rt.alloc(), 7);
+    readers_of_an_owners_box(&rt, rt.alloc(), &mut store);
 }
 
-// Calls that find no room for their places or replies come back whole, and have no place: they can
-// be handed in again.
-#[test]
-fn for_the_places_of_calls(rt: HostRuntime) {
-    let alloc = rt.alloc();
+/// A making and a read of what it makes, as a list.
+fn two_calls(rt: &impl Abort, alloc: Global) -> Vec<Call<u32>> {
     let mut calls = match Vec::with_capacity(alloc, 2) {
         Ok(calls) => calls,
-        Err(_) => Vec::with_capacity(alloc, 2).expect(&rt, "memory"),
+        Err(_) => Vec::with_capacity(alloc, 2).expect(rt, "memory"),
     };
     calls.push_reserved(Call::Leak(5, made()));
     calls.push_reserved(Call::TryRead(BoxAt::Place(0), read()));
-    let store: UnsyncStorage<u32> = Store::new(alloc, 7);
-    let mut session = Session::new(alloc, store);
+    calls
+}
+
+/// Runs two calls, the second time at the latest. A list that finds no memory comes back whole.
+fn run_or_again<S: Storage<u32>>(
+    rt: &impl Abort,
+    session: &mut Session<u32, S>,
+    calls: Vec<Call<u32>>,
+) -> Vec<Reply<u32>> {
     let ran = match session.run(calls) {
         Err(back) => {
             assert_eq!(rt; back.len(), 2);
@@ -242,16 +285,44 @@ fn for_the_places_of_calls(rt: HostRuntime) {
         }
         ran => ran,
     };
-    let replies = ran.map_err(|_| AllocError).expect(&rt, "replies");
+    ran.map_err(|_| AllocError).expect(rt, "replies")
+}
+
+/// Asserts the replies to two calls, of which the first may have lacked memory.
+fn assert_two_replies<S: Storage<u32>>(
+    rt: &impl Abort,
+    session: &Session<u32, S>,
+    replies: Vec<Reply<u32>>,
+) {
     assert_eq!(rt; replies.len(), 2);
     match (&replies[0], &replies[1]) {
         (Reply::Box(_), Reply::Reader) => assert_eq!(rt; session.view(1).copied(), Some(5)),
         (Reply::Back(5, StoreError::OutOfMemory), Reply::NoSuch(None)) => {}
         _ => assert!(rt; false, "other replies"),
     }
+}
+
+/// Makes a box by a call. Where memory lacks, the call or its value comes back.
+fn assert_called<S: Storage<u32>>(rt: &impl Abort, session: &mut Session<u32, S>) {
     match session.call(Call::Leak(6, made())) {
         Ok(Reply::Box(_) | Reply::Back(6, StoreError::OutOfMemory)) | Err(Call::Leak(6, _)) => {}
         _ => assert!(rt; false, "another reply"),
     }
+}
+
+fn places<S: Storage<u32>>(rt: &impl Abort, alloc: Global, session: &mut Session<u32, S>) {
+    let calls = two_calls(rt, alloc);
+    let replies = run_or_again(rt, session, calls);
+    assert_two_replies(rt, session, replies);
+    assert_called(rt, session);
+}
+
+// Calls that find no room for their places or replies come back whole, and have no place: they can
+// be handed in again.
+#[test]
+fn for_the_places_of_calls(rt: HostRuntime) {
+    let store: UnsyncStorage<u32> = Store::new(rt.alloc(), 7);
+    let mut session = Session::new(rt.alloc(), store);
+    places(&rt, rt.alloc(), &mut session);
     session.finish();
 }

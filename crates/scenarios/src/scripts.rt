@@ -239,3 +239,25 @@ fn lines_are_named_and_not_places(rt: HostRuntime) {
         ],
     );
 }
+
+// What the tests' own dialect adds is no command of the program.
+#[test]
+fn lines_of_the_dialect_are_bad(rt: HostRuntime) {
+    assert_replies(
+        &rt,
+        rt.alloc(),
+        &[
+            ("leak a", "box 0@1"),
+            ("counts", "bad line"),
+            ("view 0", "bad line"),
+            ("eight b", "bad line"),
+            ("twin b", "bad line"),
+            ("as 1 owner", "bad line"),
+            ("slot 1", "bad line"),
+            ("slot #0", "bad line"),
+            ("try_read #0", "bad line"),
+            ("end *0", "bad line"),
+            ("release_owner 1", "bad line"),
+        ],
+    );
+}

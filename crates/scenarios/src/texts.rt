@@ -2,9 +2,12 @@
 
 use crate::expected::{assert_prints, assert_shows, leak, made, made_later};
 use generational_box::{
-    AlreadyBorrowedError, AlreadyBorrowedMutError, BorrowError, BorrowMutError, Location, Refused,
-    Store, StoreError, UnsyncStorage, ValueDroppedError,
+    AlreadyBorrowedError, AlreadyBorrowedMutError, BorrowError, BorrowMutError, GenerationalBox,
+    Location, Refused, Storage, Store, StoreError, UnsyncStorage, ValueDroppedError,
 };
+use std::alloc::Global;
+use std::fmt::{Debug, Display};
+use std::process::Abort;
 use std::test::Fail;
 
 const DROPPED: &str = "Failed to borrow because the value was dropped.created_at: a.rs:3:5";
@@ -21,46 +24,44 @@ const READ_BY_NOBODY: &str =
 // An error prints the same by itself and in each error that holds it, also once it was turned into
 // what a write answers.
 #[test]
-fn errors_of_borrows(rt: HostRuntime) -> Result<(), Fail> {
+fn errors_of_values_that_are_gone(rt: HostRuntime) {
     let alloc = rt.alloc();
     let gone = ValueDroppedError::new(made());
     assert_eq!(rt; gone.created_at(), made());
+    let held = BorrowError::Dropped(gone);
     assert_prints(&rt, alloc, &gone, DROPPED);
-    assert_prints(&rt, alloc, &BorrowError::Dropped(gone), DROPPED);
+    assert_prints(&rt, alloc, &held, DROPPED);
     assert_prints(&rt, alloc, &BorrowMutError::Dropped(gone), DROPPED);
-    assert_prints(
-        &rt,
-        alloc,
-        &Refused::Borrow(BorrowError::Dropped(gone)),
-        DROPPED,
-    );
-    let turned = BorrowMutError::from(BorrowError::Dropped(gone));
-    assert_eq!(rt; turned, BorrowMutError::Dropped(gone));
+    assert_eq!(rt; BorrowMutError::from(held), BorrowMutError::Dropped(gone));
+    let refused = Refused::Borrow(BorrowError::Dropped(gone));
+    assert_prints(&rt, alloc, &refused, DROPPED);
+}
 
+#[test]
+fn errors_of_values_that_are_written(rt: HostRuntime) -> Result<(), Fail> {
+    let alloc = rt.alloc();
     let written = AlreadyBorrowedMutError::new(Location::new("w.rs", 4, 6));
-    assert_prints(&rt, alloc, &written, WRITTEN);
-    assert_prints(
-        &rt,
-        alloc,
-        &BorrowError::AlreadyBorrowedMut(written),
-        WRITTEN,
-    );
+    let asked = BorrowError::AlreadyBorrowedMut(written);
     let held = BorrowMutError::AlreadyBorrowedMut(written);
+    assert_prints(&rt, alloc, &written, WRITTEN);
+    assert_prints(&rt, alloc, &asked, WRITTEN);
     assert_prints(&rt, alloc, &held, WRITTEN);
+    assert_eq!(rt; BorrowMutError::from(asked), held);
     assert_prints(&rt, alloc, &Refused::Borrow(held.clone()?), WRITTEN);
-    assert_eq!(rt;
-        BorrowMutError::from(BorrowError::AlreadyBorrowedMut(written)),
-        held
-    );
+    Ok(())
+}
 
+#[test]
+fn errors_of_values_that_are_read(rt: HostRuntime) -> Result<(), Fail> {
+    let alloc = rt.alloc();
     let nobody = AlreadyBorrowedError::new(Vec::new(alloc));
     assert_prints(&rt, alloc, &nobody, READ_BY_NOBODY);
     let read = AlreadyBorrowedError::new([made(), made_later()].to_vec(alloc)?);
     assert_prints(&rt, alloc, &read, READ);
+    assert!(rt; read != nobody);
     let held = BorrowMutError::AlreadyBorrowed(read.clone()?);
     assert_prints(&rt, alloc, &held, READ);
     assert_prints(&rt, alloc, &Refused::Borrow(held), READ);
-    assert!(rt; read != nobody);
     Ok(())
 }
 
@@ -77,19 +78,35 @@ fn refusals_of_a_store(rt: HostRuntime) {
     }
 }
 
+/// Asserts what a location prints, and what it holds.
+fn assert_location(
+    rt: &impl Abort,
+    alloc: Global,
+    file: &'static str,
+    place: (u32, u32),
+    text: &str,
+) {
+    let (line, column) = place;
+    let location = Location::new(file, line, column);
+    assert_prints(rt, alloc, &location, text);
+    assert_eq!(rt; location.file(), file);
+    assert_eq!(rt; (location.line(), location.column()), place);
+}
+
 #[test]
 fn locations(rt: HostRuntime) {
-    for (file, line, column, text) in [
-        ("a.rs", 3, 5, "a.rs:3:5"),
-        ("", 0, 10, ":0:10"),
-        ("src/\u{e9}.rs", u32::MAX, 0, "src/\u{e9}.rs:4294967295:0"),
-    ] {
-        let location = Location::new(file, line, column);
-        assert_prints(&rt, rt.alloc(), &location, text);
-        assert_eq!(rt; location.file(), file);
-        assert_eq!(rt; (location.line(), location.column()), (line, column));
-        assert_ne!(rt; location, Location::new("a.rs", 3, 6));
+    assert_location(&rt, rt.alloc(), "a.rs", (3, 5), "a.rs:3:5");
+    assert_location(&rt, rt.alloc(), "", (0, 10), ":0:10");
+    let text = "src/\u{e9}.rs:4294967295:0";
+    assert_location(&rt, rt.alloc(), "src/\u{e9}.rs", (u32::MAX, 0), text);
+}
+
+/// A box in slot 10.
+fn tenth<S: Storage<u32>>(rt: &impl Abort, store: &mut S) -> GenerationalBox<u32> {
+    for value in 0..10 {
+        leak(rt, store, value, made());
     }
+    leak(rt, store, 10, made())
 }
 
 // A box and its pointer print the slot and the generation, in decimal.
@@ -97,12 +114,108 @@ fn locations(rt: HostRuntime) {
 fn boxes(rt: HostRuntime) -> Result<(), Fail> {
     let alloc = rt.alloc();
     let mut store: UnsyncStorage<u32> = Store::new(alloc, 7);
-    for value in 0..10 {
-        leak(&rt, &mut store, value, made());
-    }
-    let last = leak(&rt, &mut store, 10, made());
+    let last = tenth(&rt, &mut store);
     assert_shows(&rt, alloc, &last, "10@1");
     assert_shows(&rt, alloc, &last.pointer(), "10@1");
     assert!(rt; last.pointer() == last.clone()?.pointer());
+    Ok(())
+}
+
+/// Asserts that a value is printed so to a developer, over several lines.
+fn assert_spreads(rt: &impl Abort, alloc: Global, shown: &impl Debug, text: &str) {
+    let shown = format!(in alloc; "{shown:#?}").expect(rt, "memory");
+    assert_eq!(rt; shown.as_str(), text);
+}
+
+const LOCATION: &str = "Location { file: \"a.rs\", line: 3, column: 5 }";
+
+const LOCATION_SPREAD: &str = "\
+Location {
+    file: \"a.rs\",
+    line: 3,
+    column: 5,
+}";
+
+const GONE: &str = "\
+Dropped(
+    ValueDroppedError {
+        created_at: Location {
+            file: \"a.rs\",
+            line: 3,
+            column: 5,
+        },
+    },
+)";
+
+const STANDING: &str = "\
+Borrow(
+    AlreadyBorrowed(
+        AlreadyBorrowedError {
+            borrowed_at: [
+                Location {
+                    file: \"a.rs\",
+                    line: 3,
+                    column: 5,
+                },
+            ],
+        },
+    ),
+)";
+
+// To a developer, values are printed as Rust's derives print them.
+#[test]
+fn texts_for_developers(rt: HostRuntime) -> Result<(), Fail> {
+    let alloc = rt.alloc();
+    assert_shows(&rt, alloc, &made(), LOCATION);
+    assert_spreads(&rt, alloc, &made(), LOCATION_SPREAD);
+    let gone = BorrowError::Dropped(ValueDroppedError::new(made()));
+    assert_spreads(&rt, alloc, &gone, GONE);
+    let read = AlreadyBorrowedError::new([made()].to_vec(alloc)?);
+    let standing = Refused::Borrow(BorrowMutError::AlreadyBorrowed(read));
+    assert_spreads(&rt, alloc, &standing, STANDING);
+    let lacking: Refused<BorrowError> = Refused::Store(StoreError::OutOfMemory);
+    assert_shows(&rt, alloc, &lacking, "Store(OutOfMemory)");
+    let writer = AlreadyBorrowedMutError::new(made());
+    let text = format!(in alloc; "AlreadyBorrowedMutError {{ borrowed_mut_at: {LOCATION} }}")?;
+    assert_shows(&rt, alloc, &writer, text.as_str());
+    Ok(())
+}
+
+/// Asserts that a value is printed so, whatever the width.
+fn assert_wide(rt: &impl Abort, alloc: Global, printed: &impl Display, text: &str) {
+    let left = format!(in alloc; "{printed:200}").expect(rt, "memory");
+    assert_eq!(rt; left.as_str(), text);
+    let right = format!(in alloc; "{printed:*>200.3}").expect(rt, "memory");
+    assert_eq!(rt; right.as_str(), text);
+}
+
+/// Asserts that a value is printed so to a developer, whatever the width.
+fn assert_wide_for_developers(rt: &impl Abort, alloc: Global, shown: &impl Debug, text: &str) {
+    let right = format!(in alloc; "{shown:*>200?}").expect(rt, "memory");
+    assert_eq!(rt; right.as_str(), text);
+}
+
+// None of these texts is padded or cut, as none is in upstream.
+#[test]
+fn texts_with_a_width(rt: HostRuntime) -> Result<(), Fail> {
+    let alloc = rt.alloc();
+    assert_wide(&rt, alloc, &made(), "a.rs:3:5");
+    assert_wide(&rt, alloc, &StoreError::OutOfMemory, "out of memory");
+    let gone = ValueDroppedError::new(made());
+    assert_wide(&rt, alloc, &gone, DROPPED);
+    assert_wide(
+        &rt,
+        alloc,
+        &Refused::Borrow(BorrowError::Dropped(gone)),
+        DROPPED,
+    );
+    let written = AlreadyBorrowedMutError::new(Location::new("w.rs", 4, 6));
+    assert_wide(&rt, alloc, &written, WRITTEN);
+    let read = AlreadyBorrowedError::new([made(), made_later()].to_vec(alloc)?);
+    assert_wide(&rt, alloc, &read, READ);
+    let mut store: UnsyncStorage<u32> = Store::new(alloc, 7);
+    let last = tenth(&rt, &mut store);
+    assert_wide_for_developers(&rt, alloc, &last, "10@1");
+    assert_wide_for_developers(&rt, alloc, &last.id(), "10@1");
     Ok(())
 }

@@ -4,7 +4,7 @@ use itoa::Buffer;
 use std::alloc::{AllocError, Global};
 
 /// What a workload keeps in the store.
-pub(crate) trait Element: Sized + Drop {
+pub trait Element: Sized + Drop {
     /// The value that is made of a word.
     fn of_word(alloc: Global, word: u32) -> Result<Self, AllocError>;
 

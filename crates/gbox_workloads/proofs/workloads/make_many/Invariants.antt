@@ -1,5 +1,5 @@
 use Rattle.std.proofs.Common.{◌≡◌, ◌≤◌, vec_len, vec_capacity}
-use Rattle.gbox_c.proofs.workloads.make_many.Given as goal
+use Rattle.gbox_workloads.proofs.workloads.make_many.Given as goal
 
 -- as many keys as were made, with room for all
 abbrev pub invariant-loop-made : goal.invariant-loop-made

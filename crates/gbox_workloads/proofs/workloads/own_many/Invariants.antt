@@ -1,5 +1,5 @@
 use Rattle.std.proofs.Common.{◌+◌, ◌≤◌, vec_len, vec_capacity}
-use Rattle.gbox_c.proofs.workloads.own_many.Given as goal
+use Rattle.gbox_workloads.proofs.workloads.own_many.Given as goal
 
 -- room for the owners that are still to be made
 abbrev pub invariant-loop-made : goal.invariant-loop-made

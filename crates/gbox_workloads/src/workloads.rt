@@ -17,14 +17,14 @@ const FACTOR: u64 = 0x100_0000_01b3;
 // How many values an owner makes.
 const VALUES: usize = 100;
 
-/// What an export answers.
-pub(crate) fn answer(outcome: Result<u64, Stopped>) -> u64 {
+/// The number that a workload answers: its checksum, or 1 where it couldn't go on.
+pub fn answer(outcome: Result<u64, Stopped>) -> u64 {
     outcome.unwrap_or(1)
 }
 
 /// w1: values are made, read once in a shuffled order, and ended.
 #[inline(always)]
-pub(crate) fn insert_and_read<E: Element, S: Storage<E>>(
+pub fn insert_and_read<E: Element, S: Storage<E>>(
     alloc: Global,
     store: &mut S,
     n: u64,
@@ -42,7 +42,7 @@ pub(crate) fn insert_and_read<E: Element, S: Storage<E>>(
 /// w2: values are made; 10n times one is ended and another made in its place; each is read, and
 /// ended.
 #[inline(always)]
-pub(crate) fn churn<E: Element, S: Storage<E>>(
+pub fn churn<E: Element, S: Storage<E>>(
     alloc: Global,
     store: &mut S,
     n: u64,
@@ -61,7 +61,7 @@ pub(crate) fn churn<E: Element, S: Storage<E>>(
 
 /// w3: values are made; 10n times one is read; each is ended.
 #[inline(always)]
-pub(crate) fn read_often<E: Element, S: Storage<E>>(
+pub fn read_often<E: Element, S: Storage<E>>(
     alloc: Global,
     store: &mut S,
     n: u64,
@@ -80,7 +80,7 @@ pub(crate) fn read_often<E: Element, S: Storage<E>>(
 
 /// w4: values are made; 10n times one is replaced by another; each is ended.
 #[inline(always)]
-pub(crate) fn write_often<E: Element, S: Storage<E>>(
+pub fn write_often<E: Element, S: Storage<E>>(
     alloc: Global,
     store: &mut S,
     n: u64,
@@ -99,7 +99,7 @@ pub(crate) fn write_often<E: Element, S: Storage<E>>(
 
 /// w5: ten times, owners make a hundred values each, of which the last is read, and are released.
 #[inline(always)]
-pub(crate) fn own_and_release<E: Element, S: Storage<E>>(
+pub fn own_and_release<E: Element, S: Storage<E>>(
     alloc: Global,
     store: &mut S,
     n: u64,

@@ -1,4 +1,4 @@
-use Rattle.gbox_c.proofs.workloads.release_each.Given as goal
+use Rattle.gbox_workloads.proofs.workloads.release_each.Given as goal
 
 abbrev pub decreases-loop-owner : goal.decreases-loop-owner
 decreases-loop-owner g l = goal.left-loop-owner g l

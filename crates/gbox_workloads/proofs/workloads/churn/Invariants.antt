@@ -1,5 +1,5 @@
 use Rattle.std.proofs.Common.{◌<◌, vec_len}
-use Rattle.gbox_c.proofs.workloads.churn.Given as goal
+use Rattle.gbox_workloads.proofs.workloads.churn.Given as goal
 
 -- numbers of 32 bits name all keys
 abbrev pub invariant-loop-round : goal.invariant-loop-round

@@ -6,7 +6,7 @@ use std::alloc::AllocError;
 
 /// The workload can't go on: a call was refused, as for want of memory.
 #[derive(Clone, Copy)]
-pub(crate) struct Stopped;
+pub struct Stopped;
 
 impl From<AllocError> for Stopped {
     fn from(_: AllocError) -> Stopped {

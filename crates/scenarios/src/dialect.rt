@@ -1,0 +1,124 @@
+//! The dialect of the tests: the program's commands, and lines of the tests alone.
+//!
+//! | line              | what it does, and its reply                                       |
+//! |-------------------|-------------------------------------------------------------------|
+//! | `eight VALUE`     | makes a box in a store beside, of number 8: `box SLOT@GENERATION` |
+//! | `twin VALUE`      | the same in another store, of the session's own number            |
+//! | `counts`          | `slots S free F retired R peak P next N`, N being the next ticket |
+//! | `view P`          | `value ` and the value that the place P lends, or `no such`       |
+//! | `as N COMMAND`    | what the command does, asked for at the location of line N        |
+//! | `WORD NAME ..`    | makes the call, and is answered as the program's command is       |
+//!
+//! A NAME of a box is `#P`, the place P, counted from 0 whatever the calls before gave, or `*K`,
+//! the box that the stores beside gave K-th, counted from 0. Other NAMEs are places. A value that
+//! comes back unused is told by `back VALUE`.
+
+ghost use Rattle.generational_core.specs.State.{IsFresh};
+
+use crate::naming::Strangers;
+use boxes_script::{Fault, Script, write_reply};
+use generational_box::{Call, Location, Reply, Storage};
+use std::alloc::Global;
+use std::io;
+use std::io::Write;
+
+/// A script of the dialect.
+///
+/// It must be spent by `finish`.
+pub(crate) struct Dialect<S: Storage<String> + Drop> {
+    script: Script<S>,
+    strangers: Strangers<S>,
+}
+
+impl<S: Storage<String> + Drop> Dialect<S> {
+    /// A script of which no line is answered yet.
+    pub(crate) fn new(alloc: Global, store: S, strangers: Strangers<S>) -> Dialect<S>
+        requires { IsFresh (S.state store) }
+    {
+        Dialect {
+            script: Script::new(alloc, store),
+            strangers,
+        }
+    }
+
+    /// Answers the next line, whose number is `number`.
+    pub(crate) fn answer<W: Write>(
+        &mut self,
+        number: u32,
+        line: &str,
+        output: &mut W,
+    ) -> Result<(), Fault> {
+        let location = Location::new("script", number, 1);
+        let (word, rest) = line.split_once(' ').unwrap_or((line, ""));
+        match word {
+            "counts" => {
+                self.script.pass_line()?;
+                self.counts(output).map_err(|_| Fault::Output)
+            }
+            "view" => {
+                self.script.pass_line()?;
+                self.view(rest, output).map_err(|_| Fault::Output)
+            }
+            "eight" | "twin" => {
+                self.script.pass_line()?;
+                self.strangers.answer(word, rest, location, output)
+            }
+            "as" => {
+                let (place, command) = rest.split_once(' ').unwrap_or((rest, ""));
+                let number = place.parse::<u32>().unwrap_or(number);
+                self.script.answer(number, command.as_bytes(), output)
+            }
+            _ if rest.starts_with('#') || rest.starts_with('*') => {
+                let call = self.strangers.call(word, rest, location)?;
+                self.call(call, output)
+            }
+            _ => self.script.answer(number, line.as_bytes(), output),
+        }
+    }
+
+    // Makes a call, and writes its reply.
+    fn call<W: Write>(&mut self, call: Call<String>, output: &mut W) -> Result<(), Fault> {
+        let reply = self.script.call_next(call)?;
+        write_with_value(output, reply).map_err(|_| Fault::Output)
+    }
+
+    // Writes what the store counts.
+    fn counts<W: Write>(&self, output: &mut W) -> io::Result<()> {
+        let store = self.script.session().store();
+        writeln!(
+            output,
+            "slots {} free {} retired {} peak {} next {}",
+            store.slots(),
+            store.free(),
+            store.retired(),
+            store.peak_live(),
+            u64::MAX - store.tickets_left()
+        )
+    }
+
+    // Writes the value that a place lends.
+    fn view<W: Write>(&self, place: &str, output: &mut W) -> io::Result<()> {
+        let place = place.parse::<usize>().unwrap_or(usize::MAX);
+        match self.script.session().view(place) {
+            Some(value) => writeln!(output, "value {value}"),
+            None => writeln!(output, "no such"),
+        }
+    }
+
+    /// Ends the session.
+    pub(crate) fn finish(self) -> S {
+        let Dialect {
+            script,
+            strangers: _,
+        } = self;
+        script.finish()
+    }
+}
+
+/// Writes a reply, with the value that came back.
+pub(crate) fn write_with_value<W: Write>(output: &mut W, reply: Reply<String>) -> io::Result<()> {
+    match reply {
+        Reply::NoSuch(Some(value)) => writeln!(output, "back {value}"),
+        reply => write_reply(output, reply),
+    }
+}

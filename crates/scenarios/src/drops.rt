@@ -1,0 +1,186 @@
+//! What is let go: values that end, values that others take the place of, and values that a store
+//! still has when it goes itself. Each is counted by what std's `Rc` counts.
+
+use crate::expected::{
+    begin_write, end, insert, leak, made, made_later, new_owner, recycle, release, written,
+};
+use crate::sessions::call;
+use generational_box::{
+    BoxAt, Call, GenerationalRefMut, Numbers, Owner, Session, Storage, Store, UnsyncStorage,
+};
+use std::alloc::Global;
+use std::process::Abort;
+use std::rc::Rc;
+
+/// A value that is counted.
+type Counted = Rc<u32>;
+
+/// A value of which the test keeps a clone.
+fn counted(rt: &impl Abort, alloc: Global) -> Counted {
+    Rc::new(alloc, 5).map_err(|_| "memory").expect(rt, "memory")
+}
+
+/// Another clone of a value.
+fn another(rt: &impl Abort, value: &Counted) -> Counted {
+    value.clone().expect(rt, "a clone")
+}
+
+/// Asserts how many clones of a value there are.
+fn assert_count(rt: &impl Abort, value: &Counted, count: usize) {
+    assert_eq!(rt; Rc::strong_count(value), count);
+}
+
+fn ends<S: Storage<Counted>>(rt: &impl Abort, alloc: Global, store: &mut S) {
+    let value = counted(rt, alloc);
+    let first = leak(rt, store, another(rt, &value), made());
+    let second = leak(rt, store, another(rt, &value), made());
+    assert_count(rt, &value, 3);
+    end(rt, store, first);
+    assert_count(rt, &value, 2);
+    recycle(rt, store, second);
+    assert_count(rt, &value, 1);
+}
+
+// Also where the slot retires with its value.
+#[test]
+fn an_ended_value(rt: HostRuntime) {
+    let alloc = rt.alloc();
+    for generation in [1, u64::MAX] {
+        let numbers = Numbers {
+            generation,
+            ticket: 0,
+        };
+        let mut store: UnsyncStorage<Counted> = Store::new_at(alloc, 7, numbers);
+        ends(&rt, alloc, &mut store);
+    }
+}
+
+/// Another owner value.
+fn clone_of<S: Storage<Counted>>(rt: &impl Abort, store: &mut S, owner: &Owner) -> Owner {
+    owner.clone(store).expect(rt, "a clone")
+}
+
+fn releases<S: Storage<Counted>>(rt: &impl Abort, alloc: Global, store: &mut S) {
+    let value = counted(rt, alloc);
+    let owner = new_owner(rt, store);
+    insert(rt, store, &owner, another(rt, &value), made());
+    insert(rt, store, &owner, another(rt, &value), made_later());
+    let other = clone_of(rt, store, &owner);
+    assert_count(rt, &value, 3);
+    release(rt, store, other);
+    assert_count(rt, &value, 3);
+    release(rt, store, owner);
+    assert_count(rt, &value, 1);
+}
+
+#[test]
+fn values_of_an_owner(rt: HostRuntime) {
+    let mut store: UnsyncStorage<Counted> = Store::new(rt.alloc(), 7);
+    releases(&rt, rt.alloc(), &mut store);
+}
+
+/// Puts a value in the place of a writer's, and lets the old one go.
+fn replace(guard: &mut GenerationalRefMut<Counted>, value: Counted) {
+    let _old = guard.replace(value);
+}
+
+/// Ends a write.
+fn put_back<S: Storage<Counted>>(
+    rt: &impl Abort,
+    store: &mut S,
+    guard: GenerationalRefMut<Counted>,
+) {
+    assert!(rt; guard.release(store).is_ok());
+}
+
+fn writes<S: Storage<Counted>>(rt: &impl Abort, alloc: Global, store: &mut S) {
+    let first = counted(rt, alloc);
+    let second = counted(rt, alloc);
+    let only = leak(rt, store, another(rt, &first), made());
+    let mut guard = begin_write(rt, store, only, written());
+    replace(&mut guard, another(rt, &second));
+    assert_count(rt, &first, 1);
+    put_back(rt, store, guard);
+    assert_count(rt, &second, 2);
+
+    let mut guard = begin_write(rt, store, only, written());
+    *guard.deref_mut() = another(rt, &first);
+    assert_count(rt, &second, 1);
+    put_back(rt, store, guard);
+    assert_count(rt, &first, 2);
+    end(rt, store, only);
+    assert_count(rt, &first, 1);
+}
+
+// A write lets the value go that it takes the place of, and no other.
+#[test]
+fn a_replaced_value(rt: HostRuntime) {
+    let mut store: UnsyncStorage<Counted> = Store::new(rt.alloc(), 7);
+    writes(&rt, rt.alloc(), &mut store);
+}
+
+// What is live, what is read and what is leaked by its owner goes with the store.
+#[test]
+fn values_of_a_store(rt: HostRuntime) {
+    let alloc = rt.alloc();
+    let value = counted(&rt, alloc);
+    {
+        let mut store: UnsyncStorage<Counted> = Store::new(alloc, 7);
+        leak(&rt, &mut store, another(&rt, &value), made());
+        let owner = new_owner(&rt, &mut store);
+        insert(&rt, &mut store, &owner, another(&rt, &value), made());
+        owner.leak();
+        assert_count(&rt, &value, 3);
+    }
+    assert_count(&rt, &value, 1);
+}
+
+/// Makes a call, and lets its reply go.
+fn make<S: Storage<Counted>>(
+    rt: &impl Abort,
+    session: &mut Session<Counted, S>,
+    asked: Call<Counted>,
+) {
+    let _reply = call(rt, session, asked);
+}
+
+fn calls<S: Storage<Counted> + Drop>(
+    rt: &impl Abort,
+    alloc: Global,
+    mut session: Session<Counted, S>,
+) {
+    let value = counted(rt, alloc);
+    make(rt, &mut session, Call::Leak(another(rt, &value), made()));
+    make(rt, &mut session, Call::TryWrite(BoxAt::Place(0), written()));
+    make(rt, &mut session, Call::Replace(1, another(rt, &value)));
+    assert_count(rt, &value, 2);
+    make(rt, &mut session, Call::Replace(0, another(rt, &value)));
+    assert_count(rt, &value, 2);
+    make(rt, &mut session, Call::Release(1));
+    assert_count(rt, &value, 2);
+    make(rt, &mut session, Call::ManuallyDrop(BoxAt::Place(0)));
+    assert_count(rt, &value, 1);
+
+    make(rt, &mut session, Call::Owner);
+    make(
+        rt,
+        &mut session,
+        Call::Insert(6, another(rt, &value), made()),
+    );
+    make(rt, &mut session, Call::ReleaseOwner(6));
+    assert_count(rt, &value, 1);
+    make(rt, &mut session, Call::Leak(another(rt, &value), made()));
+    make(rt, &mut session, Call::TryWrite(BoxAt::Place(9), written()));
+    assert_count(rt, &value, 2);
+    let store = session.finish();
+    assert_count(rt, &value, 2);
+    drop(store);
+    assert_count(rt, &value, 1);
+}
+
+// A session lets go what it ends, and keeps a writer's value up to the store's end.
+#[test]
+fn values_of_a_session(rt: HostRuntime) {
+    let store: UnsyncStorage<Counted> = Store::new(rt.alloc(), 7);
+    calls(&rt, rt.alloc(), Session::new(rt.alloc(), store));
+}

@@ -1,0 +1,159 @@
+//! How a store and a session grow: by leaps that become larger, and never by much more than they
+//! need.
+//!
+//! A test can't count what was asked of the allocator. So it asks the system, as it goes, how much
+//! memory the process has mapped. What grows by leaps changes that a few times, and what grows by
+//! one at a time changes it whenever a page is full.
+
+use crate::expected::{insert, leak, made, new_owner};
+use crate::sessions::call;
+use generational_box::{BoxAt, Call, Owner, Session, Storage, Store, UnsyncStorage};
+use std::fs;
+use std::process::Abort;
+use std::rt::Files;
+use std::test::Fail;
+
+/// How many pages the process has mapped.
+fn mapped<R: Files + AllocGlobal>(rt: &R) -> Result<u64, Fail> {
+    let text = fs::read_to_string(rt, "/proc/self/statm")?;
+    let pages = text.as_str().split_once(' ').map_or("", |(pages, _)| pages);
+    Ok(pages.parse::<u64>()?)
+}
+
+/// How the mapped memory grows.
+#[derive(Clone, Copy)]
+struct Gauge {
+    first: u64,
+    last: u64,
+    leaps: u32,
+}
+
+impl Gauge {
+    /// A gauge of what is mapped from now on.
+    fn new<R: Files + AllocGlobal>(rt: &R) -> Result<Gauge, Fail> {
+        let pages = mapped(rt)?;
+        Ok(Gauge {
+            first: pages,
+            last: pages,
+            leaps: 0,
+        })
+    }
+
+    /// Looks whether more is mapped now.
+    fn look<R: Files + AllocGlobal>(&mut self, rt: &R) -> Result<(), Fail> {
+        let pages = mapped(rt)?;
+        if pages != self.last {
+            self.leaps = self.leaps.saturating_add(1);
+        }
+        self.last = pages;
+        Ok(())
+    }
+
+    /// Asserts that there were few leaps, and that no more pages are mapped than these.
+    fn assert_grew(&self, rt: &impl Abort, pages: u64) {
+        let grown = self.last.saturating_sub(self.first);
+        assert!(rt; grown <= pages, "{grown} pages");
+        assert!(rt; self.leaps <= 40, "{} leaps", self.leaps);
+    }
+}
+
+/// Makes a hundred boxes by nobody.
+fn make<S: Storage<u32>>(rt: &impl Abort, store: &mut S) {
+    for value in 0..100 {
+        leak(rt, store, value, made());
+    }
+}
+
+/// Makes boxes by nobody, and looks how the memory grows.
+fn leaked<R: Files + AllocGlobal + Abort, S: Storage<u32>>(
+    rt: &R,
+    store: &mut S,
+    gauge: &mut Gauge,
+) -> Result<(), Fail> {
+    leak(rt, store, 0, made());
+    gauge.look(rt)?;
+    gauge.assert_grew(rt, 1_000);
+    for _ in 0..1_000 {
+        make(rt, store);
+        gauge.look(rt)?;
+    }
+    Ok(())
+}
+
+// A hundred thousand slots.
+#[test]
+fn slots(rt: HostRuntime) -> Result<(), Fail> {
+    let mut store: UnsyncStorage<u32> = Store::new(rt.alloc(), 7);
+    let mut gauge = Gauge::new(&rt)?;
+    leaked(&rt, &mut store, &mut gauge)?;
+    gauge.assert_grew(&rt, 8_000);
+    Ok(())
+}
+
+/// Makes a hundred boxes by an owner.
+fn make_by<S: Storage<u32>>(rt: &impl Abort, store: &mut S, owner: &Owner) {
+    for value in 0..100 {
+        insert(rt, store, owner, value, made());
+    }
+}
+
+/// Makes boxes by an owner, and looks how the memory grows.
+fn owned<R: Files + AllocGlobal + Abort, S: Storage<u32>>(
+    rt: &R,
+    store: &mut S,
+    owner: &Owner,
+    gauge: &mut Gauge,
+) -> Result<(), Fail> {
+    for _ in 0..1_000 {
+        make_by(rt, store, owner);
+        gauge.look(rt)?;
+    }
+    Ok(())
+}
+
+// A hundred thousand boxes of one owner.
+#[test]
+fn an_owners_list(rt: HostRuntime) -> Result<(), Fail> {
+    let mut store: UnsyncStorage<u32> = Store::new(rt.alloc(), 7);
+    let mut gauge = Gauge::new(&rt)?;
+    let owner = new_owner(&rt, &mut store);
+    let looked = owned(&rt, &mut store, &owner, &mut gauge);
+    owner.leak();
+    looked?;
+    gauge.assert_grew(&rt, 12_000);
+    Ok(())
+}
+
+/// Makes a hundred calls of a session that take no slot.
+fn ask<S: Storage<u32>>(rt: &impl Abort, session: &mut Session<u32, S>) {
+    for _ in 0..100 {
+        let _reply = call(rt, session, Call::Id(BoxAt::Place(0)));
+    }
+}
+
+/// Makes calls, and looks how the memory grows.
+fn called<R: Files + AllocGlobal + Abort, S: Storage<u32>>(
+    rt: &R,
+    session: &mut Session<u32, S>,
+    gauge: &mut Gauge,
+) -> Result<(), Fail> {
+    for _ in 0..1_000 {
+        ask(rt, session);
+        gauge.look(rt)?;
+    }
+    Ok(())
+}
+
+// A hundred thousand places of a session.
+#[test]
+fn places(rt: HostRuntime) -> Result<(), Fail> {
+    let mut gauge = Gauge::new(&rt)?;
+    let store: UnsyncStorage<u32> = Store::new(rt.alloc(), 7);
+    let mut session = Session::new(rt.alloc(), store);
+    let _reply = call(&rt, &mut session, Call::Leak(1, made()));
+    let looked = called(&rt, &mut session, &mut gauge);
+    let _store = session.finish();
+    looked?;
+    gauge.assert_grew(&rt, 8_000);
+    Ok(())
+}

@@ -1,0 +1,117 @@
+//! Plenty of everything: where there is memory nothing lacks it, however much there is already.
+
+use crate::expected::{
+    assert_reads, assert_unread, dropped, insert, leak, made, made_later, new_owner, read, release,
+    written,
+};
+use crate::sessions::call;
+use generational_box::{BoxAt, Call, Reply, Session, Storage, Store, UnsyncStorage};
+use std::alloc::{AllocError, Global};
+use std::process::Abort;
+
+fn boxes_of_a_store<S: Storage<u32>>(rt: &impl Abort, store: &mut S) {
+    let owner = new_owner(rt, store);
+    let first = insert(rt, store, &owner, 0, made());
+    for value in 1..2_000 {
+        let owned = insert(rt, store, &owner, value, made_later());
+        assert_reads(rt, store, owned, value);
+        let leaked = leak(rt, store, value, made());
+        assert_reads(rt, store, leaked, value);
+    }
+    release(rt, store, owner);
+    assert_unread(rt, store, first, dropped(made()));
+}
+
+/// Makes owners that have no boxes.
+fn owners_of_a_store<S: Storage<u32>>(rt: &impl Abort, store: &mut S) {
+    for _ in 0..2_000 {
+        new_owner(rt, store).leak();
+    }
+}
+
+#[test]
+fn slots_and_owners(rt: HostRuntime) {
+    let mut store: UnsyncStorage<u32> = Store::new(rt.alloc(), 7);
+    boxes_of_a_store(&rt, &mut store);
+    owners_of_a_store(&rt, &mut store);
+}
+
+/// Makes boxes by the owner at place 0.
+fn inserts<S: Storage<u32>>(rt: &impl Abort, session: &mut Session<u32, S>, count: u32) {
+    for value in 0..count {
+        let reply = call(rt, session, Call::Insert(0, value, made()));
+        assert!(rt; matches!(&reply, Reply::Box(_)), "at {value}");
+    }
+}
+
+/// Makes boxes by nobody.
+fn leaks<S: Storage<u32>>(rt: &impl Abort, session: &mut Session<u32, S>, count: u32) {
+    for value in 0..count {
+        let reply = call(rt, session, Call::Leak(value, made()));
+        assert!(rt; matches!(&reply, Reply::Box(_)), "at {value}");
+    }
+}
+
+/// Begins reads of the box at place 1.
+fn reads<S: Storage<u32>>(rt: &impl Abort, session: &mut Session<u32, S>, count: u32) {
+    for number in 0..count {
+        let reply = call(rt, session, Call::TryRead(BoxAt::Place(1), read()));
+        assert!(rt; matches!(&reply, Reply::Reader), "at {number}");
+    }
+}
+
+/// Asserts that a call is told of borrows, and doesn't lack memory for them.
+fn assert_told<S: Storage<u32>>(rt: &impl Abort, session: &mut Session<u32, S>, asked: Call<u32>) {
+    let reply = call(rt, session, asked);
+    assert!(rt; matches!(&reply, Reply::Error(_)));
+}
+
+/// A list of makings.
+fn makings(rt: &impl Abort, alloc: Global, count: u32) -> Vec<Call<u32>> {
+    let mut calls = Vec::new(alloc);
+    for value in 0..count {
+        calls.push(Call::Leak(value, made())).expect(rt, "memory");
+    }
+    calls
+}
+
+/// Runs a list of makings.
+fn run<S: Storage<u32>>(
+    rt: &impl Abort,
+    session: &mut Session<u32, S>,
+    calls: Vec<Call<u32>>,
+    count: usize,
+) {
+    let ran = session.run(calls).map_err(|_| AllocError);
+    let replies = ran.expect(rt, "replies");
+    assert_eq!(rt; replies.len(), count);
+    for reply in replies {
+        assert!(rt; matches!(&reply, Reply::Box(_)));
+    }
+}
+
+fn calls_of_a_session<S: Storage<u32>>(
+    rt: &impl Abort,
+    alloc: Global,
+    session: &mut Session<u32, S>,
+) {
+    let reply = call(rt, session, Call::Owner);
+    assert!(rt; matches!(&reply, Reply::Owner));
+    inserts(rt, session, 2_000);
+    reads(rt, session, 100);
+    assert_told(rt, session, Call::ManuallyDrop(BoxAt::Place(1)));
+    assert_told(rt, session, Call::TryWrite(BoxAt::Place(1), written()));
+    assert_told(rt, session, Call::ReleaseOwner(0));
+    leaks(rt, session, 4_000);
+    run(rt, session, makings(rt, alloc, 200), 200);
+    reads(rt, session, 1);
+}
+
+// Two thousand boxes of an owner, a hundred readers, six thousand calls and a list of two hundred.
+#[test]
+fn places_and_readers(rt: HostRuntime) {
+    let store: UnsyncStorage<u32> = Store::new(rt.alloc(), 7);
+    let mut session = Session::new(rt.alloc(), store);
+    calls_of_a_session(&rt, rt.alloc(), &mut session);
+    let _store = session.finish();
+}

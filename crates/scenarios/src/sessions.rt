@@ -1,0 +1,74 @@
+//! What a session's end leaves in its store.
+
+use crate::expected::{assert_reads, end, made, read};
+use generational_box::{
+    BoxAt, Call, GenerationalBox, Reply, Session, Storage, Store, UnsyncStorage,
+};
+use std::alloc::AllocError;
+use std::process::Abort;
+
+/// Answers a call.
+pub(crate) fn call<T: Drop, S: Storage<T>>(
+    rt: &impl Abort,
+    session: &mut Session<T, S>,
+    call: Call<T>,
+) -> Reply<T> {
+    session
+        .call(call)
+        .map_err(|_| AllocError)
+        .expect(rt, "a reply")
+}
+
+/// The box that a call gives.
+fn box_of<S: Storage<u32>>(
+    rt: &impl Abort,
+    session: &mut Session<u32, S>,
+    asked: Call<u32>,
+) -> GenerationalBox<u32> {
+    match call(rt, session, asked) {
+        Reply::Box(given) => given,
+        _ => panic!(rt; "another reply"),
+    }
+}
+
+/// Begins a read of the box at a place.
+fn begin_at<S: Storage<u32>>(rt: &impl Abort, session: &mut Session<u32, S>, place: usize) {
+    let reply = call(rt, session, Call::TryRead(BoxAt::Place(place), read()));
+    assert!(rt; matches!(&reply, Reply::Reader));
+}
+
+fn readers_of_two<S: Storage<u32>>(rt: &impl Abort, mut session: Session<u32, S>) -> S {
+    let one = box_of(rt, &mut session, Call::Leak(1, made()));
+    let other = box_of(rt, &mut session, Call::Leak(1, made()));
+    for place in [0, 1, 0] {
+        begin_at(rt, &mut session, place);
+    }
+    assert_eq!(rt; session.store().number(), 7);
+    let mut store = session.finish();
+    end(rt, &mut store, one);
+    end(rt, &mut store, other);
+    store
+}
+
+// The end of a session releases the guards that it still holds, so its boxes can be ended.
+#[test]
+fn a_session_ends_with_no_reader_left(rt: HostRuntime) {
+    let store: UnsyncStorage<u32> = Store::new(rt.alloc(), 7);
+    let _store = readers_of_two(&rt, Session::new(rt.alloc(), store));
+}
+
+fn box_of_an_owner<S: Storage<u32>>(rt: &impl Abort, mut session: Session<u32, S>) -> S {
+    let reply = call(rt, &mut session, Call::Owner);
+    assert!(rt; matches!(&reply, Reply::Owner));
+    let kept = box_of(rt, &mut session, Call::Insert(0, 1, made()));
+    let mut store = session.finish();
+    assert_reads(rt, &mut store, kept, 1);
+    store
+}
+
+// A session's end leaks the owners that it still holds: their boxes stay.
+#[test]
+fn a_session_ends_with_its_owners_leaked(rt: HostRuntime) {
+    let store: UnsyncStorage<u32> = Store::new(rt.alloc(), 7);
+    let _store = box_of_an_owner(&rt, Session::new(rt.alloc(), store));
+}
