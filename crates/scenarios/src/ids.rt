@@ -73,23 +73,16 @@ fn boxes_of_one_slot(rt: HostRuntime) {
     boxes_one_after_the_other(&rt, rt.alloc(), &mut store);
 }
 
-/// Asserts that a box that is made of a box's pointer has its id.
-fn assert_same(rt: &impl Abort, given: GenerationalBox<u32>) {
-    let same: GenerationalBox<u32> = GenerationalBox::from(given.pointer());
-    assert!(rt; same.ptr_eq(&given));
-}
-
 fn boxes_beside_another_store<S: Storage<u32>>(rt: &impl Abort, store: &mut S, eight: &mut S) {
     let foreign = leak(rt, eight, 0, made());
     for slot in 0..3 {
         let given = leak(rt, store, 1, made());
         assert_slot(rt, store, given, slot);
         assert_apart(rt, given, foreign);
-        assert_same(rt, given);
     }
 }
 
-// Slots are told by their numbers. A box that is made of a pointer is the pointer's own.
+// Slots are told by their numbers.
 #[test]
 fn boxes_of_several_slots(rt: HostRuntime) {
     let mut store: UnsyncStorage<u32> = Store::new(rt.alloc(), 7);
