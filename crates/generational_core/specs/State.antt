@@ -38,7 +38,7 @@ pub record State (T : Type 0) : Type 0 where
   -- the first generation of a slot
   pub start : ℕ
 
--- the state in which nothing was ever made
+-- the state without given names and without owners' records
 abbrev pub fresh : {T : Type 0} → ℕ → ℕ → ℕ → State T
 fresh number start next =
     record {
@@ -52,7 +52,7 @@ fresh number start next =
     }
 
 module _ {T : Type 0} where
-  -- nothing was ever made
+  -- no name was given, and no owner's record stands
   abbrev pub IsFresh : State T → Type 0
   IsFresh S = S ≡ fresh S.number S.start S.next
 
