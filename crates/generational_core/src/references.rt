@@ -245,6 +245,7 @@ impl<'a, T> Deref for Mut<'a, T> {
     }
 }
 
+// `named 1` is the guard's lifetime: the second in the signature of `deref_mut`.
 impl<'a, T> DerefMut for Mut<'a, T> {
     ghost use Rattle.std.specs.Prelude.{[]};
     ghost use Rattle.std.specs.Borrow.{sem, follows};
