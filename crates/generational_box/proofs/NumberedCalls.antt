@@ -237,7 +237,8 @@ module _ {T : Type 0} {s a : SessionState T} (m : Matches s a) where
         settles_step c x r (asked s c) (asked a c) (asked_alike m.carries c) step
 
 module _ {T : Type 0} where
-  -- so the replies of a run are those of the numbered machine, ids aside, and what it leaves matches
+  -- so the replies of a run are those of the numbered machine, ids aside, and the sessions that are
+  -- left match
   pub run_answers : (calls : List (Call T)) (replies : List (Said T)) (s r a : SessionState T)
       → Matches s a → IsSound s.state → Run s calls replies r → AnswersAs a calls replies r
   run_answers [] [] s r a m sound run =

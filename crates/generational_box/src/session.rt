@@ -51,7 +51,8 @@ impl<T: Drop, S: Storage<T>> Session<T, S> {
     ghost use Rattle.generational_box.specs.Slots.{slots, retired};
     ghost use Rattle.generational_box.specs.Numbered.{Matches, AnswersAs, empty_session};
     ghost use Rattle.generational_box.specs.Replies.{TellsEnds, GivesNewBox, EndsOwned};
-    ghost use Rattle.generational_box.specs.Replies.{AllKeepPromises, AllTellEnds, KeepBoxes, GiveBoxesApart};
+    ghost use Rattle.generational_box.specs.Replies.{KeepBoxes, GiveBoxesApart};
+    ghost use Rattle.generational_box.specs.Replies.{AllKeepPromises, AllTellEnds};
 
     /// A session over a store in which nothing was made yet (`is_fresh` is the test). Takes no
     /// memory.
@@ -87,11 +88,12 @@ impl<T: Drop, S: Storage<T>> Session<T, S> {
         ensures tells_ends { IfOk result (λ reply. TellsEnds self.old call (said_by reply)) }
         ensures new_box { IfOk result (λ reply. GivesNewBox self.old (said_by reply)) }
         ensures keep_boxes { KeepBoxes self.old self.new }
-        ensures ends_owned { IfOk result (λ reply. EndsOwned self.old call (said_by reply) self.new) }
+        ensures ends_owned { IfOk result (λ reply.
+            EndsOwned self.old call (said_by reply) self.new) }
 
         // The state is sound, boxes at different places have different ids, and the store knows
-        // the held guards and owners. There are no more slots than were live at once and are
-        // retired. A name that has ended is never live again. A value that nothing disturbs stays.
+        // the held guards and owners. There are no more slots than the peak and the retired ones.
+        // A name that has ended is never live again. A value that nothing disturbs stays.
         ensures kept { IsKept self.new }
         ensures bounded { slots self.new.state ≤ self.new.state.peak + retired self.new.state }
         ensures ended { (n : Name) → IsEnded self.old.state n → IsEnded self.new.state n }
