@@ -82,9 +82,9 @@ impl<T: Drop, S: Storage<T>> Session<T, S> {
         ensures same_answer { IfOk result (λ reply. (a : SessionState T) → Matches self.old a →
             AnswersAs a (call ∷ []) (said_by reply ∷ []) self.new) }
 
-        // A box whose name has ended is told so. A box that is given was never given before, and a
-        // place keeps its box. The last release of an owner that is done ends the boxes of its
-        // list.
+        // A read or a write of a box whose name has ended is answered so. A box that is given was
+        // never given before, and a place keeps its box. The last release of an owner that is done
+        // ends the boxes of its list.
         ensures tells_ends { IfOk result (λ reply. TellsEnds self.old call (said_by reply)) }
         ensures new_box { IfOk result (λ reply. GivesNewBox self.old (said_by reply)) }
         ensures keep_boxes { KeepBoxes self.old self.new }
@@ -123,8 +123,9 @@ impl<T: Drop, S: Storage<T>> Session<T, S> {
         ensures same_answers { IfOk result (λ replies. (a : SessionState T) → Matches self.old a →
             AnswersAs a calls.items (replies_said replies.items) self.new) }
 
-        // What `call` promises of a call holds of each call of the run. Boxes whose names had ended
-        // before are told so throughout. No two replies give boxes with one id.
+        // What `call` promises of a call holds of each call of the run. A read or a write of a box
+        // whose name had ended before the run is answered so, wherever in the run it stands. No two
+        // replies give boxes with one id.
         ensures promises { IfOk result (λ replies.
             let said = replies_said replies.items in
             (run : Run self.old calls.items said self.new) →
