@@ -60,3 +60,4 @@ pub mod Stepping
 pub mod Tables
 pub mod Tickets
 pub mod Undisturbed
+pub mod Unrefused

@@ -26,7 +26,8 @@ use Rattle.generational_core.specs.Carrying.{moved_holding, KnowsCall, KnowsFres
 use Rattle.generational_core.specs.Carrying.{moved_fresh, moved_guard}
 use Rattle.generational_core.specs.Carrying.{moved_action, moved_owner, moved_box}
 use Rattle.generational_core.specs.Session.{SessionState, Said, Asked, Settles, SessionStep, Run}
-use Rattle.generational_core.specs.Session.{asked, said, settled, placed, swapped, refusal}
+use Rattle.generational_core.specs.Session.{asked, said, settled, placed, swapped, refusal, spent}
+use Rattle.generational_core.specs.Steps.{Meets}
 use Rattle.generational_core.specs.Session.Asked.{Asks, Tells, Swaps}
 use Rattle.generational_core.specs.Session.Said.{TheOld}
 use Rattle.generational_core.specs.Session.Held.{Nothing}
@@ -46,6 +47,7 @@ use Rattle.generational_core.proofs.CarriedSession.{AskedAlike, asked_alike, pla
 use Rattle.generational_core.proofs.CarriedSession.{swapped_alike}
 use Rattle.generational_core.proofs.CarriedSession.AskedAlike.{both_ask, both_tell, both_swap}
 use Rattle.generational_core.proofs.CarriedSound.{matched_sound}
+use Rattle.generational_core.proofs.Unrefused.{SpendsNothing, spends_nothing}
 use Rattle.generational_core.proofs.Numbering.{named_front}
 use Rattle.generational_core.proofs.NumberedStep.{box_agrees, StepMatches, Knows, AlikeWith}
 use Rattle.generational_core.proofs.NumberedStep.{kept_step, settled_step, still_known, made_step}
@@ -173,27 +175,33 @@ module _ {T : Type 0} {s a : SessionState T} (m : Matches s a) where
 
     -- a call that the store refuses
     wanting_step : (c : Call T) (e : StoreError)
-        → StepMatches (settled s c (Refused e, s.state)) (settled a c (Refused e, a.state))
-    wanting_step c e = settled_step m c (Refused e, s.state) (Refused e, a.state)
-        (record { answer = refl; state = m.carries.state; same = refl; known = tt }) refl refl
+        → StepMatches (refusal c e, placed s Nothing) (refusal c e, placed a Nothing)
+    wanting_step c e = kept_step m (refusal c e, placed s Nothing) (refusal c e, placed a Nothing)
+        (record { said = refl; session = placed_alike m.carries }) refl refl
 
     settles_step : (c : Call T) (x : Said T) (r : SessionState T) (p q : Asked T)
         → AskedAlike (named_by m.order) m.difference (Knows m) a.state.number p q
-        → Settles s c p x r → StepMatches (x, r) (numbered a c q (refusal_in x))
-    settles_step c x r p q (both_ask action k) step =
+        → SpendsNothing s c p → Settles s c p x r
+        → StepMatches (x, r) (numbered a c q (refusal_in x))
+    settles_step c x r p q (both_ask action k) unspent step =
         ⊎_elim wanting acting (meets_fresh s.state step.1 (mine action) step.0 step.2)
       where
         wanting : (e : StoreError) × (want e ≡ Some e) × (step.0 ≡ Refused e)
             × (step.1 ≡ s.state) → StepMatches (x, r) (numbered a c (Asks action) (refusal_in x))
         wanting w =
-            let out : (x, r) ≡ settled s c (Refused w.0, s.state) =
-            step.3 ∙ (λ i. settled s c (w.2 i, w.3 i)) in
+            let left : spent c (Refused w.0) s.table ≡ s.table =
+            unspent w.0 step.1
+            (subst (λ answer. Meets s.state (mine action) answer step.1) w.2 step.2) in
+            let out : (x, r) ≡ (refusal c w.0, placed s Nothing) =
+            step.3 ∙ ((λ i. settled s c (w.2 i, w.3 i)) ∙ (λ i.
+            let after : SessionState T = record { state = s.state; table = left i } in
+            (refusal c w.0, placed after Nothing))) in
             let heard : refusal_in x ≡ Some w.0 =
             ap (λ (o : Said T × SessionState T). refusal_in o.0) out
             ∙ (refusal_told c w.0 ∙ w.1) in
             subst (λ e. StepMatches (x, r) (numbered a c (Asks action) e)) (sym heard)
             (subst (λ (o : Said T × SessionState T).
-            StepMatches o (settled a c (Refused w.0, a.state))) (sym out) (wanting_step c w.0))
+            StepMatches o (refusal c w.0, placed a Nothing)) (sym out) (wanting_step c w.0))
 
         acting : (new : Fresh) × AreFresh s.state (mine action) new
             × ((step.0, step.1) ≡ act s.state (mine action) new)
@@ -208,14 +216,14 @@ module _ {T : Type 0} {s a : SessionState T} (m : Matches s a) where
             subst (λ e. StepMatches (x, r) (numbered a c (Asks action) e)) (sym heard)
             (subst (λ (o : Said T × SessionState T). StepMatches o (settled a c
             (act a.state action (next_numbers a)))) (sym out) (asks_step c action w.0 k w.1))
-    settles_step c x r p q (both_tell y z e able) step =
+    settles_step c x r p q (both_tell y z e able) unspent step =
         let heard : refusal_in x ≡ None = ap refusal_in step.0 ∙ able in
         subst (λ w. StepMatches (x, r) (numbered a c (Tells z) w)) (sym heard)
         (subst (λ (o : Said T × SessionState T). StepMatches o (z, placed a Nothing))
         (sym (λ i. (step.0 i, step.1 i)))
         (kept_step m (y, placed s Nothing)
         (z, placed a Nothing) (record { said = e; session = placed_alike m.carries }) refl refl))
-    settles_step c x r p q (both_swap place g v old known) step =
+    settles_step c x r p q (both_swap place g v old known) unspent step =
         let heard : refusal_in x ≡ None = ap refusal_in step.0 in
         let guard = moved_guard (named_by m.order) m.difference a.state.number g in
         let mine : Said T × SessionState T =
@@ -234,10 +242,12 @@ module _ {T : Type 0} {s a : SessionState T} (m : Matches s a) where
     step_matches : (c : Call T) (x : Said T) (r : SessionState T)
         → SessionStep s c x r → StepMatches (x, r) (numbered_act a c (refusal_in x))
     step_matches c x r step =
-        settles_step c x r (asked s c) (asked a c) (asked_alike m.carries c) step
+        settles_step c x r (asked s c) (asked a c)
+        (asked_alike m.carries c) (spends_nothing s c) step
 
 module _ {T : Type 0} where
-  -- so the replies of a run are those of the numbered machine, ids aside, and what it leaves matches
+  -- so the replies of a run are those of the numbered machine, ids aside, and the sessions that are
+  -- left match
   pub run_answers : (calls : List (Call T)) (replies : List (Said T)) (s r a : SessionState T)
       → Matches s a → IsSound s.state → Run s calls replies r → AnswersAs a calls replies r
   run_answers [] [] s r a m sound run =

@@ -182,7 +182,8 @@ module _ {T : Type 0} {s a : SessionState T} (m : Matches s a) where
   -- a making, once the new names are numbered behind the others
   pub made_step : (x : Call T) (names : List Name) (given_s given : Names) (out was : Outcome T)
       → CarriesWith names → AreListed (m.order ++ names) given_s
-      → AreNumbersBelow (length (m.order ++ names)) given → AlikeWith names out was → MadeOrRefused s.state given_s out
+      → AreNumbersBelow (length (m.order ++ names)) given → AlikeWith names out was
+      → MadeOrRefused s.state given_s out
       → MadeOrRefused a.state given was → StepMatches (settled s x out) (settled a x was)
   made_step x names given_s given out was c listed numbers h of_s of_a = ⊎_elim refused made of_a
     where

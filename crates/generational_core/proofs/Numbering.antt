@@ -20,7 +20,8 @@ use Rattle.generational_core.specs.Carrying.{Carries, moved_cell, moved_holding}
 use Rattle.generational_core.specs.Numbered.{number, IsNumberBelow, AreNumbersBelow, named_by}
 use Rattle.generational_core.specs.Numbered.{AreListed}
 use Rattle.generational_core.proofs.Maps.{by_name, name_total, name_cases, contains-insert_here}
-use Rattle.generational_core.proofs.Maps.{contains-insert_old, contains-insert_apart, contains-insert_name}
+use Rattle.generational_core.proofs.Maps.{contains-insert_old, contains-insert_apart}
+use Rattle.generational_core.proofs.Maps.{contains-insert_name}
 
 -- ---- a renaming that agrees with another one on the names known
 

@@ -1,6 +1,7 @@
 -- When one state carries another into itself: its names by a renaming, its tickets and keys by a
 -- difference, its values by a function.
-use Rattle.std.specs.Prelude.{◌≡◌, ℕ, ◌+◌, ◌≤◌, true, if◌then◌else◌, nat_eq, Some, is_some, option_map}
+use Rattle.std.specs.Prelude.{◌≡◌, ℕ, ◌+◌, ◌≤◌, true, if◌then◌else◌, nat_eq, Some, is_some}
+use Rattle.std.specs.Prelude.{option_map}
 use Rattle.std.specs.Prelude.{map as list_map}
 use Rattle.std.specs.List.{AllByRecursion}
 use Rattle.std.specs.FinMap as map

@@ -14,9 +14,8 @@ use Rattle.generational_core.specs.Names.{Name, Names, among}
 use Rattle.generational_core.specs.Boxes.{id_of}
 use Rattle.generational_core.specs.State.{fresh}
 use Rattle.generational_core.specs.Machine.{Fresh, act}
-use Rattle.generational_core.specs.Machine.Answer.{Refused}
 use Rattle.generational_core.specs.Session.{SessionState, Held, Said, Asked, asked, settled}
-use Rattle.generational_core.specs.Session.{placed, swapped}
+use Rattle.generational_core.specs.Session.{placed, swapped, refusal}
 use Rattle.generational_core.specs.Session.Asked.{Asks, Tells, Swaps}
 use Rattle.generational_core.specs.Session.Held.{Boxed, Reading, Writing, Owning, Nothing}
 use Rattle.generational_core.specs.Session.Said.{ABox, AnOwner, AReader, AWriter, IsDone, TheOld}
@@ -120,13 +119,14 @@ module _ {T : Type 0} where
       let count = set.len a.state.given in
       record { first = number count; second = number (count + 1) }
 
-  -- what a call comes to in the numbered machine, where it meets no refusal, or this one
+  -- What a call comes to in the numbered machine. A refusal that it meets is answered, with the
+  -- value where one was handed in, and changes nothing.
   abbrev pub numbered : SessionState T
       → Call T → Asked T → Option StoreError → Said T × SessionState T
   numbered a c (Asks action) None = settled a c (act a.state action (next_numbers a))
   numbered a c (Tells x) None = (x, placed a Nothing)
   numbered a c (Swaps p g v old) None = (TheOld old, placed (swapped a p g v) Nothing)
-  numbered a c _ (Some e) = settled a c (Refused e, a.state)
+  numbered a c _ (Some e) = (refusal c e, placed a Nothing)
 
   -- a call of the numbered machine
   abbrev pub numbered_act : SessionState T → Call T → Option StoreError → Said T × SessionState T

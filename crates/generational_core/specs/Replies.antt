@@ -56,8 +56,9 @@ module _ {T : Type 0} where
     pub ends_owned : EndsOwned s c x r
 
   -- each call of a run keeps its promises
-  abbrev pub AllKeepPromises : (s : SessionState T) (calls : List (Call T)) (replies : List (Said T))
-      (r : SessionState T) → Run s calls replies r → Type 0
+  abbrev pub AllKeepPromises : (s : SessionState T)
+      (calls : List (Call T)) (replies : List (Said T)) (r : SessionState T)
+      → Run s calls replies r → Type 0
   AllKeepPromises s [] [] r run = Unit {0}
   AllKeepPromises s (c ∷ calls) (x ∷ replies) r run =
       KeepsPromises s c x run.0 × AllKeepPromises run.0 calls replies r run.2

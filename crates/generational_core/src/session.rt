@@ -51,7 +51,8 @@ impl<T: Drop, S: Storage<T>> Session<T, S> {
     ghost use Rattle.generational_core.specs.Slots.{slots, retired};
     ghost use Rattle.generational_core.specs.Numbered.{Matches, AnswersAs, empty_session};
     ghost use Rattle.generational_core.specs.Replies.{TellsEnds, GivesNewBox, EndsOwned};
-    ghost use Rattle.generational_core.specs.Replies.{AllKeepPromises, AllTellEnds, KeepBoxes, GiveBoxesApart};
+    ghost use Rattle.generational_core.specs.Replies.{KeepBoxes, GiveBoxesApart};
+    ghost use Rattle.generational_core.specs.Replies.{AllKeepPromises, AllTellEnds};
 
     /// A session over a fresh store (`is_fresh` is the test). Takes no memory.
     pub fn new(alloc: Global, store: S) -> Session<T, S>
@@ -80,17 +81,18 @@ impl<T: Drop, S: Storage<T>> Session<T, S> {
         ensures same_answer { IfOk result (λ reply. (a : SessionState T) → Matches self.old a →
             AnswersAs a (call ∷ []) (said_by reply ∷ []) self.new) }
 
-        // A box whose name has ended is told so. A box that is given was never given before, and a
-        // place keeps its box. The last release of an owner that is done ends the boxes of its
-        // list.
+        // A read or a write of a box whose name has ended is answered so. A box that is given was
+        // never given before, and a place keeps its box. The last release of an owner that is done
+        // ends the boxes of its list.
         ensures tells_ends { IfOk result (λ reply. TellsEnds self.old call (said_by reply)) }
         ensures new_box { IfOk result (λ reply. GivesNewBox self.old (said_by reply)) }
         ensures keep_boxes { KeepBoxes self.old self.new }
-        ensures ends_owned { IfOk result (λ reply. EndsOwned self.old call (said_by reply) self.new) }
+        ensures ends_owned { IfOk result (λ reply.
+            EndsOwned self.old call (said_by reply) self.new) }
 
         // The state is sound, boxes at different places have different ids, and the store knows
-        // the held guards and owners. There are no more slots than were live at once and are
-        // retired. A name that has ended is never live again. A value that nothing disturbs stays.
+        // the held guards and owners. There are no more slots than the peak and the retired ones.
+        // A name that has ended is never live again. A value that nothing disturbs stays.
         ensures kept { IsKept self.new }
         ensures bounded { slots self.new.state ≤ self.new.state.peak + retired self.new.state }
         ensures ended { (n : Name) → IsEnded self.old.state n → IsEnded self.new.state n }
@@ -120,8 +122,9 @@ impl<T: Drop, S: Storage<T>> Session<T, S> {
         ensures same_answers { IfOk result (λ replies. (a : SessionState T) → Matches self.old a →
             AnswersAs a calls.items (replies_said replies.items) self.new) }
 
-        // What `call` promises of a call holds of each call of the run. Boxes whose names had ended
-        // before are told so throughout. No two replies give boxes with one id.
+        // What `call` promises of a call holds of each call of the run. A read or a write of a box
+        // whose name had ended before the run is answered so, wherever in the run it stands. No two
+        // replies give boxes with one id.
         ensures promises { IfOk result (λ replies.
             let said = replies_said replies.items in
             (run : Run self.old calls.items said self.new) →

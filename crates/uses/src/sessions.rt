@@ -42,8 +42,9 @@ pub fn replies_over<S: Storage<u64> + Drop>(
     // Ids aside they are those of a machine without slots, where the same calls are refused.
     ensures { IfSome result (λ replies.
         let said = replies_said replies.items in
-        let first = empty_session (S.state store).number in
-        list_map erase said ≡ list_map erase (answers first calls.items (list_map refusal_in said))) }
+        let empty = empty_session (S.state store).number in
+        let own = answers empty calls.items (list_map refusal_in said) in
+        list_map erase said ≡ list_map erase own) }
 {
     let mut session = Session::new(alloc, store);
     let replies = session.run(calls).ok();
