@@ -19,12 +19,12 @@ use Rattle.generational_core.specs.Boxes.{name_of}
 use Rattle.generational_core.specs.State.{State, is_named}
 use Rattle.generational_core.specs.Borrowing.{Trouble, write_refusal}
 use Rattle.generational_core.specs.Borrowing.Trouble.{Dropped, BeingRead, BeingWritten}
-use Rattle.generational_core.specs.Ending.{swept, without, left_by, close, hindered, hindrance_of}
+use Rattle.generational_core.specs.Ending.{sweep, without, cells_after, close, hindrance_to, hindrance_of}
 use Rattle.generational_core.specs.Ending.{or_else}
 use Rattle.generational_core.specs.Machine.{Outcome, act, own_name, unless}
 use Rattle.generational_core.specs.Machine.Action.{End}
 use Rattle.generational_core.specs.Machine.Answer.{Done, Troubled, Refused as refuses}
-use Rattle.generational_core.specs.Steps.{Meets, limited, no_names, is_being_read}
+use Rattle.generational_core.specs.Steps.{Meets, limit_tickets, no_names, is_being_read}
 use Rattle.generational_box.specs.Entry.{IsBeingRead, FoundBorrowed, Kept, content_in, is_live}
 use Rattle.generational_box.specs.Entry.Kept.{Empty, Live}
 use Rattle.generational_core.specs.Answers.{trouble_of, end_refused}
@@ -49,17 +49,17 @@ module _ {T : Type 0} (S : State T) (values : OnlyValues S) where
 
   -- where no cell is a Shared one, just the names' own cells go
   pub left_get : (names : List Name) (q : Name)
-      → map.get (left_by S.cells names) q ≡ cond (not (among names q)) (map.get S.cells q) None
-  unfolding swept
+      → map.get (cells_after S.cells names) q ≡ cond (not (among names q)) (map.get S.cells q) None
+  unfolding sweep
   left_get names q =
       get-keep by_name (without S.cells names) _ q
       ∙ (ap (λ b. cond (not b || is_named (without S.cells names) q) (map.get (without S.cells names) q) None) (without_values names q)
       ∙ without_get names q)
 
-  pub left_none : left_by S.cells [] ≡ S.cells
+  pub left_none : cells_after S.cells [] ≡ S.cells
   left_none = map.same_map name_total name_exact _ _ (λ q. left_get [] q)
 
-  left_one : (n : Name) → left_by S.cells (n ∷ []) ≡ map.remove S.cells n
+  left_one : (n : Name) → cells_after S.cells (n ∷ []) ≡ map.remove S.cells n
   unfolding is_name
   left_one n =
       map.same_map name_total name_exact _ _ (λ q.
@@ -86,30 +86,30 @@ module _ {T : Type 0} (S : State T) (values : OnlyValues S) where
   or_none (Some t) = refl
 
   pub hindrance_one : (n : Name) (o : Option (Cell T)) → map.get S.cells n ≡ o
-      → hindered S (n ∷ []) ≡ hindrance_of S.cells (map.remove S.cells n) o n
-  unfolding hindered
+      → hindrance_to S (n ∷ []) ≡ hindrance_of S.cells (map.remove S.cells n) o n
+  unfolding hindrance_to
   hindrance_one n o is =
-      or_none (hindrance_of S.cells (left_by S.cells (n ∷ [])) (map.get S.cells n) n)
+      or_none (hindrance_of S.cells (cells_after S.cells (n ∷ [])) (map.get S.cells n) n)
       ∙ (λ i. hindrance_of S.cells (left_one n i) (is i) n)
 
   hindrance_value : (n : Name) (c : Content T) (k : Location) → map.get S.cells n ≡ Some (Value c k)
-      → hindered S (n ∷ []) ≡ write_refusal (Some c)
+      → hindrance_to S (n ∷ []) ≡ write_refusal (Some c)
   hindrance_value n c k is =
       hindrance_one n (Some (Value c k)) is
       ∙ (ap (λ o. cond (not (is_some o)) (write_refusal (content_of (map.get S.cells n))) None)
       (get-remove_here by_name S.cells n)
       ∙ ap (λ o. write_refusal (content_of o)) is)
 
-  pub nothing_hinders : hindered S [] ≡ None
-  unfolding hindered
+  pub nothing_hinders : hindrance_to S [] ≡ None
+  unfolding hindrance_to
   nothing_hinders = refl
 
   module _ (b : GenerationalPointer) where
     -- an end's answer, once what hinders it is known
-    end_is : (o : Option Trouble) → hindered S (own_name S b) ≡ o
-        → limited S (act S (End b) no_names)
-        ≡ limited S (unless o S (Done, close S (own_name S b)))
-    end_is o is = ap (λ t. limited S (unless t S (Done, close S (own_name S b)))) is
+    end_is : (o : Option Trouble) → hindrance_to S (own_name S b) ≡ o
+        → limit_tickets S (act S (End b) no_names)
+        ≡ limit_tickets S (unless o S (Done, close S (own_name S b)))
+    end_is o is = ap (λ t. limit_tickets S (unless t S (Done, close S (own_name S b)))) is
 
     own_yes : (x : Cell T) → own_cell_at S b.id ≡ Some x
         → (nat_eq b.id.store S.number ≡ true) × (map.get S.cells (name_of b) ≡ Some x)
@@ -121,10 +121,10 @@ module _ {T : Type 0} (S : State T) (values : OnlyValues S) where
         at false e = cc
 
     pub hindered_is : (c : Content T) (k : Location) → own_cell_at S b.id ≡ Some (Value c k)
-        → hindered S (own_name S b) ≡ write_refusal (Some c)
+        → hindrance_to S (own_name S b) ≡ write_refusal (Some c)
     hindered_is c k is =
         let own = own_yes (Value c k) is in
-        ap (λ x. hindered S (cond x (name_of b ∷ []) [])) own.0 ∙ hindrance_value (name_of b) c k own.1
+        ap (λ x. hindrance_to S (cond x (name_of b ∷ []) [])) own.0 ∙ hindrance_value (name_of b) c k own.1
 
     -- a box that names no live cell of this store
     pub end_gone : own_cell_at S b.id ≡ None → Meets S (End b) Done S
@@ -137,12 +137,12 @@ module _ {T : Type 0} (S : State T) (values : OnlyValues S) where
         )
       where
         unhindered : (own : Bool) → cond own (map.get S.cells (name_of b)) None ≡ None
-            → hindered S (cond own (name_of b ∷ []) []) ≡ None
+            → hindrance_to S (cond own (name_of b ∷ []) []) ≡ None
         unhindered true e = hindrance_one (name_of b) None e
         unhindered false e = nothing_hinders
 
         stays : (own : Bool) → cond own (map.get S.cells (name_of b)) None ≡ None
-            → left_by S.cells (cond own (name_of b ∷ []) []) ≡ S.cells
+            → cells_after S.cells (cond own (name_of b ∷ []) []) ≡ S.cells
         stays true e = left_one (name_of b) ∙ removed_none (name_of b) e
         stays false e = left_none
 
@@ -158,8 +158,8 @@ module _ {T : Type 0} (S : State T) (values : OnlyValues S) where
     end_lacks c k is reading =
         inr (at (write_refusal (Some c)) (hindered_is c k is) reading, refl, refl)
       where
-        at : (o : Option Trouble) → hindered S (own_name S b) ≡ o → IsBeingRead o
-            → is_being_read (limited S (act S (End b) no_names)).0 ≡ true
+        at : (o : Option Trouble) → hindrance_to S (own_name S b) ≡ o → IsBeingRead o
+            → is_being_read (limit_tickets S (act S (End b) no_names)).0 ≡ true
         at None e h = absurd h
         at (Some (Dropped l)) e h = absurd h
         at (Some (BeingWritten l)) e h = absurd h

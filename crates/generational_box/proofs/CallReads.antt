@@ -12,20 +12,20 @@ use Rattle.generational_core.specs.declared.error.StoreError.TheVariants.{Number
 use Rattle.generational_core.specs.declared.borrow.Borrow.{Borrow}
 use Rattle.generational_core.specs.declared.boxes.GenerationalBoxId.{GenerationalBoxId}
 use Rattle.generational_core.specs.declared.boxes.GenerationalPointer.{GenerationalPointer}
-use Rattle.generational_core.specs.Names.{Name, changed}
-use Rattle.generational_core.specs.Cells.{Content, Cell, content_of, refilled}
+use Rattle.generational_core.specs.Names.{Name, change}
+use Rattle.generational_core.specs.Cells.{Content, Cell, content_of, refill}
 use Rattle.generational_core.specs.Cells.Content.{Here, Lent}
 use Rattle.generational_core.specs.Cells.Cell.{Value, Shared, Ref}
 use Rattle.generational_core.specs.Boxes.{name_of, name_in}
 use Rattle.generational_core.specs.State.{State}
-use Rattle.generational_core.specs.Borrowing.{Trouble, Guard, reach, reached, read_trouble}
-use Rattle.generational_core.specs.Borrowing.{read_refusal, content_at, filled}
+use Rattle.generational_core.specs.Borrowing.{Trouble, Guard, reach, leads_to, read_trouble}
+use Rattle.generational_core.specs.Borrowing.{read_refusal, content_at, fill}
 use Rattle.generational_core.specs.Borrowing.Trouble.{Dropped}
 use Rattle.generational_core.specs.Machine.{act, read_at, next_guard, contents, knows_reader}
 use Rattle.generational_core.specs.Machine.{has_reader, without_reader, unless}
 use Rattle.generational_core.specs.Machine.Action.{Read, ReleaseReader}
 use Rattle.generational_core.specs.Machine.Answer.{Reads, Flag, Troubled, Refused}
-use Rattle.generational_core.specs.Steps.{Meets, limited, no_names, has_readers, is_reader}
+use Rattle.generational_core.specs.Steps.{Meets, limit_tickets, no_names, has_readers, is_reader}
 use Rattle.generational_core.specs.Steps.{answer_to}
 use Rattle.generational_box.specs.Entry.{Kept, content_in, is_live}
 use Rattle.generational_box.specs.Entry.Kept.{Empty, Live}
@@ -58,13 +58,13 @@ module _ {T : Type 0} where
 
   -- what a box of a Value reaches, and how a read of it is answered
   pub reach_is : (S : State T) (b : GenerationalPointer) (o : Option (Cell T)) → own_cell_at S b.id ≡ o
-      → reach S b ≡ reached o (name_of b)
+      → reach S b ≡ leads_to o (name_of b)
   unfolding reach
-  reach_is S b o is = at (nat_eq b.id.store S.number) refl ∙ ap (λ c. reached c (name_of b)) is
+  reach_is S b o is = at (nat_eq b.id.store S.number) refl ∙ ap (λ c. leads_to c (name_of b)) is
     where
       at : (own : Bool) → nat_eq b.id.store S.number ≡ own
-          → cond own (reached (map.get S.cells (name_of b)) (name_of b)) None
-          ≡ reached (cond own (map.get S.cells (name_of b)) None) (name_of b)
+          → cond own (leads_to (map.get S.cells (name_of b)) (name_of b)) None
+          ≡ leads_to (cond own (map.get S.cells (name_of b)) None) (name_of b)
       at true h = refl
       at false h = refl
 
@@ -98,14 +98,14 @@ module _ {T : Type 0} where
   pub read_gone : (S : State T) (b : GenerationalPointer) (l : Location) → own_cell_at S b.id ≡ None
       → Meets S (Read b l) (Troubled (Dropped b.created_at)) S
   read_gone S b l is =
-      inl (no_names, tt, sym (ap (limited S) (read_is S b l (Some (Dropped b.created_at)) (trouble_gone S b is))))
+      inl (no_names, tt, sym (ap (limit_tickets S) (read_is S b l (Some (Dropped b.created_at)) (trouble_gone S b is))))
 
   -- a writer stands in the way
   pub read_lent : (S : State T) (b : GenerationalPointer) (l : Location) (c : Content T) (k : Location) (t : Trouble)
       → own_cell_at S b.id ≡ Some (Value c k) → read_refusal (Some c) ≡ Some t
       → Meets S (Read b l) (Troubled t) S
   read_lent S b l c k t is lent =
-      inl (no_names, tt, sym (ap (limited S) (read_is S b l (Some t) (trouble_here S b c k is ∙ lent))))
+      inl (no_names, tt, sym (ap (limit_tickets S) (read_is S b l (Some t) (trouble_here S b c k is ∙ lent))))
 
   -- a read that may begin
   read_free : (S : State T) (b : GenerationalPointer) (l : Location) (v : T) (rs : List Borrow) (k : Location)
@@ -124,7 +124,7 @@ module _ {T : Type 0} where
       inl (
         no_names,
         tt,
-        sym (ap (limited S) (read_free S b l v rs k is)
+        sym (ap (limit_tickets S) (read_free S b l v rs k is)
             ∙ (rw (ne_eqb S.next (2 ^ 64 - 1) (λ e. omega arith))
             (λ i. (Reads (next_guard S (name_of b)), (sym (ap (λ o. (read_at S l (Some (name_of b)) o).1) (own_content S b (Here v rs) k is)) ∙ sym after) i)))),
       )
@@ -137,7 +137,7 @@ module _ {T : Type 0} where
       inl (
         no_names,
         tt,
-        sym (ap (limited S) (read_free S b l v rs k is)
+        sym (ap (limit_tickets S) (read_free S b l v rs k is)
             ∙ rw (eq-eqb S.next (2 ^ 64 - 1) last) refl),
       )
   read_exhausted S b l (Lent w) k is free last = cc
@@ -154,7 +154,7 @@ module _ {T : Type 0} where
     where
       answers : answer_to S (Read b l) ≡ Reads (next_guard S (name_of b))
       answers =
-          ap (λ out. (limited S out).0) (read_free S b l v rs k is)
+          ap (λ out. (limit_tickets S out).0) (read_free S b l v rs k is)
           ∙ rw (ne_eqb S.next (2 ^ 64 - 1) (λ e. omega arith)) refl
 
       there : contents S (reach S b) ≡ Some (Here v rs)
@@ -166,35 +166,35 @@ module _ {T : Type 0} where
   -- ---- releases
 
   -- a content that stands there already
-  filled_own : (S : State T) (n : Name) (c : Content T) → content_at S n ≡ Some c → filled S n c ≡ S
+  filled_own : (S : State T) (n : Name) (c : Content T) → content_at S n ≡ Some c → fill S n c ≡ S
   filled_own S n c is = λ i. record S { cells = same i }
     where
-      kept : (x : Cell T) → content_of (Some x) ≡ Some c → refilled c x ≡ x
+      kept : (x : Cell T) → content_of (Some x) ≡ Some c → refill c x ≡ x
       kept (Value d l) e = cc
       kept (Shared d l) e = cc
       kept (Ref m l) e = refl
 
-      same : changed S.cells n (refilled c) ≡ S.cells
+      same : change S.cells n (refill c) ≡ S.cells
       same = map.same_map name_total name_exact _ _ (λ q.
           ⊎_elim (λ e. e)
           (λ e. e.3 ∙ (ap Some (kept e.1 (sym (ap content_of (sym (ap (map.get S.cells) e.0) ∙ e.2)) ∙ is)) ∙ sym e.2))
-          (changed_view by_name S.cells n (refilled c) q))
+          (changed_view by_name S.cells n (refill c) q))
 
   unread : (S : State T) (n : Name) (t : ℕ) (o : Option (Content T)) → content_at S n ≡ o
       → has_reader o t ≡ false → without_reader S n t o ≡ S
   unread S n t None is h = refl
   unread S n t (Some (Here v rs)) is h =
-      ap (λ xs. filled S n (Here v xs)) (nothing_left t rs h) ∙ filled_own S n (Here v rs) is
+      ap (λ xs. fill S n (Here v xs)) (nothing_left t rs h) ∙ filled_own S n (Here v rs) is
   unread S n t (Some (Lent w)) is h = refl
 
   -- a guard of this store, where the answer is whether its reader stood
-  pub released : (S R : State T) (g : Guard) (known : Bool) → nat_eq g.store S.number ≡ true
+  pub release : (S R : State T) (g : Guard) (known : Bool) → nat_eq g.store S.number ≡ true
       → known ≡ has_reader (content_at S g.cell) g.ticket
       → R ≡ without_reader S g.cell g.ticket (content_at S g.cell)
       → Meets S (ReleaseReader g) (Flag known) R
-  released S R g true own is after =
+  release S R g true own is after =
       inl (no_names, tt, sym (rw (own, ← is) (λ i. (Flag true, sym after i))))
-  released S R g false own is after =
+  release S R g false own is after =
       inl (no_names, tt, sym (rw (own, ← is) (λ i. (Flag false, (sym (unread S g.cell g.ticket (content_at S g.cell) refl (sym is)) ∙ sym after) i))))
 
   -- a guard whose cell isn't live in this store
@@ -255,7 +255,7 @@ module _ {T : Type 0} (S : State T) (g : Guard) (id : GenerationalBoxId) (t : �
       → Meets S (ReleaseReader g) (Flag known) R
   released_by_kept R known Empty cell live is after = absurd (false≢true live)
   released_by_kept R known (Live c k) cell live is after =
-      rw same (released S R guard known (eq-eqb id.store S.number (own_store S box (Value c k) cell)) is after)
+      rw same (release S R guard known (eq-eqb id.store S.number (own_store S box (Value c k) cell)) is after)
     where
       guard : Guard
       guard = record { store = id.store; cell = name_in id; ticket = t }

@@ -20,14 +20,14 @@ use Rattle.generational_core.specs.Cells.Cell.{Value}
 use Rattle.generational_core.specs.Boxes.{name_of, name_in}
 use Rattle.generational_core.specs.State.{State}
 use Rattle.generational_core.specs.Borrowing.{Trouble, Guard, reach, write_trouble, write_refusal}
-use Rattle.generational_core.specs.Borrowing.{content_at, filled}
+use Rattle.generational_core.specs.Borrowing.{content_at, fill}
 use Rattle.generational_core.specs.Borrowing.Trouble.{Dropped, BeingRead, BeingWritten}
 use Rattle.generational_core.specs.Writing.{WriteGuard}
-use Rattle.generational_core.specs.Machine.{Outcome, act, written_at, next_guard, contents}
+use Rattle.generational_core.specs.Machine.{Outcome, act, write_at, next_guard, contents}
 use Rattle.generational_core.specs.Machine.{knows_writer, has_writer, unless}
 use Rattle.generational_core.specs.Machine.Action.{Write, ReleaseWriter}
 use Rattle.generational_core.specs.Machine.Answer.{Writes, Back, Done, Troubled, Refused as refuses}
-use Rattle.generational_core.specs.Steps.{Meets, limited, no_names, is_being_read}
+use Rattle.generational_core.specs.Steps.{Meets, limit_tickets, no_names, is_being_read}
 use Rattle.generational_core.specs.Answers.{trouble_of, end_refused, back_answer}
 use Rattle.generational_box.specs.Entry.{IsBeingRead, FoundBorrowed, Kept, content_in, is_live}
 use Rattle.generational_box.specs.Entry.Kept.{Empty, Live}
@@ -47,10 +47,10 @@ module _ {T : Type 0} (S : State T) (b : GenerationalPointer) (l : Location) whe
 
   -- a write's answer, once its trouble is known
   write_is : (o : Option Trouble) → write_trouble S b ≡ o
-      → limited S (act S (Write b l) no_names)
-      ≡ limited S (unless o S (written_at S l (reach S b) (contents S (reach S b))))
+      → limit_tickets S (act S (Write b l) no_names)
+      ≡ limit_tickets S (unless o S (write_at S l (reach S b) (contents S (reach S b))))
   write_is o is =
-      ap (λ t. limited S (unless t S (written_at S l (reach S b) (contents S (reach S b))))) is
+      ap (λ t. limit_tickets S (unless t S (write_at S l (reach S b) (contents S (reach S b))))) is
 
   -- a box that names no live cell of this store
   pub write_gone : own_cell_at S b.id ≡ None → Meets S (Write b l) (Troubled (Dropped b.created_at)) S
@@ -67,7 +67,7 @@ module _ {T : Type 0} (S : State T) (b : GenerationalPointer) (l : Location) whe
   write_lacks c k is reading = inr (at (write_refusal (Some c)) (write_here_trouble c k is) reading, refl, refl)
     where
       at : (o : Option Trouble) → write_trouble S b ≡ o → IsBeingRead o
-          → is_being_read (limited S (act S (Write b l) no_names)).0 ≡ true
+          → is_being_read (limit_tickets S (act S (Write b l) no_names)).0 ≡ true
       at None e h = absurd h
       at (Some (Dropped l)) e h = absurd h
       at (Some (BeingWritten l)) e h = absurd h
@@ -76,11 +76,11 @@ module _ {T : Type 0} (S : State T) (b : GenerationalPointer) (l : Location) whe
 
   -- a write that may begin
   write_free : (v : T) (k : Location) → own_cell_at S b.id ≡ Some (Value (Here v []) k)
-      → act S (Write b l) no_names ≡ written_at S l (Some (name_of b)) (Some (Here v []))
+      → act S (Write b l) no_names ≡ write_at S l (Some (name_of b)) (Some (Here v []))
   write_free v k is =
-      ap (λ t. unless t S (written_at S l (reach S b) (contents S (reach S b)))) (write_here_trouble (Here v []) k is)
-      ∙ (ap (λ n. written_at S l n (contents S n)) (reach_is S b (Some (Value (Here v []) k)) is)
-      ∙ ap (written_at S l (Some (name_of b))) (own_content S b (Here v []) k is))
+      ap (λ t. unless t S (write_at S l (reach S b) (contents S (reach S b)))) (write_here_trouble (Here v []) k is)
+      ∙ (ap (λ n. write_at S l n (contents S n)) (reach_is S b (Some (Value (Here v []) k)) is)
+      ∙ ap (write_at S l (Some (name_of b))) (own_content S b (Here v []) k is))
 
   -- ---- by what the slot keeps
 
@@ -101,7 +101,7 @@ module _ {T : Type 0} (S : State T) (b : GenerationalPointer) (l : Location) whe
       inl (
         no_names,
         tt,
-        sym (ap (limited S) (write_free v k cell)
+        sym (ap (limit_tickets S) (write_free v k cell)
             ∙ rw (eq-eqb S.next (2 ^ 64 - 1) last) refl),
       )
   write_exhausted (Live (Here v (r ∷ rs)) k) cell live free last = cc
@@ -112,14 +112,14 @@ module _ {T : Type 0} (S : State T) (b : GenerationalPointer) (l : Location) whe
       → write_refusal (content_in k) ≡ None → S.next < 2 ^ 64 - 1
       → g.guard ≡ record { store = b.id.store; cell = name_of b; ticket = t } → t ≡ S.next
       → g.value ≡ v → content_at S (name_of b) ≡ Some (Here v [])
-      → R ≡ (written_at S l (Some (name_of b)) (content_at S (name_of b))).1
+      → R ≡ (write_at S l (Some (name_of b)) (content_at S (name_of b))).1
       → Meets S (Write b l) (Writes g.guard g.value) R
   write_begins R g t v Empty cell live free below guard next value here after = absurd (false≢true live)
   write_begins R g t v (Live (Here u []) k) cell live free below guard next value here after =
       inl (
         no_names,
         tt,
-        sym (ap (limited S) (write_free u k cell)
+        sym (ap (limit_tickets S) (write_free u k cell)
             ∙ (rw (ne_eqb S.next (2 ^ 64 - 1) (λ e. omega arith))
             (λ i. (Writes (guard_is i) (same i), left i)))),
       )
@@ -134,8 +134,8 @@ module _ {T : Type 0} (S : State T) (b : GenerationalPointer) (l : Location) whe
       same : u ≡ g.value
       same = let e : Some (Here u []) ≡ Some (Here v []) = sym content ∙ here in let f : u ≡ v = cc in f ∙ sym value
 
-      left : (written_at S l (Some (name_of b)) (Some (Here u []))).1 ≡ R
-      left = ap (λ o. (written_at S l (Some (name_of b)) o).1) (sym content) ∙ sym after
+      left : (write_at S l (Some (name_of b)) (Some (Here u []))).1 ≡ R
+      left = ap (λ o. (write_at S l (Some (name_of b)) o).1) (sym content) ∙ sym after
   write_begins R g t v (Live (Here u (r ∷ rs)) k) cell live free below guard next value here after = cc
   write_begins R g t v (Live (Lent w) k) cell live free below guard next value here after = cc
 
@@ -163,7 +163,7 @@ module _ {T : Type 0} (S : State T) (g : WriteGuard T) (id : GenerationalBoxId) 
   put_back : (R : State T) (r : Result (Unit {0}) T) → nat_eq id.store S.number ≡ true
       → (IsTrue (is_ok r) → has_writer (content_at S (name_in id)) t ≡ true)
       → (has_writer (content_at S (name_in id)) t ≡ true → IsTrue (is_ok r))
-      → OnOk r (R ≡ filled S (name_in id) (Here v []))
+      → OnOk r (R ≡ fill S (name_in id) (Here v []))
       → IfErr r (λ back. (back ≡ v) × (R ≡ S))
       → Meets S (ReleaseWriter g.guard g.value) (back_answer r) R
   put_back R (Ok u) own known stands ok err =
@@ -173,8 +173,8 @@ module _ {T : Type 0} (S : State T) (g : WriteGuard T) (id : GenerationalBoxId) 
         sym (rw (knows_is own ∙ known refl)
             (λ i. (
               Done,
-              (ap (λ (x : Guard). filled S x.cell (Here g.value [])) guard
-                  ∙ (ap (λ x. filled S (name_in id) (Here x [])) value ∙ sym ok)) i,
+              (ap (λ (x : Guard). fill S x.cell (Here g.value [])) guard
+                  ∙ (ap (λ x. fill S (name_in id) (Here x [])) value ∙ sym ok)) i,
             ))),
       )
   put_back R (Err back) own known stands ok err =
@@ -186,7 +186,7 @@ module _ {T : Type 0} (S : State T) (g : WriteGuard T) (id : GenerationalBoxId) 
       → is_live k ≡ true
       → (IsTrue (is_ok r) → has_writer (content_at S (name_in id)) t ≡ true)
       × (has_writer (content_at S (name_in id)) t ≡ true → IsTrue (is_ok r))
-      → OnOk r (R ≡ filled S (name_in id) (Here v []))
+      → OnOk r (R ≡ fill S (name_in id) (Here v []))
       → IfErr r (λ back. (back ≡ v) × (R ≡ S))
       → Meets S (ReleaseWriter g.guard g.value) (back_answer r) R
   back_by_kept R r Empty cell live known ok err = absurd (false≢true live)

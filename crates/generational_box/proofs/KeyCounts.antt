@@ -94,9 +94,9 @@ module _ {K : Type 0} {R : K → K → Ordering} (o : IsKeyOrder R) where
       at rest false false passes is = rw (passes, is) rest
 
   module _ {X : Type 0} where
-    listed : (s : set.FinSet R) (m : map.FinMap R X) (ks : List K) → IsDistinct (eq_by_cmp R) ks
+    add_to_list : (s : set.FinSet R) (m : map.FinMap R X) (ks : List K) → IsDistinct (eq_by_cmp R) ks
         → ((k : K) → set.contains s k ≡ list_any (eq_by_cmp R k) ks) → set.len s ≡ length ks
-    listed s m ks d same =
+    add_to_list s m ks d same =
         ap set.len (set.same_set o.total o.exact s (set.from_list {R = R} ks)
         (λ k. same k ∙ sym (set.contains-from_list o.total ks k)))
         ∙ len_distinct ks d
@@ -105,7 +105,7 @@ module _ {K : Type 0} {R : K → K → Ordering} (o : IsKeyOrder R) where
     pub len_alike : (s : set.FinSet R) (m : map.FinMap R X)
         → ((k : K) → set.contains s k ≡ map.contains_key m k) → set.len s ≡ map.len m
     len_alike s m same =
-        listed s m (map.keys m) (keys_apart R m) (λ k. same k ∙ map.contains_key-keys m k)
+        add_to_list s m (map.keys m) (keys_apart R m) (λ k. same k ∙ map.contains_key-keys m k)
         ∙ sym (len_keys R m)
 
     -- a map whose keys are listed has as many

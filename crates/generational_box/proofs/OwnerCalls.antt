@@ -12,14 +12,14 @@ use Rattle.generational_core.specs.declared.error.StoreError.TheVariants.{OutOfM
 use Rattle.generational_core.specs.declared.error.StoreError.TheVariants.{NumbersExhausted}
 use Rattle.generational_core.specs.declared.error.StoreError.TheVariants.{UnknownOwner}
 use Rattle.generational_core.specs.declared.boxes.GenerationalPointer.{GenerationalPointer}
-use Rattle.generational_core.specs.Names.{Name, changed}
+use Rattle.generational_core.specs.Names.{Name, change}
 use Rattle.generational_core.specs.Boxes.{name_of, box_of}
-use Rattle.generational_core.specs.State.{State, Holding, Owners}
-use Rattle.generational_core.specs.Machine.{OwnerName, Answer, act, make_value, holding, is_known}
-use Rattle.generational_core.specs.Machine.{listed, with_owner, cloned, let_go, unless}
+use Rattle.generational_core.specs.State.{State, Ownership, Owners}
+use Rattle.generational_core.specs.Machine.{OwnerName, Answer, act, make_value, ownership, is_known}
+use Rattle.generational_core.specs.Machine.{add_to_list, set_ownership, clone_owner, release_owner, unless}
 use Rattle.generational_core.specs.Machine.Action.{Make, NewOwner, CloneOwner, ReleaseOwner}
 use Rattle.generational_core.specs.Machine.Answer.{Made, Owned, Done, Refused}
-use Rattle.generational_core.specs.Steps.{Meets, limited, no_names, may_lack, is_made, is_being_read}
+use Rattle.generational_core.specs.Steps.{Meets, limit_tickets, no_names, may_lack, is_made, is_being_read}
 use Rattle.generational_core.specs.Records.{one_more, one_less}
 use Rattle.generational_box.specs.OwnerRecords.{knows, knows_any, listed_in}
 use Rattle.generational_core.specs.Records.{names_in, names_under, count_in}
@@ -33,7 +33,7 @@ use Rattle.generational_core.specs.declared.error.Refused.TheVariants as refused
 use Rattle.generational_core.specs.declared.error.BorrowMutError.{BorrowMutError}
 use Rattle.generational_core.specs.Borrowing.{Trouble}
 use Rattle.generational_core.specs.Borrowing.Trouble.{Dropped, BeingRead, BeingWritten}
-use Rattle.generational_core.specs.Ending.{close, hindered}
+use Rattle.generational_core.specs.Ending.{close, hindrance_to}
 use Rattle.generational_core.specs.Answers.{trouble_of, end_refused}
 use Rattle.generational_box.specs.Entry.{FoundBorrowed, IsBeingRead}
 use Rattle.generational_box.specs.Slotted.{is_value, OnlyValues}
@@ -41,7 +41,7 @@ use Rattle.generational_box.proofs.OwnerEnds.{hindered_is}
 use Rattle.generational_core.proofs.Maps.{by_number, changed_there}
 
 module _ {T : Type 0} where
-  known_is : (S : State T) (o : OwnerName) → is_some (holding S o) ≡ knows S.number S.owners o
+  known_is : (S : State T) (o : OwnerName) → is_some (ownership S o) ≡ knows S.number S.owners o
   known_is S o = at (nat_eq o.store S.number)
     where
       at : (own : Bool) → is_some (cond own (map.get S.owners o.key) None) ≡ (own && is_some (map.get S.owners o.key))
@@ -54,19 +54,19 @@ module _ {T : Type 0} where
 
   -- the record of an owner that is known
   holding_some : (S : State T) (o : OwnerName) → knows S.number S.owners o ≡ true
-      → (h : Holding) × (holding S o ≡ Some h) × (map.get S.owners o.key ≡ Some h)
+      → (h : Ownership) × (ownership S o ≡ Some h) × (map.get S.owners o.key ≡ Some h)
   holding_some S o known = at (nat_eq o.store S.number) (map.get S.owners o.key) known
     where
-      at : (own : Bool) (r : Option Holding) → (own && is_some r) ≡ true
-          → (h : Holding) × (cond own r None ≡ Some h) × (r ≡ Some h)
+      at : (own : Bool) (r : Option Ownership) → (own && is_some r) ≡ true
+          → (h : Ownership) × (cond own r None ≡ Some h) × (r ≡ Some h)
       at true (Some h) k = (h, refl, refl)
       at true None k = absurd (false≢true k)
       at false r k = absurd (false≢true k)
 
-  holding_none : (S : State T) (o : OwnerName) → knows S.number S.owners o ≡ false → holding S o ≡ None
+  holding_none : (S : State T) (o : OwnerName) → knows S.number S.owners o ≡ false → ownership S o ≡ None
   holding_none S o unknown = at (nat_eq o.store S.number) (map.get S.owners o.key) unknown
     where
-      at : (own : Bool) (r : Option Holding) → (own && is_some r) ≡ false → cond own r None ≡ None
+      at : (own : Bool) (r : Option Ownership) → (own && is_some r) ≡ false → cond own r None ≡ None
       at true (Some h) k = absurd (true≢false k)
       at true None k = refl
       at false r k = refl
@@ -88,8 +88,8 @@ module _ {T : Type 0} where
       inl (
         new,
         takes,
-        (λ i. ((is i).0, listed (is i).1 (Some o) (name_of (box_said b (is i).0))))
-            ∙ sym (ap (λ k. limited S (cond k (Made (box_of S.number new.first l), listed (act S (Make None v l) new).1 (Some o) new.first) (Refused UnknownOwner, S)))
+        (λ i. ((is i).0, add_to_list (is i).1 (Some o) (name_of (box_said b (is i).0))))
+            ∙ sym (ap (λ k. limit_tickets S (cond k (Made (box_of S.number new.first l), add_to_list (act S (Make None v l) new).1 (Some o) new.first) (Refused UnknownOwner, S)))
             (any_known S (Some o) ∙ known)),
       )
   made_for S R (Some o) v l b known (inr lacks) = cc
@@ -111,7 +111,7 @@ module _ {T : Type 0} where
       inl (
         no_names,
         tt,
-        sym (ap (λ k. limited S (cond k (make_value S (Some o) v l no_names.first) (Refused UnknownOwner, S))) (any_known S (Some o) ∙ is)),
+        sym (ap (λ k. limit_tickets S (cond k (make_value S (Some o) v l no_names.first) (Refused UnknownOwner, S))) (any_known S (Some o) ∙ is)),
       )
   refused_for S None v l OutOfMemory is = absurd (false≢true is.0)
   refused_for S (Some o) v l OutOfMemory is = inr (any_known S (Some o) ∙ is.1, refl, refl)
@@ -137,9 +137,9 @@ module _ {T : Type 0} where
             (λ i. (Owned (record { store = S.number; key = S.next }), after i)),
       )
 
-  clone_is : (S : State T) (o : OwnerName) (r : Option Holding) → holding S o ≡ r
-      → limited S (act S (CloneOwner o) no_names) ≡ limited S (cloned S o r)
-  clone_is S o r is = ap (λ h. limited S (cloned S o h)) is
+  clone_is : (S : State T) (o : OwnerName) (r : Option Ownership) → ownership S o ≡ r
+      → limit_tickets S (act S (CloneOwner o) no_names) ≡ limit_tickets S (clone_owner S o r)
+  clone_is S o r is = ap (λ h. limit_tickets S (clone_owner S o h)) is
 
   pub clone_unknown : (S : State T) (o : OwnerName) → knows S.number S.owners o ≡ false
       → Meets S (CloneOwner o) (Refused UnknownOwner) S
@@ -158,7 +158,7 @@ module _ {T : Type 0} where
 
   pub clone_made : (S R : State T) (o : OwnerName) → knows S.number S.owners o ≡ true
       → S.next < 2 ^ 64 - 1
-      → R ≡ record S { owners = changed S.owners o.key one_more; next = S.next + 1 }
+      → R ≡ record S { owners = change S.owners o.key one_more; next = S.next + 1 }
       → Meets S (CloneOwner o) (Owned o) R
   clone_made S R o known below after =
       let there = holding_some S o known in
@@ -176,9 +176,9 @@ module _ {T : Type 0} where
 
   -- ---- releases
 
-  release_is : (S : State T) (o : OwnerName) (r : Option Holding) → holding S o ≡ r
-      → limited S (act S (ReleaseOwner o) no_names) ≡ limited S (let_go S o r)
-  release_is S o r is = ap (λ h. limited S (let_go S o h)) is
+  release_is : (S : State T) (o : OwnerName) (r : Option Ownership) → ownership S o ≡ r
+      → limit_tickets S (act S (ReleaseOwner o) no_names) ≡ limit_tickets S (release_owner S o r)
+  release_is S o r is = ap (λ h. limit_tickets S (release_owner S o h)) is
 
   pub release_unknown : (S : State T) (o : OwnerName) → knows S.number S.owners o ≡ false
       → Meets S (ReleaseOwner o) (Refused UnknownOwner) S
@@ -187,7 +187,7 @@ module _ {T : Type 0} where
 
   -- not the last owner value of its record
   pub release_one : (S R : State T) (o : OwnerName) → knows S.number S.owners o ≡ true
-      → 1 < count_under S.owners o.key → R ≡ record S { owners = changed S.owners o.key one_less }
+      → 1 < count_under S.owners o.key → R ≡ record S { owners = change S.owners o.key one_less }
       → Meets S (ReleaseOwner o) Done R
   release_one S R o known several after =
       let there = holding_some S o known in
@@ -211,7 +211,7 @@ module _ {T : Type 0} where
     pub known_seen : (o : OwnerName) (b : Bool) → knows number owners o ≡ b → knows S.number S.owners o ≡ b
     known_seen o b is = subst (λ (X : State T). knows X.number X.owners o ≡ b) view is
 
-    pub new_step : (o : OwnerName) (owners' : Owners) (h : Holding) → next < 2 ^ 64 - 1
+    pub new_step : (o : OwnerName) (owners' : Owners) (h : Ownership) → next < 2 ^ 64 - 1
         → o ≡ record { store = number; key = next } → h ≡ record { names = []; count = 1 }
         → owners' ≡ map.insert owners next h
         → Meets S NewOwner (Owned o) (state_of owners' number start (next + 1) peak slots)
@@ -228,19 +228,19 @@ module _ {T : Type 0} where
 
     pub clone_step : (o r : OwnerName) (k j : ℕ) (owners' : Owners) → knows number owners o ≡ true
         → next < 2 ^ 64 - 1 → r ≡ record { store = number; key = j } → j ≡ o.key → k ≡ o.key
-        → owners' ≡ changed owners k one_more
+        → owners' ≡ change owners k one_more
         → Meets S (CloneOwner o) (Owned r) (state_of owners' number start (next + 1) peak slots)
     clone_step o r k j owners' known below is key there after =
         rw (is, key, same_owner o known, after, there)
-        (subst (λ X. Meets X (CloneOwner o) (Owned o) (state_of (changed owners o.key one_more) number start (next + 1) peak slots))
+        (subst (λ X. Meets X (CloneOwner o) (Owned o) (state_of (change owners o.key one_more) number start (next + 1) peak slots))
         view (clone_made (state_of owners number start next peak slots) _ o known below refl))
 
     pub less_step : (o : OwnerName) (k : ℕ) (owners' : Owners) → knows number owners o ≡ true
-        → k ≡ o.key → 1 < count_under owners k → owners' ≡ changed owners k one_less
+        → k ≡ o.key → 1 < count_under owners k → owners' ≡ change owners k one_less
         → Meets S (ReleaseOwner o) Done (state_of owners' number start next peak slots)
     less_step o k owners' known there several after =
         rw (after, there)
-        (subst (λ X. Meets X (ReleaseOwner o) Done (state_of (changed owners o.key one_less) number start next peak slots))
+        (subst (λ X. Meets X (ReleaseOwner o) Done (state_of (change owners o.key one_less) number start next peak slots))
         view (release_one (state_of owners number start next peak slots) _ o known (subst (λ j. 1 < count_under owners j) there several) refl))
 
     pub made_step : (o : Option OwnerName) (v : T) (l : Location) (b : GenerationalPointer) (n : Name)
@@ -288,7 +288,7 @@ module _ {T : Type 0} where
   module _ (S : State T) (alone : (n : Name) → is_value (map.get S.cells n) ≡ true) (values : OnlyValues S)
       (o : OwnerName) (known : knows S.number S.owners o ≡ true) (k : ℕ) (there : k ≡ o.key)
       (few : count_under S.owners k ≤ 1) where
-    abbrev record_there : Holding
+    abbrev record_there : Ownership
     record_there = (holding_some S o known).0
 
     record_at : map.get S.owners k ≡ Some record_there
@@ -299,13 +299,13 @@ module _ {T : Type 0} where
 
     -- what the machine answers, once what hinders is known
     last_is : (t : Option Trouble) → first_borrowed S.cells (names_under S.owners k) ≡ t
-        → limited S (act S (ReleaseOwner o) no_names)
-        ≡ limited S (unless t S (Done, record (close S record_there.names) { owners = map.remove S.owners o.key }))
+        → limit_tickets S (act S (ReleaseOwner o) no_names)
+        ≡ limit_tickets S (unless t S (Done, record (close S record_there.names) { owners = map.remove S.owners o.key }))
     last_is t is =
         release_is S o (Some record_there) (holding_some S o known).1
-        ∙ (ap (λ b. limited S (cond b (Done, with_owner S o.key (record record_there { count = record_there.count - 1 }))
-        (unless (hindered S record_there.names) S (Done, record (close S record_there.names) { owners = map.remove S.owners o.key })))) last_value
-        ∙ ap (λ x. limited S (unless x S (Done, record (close S record_there.names) { owners = map.remove S.owners o.key })))
+        ∙ (ap (λ b. limit_tickets S (cond b (Done, set_ownership S o.key (record record_there { count = record_there.count - 1 }))
+        (unless (hindrance_to S record_there.names) S (Done, record (close S record_there.names) { owners = map.remove S.owners o.key })))) last_value
+        ∙ ap (λ x. limit_tickets S (unless x S (Done, record (close S record_there.names) { owners = map.remove S.owners o.key })))
         (hindered_is S values alone record_there.names ∙ (sym (ap (λ r. first_borrowed S.cells (names_in r)) record_at) ∙ is)))
 
     pub last_refused : (e : Refusing BorrowMutError)

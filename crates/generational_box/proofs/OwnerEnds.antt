@@ -11,7 +11,7 @@ use Rattle.generational_core.specs.Cells.Cell.{Value, Shared, Ref}
 use Rattle.generational_core.specs.Boxes.{name_in}
 use Rattle.generational_core.specs.State.{State}
 use Rattle.generational_core.specs.Borrowing.{write_refusal}
-use Rattle.generational_core.specs.Ending.{close, left_by, hindered, hindrance_of, first_hindrance}
+use Rattle.generational_core.specs.Ending.{close, cells_after, hindrance_to, hindrance_of, first_hindrance}
 use Rattle.generational_core.specs.Ending.{or_else}
 use Rattle.generational_box.specs.OwnerRecords.{first_borrowed}
 use Rattle.generational_box.specs.Slotted.{own_cell_at, is_value, OnlyValues}
@@ -40,7 +40,7 @@ module _ {T : Type 0} (S : State T) (values : OnlyValues S) where
 
   -- the first of the names, ended by itself
   left_first : (n : Name) (names : List Name)
-      → left_by S.cells (n ∷ names) ≡ left_by (map.remove S.cells n) names
+      → cells_after S.cells (n ∷ names) ≡ cells_after (map.remove S.cells n) names
   unfolding is_name
   left_first n names =
       map.same_map name_total name_exact _ _ (λ q.
@@ -68,16 +68,16 @@ module _ {T : Type 0} (S : State T) (values : OnlyValues S) where
 
   -- what hinders, where all cells are Values
   pub hindered_is : ((n : Name) → is_value (map.get S.cells n) ≡ true) → (names : List Name)
-      → hindered S names ≡ first_borrowed S.cells names
-  unfolding hindered
+      → hindrance_to S names ≡ first_borrowed S.cells names
+  unfolding hindrance_to
   hindered_is alone names = at names (λ n h. h)
     where
-      ended : (n : Name) → among names n ≡ true → map.get (left_by S.cells names) n ≡ None
+      ended : (n : Name) → among names n ≡ true → map.get (cells_after S.cells names) n ≡ None
       ended n there =
           left_get S values names n ∙ ap (λ b. cond (not b) (map.get S.cells n) None) there
 
       one : (n : Name) (o : Option (Cell T)) → map.get S.cells n ≡ o → among names n ≡ true
-          → hindrance_of S.cells (left_by S.cells names) o n ≡ write_refusal (content_of o)
+          → hindrance_of S.cells (cells_after S.cells names) o n ≡ write_refusal (content_of o)
       one n None is there = refl
       one n (Some (Value c l)) is there =
           ap (λ x. cond (not (is_some x)) (write_refusal (content_of (map.get S.cells n))) None) (ended n there)
@@ -86,10 +86,10 @@ module _ {T : Type 0} (S : State T) (values : OnlyValues S) where
       one n (Some (Ref m l)) is there = absurd (false≢true (sym (ap is_value is) ∙ alone n))
 
       at : (rest : List Name) → ((n : Name) → among rest n ≡ true → among names n ≡ true)
-          → first_hindrance S.cells (left_by S.cells names) rest ≡ first_borrowed S.cells rest
+          → first_hindrance S.cells (cells_after S.cells names) rest ≡ first_borrowed S.cells rest
       at [] inside = refl
       at (n ∷ rest) inside =
-          ap (λ t. or_else t (first_hindrance S.cells (left_by S.cells names) rest))
+          ap (λ t. or_else t (first_hindrance S.cells (cells_after S.cells names) rest))
           (one n (map.get S.cells n) refl (inside n (ap (λ b. b || among rest n) (name_here n))))
           ∙ ap (or_else (write_refusal (content_of (map.get S.cells n))))
           (at rest (λ q h. inside q (ap (λ b. is_name q n || b) h ∙ or_true (is_name q n))))

@@ -14,8 +14,8 @@ use Rattle.std.specs.BTreeMap.{BTreeMap, get, is_at, WritesThrough}
 use Rattle.std.specs.declared.cmp.Reverse.{Reverse}
 use Rattle.std.specs.Map.{lookup}
 use Rattle.generational_box.specs.declared.owners.OwnerRecord.{OwnerRecord}
-use Rattle.generational_core.specs.Names.{Name, changed, changed_if}
-use Rattle.generational_core.specs.State.{Holding, Owners}
+use Rattle.generational_core.specs.Names.{Name, change, change_if}
+use Rattle.generational_core.specs.State.{Ownership, Owners}
 use Rattle.generational_core.specs.Records.{one_more, one_less, one_listed}
 use Rattle.generational_box.specs.OwnerRecords.{owners_of, holding_of}
 use Rattle.generational_core.specs.Records.{count_in, count_under}
@@ -33,7 +33,7 @@ newest_first a b = nat_cmp b.0 a.0
 abbrev pub under : ℕ → Reverse ℕ
 under k = record { 0 = k }
 
-abbrev record_seen : Reverse ℕ × OwnerRecord → ℕ × Holding
+abbrev record_seen : Reverse ℕ × OwnerRecord → ℕ × Ownership
 record_seen e = (e.0.0, holding_of e.1)
 
 find_is : (q : ℕ) (es : List (Reverse ℕ × OwnerRecord))
@@ -89,11 +89,11 @@ owners_remove m n k updates =
     updated m n k None updates q ∙ sym (map.get-remove nat_cmp_total (owners_of m) k q))
 
 -- a record that is there is changed
-pub owners_changed : (m n : BTreeMap (Reverse ℕ) OwnerRecord) (k : ℕ) (r s : OwnerRecord) (f : Holding → Holding)
+pub owners_changed : (m n : BTreeMap (Reverse ℕ) OwnerRecord) (k : ℕ) (r s : OwnerRecord) (f : Ownership → Ownership)
     → Some r ≡ get newest_first m (under k)
     → ((q : Reverse ℕ) → get newest_first n q ≡ cond (is_at (newest_first (under k)) q) (Some s) (get newest_first m q))
     → holding_of s ≡ f (holding_of r)
-    → owners_of n ≡ changed (owners_of m) k f
+    → owners_of n ≡ change (owners_of m) k f
 owners_changed m n k r s f there updates is =
     owners_insert m n k s updates
     ∙ (ap (map.insert (owners_of m) k) is
@@ -105,22 +105,22 @@ owners_same m n e =
     ap (λ es. map.from_entries (list_map record_seen es)) e
 
 -- a record is written through what `get_mut` lent
-pub owners_written : (m n : BTreeMap (Reverse ℕ) OwnerRecord) (k : ℕ) (r s : OwnerRecord) (f : Holding → Holding)
+pub owners_written : (m n : BTreeMap (Reverse ℕ) OwnerRecord) (k : ℕ) (r s : OwnerRecord) (f : Ownership → Ownership)
     → Some r ≡ get newest_first m (under k) → WritesThrough newest_first (newest_first (under k)) m s n
-    → holding_of s ≡ f (holding_of r) → owners_of n ≡ changed (owners_of m) k f
+    → holding_of s ≡ f (holding_of r) → owners_of n ≡ change (owners_of m) k f
 owners_written m n k r s f there through is =
     owners_changed m n k r s f there (through.3 (subst IsSome there refl)).0 is
 
 -- nothing is changed where there is no record
-pub owners_absent : (m n : BTreeMap (Reverse ℕ) OwnerRecord) (k : ℕ) (f : Holding → Holding)
-    → None ≡ get newest_first m (under k) → n ≡ m → owners_of n ≡ changed (owners_of m) k f
-unfolding changed
+pub owners_absent : (m n : BTreeMap (Reverse ℕ) OwnerRecord) (k : ℕ) (f : Ownership → Ownership)
+    → None ≡ get newest_first m (under k) → n ≡ m → owners_of n ≡ change (owners_of m) k f
+unfolding change
 owners_absent m n k f absent same =
     ap owners_of same
-    ∙ sym (ap (changed_if (owners_of m) k f) (owners_get m k ∙ ap (option_map holding_of) (sym absent)))
+    ∙ sym (ap (change_if (owners_of m) k f) (owners_get m k ∙ ap (option_map holding_of) (sym absent)))
 
 -- what holds of the machine's record holds of the one that is there
-pub owners_hold : (P : Holding → Type 0) (m : BTreeMap (Reverse ℕ) OwnerRecord) (k : ℕ) (r : OwnerRecord)
+pub owners_hold : (P : Ownership → Type 0) (m : BTreeMap (Reverse ℕ) OwnerRecord) (k : ℕ) (r : OwnerRecord)
     → IfSome (map.get (owners_of m) k) P → Some r ≡ get newest_first m (under k) → P (holding_of r)
 owners_hold P m k r holds there =
     subst (λ o. IfSome o P) (owners_get m k ∙ ap (option_map holding_of) (sym there)) holds
@@ -165,14 +165,14 @@ owners_none m nobody = at m.entries refl
 pub counted_empty : (next : ℕ) → AreCounted next map.empty
 counted_empty next k = subst (IsCounted next) (sym (map.get-empty nat_cmp k)) tt
 
-more : (next : ℕ) (o : Option Holding) → IsCounted next o → IsCounted (next + 1) o
+more : (next : ℕ) (o : Option Ownership) → IsCounted next o → IsCounted (next + 1) o
 more next None c = tt
 more next (Some h) c = (c.0, omega (arith, c.1))
 
 pub counted_more : (next : ℕ) (owners : Owners) → AreCounted next owners → AreCounted (next + 1) owners
 counted_more next owners counted k = more next (map.get owners k) (counted k)
 
-pub counted_insert : (next : ℕ) (owners : Owners) (k : ℕ) (h : Holding) → AreCounted next owners
+pub counted_insert : (next : ℕ) (owners : Owners) (k : ℕ) (h : Ownership) → AreCounted next owners
     → IsCounted next (Some h) → AreCounted next (map.insert owners k h)
 counted_insert next owners k h counted one q = at (key_cases by_number q k)
   where
@@ -189,30 +189,30 @@ counted_remove next owners k counted q = at (key_cases by_number q k)
     at (inr ne) = subst (IsCounted next) (sym (get-remove_apart by_number owners k q ne)) (counted q)
 
 -- a record is changed and stays counted
-pub counted_changed : (next : ℕ) (owners : Owners) (k : ℕ) (f : Holding → Holding) → AreCounted next owners
-    → ((h : Holding) → map.get owners k ≡ Some h → IsCounted next (Some h) → IsCounted next (Some (f h)))
-    → AreCounted next (changed owners k f)
-unfolding changed
+pub counted_changed : (next : ℕ) (owners : Owners) (k : ℕ) (f : Ownership → Ownership) → AreCounted next owners
+    → ((h : Ownership) → map.get owners k ≡ Some h → IsCounted next (Some h) → IsCounted next (Some (f h)))
+    → AreCounted next (change owners k f)
+unfolding change
 counted_changed next owners k f counted keeps = at (map.get owners k) refl
   where
-    at : (o : Option Holding) → map.get owners k ≡ o → AreCounted next (changed_if owners k f o)
+    at : (o : Option Ownership) → map.get owners k ≡ o → AreCounted next (change_if owners k f o)
     at None is = counted
     at (Some h) is =
         counted_insert next owners k (f h) counted (keeps h is (subst (IsCounted next) is (counted k)))
 
-pub counted_new : (next : ℕ) (owners : Owners) (k : ℕ) (h : Holding) → AreCounted next owners
+pub counted_new : (next : ℕ) (owners : Owners) (k : ℕ) (h : Ownership) → AreCounted next owners
     → h.count ≡ 1 → AreCounted (next + 1) (map.insert owners k h)
 counted_new next owners k h counted one =
     counted_insert (next + 1) owners k h (counted_more next owners counted) (omega (arith, one), omega (arith, one))
 
 pub counted_up : (next : ℕ) (owners : Owners) (k : ℕ) → AreCounted next owners
-    → AreCounted (next + 1) (changed owners k one_more)
+    → AreCounted (next + 1) (change owners k one_more)
 counted_up next owners k counted =
     counted_changed (next + 1) owners k one_more (counted_more next owners counted)
     (λ h is c. let old : IsCounted next (Some h) = subst (IsCounted next) is (counted k) in (omega arith, omega (arith, old.1)))
 
 pub counted_down : (next : ℕ) (owners : Owners) (k : ℕ) → AreCounted next owners
-    → 1 < count_under owners k → AreCounted next (changed owners k one_less)
+    → 1 < count_under owners k → AreCounted next (change owners k one_less)
 counted_down next owners k counted several =
     counted_changed next owners k one_less counted
     (λ h is c. let more : 1 < h.count = subst (λ r. 1 < count_in r) is several in (omega (arith, more), omega (arith, c.1)))

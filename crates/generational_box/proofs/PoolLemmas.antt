@@ -22,11 +22,11 @@ abbrev pub members : List ℕ → set.FinSet nat_cmp
 members slots = set.from_list slots
 
 pub members-holds : (xs : List ℕ) (q : ℕ) → set.contains (members xs) q ≡ holds xs q
-members-holds xs q = set.contains-from_list_nat xs q ∙ turned xs
+members-holds xs q = set.contains-from_list_nat xs q ∙ turn xs
   where
-    turned : (ys : List ℕ) → list_any (λ y. nat_eq y q) ys ≡ holds ys q
-    turned [] = refl
-    turned (y ∷ ys) = λ i. nat_eq_equiv.symm y q i || turned ys i
+    turn : (ys : List ℕ) → list_any (λ y. nat_eq y q) ys ≡ holds ys q
+    turn [] = refl
+    turn (y ∷ ys) = λ i. nat_eq_equiv.symm y q i || turn ys i
 
 absent_all : (x : ℕ) (xs : List ℕ) → holds xs x ≡ false
     → AllByRecursion (λ y. nat_eq x y ≡ false) xs

@@ -12,7 +12,7 @@ use Rattle.generational_core.specs.Cells.{Content}
 use Rattle.generational_core.specs.Cells.Content.{Here, Lent}
 use Rattle.generational_core.specs.State.{State}
 use Rattle.generational_core.specs.Borrowing.{read_refusal, write_refusal}
-use Rattle.generational_core.specs.Ending.{hindered}
+use Rattle.generational_core.specs.Ending.{hindrance_to}
 use Rattle.generational_core.specs.Readiness.{is_ready, tells_of_borrow}
 use Rattle.generational_box.specs.Entry.{Kept, content_in, is_live}
 use Rattle.generational_box.specs.Entry.Kept.{Empty, Live}
@@ -62,6 +62,6 @@ module _ {T : Type 0} where
         ap (λ t. not (tells_of_borrow t)) (sym (unhindered (nat_eq b.id.store S.number) gone))
       where
         unhindered : (own : Bool) → cond own (map.get S.cells (name_of b)) None ≡ None
-            → hindered S (cond own (name_of b ∷ []) []) ≡ None
+            → hindrance_to S (cond own (name_of b ∷ []) []) ≡ None
         unhindered true e = hindrance_one S values (name_of b) None e
         unhindered false e = nothing_hinders S values

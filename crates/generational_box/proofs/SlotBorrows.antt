@@ -14,12 +14,12 @@ use Rattle.generational_core.specs.declared.error.Location.{Location}
 use Rattle.generational_core.specs.declared.borrow.Borrow.{Borrow}
 use Rattle.generational_core.specs.declared.boxes.GenerationalBoxId.{GenerationalBoxId}
 use Rattle.generational_core.specs.Names.{Name}
-use Rattle.generational_core.specs.Cells.{Content, Cell, refilled}
+use Rattle.generational_core.specs.Cells.{Content, Cell, refill}
 use Rattle.generational_core.specs.Cells.Content.{Here, Lent}
 use Rattle.generational_core.specs.Cells.Cell.{Value}
 use Rattle.generational_core.specs.Boxes.{name_in}
 use Rattle.generational_core.specs.State.{State, Owners}
-use Rattle.generational_core.specs.Borrowing.{content_at, filled}
+use Rattle.generational_core.specs.Borrowing.{content_at, fill}
 use Rattle.generational_core.specs.Steps.{has_readers}
 use Rattle.generational_core.specs.Machine.{read_at, has_reader, without_reader}
 use Rattle.generational_box.specs.Entry.{Entry, Kept, with_reader, without_reader_in, content_in}
@@ -78,7 +78,7 @@ module _ {T : Type 0} where
           let name : Name = record { slot = id.slot; generation = f.entry.generation } in
           let own : map.get (cells_of slots) name ≡ Some (Value f.content f.created) = get_own slots id.slot f.entry f.there ∙ ap cell_of f.live in
           ap map.len (cells-changed slots id.slot f.entry f.content d f.created f.there f.live
-          ∙ changed_there by_name (cells_of slots) name (refilled d) (Value f.content f.created) own)
+          ∙ changed_there by_name (cells_of slots) name (refill d) (Value f.content f.created) own)
           ∙ (map.len-insert name_total (cells_of slots) name (Value d f.created)
           ∙ ap (λ o. cond (is_some o) (map.len (cells_of slots)) (map.len (cells_of slots) + 1)) own)
 
@@ -143,7 +143,7 @@ module _ {T : Type 0} where
       not_lent = ap is_here (sym (own_seen number start next peak slots id view f)) ∙ here
 
       at : (c : Content T) → is_here (Some (Value c f.created)) ≡ true → content_at S (name_in id) ≡ Some c
-          → filled (state_of owners number start (next + 1) peak slots) (name_in id) (more_read b c)
+          → fill (state_of owners number start (next + 1) peak slots) (name_in id) (more_read b c)
           ≡ (read_at S l (Some (name_in id)) (content_at S (name_in id))).1
       at (Here v rs) h seen = rw (seen, ← view) refl
       at (Lent w) h seen = absurd (false≢true h)

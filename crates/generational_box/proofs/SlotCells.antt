@@ -7,8 +7,8 @@ use Rattle.std.proofs.lemmas.Bool.{eqb-true, eq-eqb, ne_eqb, cases_eq}
 use Rattle.std.proofs.lemmas.Option.{slice_get_past}
 use Rattle.std.specs.FinMap as map
 use Rattle.generational_core.specs.declared.error.Location.{Location}
-use Rattle.generational_core.specs.Names.{Name, name_cmp, is_name, changed}
-use Rattle.generational_core.specs.Cells.{Content, Cell, refilled, is_shared}
+use Rattle.generational_core.specs.Names.{Name, name_cmp, is_name, change}
+use Rattle.generational_core.specs.Cells.{Content, Cell, refill, is_shared}
 use Rattle.generational_core.specs.Cells.Cell.{Value}
 use Rattle.generational_box.specs.Entry.{Entry, Kept}
 use Rattle.generational_box.specs.Entry.Kept.{Empty, Live}
@@ -154,10 +154,10 @@ module _ {T : Type 0} where
   pub cells-changed : (slots : List (Entry T)) (i : ℕ) (s : Entry T) (c d : Content T) (l : Location)
       → slice_get slots i ≡ Some s → s.kept ≡ Live c l
       → cells_of (slice_set slots i (record s { kept = Live d l }))
-      ≡ changed (cells_of slots) (record { slot = i; generation = s.generation }) (refilled d)
+      ≡ change (cells_of slots) (record { slot = i; generation = s.generation }) (refill d)
   cells-changed slots i s c d l there live =
       cells-set slots i s (record s { kept = Live d l }) (Value d l) there refl (inr refl)
-      ∙ sym (changed_there by_name (cells_of slots) (record { slot = i; generation = s.generation }) (refilled d) (Value c l) (get_own slots i s there ∙ ap cell_of live))
+      ∙ sym (changed_there by_name (cells_of slots) (record { slot = i; generation = s.generation }) (refill d) (Value c l) (get_own slots i s there ∙ ap cell_of live))
 
   -- an end
   pub cells-ended : (slots : List (Entry T)) (i : ℕ) (s : Entry T) → slice_get slots i ≡ Some s

@@ -7,11 +7,11 @@ use Rattle.std.proofs.lemmas.Bool.{false≢true, eqb-true}
 use Rattle.std.specs.FinMap as map
 use Rattle.generational_core.specs.declared.error.Location.{Location}
 use Rattle.generational_core.specs.declared.boxes.GenerationalBoxId.{GenerationalBoxId}
-use Rattle.generational_core.specs.Names.{changed}
-use Rattle.generational_core.specs.Cells.{Content, content_of, refilled}
+use Rattle.generational_core.specs.Names.{change}
+use Rattle.generational_core.specs.Cells.{Content, content_of, refill}
 use Rattle.generational_core.specs.Boxes.{name_in}
 use Rattle.generational_core.specs.State.{State, Owners}
-use Rattle.generational_core.specs.Borrowing.{filled}
+use Rattle.generational_core.specs.Borrowing.{fill}
 use Rattle.generational_box.specs.Entry.{Entry, Kept, is_live}
 use Rattle.generational_box.specs.Entry.Kept.{Empty, Live}
 use Rattle.generational_box.specs.Slotted.{cell_of, cell_in, cells_of, state_of, entry_in}
@@ -103,7 +103,7 @@ module _ {T : Type 0} where
       (f : IsFound number slots id) (d : Content T) (g : Kept T → Kept T)
       → g (Live f.content f.created) ≡ Live d f.created
       → state_of owners number start next peak (entry_changed slots id.slot (λ e. record e { kept = g e.kept }))
-      ≡ filled (state_of owners number start next peak slots) (name_in id) d
+      ≡ fill (state_of owners number start next peak slots) (name_in id) d
   state-filled {number} {slots} {id} owners start next peak f d g is =
       ap (λ xs. state_of owners number start next peak xs)
       (entry_changed-there slots id.slot (λ e. record e { kept = g e.kept }) f.entry f.there
@@ -119,7 +119,7 @@ module _ {T : Type 0} where
       })
     where
       cells : cells_of (slice_set slots id.slot (record f.entry { kept = Live d f.created }))
-          ≡ changed (cells_of slots) (name_in id) (refilled d)
+          ≡ change (cells_of slots) (name_in id) (refill d)
       cells =
           cells-changed slots id.slot f.entry f.content d f.created f.there f.live
-          ∙ ap (λ n. changed (cells_of slots) n (refilled d)) (sym (found_name f))
+          ∙ ap (λ n. change (cells_of slots) n (refill d)) (sym (found_name f))

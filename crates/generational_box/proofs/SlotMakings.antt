@@ -19,7 +19,7 @@ use Rattle.generational_core.specs.Cells.Content.{Here}
 use Rattle.generational_core.specs.Cells.Cell.{Value}
 use Rattle.generational_core.specs.Boxes.{box_of}
 use Rattle.generational_core.specs.State.{State, Owners}
-use Rattle.generational_core.specs.Machine.{born}
+use Rattle.generational_core.specs.Machine.{add_cell}
 use Rattle.generational_core.specs.Machine.Action.{Make}
 use Rattle.generational_core.specs.Machine.Answer.{Made, Refused}
 use Rattle.generational_core.specs.Slots.{last_generation}
@@ -39,7 +39,7 @@ use Rattle.generational_box.proofs.SlotCounts.{new_pushed, new_reused, none_free
 module _ {T : Type 0} where
   -- a making under a new name, which fits
   making : (S : State T) (n : Name) (v : T) (l : Location) → IsNew S n
-      → Meets S (Make None v l) (Made (box_of S.number n l)) (born S n (Value (Here v []) l))
+      → Meets S (Make None v l) (Made (box_of S.number n l)) (add_cell S n (Value (Here v []) l))
   making S n v l new = inl (record { first = n; second = n }, new, refl)
 
   -- ---- a slot that is used again
@@ -119,7 +119,7 @@ module _ {T : Type 0} where
         (making (state_of owners number start next peak slots) next_name v l (new_reused owners number start next peak slots s.begun i reused.entry reused.there free_to_use)))
       where
         after : state_of owners number start next (max peak (live + 1)) (slice_set slots i next_entry)
-            ≡ born (state_of owners number start next peak slots) next_name (Value (Here v []) l)
+            ≡ add_cell (state_of owners number start next peak slots) next_name (Value (Here v []) l)
         after = λ j. record {
           number = number;
           cells = cells j;
@@ -193,17 +193,17 @@ module _ {T : Type 0} where
             (λ k. ⊎_elim (here k) (other k) (cases_eq k i))
 
     -- the generation that is told before is the one that is given
-    pub same_generation : (told given : ℕ) → IfSome (slice_get slots i) (λ e. told ≡ e.generation + 1)
-        → IfSome (slice_get slots i) (λ e. given ≡ e.generation + 1) → told ≡ given
-    same_generation told given before now =
-        let first : told ≡ reused.entry.generation + 1 = rw reused.there at before in
+    pub same_generation : (tell given : ℕ) → IfSome (slice_get slots i) (λ e. tell ≡ e.generation + 1)
+        → IfSome (slice_get slots i) (λ e. given ≡ e.generation + 1) → tell ≡ given
+    same_generation tell given before now =
+        let first : tell ≡ reused.entry.generation + 1 = rw reused.there at before in
         let second : given ≡ reused.entry.generation + 1 = rw reused.there at now in
         first ∙ sym second
 
     -- the same of what the code has left
     module _ (gen live' peak' : ℕ) (after : List (Entry T))
         (next_gen : IfSome (slice_get slots i) (λ e. gen ≡ e.generation + 1))
-        (filled : after ≡ slice_set slots i (record { generation = gen; kept = Live (Here v []) l }))
+        (fill : after ≡ slice_set slots i (record { generation = gen; kept = Live (Here v []) l }))
         (one : live' ≡ live + 1) (most : peak' ≡ max peak live') where
       gen_is : gen ≡ reused.entry.generation + 1
       gen_is = rw reused.there at next_gen
@@ -212,11 +212,11 @@ module _ {T : Type 0} where
           → state_of owners number start next peak slots ≡ S
           → b ≡ box_of number (record { slot = i; generation = gen }) l
           → Meets S (Make None v l) (Made b) (state_of owners number start next peak' after)
-      reuse_step b view is = rw (is, filled, most, one, gen_is) (reuse_meets view)
+      reuse_step b view is = rw (is, fill, most, one, gen_is) (reuse_meets view)
 
       pub reuse_kept : (free' : set.FinSet nat_cmp) (rooms' : ℕ) → free' ≡ set.remove free i
           → rooms' ≡ rooms → IsSlotted free' rooms' start live' peak' after
-      reuse_kept free' rooms' taken room = rw (taken, room, filled, most, one, gen_is) slotted-reused
+      reuse_kept free' rooms' taken room = rw (taken, room, fill, most, one, gen_is) slotted-reused
 
   -- ---- a slot more
 
@@ -256,7 +256,7 @@ module _ {T : Type 0} where
         (making (state_of owners number start next peak slots) first_name v l (new_pushed owners number start next peak slots s.begun none_reusable)))
       where
         after : state_of owners number start next (max peak (live + 1)) (slots ++ first_entry ∷ [])
-            ≡ born (state_of owners number start next peak slots) first_name (Value (Here v []) l)
+            ≡ add_cell (state_of owners number start next peak slots) first_name (Value (Here v []) l)
         after = λ j. record {
           number = number;
           cells = pushed_cells j;

@@ -13,8 +13,8 @@ use Rattle.generational_core.specs.Cells.{Content, Cell}
 use Rattle.generational_core.specs.Cells.Content.{Here, Lent}
 use Rattle.generational_core.specs.Boxes.{name_in}
 use Rattle.generational_core.specs.State.{State, Owners}
-use Rattle.generational_core.specs.Borrowing.{content_at, filled}
-use Rattle.generational_core.specs.Machine.{written_at, has_writer}
+use Rattle.generational_core.specs.Borrowing.{content_at, fill}
+use Rattle.generational_core.specs.Machine.{write_at, has_writer}
 use Rattle.generational_box.specs.Entry.{Entry, is_free, lent_to, with_value, content_in}
 use Rattle.generational_box.specs.Slotted.{state_of, entry_changed, own_cell_at, is_unborrowed}
 use Rattle.generational_box.specs.Slotted.{IsSlotted}
@@ -56,7 +56,7 @@ module _ {T : Type 0} where
     pub write_state : (l : Location) (free : is_unborrowed (own_cell_at S id) ≡ true)
         → state_of owners number start (next + 1) peak (entry_changed slots id.slot
         (λ e. record e { kept = lent_to (record { ticket = next; location = l }) e.kept }))
-        ≡ (written_at S l (Some (name_in id)) (content_at S (name_in id))).1
+        ≡ (write_at S l (Some (name_in id)) (content_at S (name_in id))).1
     write_state l free =
         state-filled owners start (next + 1) peak f (Lent b) (lent_to b) refl
         ∙ at f.content (free_content free f) (content_seen number start next peak slots id view f)
@@ -68,18 +68,18 @@ module _ {T : Type 0} where
         b = record { ticket = next; location = l }
 
         at : (c : Content T) → is_free (Some c) ≡ true → content_at S (name_in id) ≡ Some c
-            → filled (state_of owners number start (next + 1) peak slots) (name_in id) (Lent b)
-            ≡ (written_at S l (Some (name_in id)) (content_at S (name_in id))).1
+            → fill (state_of owners number start (next + 1) peak slots) (name_in id) (Lent b)
+            ≡ (write_at S l (Some (name_in id)) (content_at S (name_in id))).1
         at (Here v rs) h seen = rw (seen, ← view) refl
         at (Lent w) h seen = absurd (false≢true h)
 
     -- a value that was put back is the machine's release
     pub back_state : (f : IsFound number slots id) (v : T)
         → state_of owners number start next peak (entry_changed slots id.slot
-        (λ e. record e { kept = with_value v e.kept })) ≡ filled S (name_in id) (Here v [])
+        (λ e. record e { kept = with_value v e.kept })) ≡ fill S (name_in id) (Here v [])
     back_state f v =
         state-filled owners start next peak f (Here v []) (with_value v) refl
-        ∙ ap (λ (X : State T). filled X (name_in id) (Here v [])) view
+        ∙ ap (λ (X : State T). fill X (name_in id) (Here v [])) view
 
     -- whether the writer stands
     pub writer_seen : (f : IsFound number slots id) (t : ℕ) (P : Type 0)
@@ -101,6 +101,6 @@ module _ {T : Type 0} where
 
     pub state_back : (f : IsFound number slots id) (v : T) (after : List (Entry T)) (r : Result (Unit {0}) T)
         → OnOk r (after ≡ entry_changed slots id.slot (λ e. record e { kept = with_value v e.kept }))
-        → OnOk r (state_of owners number start next peak after ≡ filled S (name_in id) (Here v []))
+        → OnOk r (state_of owners number start next peak after ≡ fill S (name_in id) (Here v []))
     state_back f v after (Ok u) ok = ap (state_of owners number start next peak) ok ∙ back_state f v
     state_back f v after (Err back) ok = tt

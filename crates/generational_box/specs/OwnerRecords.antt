@@ -10,18 +10,18 @@ use Rattle.generational_box.specs.declared.owners.OwnerRecord.{OwnerRecord}
 use Rattle.generational_core.specs.declared.error.StoreError.{StoreError}
 use Rattle.generational_core.specs.declared.error.StoreError.TheVariants.{UnknownOwner, OutOfMemory}
 use Rattle.generational_core.specs.declared.error.StoreError.TheVariants.{NumbersExhausted}
-use Rattle.generational_core.specs.Names.{Name, NameMap, changed}
+use Rattle.generational_core.specs.Names.{Name, NameMap, change}
 use Rattle.generational_core.specs.Cells.{Cell, content_of}
 use Rattle.generational_core.specs.Borrowing.{Trouble, write_refusal}
 use Rattle.generational_core.specs.Ending.{or_else}
 use Rattle.generational_core.specs.Machine.{OwnerName}
-use Rattle.generational_core.specs.State.{Holding, Owners}
+use Rattle.generational_core.specs.State.{Ownership, Owners}
 use Rattle.generational_core.specs.Records.{one_listed}
 
 abbrev pub name_seen : CellName → Name
 name_seen n = record { slot = n.slot; generation = n.generation }
 
-abbrev pub holding_of : OwnerRecord → Holding
+abbrev pub holding_of : OwnerRecord → Ownership
 holding_of r = record { names = list_map name_seen r.boxes.items; count = r.count }
 
 -- the records under their keys
@@ -54,10 +54,10 @@ IsRefusal number owners o NumbersExhausted = ⊥
 -- the records with a name at the end of the owner's list
 abbrev pub listed_in : Owners → Option OwnerName → Name → Owners
 listed_in owners None n = owners
-listed_in owners (Some o) n = changed owners o.key (one_listed n)
+listed_in owners (Some o) n = change owners o.key (one_listed n)
 
 -- Each record stands for an owner value at least, and for no more than tickets were given.
-abbrev pub IsCounted : ℕ → Option Holding → Type 0
+abbrev pub IsCounted : ℕ → Option Ownership → Type 0
 IsCounted next None = Unit {0}
 IsCounted next (Some h) = (0 < h.count) × (h.count ≤ next)
 

@@ -10,7 +10,7 @@ ghost use Rattle.generational_core.specs.Records.{one_less, one_listed, count_un
 ghost use Rattle.generational_box.specs.OwnerRecords.{knows, knows_any, listed_in, IsRefusal};
 ghost use Rattle.generational_core.specs.declared.error.StoreError.TheVariants.{OutOfMemory};
 ghost use Rattle.generational_core.specs.declared.error.StoreError.TheVariants.{UnknownOwner};
-ghost use Rattle.generational_core.specs.Names.{changed};
+ghost use Rattle.generational_core.specs.Names.{change};
 
 use generational_core::parts::{key_of, number_of};
 use generational_core::{Owner, StoreError};
@@ -102,7 +102,7 @@ fn list(
     name: CellName,
 ) -> Result<(), StoreError>
     ensures known { OnOk result (knows number (owners_of owners.old) owner.now ≡ true) }
-    ensures ok { OnOk result (owners_of owners.new ≡ changed (owners_of owners.old) owner.now.key
+    ensures ok { OnOk result (owners_of owners.new ≡ change (owners_of owners.old) owner.now.key
         (one_listed (name_seen name))) }
     ensures err { OnErr result (owners_of owners.new ≡ owners_of owners.old) }
     ensures refused { IfErr result (λ cause. IsRefusal number (owners_of owners.old)
@@ -175,7 +175,7 @@ pub(crate) fn take(owners: &mut OwnerRecords, key: u64, alloc: Global) -> Vec<Ce
 // One owner value more of a record.
 pub(crate) fn count_up(owners: &mut OwnerRecords, key: u64)
     requires { IfSome (map.get (owners_of owners.old) key) (λ h. h.count < 18446744073709551615) }
-    ensures { owners_of owners.new ≡ changed (owners_of owners.old) key one_more }
+    ensures { owners_of owners.new ≡ change (owners_of owners.old) key one_more }
 {
     match owners.get_mut(&Reverse(key)) {
         Some(found) => found.count += 1,
@@ -186,7 +186,7 @@ pub(crate) fn count_up(owners: &mut OwnerRecords, key: u64)
 // One owner value less of a record.
 pub(crate) fn count_down(owners: &mut OwnerRecords, key: u64)
     requires { IfSome (map.get (owners_of owners.old) key) (λ h. 0 < h.count) }
-    ensures { owners_of owners.new ≡ changed (owners_of owners.old) key one_less }
+    ensures { owners_of owners.new ≡ change (owners_of owners.old) key one_less }
 {
     match owners.get_mut(&Reverse(key)) {
         Some(found) => found.count -= 1,

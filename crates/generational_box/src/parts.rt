@@ -11,8 +11,8 @@ ghost use Rattle.generational_core.specs.declared.error.BorrowMutError.TheVarian
 ghost use Rattle.generational_core.specs.Cells.Content.{Here};
 ghost use Rattle.generational_core.specs.Boxes.{name_in};
 ghost use Rattle.generational_core.specs.State.{fresh, IsFresh};
-ghost use Rattle.generational_core.specs.Borrowing.{content_at, filled};
-ghost use Rattle.generational_core.specs.Machine.{read_at, written_at, has_reader, has_writer};
+ghost use Rattle.generational_core.specs.Borrowing.{content_at, fill};
+ghost use Rattle.generational_core.specs.Machine.{read_at, write_at, has_reader, has_writer};
 ghost use Rattle.generational_core.specs.Machine.{without_reader};
 ghost use Rattle.generational_core.specs.Machine.Action.{Make, NewOwner, CloneOwner, ReleaseOwner};
 ghost use Rattle.generational_core.specs.Machine.Action.{Read, Write, ReleaseReader, ReleaseWriter};
@@ -27,7 +27,7 @@ ghost use Rattle.generational_box.specs.Entry.{is_free, with_reader, without_rea
 ghost use Rattle.generational_box.specs.Entry.{with_value};
 ghost use Rattle.generational_core.specs.Answers.{make_answer, owner_answer, release_answer};
 ghost use Rattle.generational_core.specs.Answers.{read_answer, write_answer, back_answer};
-ghost use Rattle.generational_core.specs.Answers.{end_answer, opened};
+ghost use Rattle.generational_core.specs.Answers.{end_answer, value_behind};
 ghost use Rattle.generational_core.specs.Readiness.{is_ready};
 ghost use Rattle.generational_core.specs.Slots.{slots, free, retired};
 ghost use Rattle.generational_box.specs.Entry.Kept.{Empty, Live};
@@ -168,7 +168,7 @@ impl<T: Drop, P: SlotPool> Parts<T, P> {
         requires free { is_unborrowed (own_cell_at self.old id) ≡ true }
         requires numbers { self.old.next < 18446744073709551615 }
         ensures value { content_at self.old (name_in id) ≡ Some (Here result []) }
-        ensures after { self.new ≡ (written_at self.old location (Some (name_in id))
+        ensures after { self.new ≡ (write_at self.old location (Some (name_in id))
             (content_at self.old (name_in id))).1 }
     {
         let ticket = self.next;
@@ -183,7 +183,7 @@ impl<T: Drop, P: SlotPool> Parts<T, P> {
         requires { IsSome (own_cell_at self.old id) }
         ensures known { IsTrue (is_ok result) ↔
             (has_writer (content_at self.old (name_in id)) ticket ≡ true) }
-        ensures ok { OnOk result (self.new ≡ filled self.old (name_in id) (Here value [])) }
+        ensures ok { OnOk result (self.new ≡ fill self.old (name_in id) (Here value [])) }
         ensures err { IfErr result (λ back. (back ≡ value) × (self.new ≡ self.old)) }
     {
         put_value_back(&mut self.slots, id.slot, ticket, value)
@@ -711,7 +711,7 @@ impl<T: Drop, P: SlotPool> Parts<T, P> {
     // The value that a reader's guard opens.
     #[inline(always)]
     pub(crate) fn open(&self, guard: &GenerationalRef<T>) -> Option<&T>
-        ensures { option_copied result ≡ opened self.now guard.now }
+        ensures { option_copied result ≡ value_behind self.now guard.now }
     {
         self.entry(id_read(guard))?.open(guard.ticket())
     }

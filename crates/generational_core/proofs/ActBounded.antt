@@ -11,16 +11,16 @@ use Rattle.generational_core.specs.Names.{Name, is_name}
 use Rattle.generational_core.specs.Cells.{Content, Cell}
 use Rattle.generational_core.specs.Cells.Content.{Here}
 use Rattle.generational_core.specs.Cells.Cell.{Value, Shared, Ref}
-use Rattle.generational_core.specs.State.{State, Holding, IsSound}
-use Rattle.generational_core.specs.Borrowing.{Trouble, filled, reach, content_at}
+use Rattle.generational_core.specs.State.{State, Ownership, IsSound}
+use Rattle.generational_core.specs.Borrowing.{Trouble, fill, reach, content_at}
 use Rattle.generational_core.specs.Borrowing.{read_trouble, write_trouble}
 use Rattle.generational_core.specs.Boxes.{name_of, box_of, has_same_id}
-use Rattle.generational_core.specs.Ending.{swept, close, hindered, hindrance_at}
-use Rattle.generational_core.specs.Machine.{Action, Fresh, Outcome, OwnerName, act, born, holding}
-use Rattle.generational_core.specs.Machine.{is_known, listed, unless, referred, found, cloned}
-use Rattle.generational_core.specs.Machine.{let_go, read_at, written_at, contents, own_cell}
+use Rattle.generational_core.specs.Ending.{sweep, close, hindrance_to, hindrance_at}
+use Rattle.generational_core.specs.Machine.{Action, Fresh, Outcome, OwnerName, act, add_cell, ownership}
+use Rattle.generational_core.specs.Machine.{is_known, add_to_list, unless, refer, found, clone_owner}
+use Rattle.generational_core.specs.Machine.{release_owner, read_at, write_at, contents, own_cell}
 use Rattle.generational_core.specs.Machine.{own_name, knows_reader, knows_writer, without_reader}
-use Rattle.generational_core.specs.Machine.{set_at, pointed, turned}
+use Rattle.generational_core.specs.Machine.{set_at, point, turn}
 use Rattle.generational_core.specs.Machine.Action.{Make, MakeShared, Refer, NewOwner, CloneOwner}
 use Rattle.generational_core.specs.Machine.Action.{ReleaseOwner, LeakOwner, Read, Write}
 use Rattle.generational_core.specs.Machine.Action.{ReleaseReader, ReleaseWriter, SetValue, End}
@@ -54,14 +54,14 @@ module _ {T : Type 0} where
       kept_bounded S R given peak (λ n h. sym (ap (λ m. is_some (map.get m n)) cells) ∙ h)
 
   listed_bounded : (S : State T) (o : Option OwnerName) (n : Name)
-      → IsBounded S → IsBounded (listed S o n)
+      → IsBounded S → IsBounded (add_to_list S o n)
   listed_bounded S None n b = b
-  listed_bounded S (Some o) n b = same_bounded S (listed S (Some o) n) refl refl refl b
+  listed_bounded S (Some o) n b = same_bounded S (add_to_list S (Some o) n) refl refl refl b
 
   filled_bounded : (S : State T) (n : Name) (c : Content T) (next : ℕ)
-      → IsBounded S → IsBounded (record (filled S n c) { next = next })
+      → IsBounded S → IsBounded (record (fill S n c) { next = next })
   filled_bounded S n c next b = kept_bounded S
-      (record (filled S n c) { next = next }) refl refl (λ q h. sym (filled_live S n c q) ∙ h) b
+      (record (fill S n c) { next = next }) refl refl (λ q h. sym (filled_live S n c q) ∙ h) b
 
   close_bounded : (S : State T) (names : List Name) → IsBounded S → IsBounded (close S names)
   close_bounded S names b =
@@ -69,28 +69,28 @@ module _ {T : Type 0} where
 
   referred_bounded : (S : State T) (o : Option OwnerName)
       (b : GenerationalPointer) (to : Option Name) (x : Option (Cell T)) (n : Name)
-      → IsSound S → IsNew S n → IsBounded S → IsBounded (referred S o b to x n).1
+      → IsSound S → IsNew S n → IsBounded S → IsBounded (refer S o b to x n).1
   referred_bounded S o b (Some m) (Some (Shared c l)) n s new h = listed_bounded
-      (born S n (Ref m l)) o n (born_bounded S n (Ref m l) s.given h new.fresh new.fits)
+      (add_cell S n (Ref m l)) o n (born_bounded S n (Ref m l) s.given h new.fresh new.fits)
   referred_bounded S o b to x n s new h = h
 
-  cloned_bounded : (S : State T) (o : OwnerName) (h : Option Holding)
-      → IsBounded S → IsBounded (cloned S o h).1
+  cloned_bounded : (S : State T) (o : OwnerName) (h : Option Ownership)
+      → IsBounded S → IsBounded (clone_owner S o h).1
   cloned_bounded S o None b = b
-  cloned_bounded S o (Some h) b = same_bounded S (cloned S o (Some h)).1 refl refl refl b
+  cloned_bounded S o (Some h) b = same_bounded S (clone_owner S o (Some h)).1 refl refl refl b
 
-  let_go_bounded : (S : State T) (o : OwnerName) (h : Option Holding)
-      → IsBounded S → IsBounded (let_go S o h).1
+  let_go_bounded : (S : State T) (o : OwnerName) (h : Option Ownership)
+      → IsBounded S → IsBounded (release_owner S o h).1
   let_go_bounded S o None b = b
   let_go_bounded S o (Some h) b =
       if_bounded (nat_lt 1 h.count)
       (Done, record S { owners = map.insert S.owners o.key (record h { count = h.count - 1 }) })
-      (unless (hindered S h.names) S
+      (unless (hindrance_to S h.names) S
       (Done, record (close S h.names) { owners = map.remove S.owners o.key }))
       (same_bounded S (record S {
         owners = map.insert S.owners o.key (record h { count = h.count - 1 });
       }) refl refl refl b)
-      (unless_bounded S (hindered S h.names)
+      (unless_bounded S (hindrance_to S h.names)
       (Done, record (close S h.names) { owners = map.remove S.owners o.key }) b
       (same_bounded (close S h.names) (record (close S h.names)
       { owners = map.remove S.owners o.key }) refl refl refl (close_bounded S h.names b)))
@@ -101,7 +101,7 @@ module _ {T : Type 0} where
   read_bounded S l m c b = b
 
   write_bounded : (S : State T) (l : Location) (m : Option Name) (c : Option (Content T))
-      → IsBounded S → IsBounded (written_at S l m c).1
+      → IsBounded S → IsBounded (write_at S l m c).1
   write_bounded S l (Some m) (Some (Here v rs)) b = filled_bounded S m _ (S.next + 1) b
   write_bounded S l m c b = b
 
@@ -116,9 +116,9 @@ module _ {T : Type 0} where
   set_bounded S x v m c b = b
 
   turned_bounded : (S : State T) (a old new : Name) (l : Location)
-      → is_some (map.get S.cells a) ≡ true → IsBounded S → IsBounded (turned S a old new l).1
+      → is_some (map.get S.cells a) ≡ true → IsBounded S → IsBounded (turn S a old new l).1
   turned_bounded S a old new l live b =
-      let left = swept (map.insert S.cells a (Ref new l)) in
+      let left = sweep (map.insert S.cells a (Ref new l)) in
       if_bounded (is_name old new)
       (Done, S) (unless (hindrance_at S.cells left old) S (Done, record S { cells = left })) b
       (unless_bounded S (hindrance_at S.cells left old)
@@ -131,17 +131,17 @@ module _ {T : Type 0} where
 
   pointed_bounded : (S : State T) (a b : GenerationalPointer) (ca : Option (Cell T))
       (to : Option Name) (x : Option (Cell T)) → is_some ca ≡ is_some (map.get S.cells (name_of a))
-      → IsBounded S → IsBounded (pointed S a b ca to x).1
+      → IsBounded S → IsBounded (point S a b ca to x).1
   pointed_bounded S a b None to x h k = k
   pointed_bounded S a b (Some (Ref old l)) (Some new) (Some (Shared c j)) h k =
       turned_bounded S (name_of a) old new l (sym h) k
   pointed_bounded S a b (Some _) to x h k = k
 
   point_bounded : (S : State T) (a b : GenerationalPointer)
-      → IsBounded S → IsBounded (pointed S a b (own_cell S a) (reach S b) (found S (reach S b))).1
+      → IsBounded S → IsBounded (point S a b (own_cell S a) (reach S b) (found S (reach S b))).1
   point_bounded S a b h = split (nat_eq a.id.store S.number)
     where
-      split : (own : Bool) → IsBounded (pointed S a b
+      split : (own : Bool) → IsBounded (point S a b
           (cond own (map.get S.cells (name_of a)) None) (reach S b) (found S (reach S b))).1
       split true = pointed_bounded S a b
           (map.get S.cells (name_of a)) (reach S b) (found S (reach S b)) refl h
@@ -151,7 +151,7 @@ module _ {T : Type 0} where
   born_given : (S : State T) (n : Name) (c : Cell T)
       → ((q : Name) → is_some (map.get S.cells q) ≡ true → set.contains S.given q ≡ true)
       → (q : Name)
-      → is_some (map.get (born S n c).cells q) ≡ true → set.contains (born S n c).given q ≡ true
+      → is_some (map.get (add_cell S n c).cells q) ≡ true → set.contains (add_cell S n c).given q ≡ true
   born_given S n c g q h =
       ⊎_elim (λ is. subst (λ x. set.contains (set.insert S.given n) x ≡ true) (sym is)
       (contains-insert_here by_name S.given n)) (λ ne. contains-insert_old by_name S.given n q
@@ -163,47 +163,47 @@ module _ {T : Type 0} where
   act_bounded S (Make o v l) f s new b =
       if_bounded (is_known S o) (
         Made (box_of S.number f.first l),
-        listed (born S f.first (Value (Here v []) l)) o f.first,
+        add_to_list (add_cell S f.first (Value (Here v []) l)) o f.first,
       ) (Refused UnknownOwner, S)
-      (listed_bounded (born S f.first (Value (Here v []) l)) o f.first
+      (listed_bounded (add_cell S f.first (Value (Here v []) l)) o f.first
       (born_bounded S f.first (Value (Here v []) l) s.given b new.fresh new.fits)) b
   act_bounded S (MakeShared o v l) f s new b =
-      let one = born S f.first (Shared (Here v []) l) in
+      let one = add_cell S f.first (Shared (Here v []) l) in
       if_bounded (is_known S o) (
         Made (box_of S.number f.second l),
-        listed (born one f.second (Ref f.first l)) o f.second,
+        add_to_list (add_cell one f.second (Ref f.first l)) o f.second,
       ) (Refused UnknownOwner, S)
-      (listed_bounded (born one f.second (Ref f.first l)) o f.second (born_bounded one f.second
+      (listed_bounded (add_cell one f.second (Ref f.first l)) o f.second (born_bounded one f.second
       (Ref f.first l) (born_given S f.first (Shared (Here v []) l) s.given) (born_bounded S f.first
       (Shared (Here v []) l) s.given b new.0.fresh new.0.fits) new.1.fresh new.1.fits)) b
   act_bounded S (Refer o x) f s new b = if_bounded (is_known S o)
-      (unless (read_trouble S x) S (referred S o x (reach S x) (found S (reach S x)) f.first))
+      (unless (read_trouble S x) S (refer S o x (reach S x) (found S (reach S x)) f.first))
       (Refused UnknownOwner, S) (unless_bounded S
-      (read_trouble S x) (referred S o x (reach S x) (found S (reach S x)) f.first) b
+      (read_trouble S x) (refer S o x (reach S x) (found S (reach S x)) f.first) b
       (referred_bounded S o x (reach S x) (found S (reach S x)) f.first s new b)) b
   act_bounded S NewOwner f s new b = same_bounded S (act S NewOwner f).1 refl refl refl b
-  act_bounded S (CloneOwner o) f s new b = cloned_bounded S o (holding S o) b
-  act_bounded S (ReleaseOwner o) f s new b = let_go_bounded S o (holding S o) b
+  act_bounded S (CloneOwner o) f s new b = cloned_bounded S o (ownership S o) b
+  act_bounded S (ReleaseOwner o) f s new b = let_go_bounded S o (ownership S o) b
   act_bounded S (LeakOwner o) f s new b = b
   act_bounded S (Read x l) f s new b =
       unless_bounded S (read_trouble S x) (read_at S l (reach S x) (contents S (reach S x))) b
       (read_bounded S l (reach S x) (contents S (reach S x)) b)
   act_bounded S (Write x l) f s new b =
-      unless_bounded S (write_trouble S x) (written_at S l (reach S x) (contents S (reach S x))) b
+      unless_bounded S (write_trouble S x) (write_at S l (reach S x) (contents S (reach S x))) b
       (write_bounded S l (reach S x) (contents S (reach S x)) b)
   act_bounded S (ReleaseReader g) f s new b = if_bounded
       (knows_reader S g) (Flag true, without_reader S g.cell g.ticket (content_at S g.cell))
       (Flag false, S) (without_bounded S g.cell g.ticket (content_at S g.cell) b) b
   act_bounded S (ReleaseWriter g v) f s new b =
-      if_bounded (knows_writer S g) (Done, filled S g.cell (Here v [])) (Back v, S)
+      if_bounded (knows_writer S g) (Done, fill S g.cell (Here v [])) (Back v, S)
       (filled_bounded S g.cell (Here v []) S.next b) b
   act_bounded S (SetValue x v) f s new b =
       set_bounded S x v (reach S x) (contents S (reach S x)) b
-  act_bounded S (End x) f s new b = unless_bounded S (hindered S (own_name S x))
+  act_bounded S (End x) f s new b = unless_bounded S (hindrance_to S (own_name S x))
       (Done, close S (own_name S x)) b (close_bounded S (own_name S x) b)
   act_bounded S (Point a x) f s new b = if_bounded (has_same_id a x) (Done, S)
-      (unless (read_trouble S x) S (pointed S a x (own_cell S a) (reach S x) (found S (reach S x))))
+      (unless (read_trouble S x) S (point S a x (own_cell S a) (reach S x) (found S (reach S x))))
       b (unless_bounded S (read_trouble S x)
-      (pointed S a x (own_cell S a) (reach S x) (found S (reach S x))) b (point_bounded S a x b))
+      (point S a x (own_cell S a) (reach S x) (found S (reach S x))) b (point_bounded S a x b))
   act_bounded S (CanRead x) f s new b = b
   act_bounded S (CanWrite x) f s new b = b

@@ -10,7 +10,7 @@ use Rattle.std.specs.FinSet as set
 use Rattle.generational_core.specs.Names.{Name}
 use Rattle.generational_core.specs.Cells.{Cell}
 use Rattle.generational_core.specs.State.{State}
-use Rattle.generational_core.specs.Machine.{born}
+use Rattle.generational_core.specs.Machine.{add_cell}
 use Rattle.generational_core.specs.Slots.{lasts, slots_of, last_name, is_last_live, is_free}
 use Rattle.generational_core.specs.Slots.{is_retired, slots, free, retired, last_generation, Fits}
 use Rattle.generational_core.proofs.Maps.{by_name, by_number, name_total, key_cases, keep_view}
@@ -62,25 +62,25 @@ module _ {T : Type 0} where
     after : map.FinMap nat_cmp ℕ
     after = map.insert (slots_of S) n.slot (greater n.generation (map.get (slots_of S) n.slot))
 
-    slots_after : slots_of (born S n c) ≡ after
+    slots_after : slots_of (add_cell S n c) ≡ after
     unfolding after
     slots_after = lasts_insert S.given n
 
     not_live_yet : map.contains_key S.cells n ≡ false
     not_live_yet = false_from_ne_true _ (λ e. true≢false (sym (sound n e) ∙ new))
 
-    one_cell_more : map.len (born S n c).cells ≡ map.len S.cells + 1
+    one_cell_more : map.len (add_cell S n c).cells ≡ map.len S.cells + 1
     one_cell_more = map.len-insert name_total S.cells n c
         ∙ ap (λ t. cond t (map.len S.cells) (map.len S.cells + 1)) not_live_yet
 
     -- a slot that was retired is retired still, unless it is the new name's
     retired_still : (s : ℕ)
         → s ≢ n.slot → map.contains_key (slots_of S) s ≡ true → is_retired S s ≡ true
-        → map.contains_key (map.retain_keys (slots_of (born S n c)) (is_retired (born S n c))) s
+        → map.contains_key (map.retain_keys (slots_of (add_cell S n c)) (is_retired (add_cell S n c))) s
         ≡ true
     unfolding after
     retired_still s ne there gone =
-        let R = born S n c in
+        let R = add_cell S n c in
         let get_s : map.get (slots_of R) s ≡ map.get (slots_of S) s =
         ap (λ m. map.get m s) slots_after
         ∙ get-insert_apart by_number
@@ -96,35 +96,35 @@ module _ {T : Type 0} where
 
     -- where the new name's slot isn't retired, no retired slot is lost
     retired_more : (is_retired S n.slot ≡ true → map.contains_key (slots_of S) n.slot ≡ true → ⊥)
-        → retired S ≤ retired (born S n c)
+        → retired S ≤ retired (add_cell S n c)
     retired_more no_ = len_within by_number _ _ (λ s h. let it = retired_gives S s h in
         ⊎_elim (λ is. absurd (no_ (subst (λ x. is_retired S x ≡ true) is it.1)
         (subst (λ x. map.contains_key (slots_of S) x ≡ true) is it.0)))
         (λ ne. retired_still s ne it.0 it.1)
         (key_cases by_number s n.slot))
 
-    slots_grow : slots (born S n c)
+    slots_grow : slots (add_cell S n c)
         ≡ cond (map.contains_key (slots_of S) n.slot) (slots S) (slots S + 1)
     unfolding after
     slots_grow = ap map.len slots_after ∙ map.len-insert nat_cmp_total (slots_of S) n.slot _
 
     contains_after : (s : ℕ)
-        → s ≢ n.slot → map.contains_key (slots_of (born S n c)) s ≡ map.contains_key (slots_of S) s
+        → s ≢ n.slot → map.contains_key (slots_of (add_cell S n c)) s ≡ map.contains_key (slots_of S) s
     unfolding after
     contains_after s ne = ap (λ m. map.contains_key m s) slots_after ∙ ap is_some
         (get-insert_apart by_number (slots_of S) n.slot _ s ne)
 
-    pub born_bounded : Fits S n → IsBounded (born S n c)
+    pub born_bounded : Fits S n → IsBounded (add_cell S n c)
     born_bounded fits = ⊎_elim fresh again fits
       where
         fresh : (free S ≡ 0)
-            × (n.slot ≡ slots S) × (n.generation ≡ S.start) → IsBounded (born S n c)
+            × (n.slot ≡ slots S) × (n.generation ≡ S.start) → IsBounded (add_cell S n c)
         fresh f =
             let no_slot : map.contains_key (slots_of S) n.slot ≡ false = false_from_ne_true _
             (λ e. let lt = b.dense n.slot e in let is = f.1 in omega arith) in
-            let grown : slots (born S n c) ≡ slots S + 1 =
+            let grown : slots (add_cell S n c) ≡ slots S + 1 =
             slots_grow ∙ ap (λ t. cond t (slots S) (slots S + 1)) no_slot in
-            let more : retired S ≤ retired (born S n c) =
+            let more : retired S ≤ retired (add_cell S n c) =
             retired_more (λ _ e. true≢false (sym e ∙ no_slot)) in
             let bound = slots_bounded S in
             let cells = one_cell_more in
@@ -137,11 +137,11 @@ module _ {T : Type 0} where
             }
 
         again : (map.contains_key (slots_of S) n.slot ≡ true) × (is_free S n.slot ≡ true)
-            × (n.generation ≡ (last_name S n.slot).generation + 1) → IsBounded (born S n c)
+            × (n.generation ≡ (last_name S n.slot).generation + 1) → IsBounded (add_cell S n c)
         again f =
-            let same : slots (born S n c) ≡ slots S =
+            let same : slots (add_cell S n c) ≡ slots S =
             slots_grow ∙ ap (λ t. cond t (slots S) (slots S + 1)) f.0 in
-            let more : retired S ≤ retired (born S n c) = retired_more (λ r there.
+            let more : retired S ≤ retired (add_cell S n c) = retired_more (λ r there.
             let p = and_parts (not (is_last_live S n.slot))
             (not (nat_lt (last_name S n.slot).generation last_generation)) r in
             let q = and_parts (not (is_last_live S n.slot))

@@ -9,16 +9,16 @@ use Rattle.std.proofs.lemmas.Bool.{eq-eqb}
 use Rattle.std.specs.FinMap as map
 use Rattle.generational_core.specs.declared.error.Location.{Location}
 use Rattle.generational_core.specs.declared.boxes.GenerationalPointer.{GenerationalPointer}
-use Rattle.generational_core.specs.Names.{Name, changed, NameMap}
-use Rattle.generational_core.specs.Cells.{Content, Cell, content_of, refilled}
+use Rattle.generational_core.specs.Names.{Name, change, NameMap}
+use Rattle.generational_core.specs.Cells.{Content, Cell, content_of, refill}
 use Rattle.generational_core.specs.Cells.Cell.{Value, Shared, Ref}
-use Rattle.generational_core.specs.State.{State, Holding}
+use Rattle.generational_core.specs.State.{State, Ownership}
 use Rattle.generational_core.specs.Boxes.{name_of, box_of}
-use Rattle.generational_core.specs.Borrowing.{Trouble, Guard, filled, stamped, reach}
-use Rattle.generational_core.specs.Borrowing.{reached, not_reached, content_at, read_trouble}
+use Rattle.generational_core.specs.Borrowing.{Trouble, Guard, fill, take_ticket, reach}
+use Rattle.generational_core.specs.Borrowing.{leads_to, not_reached, content_at, read_trouble}
 use Rattle.generational_core.specs.Borrowing.{write_trouble, read_refusal, write_refusal}
 use Rattle.generational_core.specs.Borrowing.Trouble.{Dropped}
-use Rattle.generational_core.specs.Machine.{Answer, Outcome, born}
+use Rattle.generational_core.specs.Machine.{Answer, Outcome, add_cell}
 use Rattle.generational_core.specs.Machine.Answer.{Troubled}
 use Rattle.generational_core.specs.Machine.{unless, found}
 use Rattle.generational_core.specs.Machine.{contents}
@@ -110,11 +110,11 @@ module _ {T U : Type 0} {f : Name → Name} {d : ℕ} {g : T → U}
   unfolding reach
   reach_moved b k =
       let mine = λ (t : Bool).
-      option_map f (cond t (reached (map.get A.cells (name_of b)) (name_of b)) None) in
-      let other = λ (n : Name) (t : Bool). cond t (reached (map.get S.cells n) n) None in
+      option_map f (cond t (leads_to (map.get A.cells (name_of b)) (name_of b)) None) in
+      let other = λ (n : Name) (t : Bool). cond t (leads_to (map.get S.cells n) n) None in
       box_cases b k (λ x. reach S x ≡ option_map f (reach A b))
       (λ own kn. ap (other (f (name_of b))) own_number
-      ∙ (ap (λ x. reached x (f (name_of b))) (c.cells.at (name_of b) kn)
+      ∙ (ap (λ x. leads_to x (f (name_of b))) (c.cells.at (name_of b) kn)
       ∙ (reached_moved f d g (map.get A.cells (name_of b)) (name_of b)
       ∙ sym (ap mine own))))
       (λ strange. ap (other (name_of b)) (strange_number b.id.store strange)
@@ -127,14 +127,14 @@ module _ {T U : Type 0} {f : Name → Name} {d : ℕ} {g : T → U}
   reach_known b k = split (nat_eq b.id.store A.number) refl
     where
       at : (x : Option (Cell T)) → map.get A.cells (name_of b) ≡ x
-          → Knows (name_of b) → IfThere (reached x (name_of b)) Knows
+          → Knows (name_of b) → IfThere (leads_to x (name_of b)) Knows
       at None is kn = tt
       at (Some (Value o l)) is kn = kn
       at (Some (Shared o l)) is kn = tt
       at (Some (Ref m l)) is kn = c.cells.leads (name_of b) m l is
 
       split : (x : Bool) → nat_eq b.id.store A.number ≡ x
-          → IfThere (cond x (reached (map.get A.cells (name_of b)) (name_of b)) None) Knows
+          → IfThere (cond x (leads_to (map.get A.cells (name_of b)) (name_of b)) None) Knows
       split true is = at (map.get A.cells (name_of b)) refl (k is)
       split false is = tt
 
@@ -236,15 +236,15 @@ module _ {T U : Type 0} {f : Name → Name} {d : ℕ} {g : T → U}
 
   -- another content in a known cell
   pub with_content : (n : Name) (x : Content U) (y : Content T)
-      → Knows n → x ≡ moved_content f d g y → Carries f d g Knows (filled S (f n) x) (filled A n y)
+      → Knows n → x ≡ moved_content f d g y → Carries f d g Knows (fill S (f n) x) (fill A n y)
   with_content n x y kn e =
-      with_cells _ _ (subst (λ z. CarriesCells f d g Knows (changed S.cells (f n) (refilled z))
-      (changed A.cells n (refilled y))) (sym e) (cells_refilled c.apart c.cells n y kn))
+      with_cells _ _ (subst (λ z. CarriesCells f d g Knows (change S.cells (f n) (refill z))
+      (change A.cells n (refill y))) (sym e) (cells_refilled c.apart c.cells n y kn))
 
   -- a new cell at a known name
   pub with_born : (n : Name) (x : Cell T)
       → Knows n → ((m : Name) (l : Location) → Some x ≡ Some (Ref m l) → Knows m)
-      → Carries f d g Knows (born S (f n) (moved_cell f d g x)) (born A n x)
+      → Carries f d g Knows (add_cell S (f n) (moved_cell f d g x)) (add_cell A n x)
   with_born n x kn leads =
       let more = cells_insert c.apart c.cells n x kn leads in
       record {
@@ -262,10 +262,10 @@ module _ {T U : Type 0} {f : Name → Name} {d : ℕ} {g : T → U}
       }
 
   -- other owners, whose records are carried too
-  pub with_owners : (new : map.FinMap nat_cmp Holding) (old : map.FinMap nat_cmp Holding)
+  pub with_owners : (new : map.FinMap nat_cmp Ownership) (old : map.FinMap nat_cmp Ownership)
       → ((key : ℕ) → map.get new (key + d) ≡ option_map (moved_holding f d) (map.get old key))
       → ((key : ℕ) → is_some (map.get new key) ≡ true → d ≤ key)
-      → ((key : ℕ) (h : Holding) → map.get old key ≡ Some h → AllByRecursion Knows h.names)
+      → ((key : ℕ) (h : Ownership) → map.get old key ≡ Some h → AllByRecursion Knows h.names)
       → Carries f d g Knows (record S { owners = new }) (record A { owners = old })
   with_owners new old h from k = record {
     number = c.number;
@@ -280,7 +280,7 @@ module _ {T U : Type 0} {f : Name → Name} {d : ℕ} {g : T → U}
   }
 
   -- a ticket more in both
-  pub next_moved : Carries f d g Knows (stamped S) (stamped A)
+  pub next_moved : Carries f d g Knows (take_ticket S) (take_ticket A)
   next_moved = record {
     number = c.number;
     peak = c.peak;

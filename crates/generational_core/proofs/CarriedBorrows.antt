@@ -11,10 +11,10 @@ use Rattle.generational_core.specs.Names.{Name}
 use Rattle.generational_core.specs.Cells.{Content}
 use Rattle.generational_core.specs.Cells.Content.{Here, Lent}
 use Rattle.generational_core.specs.State.{State}
-use Rattle.generational_core.specs.Borrowing.{Guard, filled}
+use Rattle.generational_core.specs.Borrowing.{Guard, fill}
 use Rattle.generational_core.specs.Borrowing.{content_at}
 use Rattle.generational_core.specs.Machine.{Fresh, act}
-use Rattle.generational_core.specs.Machine.{read_at, written_at}
+use Rattle.generational_core.specs.Machine.{read_at, write_at}
 use Rattle.generational_core.specs.Machine.{knows_reader, knows_writer}
 use Rattle.generational_core.specs.Machine.{has_reader, has_writer, without_reader, set_at}
 use Rattle.generational_core.specs.Machine.{next_borrow}
@@ -81,7 +81,7 @@ module _ {T U : Type 0} {f : Name → Name} {d : ℕ} {g : T → U}
 
   pub written_at_matched : (l : Location) (m : Option Name) (x : Option (Content T))
       → IfThere m Knows → Alike c
-      (written_at S l (option_map f m) (option_map (moved_content f d g) x)) (written_at A l m x)
+      (write_at S l (option_map f m) (option_map (moved_content f d g) x)) (write_at A l m x)
   written_at_matched l None x k = stays c Done refl tt
   written_at_matched l (Some n) None k = stays c Done refl tt
   written_at_matched l (Some n) (Some (Lent w)) k = stays c Done refl tt
@@ -171,8 +171,8 @@ module _ {T U : Type 0} {f : Name → Name} {d : ℕ} {g : T → U}
         answer = refl;
         same = refl;
         known = tt;
-        state = subst (λ (x : Guard). Carries f d g Knows (filled S x.cell (Here (g v) []))
-            (filled A guard.cell (Here v []))) (sym (guard_own f d A.number guard own))
+        state = subst (λ (x : Guard). Carries f d g Knows (fill S x.cell (Here (g v) []))
+            (fill A guard.cell (Here v []))) (sym (guard_own f d A.number guard own))
             (with_content c guard.cell (Here (g v) []) (Here v []) (k own) refl);
       })
       (λ _. stays c (Back v) refl tt)

@@ -12,10 +12,10 @@ use Rattle.generational_core.specs.State.{State}
 use Rattle.generational_core.specs.Borrowing.{reach}
 use Rattle.generational_core.specs.Borrowing.{read_trouble}
 use Rattle.generational_core.specs.Borrowing.{write_trouble}
-use Rattle.generational_core.specs.Machine.{Action, Fresh, Outcome, OwnerName, act, born}
-use Rattle.generational_core.specs.Machine.{holding, is_known, referred, found}
-use Rattle.generational_core.specs.Machine.{cloned, let_go, read_at, written_at, contents, own_cell}
-use Rattle.generational_core.specs.Machine.{set_at, pointed}
+use Rattle.generational_core.specs.Machine.{Action, Fresh, Outcome, OwnerName, act, add_cell}
+use Rattle.generational_core.specs.Machine.{ownership, is_known, refer, found}
+use Rattle.generational_core.specs.Machine.{clone_owner, release_owner, read_at, write_at, contents, own_cell}
+use Rattle.generational_core.specs.Machine.{set_at, point}
 use Rattle.generational_core.specs.Machine.{make_value, make_shared}
 use Rattle.generational_core.specs.Machine.Action.{Make, MakeShared, Refer, NewOwner, CloneOwner}
 use Rattle.generational_core.specs.Machine.Action.{ReleaseOwner, LeakOwner, Read, Write}
@@ -56,7 +56,7 @@ module _ {T U : Type 0} {f : Name → Name} {d : ℕ} {g : T → U}
       (make_value S (option_map (moved_owner f d A.number) o) (g v) l (f n)) (make_value A o v l n)
   make_matched o v l n ko kn = record {
     answer = ap Made (made_box c n l);
-    same = listed_number (born A n (Value (Here v []) l)) o n;
+    same = listed_number (add_cell A n (Value (Here v []) l)) o n;
     known = λ _. kn;
     state =
         listed_matched (with_born c n (Value (Here v []) l) kn (value_leads Knows v l)) o n ko kn;
@@ -72,7 +72,7 @@ module _ {T U : Type 0} {f : Name → Name} {d : ℕ} {g : T → U}
       with_born shared new.second (Ref new.first l) kn.1 (ref_known Knows new.first l kn.0) in
       record {
         answer = ap Made (made_box c new.second l);
-        same = listed_number (born (born A new.first (Shared (Here v []) l)) new.second
+        same = listed_number (add_cell (add_cell A new.first (Shared (Here v []) l)) new.second
             (Ref new.first l)) o new.second;
         known = λ _. kn.1;
         state = listed_matched both o new.second ko kn.1;
@@ -83,12 +83,12 @@ module _ {T U : Type 0} {f : Name → Name} {d : ℕ} {g : T → U}
 
   refer_matched : (o : Option OwnerName) (b : GenerationalPointer) (n : Name)
       → KnowsBox Knows A.number b → is_known A o ≡ true
-      → Knows n → (let m = moved_box f d A.number b in let out : Outcome U = referred S
+      → Knows n → (let m = moved_box f d A.number b in let out : Outcome U = refer S
       (option_map (moved_owner f d A.number) o) m (reach S m) (found S (reach S m)) (f n) in
-      Alike c out (referred A o b (reach A b) (found A (reach A b)) n))
+      Alike c out (refer A o b (reach A b) (found A (reach A b)) n))
   refer_matched o b n k ko kn =
-      with_found c b k (λ to x. Alike c (referred S (option_map (moved_owner f d A.number) o)
-      (moved_box f d A.number b) to x (f n)) (referred A o b (reach A b) (found A (reach A b)) n))
+      with_found c b k (λ to x. Alike c (refer S (option_map (moved_owner f d A.number) o)
+      (moved_box f d A.number b) to x (f n)) (refer A o b (reach A b) (found A (reach A b)) n))
       (referred_matched c o b (reach A b) (found A (reach A b)) n k ko (reach_known c b k) kn)
 
   -- each call of a carried state matches the call of the state that carries it
@@ -104,17 +104,17 @@ module _ {T U : Type 0} {f : Name → Name} {d : ℕ} {g : T → U}
       (λ _. unknown)
   act_matched NewOwner new k kn = new_owner_matched c
   act_matched (CloneOwner o) new k kn =
-      subst (λ h. Alike c (cloned S (moved_owner f d A.number o) h) (cloned A o (holding A o)))
-      (sym (holding_moved c o)) (cloned_matched c o (holding A o) refl)
+      subst (λ h. Alike c (clone_owner S (moved_owner f d A.number o) h) (clone_owner A o (ownership A o)))
+      (sym (holding_moved c o)) (cloned_matched c o (ownership A o) refl)
   act_matched (ReleaseOwner o) new k kn =
-      subst (λ h. Alike c (let_go S (moved_owner f d A.number o) h) (let_go A o (holding A o)))
-      (sym (holding_moved c o)) (let_go_matched c o (holding A o) refl)
+      subst (λ h. Alike c (release_owner S (moved_owner f d A.number o) h) (release_owner A o (ownership A o)))
+      (sym (holding_moved c o)) (let_go_matched c o (ownership A o) refl)
   act_matched (LeakOwner o) new k kn = stays c Done refl tt
   act_matched (Read b l) new k kn = unless_alike c (read_trouble_moved c b k) (with_contents c b k
       (λ to x. Alike c (read_at S l to x) (read_at A l (reach A b) (contents A (reach A b))))
       (read_at_matched c l (reach A b) (contents A (reach A b)) (reach_known c b k)))
   act_matched (Write b l) new k kn = unless_alike c (write_trouble_moved c b k) (with_contents c b k
-      (λ to x. Alike c (written_at S l to x) (written_at A l (reach A b) (contents A (reach A b))))
+      (λ to x. Alike c (write_at S l to x) (write_at A l (reach A b) (contents A (reach A b))))
       (written_at_matched c l (reach A b) (contents A (reach A b)) (reach_known c b k)))
   act_matched (ReleaseReader guard) new k kn = release_reader_matched c guard new k
   act_matched (ReleaseWriter guard v) new k kn = release_writer_matched c guard v new k
@@ -127,8 +127,8 @@ module _ {T U : Type 0} {f : Name → Name} {d : ℕ} {g : T → U}
       let mine = moved_box f d A.number a in
       if_alike c (same_box_moved f d c.apart A.number a b k.0 k.1) (λ _. stays c Done refl tt)
       (λ _. unless_alike c (read_trouble_moved c b k.1)
-      (with_found c b k.1 (λ to x. Alike c (pointed S mine (moved_box f d A.number b)
-      (own_cell S mine) to x) (pointed A a b (own_cell A a) (reach A b) (found A (reach A b))))
+      (with_found c b k.1 (λ to x. Alike c (point S mine (moved_box f d A.number b)
+      (own_cell S mine) to x) (point A a b (own_cell A a) (reach A b) (found A (reach A b))))
       (point_matched c a b (reach A b) (found A (reach A b)) k.0 k.1 (reach_known c b k.1))))
   act_matched (CanRead b) new k kn = stays c
       (Flag (is_none (read_trouble A b))) (ap (λ t. Flag (is_none t)) (read_trouble_moved c b k)) tt

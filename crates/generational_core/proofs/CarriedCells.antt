@@ -8,12 +8,12 @@ use Rattle.std.specs.List.{AllByRecursion}
 use Rattle.std.proofs.lemmas.Bool.{true≢false}
 use Rattle.std.specs.FinMap as map
 use Rattle.generational_core.specs.declared.error.Location.{Location}
-use Rattle.generational_core.specs.Names.{Name, is_name, changed, among, NameMap}
-use Rattle.generational_core.specs.Cells.{Content, Cell, content_of, is_shared, refilled}
+use Rattle.generational_core.specs.Names.{Name, is_name, change, among, NameMap}
+use Rattle.generational_core.specs.Cells.{Content, Cell, content_of, is_shared, refill}
 use Rattle.generational_core.specs.Cells.Cell.{Value, Shared, Ref}
 use Rattle.generational_core.specs.State.{is_named}
 use Rattle.generational_core.specs.Borrowing.{write_refusal}
-use Rattle.generational_core.specs.Ending.{swept, without, left_by, hindrance_at, hindrance_of}
+use Rattle.generational_core.specs.Ending.{sweep, without, cells_after, hindrance_at, hindrance_of}
 use Rattle.generational_core.specs.Ending.{or_else, first_hindrance}
 use Rattle.generational_core.specs.Carrying.{CarriesCells, moved_content, moved_cell}
 use Rattle.generational_core.proofs.Maps.{by_name, name_cases, name_here, name_apart}
@@ -36,7 +36,7 @@ changed_some h false o = refl
 
 -- what is live after a change was live before it
 changed_live : {X : Type 0} (m : NameMap X) (n : Name) (h : X → X) (q : Name)
-    → is_some (map.get (changed m n h) q) ≡ true → is_some (map.get m q) ≡ true
+    → is_some (map.get (change m n h) q) ≡ true → is_some (map.get m q) ≡ true
 changed_live m n h q live =
     sym (ap is_some (get-changed_name m n h q) ∙ changed_some h (is_name q n) (map.get m q)) ∙ live
 
@@ -97,8 +97,8 @@ module _ {T U : Type 0} {f : Name → Name} {d : ℕ} {g : T → U} {Knows : Nam
           (λ e. absurd (none≢some _ _ e.0 h)) (keep_view by_name A q k));
     }
 
-    pub cells_swept : CarriesCells f d g Knows (swept S) (swept A)
-    unfolding swept
+    pub cells_swept : CarriesCells f d g Knows (sweep S) (sweep A)
+    unfolding sweep
     cells_swept = cells_keep _ _ (λ k kk i. not (shared_at k kk i) || named_moved k kk i)
 
     cells_without : (names : List Name) → AllByRecursion Knows names
@@ -133,31 +133,31 @@ module _ {T U : Type 0} {f : Name → Name} {d : ℕ} {g : T → U} {Knows : Nam
 
     -- another content in a known cell
     pub cells_refilled : (n : Name) (x : Content T) → Knows n → CarriesCells f d g Knows
-        (changed S (f n) (refilled (moved_content f d g x))) (changed A n (refilled x))
+        (change S (f n) (refill (moved_content f d g x))) (change A n (refill x))
     cells_refilled n x kn =
         let mine =
-        λ (k : Name) (b : Bool). cond b (option_map (refilled x) (map.get A k)) (map.get A k) in
+        λ (k : Name) (b : Bool). cond b (option_map (refill x) (map.get A k)) (map.get A k) in
         record {
-          at = λ k kk. get-changed_name S (f n) (refilled (moved_content f d g x)) (f k)
+          at = λ k kk. get-changed_name S (f n) (refill (moved_content f d g x)) (f k)
               ∙ ((λ i. cond (same_test apart k n kk kn i)
-              (option_map (refilled (moved_content f d g x)) (c.at k kk i)) (c.at k kk i))
+              (option_map (refill (moved_content f d g x)) (c.at k kk i)) (c.at k kk i))
               ∙ ((λ i. cond (is_name k n) (refilled_moved f d g x (map.get A k) i)
               (option_map (moved_cell f d g) (map.get A k))) ∙ (map_cond (moved_cell f d g)
-              (is_name k n) (option_map (refilled x) (map.get A k)) (map.get A k)
-              ∙ sym (ap (option_map (moved_cell f d g)) (get-changed_name A n (refilled x) k)))));
+              (is_name k n) (option_map (refill x) (map.get A k)) (map.get A k)
+              ∙ sym (ap (option_map (moved_cell f d g)) (get-changed_name A n (refill x) k)))));
           from = λ q h. c.from q (changed_live S (f n) _ q h);
           known = λ k h. c.known k (changed_live A n _ k h);
           leads = λ k m l h. ⊎_elim (λ is. c.leads k m l
-              (refilled_leads x (map.get A k) m l (sym (get-changed_name A n (refilled x) k
+              (refilled_leads x (map.get A k) m l (sym (get-changed_name A n (refill x) k
               ∙ ap (mine k) (ap (λ y. is_name y n) is ∙ name_here n)) ∙ h))) (λ ne. c.leads k m l
-              (sym (get-changed_name A n (refilled x) k ∙ ap (mine k) (name_apart k n ne)) ∙ h))
+              (sym (get-changed_name A n (refill x) k ∙ ap (mine k) (name_apart k n ne)) ∙ h))
               (name_cases k n);
         }
 
   -- what is left when known names end
   pub cells_left : {S : NameMap (Cell U)} {A : NameMap (Cell T)}
       (c : CarriesCells f d g Knows S A) (names : List Name) → AllByRecursion Knows names
-      → CarriesCells f d g Knows (left_by S (list_map f names)) (left_by A names)
+      → CarriesCells f d g Knows (cells_after S (list_map f names)) (cells_after A names)
   cells_left c names h = cells_swept (cells_without c names h)
 
   -- ---- hindrances, where both the cells and those that are left are carried

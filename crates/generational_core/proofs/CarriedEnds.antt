@@ -14,13 +14,13 @@ use Rattle.generational_core.specs.Cells.Cell.{Value, Shared, Ref}
 use Rattle.generational_core.specs.State.{State}
 use Rattle.generational_core.specs.Boxes.{name_of, box_of, has_same_id}
 use Rattle.generational_core.specs.Borrowing.Trouble.{Dropped}
-use Rattle.generational_core.specs.Ending.{swept, close, hindered}
-use Rattle.generational_core.specs.Machine.{Fresh, OwnerName, act, born}
-use Rattle.generational_core.specs.Machine.{is_known, unless, referred}
+use Rattle.generational_core.specs.Ending.{sweep, close, hindrance_to}
+use Rattle.generational_core.specs.Machine.{Fresh, OwnerName, act, add_cell}
+use Rattle.generational_core.specs.Machine.{is_known, unless, refer}
 use Rattle.generational_core.specs.Machine.{own_cell}
 use Rattle.generational_core.specs.Machine.{own_name, created_at}
-use Rattle.generational_core.specs.Machine.{pointed}
-use Rattle.generational_core.specs.Machine.{turned}
+use Rattle.generational_core.specs.Machine.{point}
+use Rattle.generational_core.specs.Machine.{turn}
 use Rattle.generational_core.specs.Machine.Action.{End}
 use Rattle.generational_core.specs.Machine.Answer.{Made, Done}
 use Rattle.generational_core.specs.Machine.Answer.{Troubled}
@@ -115,15 +115,15 @@ module _ {T U : Type 0} {f : Name → Name} {d : ℕ} {g : T → U}
   pub referred_matched : (o : Option OwnerName)
       (b : GenerationalPointer) (to : Option Name) (x : Option (Cell T)) (n : Name)
       → KnowsBox Knows A.number b → is_known A o ≡ true → IfThere to Knows → Knows n
-      → Alike c (referred S (option_map (moved_owner f d A.number) o) (moved_box f d A.number b)
-      (option_map f to) (option_map (moved_cell f d g) x) (f n)) (referred A o b to x n)
+      → Alike c (refer S (option_map (moved_owner f d A.number) o) (moved_box f d A.number b)
+      (option_map f to) (option_map (moved_cell f d g) x) (f n)) (refer A o b to x n)
   referred_matched o b None x n kb ko k kn = dropped c b kb
   referred_matched o b (Some m) None n kb ko k kn = dropped c b kb
   referred_matched o b (Some m) (Some (Value y l)) n kb ko k kn = dropped c b kb
   referred_matched o b (Some m) (Some (Ref q l)) n kb ko k kn = dropped c b kb
   referred_matched o b (Some m) (Some (Shared y l)) n kb ko k kn = record {
     answer = ap Made (made_box c n l);
-    same = listed_number (born A n (Ref m l)) o n;
+    same = listed_number (add_cell A n (Ref m l)) o n;
     known = λ _. kn;
     state = listed_matched (with_born c n (Ref m l) kn (ref_known Knows m l k)) o n ko kn;
   }
@@ -131,16 +131,16 @@ module _ {T U : Type 0} {f : Name → Name} {d : ℕ} {g : T → U}
   -- ---- a reference that turns to another cell
 
   turned_matched : (a old new : Name) (l : Location) → Knows a
-      → Knows old → Knows new → Alike c (turned S (f a) (f old) (f new) l) (turned A a old new l)
+      → Knows old → Knows new → Alike c (turn S (f a) (f old) (f new) l) (turn A a old new l)
   turned_matched a old new l ka ko kn =
       let cells = cells_swept c.apart
       (cells_insert c.apart c.cells a (Ref new l) ka (ref_known Knows new l kn)) in
       let after : Alike c
-      (Done, record S { cells = swept (map.insert S.cells (f a) (Ref (f new) l)) })
-      (Done, record A { cells = swept (map.insert A.cells a (Ref new l)) }) =
+      (Done, record S { cells = sweep (map.insert S.cells (f a) (Ref (f new) l)) })
+      (Done, record A { cells = sweep (map.insert A.cells a (Ref new l)) }) =
       record { answer = refl; same = refl; known = tt; state = with_cells c _ _ cells } in
-      let turned = unless_alike c (hindrance_at_moved c.apart c.cells cells old ko) after in
-      if_alike c (same_test c.apart old new ko kn) (λ _. stays c Done refl tt) (λ _. turned)
+      let turn = unless_alike c (hindrance_at_moved c.apart c.cells cells old ko) after in
+      if_alike c (same_test c.apart old new ko kn) (λ _. stays c Done refl tt) (λ _. turn)
 
   created_at_moved : (b : GenerationalPointer) (x : Option (Cell T)) → KnowsBox Knows A.number b
       → created_at (option_map (moved_cell f d g) x) (moved_box f d A.number b) ≡ created_at x b
@@ -163,9 +163,9 @@ module _ {T U : Type 0} {f : Name → Name} {d : ℕ} {g : T → U}
   pointed_own : (a b : GenerationalPointer)
       (cell : Option (Cell T)) (to : Option Name) (x : Option (Cell T)) → KnowsBox Knows A.number b
       → IfThere to Knows → Knows (name_of a) → map.get A.cells (name_of a) ≡ cell
-      → Alike c (pointed S (box_of A.number (f (name_of a)) a.created_at) (moved_box f d A.number b)
+      → Alike c (point S (box_of A.number (f (name_of a)) a.created_at) (moved_box f d A.number b)
       (option_map (moved_cell f d g) cell) (option_map f to) (option_map (moved_cell f d g) x))
-      (pointed A a b cell to x)
+      (point A a b cell to x)
   pointed_own a b None to x kb k ka is = stays c (Troubled (Dropped a.created_at)) refl tt
   pointed_own a b (Some (Value y l)) to x kb k ka is = no_target b x kb
   pointed_own a b (Some (Shared y l)) to x kb k ka is = no_target b x kb
@@ -181,29 +181,29 @@ module _ {T U : Type 0} {f : Name → Name} {d : ℕ} {g : T → U}
   -- a Ref that is pointed to what was reached
   pub point_matched : (a b : GenerationalPointer) (to : Option Name) (x : Option (Cell T))
       → KnowsBox Knows A.number a → KnowsBox Knows A.number b → IfThere to Knows
-      → Alike c (pointed S (moved_box f d A.number a) (moved_box f d A.number b)
+      → Alike c (point S (moved_box f d A.number a) (moved_box f d A.number b)
       (own_cell S (moved_box f d A.number a)) (option_map f to) (option_map (moved_cell f d g) x))
-      (pointed A a b (own_cell A a) to x)
+      (point A a b (own_cell A a) to x)
   point_matched a b to x ka kb k =
       let to_f = option_map f to in
       let cell = option_map (moved_cell f d g) x in
       let other = moved_box f d A.number b in
       let mine = box_of A.number (f (name_of a)) a.created_at in
       box_cases c a ka (λ y.
-      Alike c (pointed S y other (own_cell S y) to_f cell) (pointed A a b (own_cell A a) to x))
+      Alike c (point S y other (own_cell S y) to_f cell) (point A a b (own_cell A a) to x))
       (λ own kn.
-      subst (λ y. Alike c (pointed S mine other y to_f cell) (pointed A a b (own_cell A a) to x))
+      subst (λ y. Alike c (point S mine other y to_f cell) (point A a b (own_cell A a) to x))
       (sym (ap (λ t. cond t (map.get S.cells (f (name_of a))) None) (own_number c)
       ∙ c.cells.at (name_of a) kn))
-      (subst (λ y. Alike c (pointed S mine other (option_map (moved_cell f d g)
-      (map.get A.cells (name_of a))) to_f cell) (pointed A a b y to x))
+      (subst (λ y. Alike c (point S mine other (option_map (moved_cell f d g)
+      (map.get A.cells (name_of a))) to_f cell) (point A a b y to x))
       (sym (ap (λ t. cond t (map.get A.cells (name_of a)) None) own))
       (pointed_own a b (map.get A.cells (name_of a)) to x kb k kn refl)))
       (λ strange.
-      subst (λ y. Alike c (pointed S a other y to_f cell) (pointed A a b (own_cell A a) to x))
+      subst (λ y. Alike c (point S a other y to_f cell) (point A a b (own_cell A a) to x))
       (sym
       (ap (λ t. cond t (map.get S.cells (name_of a)) None) (strange_number c a.id.store strange)))
-      (subst (λ y. Alike c (pointed S a other None to_f cell) (pointed A a b y to x))
+      (subst (λ y. Alike c (point S a other None to_f cell) (point A a b y to x))
       (sym (ap (λ t. cond t (map.get A.cells (name_of a)) None) strange))
       (stays c (Troubled (Dropped a.created_at)) refl tt)))
 
@@ -226,6 +226,6 @@ module _ {T U : Type 0} {f : Name → Name} {d : ℕ} {g : T → U}
       let known = own_name_known Knows A b k in
       let left : Alike c (Done, close S (list_map f names)) (Done, close A names) =
       record { answer = refl; same = refl; known = tt; state = closed_matched c names known } in
-      subst (λ (ns : List Name). Alike c (unless (hindered S ns) S (Done, close S ns))
+      subst (λ (ns : List Name). Alike c (unless (hindrance_to S ns) S (Done, close S ns))
       (act A (End b) new)) (sym (own_name_moved b k))
       (unless_alike c (hindered_matched c names known) left)

@@ -8,13 +8,13 @@ use Rattle.std.specs.Cmp.{nat_cmp_total, nat_eq_equiv}
 use Rattle.std.specs.List.{AllByRecursion}
 use Rattle.std.specs.FinMap as map
 use Rattle.generational_core.specs.declared.error.StoreError.TheVariants.{UnknownOwner}
-use Rattle.generational_core.specs.Names.{Name, changed}
-use Rattle.generational_core.specs.State.{State, Holding}
-use Rattle.generational_core.specs.Ending.{close, hindered}
+use Rattle.generational_core.specs.Names.{Name, change}
+use Rattle.generational_core.specs.State.{State, Ownership}
+use Rattle.generational_core.specs.Ending.{close, hindrance_to}
 use Rattle.generational_core.specs.Machine.{OwnerName}
-use Rattle.generational_core.specs.Machine.{holding, is_known, listed}
-use Rattle.generational_core.specs.Machine.{cloned, let_go}
-use Rattle.generational_core.specs.Machine.{new_owner, with_owner}
+use Rattle.generational_core.specs.Machine.{ownership, is_known, add_to_list}
+use Rattle.generational_core.specs.Machine.{clone_owner, release_owner}
+use Rattle.generational_core.specs.Machine.{new_owner, set_ownership}
 use Rattle.generational_core.specs.Machine.Answer.{Owned, Done}
 use Rattle.generational_core.specs.Machine.Answer.{Refused}
 use Rattle.generational_core.specs.Carrying.{Carries}
@@ -31,7 +31,7 @@ use Rattle.generational_core.proofs.Carried.{with_cells}
 use Rattle.generational_core.proofs.Carried.{with_owners, next_moved}
 
 pub listed_number : {T : Type 0} (S : State T) (o : Option OwnerName) (n : Name)
-    → (listed S o n).number ≡ S.number
+    → (add_to_list S o n).number ≡ S.number
 listed_number S None n = refl
 listed_number S (Some o) n = refl
 
@@ -59,8 +59,8 @@ knows_push Knows [] n h k = (k, tt)
 knows_push Knows (m ∷ names) n h k = (h.0, knows_push Knows names n h.1 k)
 
 -- an owner that has a record is of this store
-held_own : {T : Type 0} (A : State T) (o : OwnerName) (h : Holding)
-    → holding A o ≡ Some h → (nat_eq o.store A.number ≡ true) × (map.get A.owners o.key ≡ Some h)
+held_own : {T : Type 0} (A : State T) (o : OwnerName) (h : Ownership)
+    → ownership A o ≡ Some h → (nat_eq o.store A.number ≡ true) × (map.get A.owners o.key ≡ Some h)
 held_own A o h = split (nat_eq o.store A.number) refl
   where
     split : (b : Bool) → nat_eq o.store A.number ≡ b → cond b (map.get A.owners o.key) None ≡ Some h
@@ -72,11 +72,11 @@ module _ {T U : Type 0} {f : Name → Name} {d : ℕ} {g : T → U}
     {Knows : Name → Type 0} {S : State U} {A : State T} (c : Carries f d g Knows S A) where
   -- an owner's record
   pub holding_moved : (o : OwnerName)
-      → holding S (moved_owner f d A.number o) ≡ option_map (moved_holding f d) (holding A o)
+      → ownership S (moved_owner f d A.number o) ≡ option_map (moved_holding f d) (ownership A o)
   holding_moved o =
       let mine =
       λ (t : Bool). option_map (moved_holding f d) (cond t (map.get A.owners o.key) None) in
-      owner_cases f d A.number o (λ x. holding S x ≡ option_map (moved_holding f d) (holding A o))
+      owner_cases f d A.number o (λ x. ownership S x ≡ option_map (moved_holding f d) (ownership A o))
       (λ own. ap (λ t. cond t (map.get S.owners (o.key + d)) None) (own_number c)
       ∙ (c.owners o.key ∙ sym (ap mine own)))
       (λ strange. ap (λ t. cond t (map.get S.owners o.key) None) (strange_number c o.store strange)
@@ -85,11 +85,11 @@ module _ {T U : Type 0} {f : Name → Name} {d : ℕ} {g : T → U}
   pub known_moved : (o : Option OwnerName)
       → is_known S (option_map (moved_owner f d A.number) o) ≡ is_known A o
   known_moved None = refl
-  known_moved (Some o) = ap is_some (holding_moved o) ∙ some_map (moved_holding f d) (holding A o)
+  known_moved (Some o) = ap is_some (holding_moved o) ∙ some_map (moved_holding f d) (ownership A o)
 
   -- a record put in
-  with_record : (key : ℕ) (h : Holding) → AllByRecursion Knows h.names
-      → Carries f d g Knows (with_owner S (key + d) (moved_holding f d h)) (with_owner A key h)
+  with_record : (key : ℕ) (h : Ownership) → AllByRecursion Knows h.names
+      → Carries f d g Knows (set_ownership S (key + d) (moved_holding f d h)) (set_ownership A key h)
   with_record key h k =
       with_owners c _ _ (λ q. map.get-insert nat_cmp_total S.owners (key + d) (moved_holding f d h)
       (q + d) ∙ ((λ i. cond (key_moved d q key i) (Some (moved_holding f d h)) (c.owners q i))
@@ -98,12 +98,12 @@ module _ {T U : Type 0} {f : Name → Name} {d : ℕ} {g : T → U}
       (λ q live. ⊎_elim (λ e. omega arith) (λ ne. c.keys q
       (sym (ap is_some (get-insert_apart by_number S.owners (key + d) (moved_holding f d h) q ne))
       ∙ live)) (key_cases by_number q (key + d)))
-      (λ q x is. ⊎_elim (λ e. subst (λ (y : Holding). AllByRecursion Knows y.names)
+      (λ q x is. ⊎_elim (λ e. subst (λ (y : Ownership). AllByRecursion Knows y.names)
       (same_some _ _ (sym (get-insert_here by_number A.owners key h)
       ∙ (ap (map.get (map.insert A.owners key h)) (sym e) ∙ is))) k) (λ ne. c.listed q x
       (sym (get-insert_apart by_number A.owners key h q ne) ∙ is)) (key_cases by_number q key))
     where
-      same_some : (x y : Holding) → Some x ≡ Some y → x ≡ y
+      same_some : (x y : Ownership) → Some x ≡ Some y → x ≡ y
       same_some x y e = cc
 
   without_record : (key : ℕ)
@@ -124,12 +124,12 @@ module _ {T U : Type 0} {f : Name → Name} {d : ℕ} {g : T → U}
   -- a name at the end of an owner's list
   pub listed_matched : (o : Option OwnerName) (n : Name)
       → is_known A o ≡ true → Knows n → Carries f d g Knows
-      (listed S (option_map (moved_owner f d A.number) o) (f n)) (listed A o n)
+      (add_to_list S (option_map (moved_owner f d A.number) o) (f n)) (add_to_list A o n)
   listed_matched None n h k = c
   listed_matched (Some o) n h k =
-      let it = some_live (holding A o) h in
+      let it = some_live (ownership A o) h in
       let own = held_own A o it.0 it.1 in
-      let grow = λ (m : Name) (h : Holding). record h { names = h.names ++ m ∷ [] } in
+      let grow = λ (m : Name) (h : Ownership). record h { names = h.names ++ m ∷ [] } in
       let there : map.get S.owners (o.key + d) ≡ Some (moved_holding f d it.0) =
       c.owners o.key ∙ ap (option_map (moved_holding f d)) own.1 in
       let mine = changed_there by_number A.owners o.key
@@ -137,15 +137,15 @@ module _ {T U : Type 0} {f : Name → Name} {d : ℕ} {g : T → U}
       let other = changed_there by_number S.owners
       (o.key + d) (grow (f n)) (moved_holding f d it.0) there in
       let pushed = ap (λ ns. map.insert S.owners
-      (o.key + d) (let h : Holding = record { names = ns; count = it.0.count } in h))
+      (o.key + d) (let h : Ownership = record { names = ns; count = it.0.count } in h))
       (map_append f it.0.names (n ∷ [])) in
       let key = ap (λ (x : OwnerName). x.key) (owner_own f d A.number o own.0) in
       let base = with_record o.key
       (grow n it.0) (knows_push Knows it.0.names n (c.listed o.key it.0 own.1) k) in
-      subst (λ (m : map.FinMap nat_cmp Holding).
-      Carries f d g Knows (record S { owners = m }) (listed A (Some o) n))
-      (pushed ∙ (sym other ∙ ap (λ q. changed S.owners q (grow (f n))) (sym key)))
-      (subst (λ (m : map.FinMap nat_cmp Holding). Carries f d g Knows (with_owner S
+      subst (λ (m : map.FinMap nat_cmp Ownership).
+      Carries f d g Knows (record S { owners = m }) (add_to_list A (Some o) n))
+      (pushed ∙ (sym other ∙ ap (λ q. change S.owners q (grow (f n))) (sym key)))
+      (subst (λ (m : map.FinMap nat_cmp Ownership). Carries f d g Knows (set_ownership S
       (o.key + d) (moved_holding f d (grow n it.0))) (record A { owners = m })) (sym mine) base)
 
   made_owner : ◌≡◌ {A = OwnerName} (record { store = S.number; key = S.next })
@@ -158,29 +158,29 @@ module _ {T U : Type 0} {f : Name → Name} {d : ℕ} {g : T → U}
   -- a new owner, a clone of one, and one that is let go
   pub new_owner_matched : Alike c (new_owner S) (new_owner A)
   new_owner_matched =
-      let first : Holding = record { names = []; count = 1 } in
+      let first : Ownership = record { names = []; count = 1 } in
       record {
         answer = ap Owned made_owner;
         same = refl;
         known = tt;
-        state = next_moved (subst (λ (q : ℕ). Carries f d g Knows (with_owner S q first)
-            (with_owner A A.next first)) (sym c.next) (with_record A.next first tt));
+        state = next_moved (subst (λ (q : ℕ). Carries f d g Knows (set_ownership S q first)
+            (set_ownership A A.next first)) (sym c.next) (with_record A.next first tt));
       }
 
-  pub cloned_matched : (o : OwnerName) (h : Option Holding) → holding A o ≡ h → Alike c
-      (cloned S (moved_owner f d A.number o) (option_map (moved_holding f d) h)) (cloned A o h)
+  pub cloned_matched : (o : OwnerName) (h : Option Ownership) → ownership A o ≡ h → Alike c
+      (clone_owner S (moved_owner f d A.number o) (option_map (moved_holding f d) h)) (clone_owner A o h)
   cloned_matched o None is = stays c (Refused UnknownOwner) refl tt
   cloned_matched o (Some h) is =
       let own = held_own A o h is in
-      let more : Holding = record h { count = h.count + 1 } in
+      let more : Ownership = record h { count = h.count + 1 } in
       let key = ap (λ (x : OwnerName). x.key) (owner_own f d A.number o own.0) in
       record {
         answer = refl;
         same = refl;
         known = tt;
         state = next_moved
-            (subst (λ (q : ℕ). Carries f d g Knows (with_owner S q (moved_holding f d more))
-            (with_owner A o.key more)) (sym key) (with_record o.key more (c.listed o.key h own.1)));
+            (subst (λ (q : ℕ). Carries f d g Knows (set_ownership S q (moved_holding f d more))
+            (set_ownership A o.key more)) (sym key) (with_record o.key more (c.listed o.key h own.1)));
       }
 
   -- ---- names that end
@@ -191,22 +191,22 @@ module _ {T U : Type 0} {f : Name → Name} {d : ℕ} {g : T → U}
   closed_matched names k = with_cells c _ _ (cells_left c.apart c.cells names k)
 
   pub hindered_matched : (names : List Name)
-      → AllByRecursion Knows names → hindered S (list_map f names) ≡ hindered A names
-  unfolding hindered
+      → AllByRecursion Knows names → hindrance_to S (list_map f names) ≡ hindrance_to A names
+  unfolding hindrance_to
   hindered_matched names k =
       first_moved c.apart c.cells (cells_left c.apart c.cells names k) names k
 
 module _ {T U : Type 0} {f : Name → Name} {d : ℕ} {g : T → U}
     {Knows : Name → Type 0} {S : State U} {A : State T} (c : Carries f d g Knows S A) where
-  pub let_go_matched : (o : OwnerName) (h : Option Holding) → holding A o ≡ h → Alike c
-      (let_go S (moved_owner f d A.number o) (option_map (moved_holding f d) h)) (let_go A o h)
+  pub let_go_matched : (o : OwnerName) (h : Option Ownership) → ownership A o ≡ h → Alike c
+      (release_owner S (moved_owner f d A.number o) (option_map (moved_holding f d) h)) (release_owner A o h)
   let_go_matched o None is = stays c (Refused UnknownOwner) refl tt
   let_go_matched o (Some h) is =
       let own = held_own A o h is in
       let names = c.listed o.key h own.1 in
-      let one_less : Holding = record h { count = h.count - 1 } in
-      let fewer : Alike c (Done, with_owner S (o.key + d) (moved_holding f d one_less))
-      (Done, with_owner A o.key one_less) = record
+      let one_less : Ownership = record h { count = h.count - 1 } in
+      let fewer : Alike c (Done, set_ownership S (o.key + d) (moved_holding f d one_less))
+      (Done, set_ownership A o.key one_less) = record
       { answer = refl; same = refl; known = tt; state = with_record c o.key one_less names } in
       let left : Alike c
       (Done, record (close S (list_map f h.names)) { owners = map.remove S.owners (o.key + d) })
@@ -218,6 +218,6 @@ module _ {T U : Type 0} {f : Name → Name} {d : ℕ} {g : T → U}
         state = without_record (closed_matched c h.names names) o.key;
       } in
       let closed = unless_alike c (hindered_matched c h.names names) left in
-      subst (λ (q : OwnerName). Alike c (let_go S q (Some (moved_holding f d h)))
-      (let_go A o (Some h))) (sym (owner_own f d A.number o own.0))
+      subst (λ (q : OwnerName). Alike c (release_owner S q (Some (moved_holding f d h)))
+      (release_owner A o (Some h))) (sym (owner_own f d A.number o own.0))
       (if_alike c {b = nat_lt 1 h.count} {e = nat_lt 1 h.count} refl (λ _. fewer) (λ _. closed))

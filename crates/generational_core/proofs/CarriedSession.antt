@@ -20,14 +20,14 @@ use Rattle.generational_core.specs.Machine.Answer.{Made, Owned, Reads, Writes, D
 use Rattle.generational_core.specs.Machine.Answer.{Troubled, Refused}
 use Rattle.generational_core.specs.Carrying.{KnowsBox, KnowsGuard, KnowsCall, KnowsAnswer, moved_box}
 use Rattle.generational_core.specs.Carrying.{moved_guard, moved_owner, moved_action, moved_answer}
-use Rattle.generational_core.specs.Session.{Held, SessionState, Said, Asked, held, box_held, box_in}
-use Rattle.generational_core.specs.Session.{owner_held, owner_in, with_box, with_owner, told}
-use Rattle.generational_core.specs.Session.{released}
-use Rattle.generational_core.specs.Session.{asked, said, gives, spent, settled}
-use Rattle.generational_core.specs.Session.{placed, replaced, swapped}
+use Rattle.generational_core.specs.Session.{Held, SessionState, SessionReply, Request, at_place, box_held, box_in}
+use Rattle.generational_core.specs.Session.{owner_held, owner_in, with_box, with_owner, tell}
+use Rattle.generational_core.specs.Session.{release}
+use Rattle.generational_core.specs.Session.{ask, reply_of, gives, spend, settle}
+use Rattle.generational_core.specs.Session.{add_place, replace, swap}
 use Rattle.generational_core.specs.Session.Held.{Boxed, Reading, Writing, Owning, Nothing}
-use Rattle.generational_core.specs.Session.Said.{ABox, Yes, Created, NoSuch}
-use Rattle.generational_core.specs.Session.Asked.{Asks, Tells, Swaps}
+use Rattle.generational_core.specs.Session.SessionReply.{ABox, Yes, Created, NoSuch}
+use Rattle.generational_core.specs.Session.Request.{Asks, Tells, Swaps}
 use Rattle.generational_core.specs.Numbered.{moved_held, KnowsHeld, CarriesSession, erase}
 use Rattle.generational_core.specs.Numbered.{any_id, refusal_in}
 use Rattle.generational_core.proofs.Moved.{map_append}
@@ -38,17 +38,17 @@ use Rattle.generational_core.proofs.CarriedTables.{known_push}
 
 -- what the calls of two sessions come to
 pub data AskedAlike {T : Type 0} (f : Name → Name)
-    (d : ℕ) (Knows : Name → Type 0) (number : ℕ) : Asked T → Asked T → Type 0 where
+    (d : ℕ) (Knows : Name → Type 0) (number : ℕ) : Request T → Request T → Type 0 where
   both_ask : (x : Action T) → KnowsCall Knows number x
       → AskedAlike f d Knows number (Asks (moved_action f d (λ (v : T). v) number x)) (Asks x)
-  both_tell : (x y : Said T)
+  both_tell : (x y : SessionReply T)
       → erase x ≡ erase y → refusal_in x ≡ None → AskedAlike f d Knows number (Tells x) (Tells y)
   both_swap : (p : ℕ) (g : Guard) (v old : T) → KnowsGuard Knows number g
       → AskedAlike f d Knows number (Swaps p (moved_guard f d number g) v old) (Swaps p g v old)
 
 -- the replies of two calls are the same, ids aside, and one session carries the other after them
 pub record SessionsMatched {T : Type 0}
-    (f : Name → Name) (d : ℕ) (Knows : Name → Type 0) (s a : Said T × SessionState T) : Type 0 where
+    (f : Name → Name) (d : ℕ) (Knows : Name → Type 0) (s a : SessionReply T × SessionState T) : Type 0 where
   pub said : erase s.0 ≡ erase a.0
   pub session : CarriesSession f d Knows s.1 a.1
 
@@ -91,7 +91,7 @@ module _ {T : Type 0} (f : Name → Name) (d : ℕ) (number : ℕ) where
 
   -- what is said is the same, but for a box's id
   said_moved : (x : Call T) (answer : Answer T)
-      → erase (said x (moved_answer f d (λ (v : T). v) number answer)) ≡ erase (said x answer)
+      → erase (reply_of x (moved_answer f d (λ (v : T). v) number answer)) ≡ erase (reply_of x answer)
   said_moved x (Made b) = ap (λ l. ABox (record { id = any_id; created_at = l }))
       (split (nat_eq b.id.store number))
     where
@@ -109,9 +109,9 @@ module _ {T : Type 0} (f : Name → Name) (d : ℕ) (number : ℕ) where
   said_moved x (Troubled t) = refl
   said_moved x (Refused e) = refl
 
-  spent_moved : (x : Call T) (answer : Answer T) (table : List (Held T)) → spent x
+  spent_moved : (x : Call T) (answer : Answer T) (table : List (Held T)) → spend x
       (moved_answer f d (λ (v : T). v) number answer) (list_map (moved_held f d number) table)
-      ≡ list_map (moved_held f d number) (spent x answer table)
+      ≡ list_map (moved_held f d number) (spend x answer table)
   spent_moved (call.Release p) answer table = table_set f d number table p Nothing
   spent_moved (call.ReleaseOwner p) Done table = table_set f d number table p Nothing
   spent_moved (call.LeakOwner p) answer table = table_set f d number table p Nothing
@@ -148,7 +148,7 @@ module _ {T : Type 0} (Knows : Name → Type 0) (number : ℕ) where
 
   spent_known : (x : Call T) (answer : Answer T) (table : List (Held T))
       → AllByRecursion (KnowsHeld Knows number) table
-      → AllByRecursion (KnowsHeld Knows number) (spent x answer table)
+      → AllByRecursion (KnowsHeld Knows number) (spend x answer table)
   spent_known (call.Release p) answer table h = known_set Knows number table p Nothing h tt
   spent_known (call.ReleaseOwner p) Done table h = known_set Knows number table p Nothing h tt
   spent_known (call.LeakOwner p) answer table h = known_set Knows number table p Nothing h tt
@@ -164,30 +164,30 @@ foreign_known Knows number b false e = λ own. absurd (true≢false (sym own ∙
 
 module _ {T : Type 0} {f : Name → Name} {d : ℕ} {Knows : Name → Type 0} {s a : SessionState T}
     (c : CarriesSession f d Knows s a) where
-  abbrev Alike : Asked T → Asked T → Type 0
+  abbrev Alike : Request T → Request T → Type 0
   Alike x y = AskedAlike f d Knows a.state.number x y
 
-  place_moved : (p : ℕ) → held s.table p ≡ moved_held f d a.state.number (held a.table p)
-  place_moved p = ap (λ t. held t p) c.table ∙ held_moved f d a.state.number a.table p
+  place_moved : (p : ℕ) → at_place s.table p ≡ moved_held f d a.state.number (at_place a.table p)
+  place_moved p = ap (λ t. at_place t p) c.table ∙ held_moved f d a.state.number a.table p
 
-  place_known : (p : ℕ) → KnowsHeld Knows a.state.number (held a.table p)
+  place_known : (p : ℕ) → KnowsHeld Knows a.state.number (at_place a.table p)
   place_known p = held_known Knows a.state.number a.table p c.known
 
   box_moved : (b : BoxAt T) → box_in s b ≡ option_map (moved_box f d a.state.number) (box_in a b)
   box_moved (Place p) =
-      ap box_held (place_moved p) ∙ box_held_moved f d a.state.number (held a.table p)
+      ap box_held (place_moved p) ∙ box_held_moved f d a.state.number (at_place a.table p)
   box_moved (Foreign b) =
       let store = (pointer_of b).id.store in
       ap (λ n. cond (nat_eq store n) None (Some (pointer_of b))) c.state.number
       ∙ foreign_moved f d a.state.number (pointer_of b) (nat_eq store a.state.number) refl
 
   box_known : (b : BoxAt T) → IfBox Knows a.state.number (box_in a b)
-  box_known (Place p) = box_held_known Knows a.state.number (held a.table p) (place_known p)
+  box_known (Place p) = box_held_known Knows a.state.number (at_place a.table p) (place_known p)
   box_known (Foreign b) = foreign_known Knows a.state.number
       (pointer_of b) (nat_eq (pointer_of b).id.store a.state.number) refl
 
   -- a call of a box
-  with_box_alike : (b : BoxAt T) (back : Option T) (x y : GenerationalPointer → Asked T)
+  with_box_alike : (b : BoxAt T) (back : Option T) (x y : GenerationalPointer → Request T)
       → ((b : GenerationalPointer)
       → KnowsBox Knows a.state.number b → Alike (x (moved_box f d a.state.number b)) (y b))
       → Alike (with_box (box_in s b) back x) (with_box (box_in a b) back y)
@@ -211,12 +211,12 @@ module _ {T : Type 0} {f : Name → Name} {d : ℕ} {Knows : Name → Type 0} {s
       subst (λ o. Alike (with_owner o back asks) (with_owner (owner_in a p) back asks))
       (sym owner_moved) (at (owner_in a p))
     where
-      asks : OwnerName → Asked T
+      asks : OwnerName → Request T
       asks o = Asks (x o)
 
       owner_moved : owner_in s p ≡ option_map (moved_owner f d a.state.number) (owner_in a p)
       owner_moved =
-          ap owner_held (place_moved p) ∙ owner_held_moved f d a.state.number (held a.table p)
+          ap owner_held (place_moved p) ∙ owner_held_moved f d a.state.number (at_place a.table p)
 
       at : (o : Option OwnerName) → Alike
           (with_owner (option_map (moved_owner f d a.state.number) o) back asks)
@@ -225,11 +225,11 @@ module _ {T : Type 0} {f : Name → Name} {d : ℕ} {Knows : Name → Type 0} {s
       at (Some o) = subst (λ y. Alike (Asks y) (asks o)) (sym (moved o)) (both_ask (x o) (known o))
 
   -- a question about a box
-  told_alike : (b : BoxAt T) (x y : GenerationalPointer → Said T)
+  told_alike : (b : BoxAt T) (x y : GenerationalPointer → SessionReply T)
       → ((b : GenerationalPointer) → KnowsBox Knows a.state.number b
       → erase (x (moved_box f d a.state.number b)) ≡ erase (y b))
       → ((b : GenerationalPointer) → refusal_in (x b) ≡ None)
-      → Alike (told (box_in s b) x) (told (box_in a b) y)
+      → Alike (tell (box_in s b) x) (tell (box_in a b) y)
   told_alike b x y same able = with_box_alike b None (λ b. Tells (x b)) (λ b. Tells (y b))
       (λ b k. both_tell _ _ (same b k) (able (moved_box f d a.state.number b)))
 
@@ -244,12 +244,12 @@ module _ {T : Type 0} {f : Name → Name} {d : ℕ} {Knows : Name → Type 0} {s
       split true = refl
       split false = refl
 
-  released_alike : (p : ℕ) → Alike (released (held s.table p)) (released (held a.table p))
-  released_alike p = subst (λ h. Alike (released h) (released (held a.table p)))
-      (sym (place_moved p)) (at (held a.table p) (place_known p))
+  released_alike : (p : ℕ) → Alike (release (at_place s.table p)) (release (at_place a.table p))
+  released_alike p = subst (λ h. Alike (release h) (release (at_place a.table p)))
+      (sym (place_moved p)) (at (at_place a.table p) (place_known p))
     where
       at : (h : Held T) → KnowsHeld Knows a.state.number h
-          → Alike (released (moved_held f d a.state.number h)) (released h)
+          → Alike (release (moved_held f d a.state.number h)) (release h)
       at (Boxed b) k = both_tell (NoSuch None) (NoSuch None) refl refl
       at (Reading g) k = both_ask (ReleaseReader g) k
       at (Writing g v) k = both_ask (ReleaseWriter g v) k
@@ -257,12 +257,12 @@ module _ {T : Type 0} {f : Name → Name} {d : ℕ} {Knows : Name → Type 0} {s
       at Nothing k = both_tell (NoSuch None) (NoSuch None) refl refl
 
   replaced_alike : (p : ℕ) (v : T)
-      → Alike (replaced p (held s.table p) v) (replaced p (held a.table p) v)
-  replaced_alike p v = subst (λ h. Alike (replaced p h v) (replaced p (held a.table p) v))
-      (sym (place_moved p)) (at (held a.table p) (place_known p))
+      → Alike (replace p (at_place s.table p) v) (replace p (at_place a.table p) v)
+  replaced_alike p v = subst (λ h. Alike (replace p h v) (replace p (at_place a.table p) v))
+      (sym (place_moved p)) (at (at_place a.table p) (place_known p))
     where
       at : (h : Held T) → KnowsHeld Knows a.state.number h
-          → Alike (replaced p (moved_held f d a.state.number h) v) (replaced p h v)
+          → Alike (replace p (moved_held f d a.state.number h) v) (replace p h v)
       at (Boxed b) k = both_tell (NoSuch (Some v)) (NoSuch (Some v)) refl refl
       at (Reading g) k = both_tell (NoSuch (Some v)) (NoSuch (Some v)) refl refl
       at (Writing g old) k = both_swap p g v old k
@@ -270,7 +270,7 @@ module _ {T : Type 0} {f : Name → Name} {d : ℕ} {Knows : Name → Type 0} {s
       at Nothing k = both_tell (NoSuch (Some v)) (NoSuch (Some v)) refl refl
 
   -- each call comes to the same
-  pub asked_alike : (x : Call T) → Alike (asked s x) (asked a x)
+  pub asked_alike : (x : Call T) → Alike (ask s x) (ask a x)
   asked_alike (call.Leak v l) = both_ask (Make None v l) tt
   asked_alike (call.Insert p v l) =
       with_owner_alike p (Some v) (λ o. Make (Some o) v l) (λ o. tt) (λ o. refl)
@@ -300,7 +300,7 @@ module _ {T : Type 0} {f : Name → Name} {d : ℕ} {Knows : Name → Type 0} {s
   -- ---- after a call
 
   -- a reply by the table alone
-  pub placed_alike : CarriesSession f d Knows (placed s Nothing) (placed a Nothing)
+  pub placed_alike : CarriesSession f d Knows (add_place s Nothing) (add_place a Nothing)
   placed_alike = record {
     state = c.state;
     table = ap (λ t. t ++ Nothing ∷ []) c.table
@@ -311,7 +311,7 @@ module _ {T : Type 0} {f : Name → Name} {d : ℕ} {Knows : Name → Type 0} {s
   -- another value for a writer
   pub swapped_alike : (p : ℕ) (g : Guard) (v : T) → KnowsGuard Knows a.state.number g
       → CarriesSession f d Knows
-      (swapped s p (moved_guard f d a.state.number g) v) (swapped a p g v)
+      (swap s p (moved_guard f d a.state.number g) v) (swap a p g v)
   swapped_alike p g v k = record {
     state = c.state;
     table = ap (λ t. slice_set t p (Writing (moved_guard f d a.state.number g) v)) c.table
@@ -322,22 +322,22 @@ module _ {T : Type 0} {f : Name → Name} {d : ℕ} {Knows : Name → Type 0} {s
   -- an answer of the machine
   pub settled_alike : (x : Call T) (out was : Outcome T)
       → Matched f d (λ (v : T). v) Knows a.state.number out was
-      → SessionsMatched f d Knows (settled s x out) (settled a x was)
+      → SessionsMatched f d Knows (settle s x out) (settle a x was)
   settled_alike x out was m =
       let number = a.state.number in
-      let after = spent x was.0 a.table ++ gives was.0 ∷ [] in
+      let after = spend x was.0 a.table ++ gives was.0 ∷ [] in
       record {
-        said = ap (λ w. erase (said x w)) m.answer ∙ said_moved f d number x was.0;
+        said = ap (λ w. erase (reply_of x w)) m.answer ∙ said_moved f d number x was.0;
         session = record {
           state = m.state;
           table = subst
-              (λ n. spent x out.0 s.table ++ gives out.0 ∷ [] ≡ list_map (moved_held f d n) after)
+              (λ n. spend x out.0 s.table ++ gives out.0 ∷ [] ≡ list_map (moved_held f d n) after)
               (sym m.same)
-              ((λ i. spent x (m.answer i) (c.table i) ++ gives (m.answer i) ∷ []) ∙ ((λ i.
+              ((λ i. spend x (m.answer i) (c.table i) ++ gives (m.answer i) ∷ []) ∙ ((λ i.
               spent_moved f d number x was.0 a.table i ++ gives_moved f d number was.0 i ∷ []) ∙ sym
-              (map_append (moved_held f d number) (spent x was.0 a.table) (gives was.0 ∷ []))));
+              (map_append (moved_held f d number) (spend x was.0 a.table) (gives was.0 ∷ []))));
           known = subst (λ n. AllByRecursion (KnowsHeld Knows n) after) (sym m.same)
-              (known_push Knows number (spent x was.0 a.table) (gives was.0) (spent_known Knows
+              (known_push Knows number (spend x was.0 a.table) (gives was.0) (spent_known Knows
               number x was.0 a.table c.known) (gives_known Knows number was.0 m.known));
         };
       }

@@ -3,13 +3,13 @@ use Rattle.std.proofs.Common.{◌≡◌, ℕ, zero, suc, List, [], ◌∷◌, �
 use Rattle.std.specs.Prelude.{map as list_map, slice_set}
 use Rattle.std.specs.List.{AllByRecursion}
 use Rattle.generational_core.specs.Names.{Name}
-use Rattle.generational_core.specs.Session.{Held, held}
+use Rattle.generational_core.specs.Session.{Held, at_place}
 use Rattle.generational_core.specs.Numbered.{moved_held, KnowsHeld}
 
 module _ {T : Type 0} (f : Name → Name) (d : ℕ) (number : ℕ) where
   -- what a place holds is what it held, moved
   pub held_moved : (table : List (Held T)) (p : ℕ)
-      → held (list_map (moved_held f d number) table) p ≡ moved_held f d number (held table p)
+      → at_place (list_map (moved_held f d number) table) p ≡ moved_held f d number (at_place table p)
   held_moved [] zero = refl
   held_moved [] (suc p) = refl
   held_moved (h ∷ table) zero = refl
@@ -26,7 +26,7 @@ module _ {T : Type 0} (f : Name → Name) (d : ℕ) (number : ℕ) where
 module _ {T : Type 0} (Knows : Name → Type 0) (number : ℕ) where
   -- of what a place holds all is known
   pub held_known : (table : List (Held T)) (p : ℕ)
-      → AllByRecursion (KnowsHeld Knows number) table → KnowsHeld Knows number (held table p)
+      → AllByRecursion (KnowsHeld Knows number) table → KnowsHeld Knows number (at_place table p)
   held_known [] zero h = tt
   held_known [] (suc p) h = tt
   held_known (x ∷ table) zero h = h.0

@@ -17,7 +17,7 @@ use Rattle.generational_core.specs.Cells.Cell.{Shared}
 use Rattle.generational_core.specs.State.{State}
 use Rattle.generational_core.specs.Borrowing.{Trouble, reach, read_trouble}
 use Rattle.generational_core.specs.Machine.{Action, Answer, Fresh, Outcome, OwnerName, act, unless}
-use Rattle.generational_core.specs.Machine.{is_known, referred, found, make_value, make_shared}
+use Rattle.generational_core.specs.Machine.{is_known, refer, found, make_value, make_shared}
 use Rattle.generational_core.specs.Machine.Action.{Make, MakeShared, Refer}
 use Rattle.generational_core.specs.Machine.Answer.{Refused}
 use Rattle.generational_core.specs.Steps.{AreNew, Takes, Meets, takes_ticket}
@@ -79,7 +79,7 @@ module _ {T : Type 0} where
 
   unnamed_referred : (S : State T) (o : Option OwnerName)
       (b : GenerationalPointer) (to : Option Name) (x : Option (Cell T)) (m n : Name)
-      → is_refusal (referred S o b to x m).0 ≡ true → referred S o b to x m ≡ referred S o b to x n
+      → is_refusal (refer S o b to x m).0 ≡ true → refer S o b to x m ≡ refer S o b to x n
   unnamed_referred S o b (Some q) (Some (Shared c l)) m n h = absurd (true≢false (sym h))
   unnamed_referred S o b to x m n h = refl
 

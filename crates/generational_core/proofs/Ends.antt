@@ -11,7 +11,7 @@ use Rattle.generational_core.specs.Cells.{Cell, content_of, is_shared}
 use Rattle.generational_core.specs.Cells.Cell.{Ref}
 use Rattle.generational_core.specs.State.{IsNamed, is_named}
 use Rattle.generational_core.specs.State.{tickets_of, tickets_at, Stands}
-use Rattle.generational_core.specs.Ending.{swept, without}
+use Rattle.generational_core.specs.Ending.{sweep, without}
 use Rattle.generational_core.proofs.Maps.{by_name, name_cases, get-insert_here}
 use Rattle.generational_core.proofs.Maps.{get-insert_apart, keep_view}
 use Rattle.generational_core.proofs.Named.{named_gives, named_from}
@@ -38,11 +38,11 @@ module _ {T : Type 0} where
 
   -- a name that is kept keeps its cell, and one that isn't was a Shared cell that nothing names
   pub swept_view : (cells : NameMap (Cell T)) (n : Name)
-      → ((map.get (swept cells) n ≡ map.get cells n)
+      → ((map.get (sweep cells) n ≡ map.get cells n)
       × ((is_shared (map.get cells n) ≡ false) ⊎ (is_named cells n ≡ true)))
-      ⊎ ((map.get (swept cells) n ≡ None)
+      ⊎ ((map.get (sweep cells) n ≡ None)
       × (is_shared (map.get cells n) ≡ true) × (is_named cells n ≡ false))
-  unfolding swept
+  unfolding sweep
   swept_view cells n =
       ⊎_elim (λ h. inl (h.0, ⊎_elim (λ e. inl (not-true _ e)) (λ e. inr e) (or_cases _ _ h.1)))
       (λ h. let p = or_parts (not (is_shared (map.get cells n))) (is_named cells n) h.1 in
@@ -64,23 +64,23 @@ module _ {T : Type 0} where
 
   -- a Ref isn't taken away, nor what it names
   pub swept_ref : (cells : NameMap (Cell T)) (n m : Name) (l : Location)
-      → map.get cells n ≡ Some (Ref m l) → map.get (swept cells) n ≡ Some (Ref m l)
+      → map.get cells n ≡ Some (Ref m l) → map.get (sweep cells) n ≡ Some (Ref m l)
   swept_ref cells n m l h = ⊎_elim
       (λ e. e.0 ∙ h) (λ e. absurd (true≢false (sym e.1 ∙ ap is_shared h))) (swept_view cells n)
 
   pub swept_was : (cells : NameMap (Cell T)) (n m : Name) (l : Location)
-      → map.get (swept cells) n ≡ Some (Ref m l) → map.get cells n ≡ Some (Ref m l)
+      → map.get (sweep cells) n ≡ Some (Ref m l) → map.get cells n ≡ Some (Ref m l)
   swept_was cells n m l h =
       ⊎_elim (λ e. sym e.0 ∙ h) (λ e. absurd (none≢some _ _ e.0 h)) (swept_view cells n)
 
   -- each Ref that is left names a Shared cell that is left
-  pub swept_targets : (cells : NameMap (Cell T)) → HasTargets cells → HasTargets (swept cells)
+  pub swept_targets : (cells : NameMap (Cell T)) → HasTargets cells → HasTargets (sweep cells)
   swept_targets cells t n m l h =
       let was = swept_was cells n m l h in
       ⊎_elim (λ e. ap is_shared e.0 ∙ t n m l was)
       (λ e. absurd (true≢false (sym (named_from cells m (n, l, was)) ∙ e.2))) (swept_view cells m)
 
-  pub swept_named : (cells : NameMap (Cell T)) → HasNamed (swept cells)
+  pub swept_named : (cells : NameMap (Cell T)) → HasNamed (sweep cells)
   swept_named cells m h =
       ⊎_elim
       (λ e. ⊎_elim (λ s. absurd (true≢false (sym (sym (ap is_shared e.0) ∙ h) ∙ s))) (λ k.
@@ -105,7 +105,7 @@ module _ {T : Type 0} where
   none_tickets : (o : Option (Cell T)) → o ≡ None → tickets_of (content_of o) ≡ []
   none_tickets o e = ap (λ x. tickets_of (content_of x)) e
 
-  pub swept_tickets : (cells : NameMap (Cell T)) → NoNewTickets cells (swept cells)
+  pub swept_tickets : (cells : NameMap (Cell T)) → NoNewTickets cells (sweep cells)
   swept_tickets cells n = ⊎_elim (λ e. inl (ap (λ x. tickets_of (content_of x)) e.0))
       (λ e. inr (none_tickets _ e.0)) (swept_view cells n)
 

@@ -9,10 +9,10 @@ use Rattle.std.specs.List.{filter, list_any}
 use Rattle.std.specs.FinMap as map
 use Rattle.std.specs.FinMap.{put, find, is_sorted}
 use Rattle.std.specs.FinMap.Entries.{find-where_key, is_sorted-where_key}
-use Rattle.generational_core.specs.Names.{Name, name_cmp, NameMap, among, changed, changed_if}
+use Rattle.generational_core.specs.Names.{Name, name_cmp, NameMap, among, change, change_if}
 use Rattle.generational_core.specs.Cells.{Cell, is_shared, refers_to}
 use Rattle.generational_core.specs.State.{is_named}
-use Rattle.generational_core.specs.Ending.{swept, without}
+use Rattle.generational_core.specs.Ending.{sweep, without}
 use Rattle.generational_core.proofs.Maps.{IsKeyOrder, by_name, by_number, get-keep}
 
 module _ {K X : Type 0} {R : K → K → Ordering} (o : IsKeyOrder R) where
@@ -43,13 +43,13 @@ module _ {K X : Type 0} {R : K → K → Ordering} (o : IsKeyOrder R) where
   removed m k =
       map.same_map o.total o.exact (map.remove m k)
       (map.retain_keys m (λ q. not (eq_by_cmp R q k)))
-      (λ q. map.get-remove o.total m k q ∙ turned (eq_by_cmp R q k) _ _
+      (λ q. map.get-remove o.total m k q ∙ turn (eq_by_cmp R q k) _ _
       ∙ sym (get-keep o m (λ q. not (eq_by_cmp R q k)) q))
       ∙ kept m (λ q. not (eq_by_cmp R q k))
     where
-      turned : {A : Type 0} (b : Bool) (x y : A) → cond b x y ≡ cond (not b) y x
-      turned true x y = refl
-      turned false x y = refl
+      turn : {A : Type 0} (b : Bool) (x y : A) → cond b x y ≡ cond (not b) y x
+      turn true x y = refl
+      turn false x y = refl
 
   none_in : map.empty {X = X} {R = R} ≡ map.from_sorted []
   none_in = written _ _ (no_length _ (sym (map.len-entries map.empty) ∙ map.len-empty R X))
@@ -75,10 +75,10 @@ module _ {K X : Type 0} {R : K → K → Ordering} (o : IsKeyOrder R) where
         ≡ map.from_sorted (filter (λ e. p e.0) es)
     kept_there p = kept _ p ∙ ap (λ x. map.from_sorted (filter (λ e. p e.0) x)) there
 
-    changed_in : (k : K) (f : X → X) → changed (map.from_sorted {R = R} es) k f
-        ≡ changed_if (map.from_sorted es) k f (find R k es)
-    unfolding changed
-    changed_in k f = ap (changed_if (map.from_sorted es) k f) (found_there k)
+    changed_in : (k : K) (f : X → X) → change (map.from_sorted {R = R} es) k f
+        ≡ change_if (map.from_sorted es) k f (find R k es)
+    unfolding change
+    changed_in k f = ap (change_if (map.from_sorted es) k f) (found_there k)
 
     removed_there : (k : K) → map.remove (map.from_sorted {R = R} es) k
         ≡ map.from_sorted (filter (λ e. not (eq_by_cmp R e.0 k)) es)
@@ -99,8 +99,8 @@ module _ {X : Type 0} (es : List (Name × X)) (h : is_sorted name_cmp es ≡ tru
   names_insert = put_there by_name es h
 
   pub names_changed : (k : Name) (f : X → X)
-      → changed (map.from_sorted {R = name_cmp} es) k f
-      ≡ changed_if (map.from_sorted es) k f (find name_cmp k es)
+      → change (map.from_sorted {R = name_cmp} es) k f
+      ≡ change_if (map.from_sorted es) k f (find name_cmp k es)
   names_changed = changed_in by_name es h
 
 module _ {X : Type 0} where
@@ -129,8 +129,8 @@ module _ {X : Type 0} (es : List (ℕ × X)) (h : is_sorted nat_cmp es ≡ true)
   numbers_remove = removed_there by_number es h
 
   pub numbers_changed : (k : ℕ) (f : X → X)
-      → changed (map.from_sorted {R = nat_cmp} es) k f
-      ≡ changed_if (map.from_sorted es) k f (find nat_cmp k es)
+      → change (map.from_sorted {R = nat_cmp} es) k f
+      ≡ change_if (map.from_sorted es) k f (find nat_cmp k es)
   numbers_changed = changed_in by_number es h
 
 module _ {X : Type 0} where
@@ -149,9 +149,9 @@ module _ {T : Type 0} (es : List (Name × Cell T)) (h : is_sorted name_cmp es �
   abbrev named_in : List (Name × Cell T) → Name → Bool
   named_in xs m = list_any (λ n. refers_to m (find name_cmp n xs)) (list_map (λ e. e.0) xs)
 
-  pub swept_there : swept cells
+  pub swept_there : sweep cells
       ≡ map.from_sorted (filter (λ e. not (shared_in es e.0) || named_in es e.0) es)
-  unfolding swept is_named
+  unfolding sweep is_named
   swept_there =
       kept by_name cells (λ n. not (is_shared (map.get cells n)) || is_named cells n)
       ∙ (λ i. map.from_sorted (filter (λ e. not (is_shared (map.get-entries cells e.0 i))

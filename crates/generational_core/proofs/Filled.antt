@@ -6,11 +6,11 @@ use Rattle.std.specs.List.{list_any, IsDistinct}
 use Rattle.std.specs.FinMap as map
 use Rattle.generational_core.specs.declared.error.Location.{Location}
 use Rattle.generational_core.specs.Names.{Name}
-use Rattle.generational_core.specs.Cells.{Content, Cell, content_of, refilled, is_shared}
+use Rattle.generational_core.specs.Cells.{Content, Cell, content_of, refill, is_shared}
 use Rattle.generational_core.specs.Cells.Cell.{Value, Shared, Ref}
 use Rattle.generational_core.specs.State.{State, IsSound}
 use Rattle.generational_core.specs.State.{tickets_of, tickets_at}
-use Rattle.generational_core.specs.Borrowing.{filled, content_at}
+use Rattle.generational_core.specs.Borrowing.{fill, content_at}
 use Rattle.generational_core.proofs.Maps.{by_name}
 use Rattle.generational_core.proofs.Maps.{changed_view}
 use Rattle.generational_core.proofs.Soundness.{each_boxed}
@@ -21,53 +21,53 @@ module _ {T : Type 0} where
 
   -- a cell is as it was, or the one with the new content
   pub filled_view : (S : State T) (m : Name) (c : Content T) (q : Name)
-      → (map.get (filled S m c).cells q ≡ map.get S.cells q) ⊎ ((q ≡ m) × (x : Cell T)
-      × (map.get S.cells q ≡ Some x) × (map.get (filled S m c).cells q ≡ Some (refilled c x)))
-  filled_view S m c q = changed_view by_name S.cells m (refilled c) q
+      → (map.get (fill S m c).cells q ≡ map.get S.cells q) ⊎ ((q ≡ m) × (x : Cell T)
+      × (map.get S.cells q ≡ Some x) × (map.get (fill S m c).cells q ≡ Some (refill c x)))
+  filled_view S m c q = changed_view by_name S.cells m (refill c) q
 
   refilled_shared : (c : Content T) (x : Cell T)
-      → is_shared (Some (refilled c x)) ≡ is_shared (Some x)
+      → is_shared (Some (refill c x)) ≡ is_shared (Some x)
   refilled_shared c (Value old l) = refl
   refilled_shared c (Shared old l) = refl
   refilled_shared c (Ref m l) = refl
 
   refilled_ref : (c : Content T) (x : Cell T) (m : Name) (l : Location)
-      → Some (refilled c x) ≡ Some (Ref m l) → Some x ≡ Some (Ref m l)
+      → Some (refill c x) ≡ Some (Ref m l) → Some x ≡ Some (Ref m l)
   refilled_ref c (Value old k) m l h = cc
   refilled_ref c (Shared old k) m l h = cc
   refilled_ref c (Ref n k) m l h = h
 
   refilled_content : (c old : Content T) (x : Cell T)
-      → content_of (Some x) ≡ Some old → content_of (Some (refilled c x)) ≡ Some c
+      → content_of (Some x) ≡ Some old → content_of (Some (refill c x)) ≡ Some c
   refilled_content c old (Value o l) h = refl
   refilled_content c old (Shared o l) h = refl
   refilled_content c old (Ref m l) h = cc
 
   filled_shared : (S : State T) (m : Name) (c : Content T) (q : Name)
-      → is_shared (map.get (filled S m c).cells q) ≡ is_shared (map.get S.cells q)
+      → is_shared (map.get (fill S m c).cells q) ≡ is_shared (map.get S.cells q)
   filled_shared S m c q = ⊎_elim (λ e. ap is_shared e) (λ e. ap is_shared e.3
       ∙ (refilled_shared c e.1 ∙ sym (ap is_shared e.2))) (filled_view S m c q)
 
   -- the same names are live
   pub filled_live : (S : State T) (m : Name) (c : Content T) (q : Name)
-      → is_some (map.get (filled S m c).cells q) ≡ is_some (map.get S.cells q)
+      → is_some (map.get (fill S m c).cells q) ≡ is_some (map.get S.cells q)
   filled_live S m c q =
       ⊎_elim (λ e. ap is_some e) (λ e. ap is_some e.3 ∙ sym (ap is_some e.2)) (filled_view S m c q)
 
   filled_ref : (S : State T) (m : Name) (c : Content T) (q k : Name) (l : Location)
-      → map.get S.cells q ≡ Some (Ref k l) → map.get (filled S m c).cells q ≡ Some (Ref k l)
+      → map.get S.cells q ≡ Some (Ref k l) → map.get (fill S m c).cells q ≡ Some (Ref k l)
   filled_ref S m c q k l h = ⊎_elim (λ e. e ∙ h)
-      (λ e. e.3 ∙ ap (λ x. option_map (refilled c) x) (sym e.2 ∙ h)) (filled_view S m c q)
+      (λ e. e.3 ∙ ap (λ x. option_map (refill c) x) (sym e.2 ∙ h)) (filled_view S m c q)
 
   filled_was : (S : State T) (m : Name) (c : Content T) (q k : Name) (l : Location)
-      → map.get (filled S m c).cells q ≡ Some (Ref k l) → map.get S.cells q ≡ Some (Ref k l)
+      → map.get (fill S m c).cells q ≡ Some (Ref k l) → map.get S.cells q ≡ Some (Ref k l)
   filled_was S m c q k l h = ⊎_elim
       (λ e. sym e ∙ h) (λ e. e.2 ∙ refilled_ref c e.1 k l (sym e.3 ∙ h)) (filled_view S m c q)
 
   -- the tickets after it: at m those of the new content, elsewhere as before
   filled_tickets : (S : State T) (m : Name) (c old : Content T) → content_at S m ≡ Some old
-      → (q : Name) → ((q ≡ m) × (tickets_at (filled S m c).cells q ≡ tickets_of (Some c)))
-      ⊎ (tickets_at (filled S m c).cells q ≡ tickets_at S.cells q)
+      → (q : Name) → ((q ≡ m) × (tickets_at (fill S m c).cells q ≡ tickets_of (Some c)))
+      ⊎ (tickets_at (fill S m c).cells q ≡ tickets_at S.cells q)
   filled_tickets S m c old had q =
       ⊎_elim (λ e. inr (ap (λ x. tickets_of (content_of x)) e))
       (λ e.
@@ -81,13 +81,13 @@ module _ {T : Type 0} where
       → content_at S m ≡ Some old → S.next ≤ next → IsDistinct nat_eq (tickets_of (Some c))
       → ((t : ℕ) → list_any (nat_eq t) (tickets_of (Some c)) ≡ true
       → (list_any (nat_eq t) (tickets_of (Some old)) ≡ true) ⊎ ((S.next ≤ t) × (t < next)))
-      → IsSound (record (filled S m c) { next = next })
+      → IsSound (record (fill S m c) { next = next })
   sound_filled S m c old next s had up apart new =
       let before = λ (t : ℕ) (h : list_any (nat_eq t) (tickets_of (Some old)) ≡ true).
       ap (λ o. list_any (nat_eq t) (tickets_of o)) had ∙ h in
       record {
         given = λ n h. s.given n (sym (filled_live S m c n) ∙ h);
-        owned = λ k h is. each_boxed S (record (filled S m c) { next = next })
+        owned = λ k h is. each_boxed S (record (fill S m c) { next = next })
             (λ n b. (b.0, filled_shared S m c n ∙ b.1)) h.names (s.owned k h is);
         targets = λ n k l h. filled_shared S m c k ∙ s.targets n k l (filled_was S m c n k l h);
         shared = λ k h.

@@ -9,17 +9,17 @@ use Rattle.std.specs.FinSet as set
 use Rattle.generational_core.specs.declared.error.Location.{Location}
 use Rattle.generational_core.specs.declared.boxes.GenerationalPointer.{GenerationalPointer}
 use Rattle.generational_core.specs.Names.{Name, is_name, NameMap}
-use Rattle.generational_core.specs.Cells.{Content, Cell, refilled}
+use Rattle.generational_core.specs.Cells.{Content, Cell, refill}
 use Rattle.generational_core.specs.Cells.Content.{Here}
 use Rattle.generational_core.specs.Cells.Cell.{Shared, Ref}
-use Rattle.generational_core.specs.State.{State, Holding, IsGiven, IsEnded}
+use Rattle.generational_core.specs.State.{State, Ownership, IsGiven, IsEnded}
 use Rattle.generational_core.specs.Boxes.{name_of}
-use Rattle.generational_core.specs.Borrowing.{Trouble, filled, reach}
-use Rattle.generational_core.specs.Ending.{swept, without, close}
-use Rattle.generational_core.specs.Machine.{Action, Fresh, Outcome, OwnerName, act, born, listed}
-use Rattle.generational_core.specs.Machine.{unless, referred, found, cloned, let_go, read_at}
-use Rattle.generational_core.specs.Machine.{written_at, own_cell, holding, without_reader, set_at}
-use Rattle.generational_core.specs.Machine.{pointed, turned}
+use Rattle.generational_core.specs.Borrowing.{Trouble, fill, reach}
+use Rattle.generational_core.specs.Ending.{sweep, without, close}
+use Rattle.generational_core.specs.Machine.{Action, Fresh, Outcome, OwnerName, act, add_cell, add_to_list}
+use Rattle.generational_core.specs.Machine.{unless, refer, found, clone_owner, release_owner, read_at}
+use Rattle.generational_core.specs.Machine.{write_at, own_cell, ownership, without_reader, set_at}
+use Rattle.generational_core.specs.Machine.{point, turn}
 use Rattle.generational_core.specs.Machine.Action.{Make, MakeShared, Refer, NewOwner, CloneOwner}
 use Rattle.generational_core.specs.Machine.Action.{ReleaseOwner, LeakOwner, Read, Write}
 use Rattle.generational_core.specs.Machine.Action.{ReleaseReader, ReleaseWriter, SetValue, End}
@@ -78,7 +78,7 @@ module _ {T : Type 0} where
 
   -- a cell at a name that was never given
   follows_born : (S : State T) (n : Name) (c : Cell T)
-      → set.contains S.given n ≡ false → Follows S (born S n c)
+      → set.contains S.given n ≡ false → Follows S (add_cell S n c)
   follows_born S n c new =
       let apart = λ (q : Name) (e : IsEnded S q) (is : q ≡ n).
       true≢false (sym e.0 ∙ (ap (set.contains S.given) is ∙ new)) in
@@ -91,29 +91,29 @@ module _ {T : Type 0} where
       }
 
   follows_listed : (S R : State T) (o : Option OwnerName) (n : Name)
-      → Follows S R → Follows S (listed R o n)
+      → Follows S R → Follows S (add_to_list R o n)
   follows_listed S R None n h = h
   follows_listed S R (Some o) n h = record
       { number = h.number; start = h.start; next = h.next; given = h.given; ended = h.ended }
 
   filled_none : (S : State T) (n : Name) (c : Content T) (q : Name)
-      → map.get S.cells q ≡ None → map.get (filled S n c).cells q ≡ None
+      → map.get S.cells q ≡ None → map.get (fill S n c).cells q ≡ None
   filled_none S n c q h = ⊎_elim (λ is. ap (λ m. map.get m q)
-      (get-changed_none by_name S.cells n (refilled c) (sym (ap (map.get S.cells) is) ∙ h)) ∙ h)
-      (λ ne. get-changed_apart by_name S.cells n (refilled c) q ne ∙ h) (name_cases q n)
+      (get-changed_none by_name S.cells n (refill c) (sym (ap (map.get S.cells) is) ∙ h)) ∙ h)
+      (λ ne. get-changed_apart by_name S.cells n (refill c) q ne ∙ h) (name_cases q n)
 
   follows_filled : (S : State T) (n : Name) (c : Content T) (next : ℕ)
-      → S.next ≤ next → Follows S (record (filled S n c) { next = next })
+      → S.next ≤ next → Follows S (record (fill S n c) { next = next })
   follows_filled S n c next up =
-      follows_cells S (filled S n c).cells next up (λ q e. filled_none S n c q e.1)
+      follows_cells S (fill S n c).cells next up (λ q e. filled_none S n c q e.1)
 
   kept_none : (m : NameMap (Cell T)) (p : Name → Bool) (n : Name)
       → map.get m n ≡ None → map.get (map.retain_keys m p) n ≡ None
   kept_none m p n h =
       get-keep by_name m p n ∙ (ap (λ o. cond (p n) o None) h ∙ cond_same (p n) None)
 
-  swept_none : (m : NameMap (Cell T)) (n : Name) → map.get m n ≡ None → map.get (swept m) n ≡ None
-  unfolding swept
+  swept_none : (m : NameMap (Cell T)) (n : Name) → map.get m n ≡ None → map.get (sweep m) n ≡ None
+  unfolding sweep
   swept_none m n h = kept_none m _ n h
 
   without_none : (m : NameMap (Cell T)) (names : List Name) (n : Name)
@@ -126,7 +126,7 @@ module _ {T : Type 0} where
       follows_cells S _ S.next (omega arith) (λ n e. swept_none _ n (without_none _ names n e.1))
 
   follows_turned : (S : State T) (a old new : Name) (l : Location)
-      → is_some (map.get S.cells a) ≡ true → Follows S (turned S a old new l).1
+      → is_some (map.get S.cells a) ≡ true → Follows S (turn S a old new l).1
   follows_turned S a old new l live =
       let apart = λ (q : Name) (e : IsEnded S q) (is : q ≡ a). true≢false
       (sym live ∙ (ap (λ n. is_some (map.get S.cells n)) (sym is) ∙ ap is_some e.1)) in
@@ -137,39 +137,39 @@ module _ {T : Type 0} where
   follows_pointed : (S : State T) (a b : GenerationalPointer)
       (cell : Option (Cell T)) (to : Option Name) (target : Option (Cell T))
       → is_some cell ≡ is_some (map.get S.cells (name_of a))
-      → Follows S (pointed S a b cell to target).1
+      → Follows S (point S a b cell to target).1
   follows_pointed S a b None to target h = follows_same S
   follows_pointed S a b (Some (Ref old l)) (Some new) (Some (Shared c k)) h =
       follows_turned S (name_of a) old new l (sym h)
   follows_pointed S a b (Some _) to target h = follows_same S
 
   follows_point : (S : State T) (a b : GenerationalPointer)
-      → Follows S (pointed S a b (own_cell S a) (reach S b) (found S (reach S b))).1
+      → Follows S (point S a b (own_cell S a) (reach S b) (found S (reach S b))).1
   follows_point S a b = split (nat_eq a.id.store S.number)
     where
-      split : (own : Bool) → Follows S (pointed S a b
+      split : (own : Bool) → Follows S (point S a b
           (cond own (map.get S.cells (name_of a)) None) (reach S b) (found S (reach S b))).1
       split true = follows_pointed S a b (map.get S.cells (name_of a)) _ _ refl
       split false = follows_same S
 
   follows_referred : (S : State T) (o : Option OwnerName)
       (b : GenerationalPointer) (to : Option Name) (target : Option (Cell T)) (n : Name)
-      → set.contains S.given n ≡ false → Follows S (referred S o b to target n).1
+      → set.contains S.given n ≡ false → Follows S (refer S o b to target n).1
   follows_referred S o b (Some m) (Some (Shared c l)) n new =
       follows_listed S _ o n (follows_born S n (Ref m l) new)
   follows_referred S o b to target n new = follows_same S
 
   -- another table of owners, and more tickets
-  follows_owners : (S : State T) (next : ℕ) (owners : map.FinMap _ Holding)
+  follows_owners : (S : State T) (next : ℕ) (owners : map.FinMap _ Ownership)
       → S.next ≤ next → Follows S (record S { owners = owners; next = next })
   follows_owners S next owners up =
       record { number = refl; start = refl; next = up; given = λ n g. g; ended = λ n e. e.1 }
 
-  follows_cloned : (S : State T) (o : OwnerName) (h : Option Holding) → Follows S (cloned S o h).1
+  follows_cloned : (S : State T) (o : OwnerName) (h : Option Ownership) → Follows S (clone_owner S o h).1
   follows_cloned S o None = follows_same S
   follows_cloned S o (Some h) = follows_owners S (S.next + 1) _ (omega arith)
 
-  follows_let_go : (S : State T) (o : OwnerName) (h : Option Holding) → Follows S (let_go S o h).1
+  follows_let_go : (S : State T) (o : OwnerName) (h : Option Ownership) → Follows S (release_owner S o h).1
   follows_let_go S o None = follows_same S
   follows_let_go S o (Some h) = follows_if S _ _ _ (follows_owners S S.next _ (omega arith))
       (follows_unless S _ _ (follows_then S (close S h.names) _
@@ -182,7 +182,7 @@ module _ {T : Type 0} where
   follows_read S l m c = follows_same S
 
   follows_write : (S : State T) (l : Location) (m : Option Name) (c : Option (Content T))
-      → Follows S (written_at S l m c).1
+      → Follows S (write_at S l m c).1
   follows_write S l (Some m) (Some (Here v readers)) =
       follows_filled S m _ (S.next + 1) (omega arith)
   follows_write S l m c = follows_same S
@@ -198,7 +198,7 @@ module _ {T : Type 0} where
   follows_set S b v m c = follows_same S
 
   second_new : (S : State T) (f : Fresh) (c : Cell T) → set.contains S.given f.second ≡ false
-      → f.first ≢ f.second → set.contains (born S f.first c).given f.second ≡ false
+      → f.first ≢ f.second → set.contains (add_cell S f.first c).given f.second ≡ false
   second_new S f c new ne =
       contains-insert_apart by_name S.given f.first f.second (λ is. ne (sym is)) ∙ new
 
@@ -208,16 +208,16 @@ module _ {T : Type 0} where
   act_follows S (Make o v l) f new = follows_if S _ _ _
       (follows_listed S _ o f.first (follows_born S f.first _ new)) (follows_same S)
   act_follows S (MakeShared o v l) f new =
-      let one = born S f.first (Shared (Here v []) l) in
+      let one = add_cell S f.first (Shared (Here v []) l) in
       let two =
-      follows_then S one (born one f.second (Ref f.first l)) (follows_born S f.first _ new.0)
+      follows_then S one (add_cell one f.second (Ref f.first l)) (follows_born S f.first _ new.0)
       (follows_born one f.second _ (second_new S f (Shared (Here v []) l) new.1 new.2)) in
       follows_if S _ _ _ (follows_listed S _ o f.second two) (follows_same S)
   act_follows S (Refer o b) f new = follows_if S _ _ _
       (follows_unless S _ _ (follows_referred S o b _ _ f.first new)) (follows_same S)
   act_follows S NewOwner f new = follows_owners S (S.next + 1) _ (omega arith)
   act_follows S (CloneOwner o) f new = follows_cloned S o _
-  act_follows S (ReleaseOwner o) f new = follows_let_go S o (holding S o)
+  act_follows S (ReleaseOwner o) f new = follows_let_go S o (ownership S o)
   act_follows S (LeakOwner o) f new = follows_same S
   act_follows S (Read b l) f new = follows_unless S _ _ (follows_read S l _ _)
   act_follows S (Write b l) f new = follows_unless S _ _ (follows_write S l _ _)

@@ -10,8 +10,8 @@ use Rattle.generational_core.specs.Cells.{Cell, content_of, is_shared}
 use Rattle.generational_core.specs.Cells.Cell.{Value, Shared, Ref}
 use Rattle.generational_core.specs.State.{State, IsSound, IsNamed}
 use Rattle.generational_core.specs.Borrowing.{Trouble, write_refusal}
-use Rattle.generational_core.specs.Ending.{swept, without, left_by, close, or_else, hindrance_at}
-use Rattle.generational_core.specs.Ending.{hindrance_of, first_hindrance, hindered}
+use Rattle.generational_core.specs.Ending.{sweep, without, cells_after, close, or_else, hindrance_at}
+use Rattle.generational_core.specs.Ending.{hindrance_of, first_hindrance, hindrance_to}
 use Rattle.generational_core.proofs.Maps.{by_name, name_cases, name_same}
 use Rattle.generational_core.proofs.Maps.{get-insert_apart, keep_view}
 use Rattle.generational_core.proofs.Named.{named_from, named_gives}
@@ -71,23 +71,23 @@ module _ {T : Type 0} where
 
   -- a Shared cell at whose Refs' end nothing hinders it stays, if it is borrowed
   shared_named : (cells : NameMap (Cell T)) (names : List Name) (m n : Name) (l : Location)
-      → first_hindrance cells (left_by cells names) names ≡ None
-      → map.get cells m ≡ Some (Ref n l) → map.get (left_by cells names) n ≡ None
+      → first_hindrance cells (cells_after cells names) names ≡ None
+      → map.get cells m ≡ Some (Ref n l) → map.get (cells_after cells names) n ≡ None
       → IsBorrowed (map.get cells n) → map.get (without cells names) m ≡ Some (Ref n l)
   shared_named cells names m n l free at_m gone borrowed =
       ⊎_elim (λ e. e ∙ at_m)
       (λ e.
       let hindrance = none_hindered cells
-      (left_by cells names) names free m (without_among cells names m e.0 (ap is_some at_m)) in
-      absurd (not_borrowed cells (left_by cells names) n (sym
-      (ap (λ c. hindrance_of cells (left_by cells names) c m) at_m) ∙ hindrance) gone borrowed))
+      (cells_after cells names) names free m (without_among cells names m e.0 (ap is_some at_m)) in
+      absurd (not_borrowed cells (cells_after cells names) n (sym
+      (ap (λ c. hindrance_of cells (cells_after cells names) c m) at_m) ∙ hindrance) gone borrowed))
       (without_view cells names m)
 
   borrowed_stays : (S : State T) (names : List Name)
-      → IsSound S → first_hindrance S.cells (left_by S.cells names) names ≡ None → (n : Name)
-      → IsBorrowed (map.get S.cells n) → map.get (left_by S.cells names) n ≡ map.get S.cells n
+      → IsSound S → first_hindrance S.cells (cells_after S.cells names) names ≡ None → (n : Name)
+      → IsBorrowed (map.get S.cells n) → map.get (cells_after S.cells names) n ≡ map.get S.cells n
   borrowed_stays S names s free n borrowed =
-      let left = left_by S.cells names in
+      let left = cells_after S.cells names in
       let live = borrowed_live (map.get S.cells n) borrowed in
       ⊎_elim
       (λ e. ⊎_elim (λ k. e.0 ∙ k)
@@ -108,17 +108,17 @@ module _ {T : Type 0} where
 
   -- an end that nothing hinders leaves each borrowed cell as it was
   pub borrowed_left : (S : State T) (names : List Name)
-      → IsSound S → hindered S names ≡ None → (n : Name)
+      → IsSound S → hindrance_to S names ≡ None → (n : Name)
       → IsBorrowed (map.get S.cells n) → map.get (close S names).cells n ≡ map.get S.cells n
-  unfolding hindered
+  unfolding hindrance_to
   borrowed_left S names s free n borrowed = borrowed_stays S names s free n borrowed
 
   -- a Ref that turns to another cell leaves each borrowed cell as it was
   pub borrowed_turned : (S : State T) (a old new : Name) (l : Location)
       → IsSound S → map.get S.cells a ≡ Some (Ref old l)
-      → hindrance_at S.cells (swept (map.insert S.cells a (Ref new l))) old ≡ None
+      → hindrance_at S.cells (sweep (map.insert S.cells a (Ref new l))) old ≡ None
       → (n : Name) → IsBorrowed (map.get S.cells n)
-      → map.get (swept (map.insert S.cells a (Ref new l))) n ≡ map.get S.cells n
+      → map.get (sweep (map.insert S.cells a (Ref new l))) n ≡ map.get S.cells n
   borrowed_turned S a old new l s at_a free n borrowed =
       let one = map.insert S.cells a (Ref new l) in
       let other = λ (q : Name) (ne : q ≢ a).
@@ -132,7 +132,7 @@ module _ {T : Type 0} where
       (λ is.
       let same = target_of old n l it.1 (sym at_a ∙ (ap (map.get S.cells) (sym is) ∙ it.2)) in
       absurd (not_borrowed S.cells
-      (swept one) n (sym (ap (hindrance_at S.cells (swept one)) same) ∙ free) e.0 borrowed))
+      (sweep one) n (sym (ap (hindrance_at S.cells (sweep one)) same) ∙ free) e.0 borrowed))
       (λ ne. absurd (true≢false (sym (named_from one n (it.0, it.1, other it.0 ne ∙ it.2)) ∙ e.2)))
       (name_cases it.0 a))
       (swept_view one n)

@@ -12,17 +12,17 @@ use Rattle.std.specs.FinMap as map
 use Rattle.generational_core.specs.declared.boxes.GenerationalPointer.{GenerationalPointer}
 use Rattle.generational_core.specs.Names.{Name, name_cmp}
 use Rattle.generational_core.specs.Cells.{is_shared, content_of}
-use Rattle.generational_core.specs.State.{State, Holding, IsSound, IsNamed, IsEnded, fresh}
+use Rattle.generational_core.specs.State.{State, Ownership, IsSound, IsNamed, IsEnded, fresh}
 use Rattle.generational_core.specs.State.{tickets_of}
 use Rattle.generational_core.specs.Boxes.{name_of}
-use Rattle.generational_core.specs.Borrowing.{read_trouble, write_trouble, reach, reached}
+use Rattle.generational_core.specs.Borrowing.{read_trouble, write_trouble, reach, leads_to}
 use Rattle.generational_core.specs.Borrowing.{not_reached}
 use Rattle.generational_core.specs.Borrowing.{read_refusal, write_refusal, content_at}
 use Rattle.generational_core.specs.Borrowing.Trouble.{Dropped}
 use Rattle.generational_core.proofs.Ends.{none≢some}
 
 -- no owner is known where none was made
-nobody_known : (k : ℕ) → map.get (map.empty {X = Holding} {R = nat_cmp}) k ≡ None
+nobody_known : (k : ℕ) → map.get (map.empty {X = Ownership} {R = nat_cmp}) k ≡ None
 nobody_known k = map.get-empty nat_cmp k
 
 module _ {T : Type 0} where
@@ -52,7 +52,7 @@ module _ {T : Type 0} where
   -- a box of an ended name reaches nothing
   ended_reach : (S : State T) (b : GenerationalPointer) → IsEnded S (name_of b) → reach S b ≡ None
   unfolding reach
-  ended_reach S b e = ap (λ c. cond (nat_eq b.id.store S.number) (reached c (name_of b)) None) e.1
+  ended_reach S b e = ap (λ c. cond (nat_eq b.id.store S.number) (leads_to c (name_of b)) None) e.1
       ∙ cond_same (nat_eq b.id.store S.number) None
 
   -- so it is answered that its value is gone

@@ -13,8 +13,8 @@ use Rattle.generational_core.specs.Cells.Cell.{Value, Shared, Ref}
 use Rattle.generational_core.specs.State.{State}
 use Rattle.generational_core.specs.Boxes.{box_of}
 use Rattle.generational_core.specs.Borrowing.{Trouble, reach, read_trouble}
-use Rattle.generational_core.specs.Machine.{Fresh, Outcome, OwnerName, act, born, listed}
-use Rattle.generational_core.specs.Machine.{unless, is_known, referred, found, make_value}
+use Rattle.generational_core.specs.Machine.{Fresh, Outcome, OwnerName, act, add_cell, add_to_list}
+use Rattle.generational_core.specs.Machine.{unless, is_known, refer, found, make_value}
 use Rattle.generational_core.specs.Machine.{make_shared}
 use Rattle.generational_core.specs.Machine.Action.{Make, MakeShared, Refer}
 use Rattle.generational_core.specs.Machine.Answer.{Made, Refused}
@@ -40,7 +40,7 @@ module _ {T : Type 0} where
   made_unless S given None x h = h
   made_unless S given (Some t) x h = inl (refl, refl)
 
-  listed_given : (S : State T) (o : Option OwnerName) (n : Name) → (listed S o n).given ≡ S.given
+  listed_given : (S : State T) (o : Option OwnerName) (n : Name) → (add_to_list S o n).given ≡ S.given
   listed_given S None n = refl
   listed_given S (Some o) n = refl
 
@@ -48,7 +48,7 @@ module _ {T : Type 0} where
   pub made_value : (S : State T) (o : Option OwnerName) (v : T) (l : Location) (new : Fresh)
       → MadeOrRefused S (set.insert S.given new.first) (act S (Make o v l) new)
   made_value S o v l new =
-      let made = listed_given (born S new.first (Value (Here v []) l)) o new.first in
+      let made = listed_given (add_cell S new.first (Value (Here v []) l)) o new.first in
       made_if S (set.insert S.given new.first)
       (is_known S o) (make_value S o v l new.first) (inr (box_of S.number new.first l, refl, made))
 
@@ -57,22 +57,22 @@ module _ {T : Type 0} where
       → MadeOrRefused S
       (set.insert (set.insert S.given new.first) new.second) (act S (MakeShared o v l) new)
   made_shared S o v l new =
-      let shared = born S new.first (Shared (Here v []) l) in
-      let made = listed_given (born shared new.second (Ref new.first l)) o new.second in
+      let shared = add_cell S new.first (Shared (Here v []) l) in
+      let made = listed_given (add_cell shared new.second (Ref new.first l)) o new.second in
       made_if S (set.insert shared.given new.second)
       (is_known S o) (make_shared S o v l new) (inr (box_of S.number new.second l, refl, made))
 
   made_referred : (S : State T) (o : Option OwnerName)
       (b : GenerationalPointer) (to : Option Name) (x : Option (Cell T)) (n : Name)
-      → MadeOrRefused S (set.insert S.given n) (referred S o b to x n)
+      → MadeOrRefused S (set.insert S.given n) (refer S o b to x n)
   made_referred S o b (Some m) (Some (Shared c l)) n =
-      inr (box_of S.number n l, refl, listed_given (born S n (Ref m l)) o n)
+      inr (box_of S.number n l, refl, listed_given (add_cell S n (Ref m l)) o n)
   made_referred S o b to x n = inl (refl, refl)
 
   -- a reference
   pub made_reference : (S : State T) (o : Option OwnerName) (b : GenerationalPointer) (new : Fresh)
       → MadeOrRefused S (set.insert S.given new.first) (act S (Refer o b) new)
   made_reference S o b new =
-      let out = referred S o b (reach S b) (found S (reach S b)) new.first in
+      let out = refer S o b (reach S b) (found S (reach S b)) new.first in
       made_if S _ (is_known S o) (unless (read_trouble S b) S out) (made_unless S _
       (read_trouble S b) out (made_referred S o b (reach S b) (found S (reach S b)) new.first))

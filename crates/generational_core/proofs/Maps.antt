@@ -10,7 +10,7 @@ use Rattle.std.proofs.lemmas.Map.Lookups.{exact_unsigned, exact_pairs}
 use Rattle.std.proofs.lemmas.Bool.{true≢false, false_from_ne_true}
 use Rattle.std.specs.FinMap as map
 use Rattle.std.specs.FinSet as set
-use Rattle.generational_core.specs.Names.{Name, name_cmp, is_name, changed, changed_if, NameMap}
+use Rattle.generational_core.specs.Names.{Name, name_cmp, is_name, change, change_if, NameMap}
 use Rattle.generational_core.specs.Names.{Names}
 
 -- names that compare alike are one
@@ -94,15 +94,15 @@ module _ {K : Type 0} {R : K → K → Ordering} (o : IsKeyOrder R) where
         split false h = inr (get-keep m p q ∙ ap (λ b. cond b (map.get m q) None) h, h)
 
     pub get-changed_here : (m : map.FinMap R X) (k : K) (f : X → X) (x : X)
-        → map.get m k ≡ Some x → map.get (changed m k f) k ≡ Some (f x)
-    unfolding changed
+        → map.get m k ≡ Some x → map.get (change m k f) k ≡ Some (f x)
+    unfolding change
     get-changed_here m k f x h =
-        ap (λ o. map.get (changed_if m k f o) k) h ∙ get-insert_here m k (f x)
+        ap (λ o. map.get (change_if m k f o) k) h ∙ get-insert_here m k (f x)
 
     pub changed_there : (m : map.FinMap R X) (k : K) (f : X → X) (x : X)
-        → map.get m k ≡ Some x → changed m k f ≡ map.insert m k (f x)
-    unfolding changed
-    changed_there m k f x h = ap (changed_if m k f) h
+        → map.get m k ≡ Some x → change m k f ≡ map.insert m k (f x)
+    unfolding change
+    changed_there m k f x h = ap (change_if m k f) h
 
     -- what stands at a key, put there again
     pub insert_there : (m : map.FinMap R X) (k : K) (x : X) → map.get m k ≡ Some x
@@ -119,31 +119,31 @@ module _ {K : Type 0} {R : K → K → Ordering} (o : IsKeyOrder R) where
         same q = at q (key_cases q k)
 
     pub get-changed_none : (m : map.FinMap R X) (k : K) (f : X → X)
-        → map.get m k ≡ None → changed m k f ≡ m
-    unfolding changed
-    get-changed_none m k f h = ap (changed_if m k f) h
+        → map.get m k ≡ None → change m k f ≡ m
+    unfolding change
+    get-changed_none m k f h = ap (change_if m k f) h
 
     pub get-changed_apart : (m : map.FinMap R X) (k : K) (f : X → X) (q : K)
-        → q ≢ k → map.get (changed m k f) q ≡ map.get m q
-    unfolding changed
+        → q ≢ k → map.get (change m k f) q ≡ map.get m q
+    unfolding change
     get-changed_apart m k f q ne = split (map.get m k)
       where
-        split : (o : Option X) → map.get (changed_if m k f o) q ≡ map.get m q
+        split : (o : Option X) → map.get (change_if m k f o) q ≡ map.get m q
         split None = refl
         split (Some x) = get-insert_apart m k (f x) q ne
 
-    pub get-changed : (m : map.FinMap R X) (k : K) (f : X → X) (q : K) → map.get (changed m k f) q
+    pub get-changed : (m : map.FinMap R X) (k : K) (f : X → X) (q : K) → map.get (change m k f) q
         ≡ cond (eq_by_cmp R q k) (option_map f (map.get m q)) (map.get m q)
     get-changed m k f q = join (key_cases q k)
       where
         at : (o : Option X)
-            → q ≡ k → map.get m k ≡ o → map.get (changed m k f) q ≡ option_map f (map.get m q)
+            → q ≡ k → map.get m k ≡ o → map.get (change m k f) q ≡ option_map f (map.get m q)
         at None is h = ap (λ n. map.get n q) (get-changed_none m k f h)
             ∙ ap (map.get m) is ∙ h ∙ sym (ap (option_map f) (ap (map.get m) is ∙ h))
-        at (Some x) is h = ap (map.get (changed m k f)) is
+        at (Some x) is h = ap (map.get (change m k f)) is
             ∙ get-changed_here m k f x h ∙ sym (ap (option_map f) (ap (map.get m) is ∙ h))
 
-        join : (q ≡ k) ⊎ (q ≢ k) → map.get (changed m k f) q
+        join : (q ≡ k) ⊎ (q ≢ k) → map.get (change m k f) q
             ≡ cond (eq_by_cmp R q k) (option_map f (map.get m q)) (map.get m q)
         join (inl is) = at (map.get m k) is refl
             ∙ sym (ap (λ b. cond b (option_map f (map.get m q)) (map.get m q))
@@ -153,23 +153,23 @@ module _ {K : Type 0} {R : K → K → Ordering} (o : IsKeyOrder R) where
 
     -- the one key that is changed, if anything stands there
     pub changed_view : (m : map.FinMap R X) (k : K) (f : X → X) (q : K)
-        → (map.get (changed m k f) q ≡ map.get m q)
-        ⊎ ((q ≡ k) × (x : X) × (map.get m q ≡ Some x) × (map.get (changed m k f) q ≡ Some (f x)))
+        → (map.get (change m k f) q ≡ map.get m q)
+        ⊎ ((q ≡ k) × (x : X) × (map.get m q ≡ Some x) × (map.get (change m k f) q ≡ Some (f x)))
     changed_view m k f q = join (key_cases q k)
       where
         at : q ≡ k → (o : Option X)
-            → map.get m k ≡ o → (map.get (changed m k f) q ≡ map.get m q) ⊎ ((q ≡ k)
-            × (x : X) × (map.get m q ≡ Some x) × (map.get (changed m k f) q ≡ Some (f x)))
+            → map.get m k ≡ o → (map.get (change m k f) q ≡ map.get m q) ⊎ ((q ≡ k)
+            × (x : X) × (map.get m q ≡ Some x) × (map.get (change m k f) q ≡ Some (f x)))
         at is None h = inl (ap (λ n. map.get n q) (get-changed_none m k f h))
         at is (Some x) h = inr (
           is,
           x,
           ap (map.get m) is ∙ h,
-          ap (map.get (changed m k f)) is ∙ get-changed_here m k f x h,
+          ap (map.get (change m k f)) is ∙ get-changed_here m k f x h,
         )
 
-        join : (q ≡ k) ⊎ (q ≢ k) → (map.get (changed m k f) q ≡ map.get m q) ⊎ ((q ≡ k)
-            × (x : X) × (map.get m q ≡ Some x) × (map.get (changed m k f) q ≡ Some (f x)))
+        join : (q ≡ k) ⊎ (q ≢ k) → (map.get (change m k f) q ≡ map.get m q) ⊎ ((q ≡ k)
+            × (x : X) × (map.get m q ≡ Some x) × (map.get (change m k f) q ≡ Some (f x)))
         join (inl is) = at is (map.get m k) refl
         join (inr ne) = inl (get-changed_apart m k f q ne)
 
@@ -219,7 +219,7 @@ unfolding is_name
 get-insert_name m k v q = map.get-insert name_total m k v q
 
 pub get-changed_name : {X : Type 0} (m : NameMap X) (k : Name) (f : X → X) (q : Name)
-    → map.get (changed m k f) q ≡ cond (is_name q k) (option_map f (map.get m q)) (map.get m q)
+    → map.get (change m k f) q ≡ cond (is_name q k) (option_map f (map.get m q)) (map.get m q)
 unfolding is_name
 get-changed_name m k f q = get-changed by_name m k f q
 

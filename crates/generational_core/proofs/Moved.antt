@@ -9,10 +9,10 @@ use Rattle.std.proofs.lemmas.Bool.{eqb-true, eq-eqb}
 use Rattle.generational_core.specs.declared.error.Location.{Location}
 use Rattle.generational_core.specs.declared.borrow.Borrow.{Borrow}
 use Rattle.generational_core.specs.Names.{Name}
-use Rattle.generational_core.specs.Cells.{Content, Cell, content_of, is_shared, refilled}
+use Rattle.generational_core.specs.Cells.{Content, Cell, content_of, is_shared, refill}
 use Rattle.generational_core.specs.Cells.Content.{Here, Lent}
 use Rattle.generational_core.specs.Cells.Cell.{Value, Shared, Ref}
-use Rattle.generational_core.specs.Borrowing.{Trouble, read_refusal, write_refusal, reached}
+use Rattle.generational_core.specs.Borrowing.{Trouble, read_refusal, write_refusal, leads_to}
 use Rattle.generational_core.specs.Machine.{has_reader, has_writer}
 use Rattle.generational_core.specs.Carrying.{moved_borrow, moved_content, moved_cell}
 
@@ -85,7 +85,7 @@ module _ {T U : Type 0} (f : Name → Name) (d : ℕ) (g : T → U) where
 
   -- where a cell leads
   pub reached_moved : (x : Option (Cell T)) (n : Name)
-      → reached (option_map (moved_cell f d g) x) (f n) ≡ option_map f (reached x n)
+      → leads_to (option_map (moved_cell f d g) x) (f n) ≡ option_map f (leads_to x n)
   reached_moved None n = refl
   reached_moved (Some (Value o l)) n = refl
   reached_moved (Some (Shared o l)) n = refl
@@ -136,8 +136,8 @@ module _ {T U : Type 0} (f : Name → Name) (d : ℕ) (g : T → U) where
 
   -- a cell with another content
   pub refilled_moved : (c : Content T) (x : Option (Cell T))
-      → option_map (refilled (moved_content f d g c)) (option_map (moved_cell f d g) x)
-      ≡ option_map (moved_cell f d g) (option_map (refilled c) x)
+      → option_map (refill (moved_content f d g c)) (option_map (moved_cell f d g) x)
+      ≡ option_map (moved_cell f d g) (option_map (refill c) x)
   refilled_moved c None = refl
   refilled_moved c (Some (Value o l)) = refl
   refilled_moved c (Some (Shared o l)) = refl
@@ -145,7 +145,7 @@ module _ {T U : Type 0} (f : Name → Name) (d : ℕ) (g : T → U) where
 
 -- a cell with another content is a Ref only if it was that Ref
 pub refilled_leads : {T : Type 0} (c : Content T) (x : Option (Cell T)) (m : Name) (l : Location)
-    → option_map (refilled c) x ≡ Some (Ref m l) → x ≡ Some (Ref m l)
+    → option_map (refill c) x ≡ Some (Ref m l) → x ≡ Some (Ref m l)
 refilled_leads c None m l h = cc
 refilled_leads c (Some (Value o k)) m l h = cc
 refilled_leads c (Some (Shared o k)) m l h = cc

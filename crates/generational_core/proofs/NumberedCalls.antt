@@ -25,11 +25,11 @@ use Rattle.generational_core.specs.Machine.Answer.{Troubled, Refused}
 use Rattle.generational_core.specs.Carrying.{moved_holding, KnowsCall, KnowsFresh}
 use Rattle.generational_core.specs.Carrying.{moved_fresh, moved_guard}
 use Rattle.generational_core.specs.Carrying.{moved_action, moved_owner, moved_box}
-use Rattle.generational_core.specs.Session.{SessionState, Said, Asked, Settles, SessionStep, Run}
-use Rattle.generational_core.specs.Session.{asked, said, settled, placed, swapped, refusal, spent}
+use Rattle.generational_core.specs.Session.{SessionState, SessionReply, Request, Settles, SessionStep, Run}
+use Rattle.generational_core.specs.Session.{ask, reply_of, settle, add_place, swap, refusal, spend}
 use Rattle.generational_core.specs.Steps.{Meets}
-use Rattle.generational_core.specs.Session.Asked.{Asks, Tells, Swaps}
-use Rattle.generational_core.specs.Session.Said.{TheOld}
+use Rattle.generational_core.specs.Session.Request.{Asks, Tells, Swaps}
+use Rattle.generational_core.specs.Session.SessionReply.{TheOld}
 use Rattle.generational_core.specs.Session.Held.{Nothing}
 use Rattle.generational_core.specs.declared.places.Thing.{Thing}
 use Rattle.generational_core.specs.Places.{session_in}
@@ -65,21 +65,21 @@ module _ {T : Type 0} where
   refusal_told (call.Insert p v l) e = refl
   refusal_told _ e = refl
 
-  flag_told : (c : Call T) (b : Bool) → refusal_in (said c (Flag b)) ≡ None
+  flag_told : (c : Call T) (b : Bool) → refusal_in (reply_of c (Flag b)) ≡ None
   flag_told (call.Release p) b = refl
   flag_told _ b = refl
 
-  told : (c : Call T) (answer : Answer T) → refusal_in (said c answer) ≡ wants answer
-  told c (Made b) = refl
-  told c (Owned o) = refl
-  told c (Reads g) = refl
-  told c (Writes g v) = refl
-  told c Done = refl
-  told c (Old v) = refl
-  told c (Flag b) = flag_told c b
-  told c (Back v) = refl
-  told c (Troubled t) = refl
-  told c (Refused e) = refusal_told c e
+  tell : (c : Call T) (answer : Answer T) → refusal_in (reply_of c answer) ≡ wants answer
+  tell c (Made b) = refl
+  tell c (Owned o) = refl
+  tell c (Reads g) = refl
+  tell c (Writes g v) = refl
+  tell c Done = refl
+  tell c (Old v) = refl
+  tell c (Flag b) = flag_told c b
+  tell c (Back v) = refl
+  tell c (Troubled t) = refl
+  tell c (Refused e) = refusal_told c e
 
 module _ {T : Type 0} {s a : SessionState T} (m : Matches s a) where
   -- ---- calls of the machine
@@ -93,8 +93,8 @@ module _ {T : Type 0} {s a : SessionState T} (m : Matches s a) where
     plain_asks : (x : Call T) (action : Action T) → KnowsCall (Knows m) a.state.number action
         → KnowsFresh (Knows m) action (next_numbers a) → is_making (mine action) ≡ false
         → is_making action ≡ false → StepMatches
-        (settled s x (act s.state (mine action) (moved_fresh (named_by m.order) (next_numbers a))))
-        (settled a x (act a.state action (next_numbers a)))
+        (settle s x (act s.state (mine action) (moved_fresh (named_by m.order) (next_numbers a))))
+        (settle a x (act a.state action (next_numbers a)))
     plain_asks x action k kn unmade_s unmade = settled_step m x
         (act s.state (mine action) (moved_fresh (named_by m.order) (next_numbers a)))
         (act a.state action (next_numbers a))
@@ -108,8 +108,8 @@ module _ {T : Type 0} {s a : SessionState T} (m : Matches s a) where
 
     asks_step : (x : Call T) (action : Action T) (new : Fresh)
         → KnowsCall (Knows m) a.state.number action → AreFresh s.state (mine action) new
-        → StepMatches (settled s x (act s.state (mine action) new))
-        (settled a x (act a.state action (next_numbers a)))
+        → StepMatches (settle s x (act s.state (mine action) new))
+        (settle a x (act a.state action (next_numbers a)))
     asks_step x (Make o v l) new k fresh =
         let names = new.first ∷ [] in
         let owner = option_map (moved_owner (named_by m.order) m.difference a.state.number) o in
@@ -175,11 +175,11 @@ module _ {T : Type 0} {s a : SessionState T} (m : Matches s a) where
 
     -- a call that the store refuses
     wanting_step : (c : Call T) (e : StoreError)
-        → StepMatches (refusal c e, placed s Nothing) (refusal c e, placed a Nothing)
-    wanting_step c e = kept_step m (refusal c e, placed s Nothing) (refusal c e, placed a Nothing)
+        → StepMatches (refusal c e, add_place s Nothing) (refusal c e, add_place a Nothing)
+    wanting_step c e = kept_step m (refusal c e, add_place s Nothing) (refusal c e, add_place a Nothing)
         (record { said = refl; session = placed_alike m.carries }) refl refl
 
-    settles_step : (c : Call T) (x : Said T) (r : SessionState T) (p q : Asked T)
+    settles_step : (c : Call T) (x : SessionReply T) (r : SessionState T) (p q : Request T)
         → AskedAlike (named_by m.order) m.difference (Knows m) a.state.number p q
         → SpendsNothing s c p → Settles s c p x r
         → StepMatches (x, r) (numbered a c q (refusal_in x))
@@ -189,49 +189,49 @@ module _ {T : Type 0} {s a : SessionState T} (m : Matches s a) where
         wanting : (e : StoreError) × (want e ≡ Some e) × (step.0 ≡ Refused e)
             × (step.1 ≡ s.state) → StepMatches (x, r) (numbered a c (Asks action) (refusal_in x))
         wanting w =
-            let left : spent c (Refused w.0) s.table ≡ s.table =
+            let left : spend c (Refused w.0) s.table ≡ s.table =
             unspent w.0 step.1
             (subst (λ answer. Meets s.state (mine action) answer step.1) w.2 step.2) in
-            let out : (x, r) ≡ (refusal c w.0, placed s Nothing) =
-            step.3 ∙ ((λ i. settled s c (w.2 i, w.3 i)) ∙ (λ i.
+            let out : (x, r) ≡ (refusal c w.0, add_place s Nothing) =
+            step.3 ∙ ((λ i. settle s c (w.2 i, w.3 i)) ∙ (λ i.
             let after : SessionState T = record { state = s.state; table = left i } in
-            (refusal c w.0, placed after Nothing))) in
+            (refusal c w.0, add_place after Nothing))) in
             let heard : refusal_in x ≡ Some w.0 =
-            ap (λ (o : Said T × SessionState T). refusal_in o.0) out
+            ap (λ (o : SessionReply T × SessionState T). refusal_in o.0) out
             ∙ (refusal_told c w.0 ∙ w.1) in
             subst (λ e. StepMatches (x, r) (numbered a c (Asks action) e)) (sym heard)
-            (subst (λ (o : Said T × SessionState T).
-            StepMatches o (refusal c w.0, placed a Nothing)) (sym out) (wanting_step c w.0))
+            (subst (λ (o : SessionReply T × SessionState T).
+            StepMatches o (refusal c w.0, add_place a Nothing)) (sym out) (wanting_step c w.0))
 
         acting : (new : Fresh) × AreFresh s.state (mine action) new
             × ((step.0, step.1) ≡ act s.state (mine action) new)
             → StepMatches (x, r) (numbered a c (Asks action) (refusal_in x))
         acting w =
-            let out : (x, r) ≡ settled s c (act s.state (mine action) w.0) =
-            step.3 ∙ ap (settled s c) w.2 in
+            let out : (x, r) ≡ settle s c (act s.state (mine action) w.0) =
+            step.3 ∙ ap (settle s c) w.2 in
             let heard : refusal_in x ≡ None =
-            ap (λ (o : Said T × SessionState T). refusal_in o.0) out
-            ∙ (told c (act s.state (mine action) w.0).0
+            ap (λ (o : SessionReply T × SessionState T). refusal_in o.0) out
+            ∙ (tell c (act s.state (mine action) w.0).0
             ∙ (act_says s.state (mine action) w.0 w.1).able) in
             subst (λ e. StepMatches (x, r) (numbered a c (Asks action) e)) (sym heard)
-            (subst (λ (o : Said T × SessionState T). StepMatches o (settled a c
+            (subst (λ (o : SessionReply T × SessionState T). StepMatches o (settle a c
             (act a.state action (next_numbers a)))) (sym out) (asks_step c action w.0 k w.1))
     settles_step c x r p q (both_tell y z e able) unspent step =
         let heard : refusal_in x ≡ None = ap refusal_in step.0 ∙ able in
         subst (λ w. StepMatches (x, r) (numbered a c (Tells z) w)) (sym heard)
-        (subst (λ (o : Said T × SessionState T). StepMatches o (z, placed a Nothing))
+        (subst (λ (o : SessionReply T × SessionState T). StepMatches o (z, add_place a Nothing))
         (sym (λ i. (step.0 i, step.1 i)))
-        (kept_step m (y, placed s Nothing)
-        (z, placed a Nothing) (record { said = e; session = placed_alike m.carries }) refl refl))
+        (kept_step m (y, add_place s Nothing)
+        (z, add_place a Nothing) (record { said = e; session = placed_alike m.carries }) refl refl))
     settles_step c x r p q (both_swap place g v old known) unspent step =
         let heard : refusal_in x ≡ None = ap refusal_in step.0 in
         let guard = moved_guard (named_by m.order) m.difference a.state.number g in
-        let mine : Said T × SessionState T =
-        (TheOld old, placed (swapped s place guard v) Nothing) in
-        let theirs : Said T × SessionState T =
-        (TheOld old, placed (swapped a place g v) Nothing) in
+        let mine : SessionReply T × SessionState T =
+        (TheOld old, add_place (swap s place guard v) Nothing) in
+        let theirs : SessionReply T × SessionState T =
+        (TheOld old, add_place (swap a place g v) Nothing) in
         subst (λ w. StepMatches (x, r) (numbered a c (Swaps place g v old) w)) (sym heard)
-        (subst (λ (o : Said T × SessionState T). StepMatches o theirs)
+        (subst (λ (o : SessionReply T × SessionState T). StepMatches o theirs)
         (sym (λ i. (step.0 i, step.1 i)))
         (kept_step m mine theirs (record {
           said = refl;
@@ -239,16 +239,16 @@ module _ {T : Type 0} {s a : SessionState T} (m : Matches s a) where
         }) refl refl))
 
     -- whichever names are taken, the numbered machine answers the same, ids aside
-    step_matches : (c : Call T) (x : Said T) (r : SessionState T)
+    step_matches : (c : Call T) (x : SessionReply T) (r : SessionState T)
         → SessionStep s c x r → StepMatches (x, r) (numbered_act a c (refusal_in x))
     step_matches c x r step =
-        settles_step c x r (asked s c) (asked a c)
+        settles_step c x r (ask s c) (ask a c)
         (asked_alike m.carries c) (spends_nothing s c) step
 
 module _ {T : Type 0} where
   -- so the replies of a run are those of the numbered machine, ids aside, and the sessions that are
   -- left match
-  pub run_answers : (calls : List (Call T)) (replies : List (Said T)) (s r a : SessionState T)
+  pub run_answers : (calls : List (Call T)) (replies : List (SessionReply T)) (s r a : SessionState T)
       → Matches s a → IsSound s.state → Run s calls replies r → AnswersAs a calls replies r
   run_answers [] [] s r a m sound run =
       record { same = refl; matches = subst (λ r. Matches r a) (sym run) m }
@@ -261,7 +261,7 @@ module _ {T : Type 0} where
   run_answers (c ∷ calls) [] s r a m sound run = absurd run
 
   -- and one call is a run
-  pub call_answers : (c : Call T) (x : Said T) (s r a : SessionState T) → Matches s a
+  pub call_answers : (c : Call T) (x : SessionReply T) (s r a : SessionState T) → Matches s a
       → IsSound s.state → SessionStep s c x r → AnswersAs a (c ∷ []) (x ∷ []) r
   call_answers c x s r a m sound step =
       run_answers (c ∷ []) (x ∷ []) s r a m sound (r, step, refl)

@@ -20,7 +20,7 @@ use Rattle.generational_core.specs.Borrowing.{Guard}
 use Rattle.generational_core.specs.Carrying.{Carries, KnowsGuard, KnowsBox}
 use Rattle.generational_core.specs.Carrying.{KnowsAnswer, moved_box, moved_guard}
 use Rattle.generational_core.specs.Carrying.{moved_answer}
-use Rattle.generational_core.specs.Session.{Held, SessionState, Said, settled}
+use Rattle.generational_core.specs.Session.{Held, SessionState, SessionReply, settle}
 use Rattle.generational_core.specs.Session.Held.{Boxed, Reading, Writing, Owning, Nothing}
 use Rattle.generational_core.specs.Numbered.{number, IsNumberBelow, AreNumbersBelow, named_by}
 use Rattle.generational_core.specs.Numbered.{moved_held, KnowsHeld, CarriesSession, Matches, erase}
@@ -118,7 +118,7 @@ module _ {T : Type 0} where
   -- ---- a step
 
   -- the replies are the same, ids aside, and the sessions after them match
-  pub record StepMatches (s a : Said T × SessionState T) : Type 0 where
+  pub record StepMatches (s a : SessionReply T × SessionState T) : Type 0 where
     pub said : erase s.0 ≡ erase a.0
     pub after : Matches s.1 a.1
 
@@ -143,7 +143,7 @@ module _ {T : Type 0} {s a : SessionState T} (m : Matches s a) where
       Carries (named_by (m.order ++ names)) m.difference (λ (v : T). v) (More names) s.state a.state
 
   -- no names were given
-  pub kept_step : (x y : Said T × SessionState T)
+  pub kept_step : (x y : SessionReply T × SessionState T)
       → SessionsMatched (named_by m.order) m.difference Knows x y
       → x.1.state.given ≡ s.state.given → y.1.state.given ≡ a.state.given → StepMatches x y
   kept_step x y h was e = record {
@@ -160,9 +160,9 @@ module _ {T : Type 0} {s a : SessionState T} (m : Matches s a) where
   -- an answer for which no names were given
   pub settled_step : (x : Call T) (out was : Outcome T)
       → Alike out was → out.1.given ≡ s.state.given → was.1.given ≡ a.state.given
-      → StepMatches (settled s x out) (settled a x was)
+      → StepMatches (settle s x out) (settle a x was)
   settled_step x out was h =
-      kept_step (settled s x out) (settled a x was) (settled_alike m.carries x out was h)
+      kept_step (settle s x out) (settle a x was) (settled_alike m.carries x out was h)
 
   -- what was known is known still
   pub still_known : (names : List Name) (k : Name) → Knows k → More names k
@@ -184,11 +184,11 @@ module _ {T : Type 0} {s a : SessionState T} (m : Matches s a) where
       → CarriesWith names → AreListed (m.order ++ names) given_s
       → AreNumbersBelow (length (m.order ++ names)) given → AlikeWith names out was
       → MadeOrRefused s.state given_s out
-      → MadeOrRefused a.state given was → StepMatches (settled s x out) (settled a x was)
-  made_step x names given_s given out was c listed numbers h of_s of_a = ⊎_elim refused made of_a
+      → MadeOrRefused a.state given was → StepMatches (settle s x out) (settle a x was)
+  made_step x names given_s given out was c add_to_list numbers h of_s of_a = ⊎_elim refused made of_a
     where
       refused : (is_refusal was.0 ≡ true)
-          × (was.1 ≡ a.state) → StepMatches (settled s x out) (settled a x was)
+          × (was.1 ≡ a.state) → StepMatches (settle s x out) (settle a x was)
       refused q =
           let mine = ap is_refusal h.answer
           ∙ (refusal_moved (named_by (m.order ++ names)) m.difference a.state.number was.0
@@ -217,7 +217,7 @@ module _ {T : Type 0} {s a : SessionState T} (m : Matches s a) where
           ∙ (refusal_moved (named_by (m.order ++ names)) m.difference a.state.number was.0
           ∙ ap is_refusal e.1))))) (λ it. it.2) of_s
 
-      made : IsMade given was → StepMatches (settled s x out) (settled a x was)
+      made : IsMade given was → StepMatches (settle s x out) (settle a x was)
       made e =
           let both = settled_alike (session_more names c) x out was h in
           record {
@@ -226,7 +226,7 @@ module _ {T : Type 0} {s a : SessionState T} (m : Matches s a) where
               order = m.order ++ names;
               difference = m.difference;
               carries = both.session;
-              names = subst (AreListed (m.order ++ names)) (sym (made_s e)) listed;
+              names = subst (AreListed (m.order ++ names)) (sym (made_s e)) add_to_list;
               numbers = subst (AreNumbersBelow (length (m.order ++ names))) (sym e.2) numbers;
             };
           }

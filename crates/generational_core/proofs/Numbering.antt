@@ -15,7 +15,7 @@ use Rattle.generational_core.specs.Names.{Name, Names, is_name, among}
 use Rattle.generational_core.specs.Cells.{Cell}
 use Rattle.generational_core.specs.Cells.Content.{Here, Lent}
 use Rattle.generational_core.specs.Cells.Cell.{Value, Shared, Ref}
-use Rattle.generational_core.specs.State.{State, Holding, IsSound}
+use Rattle.generational_core.specs.State.{State, Ownership, IsSound}
 use Rattle.generational_core.specs.Carrying.{Carries, moved_cell, moved_holding}
 use Rattle.generational_core.specs.Numbered.{number, IsNumberBelow, AreNumbersBelow, named_by}
 use Rattle.generational_core.specs.Numbered.{AreListed}
@@ -46,8 +46,8 @@ module _
   names_agree [] k = refl
   names_agree (n ∷ names) k = λ i. agree n k.0 i ∷ names_agree names k.1 i
 
-  holding_agrees : (d : ℕ) (x : Option Holding)
-      → ((y : Holding) → x ≡ Some y → AllByRecursion Knows y.names)
+  holding_agrees : (d : ℕ) (x : Option Ownership)
+      → ((y : Ownership) → x ≡ Some y → AllByRecursion Knows y.names)
       → option_map (moved_holding h d) x ≡ option_map (moved_holding f d) x
   holding_agrees d None k = refl
   holding_agrees d (Some y) k =

@@ -14,17 +14,17 @@ use Rattle.generational_core.specs.Names.{Name, is_name}
 use Rattle.generational_core.specs.Cells.{Cell, Content}
 use Rattle.generational_core.specs.Cells.Content.{Here}
 use Rattle.generational_core.specs.Cells.Cell.{Value, Shared, Ref}
-use Rattle.generational_core.specs.State.{State, Holding, IsSound}
+use Rattle.generational_core.specs.State.{State, Ownership, IsSound}
 use Rattle.generational_core.specs.Boxes.{name_of, has_same_id}
 use Rattle.generational_core.specs.Borrowing.{Trouble, read_trouble, write_trouble, reach}
 use Rattle.generational_core.specs.Borrowing.{content_at}
-use Rattle.generational_core.specs.Ending.{close, hindered, hindrance_at, swept}
+use Rattle.generational_core.specs.Ending.{close, hindrance_to, hindrance_at, sweep}
 use Rattle.generational_core.specs.Records.{count_in, count_under}
 use Rattle.generational_core.specs.Machine.{Action, Answer, Fresh, Outcome, OwnerName, act, unless}
-use Rattle.generational_core.specs.Machine.{born, listed, make_value, make_shared, referred, found}
-use Rattle.generational_core.specs.Machine.{contents, is_known, holding, cloned, let_go, with_owner}
-use Rattle.generational_core.specs.Machine.{read_at, written_at, without_reader, set_at, own_cell}
-use Rattle.generational_core.specs.Machine.{own_name, pointed, turned}
+use Rattle.generational_core.specs.Machine.{add_cell, add_to_list, make_value, make_shared, refer, found}
+use Rattle.generational_core.specs.Machine.{contents, is_known, ownership, clone_owner, release_owner, set_ownership}
+use Rattle.generational_core.specs.Machine.{read_at, write_at, without_reader, set_at, own_cell}
+use Rattle.generational_core.specs.Machine.{own_name, point, turn}
 use Rattle.generational_core.specs.Machine.Action.{Make, MakeShared, Refer, NewOwner, CloneOwner}
 use Rattle.generational_core.specs.Machine.Action.{ReleaseOwner, LeakOwner, Read, Write}
 use Rattle.generational_core.specs.Machine.Action.{ReleaseReader, ReleaseWriter, SetValue, End}
@@ -123,29 +123,29 @@ module _ {T : Type 0} where
 
   -- a name more in a list changes no count
   listed_counts : (S : State T) (o : Option OwnerName) (n : Name) (key : ℕ)
-      → count_under (listed S o n).owners key ≡ count_under S.owners key
+      → count_under (add_to_list S o n).owners key ≡ count_under S.owners key
   listed_counts S None n key = refl
   listed_counts S (Some o) n key =
-      let more = λ (h : Holding). record h { names = h.names ++ n ∷ [] } in
+      let more = λ (h : Ownership). record h { names = h.names ++ n ∷ [] } in
       ⊎_elim (ap count_in) (λ e. ap count_in e.3 ∙ sym (ap count_in e.2))
       (changed_view by_number S.owners o.key more key)
 
   making : (S Q : State T) (call : Action T) (b : GenerationalPointer) (o : Option OwnerName)
-      (n : Name) → Q.owners ≡ S.owners → Counts S call (Made b, listed Q o n)
-  making S Q call b o n same = same_counts S (listed Q o n) call (Made b) (made_none b)
+      (n : Name) → Q.owners ≡ S.owners → Counts S call (Made b, add_to_list Q o n)
+  making S Q call b o n same = same_counts S (add_to_list Q o n) call (Made b) (made_none b)
       (λ key. listed_counts Q o n key ∙ ap (λ owners. count_under owners key) same)
 
   counts_referred : (S : State T) (call : Action T) (o : Option OwnerName)
       (b : GenerationalPointer) (to : Option Name) (target : Option (Cell T)) (n : Name)
-      → Counts S call (referred S o b to target n)
+      → Counts S call (refer S o b to target n)
   counts_referred S call o b (Some m) (Some (Shared c l)) n =
-      making S (born S n (Ref m l)) call _ o n refl
+      making S (add_cell S n (Ref m l)) call _ o n refl
   counts_referred S call o b to target n = refused S call _ refl
 
   -- ---- owners
 
   -- the record of an owner that the store knows
-  holding_is : (S : State T) (o : OwnerName) (h : Holding) → holding S o ≡ Some h
+  holding_is : (S : State T) (o : OwnerName) (h : Ownership) → ownership S o ≡ Some h
       → (o.store ≡ S.number) × (map.get S.owners o.key ≡ Some h)
   holding_is S o h is = split (nat_eq o.store S.number) refl is
     where
@@ -159,12 +159,12 @@ module _ {T : Type 0} where
   none_next : (S : State T) → IsSound S → count_under S.owners S.next ≡ 0
   none_next S sound = split (map.get S.owners S.next) refl
     where
-      split : (h : Option Holding) → map.get S.owners S.next ≡ h → count_under S.owners S.next ≡ 0
+      split : (h : Option Ownership) → map.get S.owners S.next ≡ h → count_under S.owners S.next ≡ 0
       split None e = ap count_in e
       split (Some h) e = let low = sound.keys S.next (ap is_some e) in absurd (omega arith)
 
   -- another record under a key, where that has one more than before, or what is spent of it less
-  recorded : (S R : State T) (call : Action T) (answer : Answer T) (k : ℕ) (h : Holding)
+  recorded : (S R : State T) (call : Action T) (answer : Answer T) (k : ℕ) (h : Ownership)
       → R.owners ≡ map.insert S.owners k h
       → ((o : OwnerName) → answer ≡ Owned o → o.store ≡ S.number)
       → ((key : ℕ) → nat_eq k key ≡ false → gained answer key ≡ 0)
@@ -185,23 +185,23 @@ module _ {T : Type 0} where
 
   counts_new : (S : State T) (f : Fresh) → IsSound S → Counts S NewOwner (act S NewOwner f)
   counts_new S f sound =
-      let h : Holding = record { names = []; count = 1 } in
+      let h : Ownership = record { names = []; count = 1 } in
       recorded S (act S NewOwner f).1 NewOwner (act S NewOwner f).0 S.next h refl (λ o e. cc)
       (λ key e. ap one_if e)
       (let zero = none_next S sound in let one = one_at_most (nat_eq S.next S.next) in omega arith)
 
-  counts_cloned : (S : State T) (o : OwnerName) (h : Option Holding) → holding S o ≡ h
-      → Counts S (CloneOwner o) (cloned S o h)
+  counts_cloned : (S : State T) (o : OwnerName) (h : Option Ownership) → ownership S o ≡ h
+      → Counts S (CloneOwner o) (clone_owner S o h)
   counts_cloned S o None is = refused S (CloneOwner o) (Refused UnknownOwner) refl
   counts_cloned S o (Some h) is =
       let there = holding_is S o h is in
-      recorded S (cloned S o (Some h)).1 (CloneOwner o) (Owned o) o.key
+      recorded S (clone_owner S o (Some h)).1 (CloneOwner o) (Owned o) o.key
       (record h { count = h.count + 1 }) refl (λ p e. cc) (λ key e. ap one_if e)
       (let was : count_under S.owners o.key ≡ h.count = ap count_in there.1 in
       let one = one_at_most (nat_eq o.key o.key) in omega arith)
 
-  counts_released : (S : State T) (o : OwnerName) (h : Option Holding) → holding S o ≡ h
-      → Counts S (ReleaseOwner o) (let_go S o h)
+  counts_released : (S : State T) (o : OwnerName) (h : Option Ownership) → ownership S o ≡ h
+      → Counts S (ReleaseOwner o) (release_owner S o h)
   counts_released S o None is = refused S (ReleaseOwner o) (Refused UnknownOwner) refl
   counts_released S o (Some h) is = split (nat_lt 1 h.count) refl
     where
@@ -212,7 +212,7 @@ module _ {T : Type 0} where
       one = ap one_if (nat_eq_equiv.refl o.key)
 
       fewer : State T
-      fewer = with_owner S o.key (record h { count = h.count - 1 })
+      fewer = set_ownership S o.key (record h { count = h.count - 1 })
 
       left : State T
       left = record (close S h.names) { owners = map.remove S.owners o.key }
@@ -231,11 +231,11 @@ module _ {T : Type 0} where
       }
 
       split : (b : Bool) → nat_lt 1 h.count ≡ b → Counts S (ReleaseOwner o)
-          (cond b (Done, fewer) (unless (hindered S h.names) S (Done, left)))
+          (cond b (Done, fewer) (unless (hindrance_to S h.names) S (Done, left)))
       split true e = recorded S fewer (ReleaseOwner o) Done o.key
           (record h { count = h.count - 1 }) refl (λ p e. cc) (λ key e. refl)
           (let w = was in let u = one in omega arith)
-      split false e = counts_unless S (ReleaseOwner o) (hindered S h.names) (Done, left) (last e)
+      split false e = counts_unless S (ReleaseOwner o) (hindrance_to S h.names) (Done, left) (last e)
 
   -- ---- borrows, ends and turns
 
@@ -246,7 +246,7 @@ module _ {T : Type 0} where
   counts_read S call l m c = quiet S S call Done done_none refl
 
   counts_write : (S : State T) (call : Action T) (l : Location) (m : Option Name)
-      (c : Option (Content T)) → Counts S call (written_at S l m c)
+      (c : Option (Content T)) → Counts S call (write_at S l m c)
   counts_write S call l (Some m) (Some (Here v readers)) =
       quiet S _ call (Writes _ v) (λ key. refl, λ o e. cc) refl
   counts_write S call l m c = quiet S S call Done done_none refl
@@ -264,9 +264,9 @@ module _ {T : Type 0} where
   unread_owners S n t c = refl
 
   counts_turned : (S : State T) (call : Action T) (a old new : Name) (l : Location)
-      → Counts S call (turned S a old new l)
+      → Counts S call (turn S a old new l)
   counts_turned S call a old new l =
-      let left = swept (map.insert S.cells a (Ref new l)) in
+      let left = sweep (map.insert S.cells a (Ref new l)) in
       let after : State T = record S { cells = left } in
       counts_if S call (is_name old new) (Done, S)
       (unless (hindrance_at S.cells left old) S (Done, after)) (quiet S S call Done done_none refl)
@@ -275,7 +275,7 @@ module _ {T : Type 0} where
 
   counts_pointed : (S : State T) (call : Action T) (a b : GenerationalPointer)
       (cell : Option (Cell T)) (to : Option Name) (target : Option (Cell T))
-      → Counts S call (pointed S a b cell to target)
+      → Counts S call (point S a b cell to target)
   counts_pointed S call a b None to target = refused S call _ refl
   counts_pointed S call a b (Some (Ref old l)) (Some new) (Some (Shared c k)) =
       counts_turned S call (name_of a) old new l
@@ -286,20 +286,20 @@ module _ {T : Type 0} where
   pub act_counts : (S : State T) (call : Action T) (f : Fresh) → IsSound S
       → Counts S call (act S call f)
   act_counts S (Make o v l) f sound = counts_if S (Make o v l) (is_known S o)
-      (make_value S o v l f.first) _ (making S (born S f.first (Value (Here v []) l))
+      (make_value S o v l f.first) _ (making S (add_cell S f.first (Value (Here v []) l))
       (Make o v l) _ o f.first refl) (refused S (Make o v l) _ refl)
   act_counts S (MakeShared o v l) f sound =
-      let shared = born S f.first (Shared (Here v []) l) in
+      let shared = add_cell S f.first (Shared (Here v []) l) in
       counts_if S (MakeShared o v l) (is_known S o) (make_shared S o v l f) _
-      (making S (born shared f.second (Ref f.first l)) (MakeShared o v l) _ o f.second refl)
+      (making S (add_cell shared f.second (Ref f.first l)) (MakeShared o v l) _ o f.second refl)
       (refused S (MakeShared o v l) _ refl)
   act_counts S (Refer o b) f sound = counts_if S (Refer o b) (is_known S o) _ _
       (counts_unless S (Refer o b) (read_trouble S b) _
       (counts_referred S (Refer o b) o b (reach S b) (found S (reach S b)) f.first))
       (refused S (Refer o b) _ refl)
   act_counts S NewOwner f sound = counts_new S f sound
-  act_counts S (CloneOwner o) f sound = counts_cloned S o (holding S o) refl
-  act_counts S (ReleaseOwner o) f sound = counts_released S o (holding S o) refl
+  act_counts S (CloneOwner o) f sound = counts_cloned S o (ownership S o) refl
+  act_counts S (ReleaseOwner o) f sound = counts_released S o (ownership S o) refl
   act_counts S (LeakOwner o) f sound = quiet S S (LeakOwner o) Done done_none refl
   act_counts S (Read b l) f sound = counts_unless S (Read b l) (read_trouble S b) _
       (counts_read S (Read b l) l (reach S b) (contents S (reach S b)))
@@ -314,7 +314,7 @@ module _ {T : Type 0} where
       (quiet S S (ReleaseWriter g v) (Back v) (λ key. refl, λ o e. cc) refl)
   act_counts S (SetValue b v) f sound =
       counts_set S (SetValue b v) b v (reach S b) (contents S (reach S b))
-  act_counts S (End b) f sound = counts_unless S (End b) (hindered S (own_name S b)) _
+  act_counts S (End b) f sound = counts_unless S (End b) (hindrance_to S (own_name S b)) _
       (quiet S (close S (own_name S b)) (End b) Done done_none refl)
   act_counts S (Point a b) f sound = counts_if S (Point a b) (has_same_id a b) (Done, S) _
       (quiet S S (Point a b) Done done_none refl) (counts_unless S (Point a b) (read_trouble S b) _

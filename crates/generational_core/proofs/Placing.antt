@@ -21,9 +21,9 @@ use Rattle.generational_core.specs.Machine.Answer.{Troubled, Refused}
 use Rattle.generational_core.specs.Records.{count_under}
 use Rattle.generational_core.specs.Steps.{Meets}
 use Rattle.generational_core.specs.Session.{SessionState, Held}
-use Rattle.generational_core.specs.Session.{held, gives}
+use Rattle.generational_core.specs.Session.{at_place, gives}
 use Rattle.generational_core.specs.Session.Held.{Boxed, Reading, Writing, Owning, Nothing}
-use Rattle.generational_core.specs.Holding.{IsKept, holds_owner}
+use Rattle.generational_core.specs.SoundSession.{IsSoundSession, holds_owner}
 use Rattle.generational_core.proofs.Saying.{IsNewBox}
 use Rattle.generational_core.proofs.Stepping.{meets_sound, meets_number, meets_given}
 use Rattle.generational_core.proofs.Stepping.{meets_says, reads_known, writes_known, reader_stays}
@@ -39,13 +39,13 @@ module _ {T : Type 0} where
       → has_reader c t ≡ true → list_any (nat_eq t) (tickets_of c) ≡ true
   reader_stands None t h = h
   reader_stands (Some (Lent w)) t h = absurd (true≢false (sym h))
-  reader_stands (Some (Here v readers)) t h = turned readers ∙ h
+  reader_stands (Some (Here v readers)) t h = turn readers ∙ h
     where
-      turned : (readers : List Borrow)
+      turn : (readers : List Borrow)
           → list_any (nat_eq t) (list_map (λ (r : Borrow). r.ticket) readers)
           ≡ list_any (λ r. nat_eq r.ticket t) readers
-      turned [] = refl
-      turned (r ∷ readers) = λ i. nat_eq_equiv.symm t r.ticket i || turned readers i
+      turn [] = refl
+      turn (r ∷ readers) = λ i. nat_eq_equiv.symm t r.ticket i || turn readers i
 
   writer_stands : (c : Option (Content T)) (t : ℕ)
       → has_writer c t ≡ true → list_any (nat_eq t) (tickets_of c) ≡ true
@@ -97,7 +97,7 @@ module _ {T : Type 0} where
   -- each place of a table is empty, or holds what it held and what the call doesn't spend
   abbrev pub Remains : Action T → List (Held T) → List (Held T) → Type 0
   Remains action old new =
-      (p : ℕ) → (held new p ≡ Nothing) ⊎ ((held new p ≡ held old p) × Unspent action (held old p))
+      (p : ℕ) → (at_place new p ≡ Nothing) ⊎ ((at_place new p ≡ at_place old p) × Unspent action (at_place old p))
 
   -- no more owners are held than before, and those that the call spends aren't
   abbrev pub Spends : Action T → Answer T → List (Held T) → List (Held T) → Type 0
@@ -125,13 +125,13 @@ module _ {T : Type 0} where
   gives_counted (Refused e) key = refl
 
   -- what a call leaves is kept, where its table has what remains, and at the end what was given
-  module _ (s : SessionState T) (kept : IsKept s)
+  module _ (s : SessionState T) (kept : IsSoundSession s)
       (action : Action T) (answer : Answer T) (R : State T) (meets : Meets s.state action answer R)
       (table : List (Held T)) (remains : Remains action s.table table)
       (spends : Spends action answer s.table table) where
     -- what a place holds was there before, or was given now
-    place : (p : ℕ) (x : Held T) → held (table ++ gives answer ∷ []) p ≡ x → x ≢ Nothing
-        → ((held s.table p ≡ x) × Unspent action x) ⊎ ((p ≡ length table) × (gives answer ≡ x))
+    place : (p : ℕ) (x : Held T) → at_place (table ++ gives answer ∷ []) p ≡ x → x ≢ Nothing
+        → ((at_place s.table p ≡ x) × Unspent action x) ⊎ ((p ≡ length table) × (gives answer ≡ x))
     place p x is some =
         ⊎_elim
         (λ e. ⊎_elim (λ none. absurd (some (sym is ∙ (e ∙ none))))
@@ -139,8 +139,8 @@ module _ {T : Type 0} where
         inl (same, subst (Unspent action) same old.1)) (remains p))
         (λ e. inr (e.0, sym e.1 ∙ is)) (held_pushed table (gives answer) p)
 
-    box_place : (p : ℕ) (b : GenerationalPointer) → held (table ++ gives answer ∷ []) p ≡ Boxed b
-        → (held s.table p ≡ Boxed b) ⊎ ((p ≡ length table) × IsNewBox s.state R b)
+    box_place : (p : ℕ) (b : GenerationalPointer) → at_place (table ++ gives answer ∷ []) p ≡ Boxed b
+        → (at_place s.table p ≡ Boxed b) ⊎ ((p ≡ length table) × IsNewBox s.state R b)
     box_place p b is =
         ⊎_elim (λ e. inl e.0)
         (λ e. inr (
@@ -159,8 +159,8 @@ module _ {T : Type 0} where
     NewWriter g =
         (knows_writer R g ≡ true) × (g.ticket ≡ s.state.next) × (R.next ≡ s.state.next + 1)
 
-    reader_place : (p : ℕ) (g : Guard) → held (table ++ gives answer ∷ []) p ≡ Reading g
-        → ((held s.table p ≡ Reading g) × (knows_reader R g ≡ true))
+    reader_place : (p : ℕ) (g : Guard) → at_place (table ++ gives answer ∷ []) p ≡ Reading g
+        → ((at_place s.table p ≡ Reading g) × (knows_reader R g ≡ true))
         ⊎ ((p ≡ length table) × NewReader g)
     reader_place p g is =
         ⊎_elim (λ e. inl
@@ -172,8 +172,8 @@ module _ {T : Type 0} where
         ))
         (place p (Reading g) is (λ none. cc))
 
-    writer_place : (p : ℕ) (g : Guard) (v : T) → held (table ++ gives answer ∷ []) p ≡ Writing g v
-        → ((held s.table p ≡ Writing g v) × (knows_writer R g ≡ true))
+    writer_place : (p : ℕ) (g : Guard) (v : T) → at_place (table ++ gives answer ∷ []) p ≡ Writing g v
+        → ((at_place s.table p ≡ Writing g v) × (knows_writer R g ≡ true))
         ⊎ ((p ≡ length table) × NewWriter g)
     writer_place p g v is =
         ⊎_elim (λ e. inl
@@ -187,19 +187,19 @@ module _ {T : Type 0} where
 
     -- a box that was there has another name than a new one
     old_box : (p : ℕ) (b c : GenerationalPointer)
-        → held s.table p ≡ Boxed b → IsNewBox s.state R c → name_of b ≡ name_of c → ⊥
+        → at_place s.table p ≡ Boxed b → IsNewBox s.state R c → name_of b ≡ name_of c → ⊥
     old_box p b c is new same =
         true≢false (sym (kept.given p b is) ∙ (ap (set.contains s.state.given) same ∙ new.fresh))
 
     old_reader : (p : ℕ) (g h : Guard)
-        → held s.table p ≡ Reading g → NewReader h → g.ticket ≡ h.ticket → ⊥
+        → at_place s.table p ≡ Reading g → NewReader h → g.ticket ≡ h.ticket → ⊥
     old_reader p g h is new same =
         let low = reader_below s.state g kept.sound (kept.readers p g is) in
         let next = new.1 in
         omega arith
 
     old_writer : (p : ℕ) (g h : Guard) (v : T)
-        → held s.table p ≡ Writing g v → NewWriter h → g.ticket ≡ h.ticket → ⊥
+        → at_place s.table p ≡ Writing g v → NewWriter h → g.ticket ≡ h.ticket → ⊥
     old_writer p g h v is new same =
         let low = writer_below s.state g kept.sound (kept.writers p g v is) in
         let next = new.1 in
@@ -208,7 +208,7 @@ module _ {T : Type 0} where
     counts : Counts s.state action (answer, R)
     counts = meets_counts s.state R action answer kept.sound meets
 
-    owner_place : (p : ℕ) (o : OwnerName) → held (table ++ gives answer ∷ []) p ≡ Owning o
+    owner_place : (p : ℕ) (o : OwnerName) → at_place (table ++ gives answer ∷ []) p ≡ Owning o
         → o.store ≡ s.state.number
     owner_place p o is = ⊎_elim (λ e. kept.owners p o e.0)
         (λ e. counts.own o (gives_owner answer o e.1)) (place p (Owning o) is (λ none. cc))
@@ -223,7 +223,7 @@ module _ {T : Type 0} where
         let by = counts.counted key in
         omega arith
 
-    pub kept_after : IsKept
+    pub kept_after : IsSoundSession
         (let r : SessionState T = record { state = R; table = table ++ gives answer ∷ [] } in r)
     kept_after = record {
       sound = meets_sound s.state R action answer kept.sound meets;

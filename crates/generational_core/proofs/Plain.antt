@@ -10,7 +10,7 @@ use Rattle.std.specs.FinMap as map
 use Rattle.std.specs.FinSet as set
 use Rattle.generational_core.specs.Names.{Name, NameMap, name_cmp}
 use Rattle.generational_core.specs.Cells.{Cell}
-use Rattle.generational_core.specs.State.{State, Holding}
+use Rattle.generational_core.specs.State.{State, Ownership}
 use Rattle.generational_core.specs.Machine.{Action, Fresh, act}
 use Rattle.generational_core.specs.Machine.Action.{Make, MakeShared, Refer, Read, Write}
 use Rattle.generational_core.specs.Machine.Action.{ReleaseReader, ReleaseWriter, SetValue, End}
@@ -69,7 +69,7 @@ any_listed : (names : List Name) → AllByRecursion Any names
 any_listed [] = tt
 any_listed (n ∷ names) = (tt, any_listed names)
 
-same_holding : (h : Option Holding) → option_map (moved_holding same_name 0) h ≡ h
+same_holding : (h : Option Ownership) → option_map (moved_holding same_name 0) h ≡ h
 same_holding None = refl
 same_holding (Some h) = ap (λ ns. Some (record h { names = ns })) (same_names h.names)
 

@@ -13,7 +13,7 @@ use Rattle.generational_core.specs.Cells.Cell.{Shared}
 use Rattle.generational_core.specs.State.{State}
 use Rattle.generational_core.specs.Borrowing.{reach}
 use Rattle.generational_core.specs.Borrowing.Trouble.{Dropped, BeingRead, BeingWritten}
-use Rattle.generational_core.specs.Machine.{Action, Answer, Fresh, Outcome, act, born, contents}
+use Rattle.generational_core.specs.Machine.{Action, Answer, Fresh, Outcome, act, add_cell, contents}
 use Rattle.generational_core.specs.Machine.Action.{Make, MakeShared, Refer, NewOwner, CloneOwner}
 use Rattle.generational_core.specs.Machine.Action.{ReleaseOwner, LeakOwner, Read, Write}
 use Rattle.generational_core.specs.Machine.Action.{ReleaseReader, ReleaseWriter, SetValue, End}
@@ -22,7 +22,7 @@ use Rattle.generational_core.specs.Machine.Answer.{Made, Owned, Reads, Writes, D
 use Rattle.generational_core.specs.Machine.Answer.{Troubled, Refused}
 use Rattle.generational_core.specs.Slots.{Fits, free, is_free, slots_of, last_name}
 use Rattle.generational_core.specs.Slots.{last_generation}
-use Rattle.generational_core.specs.Steps.{IsNew, AreNew, Takes, Meets, limited, takes_ticket}
+use Rattle.generational_core.specs.Steps.{IsNew, AreNew, Takes, Meets, limit_tickets, takes_ticket}
 use Rattle.generational_core.specs.Steps.{is_made, is_reader, is_being_read, has_readers, answer_to}
 use Rattle.generational_core.specs.Steps.{may_lack, no_names}
 use Rattle.generational_core.specs.Carrying.{moved_content, moved_cell}
@@ -91,12 +91,12 @@ module _ {T : Type 0} where
   plain_out out = (plain_answer out.0, plain out.1)
 
   plain_limited : (S : State T) (call : Action T) (new : Fresh)
-      → limited (plain S) (act (plain S) (plain_call call) new)
-      ≡ plain_out (limited S (act S call new))
+      → limit_tickets (plain S) (act (plain S) (plain_call call) new)
+      ≡ plain_out (limit_tickets S (act S call new))
   plain_limited S call new =
       let out = act S call new in
       let last = nat_eq S.next (2 ^ 64 - 1) in
-      ap (limited (plain S)) (plain_act S call new)
+      ap (limit_tickets (plain S)) (plain_act S call new)
       ∙ (ap (λ b. cond (b && last) (Refused NumbersExhausted, plain S) (plain_out out))
       (plain_ticket out.0) ∙ moved (takes_ticket out.0 && last) out)
     where
@@ -128,9 +128,9 @@ module _ {T : Type 0} where
   plain_new S n new = record { fresh = new.fresh; fits = plain_fits S n new.fits }
 
   plain_born : (S : State T) (n : Name) (c : Cell T)
-      → born (plain S) n (moved_cell same_name 0 bare c) ≡ plain (born S n c)
-  plain_born S n c = plain_from (born (plain S) n (moved_cell same_name 0 bare c))
-      (born S n c) (with_born (carries_plain S) n c tt (λ m l e. tt)) refl
+      → add_cell (plain S) n (moved_cell same_name 0 bare c) ≡ plain (add_cell S n c)
+  plain_born S n c = plain_from (add_cell (plain S) n (moved_cell same_name 0 bare c))
+      (add_cell S n c) (with_born (carries_plain S) n c tt (λ m l e. tt)) refl
 
   plain_are_new : (S : State T) (call : Action T) (f : Fresh)
       → AreNew S call f → AreNew (plain S) (plain_call call) f
@@ -139,7 +139,7 @@ module _ {T : Type 0} where
       let cell : Cell T = Shared (Here v []) l in (
         plain_new S f.first new.0,
         subst (λ R. IsNew R f.second)
-            (sym (plain_born S f.first cell)) (plain_new (born S f.first cell) f.second new.1),
+            (sym (plain_born S f.first cell)) (plain_new (add_cell S f.first cell) f.second new.1),
       )
   plain_are_new S (Refer o b) f new = plain_new S f.first new
   plain_are_new S NewOwner f new = tt

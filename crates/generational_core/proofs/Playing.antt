@@ -10,16 +10,16 @@ use Rattle.generational_core.specs.declared.error.StoreError.TheVariants.{Number
 use Rattle.generational_core.specs.declared.boxes.GenerationalPointer.{GenerationalPointer}
 use Rattle.generational_core.specs.Names.{Name, NameMap}
 use Rattle.generational_core.specs.Cells.{Cell}
-use Rattle.generational_core.specs.State.{State, Holding, fresh}
+use Rattle.generational_core.specs.State.{State, Ownership, fresh}
 use Rattle.generational_core.specs.Borrowing.{Guard}
 use Rattle.generational_core.specs.Machine.{Action, Answer, Fresh, Outcome, act}
 use Rattle.generational_core.specs.Machine.Answer.{Made, Refused}
 use Rattle.generational_core.specs.Slots.{slots_of, last_generation}
-use Rattle.generational_core.specs.Steps.{limited, takes_ticket, no_names}
+use Rattle.generational_core.specs.Steps.{limit_tickets, takes_ticket, no_names}
 use Rattle.generational_core.proofs.Bounding.{no_slots}
 use Rattle.generational_core.proofs.Entries.{entries, names_none, numbers_none}
 use Rattle.generational_core.proofs.Lasts.{lasts_insert}
-use Rattle.generational_core.proofs.Rows.{Line, Told, Ask, Tells, play, lines_of, opened, counted}
+use Rattle.generational_core.proofs.Rows.{Line, Told, Ask, Tells, play, lines_of, value_behind, counted}
 use Rattle.generational_core.proofs.Rows.{name}
 use Rattle.generational_core.proofs.Rows.Line.{Call, Open, Count}
 use Rattle.generational_core.proofs.Rows.Told.{Says, Opens, Counts}
@@ -54,12 +54,12 @@ module _ {T : Type 0} where
       let out : Outcome T = limit b (Refused NumbersExhausted, S) (answer, R) in
       tells_both S out.1 (Call a f) (Says out.0) (Says out.0) row
       (ap (λ (x : Outcome T). Says x.0 ∷ (play x.1 (lines_of row)).0)
-      (ap (limited S) e ∙ ap (λ c. limit c (Refused NumbersExhausted, S) (answer, R)) h))
+      (ap (limit_tickets S) e ∙ ap (λ c. limit c (Refused NumbersExhausted, S) (answer, R)) h))
       refl
 
   -- ---- from states that are written out
 
-  abbrev pub stage : List (Name × Cell T) → List Name → List (ℕ × Holding) → ℕ → ℕ → State T
+  abbrev pub stage : List (Name × Cell T) → List Name → List (ℕ × Ownership) → ℕ → ℕ → State T
   stage cells given owners next peak = record {
     number = 7;
     cells = map.from_sorted cells;
@@ -80,7 +80,7 @@ module _ {T : Type 0} where
       (map.len (map.retain_keys m (λ s. ended s && not (more s)))) (map.len S.cells) S.peak
 
   -- a row from the state with these entries
-  pub record Goes (cells : List (Name × Cell T)) (given : List Name) (owners : List (ℕ × Holding))
+  pub record Goes (cells : List (Name × Cell T)) (given : List Name) (owners : List (ℕ × Ownership))
       (next peak : ℕ) (row : List (Line T × Told T)) : Type 0 where
     pub tells : Tells (stage cells given owners next peak) row
 
@@ -88,10 +88,10 @@ module _ {T : Type 0} where
   abbrev pub Comes : State T → Action T → Fresh → Answer T → State T → Type 0
   Comes S a f answer R = (out : Outcome T) → out ≡ act S a f → out ≡ (answer, R)
 
-  module _ {cells : List (Name × Cell T)} {given : List Name} {owners : List (ℕ × Holding)}
+  module _ {cells : List (Name × Cell T)} {given : List Name} {owners : List (ℕ × Ownership)}
       {next peak : ℕ} {row : List (Line T × Told T)} where
     -- a making of a cell, with the peak after it
-    pub makes : (peak' : ℕ) {cells' : List (Name × Cell T)} {owners' : List (ℕ × Holding)}
+    pub makes : (peak' : ℕ) {cells' : List (Name × Cell T)} {owners' : List (ℕ × Ownership)}
         {a : Action T} {f : Fresh} {b : GenerationalPointer}
         → Comes (stage cells given owners next peak) a f (Made b)
         (stage cells' (f.first ∷ given) owners' next peak')
@@ -102,7 +102,7 @@ module _ {T : Type 0} where
     }
 
     -- a making of two cells
-    pub shares : (peak' : ℕ) {cells' : List (Name × Cell T)} {owners' : List (ℕ × Holding)}
+    pub shares : (peak' : ℕ) {cells' : List (Name × Cell T)} {owners' : List (ℕ × Ownership)}
         {a : Action T} {f : Fresh} {b : GenerationalPointer}
         → Comes (stage cells given owners next peak) a f (Made b)
         (stage cells' (f.second ∷ f.first ∷ given) owners' next peak')
@@ -113,7 +113,7 @@ module _ {T : Type 0} where
     }
 
     -- another call, with the next ticket after it
-    pub call : (next' : ℕ) {cells' : List (Name × Cell T)} {owners' : List (ℕ × Holding)}
+    pub call : (next' : ℕ) {cells' : List (Name × Cell T)} {owners' : List (ℕ × Ownership)}
         {a : Action T} {answer : Answer T}
         → Comes (stage cells given owners next peak) a no_names answer
         (stage cells' given owners' next' peak)
@@ -124,17 +124,17 @@ module _ {T : Type 0} where
     }
 
     -- a call that would take a ticket where none is left
-    pub spent : {R : State T} {a : Action T} {answer : Answer T}
+    pub spend : {R : State T} {a : Action T} {answer : Answer T}
         → Comes (stage cells given owners next peak) a no_names answer R
         → is_short answer next ≡ true → Goes cells given owners next peak row
         → Goes cells given owners next peak ((Ask a, Says (Refused NumbersExhausted)) ∷ row)
-    spent {a = a} {answer = answer} e h rest = record {
+    spend {a = a} {answer = answer} e h rest = record {
       tells = heard _ _ a no_names answer true row (e _ refl) h rest.tells;
     }
 
     -- a look through a guard
     pub look : {guard : Guard} {value : Option T}
-        → opened (stage cells given owners next peak) guard ≡ value
+        → value_behind (stage cells given owners next peak) guard ≡ value
         → Goes cells given owners next peak row
         → Goes cells given owners next peak ((Open guard, Opens value) ∷ row)
     look {guard = guard} {value = value} e rest = record {
@@ -142,30 +142,30 @@ module _ {T : Type 0} where
     }
 
     -- a row goes on from cells and records that are written out anew
-    pub here : (cells' : List (Name × Cell T)) (owners' : List (ℕ × Holding))
+    pub here : (cells' : List (Name × Cell T)) (owners' : List (ℕ × Ownership))
         → cells ≡ cells' → owners ≡ owners'
         → Goes cells' given owners' next peak row → Goes cells given owners next peak row
     here cells' owners' c o rest = subst (λ x. Goes x given owners next peak row) (sym c)
         (subst (λ x. Goes cells' given x next peak row) (sym o) rest)
 
     -- the counts, once the slots are computed
-    pub count : {told : Told T} {m : map.FinMap nat_cmp ℕ}
+    pub count : {tell : Told T} {m : map.FinMap nat_cmp ℕ}
         → ((x : map.FinMap nat_cmp ℕ) → x ≡ slots_of (stage cells given owners next peak) → x ≡ m)
-        → counted_by (stage cells given owners next peak) m ≡ told
+        → counted_by (stage cells given owners next peak) m ≡ tell
         → Goes cells given owners next peak row
-        → Goes cells given owners next peak ((Count, told) ∷ row)
-    count {told = told} f e rest =
+        → Goes cells given owners next peak ((Count, tell) ∷ row)
+    count {tell = tell} f e rest =
         let S = stage cells given owners next peak in record {
-          tells = tells_both S S Count (counted S) told row refl
+          tells = tells_both S S Count (counted S) tell row refl
               (ap (counted_by S) (f (slots_of S) refl) ∙ e) rest.tells;
         }
 
-  pub done : {cells : List (Name × Cell T)} {given : List Name} {owners : List (ℕ × Holding)}
+  pub done : {cells : List (Name × Cell T)} {given : List Name} {owners : List (ℕ × Ownership)}
       {next peak : ℕ} → Goes cells given owners next peak []
   done = record { tells = record { same = refl } }
 
   -- a state in which nothing was made, but for its maps
-  abbrev begun : ℕ → NameMap (Cell T) → map.FinMap nat_cmp Holding → State T
+  abbrev begun : ℕ → NameMap (Cell T) → map.FinMap nat_cmp Ownership → State T
   begun next cells owners = record (fresh 7 1 next) { cells = cells; owners = owners }
 
   -- a row from a state in which nothing was ever made

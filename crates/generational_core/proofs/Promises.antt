@@ -10,25 +10,25 @@ use Rattle.generational_core.specs.declared.error.StoreError.{StoreError}
 use Rattle.generational_core.specs.declared.boxes.GenerationalPointer.{GenerationalPointer}
 use Rattle.generational_core.specs.declared.calls.Call.{Call}
 use Rattle.generational_core.specs.declared.calls.Call.TheVariants as call
-use Rattle.generational_core.specs.State.{State, Holding, IsSound, IsGiven, IsEnded, IsNamed}
+use Rattle.generational_core.specs.State.{State, Ownership, IsSound, IsGiven, IsEnded, IsNamed}
 use Rattle.generational_core.specs.Boxes.{name_of}
 use Rattle.generational_core.specs.Borrowing.{Trouble, reach}
 use Rattle.generational_core.specs.Borrowing.Trouble.{Dropped}
 use Rattle.generational_core.specs.Machine.{Action, Answer, Fresh, Outcome, OwnerName, act}
-use Rattle.generational_core.specs.Machine.{contents, read_at, written_at, unless}
+use Rattle.generational_core.specs.Machine.{contents, read_at, write_at, unless}
 use Rattle.generational_core.specs.Machine.Action.{Read, Write}
 use Rattle.generational_core.specs.Machine.Answer.{Made, Owned, Reads, Writes, Done, Old, Flag, Back}
 use Rattle.generational_core.specs.Machine.Answer.{Troubled, Refused}
-use Rattle.generational_core.specs.Steps.{Meets, limited, may_lack, is_reader, is_being_read}
+use Rattle.generational_core.specs.Steps.{Meets, limit_tickets, may_lack, is_reader, is_being_read}
 use Rattle.generational_core.specs.Steps.{has_readers, no_names}
 use Rattle.generational_core.specs.Releasing.{IsReleased, AreEnded}
-use Rattle.generational_core.specs.Session.{SessionState, Held, Said, Asked, Settles, SessionStep}
-use Rattle.generational_core.specs.Session.{Run, box_in, owner_in, held, with_box, with_owner}
-use Rattle.generational_core.specs.Session.{asked, said, released, replaced, refusal}
-use Rattle.generational_core.specs.Session.Asked.{Asks, Tells, Swaps}
+use Rattle.generational_core.specs.Session.{SessionState, Held, SessionReply, Request, Settles, SessionStep}
+use Rattle.generational_core.specs.Session.{Run, box_in, owner_in, at_place, with_box, with_owner}
+use Rattle.generational_core.specs.Session.{ask, reply_of, release, replace, refusal}
+use Rattle.generational_core.specs.Session.Request.{Asks, Tells, Swaps}
 use Rattle.generational_core.specs.Session.Held.{Reading, Writing}
-use Rattle.generational_core.specs.Session.Said.{ABox, IsDone}
-use Rattle.generational_core.specs.Holding.{IsKept}
+use Rattle.generational_core.specs.Session.SessionReply.{ABox, IsDone}
+use Rattle.generational_core.specs.SoundSession.{IsSoundSession}
 use Rattle.generational_core.specs.Replies.{TellsEnds, GivesNewBox}
 use Rattle.generational_core.specs.Replies.{EndsOwned, KeepsPromises}
 use Rattle.generational_core.specs.Replies.{AllKeepPromises}
@@ -47,7 +47,7 @@ module _ {T : Type 0} where
       → ((new : Fresh) → act S action new ≡ (Troubled t, S)) → may_lack S action ≡ false
       → Meets S action answer R → answer ≡ Troubled t
   one_trouble S R action t answer meets able (inl m) = ap (λ (out : Outcome T). out.0) m.2
-      ∙ ap (λ (out : Outcome T). (limited S out).0) (meets m.0)
+      ∙ ap (λ (out : Outcome T). (limit_tickets S out).0) (meets m.0)
   one_trouble S R action t answer meets able (inr m) = absurd (true≢false (sym m.0 ∙ able))
 
   read_told : (S R : State T) (b : GenerationalPointer) (l : Location) (answer : Answer T)
@@ -57,32 +57,32 @@ module _ {T : Type 0} where
       let acts = λ (new : Fresh). ap (λ o. unless o S (read_at S l (reach S b)
       (contents S (reach S b)))) (ended_read S b ended) in
       one_trouble S R (Read b l) (Dropped b.created_at) answer acts
-      (ap (λ (out : Outcome T). is_reader (limited S out).0
+      (ap (λ (out : Outcome T). is_reader (limit_tickets S out).0
       && has_readers (contents S (reach S b))) (acts no_names))
 
   write_told : (S R : State T) (b : GenerationalPointer) (l : Location) (answer : Answer T)
       → IsEnded S (name_of b) → Meets S (Write b l) answer R
       → answer ≡ Troubled (Dropped b.created_at)
   write_told S R b l answer ended =
-      let acts = λ (new : Fresh). ap (λ o. unless o S (written_at S l (reach S b)
+      let acts = λ (new : Fresh). ap (λ o. unless o S (write_at S l (reach S b)
       (contents S (reach S b)))) (ended_write S b ended) in
       one_trouble S R (Write b l) (Dropped b.created_at) answer acts
-      (ap (λ (out : Outcome T). is_being_read (limited S out).0) (acts no_names))
+      (ap (λ (out : Outcome T). is_being_read (limit_tickets S out).0) (acts no_names))
 
   -- a call of a box that a place or the caller names
-  with_box_is : (s r : SessionState T) (c : Call T) (x : Said T) (b : GenerationalPointer)
-      (o : Option GenerationalPointer) (next : GenerationalPointer → Asked T) → o ≡ Some b
+  with_box_is : (s r : SessionState T) (c : Call T) (x : SessionReply T) (b : GenerationalPointer)
+      (o : Option GenerationalPointer) (next : GenerationalPointer → Request T) → o ≡ Some b
       → Settles s c (with_box o None next) x r → Settles s c (next b) x r
   with_box_is s r c x b o next is step =
       subst (λ o. Settles s c (with_box o None next) x r) is step
 
   -- what is said of an answer
-  said_as : (s r : SessionState T) (c : Call T) (x : Said T) (action : Action T) (answer : Answer T)
-      (step : Settles s c (Asks action) x r) → step.0 ≡ answer → x ≡ said c answer
+  said_as : (s r : SessionState T) (c : Call T) (x : SessionReply T) (action : Action T) (answer : Answer T)
+      (step : Settles s c (Asks action) x r) → step.0 ≡ answer → x ≡ reply_of c answer
   said_as s r c x action answer step is =
-      ap (λ (out : Said T × SessionState T). out.0) step.3 ∙ ap (said c) is
+      ap (λ (out : SessionReply T × SessionState T). out.0) step.3 ∙ ap (reply_of c) is
 
-  pub tells_ends : (s r : SessionState T) (c : Call T) (x : Said T)
+  pub tells_ends : (s r : SessionState T) (c : Call T) (x : SessionReply T)
       → SessionStep s c x r → TellsEnds s c x
   tells_ends s r (call.TryRead p l) x step b borrows ended =
       let it = with_box_is s r (call.TryRead p l) x b (box_in s p) (λ b. Asks (Read b l))
@@ -99,12 +99,12 @@ module _ {T : Type 0} where
   -- ---- new boxes
 
   -- what is told at once is no box
-  abbrev NoBox : Asked T → Type 0
+  abbrev NoBox : Request T → Type 0
   NoBox (Tells x) = (b : GenerationalPointer) → x ≢ ABox b
   NoBox _ = Unit {0}
 
   no_box_of : (o : Option GenerationalPointer) (back : Option T)
-      (next : GenerationalPointer → Asked T) → ((b : GenerationalPointer) → NoBox (next b))
+      (next : GenerationalPointer → Request T) → ((b : GenerationalPointer) → NoBox (next b))
       → NoBox (with_box o back next)
   no_box_of None back next h = λ b e. cc
   no_box_of (Some b) back next h = h b
@@ -114,16 +114,16 @@ module _ {T : Type 0} where
   no_box_by None back next = λ b e. cc
   no_box_by (Some o) back next = tt
 
-  no_box_released : (h : Held T) → NoBox (released h)
+  no_box_released : (h : Held T) → NoBox (release h)
   no_box_released (Reading g) = tt
   no_box_released (Writing g v) = tt
   no_box_released _ = λ b e. cc
 
-  no_box_replaced : (p : ℕ) (h : Held T) (v : T) → NoBox (replaced p h v)
+  no_box_replaced : (p : ℕ) (h : Held T) (v : T) → NoBox (replace p h v)
   no_box_replaced p (Writing g old) v = tt
   no_box_replaced p _ v = λ b e. cc
 
-  no_box_told : (s : SessionState T) (c : Call T) → NoBox (asked s c)
+  no_box_told : (s : SessionState T) (c : Call T) → NoBox (ask s c)
   no_box_told s (call.Leak v l) = tt
   no_box_told s (call.Insert p v l) = no_box_by (owner_in s p) (Some v) _
   no_box_told s call.Owner = tt
@@ -132,8 +132,8 @@ module _ {T : Type 0} where
   no_box_told s (call.LeakOwner p) = no_box_by (owner_in s p) None _
   no_box_told s (call.TryRead b l) = no_box_of (box_in s b) None _ (λ b. tt)
   no_box_told s (call.TryWrite b l) = no_box_of (box_in s b) None _ (λ b. tt)
-  no_box_told s (call.Replace p v) = no_box_replaced p (held s.table p) v
-  no_box_told s (call.Release p) = no_box_released (held s.table p)
+  no_box_told s (call.Replace p v) = no_box_replaced p (at_place s.table p) v
+  no_box_told s (call.Release p) = no_box_released (at_place s.table p)
   no_box_told s (call.ManuallyDrop b) = no_box_of (box_in s b) None _ (λ b. tt)
   no_box_told s (call.PtrEq a b) = no_box_of (box_in s a) None _
       (λ x. no_box_of (box_in s b) None _ (λ y z e. cc))
@@ -146,13 +146,13 @@ module _ {T : Type 0} where
   refusal_no_box (call.Insert p v l) e b h = cc
   refusal_no_box _ e b h = cc
 
-  flag_no_box : (c : Call T) (f : Bool) (b : GenerationalPointer) → said c (Flag f) ≢ ABox b
+  flag_no_box : (c : Call T) (f : Bool) (b : GenerationalPointer) → reply_of c (Flag f) ≢ ABox b
   flag_no_box (call.Release p) f b h = cc
   flag_no_box _ f b h = cc
 
   -- a reply gives the box that the machine made
   said_made : (c : Call T) (answer : Answer T) (b : GenerationalPointer)
-      → said c answer ≡ ABox b → answer ≡ Made b
+      → reply_of c answer ≡ ABox b → answer ≡ Made b
   said_made c (Made x) b h = cc
   said_made c (Owned o) b h = cc
   said_made c (Reads g) b h = cc
@@ -169,29 +169,29 @@ module _ {T : Type 0} where
   IsNew s b r = (b.id.store ≡ s.state.number) × (set.contains s.state.given (name_of b) ≡ false)
       × IsGiven r.state (name_of b)
 
-  settles_new : (s r : SessionState T) (c : Call T) (x : Said T) (q : Asked T) → NoBox q
+  settles_new : (s r : SessionState T) (c : Call T) (x : SessionReply T) (q : Request T) → NoBox q
       → Settles s c q x r → (b : GenerationalPointer) → x ≡ ABox b → IsNew s b r
   settles_new s r c x (Asks action) none step b is =
       let made = said_made c step.0 b (sym (said_as s r c x action step.0 step refl) ∙ is) in
       let it = made_new s.state step.1 action b
       (subst (λ a. Meets s.state action a step.1) made step.2) in
-      let after = ap (λ (out : Said T × SessionState T). out.1.state) step.3 in
+      let after = ap (λ (out : SessionReply T × SessionState T). out.1.state) step.3 in
       (it.0, it.1, subst (λ (S : State T). IsGiven S (name_of b)) (sym after) it.2)
   settles_new s r c x (Tells y) none step b is = absurd (none b (sym step.0 ∙ is))
   settles_new s r c x (Swaps p g v old) none step b is = let e = sym step.0 ∙ is in cc
 
-  pub session_new : (s r : SessionState T) (c : Call T) (x : Said T)
+  pub session_new : (s r : SessionState T) (c : Call T) (x : SessionReply T)
       → SessionStep s c x r → (b : GenerationalPointer) → x ≡ ABox b → IsNew s b r
-  session_new s r c x step = settles_new s r c x (asked s c) (no_box_told s c) step
+  session_new s r c x step = settles_new s r c x (ask s c) (no_box_told s c) step
 
-  pub gives_new_box : (s r : SessionState T) (c : Call T) (x : Said T)
+  pub gives_new_box : (s r : SessionState T) (c : Call T) (x : SessionReply T)
       → SessionStep s c x r → GivesNewBox s x
   gives_new_box s r c x step b is =
       let it = session_new s r c x step b is in record { number = it.0; fresh = it.1 }
 
   -- ---- owners
 
-  pub last_ends : {S R : State T} {o : OwnerName} {h : Holding}
+  pub last_ends : {S R : State T} {o : OwnerName} {h : Ownership}
       → IsSound S → IsReleased S o h R → h.count ≤ 1 → AreEnded S h.names R
   last_ends {S} {R} {o} {h} sound r last =
       let cells = last_cells r last in
@@ -208,17 +208,17 @@ module _ {T : Type 0} where
             (subst (λ cells. IsNamed cells n) cells named);
       }
 
-  pub ends_owned : (s r : SessionState T) (c : Call T) (x : Said T)
+  pub ends_owned : (s r : SessionState T) (c : Call T) (x : SessionReply T)
       → IsSound s.state → SessionStep s c x r → EndsOwned s c x r
   ends_owned s r c x sound step h releases done =
-      let told = subst (λ c. SessionStep s c IsDone r) releases.releases
+      let tell = subst (λ c. SessionStep s c IsDone r) releases.releases
       (subst (λ x. SessionStep s c x r) done step) in
-      last_ends sound (session_released s r releases.place releases.owner h told releases.there
+      last_ends sound (session_released s r releases.place releases.owner h tell releases.there
       releases.known) releases.last
 
   -- ---- all promises
 
-  pub keeps_promises : (s r : SessionState T) (c : Call T) (x : Said T)
+  pub keeps_promises : (s r : SessionState T) (c : Call T) (x : SessionReply T)
       → IsSound s.state → SessionStep s c x r → KeepsPromises s c x r
   keeps_promises s r c x sound step = record {
     tells_ends = tells_ends s r c x step;
@@ -226,8 +226,8 @@ module _ {T : Type 0} where
     ends_owned = ends_owned s r c x sound step;
   }
 
-  pub all_keep_promises : (calls : List (Call T)) (replies : List (Said T)) (s r : SessionState T)
-      → IsKept s → (run : Run s calls replies r) → AllKeepPromises s calls replies r run
+  pub all_keep_promises : (calls : List (Call T)) (replies : List (SessionReply T)) (s r : SessionState T)
+      → IsSoundSession s → (run : Run s calls replies r) → AllKeepPromises s calls replies r run
   all_keep_promises [] [] s r kept run = tt
   all_keep_promises (c ∷ calls) (x ∷ replies) s r kept run = (
     keeps_promises s run.0 c x kept.sound run.1,

@@ -13,7 +13,7 @@ use Rattle.generational_core.specs.Cells.Content.{Here, Lent}
 use Rattle.generational_core.specs.State.{State}
 use Rattle.generational_core.specs.Borrowing.{Trouble, content_at, read_trouble, reach}
 use Rattle.generational_core.specs.Borrowing.Trouble.{Dropped, BeingRead, BeingWritten}
-use Rattle.generational_core.specs.Ending.{hindered}
+use Rattle.generational_core.specs.Ending.{hindrance_to}
 use Rattle.generational_core.specs.Machine.{Action, Answer, Fresh, Outcome, act, unless, read_at}
 use Rattle.generational_core.specs.Machine.{contents, knows_reader, own_name, without_reader}
 use Rattle.generational_core.specs.Machine.Action.{Make, MakeShared, Refer, NewOwner, CloneOwner}
@@ -21,7 +21,7 @@ use Rattle.generational_core.specs.Machine.Action.{ReleaseOwner, LeakOwner, Read
 use Rattle.generational_core.specs.Machine.Action.{ReleaseReader, ReleaseWriter, SetValue, End}
 use Rattle.generational_core.specs.Machine.Action.{Point, CanRead, CanWrite}
 use Rattle.generational_core.specs.Machine.Answer.{Flag, Refused}
-use Rattle.generational_core.specs.Steps.{Meets, limited, takes_ticket}
+use Rattle.generational_core.specs.Steps.{Meets, limit_tickets, takes_ticket}
 use Rattle.generational_core.specs.Readiness.{is_ready, tells_of_borrow}
 use Rattle.generational_core.specs.Recording.{recorded_as, is_hindered}
 
@@ -67,7 +67,7 @@ module _ {T : Type 0} where
       ∙ flag_free S (knows_reader S g) (without_reader S g.cell g.ticket (content_at S g.cell))
   ready_told S (End b) step new e =
       let same : call.ManuallyDrop b ≡ step = cc in
-      ap (is_ready S) (sym same) ∙ unless_told S (hindered S (own_name S b)) _ refl
+      ap (is_ready S) (sym same) ∙ unless_told S (hindrance_to S (own_name S b)) _ refl
   ready_told S (Make (Some o) v l) step new e = absurd cc
   ready_told S (MakeShared o v l) step new e = absurd cc
   ready_told S (Refer o b) step new e = absurd cc
@@ -84,7 +84,7 @@ module _ {T : Type 0} where
 
   -- what is limited tells of no borrow, where what was done didn't
   limited_free : (S : State T) (out : Outcome T)
-      → is_hindered out.0 ≡ false → is_hindered (limited S out).0 ≡ false
+      → is_hindered out.0 ≡ false → is_hindered (limit_tickets S out).0 ≡ false
   limited_free S out h = at (takes_ticket out.0 && nat_eq S.next (2 ^ 64 - 1))
     where
       at : (b : Bool)

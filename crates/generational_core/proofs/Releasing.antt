@@ -9,11 +9,11 @@ use Rattle.std.specs.List.{AllByRecursion}
 use Rattle.std.specs.FinMap as map
 use Rattle.generational_core.specs.Names.{Name, NameMap, among}
 use Rattle.generational_core.specs.Cells.{Cell, is_shared}
-use Rattle.generational_core.specs.State.{State, Holding, IsSound, IsBoxed, IsNamed, is_named}
+use Rattle.generational_core.specs.State.{State, Ownership, IsSound, IsBoxed, IsNamed, is_named}
 use Rattle.generational_core.specs.Borrowing.{Trouble}
-use Rattle.generational_core.specs.Ending.{swept, without, left_by, close, hindered}
-use Rattle.generational_core.specs.Machine.{Answer, Outcome, OwnerName, holding, let_go, unless}
-use Rattle.generational_core.specs.Machine.{with_owner}
+use Rattle.generational_core.specs.Ending.{sweep, without, cells_after, close, hindrance_to}
+use Rattle.generational_core.specs.Machine.{Answer, Outcome, OwnerName, ownership, release_owner, unless}
+use Rattle.generational_core.specs.Machine.{set_ownership}
 use Rattle.generational_core.specs.Machine.Action.{ReleaseOwner, LeakOwner}
 use Rattle.generational_core.specs.Machine.Answer.{Done}
 use Rattle.generational_core.specs.Records.{one_less}
@@ -36,44 +36,44 @@ module _ {T : Type 0} where
     without_get =
         get-keep by_name cells (λ q. is_shared (map.get cells q) || not (among names q)) n
 
-    left_get : map.get (left_by cells names) n
+    left_get : map.get (cells_after cells names) n
         ≡ cond
         (not (is_shared (map.get (without cells names) n)) || is_named (without cells names) n)
         (map.get (without cells names) n) None
-    unfolding swept
+    unfolding sweep
     left_get =
         get-keep by_name (without cells names)
         (λ q.
         not (is_shared (map.get (without cells names) q)) || is_named (without cells names) q) n
 
     -- Refs of the cells that are left name what they named before
-    named_left : (is_named (without cells names) n ≡ true) → IsNamed (left_by cells names) n
+    named_left : (is_named (without cells names) n ≡ true) → IsNamed (cells_after cells names) n
     named_left h =
         let it = named_gives (without cells names) n h in
         (it.0, it.1, swept_ref (without cells names) it.0 n it.1 it.2)
 
-    named_before : IsNamed (left_by cells names) n → is_named (without cells names) n ≡ true
+    named_before : IsNamed (cells_after cells names) n → is_named (without cells names) n ≡ true
     named_before h =
         named_from (without cells names) n (h.0, h.1, swept_was (without cells names) h.0 n h.1 h.2)
 
     -- a Value or a Ref goes exactly where the names hold it
     module _ (box : is_shared (map.get cells n) ≡ false) where
-      pub box_ends : among names n ≡ true → map.get (left_by cells names) n ≡ None
+      pub box_ends : among names n ≡ true → map.get (cells_after cells names) n ≡ None
       box_ends there = left_get ∙ rw (without_get, box, there) refl
 
-      pub box_stays : among names n ≡ false → map.get (left_by cells names) n ≡ map.get cells n
+      pub box_stays : among names n ≡ false → map.get (cells_after cells names) n ≡ map.get cells n
       box_stays apart = left_get ∙ rw (without_get, box, apart, box) refl
 
     -- a Shared cell goes exactly where no Ref that is left names it
     module _ (shared : is_shared (map.get cells n) ≡ true) where
-      pub shared_ends : (IsNamed (left_by cells names) n → ⊥)
-          → map.get (left_by cells names) n ≡ None
+      pub shared_ends : (IsNamed (cells_after cells names) n → ⊥)
+          → map.get (cells_after cells names) n ≡ None
       shared_ends nobody =
           left_get
           ∙ rw (without_get, shared, shared, false_from_ne_true _ (λ h. nobody (named_left h))) refl
 
-      pub shared_stays : IsNamed (left_by cells names) n
-          → map.get (left_by cells names) n ≡ map.get cells n
+      pub shared_stays : IsNamed (cells_after cells names) n
+          → map.get (cells_after cells names) n ≡ map.get cells n
       shared_stays named = left_get ∙ rw (without_get, shared, shared, named_before named) refl
 
   -- ---- the release
@@ -86,8 +86,8 @@ module _ {T : Type 0} where
       ⊎_elim (λ is. subst (IsBoxed S) (sym (name_same n m is)) all.0)
       (λ rest. boxed_among S names n all.1 rest) (or_cases _ _ there)
 
-  pub listed_boxed : (S : State T) (o : OwnerName) (h : Holding) (n : Name)
-      → IsSound S → holding S o ≡ Some h → among h.names n ≡ true
+  pub listed_boxed : (S : State T) (o : OwnerName) (h : Ownership) (n : Name)
+      → IsSound S → ownership S o ≡ Some h → among h.names n ≡ true
       → is_shared (map.get S.cells n) ≡ false
   listed_boxed S o h n s is there =
       (boxed_among S h.names n (s.owned o.key h (held_record S o h is)) there).1
@@ -98,26 +98,26 @@ module _ {T : Type 0} where
   done_only (Some t) S R last e =
       absurd (true≢false (sym (ap (λ (out : Outcome T). is_refusal out.0) e)))
 
-  module _ {S R : State T} {o : OwnerName} {h : Holding} (r : IsReleased S o h R) where
-    released : ◌≡◌ {A = Outcome T} (Done, R) (let_go S o (Some h))
-    released =
+  module _ {S R : State T} {o : OwnerName} {h : Ownership} (r : IsReleased S o h R) where
+    release : ◌≡◌ {A = Outcome T} (Done, R) (release_owner S o (Some h))
+    release =
         ⊎_elim (λ refused. absurd (true≢false (sym refused.0)))
-        (λ acts. acts.2 ∙ ap (let_go S o) r.held) (meets_cases S R (ReleaseOwner o) Done r.done)
+        (λ acts. acts.2 ∙ ap (release_owner S o) r.held) (meets_cases S R (ReleaseOwner o) Done r.done)
 
     -- with the last owner value the list is closed, and the record goes
     last_release : h.count ≤ 1
         → R ≡ record (close S h.names) { owners = map.remove S.owners o.key }
     last_release last =
-        done_only (hindered S h.names) S R _ (released ∙ rw (le-ltb 1 h.count last) refl)
+        done_only (hindrance_to S h.names) S R _ (release ∙ rw (le-ltb 1 h.count last) refl)
 
     -- else the record stands for one owner value less
-    earlier_release : 1 < h.count → R ≡ with_owner S o.key (one_less h)
+    earlier_release : 1 < h.count → R ≡ set_ownership S o.key (one_less h)
     earlier_release more =
-        let out : ◌≡◌ {A = Outcome T} (Done, R) (Done, with_owner S o.key (one_less h)) =
-        released ∙ rw (lt-ltb 1 h.count more) refl in
+        let out : ◌≡◌ {A = Outcome T} (Done, R) (Done, set_ownership S o.key (one_less h)) =
+        release ∙ rw (lt-ltb 1 h.count more) refl in
         ap (λ (x : Outcome T). x.1) out
 
-    pub last_cells : h.count ≤ 1 → R.cells ≡ left_by S.cells h.names
+    pub last_cells : h.count ≤ 1 → R.cells ≡ cells_after S.cells h.names
     last_cells last = ap (λ (X : State T). X.cells) (last_release last)
 
     pub earlier_cells : 1 < h.count → R.cells ≡ S.cells
@@ -164,27 +164,27 @@ module _ {T : Type 0} where
   unless_refused None S last out e other = absurd (other (ap (λ (x : Outcome T). x.0) e))
   unless_refused (Some t) S last out e other = ap (λ (x : Outcome T). x.1) e
 
-  let_go_refused : (S : State T) (o : OwnerName) (h : Option Holding) (out : Outcome T)
-      → out ≡ let_go S o h → out.0 ≢ Done → out.1 ≡ S
+  let_go_refused : (S : State T) (o : OwnerName) (h : Option Ownership) (out : Outcome T)
+      → out ≡ release_owner S o h → out.0 ≢ Done → out.1 ≡ S
   let_go_refused S o None out e other = ap (λ (x : Outcome T). x.1) e
   let_go_refused S o (Some h) out e other = split (nat_lt 1 h.count) e
     where
       less : State T
-      less = with_owner S o.key (one_less h)
+      less = set_ownership S o.key (one_less h)
 
       last : State T
       last = record (close S h.names) { owners = map.remove S.owners o.key }
 
-      split : (b : Bool) → out ≡ cond b (Done, less) (unless (hindered S h.names) S (Done, last))
+      split : (b : Bool) → out ≡ cond b (Done, less) (unless (hindrance_to S h.names) S (Done, last))
           → out.1 ≡ S
       split true is = absurd (other (ap (λ (x : Outcome T). x.0) is))
-      split false is = unless_refused (hindered S h.names) S last out is other
+      split false is = unless_refused (hindrance_to S h.names) S last out is other
 
   pub refused_release : (S R : State T) (o : OwnerName) (answer : Answer T)
       → Meets S (ReleaseOwner o) answer R → answer ≢ Done → R ≡ S
   refused_release S R o answer m other =
       ⊎_elim (λ refused. refused.1)
-      (λ acts. let_go_refused S o (holding S o) (answer, R) acts.2 other)
+      (λ acts. let_go_refused S o (ownership S o) (answer, R) acts.2 other)
       (meets_cases S R (ReleaseOwner o) answer m)
 
   pub leak_changes_nothing : (S R : State T) (o : OwnerName) (answer : Answer T)

@@ -12,7 +12,7 @@ use Rattle.generational_core.specs.Boxes.{box_of}
 use Rattle.generational_core.specs.Borrowing.{Guard, content_at}
 use Rattle.generational_core.specs.Machine.{Action, Answer, Fresh, OwnerName, act, knows_reader}
 use Rattle.generational_core.specs.Slots.{slots, free, retired}
-use Rattle.generational_core.specs.Steps.{limited, no_names}
+use Rattle.generational_core.specs.Steps.{limit_tickets, no_names}
 
 -- A line of a row: a call with the names that it takes, a look at what a reader's guard opens, or
 -- the counts.
@@ -59,8 +59,8 @@ module _ {T : Type 0} where
   value_of (Some (Lent w)) = None
 
   -- what a reader's guard opens, if the store knows it
-  abbrev pub opened : State T → Guard → Option T
-  opened S g = cond (knows_reader S g) (value_of (content_at S g.cell)) None
+  abbrev pub value_behind : State T → Guard → Option T
+  value_behind S g = cond (knows_reader S g) (value_of (content_at S g.cell)) None
 
   abbrev pub counted : State T → Told T
   counted S = Counts (slots S) (free S) (retired S) (map.len S.cells) S.peak
@@ -69,9 +69,9 @@ module _ {T : Type 0} where
   abbrev pub play : State T → List (Line T) → List (Told T) × State T
   play S [] = ([], S)
   play S (Call a f ∷ rest) =
-      let out = limited S (act S a f) in
+      let out = limit_tickets S (act S a f) in
       let more = play out.1 rest in (Says out.0 ∷ more.0, more.1)
-  play S (Open g ∷ rest) = let more = play S rest in (Opens (opened S g) ∷ more.0, more.1)
+  play S (Open g ∷ rest) = let more = play S rest in (Opens (value_behind S g) ∷ more.0, more.1)
   play S (Count ∷ rest) = let more = play S rest in (counted S ∷ more.0, more.1)
 
   abbrev pub lines_of : List (Line T × Told T) → List (Line T)

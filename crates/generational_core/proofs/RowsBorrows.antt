@@ -5,7 +5,7 @@ use Rattle.generational_core.specs.Names.{is_name}
 use Rattle.generational_core.specs.State.{fresh}
 use Rattle.generational_core.specs.Borrowing.{reach, read_trouble, write_trouble}
 use Rattle.generational_core.specs.Borrowing.Trouble.{Dropped, BeingRead, BeingWritten}
-use Rattle.generational_core.specs.Ending.{hindered}
+use Rattle.generational_core.specs.Ending.{hindrance_to}
 use Rattle.generational_core.specs.Machine.Action.{Make, MakeShared}
 use Rattle.generational_core.specs.Machine.Action.{Read, Write}
 use Rattle.generational_core.specs.Machine.Action.{ReleaseReader, ReleaseWriter, SetValue, End}
@@ -33,7 +33,7 @@ module _ {T : Type 0} (u v w : T) (L M R W : Location) where
       ∷ (Ask (Write (box (name 0 1) M) W), Says (Writes (guard (name 0 1) 2) v))
       ∷ []
       )
-  unfolding is_name reach read_trouble write_trouble hindered
+  unfolding is_name reach read_trouble write_trouble hindrance_to
   readers-of-a-value-leave-by-their-tickets =
       from (
       makes 1 (λ x e. simp entries at e) (
@@ -61,7 +61,7 @@ module _ {T : Type 0} (u v w : T) (L M R W : Location) where
       ∷ (Ask (Write (box (name 1 1) M) W), Says (Writes (guard (name 0 1) 2) v))
       ∷ []
       )
-  unfolding is_name reach read_trouble write_trouble hindered
+  unfolding is_name reach read_trouble write_trouble hindrance_to
   readers-of-a-shared-value-leave-by-their-tickets =
       from (
       shares 2 (λ x e. simp entries at e) (
@@ -85,7 +85,7 @@ module _ {T : Type 0} (u v w : T) (L M R W : Location) where
       ∷ (Ask (Write (box (name 0 1) R) W), Says (Troubled (BeingRead (M ∷ L ∷ []))))
       ∷ []
       )
-  unfolding is_name reach read_trouble write_trouble hindered
+  unfolding is_name reach read_trouble write_trouble hindrance_to
   the-first-of-three-readers-leaves =
       from (
       makes 1 (λ x e. simp entries at e) (
@@ -105,7 +105,7 @@ module _ {T : Type 0} (u v w : T) (L M R W : Location) where
       ∷ (Ask (Write (box (name 0 1) R) W), Says (Troubled (BeingRead (L ∷ M ∷ []))))
       ∷ []
       )
-  unfolding is_name reach read_trouble write_trouble hindered
+  unfolding is_name reach read_trouble write_trouble hindrance_to
   the-last-of-three-readers-leaves =
       from (
       makes 1 (λ x e. simp entries at e) (
@@ -134,7 +134,7 @@ module _ {T : Type 0} (u v w : T) (L M R W : Location) where
       ∷ (Ask (CanWrite (box (name 0 1) L)), Says (Flag false))
       ∷ []
       )
-  unfolding is_name reach read_trouble write_trouble hindered
+  unfolding is_name reach read_trouble write_trouble hindrance_to
   a-writer-of-a-value-keeps-others-out =
       from (
       makes 1 (λ x e. simp entries at e) (
@@ -171,7 +171,7 @@ module _ {T : Type 0} (u v w : T) (L M R W : Location) where
       ∷ (Ask (CanWrite (box (name 1 1) L)), Says (Flag false))
       ∷ []
       )
-  unfolding is_name reach read_trouble write_trouble hindered
+  unfolding is_name reach read_trouble write_trouble hindrance_to
   a-writer-of-a-shared-value-keeps-others-out =
       from (
       shares 2 (λ x e. simp entries at e) (
@@ -199,7 +199,7 @@ module _ {T : Type 0} (u v w : T) (L M R W : Location) where
       ∷ (Open (guard (name 0 1) 1), Opens (Some w))
       ∷ []
       )
-  unfolding is_name reach read_trouble write_trouble hindered
+  unfolding is_name reach read_trouble write_trouble hindrance_to
   what-is-set-and-what-is-written-is-read =
       from (
       makes 1 (λ x e. simp entries at e) (
@@ -226,7 +226,7 @@ module _ {T : Type 0} (u v w : T) (L M R W : Location) where
       ∷ (Ask (SetValue (box (name 0 1) L) u), Says (Troubled (Dropped L)))
       ∷ []
       )
-  unfolding is_name reach read_trouble write_trouble hindered
+  unfolding is_name reach read_trouble write_trouble hindrance_to
   what-is-borrowed-or-gone-is-not-set =
       from (
       makes 1 (λ x e. simp entries at e) (
@@ -257,7 +257,7 @@ module _ {T : Type 0} (u v w : T) (L M R W : Location) where
       ∷ (Ask (End (box (name 0 2) M)), Says Done)
       ∷ []
       )
-  unfolding is_name reach read_trouble write_trouble hindered
+  unfolding is_name reach read_trouble write_trouble hindrance_to
   an-ended-box-tells-of-no-other =
       from (
       makes 1 (λ x e. simp entries at e) (

@@ -11,7 +11,7 @@ use Rattle.generational_core.specs.State.{fresh}
 use Rattle.generational_core.specs.Boxes.{box_of}
 use Rattle.generational_core.specs.Borrowing.{reach, read_trouble, write_trouble}
 use Rattle.generational_core.specs.Borrowing.Trouble.{Dropped, BeingRead, BeingWritten}
-use Rattle.generational_core.specs.Ending.{hindered}
+use Rattle.generational_core.specs.Ending.{hindrance_to}
 use Rattle.generational_core.specs.Machine.Action.{Make, MakeShared, Refer, NewOwner, CloneOwner}
 use Rattle.generational_core.specs.Machine.Action.{ReleaseOwner, Read, Write}
 use Rattle.generational_core.specs.Machine.Action.{ReleaseReader, ReleaseWriter, SetValue, End}
@@ -20,7 +20,7 @@ use Rattle.generational_core.specs.Machine.Answer.{Made, Owned, Reads, Writes, D
 use Rattle.generational_core.specs.Machine.Answer.{Back, Troubled, Refused}
 use Rattle.generational_core.proofs.Entries.{entries}
 use Rattle.generational_core.proofs.Rows.{Tells, Ask, name, one, two, box, owner, guard}
-use Rattle.generational_core.proofs.Playing.{from, makes, shares, call, spent, look, count, done}
+use Rattle.generational_core.proofs.Playing.{from, makes, shares, call, spend, look, count, done}
 use Rattle.generational_core.proofs.Playing.{here, slots_there}
 use Rattle.generational_core.proofs.Rows.Line.{Call, Open, Count}
 use Rattle.generational_core.proofs.Rows.Told.{Says, Opens, Counts}
@@ -38,13 +38,13 @@ module _ {T : Type 0} (v w : T) (L M R W : Location) where
       ∷ (Ask (Read (box (name 0 1) L) R), Says (Troubled (Dropped L)))
       ∷ []
       )
-  unfolding is_name reach read_trouble write_trouble hindered
+  unfolding is_name reach read_trouble write_trouble hindrance_to
   the-last-ticket-is-never-given =
       from (
       makes 1 (λ x e. simp entries at e) (
-      spent (λ x e. simp entries at e) refl (
-      spent (λ x e. simp entries at e) refl (
-      spent (λ x e. simp entries at e) refl (
+      spend (λ x e. simp entries at e) refl (
+      spend (λ x e. simp entries at e) refl (
+      spend (λ x e. simp entries at e) refl (
       call (2 ^ 64 - 1) (λ x e. simp entries at e) refl (
       call (2 ^ 64 - 1) (λ x e. simp entries at e) refl (
       call (2 ^ 64 - 1) (λ x e. simp entries at e) refl (
@@ -58,11 +58,11 @@ module _ {T : Type 0} (v w : T) (L M R W : Location) where
       ∷ (Ask (CloneOwner (owner (2 ^ 64 - 2))), Says (Refused UnknownOwner))
       ∷ []
       )
-  unfolding is_name reach read_trouble write_trouble hindered
+  unfolding is_name reach read_trouble write_trouble hindrance_to
   the-ticket-before-the-last-is-given =
       from (
       call (2 ^ 64 - 1) (λ x e. simp entries at e) refl (
-      spent (λ x e. simp entries at e) refl (
+      spend (λ x e. simp entries at e) refl (
       call (2 ^ 64 - 1) (λ x e. simp entries at e) refl (
       call (2 ^ 64 - 1) (λ x e. simp entries at e) refl done))))
 
@@ -81,7 +81,7 @@ module _ {T : Type 0} (v w : T) (L M R W : Location) where
       ∷ (Open (guard (name 0 1) 0), Opens (Some v))
       ∷ []
       )
-  unfolding is_name reach read_trouble write_trouble hindered
+  unfolding is_name reach read_trouble write_trouble hindrance_to
   boxes-of-another-store-reach-nothing =
       from (
       shares 2 (λ x e. simp entries at e) (
@@ -111,7 +111,7 @@ module _ {T : Type 0} (v w : T) (L M R W : Location) where
       ∷ (Ask (Read (box (name 0 1) L) R), Says (Troubled (BeingWritten W)))
       ∷ []
       )
-  unfolding is_name reach read_trouble write_trouble hindered
+  unfolding is_name reach read_trouble write_trouble hindrance_to
   owners-and-guards-of-another-store-are-unknown =
       from (
       call 1 (λ x e. simp entries at e) refl (
@@ -142,7 +142,7 @@ module _ {T : Type 0} (v w : T) (L M R W : Location) where
       ∷ (Count, Counts 3 3 0 0 3)
       ∷ []
       )
-  unfolding is_name reach read_trouble write_trouble hindered
+  unfolding is_name reach read_trouble write_trouble hindrance_to
   a-value-ends-with-its-last-reference =
       from (
       shares 2 (λ x e. simp entries at e) (

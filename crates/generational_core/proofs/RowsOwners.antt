@@ -6,7 +6,7 @@ use Rattle.generational_core.specs.Names.{is_name}
 use Rattle.generational_core.specs.State.{fresh}
 use Rattle.generational_core.specs.Borrowing.{reach, read_trouble, write_trouble}
 use Rattle.generational_core.specs.Borrowing.Trouble.{Dropped, BeingRead}
-use Rattle.generational_core.specs.Ending.{hindered}
+use Rattle.generational_core.specs.Ending.{hindrance_to}
 use Rattle.generational_core.specs.Machine.Action.{Make, MakeShared, Refer, NewOwner, CloneOwner}
 use Rattle.generational_core.specs.Machine.Action.{ReleaseOwner, LeakOwner, Read, Write}
 use Rattle.generational_core.specs.Machine.Action.{ReleaseReader}
@@ -43,7 +43,7 @@ module _ {T : Type 0} (v w : T) (L M R : Location) where
       ∷ (Count, Counts 3 3 0 0 3)
       ∷ []
       )
-  unfolding is_name reach read_trouble write_trouble hindered
+  unfolding is_name reach read_trouble write_trouble hindrance_to
   a-reference-outlives-its-first-owner =
       from (
       call 1 (λ x e. simp entries at e) refl (
@@ -76,7 +76,7 @@ module _ {T : Type 0} (v w : T) (L M R : Location) where
       ∷ (Ask (Write (box (name 2 1) L) M), Says (Troubled (BeingRead (R ∷ []))))
       ∷ []
       )
-  unfolding is_name reach read_trouble write_trouble hindered
+  unfolding is_name reach read_trouble write_trouble hindrance_to
   a-borrow-of-what-lives-on-hinders-no-release =
       from (
       call 1 (λ x e. simp entries at e) refl (
@@ -107,7 +107,7 @@ module _ {T : Type 0} (v w : T) (L M R : Location) where
       ∷ (Count, Counts 2 2 0 0 2)
       ∷ []
       )
-  unfolding is_name reach read_trouble write_trouble hindered
+  unfolding is_name reach read_trouble write_trouble hindrance_to
   a-release-under-a-reader-changes-nothing =
       from (
       call 1 (λ x e. simp entries at e) refl (
@@ -138,7 +138,7 @@ module _ {T : Type 0} (v w : T) (L M R : Location) where
       ∷ (Ask (ReleaseOwner (owner 0)), Says (Refused UnknownOwner))
       ∷ []
       )
-  unfolding is_name reach read_trouble write_trouble hindered
+  unfolding is_name reach read_trouble write_trouble hindrance_to
   the-last-release-ends-the-boxes =
       from (
       call 1 (λ x e. simp entries at e) refl (
@@ -163,7 +163,7 @@ module _ {T : Type 0} (v w : T) (L M R : Location) where
       ∷ (Open (guard (name 0 1) 2), Opens (Some v))
       ∷ []
       )
-  unfolding is_name reach read_trouble write_trouble hindered
+  unfolding is_name reach read_trouble write_trouble hindrance_to
   a-leaked-clone-keeps-the-boxes =
       from (
       call 1 (λ x e. simp entries at e) refl (

@@ -5,7 +5,7 @@ use Rattle.generational_core.specs.Names.{is_name}
 use Rattle.generational_core.specs.State.{fresh}
 use Rattle.generational_core.specs.Borrowing.{reach, read_trouble, write_trouble}
 use Rattle.generational_core.specs.Borrowing.Trouble.{Dropped, BeingRead, BeingWritten}
-use Rattle.generational_core.specs.Ending.{hindered}
+use Rattle.generational_core.specs.Ending.{hindrance_to}
 use Rattle.generational_core.specs.Machine.Action.{Make, MakeShared, Refer, NewOwner}
 use Rattle.generational_core.specs.Machine.Action.{ReleaseOwner, Read, Write}
 use Rattle.generational_core.specs.Machine.Action.{ReleaseReader, End}
@@ -36,7 +36,7 @@ module _ {T : Type 0} (v w : T) (L M R W : Location) where
       ∷ (Count, Counts 2 2 0 0 2)
       ∷ []
       )
-  unfolding is_name reach read_trouble write_trouble hindered
+  unfolding is_name reach read_trouble write_trouble hindrance_to
   an-ended-box-points-to-itself-alone =
       from (
       makes 1 (λ x e. simp entries at e) (
@@ -58,7 +58,7 @@ module _ {T : Type 0} (v w : T) (L M R W : Location) where
       ∷ (Count, Counts 3 0 0 3 3)
       ∷ []
       )
-  unfolding is_name reach read_trouble write_trouble hindered
+  unfolding is_name reach read_trouble write_trouble hindrance_to
   a-plain-box-neither-points-nor-is-pointed-to =
       from (
       makes 1 (λ x e. simp entries at e) (
@@ -82,7 +82,7 @@ module _ {T : Type 0} (v w : T) (L M R W : Location) where
       ∷ (Count, Counts 4 1 0 3 4)
       ∷ []
       )
-  unfolding is_name reach read_trouble write_trouble hindered
+  unfolding is_name reach read_trouble write_trouble hindrance_to
   a-turn-from-a-borrowed-last-value-is-refused =
       from (
       shares 2 (λ x e. simp entries at e) (
@@ -128,7 +128,7 @@ module _ {T : Type 0} (v w : T) (L M R W : Location) where
       ∷ (Count, Counts 5 5 0 0 5)
       ∷ []
       )
-  unfolding is_name reach read_trouble write_trouble hindered
+  unfolding is_name reach read_trouble write_trouble hindrance_to
   a-reference-turns-to-another-value =
       from (
       call 1 (λ x e. simp entries at e) refl (
@@ -172,7 +172,7 @@ module _ {T : Type 0} (v w : T) (L M R W : Location) where
       ∷ (Count, Counts 1 0 0 1 1)
       ∷ []
       )
-  unfolding is_name reach read_trouble write_trouble hindered
+  unfolding is_name reach read_trouble write_trouble hindrance_to
   a-plain-box-has-no-reference =
       from (
       makes 1 (λ x e. simp entries at e) (

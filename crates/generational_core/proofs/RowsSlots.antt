@@ -6,7 +6,7 @@ use Rattle.generational_core.specs.Names.{is_name}
 use Rattle.generational_core.specs.State.{fresh}
 use Rattle.generational_core.specs.Borrowing.{reach, read_trouble, write_trouble}
 use Rattle.generational_core.specs.Borrowing.Trouble.{Dropped}
-use Rattle.generational_core.specs.Ending.{hindered}
+use Rattle.generational_core.specs.Ending.{hindrance_to}
 use Rattle.generational_core.specs.Machine.Action.{Make, NewOwner}
 use Rattle.generational_core.specs.Machine.Action.{ReleaseOwner, Read}
 use Rattle.generational_core.specs.Machine.Action.{End}
@@ -43,7 +43,7 @@ module _ {T : Type 0} (v w : T) (L M R : Location) where
       ∷ (Ask (CanRead (box (name 0 2) M)), Says (Flag true))
       ∷ []
       )
-  unfolding is_name reach read_trouble write_trouble hindered
+  unfolding is_name reach read_trouble write_trouble hindrance_to
   an-ended-slot-is-free-for-another-box =
       from (
       call 1 (λ x e. simp entries at e) refl (
@@ -68,7 +68,7 @@ module _ {T : Type 0} (v w : T) (L M R : Location) where
       ∷ (Ask (Read (box (name 0 (2 ^ 64 - 1)) L) R), Says (Troubled (Dropped L)))
       ∷ []
       )
-  unfolding is_name reach read_trouble write_trouble hindered
+  unfolding is_name reach read_trouble write_trouble hindrance_to
   a-slot-that-ends-at-the-last-generation-is-retired =
       from (
       makes 1 (λ x e. simp entries at e) (

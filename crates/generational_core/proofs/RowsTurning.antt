@@ -5,7 +5,7 @@ use Rattle.generational_core.specs.Names.{is_name}
 use Rattle.generational_core.specs.State.{fresh}
 use Rattle.generational_core.specs.Borrowing.{reach, read_trouble, write_trouble}
 use Rattle.generational_core.specs.Borrowing.Trouble.{Dropped, BeingRead, BeingWritten}
-use Rattle.generational_core.specs.Ending.{hindered}
+use Rattle.generational_core.specs.Ending.{hindrance_to}
 use Rattle.generational_core.specs.Machine.Action.{Make, MakeShared, Refer, NewOwner}
 use Rattle.generational_core.specs.Machine.Action.{ReleaseOwner, Read, Write}
 use Rattle.generational_core.specs.Machine.Action.{ReleaseReader, ReleaseWriter, End}
@@ -37,7 +37,7 @@ module _ {T : Type 0} (v w : T) (L M R W : Location) where
       ∷ (Ask (CanRead (box (name 1 1) L)), Says (Flag false))
       ∷ []
       )
-  unfolding is_name reach read_trouble write_trouble hindered
+  unfolding is_name reach read_trouble write_trouble hindrance_to
   a-turned-box-leads-to-the-location-of-its-new-value =
       from (
       shares 2 (λ x e. simp entries at e) (
@@ -71,7 +71,7 @@ module _ {T : Type 0} (v w : T) (L M R W : Location) where
       ∷ (Open (guard (name 0 1) 0), Opens (Some v))
       ∷ []
       )
-  unfolding is_name reach read_trouble write_trouble hindered
+  unfolding is_name reach read_trouble write_trouble hindrance_to
   a-turn-is-hindered-by-no-borrow-of-what-lives-on =
       from (
       shares 2 (λ x e. simp entries at e) (
@@ -106,7 +106,7 @@ module _ {T : Type 0} (v w : T) (L M R W : Location) where
       ∷ (Ask (ReleaseOwner (owner 0)), Says (Troubled (BeingRead (W ∷ []))))
       ∷ []
       )
-  unfolding is_name reach read_trouble write_trouble hindered
+  unfolding is_name reach read_trouble write_trouble hindrance_to
   a-release-is-refused-at-the-first-box-listed =
       from (
       call 1 (λ x e. simp entries at e) refl (

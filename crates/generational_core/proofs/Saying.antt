@@ -12,22 +12,22 @@ use Rattle.generational_core.specs.declared.error.Location.{Location}
 use Rattle.generational_core.specs.declared.borrow.Borrow.{Borrow}
 use Rattle.generational_core.specs.declared.boxes.GenerationalPointer.{GenerationalPointer}
 use Rattle.generational_core.specs.Names.{Name, is_name}
-use Rattle.generational_core.specs.Cells.{Content, Cell, content_of, refilled}
+use Rattle.generational_core.specs.Cells.{Content, Cell, content_of, refill}
 use Rattle.generational_core.specs.Cells.Content.{Here, Lent}
 use Rattle.generational_core.specs.Cells.Cell.{Value, Shared, Ref}
-use Rattle.generational_core.specs.State.{State, Holding, IsGiven}
+use Rattle.generational_core.specs.State.{State, Ownership, IsGiven}
 use Rattle.generational_core.specs.Boxes.{name_of, has_same_id}
-use Rattle.generational_core.specs.Borrowing.{Trouble, reach, content_at, filled}
-use Rattle.generational_core.specs.Machine.{Action, Answer, Fresh, Outcome, OwnerName, act, born}
-use Rattle.generational_core.specs.Machine.{listed, unless, referred, found, contents, cloned}
-use Rattle.generational_core.specs.Machine.{let_go, holding, read_at, written_at, own_cell}
+use Rattle.generational_core.specs.Borrowing.{Trouble, reach, content_at, fill}
+use Rattle.generational_core.specs.Machine.{Action, Answer, Fresh, Outcome, OwnerName, act, add_cell}
+use Rattle.generational_core.specs.Machine.{add_to_list, unless, refer, found, contents, clone_owner}
+use Rattle.generational_core.specs.Machine.{release_owner, ownership, read_at, write_at, own_cell}
 use Rattle.generational_core.specs.Machine.{knows_reader, knows_writer, has_reader, has_writer}
-use Rattle.generational_core.specs.Machine.{without_reader, set_at, pointed, turned}
+use Rattle.generational_core.specs.Machine.{without_reader, set_at, point, turn}
 use Rattle.generational_core.specs.Machine.Action.{Make, MakeShared, Refer, NewOwner, CloneOwner}
 use Rattle.generational_core.specs.Machine.Action.{ReleaseOwner, LeakOwner, Read, Write}
 use Rattle.generational_core.specs.Machine.Action.{ReleaseReader, ReleaseWriter, SetValue, End}
 use Rattle.generational_core.specs.Machine.Action.{Point, CanRead, CanWrite}
-use Rattle.generational_core.specs.Machine.{with_owner, own_name}
+use Rattle.generational_core.specs.Machine.{set_ownership, own_name}
 use Rattle.generational_core.specs.Machine.Answer.{Made, Owned, Reads, Writes, Done, Flag, Back}
 use Rattle.generational_core.specs.Machine.Answer.{Refused}
 use Rattle.generational_core.specs.declared.error.StoreError.{StoreError}
@@ -35,7 +35,7 @@ use Rattle.generational_core.specs.declared.error.StoreError.TheVariants.{Unknow
 use Rattle.generational_core.specs.Numbered.{want}
 use Rattle.generational_core.specs.Machine.{is_known, make_value, make_shared}
 use Rattle.generational_core.specs.Borrowing.{read_trouble}
-use Rattle.generational_core.specs.Ending.{close, hindered, hindrance_at, swept}
+use Rattle.generational_core.specs.Ending.{close, hindrance_to, hindrance_at, sweep}
 use Rattle.generational_core.proofs.Fresh.{AreFresh}
 use Rattle.generational_core.proofs.Maps.{by_name, get-changed_here}
 use Rattle.generational_core.proofs.Maps.{contains-insert_here}
@@ -107,7 +107,7 @@ module _ {T : Type 0} where
   -- the box of a new cell
   says_born : (S Q : State T) (c : Cell T) (o : Option OwnerName) (b : GenerationalPointer)
       → b.id.store ≡ S.number → set.contains S.given (name_of b) ≡ false
-      → IsNewBox S (listed (born Q (name_of b) c) o (name_of b)) b
+      → IsNewBox S (add_to_list (add_cell Q (name_of b) c) o (name_of b)) b
   says_born S Q c None b number new = record {
     number = number;
     fresh = new;
@@ -121,36 +121,36 @@ module _ {T : Type 0} where
 
   says_referred : (S : State T) (o : Option OwnerName) (b : GenerationalPointer) (to : Option Name)
       (target : Option (Cell T)) (n : Name)
-      → set.contains S.given n ≡ false → IsSaid S (referred S o b to target n)
+      → set.contains S.given n ≡ false → IsSaid S (refer S o b to target n)
   says_referred S o b (Some m) (Some (Shared c l)) n new =
       record { so = says_born S S (Ref m l) o _ refl new; able = refl }
   says_referred S o b to target n new = record { so = tt; able = refl }
 
-  says_cloned : (S : State T) (o : OwnerName) (h : Option Holding) → IsSaid S (cloned S o h)
+  says_cloned : (S : State T) (o : OwnerName) (h : Option Ownership) → IsSaid S (clone_owner S o h)
   says_cloned S o None = record { so = tt; able = refl }
   says_cloned S o (Some h) = record { so = refl; able = refl }
 
-  says_let_go : (S : State T) (o : OwnerName) (h : Option Holding) → IsSaid S (let_go S o h)
+  says_let_go : (S : State T) (o : OwnerName) (h : Option Ownership) → IsSaid S (release_owner S o h)
   says_let_go S o None = record { so = tt; able = refl }
   says_let_go S o (Some h) =
-      let fewer = with_owner S o.key (record h { count = h.count - 1 }) in
+      let fewer = set_ownership S o.key (record h { count = h.count - 1 }) in
       let left : State T = record (close S h.names) { owners = map.remove S.owners o.key } in
-      let ends : Outcome T = unless (hindered S h.names) S (Done, left) in
+      let ends : Outcome T = unless (hindrance_to S h.names) S (Done, left) in
       says_if S (nat_lt 1 h.count)
-      (Done, fewer) ends (record { so = tt; able = refl }) (says_done S left (hindered S h.names))
+      (Done, fewer) ends (record { so = tt; able = refl }) (says_done S left (hindrance_to S h.names))
 
   -- the content that a cell was given
   filled_content : (S : State T) (m : Name) (c : Content T) (old : Content T)
-      → content_at S m ≡ Some old → content_at (filled S m c) m ≡ Some c
+      → content_at S m ≡ Some old → content_at (fill S m c) m ≡ Some c
   filled_content S m c old had = by_cell (map.get S.cells m) refl
     where
-      by_cell : (x : Option (Cell T)) → map.get S.cells m ≡ x → content_at (filled S m c) m ≡ Some c
+      by_cell : (x : Option (Cell T)) → map.get S.cells m ≡ x → content_at (fill S m c) m ≡ Some c
       by_cell None is = absurd (none≢some _ old (ap content_of is) had)
       by_cell (Some (Ref k l)) is = absurd (none≢some _ old (ap content_of is) had)
       by_cell (Some (Value d l)) is = ap content_of
-          (get-changed_here by_name S.cells m (refilled c) (Value d l) is)
+          (get-changed_here by_name S.cells m (refill c) (Value d l) is)
       by_cell (Some (Shared d l)) is = ap content_of
-          (get-changed_here by_name S.cells m (refilled c) (Shared d l) is)
+          (get-changed_here by_name S.cells m (refill c) (Shared d l) is)
 
   says_read : (S : State T) (l : Location) (m : Option Name) (c : Option (Content T))
       → contents S m ≡ c → IsSaid S (read_at S l m c)
@@ -163,11 +163,11 @@ module _ {T : Type 0} where
   says_read S l m c had = record { so = tt; able = refl }
 
   says_write : (S : State T) (l : Location) (m : Option Name) (c : Option (Content T))
-      → contents S m ≡ c → IsSaid S (written_at S l m c)
+      → contents S m ≡ c → IsSaid S (write_at S l m c)
   says_write S l (Some m) (Some (Here v readers)) had =
       let b : Borrow = record { ticket = S.next; location = l } in
-      let filled = filled_content S m (Lent b) (Here v readers) had in
-      let there = ap (λ c. has_writer c S.next) filled ∙ same_number S.next in
+      let fill = filled_content S m (Lent b) (Here v readers) had in
+      let there = ap (λ c. has_writer c S.next) fill ∙ same_number S.next in
       let known = both_true _ _ (same_number S.number) there in
       record { so = (record { is = refl; next = refl }, known); able = refl }
   says_write S l m c had = record { so = tt; able = refl }
@@ -178,9 +178,9 @@ module _ {T : Type 0} where
   says_set S b v None c = record { so = tt; able = refl }
   says_set S b v m c = record { so = tt; able = refl }
 
-  says_turned : (S : State T) (a old new : Name) (l : Location) → IsSaid S (turned S a old new l)
+  says_turned : (S : State T) (a old new : Name) (l : Location) → IsSaid S (turn S a old new l)
   says_turned S a old new l =
-      let left = swept (map.insert S.cells a (Ref new l)) in
+      let left = sweep (map.insert S.cells a (Ref new l)) in
       let after : State T = record S { cells = left } in
       let hindrance = hindrance_at S.cells left old in
       says_if S (is_name old new) (Done, S)
@@ -188,7 +188,7 @@ module _ {T : Type 0} where
       (record { so = tt; able = refl }) (says_done S after hindrance)
 
   says_pointed : (S : State T) (a b : GenerationalPointer) (cell : Option (Cell T))
-      (to : Option Name) (target : Option (Cell T)) → IsSaid S (pointed S a b cell to target)
+      (to : Option Name) (target : Option (Cell T)) → IsSaid S (point S a b cell to target)
   says_pointed S a b None to target = record { so = tt; able = refl }
   says_pointed S a b (Some (Ref old l)) (Some new) (Some (Shared c k)) =
       says_turned S (name_of a) old new l
@@ -200,16 +200,16 @@ module _ {T : Type 0} where
   act_says S (Make o v l) f new = says_known S (is_known S o) (make_value S o v l f.first)
       (record { so = says_born S S (Value (Here v []) l) o _ refl new; able = refl })
   act_says S (MakeShared o v l) f new =
-      let shared = born S f.first (Shared (Here v []) l) in
+      let shared = add_cell S f.first (Shared (Here v []) l) in
       says_known S (is_known S o) (make_shared S o v l f)
       (record { so = says_born S shared (Ref f.first l) o _ refl new.1; able = refl })
   act_says S (Refer o b) f new = says_known S (is_known S o)
-      (unless (read_trouble S b) S (referred S o b (reach S b) (found S (reach S b)) f.first))
+      (unless (read_trouble S b) S (refer S o b (reach S b) (found S (reach S b)) f.first))
       (says_unless S
       (read_trouble S b) _ (says_referred S o b (reach S b) (found S (reach S b)) f.first new))
   act_says S NewOwner f new = record { so = refl; able = refl }
-  act_says S (CloneOwner o) f new = says_cloned S o (holding S o)
-  act_says S (ReleaseOwner o) f new = says_let_go S o (holding S o)
+  act_says S (CloneOwner o) f new = says_cloned S o (ownership S o)
+  act_says S (ReleaseOwner o) f new = says_let_go S o (ownership S o)
   act_says S (LeakOwner o) f new = record { so = tt; able = refl }
   act_says S (Read b l) f new =
       says_unless S _ _ (says_read S l (reach S b) (contents S (reach S b)) refl)
@@ -221,14 +221,14 @@ module _ {T : Type 0} where
       (Flag true, after)
       (Flag false, S) (record { so = tt; able = refl }) (record { so = tt; able = refl })
   act_says S (ReleaseWriter g v) f new =
-      let after = filled S g.cell (Here v []) in
+      let after = fill S g.cell (Here v []) in
       says_if S
       (knows_writer S g) (Done, after)
       (Back v, S) (record { so = tt; able = refl }) (record { so = tt; able = refl })
   act_says S (SetValue b v) f new = says_set S b v (reach S b) (contents S (reach S b))
-  act_says S (End b) f new = says_done S (close S (own_name S b)) (hindered S (own_name S b))
+  act_says S (End b) f new = says_done S (close S (own_name S b)) (hindrance_to S (own_name S b))
   act_says S (Point a b) f new =
-      let out : Outcome T = pointed S a b (own_cell S a) (reach S b) (found S (reach S b)) in
+      let out : Outcome T = point S a b (own_cell S a) (reach S b) (found S (reach S b)) in
       says_if S (has_same_id a b)
       (Done, S) (unless (read_trouble S b) S out) (record { so = tt; able = refl })
       (says_unless S

@@ -13,13 +13,13 @@ use Rattle.generational_core.specs.State.{State, IsGiven}
 use Rattle.generational_core.specs.Boxes.{name_of, name_in, pointer_of}
 use Rattle.generational_core.specs.Machine.{Answer, OwnerName}
 use Rattle.generational_core.specs.Machine.Answer.{Done}
-use Rattle.generational_core.specs.Session.{SessionState, Held, Said, Asked, Settles, SessionStep}
-use Rattle.generational_core.specs.Session.{Run, box_in, owner_in, held, with_box, with_owner}
-use Rattle.generational_core.specs.Session.{asked, released, replaced, box_held, owner_held, spent}
+use Rattle.generational_core.specs.Session.{SessionState, Held, SessionReply, Request, Settles, SessionStep}
+use Rattle.generational_core.specs.Session.{Run, box_in, owner_in, at_place, with_box, with_owner}
+use Rattle.generational_core.specs.Session.{ask, release, replace, box_held, owner_held, spend}
 use Rattle.generational_core.specs.Session.{gives}
-use Rattle.generational_core.specs.Session.Asked.{Asks, Tells, Swaps}
+use Rattle.generational_core.specs.Session.Request.{Asks, Tells, Swaps}
 use Rattle.generational_core.specs.Session.Held.{Boxed, Reading, Writing, Owning, Nothing}
-use Rattle.generational_core.specs.Session.Said.{ABox}
+use Rattle.generational_core.specs.Session.SessionReply.{ABox}
 use Rattle.generational_core.specs.Replies.{Borrows, AllTellEnds, KeepBoxes, GiveBoxesApart}
 use Rattle.generational_core.proofs.Stepping.{meets_given, meets_number}
 use Rattle.generational_core.proofs.Tables.{held_changed}
@@ -30,15 +30,15 @@ module _ {T : Type 0} where
   -- ---- boxes of a run
 
   -- names stay given
-  session_given : (s r : SessionState T) (c : Call T) (x : Said T) (n : Name)
+  session_given : (s r : SessionState T) (c : Call T) (x : SessionReply T) (n : Name)
       → SessionStep s c x r → IsGiven s.state n → IsGiven r.state n
   session_given s r c x n step given =
       ⊎_elim (λ e. subst (λ (S : State T). IsGiven S n) (sym e) given)
       (λ e. meets_given s.state r.state e.0 e.1 e.2 n given)
-      (settles_meets s r c x (asked s c) step)
+      (settles_meets s r c x (ask s c) step)
 
   -- no reply gives a box of a name that was given before the run
-  run_new : (calls : List (Call T)) (replies : List (Said T)) (s r : SessionState T)
+  run_new : (calls : List (Call T)) (replies : List (SessionReply T)) (s r : SessionState T)
       → Run s calls replies r → (i : ℕ) (b : GenerationalPointer)
       → slice_get replies i ≡ Some (ABox b) → IsGiven s.state (name_of b) → ⊥
   run_new [] [] s r run i b is given = cc
@@ -50,7 +50,7 @@ module _ {T : Type 0} where
   run_new [] (x ∷ replies) s r run i b is given = absurd run
   run_new (c ∷ calls) [] s r run i b is given = absurd run
 
-  pub boxes_apart : (calls : List (Call T)) (replies : List (Said T)) (s r : SessionState T)
+  pub boxes_apart : (calls : List (Call T)) (replies : List (SessionReply T)) (s r : SessionState T)
       → Run s calls replies r → GiveBoxesApart replies
   boxes_apart [] [] s r run i j b c is at same = cc
   boxes_apart (k ∷ calls) (x ∷ replies) s r run zero zero b c is at same = refl
@@ -71,49 +71,49 @@ module _ {T : Type 0} where
 
   -- a place more leaves what stands before it
   held_before : (table : List (Held T)) (y : Held T) (p : ℕ) (b : GenerationalPointer)
-      → held table p ≡ Boxed b → held (table ++ y ∷ []) p ≡ Boxed b
+      → at_place table p ≡ Boxed b → at_place (table ++ y ∷ []) p ≡ Boxed b
   held_before [] y p b is = cc
   held_before (x ∷ table) y zero b is = is
   held_before (x ∷ table) y (suc p) b is = held_before table y p b is
 
   -- another thing at a place that held no box
   held_beside : (table : List (Held T)) (q : ℕ) (y : Held T) (p : ℕ) (b : GenerationalPointer)
-      → held table q ≢ Boxed b → held table p ≡ Boxed b → held (slice_set table q y) p ≡ Boxed b
+      → at_place table q ≢ Boxed b → at_place table p ≡ Boxed b → at_place (slice_set table q y) p ≡ Boxed b
   held_beside table q y p b other is = ⊎_elim (λ e. e ∙ is)
-      (λ e. absurd (other (sym (ap (held table) e.0) ∙ is))) (held_changed table q y p)
+      (λ e. absurd (other (sym (ap (at_place table) e.0) ∙ is))) (held_changed table q y p)
 
   -- what is spent is no box
-  abbrev Spares : SessionState T → Call T → Asked T → Type 0
+  abbrev Spares : SessionState T → Call T → Request T → Type 0
   Spares s c (Asks action) = (answer : Answer T) (p : ℕ) (b : GenerationalPointer)
-      → held s.table p ≡ Boxed b → held (spent c answer s.table) p ≡ Boxed b
+      → at_place s.table p ≡ Boxed b → at_place (spend c answer s.table) p ≡ Boxed b
   Spares s c (Tells x) = Unit {0}
-  Spares s c (Swaps q g v old) = held s.table q ≡ Writing g old
+  Spares s c (Swaps q g v old) = at_place s.table q ≡ Writing g old
 
   spares_box : (s : SessionState T) (c : Call T) (o : Option GenerationalPointer) (back : Option T)
-      (next : GenerationalPointer → Asked T) → ((b : GenerationalPointer) → Spares s c (next b))
+      (next : GenerationalPointer → Request T) → ((b : GenerationalPointer) → Spares s c (next b))
       → Spares s c (with_box o back next)
   spares_box s c None back next h = tt
   spares_box s c (Some b) back next h = h b
 
   spares_owner : (s : SessionState T) (c : Call T) (q : ℕ) (back : Option T)
-      (next : OwnerName → Asked T)
-      → ((o : OwnerName) → held s.table q ≡ Owning o → Spares s c (next o))
+      (next : OwnerName → Request T)
+      → ((o : OwnerName) → at_place s.table q ≡ Owning o → Spares s c (next o))
       → Spares s c (with_owner (owner_in s q) back next)
-  spares_owner s c q back next h = at (held s.table q) refl
+  spares_owner s c q back next h = at (at_place s.table q) refl
     where
-      at : (x : Held T) → held s.table q ≡ x → Spares s c (with_owner (owner_held x) back next)
+      at : (x : Held T) → at_place s.table q ≡ x → Spares s c (with_owner (owner_held x) back next)
       at (Owning o) is = h o is
       at _ is = tt
 
   spares_release : (s : SessionState T) (o : OwnerName) (q : ℕ) (answer : Answer T)
-      (p : ℕ) (b : GenerationalPointer) → held s.table q ≡ Owning o → held s.table p ≡ Boxed b
-      → held (spent (call.ReleaseOwner q) answer s.table) p ≡ Boxed b
+      (p : ℕ) (b : GenerationalPointer) → at_place s.table q ≡ Owning o → at_place s.table p ≡ Boxed b
+      → at_place (spend (call.ReleaseOwner q) answer s.table) p ≡ Boxed b
   spares_release s o q Done p b there is =
       held_beside s.table q Nothing p b (λ e. let x = sym there ∙ e in cc) is
   spares_release s o q _ p b there is = is
 
   spares_released : (s : SessionState T) (q : ℕ) (x : Held T)
-      → held s.table q ≡ x → Spares s (call.Release q) (released x)
+      → at_place s.table q ≡ x → Spares s (call.Release q) (release x)
   spares_released s q (Reading g) there =
       λ answer p b is. held_beside s.table q Nothing p b (λ e. let x = sym there ∙ e in cc) is
   spares_released s q (Writing g v) there =
@@ -121,11 +121,11 @@ module _ {T : Type 0} where
   spares_released s q _ there = tt
 
   spares_replaced : (s : SessionState T) (q : ℕ) (v : T) (x : Held T)
-      → held s.table q ≡ x → Spares s (call.Replace q v) (replaced q x v)
+      → at_place s.table q ≡ x → Spares s (call.Replace q v) (replace q x v)
   spares_replaced s q v (Writing g old) there = there
   spares_replaced s q v _ there = tt
 
-  spares_asked : (s : SessionState T) (c : Call T) → Spares s c (asked s c)
+  spares_asked : (s : SessionState T) (c : Call T) → Spares s c (ask s c)
   spares_asked s (call.Leak v l) = λ answer p b is. is
   spares_asked s (call.Insert q v l) =
       spares_owner s (call.Insert q v l) q (Some v) _ (λ o there answer p b is. is)
@@ -141,8 +141,8 @@ module _ {T : Type 0} where
       spares_box s (call.TryRead a l) (box_in s a) None _ (λ x answer p b is. is)
   spares_asked s (call.TryWrite a l) =
       spares_box s (call.TryWrite a l) (box_in s a) None _ (λ x answer p b is. is)
-  spares_asked s (call.Replace q v) = spares_replaced s q v (held s.table q) refl
-  spares_asked s (call.Release q) = spares_released s q (held s.table q) refl
+  spares_asked s (call.Replace q v) = spares_replaced s q v (at_place s.table q) refl
+  spares_asked s (call.Release q) = spares_released s q (at_place s.table q) refl
   spares_asked s (call.ManuallyDrop a) =
       spares_box s (call.ManuallyDrop a) (box_in s a) None _ (λ x answer p b is. is)
   spares_asked s (call.PtrEq a d) = spares_box s (call.PtrEq a d) (box_in s a) None _
@@ -152,33 +152,33 @@ module _ {T : Type 0} where
   spares_asked s (call.CreatedAt a) =
       spares_box s (call.CreatedAt a) (box_in s a) None _ (λ x. tt)
 
-  settles_boxes : (s r : SessionState T) (c : Call T) (x : Said T) (a : Asked T)
+  settles_boxes : (s r : SessionState T) (c : Call T) (x : SessionReply T) (a : Request T)
       → Spares s c a → Settles s c a x r → KeepBoxes s r
   settles_boxes s r c x (Asks action) spares step p b is =
-      ap (λ (out : Said T × SessionState T). held out.1.table p) step.3
-      ∙ held_before (spent c step.0 s.table) (gives step.0) p b (spares step.0 p b is)
+      ap (λ (out : SessionReply T × SessionState T). at_place out.1.table p) step.3
+      ∙ held_before (spend c step.0 s.table) (gives step.0) p b (spares step.0 p b is)
   settles_boxes s r c x (Tells y) spares step p b is =
-      ap (λ (r : SessionState T). held r.table p) step.1 ∙ held_before s.table Nothing p b is
+      ap (λ (r : SessionState T). at_place r.table p) step.1 ∙ held_before s.table Nothing p b is
   settles_boxes s r c x (Swaps q g v old) there step p b is =
-      ap (λ (r : SessionState T). held r.table p) step.1
+      ap (λ (r : SessionState T). at_place r.table p) step.1
       ∙ held_before (slice_set s.table q (Writing g v)) Nothing p b
       (held_beside s.table q (Writing g v) p b (λ e. let x = sym there ∙ e in cc) is)
 
   -- each call, and so each run, leaves the boxes at their places
-  pub keep_boxes : (s r : SessionState T) (c : Call T) (x : Said T)
+  pub keep_boxes : (s r : SessionState T) (c : Call T) (x : SessionReply T)
       → SessionStep s c x r → KeepBoxes s r
-  keep_boxes s r c x step = settles_boxes s r c x (asked s c) (spares_asked s c) step
+  keep_boxes s r c x step = settles_boxes s r c x (ask s c) (spares_asked s c) step
 
-  pub run_keep_boxes : (calls : List (Call T)) (replies : List (Said T)) (s r : SessionState T)
+  pub run_keep_boxes : (calls : List (Call T)) (replies : List (SessionReply T)) (s r : SessionState T)
       → Run s calls replies r → KeepBoxes s r
-  run_keep_boxes calls replies s r run p b is = by_run (λ s. held s.table p ≡ Boxed b)
+  run_keep_boxes calls replies s r run p b is = by_run (λ s. at_place s.table p ≡ Boxed b)
       (λ s r c x h step. keep_boxes s r c x step p b h) calls replies s r is run
 
   -- so a call names the same box after another call
-  box_in_kept : (s r : SessionState T) (c : Call T) (x : Said T) → SessionStep s c x r
+  box_in_kept : (s r : SessionState T) (c : Call T) (x : SessionReply T) → SessionStep s c x r
       → (a : BoxAt T) (b : GenerationalPointer) → box_in s a ≡ Some b → box_in r a ≡ Some b
   box_in_kept s r c x step (Place p) b is =
-      ap box_held (keep_boxes s r c x step p b (boxed (held s.table p) is))
+      ap box_held (keep_boxes s r c x step p b (boxed (at_place s.table p) is))
     where
       boxed : (h : Held T) → box_held h ≡ Some b → h ≡ Boxed b
       boxed (Boxed d) e = let same : d ≡ b = cc in ap Boxed same
@@ -189,15 +189,15 @@ module _ {T : Type 0} where
   box_in_kept s r c x step (Foreign d) b is =
       ap (λ n. cond (nat_eq (pointer_of d).id.store n) None (Some (pointer_of d)))
       (⊎_elim (λ e. ap (λ (S : State T). S.number) e)
-      (λ e. meets_number s.state r.state e.0 e.1 e.2) (settles_meets s r c x (asked s c) step)) ∙ is
+      (λ e. meets_number s.state r.state e.0 e.1 e.2) (settles_meets s r c x (ask s c) step)) ∙ is
 
-  borrows_kept : (s r : SessionState T) (c : Call T) (x : Said T) → SessionStep s c x r
+  borrows_kept : (s r : SessionState T) (c : Call T) (x : SessionReply T) → SessionStep s c x r
       → (k : Call T) (b : GenerationalPointer) → Borrows s k b → Borrows r k b
   borrows_kept s r c x step (call.TryRead a l) b is = box_in_kept s r c x step a b is
   borrows_kept s r c x step (call.TryWrite a l) b is = box_in_kept s r c x step a b is
   borrows_kept s r c x step _ b is = absurd is
 
-  pub all_tell_ends : (calls : List (Call T)) (replies : List (Said T)) (s r : SessionState T)
+  pub all_tell_ends : (calls : List (Call T)) (replies : List (SessionReply T)) (s r : SessionState T)
       → Run s calls replies r → AllTellEnds s calls replies
   all_tell_ends [] [] s r run i k b there borrows ended = cc
   all_tell_ends (c ∷ calls) (x ∷ replies) s r run zero k b there borrows ended =

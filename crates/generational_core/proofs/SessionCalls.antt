@@ -24,19 +24,19 @@ use Rattle.generational_core.specs.Machine.Action.{ReleaseReader, ReleaseWriter,
 use Rattle.generational_core.specs.Machine.Action.{LeakOwner}
 use Rattle.generational_core.specs.Machine.Answer.{Done, Flag}
 use Rattle.generational_core.specs.Steps.{Meets, no_names}
-use Rattle.generational_core.specs.Session.{SessionState, Held, Said, Asked, SessionStep, Settles}
-use Rattle.generational_core.specs.Session.{Run, asked, said, gives, placed, held, released}
-use Rattle.generational_core.specs.Session.{replaced, let_go_of, all_let_go, owner_held, owner_in}
-use Rattle.generational_core.specs.Session.{with_owner, spent}
+use Rattle.generational_core.specs.Session.{SessionState, Held, SessionReply, Request, SessionStep, Settles}
+use Rattle.generational_core.specs.Session.{Run, ask, reply_of, gives, add_place, at_place, release}
+use Rattle.generational_core.specs.Session.{replace, release_held, release_all, owner_held, owner_in}
+use Rattle.generational_core.specs.Session.{with_owner, spend}
 use Rattle.generational_core.specs.Session.Held.{Boxed, Reading, Writing, Owning, Nothing}
-use Rattle.generational_core.specs.Session.Said.{IsDone}
-use Rattle.generational_core.specs.Session.Asked.{Asks, Tells, Swaps}
-use Rattle.generational_core.specs.Holding.{IsKept}
+use Rattle.generational_core.specs.Session.SessionReply.{IsDone}
+use Rattle.generational_core.specs.Session.Request.{Asks, Tells, Swaps}
+use Rattle.generational_core.specs.SoundSession.{IsSoundSession}
 use Rattle.generational_core.specs.Keeping.{IsUndisturbed, Undisturbed, value_at}
 use Rattle.generational_core.specs.Names.{Name}
 use Rattle.generational_core.specs.declared.boxes.GenerationalPointer.{GenerationalPointer}
-use Rattle.generational_core.specs.Places.{thing_held, said_by, replies_said, session_in}
-use Rattle.generational_core.specs.Places.{refusal_said, exchanged, GivesAsked, Gives}
+use Rattle.generational_core.specs.Places.{as_held, as_reply, as_replies, session_in}
+use Rattle.generational_core.specs.Places.{as_refusal, exchange, GivesAsked, Gives}
 use Rattle.generational_core.proofs.Sessions.{fresh_kept, session_value}
 use Rattle.generational_core.proofs.Sessions.{run_value}
 
@@ -53,40 +53,40 @@ set_back (z ∷ xs) (suc p) x y h = ap (λ xs. z ∷ xs) (set_back xs p x y h)
 
 module _ {T : Type 0} where
   -- what a call gives, once it has its place, is a step of the session
-  asked_step : (s m : SessionState T) (c : Call T) (a : Asked T) (x : Said T) (h : Held T)
-      → GivesAsked s c a x h m → Settles s c a x (placed m h)
+  asked_step : (s m : SessionState T) (c : Call T) (a : Request T) (x : SessionReply T) (h : Held T)
+      → GivesAsked s c a x h m → Settles s c a x (add_place m h)
   asked_step s m c (Asks action) x h g =
-      (g.0, m.state, g.1, λ i. (g.2 i, placed (record { state = m.state; table = g.4 i }) (g.3 i)))
-  asked_step s m c (Tells y) x h g = (g.0, λ i. placed (g.2 i) (g.1 i))
-  asked_step s m c (Swaps p k v old) x h g = (g.0, λ i. placed (g.2 i) (g.1 i))
+      (g.0, m.state, g.1, λ i. (g.2 i, add_place (record { state = m.state; table = g.4 i }) (g.3 i)))
+  asked_step s m c (Tells y) x h g = (g.0, λ i. add_place (g.2 i) (g.1 i))
+  asked_step s m c (Swaps p k v old) x h g = (g.0, λ i. add_place (g.2 i) (g.1 i))
 
   -- a thing at the end of the places
   pub pushed : (S : State T) (items after : List (Thing T)) (t : Thing T) → after ≡ items ++ t ∷ []
-      → session_in S after ≡ placed (session_in S items) (thing_held t)
+      → session_in S after ≡ add_place (session_in S items) (as_held t)
   pushed S items after t e =
       ap (session_in S) e
-      ∙ (λ i. record { state = S; table = map-append thing_held items (t ∷ []) i })
+      ∙ (λ i. record { state = S; table = map-append as_held items (t ∷ []) i })
 
   pub call_step : {s : SessionState T} (S R : State T) (items kept after : List (Thing T))
-      (c : Call T) (x : Said T) (t : Thing T)
-      → session_in S items ≡ s → Gives (session_in S items) c x (thing_held t) (session_in R kept)
+      (c : Call T) (x : SessionReply T) (t : Thing T)
+      → session_in S items ≡ s → Gives (session_in S items) c x (as_held t) (session_in R kept)
       → after ≡ kept ++ t ∷ [] → SessionStep s c x (session_in R after)
   call_step {s} S R items kept after c x t view gives more =
       subst (λ q. SessionStep q c x (session_in R after)) view
       (subst (SessionStep (session_in S items) c x) (sym (pushed R kept after t more))
-      (asked_step (session_in S items) (session_in R kept) c (asked (session_in S items) c) x
-      (thing_held t) gives))
+      (asked_step (session_in S items) (session_in R kept) c (ask (session_in S items) c) x
+      (as_held t) gives))
 
   -- a session over a fresh store
   pub new_kept : (S : State T) (items : List (Thing T))
-      → IsFresh S → items ≡ [] → IsKept (session_in S items)
+      → IsFresh S → items ≡ [] → IsSoundSession (session_in S items)
   new_kept S items f none =
-      rw none (subst (λ X. IsKept (record { state = X; table = [] })) (sym f)
+      rw none (subst (λ X. IsSoundSession (record { state = X; table = [] })) (sym f)
       (fresh_kept S.number S.start S.next))
 
   -- what stands at a place
   pub held_there : (items : List (Thing T)) (p : ℕ) (t : Thing T) → slice_get items p ≡ Some t
-      → held (list_map thing_held items) p ≡ thing_held t
+      → at_place (list_map as_held items) p ≡ as_held t
   held_there [] p t h = absurd (none-some t h)
   held_there (z ∷ items) zero t h = cc
   held_there (z ∷ items) (suc p) t h = held_there items p t h
@@ -98,13 +98,13 @@ module _ {T : Type 0} where
       → after ≡ slice_set items p thing.Nothing
       → Gives (session_in S items) (call.Release p) IsDone Nothing (session_in R after)
   release_gives S R items after p g known there meets spends =
-      subst (λ h. GivesAsked (session_in S items) (call.Release p) (released h) IsDone Nothing
+      subst (λ h. GivesAsked (session_in S items) (call.Release p) (release h) IsDone Nothing
       (session_in R after)) (sym (held_there items p (thing.Reader g) there)) (
         Flag known,
         meets,
         refl,
         refl,
-        ap (list_map thing_held) spends ∙ map-set thing_held items p thing.Nothing,
+        ap (list_map as_held) spends ∙ map-set as_held items p thing.Nothing,
       )
 
   -- a writer's guard at a place is released: what the store answers, the reply is the same
@@ -114,16 +114,16 @@ module _ {T : Type 0} where
       → after ≡ slice_set items p thing.Nothing
       → Gives (session_in S items) (call.Release p) IsDone Nothing (session_in R after)
   writer_release_gives S R items after p g back there meets spends =
-      subst (λ h. GivesAsked (session_in S items) (call.Release p) (released h) IsDone Nothing
+      subst (λ h. GivesAsked (session_in S items) (call.Release p) (release h) IsDone Nothing
       (session_in R after)) (sym (held_there items p (thing.Writer g) there)) (
         back_answer back,
         meets,
         tells back,
         gives_none back,
-        ap (list_map thing_held) spends ∙ map-set thing_held items p thing.Nothing,
+        ap (list_map as_held) spends ∙ map-set as_held items p thing.Nothing,
       )
     where
-      tells : {U : Type 0} (back : Result U T) → IsDone ≡ said (call.Release p) (back_answer back)
+      tells : {U : Type 0} (back : Result U T) → IsDone ≡ reply_of (call.Release p) (back_answer back)
       tells (Ok u) = refl
       tells (Err v) = refl
 
@@ -133,7 +133,7 @@ module _ {T : Type 0} where
 
   -- a call of an owner whose place holds one
   by_owner : (S R : State T) (items after : List (Thing T)) (c : Call T) (p : ℕ) (o : OwnerName)
-      (next : OwnerName → Asked T) (x : Said T) → slice_get items p ≡ Some (thing.Owner o)
+      (next : OwnerName → Request T) (x : SessionReply T) → slice_get items p ≡ Some (thing.Owner o)
       → GivesAsked (session_in S items) c (next o) x Nothing (session_in R after)
       → GivesAsked (session_in S items)
       c (with_owner (owner_in (session_in S items) p) None next) x Nothing (session_in R after)
@@ -152,7 +152,7 @@ module _ {T : Type 0} where
         meets,
         refl,
         refl,
-        ap (list_map thing_held) spends ∙ map-set thing_held items p thing.Nothing,
+        ap (list_map as_held) spends ∙ map-set as_held items p thing.Nothing,
       )
 
   -- its release is refused, and it goes back to its place
@@ -161,14 +161,14 @@ module _ {T : Type 0} where
       → slice_get items p ≡ Some (thing.Owner o) → Meets S (ReleaseOwner o) (end_refused e) R
       → taken ≡ slice_set items p thing.Nothing
       → after ≡ slice_set taken p (thing.Owner back) → back ≡ o
-      → Gives (session_in S items) (call.ReleaseOwner p) (refusal_said e) Nothing
+      → Gives (session_in S items) (call.ReleaseOwner p) (as_refusal e) Nothing
       (session_in R after)
   owner_kept S R items taken after p o back e there meets spends puts is =
       by_owner S R items after (call.ReleaseOwner p) p o (λ o. Asks (ReleaseOwner o))
-      (refusal_said e) there (end_refused e, meets, tells e, gives_none e, stays e)
+      (as_refusal e) there (end_refused e, meets, tells e, gives_none e, stays e)
     where
       tells : (e : Refused BorrowMutError)
-          → ◌≡◌ {A = Said T} (refusal_said e) (said (call.ReleaseOwner p) (end_refused e))
+          → ◌≡◌ {A = SessionReply T} (as_refusal e) (reply_of (call.ReleaseOwner p) (end_refused e))
       tells (refused.Borrow b) = refl
       tells (refused.Store cause) = refl
 
@@ -177,12 +177,12 @@ module _ {T : Type 0} where
       gives_none (refused.Borrow b) = refl
       gives_none (refused.Store cause) = refl
 
-      same : list_map thing_held after ≡ list_map thing_held items
-      same = ap (list_map thing_held) (puts
+      same : list_map as_held after ≡ list_map as_held items
+      same = ap (list_map as_held) (puts
           ∙ ((λ i. slice_set (spends i) p (thing.Owner (is i))) ∙ set_back items p _ _ there))
 
-      stays : (e : Refused BorrowMutError) → list_map thing_held after
-          ≡ spent (call.ReleaseOwner p) (end_refused e) (list_map thing_held items)
+      stays : (e : Refused BorrowMutError) → list_map as_held after
+          ≡ spend (call.ReleaseOwner p) (end_refused e) (list_map as_held items)
       stays (refused.Borrow b) = same
       stays (refused.Store cause) = same
 
@@ -196,28 +196,28 @@ module _ {T : Type 0} where
         inl (no_names, tt, refl),
         refl,
         refl,
-        ap (list_map thing_held) spends ∙ map-set thing_held items p thing.Nothing,
+        ap (list_map as_held) spends ∙ map-set as_held items p thing.Nothing,
       )
 
   -- another value for the writer at a place
-  module _ (S : State T) (items after : List (Thing T)) (p : ℕ) (v : T) (x : Said T) where
+  module _ (S : State T) (items after : List (Thing T)) (p : ℕ) (v : T) (x : SessionReply T) where
     abbrev table : List (Held T)
-    table = list_map thing_held items
+    table = list_map as_held items
 
     abbrev with_table : List (Held T) → SessionState T
     with_table table = record { state = S; table = table }
 
     abbrev Given : Held T → Type 0
     Given h = GivesAsked (session_in S items)
-        (call.Replace p v) (replaced p h v) x Nothing (session_in S after)
+        (call.Replace p v) (replace p h v) x Nothing (session_in S after)
 
-    stays : (h new : Held T) → held table p ≡ h → list_map thing_held after ≡ slice_set table p new
+    stays : (h new : Held T) → at_place table p ≡ h → list_map as_held after ≡ slice_set table p new
         → new ≡ h → session_in S after ≡ session_in S items
     stays h new is sets same = ap with_table
         (sets ∙ (ap (slice_set table p) (same ∙ sym is) ∙ set-get_or table p Nothing))
 
-    given : (h new : Held T) → held table p ≡ h → list_map thing_held after ≡ slice_set table p new
-        → x ≡ (exchanged h v).0 → new ≡ (exchanged h v).1 → Given h
+    given : (h new : Held T) → at_place table p ≡ h → list_map as_held after ≡ slice_set table p new
+        → x ≡ (exchange h v).0 → new ≡ (exchange h v).1 → Given h
     given (Writing g old) new is sets reply thing =
         (reply, refl, ap with_table (sets ∙ ap (slice_set table p) thing))
     given (Boxed b) new is sets reply thing = (reply, refl, stays (Boxed b) new is sets thing)
@@ -226,88 +226,88 @@ module _ {T : Type 0} where
     given Nothing new is sets reply thing = (reply, refl, stays Nothing new is sets thing)
 
     pub replace_gives : (t u : Thing T) → slice_get items p ≡ Some t → after ≡ slice_set items p u
-        → x ≡ (exchanged (thing_held t) v).0 → thing_held u ≡ (exchanged (thing_held t) v).1
+        → x ≡ (exchange (as_held t) v).0 → as_held u ≡ (exchange (as_held t) v).1
         → Gives (session_in S items) (call.Replace p v) x Nothing (session_in S after)
     replace_gives t u there changes reply thing =
         let at = held_there items p t there in
-        subst Given (sym at) (given (thing_held t) (thing_held u) at
-        (ap (list_map thing_held) changes ∙ map-set thing_held items p u) reply thing)
+        subst Given (sym at) (given (as_held t) (as_held u) at
+        (ap (list_map as_held) changes ∙ map-set as_held items p u) reply thing)
 
   -- what holds of a session by its invariant, as its model is seen
   pub kept_in : {s : SessionState T} (S : State T) (items : List (Thing T))
-      → session_in S items ≡ s → IsKept (session_in S items) → IsKept s
-  kept_in S items view kept = subst IsKept view kept
+      → session_in S items ≡ s → IsSoundSession (session_in S items) → IsSoundSession s
+  kept_in S items view kept = subst IsSoundSession view kept
 
   -- a value that nothing disturbs stays in a call
   pub call_value : {s : SessionState T} (S : State T) (items : List (Thing T)) (r : SessionState T)
-      (c : Call T) (x : Said T) (b : GenerationalPointer) (m : Name)
-      → session_in S items ≡ s → IsKept (session_in S items) → SessionStep s c x r
+      (c : Call T) (x : SessionReply T) (b : GenerationalPointer) (m : Name)
+      → session_in S items ≡ s → IsSoundSession (session_in S items) → SessionStep s c x r
       → IsUndisturbed b m s c r → value_at r.state m ≡ value_at s.state m
   call_value {s} S items r c x b m view kept step undisturbed =
-      session_value s r c x b m (subst IsKept view kept).sound step undisturbed
+      session_value s r c x b m (subst IsSoundSession view kept).sound step undisturbed
 
   -- ---- runs, and the end
 
   pub run_value_in : {s : SessionState T} (S : State T) (items : List (Thing T))
-      (r : SessionState T) (calls : List (Call T)) (replies : List (Said T))
+      (r : SessionState T) (calls : List (Call T)) (replies : List (SessionReply T))
       (b : GenerationalPointer) (m : Name)
-      → session_in S items ≡ s → IsKept (session_in S items) → (run : Run s calls replies r)
+      → session_in S items ≡ s → IsSoundSession (session_in S items) → (run : Run s calls replies r)
       → Undisturbed b m s calls replies r run → value_at r.state m ≡ value_at s.state m
   run_value_in {s} S items r calls replies b m view kept run undisturbed =
-      run_value calls replies s r b m (subst IsKept view kept).sound run undisturbed
+      run_value calls replies s r b m (subst IsSoundSession view kept).sound run undisturbed
 
   -- the last of a reversed table is the first that is let go
   pub let_go_next : (S R : State T) (items rest : List (Thing T)) (t : Thing T)
-      → items ≡ rest ++ t ∷ [] → R ≡ let_go_of S (thing_held t)
-      → all_let_go S (list_map thing_held (reverse items))
-      ≡ all_let_go R (list_map thing_held (reverse rest))
+      → items ≡ rest ++ t ∷ [] → R ≡ release_held S (as_held t)
+      → release_all S (list_map as_held (reverse items))
+      ≡ release_all R (list_map as_held (reverse rest))
   let_go_next S R items rest t e leaves =
-      ap (λ xs. all_let_go S (list_map thing_held xs)) (reversed_push items rest t e)
-      ∙ ap (λ X. all_let_go X (list_map thing_held (reverse rest))) (sym leaves)
+      ap (λ xs. release_all S (list_map as_held xs)) (reversed_push items rest t e)
+      ∙ ap (λ X. release_all X (list_map as_held (reverse rest))) (sym leaves)
 
   pub let_go_all : {s : SessionState T} (S : State T) (items : List (Thing T))
       → session_in S items ≡ s
-      → (turned : List (Thing T)) → turned ≡ reverse items
-      → all_let_go S (list_map thing_held (reverse turned)) ≡ all_let_go s.state s.table
-  let_go_all S items view turned e =
-      ap (λ xs. all_let_go S (list_map thing_held xs)) (ap reverse e ∙ reverse-reverse items)
-      ∙ ap (λ (x : SessionState T). all_let_go x.state x.table) view
+      → (turn : List (Thing T)) → turn ≡ reverse items
+      → release_all S (list_map as_held (reverse turn)) ≡ release_all s.state s.table
+  let_go_all S items view turn e =
+      ap (λ xs. release_all S (list_map as_held xs)) (ap reverse e ∙ reverse-reverse items)
+      ∙ ap (λ (x : SessionState T). release_all x.state x.table) view
 
   -- a run of the calls that are left, behind the replies so far, is a run of all
   abbrev Continues : SessionState T → List (Call T) → State T → List (Thing T) → List (Call T)
       → List (Reply T) → Type 0
-  Continues s all S items calls replies = (rs : List (Said T)) (last : SessionState T)
+  Continues s all S items calls replies = (rs : List (SessionReply T)) (last : SessionState T)
       → Run (session_in S items) (reverse calls) rs last
-      → Run s all (replies_said replies ++ rs) last
+      → Run s all (as_replies replies ++ rs) last
 
   -- one call more of a run
   pub run_goes : (s : SessionState T) (S R : State T) (items kept after : List (Thing T))
       (all calls rest : List (Call T)) (c : Call T)
       (x : Reply T) (t : Thing T) (replies more : List (Reply T))
       → calls ≡ rest ++ c ∷ []
-      → Gives (session_in S items) c (said_by x) (thing_held t) (session_in R kept)
+      → Gives (session_in S items) c (as_reply x) (as_held t) (session_in R kept)
       → after ≡ kept ++ t ∷ [] → more ≡ replies ++ x ∷ []
       → Continues s all S items calls replies → Continues s all R after rest more
-  run_goes s S R items kept after all calls rest c x t replies more front gives place said so_far =
+  run_goes s S R items kept after all calls rest c x t replies more front gives place reply_of so_far =
       λ rs last run. subst (λ xs. Run s all xs last) (sym (behind rs))
-      (so_far (said_by x ∷ rs) last (subst (λ cs. Run (session_in S items) cs (said_by x ∷ rs) last)
+      (so_far (as_reply x ∷ rs) last (subst (λ cs. Run (session_in S items) cs (as_reply x ∷ rs) last)
       (sym (reversed_push calls rest c front)) (
         session_in R after,
-        call_step S R items kept after c (said_by x) t refl gives place,
+        call_step S R items kept after c (as_reply x) t refl gives place,
         run,
       )))
     where
-      behind : (rs : List (Said T))
-          → (replies_said more ++ rs) ≡ (replies_said replies ++ said_by x ∷ rs)
+      behind : (rs : List (SessionReply T))
+          → (as_replies more ++ rs) ≡ (as_replies replies ++ as_reply x ∷ rs)
       behind rs =
-          ap (λ xs. xs ++ rs) (ap replies_said said ∙ map-append said_by replies (x ∷ []))
-          ∙ append_assoc (replies_said replies) (said_by x ∷ []) rs
+          ap (λ xs. xs ++ rs) (ap as_replies reply_of ∙ map-append as_reply replies (x ∷ []))
+          ∙ append_assoc (as_replies replies) (as_reply x ∷ []) rs
 
   -- a run to its end
   pub run_ends : (s : SessionState T) (S : State T) (items : List (Thing T))
       (all calls : List (Call T)) (replies : List (Reply T))
       → calls ≡ [] → Continues s all S items calls replies
-      → Run s all (replies_said replies) (session_in S items)
+      → Run s all (as_replies replies) (session_in S items)
   run_ends s S items all calls replies none so_far =
-      subst (λ xs. Run s all xs (session_in S items)) (append-nil (replies_said replies))
+      subst (λ xs. Run s all xs (session_in S items)) (append-nil (as_replies replies))
       (so_far [] (session_in S items) (rw none refl))

@@ -12,10 +12,10 @@ use Rattle.generational_core.specs.Names.{Name, NameMap, Names}
 use Rattle.generational_core.specs.Cells.{Cell, content_of, is_shared}
 use Rattle.generational_core.specs.Cells.Content.{Here}
 use Rattle.generational_core.specs.Cells.Cell.{Shared, Ref}
-use Rattle.generational_core.specs.State.{State, Holding, IsSound, IsBoxed}
+use Rattle.generational_core.specs.State.{State, Ownership, IsSound, IsBoxed}
 use Rattle.generational_core.specs.State.{tickets_of}
-use Rattle.generational_core.specs.Ending.{without, left_by, close}
-use Rattle.generational_core.specs.Machine.{born}
+use Rattle.generational_core.specs.Ending.{without, cells_after, close}
+use Rattle.generational_core.specs.Machine.{add_cell}
 use Rattle.generational_core.proofs.Maps.{by_name, name_cases, get-insert_here}
 use Rattle.generational_core.proofs.Maps.{get-insert_apart}
 use Rattle.generational_core.proofs.Maps.{contains-insert_here, contains-insert_old}
@@ -53,9 +53,9 @@ module _ {T : Type 0} where
   }
 
   -- other owners, and more tickets
-  pub sound_owners : (S : State T) (owners : map.FinMap nat_cmp Holding) (next : ℕ)
+  pub sound_owners : (S : State T) (owners : map.FinMap nat_cmp Ownership) (next : ℕ)
       → IsSound S → S.next ≤ next
-      → ((k : ℕ) (h : Holding) → map.get owners k ≡ Some h → AllByRecursion (IsBoxed S) h.names)
+      → ((k : ℕ) (h : Ownership) → map.get owners k ≡ Some h → AllByRecursion (IsBoxed S) h.names)
       → ((k : ℕ) → is_some (map.get owners k) ≡ true → k < next)
       → IsSound (record S { owners = owners; next = next })
   sound_owners S owners next s up owned keys = record {
@@ -71,7 +71,7 @@ module _ {T : Type 0} where
 
   -- names end
   pub left_live : (S : State T) (names : List Name) (n : Name)
-      → is_some (map.get (left_by S.cells names) n) ≡ true → is_some (map.get S.cells n) ≡ true
+      → is_some (map.get (cells_after S.cells names) n) ≡ true → is_some (map.get S.cells n) ≡ true
   left_live S names n h = ⊎_elim (λ e. ⊎_elim (λ k. sym (ap is_some (e.0 ∙ k)) ∙ h)
       (λ k. absurd (true≢false (sym h ∙ ap is_some (e.0 ∙ k.0)))) (without_view S.cells names n))
       (λ e. absurd (true≢false (sym h ∙ ap is_some e.0))) (swept_view (without S.cells names) n)
@@ -79,16 +79,16 @@ module _ {T : Type 0} where
   -- what is left of other cells than Shared ones is no Shared cell
   left_plain : (S : State T) (names : List Name) (n : Name)
       → is_shared (map.get S.cells n) ≡ false
-      → is_shared (map.get (left_by S.cells names) n) ≡ false
+      → is_shared (map.get (cells_after S.cells names) n) ≡ false
   left_plain S names n h = ⊎_elim (λ e. ⊎_elim (λ k. ap is_shared (e.0 ∙ k) ∙ h)
       (λ k. ap is_shared (e.0 ∙ k.0)) (without_view S.cells names n))
       (λ e. ap is_shared e.0) (swept_view (without S.cells names) n)
 
   -- a state in which names end
   pub sound_close : (S : State T) (names : List Name) → IsSound S → IsSound (close S names)
-  sound_close S names s = sound_cells S (left_by S.cells names) S.given S.peak s
+  sound_close S names s = sound_cells S (cells_after S.cells names) S.given S.peak s
       (swept_targets _ (without_targets S.cells names s.targets))
-      (swept_named _) (no_more S.cells (without S.cells names) (left_by S.cells names)
+      (swept_named _) (no_more S.cells (without S.cells names) (cells_after S.cells names)
       (without_tickets S.cells names) (swept_tickets (without S.cells names)))
       (λ n h. s.given n (left_live S names n h)) (λ n h. (h.0, left_plain S names n h.1))
 
@@ -117,7 +117,7 @@ module _ {T : Type 0} where
       → IsSound S → set.contains S.given n ≡ false
       → tickets_of (content_of (Some c)) ≡ [] → is_shared (Some c) ≡ false
       → ((m : Name) (l : Location) → Some c ≡ Some (Ref m l) → is_shared (map.get S.cells m) ≡ true)
-      → IsSound (born S n c)
+      → IsSound (add_cell S n c)
   sound_born S n c s new quiet plain leads =
       let cells = map.insert S.cells n c in
       let other =
@@ -143,7 +143,7 @@ module _ {T : Type 0} where
   -- a Shared cell and a Ref to it, at two new names
   pub sound_pair : (S : State T) (m n : Name) (v : T) (l : Location)
       → IsSound S → set.contains S.given m ≡ false → set.contains S.given n ≡ false
-      → m ≢ n → IsSound (born (born S m (Shared (Here v []) l)) n (Ref m l))
+      → m ≢ n → IsSound (add_cell (add_cell S m (Shared (Here v []) l)) n (Ref m l))
   sound_pair S m n v l s new_m new_n apart =
       let one = map.insert S.cells m (Shared (Here v []) l) in
       let cells = map.insert one n (Ref m l) in

@@ -11,16 +11,16 @@ use Rattle.generational_core.specs.Names.{Name, is_name}
 use Rattle.generational_core.specs.Cells.{Content, Cell}
 use Rattle.generational_core.specs.Cells.Content.{Here}
 use Rattle.generational_core.specs.Cells.Cell.{Value, Shared, Ref}
-use Rattle.generational_core.specs.State.{State, Holding}
+use Rattle.generational_core.specs.State.{State, Ownership}
 use Rattle.generational_core.specs.Boxes.{name_of, box_of, has_same_id}
-use Rattle.generational_core.specs.Borrowing.{Trouble, reach, content_at, filled}
+use Rattle.generational_core.specs.Borrowing.{Trouble, reach, content_at, fill}
 use Rattle.generational_core.specs.Borrowing.{read_trouble, write_trouble}
-use Rattle.generational_core.specs.Ending.{swept, close, hindered, hindrance_at}
-use Rattle.generational_core.specs.Machine.{Action, Answer, Fresh, Outcome, OwnerName, act, born}
-use Rattle.generational_core.specs.Machine.{listed, unless, is_known, referred, found, contents}
-use Rattle.generational_core.specs.Machine.{cloned, let_go, holding, read_at, written_at, own_cell}
+use Rattle.generational_core.specs.Ending.{sweep, close, hindrance_to, hindrance_at}
+use Rattle.generational_core.specs.Machine.{Action, Answer, Fresh, Outcome, OwnerName, act, add_cell}
+use Rattle.generational_core.specs.Machine.{add_to_list, unless, is_known, refer, found, contents}
+use Rattle.generational_core.specs.Machine.{clone_owner, release_owner, ownership, read_at, write_at, own_cell}
 use Rattle.generational_core.specs.Machine.{own_name, knows_reader, knows_writer, without_reader}
-use Rattle.generational_core.specs.Machine.{set_at, pointed, turned, with_owner}
+use Rattle.generational_core.specs.Machine.{set_at, point, turn, set_ownership}
 use Rattle.generational_core.specs.Machine.Action.{Make, MakeShared, Refer, NewOwner, CloneOwner}
 use Rattle.generational_core.specs.Machine.Action.{ReleaseOwner, LeakOwner, Read, Write}
 use Rattle.generational_core.specs.Machine.Action.{ReleaseReader, ReleaseWriter, SetValue, End}
@@ -58,25 +58,25 @@ module _ {T : Type 0} where
   begins_unless S None h = h
   begins_unless S (Some t) h = record { start = refl; given = λ _. refl }
 
-  listed_start : (S : State T) (o : Option OwnerName) (n : Name) → (listed S o n).start ≡ S.start
+  listed_start : (S : State T) (o : Option OwnerName) (n : Name) → (add_to_list S o n).start ≡ S.start
   listed_start S None n = refl
   listed_start S (Some o) n = refl
 
   begins_referred : (S : State T) (o : Option OwnerName) (b : GenerationalPointer)
-      (to : Option Name) (x : Option (Cell T)) (n : Name) → Begins true S (referred S o b to x n)
+      (to : Option Name) (x : Option (Cell T)) (n : Name) → Begins true S (refer S o b to x n)
   begins_referred S o b (Some m) (Some (Shared c l)) n =
-      begins_made S _ _ (listed_start (born S n (Ref m l)) o n)
+      begins_made S _ _ (listed_start (add_cell S n (Ref m l)) o n)
   begins_referred S o b to x n = begins S _ _ refl refl
 
-  begins_cloned : (S : State T) (o : OwnerName) (h : Option Holding) → Begins false S (cloned S o h)
+  begins_cloned : (S : State T) (o : OwnerName) (h : Option Ownership) → Begins false S (clone_owner S o h)
   begins_cloned S o None = begins S _ _ refl refl
   begins_cloned S o (Some h) = begins S _ _ refl refl
 
-  begins_let_go : (S : State T) (o : OwnerName) (h : Option Holding) → Begins false S (let_go S o h)
+  begins_let_go : (S : State T) (o : OwnerName) (h : Option Ownership) → Begins false S (release_owner S o h)
   begins_let_go S o None = begins S _ _ refl refl
   begins_let_go S o (Some h) = begins_if S (nat_lt 1 h.count)
-      (begins S Done (with_owner S o.key (record h { count = h.count - 1 })) refl refl)
-      (begins_unless S (hindered S h.names)
+      (begins S Done (set_ownership S o.key (record h { count = h.count - 1 })) refl refl)
+      (begins_unless S (hindrance_to S h.names)
       (begins S Done (record (close S h.names) { owners = map.remove S.owners o.key }) refl refl))
 
   begins_read : (S : State T) (l : Location) (m : Option Name) (c : Option (Content T))
@@ -85,7 +85,7 @@ module _ {T : Type 0} where
   begins_read S l m c = begins S _ _ refl refl
 
   begins_write : (S : State T) (l : Location) (m : Option Name) (c : Option (Content T))
-      → Begins false S (written_at S l m c)
+      → Begins false S (write_at S l m c)
   begins_write S l (Some m) (Some (Here v readers)) = begins S _ _ refl refl
   begins_write S l m c = begins S _ _ refl refl
 
@@ -106,15 +106,15 @@ module _ {T : Type 0} where
   begins_set S b v m c = begins S _ _ refl refl
 
   begins_turned : (S : State T) (a old new : Name) (l : Location)
-      → Begins false S (turned S a old new l)
+      → Begins false S (turn S a old new l)
   begins_turned S a old new l =
-      let left = swept (map.insert S.cells a (Ref new l)) in
+      let left = sweep (map.insert S.cells a (Ref new l)) in
       begins_if S (is_name old new) (begins S Done S refl refl)
       (begins_unless S
       (hindrance_at S.cells left old) (begins S Done (record S { cells = left }) refl refl))
 
   begins_pointed : (S : State T) (a b : GenerationalPointer) (cell : Option (Cell T))
-      (to : Option Name) (x : Option (Cell T)) → Begins false S (pointed S a b cell to x)
+      (to : Option Name) (x : Option (Cell T)) → Begins false S (point S a b cell to x)
   begins_pointed S a b None to x = begins S _ _ refl refl
   begins_pointed S a b (Some (Ref old l)) (Some new) (Some (Shared c k)) =
       begins_turned S (name_of a) old new l
@@ -125,18 +125,18 @@ module _ {T : Type 0} where
       → Begins (is_making call) S (act S call f)
   act_start S (Make o v l) f =
       begins_if S (is_known S o) (begins_made S (Made (box_of S.number f.first l)) _
-      (listed_start (born S f.first (Value (Here v []) l)) o f.first))
+      (listed_start (add_cell S f.first (Value (Here v []) l)) o f.first))
       (begins S (Refused UnknownOwner) S refl refl)
   act_start S (MakeShared o v l) f =
       begins_if S (is_known S o) (begins_made S (Made (box_of S.number f.second l)) _ (listed_start
-      (born (born S f.first (Shared (Here v []) l)) f.second (Ref f.first l)) o f.second))
+      (add_cell (add_cell S f.first (Shared (Here v []) l)) f.second (Ref f.first l)) o f.second))
       (begins S (Refused UnknownOwner) S refl refl)
   act_start S (Refer o b) f = begins_if S (is_known S o) (begins_unless S
       (read_trouble S b) (begins_referred S o b (reach S b) (found S (reach S b)) f.first))
       (begins S (Refused UnknownOwner) S refl refl)
   act_start S NewOwner f = begins S _ _ refl refl
-  act_start S (CloneOwner o) f = begins_cloned S o (holding S o)
-  act_start S (ReleaseOwner o) f = begins_let_go S o (holding S o)
+  act_start S (CloneOwner o) f = begins_cloned S o (ownership S o)
+  act_start S (ReleaseOwner o) f = begins_let_go S o (ownership S o)
   act_start S (LeakOwner o) f = begins S _ _ refl refl
   act_start S (Read b l) f =
       begins_unless S (read_trouble S b) (begins_read S l (reach S b) (contents S (reach S b)))
@@ -146,10 +146,10 @@ module _ {T : Type 0} where
       (begins S (Flag true) _ (without_start S g.cell g.ticket (content_at S g.cell))
       (without_given S g.cell g.ticket (content_at S g.cell))) (begins S (Flag false) S refl refl)
   act_start S (ReleaseWriter g v) f = begins_if S (knows_writer S g)
-      (begins S Done (filled S g.cell (Here v [])) refl refl) (begins S (Back v) S refl refl)
+      (begins S Done (fill S g.cell (Here v [])) refl refl) (begins S (Back v) S refl refl)
   act_start S (SetValue b v) f = begins_set S b v (reach S b) (contents S (reach S b))
   act_start S (End b) f =
-      begins_unless S (hindered S (own_name S b)) (begins S Done (close S (own_name S b)) refl refl)
+      begins_unless S (hindrance_to S (own_name S b)) (begins S Done (close S (own_name S b)) refl refl)
   act_start S (Point a b) f =
       begins_if S (has_same_id a b) (begins S Done S refl refl) (begins_unless S
       (read_trouble S b) (begins_pointed S a b (own_cell S a) (reach S b) (found S (reach S b))))

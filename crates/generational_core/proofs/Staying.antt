@@ -10,20 +10,20 @@ use Rattle.generational_core.specs.declared.error.Location.{Location}
 use Rattle.generational_core.specs.declared.borrow.Borrow.{Borrow}
 use Rattle.generational_core.specs.declared.boxes.GenerationalPointer.{GenerationalPointer}
 use Rattle.generational_core.specs.Names.{Name, is_name}
-use Rattle.generational_core.specs.Cells.{Content, Cell, content_of, refilled}
+use Rattle.generational_core.specs.Cells.{Content, Cell, content_of, refill}
 use Rattle.generational_core.specs.Cells.Content.{Here}
 use Rattle.generational_core.specs.Cells.Cell.{Value, Shared, Ref}
-use Rattle.generational_core.specs.State.{State, Holding, IsSound}
+use Rattle.generational_core.specs.State.{State, Ownership, IsSound}
 use Rattle.generational_core.specs.Boxes.{name_of, has_same_id}
 use Rattle.generational_core.specs.Borrowing.{Trouble, not_reached, write_refusal, write_trouble}
-use Rattle.generational_core.specs.Borrowing.{read_trouble, reach, content_at, filled}
-use Rattle.generational_core.specs.Ending.{swept, close, hindrance_at}
-use Rattle.generational_core.specs.Ending.{hindered}
-use Rattle.generational_core.specs.Machine.{Action, Fresh, Outcome, OwnerName, act, born, listed}
-use Rattle.generational_core.specs.Machine.{unless, is_known, referred, found, contents, cloned}
-use Rattle.generational_core.specs.Machine.{let_go, holding, read_at, written_at, own_cell, own_name}
+use Rattle.generational_core.specs.Borrowing.{read_trouble, reach, content_at, fill}
+use Rattle.generational_core.specs.Ending.{sweep, close, hindrance_at}
+use Rattle.generational_core.specs.Ending.{hindrance_to}
+use Rattle.generational_core.specs.Machine.{Action, Fresh, Outcome, OwnerName, act, add_cell, add_to_list}
+use Rattle.generational_core.specs.Machine.{unless, is_known, refer, found, contents, clone_owner}
+use Rattle.generational_core.specs.Machine.{release_owner, ownership, read_at, write_at, own_cell, own_name}
 use Rattle.generational_core.specs.Machine.{knows_reader, knows_writer, has_writer, without_reader}
-use Rattle.generational_core.specs.Machine.{set_at, pointed, turned}
+use Rattle.generational_core.specs.Machine.{set_at, point, turn}
 use Rattle.generational_core.specs.Machine.Action.{Make, MakeShared, Refer, NewOwner, CloneOwner}
 use Rattle.generational_core.specs.Machine.Action.{ReleaseOwner, LeakOwner, Read, Write}
 use Rattle.generational_core.specs.Machine.Action.{ReleaseReader, ReleaseWriter, SetValue, End}
@@ -88,43 +88,43 @@ module _ {T : Type 0} (p : Option (Content T) → Bool) (is : IsBorrow p) where
       (sym (s.given q (borrowed_live _ borrowed)) ∙ (ap (set.contains S.given) same ∙ new))
 
   stays_born : (S : State T) (n : Name) (c : Cell T)
-      → IsSound S → set.contains S.given n ≡ false → Stays S (born S n c)
-  stays_born S n c s new = stays_cells S (born S n c)
+      → IsSound S → set.contains S.given n ≡ false → Stays S (add_cell S n c)
+  stays_born S n c s new = stays_cells S (add_cell S n c)
       (λ q b. get-insert_apart by_name S.cells n c q (borrowed_apart S n s new q b))
 
   stays_pair : (S : State T) (m n : Name) (c d : Cell T)
       → IsSound S → set.contains S.given m ≡ false
-      → set.contains S.given n ≡ false → Stays S (born (born S m c) n d)
-  stays_pair S m n c d s new_m new_n = stays_cells S (born (born S m c) n d) (λ q b.
+      → set.contains S.given n ≡ false → Stays S (add_cell (add_cell S m c) n d)
+  stays_pair S m n c d s new_m new_n = stays_cells S (add_cell (add_cell S m c) n d) (λ q b.
       get-insert_apart by_name (map.insert S.cells m c) n d q (borrowed_apart S n s new_n q b)
       ∙ get-insert_apart by_name S.cells m c q (borrowed_apart S m s new_m q b))
 
   stays_listed : (S R : State T) (o : Option OwnerName) (n : Name)
-      → Stays S R → Stays S (listed R o n)
+      → Stays S R → Stays S (add_to_list R o n)
   stays_listed S R None n h = h
   stays_listed S R (Some o) n h = h
 
   stays_referred : (S : State T) (o : Option OwnerName)
       (b : GenerationalPointer) (to : Option Name) (target : Option (Cell T)) (n : Name)
-      → IsSound S → set.contains S.given n ≡ false → Stays S (referred S o b to target n).1
+      → IsSound S → set.contains S.given n ≡ false → Stays S (refer S o b to target n).1
   stays_referred S o b (Some m) (Some (Shared c l)) n s new =
       stays_listed S _ o n (stays_born S n (Ref m l) s new)
   stays_referred S o b to target n s new = stays_same S
 
-  stays_cloned : (S : State T) (o : OwnerName) (h : Option Holding) → Stays S (cloned S o h).1
+  stays_cloned : (S : State T) (o : OwnerName) (h : Option Ownership) → Stays S (clone_owner S o h).1
   stays_cloned S o None = stays_same S
   stays_cloned S o (Some h) = stays_same S
 
-  stays_let_go : (S : State T) (o : OwnerName) (h : Option Holding)
-      → IsSound S → Stays S (let_go S o h).1
+  stays_let_go : (S : State T) (o : OwnerName) (h : Option Ownership)
+      → IsSound S → Stays S (release_owner S o h).1
   stays_let_go S o None s = stays_same S
   stays_let_go S o (Some h) s = stays_if S
-      (nat_lt 1 h.count) _ _ (λ _. stays_same S) (λ _. stays_unless S (hindered S h.names) _
+      (nat_lt 1 h.count) _ _ (λ _. stays_same S) (λ _. stays_unless S (hindrance_to S h.names) _
       (λ free. stays_cells S (close S h.names) (borrowed_left S h.names s free)))
 
   -- another content in a cell, which passes if the one before did
   stays_filled : (S : State T) (m : Name) (c : Content T) (old : Option (Content T))
-      → content_at S m ≡ old → (p old ≡ true → p (Some c) ≡ true) → Stays S (filled S m c)
+      → content_at S m ≡ old → (p old ≡ true → p (Some c) ≡ true) → Stays S (fill S m c)
   stays_filled S m c old had still n h =
       ⊎_elim (λ e. ap (λ x. p (content_of x)) e ∙ h)
       (λ e.
@@ -134,7 +134,7 @@ module _ {T : Type 0} (p : Option (Content T) → Bool) (is : IsBorrow p) where
       (filled_view S m c n)
     where
       refilled_content : (x : Cell T)
-          → p (content_of (Some x)) ≡ true → content_of (Some (refilled c x)) ≡ Some c
+          → p (content_of (Some x)) ≡ true → content_of (Some (refill c x)) ≡ Some c
       refilled_content (Value d l) k = refl
       refilled_content (Shared d l) k = refl
       refilled_content (Ref r l) k = absurd (true≢false (sym (is.refused None k)))
@@ -146,7 +146,7 @@ module _ {T : Type 0} (p : Option (Content T) → Bool) (is : IsBorrow p) where
   stays_read S l m c had = stays_same S
 
   stays_write : (S : State T) (l : Location) (m : Option Name) (c : Option (Content T))
-      → contents S m ≡ c → write_refusal c ≡ None → Stays S (written_at S l m c).1
+      → contents S m ≡ c → write_refusal c ≡ None → Stays S (write_at S l m c).1
   stays_write S l (Some m) (Some (Here v readers)) had free =
       stays_filled S m _ (Some (Here v readers)) had
       (λ h. absurd (true≢false (sym (is.refused (Some (Here v readers)) h) ∙ ap is_some free)))
@@ -166,25 +166,25 @@ module _ {T : Type 0} (p : Option (Content T) → Bool) (is : IsBorrow p) where
   stays_set S b v m c had = stays_same S
 
   stays_turned : (S : State T) (a old new : Name) (l : Location)
-      → IsSound S → map.get S.cells a ≡ Some (Ref old l) → Stays S (turned S a old new l).1
+      → IsSound S → map.get S.cells a ≡ Some (Ref old l) → Stays S (turn S a old new l).1
   stays_turned S a old new l s at_a = stays_if S (is_name old new) _ _ (λ _. stays_same S)
-      (λ _. stays_unless S (hindrance_at S.cells (swept (map.insert S.cells a (Ref new l))) old) _
-      (λ free. stays_cells S (record S { cells = swept (map.insert S.cells a (Ref new l)) })
+      (λ _. stays_unless S (hindrance_at S.cells (sweep (map.insert S.cells a (Ref new l))) old) _
+      (λ free. stays_cells S (record S { cells = sweep (map.insert S.cells a (Ref new l)) })
       (borrowed_turned S a old new l s at_a free)))
 
   stays_pointed : (S : State T) (a b : GenerationalPointer)
       (cell : Option (Cell T)) (to : Option Name) (target : Option (Cell T))
-      → IsSound S → map.get S.cells (name_of a) ≡ cell → Stays S (pointed S a b cell to target).1
+      → IsSound S → map.get S.cells (name_of a) ≡ cell → Stays S (point S a b cell to target).1
   stays_pointed S a b None to target s at_a = stays_same S
   stays_pointed S a b (Some (Ref old l)) (Some new) (Some (Shared c k)) s at_a =
       stays_turned S (name_of a) old new l s at_a
   stays_pointed S a b (Some _) to target s at_a = stays_same S
 
   stays_point : (S : State T) (a b : GenerationalPointer)
-      → IsSound S → Stays S (pointed S a b (own_cell S a) (reach S b) (found S (reach S b))).1
+      → IsSound S → Stays S (point S a b (own_cell S a) (reach S b) (found S (reach S b))).1
   stays_point S a b s = split (nat_eq a.id.store S.number)
     where
-      split : (own : Bool) → Stays S (pointed S a b
+      split : (own : Bool) → Stays S (point S a b
           (cond own (map.get S.cells (name_of a)) None) (reach S b) (found S (reach S b))).1
       split true = stays_pointed S a b (map.get S.cells (name_of a)) (reach S b) _ s refl
       split false = stays_same S
@@ -215,8 +215,8 @@ module _ {T : Type 0} (p : Option (Content T) → Bool) (is : IsBorrow p) where
       stays_if S (is_known S o) _ _ (λ _. stays_unless S (read_trouble S b) _
       (λ _. stays_referred S o b (reach S b) _ f.first s new)) (λ _. stays_same S)
   act_stays S NewOwner f s new spared = stays_same S
-  act_stays S (CloneOwner o) f s new spared = stays_cloned S o (holding S o)
-  act_stays S (ReleaseOwner o) f s new spared = stays_let_go S o (holding S o) s
+  act_stays S (CloneOwner o) f s new spared = stays_cloned S o (ownership S o)
+  act_stays S (ReleaseOwner o) f s new spared = stays_let_go S o (ownership S o) s
   act_stays S (LeakOwner o) f s new spared = stays_same S
   act_stays S (Read b l) f s new spared = stays_unless S
       (read_trouble S b) _ (λ _. stays_read S l (reach S b) (contents S (reach S b)) refl)
@@ -230,10 +230,10 @@ module _ {T : Type 0} (p : Option (Content T) → Bool) (is : IsBorrow p) where
   act_stays S (SetValue b v) f s new spared =
       stays_set S b v (reach S b) (contents S (reach S b)) refl
   act_stays S (End b) f s new spared =
-      stays_unless S (hindered S (own_name S b)) (Done, close S (own_name S b))
+      stays_unless S (hindrance_to S (own_name S b)) (Done, close S (own_name S b))
       (λ free. stays_cells S (close S (own_name S b)) (borrowed_left S (own_name S b) s free))
   act_stays S (Point a b) f s new spared =
       stays_if S (has_same_id a b) _ _ (λ _. stays_same S) (λ _. stays_unless S (read_trouble S b)
-      (pointed S a b (own_cell S a) (reach S b) (found S (reach S b))) (λ _. stays_point S a b s))
+      (point S a b (own_cell S a) (reach S b) (found S (reach S b))) (λ _. stays_point S a b s))
   act_stays S (CanRead b) f s new spared = stays_same S
   act_stays S (CanWrite b) f s new spared = stays_same S

@@ -18,7 +18,7 @@ use Rattle.generational_core.specs.Boxes.{name_of}
 use Rattle.generational_core.specs.Borrowing.{Trouble, Guard, read_trouble, reach, content_at}
 use Rattle.generational_core.specs.Borrowing.{write_refusal}
 use Rattle.generational_core.specs.Machine.{Action, Answer, Fresh, Outcome, OwnerName, act, unless}
-use Rattle.generational_core.specs.Machine.{referred, found, is_known, knows_reader, knows_writer}
+use Rattle.generational_core.specs.Machine.{refer, found, is_known, knows_reader, knows_writer}
 use Rattle.generational_core.specs.Machine.{has_reader, has_writer, make_value, make_shared}
 use Rattle.generational_core.specs.Machine.Action.{Make, MakeShared, Refer, ReleaseReader}
 use Rattle.generational_core.specs.Machine.Action.{ReleaseWriter}
@@ -83,7 +83,7 @@ module _ {T : Type 0} where
 
   takes_referred : (S : State T) (call : Action T) (f : Fresh)
       (o : Option OwnerName) (b : GenerationalPointer) (to : Option Name) (target : Option (Cell T))
-      → let out : Outcome T = referred S o b to target f.first in
+      → let out : Outcome T = refer S o b to target f.first in
       Takes S call out.0 f → AreNew S call f ⊎ IsRefused S out.0 out.1
   takes_referred S call f o b (Some m) (Some (Shared c l)) t = inl t
   takes_referred S call f o b to target t = inr (refl, refl)

@@ -9,7 +9,7 @@ use Rattle.std.specs.Prelude.{◌⊎◌, slice_set}
 use Rattle.std.proofs.Math.ListN.{get_or-append, get_or-eq_default}
 use Rattle.std.proofs.Math.Seq.{get_or-append_seam}
 use Rattle.std.proofs.lemmas.List.{get_or-set_same, get_or-set_other, length-append, length-set}
-use Rattle.generational_core.specs.Session.{Held, held}
+use Rattle.generational_core.specs.Session.{Held, at_place}
 use Rattle.generational_core.specs.Session.Held.{Nothing}
 
 order_cases : (a b : ℕ) → (a < b) ⊎ ((a ≡ b) ⊎ (b < a))
@@ -20,17 +20,17 @@ equal_cases a b = ⊎_elim (λ (h : a < b). inr (λ e. absurd (omega arith)))
     (λ e. ⊎_elim inl (λ (h : b < a). inr (λ e. absurd (omega arith))) e) (order_cases a b)
 
 module _ {T : Type 0} where
-  held_beyond : (table : List (Held T)) (p : ℕ) → length table ≤ p → held table p ≡ Nothing
+  held_beyond : (table : List (Held T)) (p : ℕ) → length table ≤ p → at_place table p ≡ Nothing
   held_beyond table p h = get_or-eq_default table Nothing h
 
   -- a place at the end, and those before it
   pub held_pushed : (table : List (Held T)) (h : Held T) (p : ℕ)
-      → (held (table ++ h ∷ []) p ≡ held table p)
-      ⊎ ((p ≡ length table) × (held (table ++ h ∷ []) p ≡ h))
+      → (at_place (table ++ h ∷ []) p ≡ at_place table p)
+      ⊎ ((p ≡ length table) × (at_place (table ++ h ∷ []) p ≡ h))
   held_pushed table h p =
       ⊎_elim (λ (below : p < length table). inl (get_or-append table (h ∷ []) Nothing p below))
       (λ e. ⊎_elim
-      (λ is. inr (is, ap (held (table ++ h ∷ [])) is ∙ get_or-append_seam table h [] Nothing))
+      (λ is. inr (is, ap (at_place (table ++ h ∷ [])) is ∙ get_or-append_seam table h [] Nothing))
       (λ (beyond : length table < p).
       let long : length (table ++ h ∷ []) ≡ length table + 1 = length-append table (h ∷ []) in
       inl (held_beyond (table ++ h ∷ []) p (omega arith) ∙ sym (held_beyond table p (omega arith))))
@@ -38,7 +38,7 @@ module _ {T : Type 0} where
       (order_cases p
       (length table))
 
-  emptied : (table : List (Held T)) (p : ℕ) → held (slice_set table p Nothing) p ≡ Nothing
+  emptied : (table : List (Held T)) (p : ℕ) → at_place (slice_set table p Nothing) p ≡ Nothing
   emptied table p =
       let long = length-set table p Nothing in
       let beyond =
@@ -49,8 +49,8 @@ module _ {T : Type 0} where
 
   -- a place that holds another thing, and the others
   pub held_changed : (table : List (Held T)) (p : ℕ) (x : Held T) (q : ℕ)
-      → (held (slice_set table p x) q ≡ held table q)
-      ⊎ ((q ≡ p) × (held (slice_set table p x) q ≡ x))
+      → (at_place (slice_set table p x) q ≡ at_place table q)
+      ⊎ ((q ≡ p) × (at_place (slice_set table p x) q ≡ x))
   held_changed [] p x q = inl refl
   held_changed (h ∷ table) zero x zero = inr (refl, refl)
   held_changed (h ∷ table) zero x (suc q) = inl refl
@@ -60,10 +60,10 @@ module _ {T : Type 0} where
 
   -- a place that was emptied, and the others
   pub held_emptied : (table : List (Held T)) (p q : ℕ)
-      → (held (slice_set table p Nothing) q ≡ Nothing)
-      ⊎ ((held (slice_set table p Nothing) q ≡ held table q) × (q ≢ p))
+      → (at_place (slice_set table p Nothing) q ≡ Nothing)
+      ⊎ ((at_place (slice_set table p Nothing) q ≡ at_place table q) × (q ≢ p))
   held_emptied table p q =
-      ⊎_elim (λ is. inl (ap (held (slice_set table p Nothing)) is ∙ emptied table p))
+      ⊎_elim (λ is. inl (ap (at_place (slice_set table p Nothing)) is ∙ emptied table p))
       (λ ne. inr (get_or-set_other table p q Nothing Nothing ne, ne)) (equal_cases q p)
 
   -- ---- how many places hold such a thing
@@ -81,7 +81,7 @@ module _ {T : Type 0} where
 
   -- another thing at a place
   pub count_changed : (p : Held T → Bool) → p Nothing ≡ false → (table : List (Held T))
-      (i : ℕ) (x : Held T) → count_by p (slice_set table i x) + one_if (p (held table i))
+      (i : ℕ) (x : Held T) → count_by p (slice_set table i x) + one_if (p (at_place table i))
       ≤ count_by p table + one_if (p x)
   count_changed p none [] i x = let e = ap one_if none in omega arith
   count_changed p none (h ∷ table) zero x =

@@ -9,20 +9,20 @@ use Rattle.std.specs.FinSet as set
 use Rattle.generational_core.specs.declared.error.Location.{Location}
 use Rattle.generational_core.specs.declared.boxes.GenerationalPointer.{GenerationalPointer}
 use Rattle.generational_core.specs.Names.{Name, is_name}
-use Rattle.generational_core.specs.Cells.{Content, Cell, content_of, refilled}
+use Rattle.generational_core.specs.Cells.{Content, Cell, content_of, refill}
 use Rattle.generational_core.specs.Cells.Content.{Here, Lent}
 use Rattle.generational_core.specs.Cells.Cell.{Value, Shared, Ref}
-use Rattle.generational_core.specs.State.{State, Holding, IsSound}
+use Rattle.generational_core.specs.State.{State, Ownership, IsSound}
 use Rattle.generational_core.specs.Boxes.{name_of, has_same_id}
 use Rattle.generational_core.specs.Borrowing.{Trouble, Guard, content_at, reach}
-use Rattle.generational_core.specs.Borrowing.{read_trouble, filled}
+use Rattle.generational_core.specs.Borrowing.{read_trouble, fill}
 use Rattle.generational_core.specs.Borrowing.{write_trouble}
-use Rattle.generational_core.specs.Ending.{swept, without, close, hindered, hindrance_at}
-use Rattle.generational_core.specs.Machine.{Action, Answer, Fresh, Outcome, OwnerName, act, born}
-use Rattle.generational_core.specs.Machine.{listed, unless, is_known, referred, found, contents}
-use Rattle.generational_core.specs.Machine.{cloned, let_go, holding, read_at, written_at, own_cell}
+use Rattle.generational_core.specs.Ending.{sweep, without, close, hindrance_to, hindrance_at}
+use Rattle.generational_core.specs.Machine.{Action, Answer, Fresh, Outcome, OwnerName, act, add_cell}
+use Rattle.generational_core.specs.Machine.{add_to_list, unless, is_known, refer, found, contents}
+use Rattle.generational_core.specs.Machine.{clone_owner, release_owner, ownership, read_at, write_at, own_cell}
 use Rattle.generational_core.specs.Machine.{own_name, knows_reader, knows_writer, has_writer}
-use Rattle.generational_core.specs.Machine.{without_reader, set_at, pointed, turned}
+use Rattle.generational_core.specs.Machine.{without_reader, set_at, point, turn}
 use Rattle.generational_core.specs.Machine.Action.{Make, MakeShared, Refer, NewOwner, CloneOwner}
 use Rattle.generational_core.specs.Machine.Action.{ReleaseOwner, LeakOwner, Read, Write}
 use Rattle.generational_core.specs.Machine.Action.{ReleaseReader, ReleaseWriter, SetValue, End}
@@ -94,14 +94,14 @@ module _ {T : Type 0} (Allowed : Type 0) (m : Name) where
       none (Some x) h = absurd (h refl)
 
   kept_born : (S : State T) (n : Name) (c : Cell T)
-      → IsSound S → set.contains S.given n ≡ false → KeptIn S (born S n c)
+      → IsSound S → set.contains S.given n ≡ false → KeptIn S (add_cell S n c)
   kept_born S n c sound new =
       ⊎_elim kept_absent (λ ne. kept_same (get-insert_apart by_name S.cells n c m ne))
       (absent S n sound new)
 
   kept_pair : (S : State T) (n k : Name) (c d : Cell T) → IsSound S
       → set.contains S.given n ≡ false → set.contains S.given k ≡ false
-      → KeptIn S (born (born S n c) k d)
+      → KeptIn S (add_cell (add_cell S n c) k d)
   kept_pair S n k c d sound new_n new_k =
       ⊎_elim kept_absent (λ ne. ⊎_elim kept_absent (λ other. kept_same
       (get-insert_apart by_name (map.insert S.cells n c) k d m other
@@ -109,13 +109,13 @@ module _ {T : Type 0} (Allowed : Type 0) (m : Name) where
       (absent S n sound new_n)
 
   kept_listed : (S R : State T) (o : Option OwnerName) (n : Name)
-      → KeptIn S R → KeptIn S (listed R o n)
+      → KeptIn S R → KeptIn S (add_to_list R o n)
   kept_listed S R None n h = h
   kept_listed S R (Some o) n h = h
 
   kept_referred : (S : State T) (o : Option OwnerName)
       (b : GenerationalPointer) (to : Option Name) (target : Option (Cell T)) (n : Name)
-      → IsSound S → set.contains S.given n ≡ false → KeptIn S (referred S o b to target n).1
+      → IsSound S → set.contains S.given n ≡ false → KeptIn S (refer S o b to target n).1
   kept_referred S o b (Some k) (Some (Shared c l)) n sound new =
       kept_listed S _ o n (kept_born S n (Ref k l) sound new)
   kept_referred S o b to target n sound new = kept_same refl
@@ -127,21 +127,21 @@ module _ {T : Type 0} (Allowed : Type 0) (m : Name) where
       ⊎_elim (λ e. ⊎_elim (λ f. kept_same (e.0 ∙ f)) (λ f. kept_gone (e.0 ∙ f.0))
       (without_view S.cells names m)) (λ e. kept_gone e.0) (swept_view (without S.cells names) m)
 
-  kept_cloned : (S : State T) (o : OwnerName) (h : Option Holding) → KeptIn S (cloned S o h).1
+  kept_cloned : (S : State T) (o : OwnerName) (h : Option Ownership) → KeptIn S (clone_owner S o h).1
   kept_cloned S o None = kept_same refl
   kept_cloned S o (Some h) = kept_same refl
 
-  kept_let_go : (S : State T) (o : OwnerName) (h : Option Holding) → KeptIn S (let_go S o h).1
+  kept_let_go : (S : State T) (o : OwnerName) (h : Option Ownership) → KeptIn S (release_owner S o h).1
   kept_let_go S o None = kept_same refl
   kept_let_go S o (Some h) = kept_if S (nat_lt 1 h.count) _ _ (λ _. kept_same refl)
-      (λ _. kept_unless S (hindered S h.names) _ (kept_close S h.names))
+      (λ _. kept_unless S (hindrance_to S h.names) _ (kept_close S h.names))
 
   -- ---- another content in a cell
 
   kept_refilled : (x : Cell T) (c : Content T)
       → (Allowed → is_some (value_of (content_of (Some x))) ≡ true
       → is_some (value_of (Some c)) ≡ true → value_of (Some c) ≡ value_of (content_of (Some x)))
-      → Keeps Allowed (Some x) (Some (refilled c x))
+      → Keeps Allowed (Some x) (Some (refill c x))
   kept_refilled (Value old l) c h = record { value = h; location = λ a b. refl }
   kept_refilled (Shared old l) c h = record { value = h; location = λ a b. refl }
   kept_refilled (Ref n l) c h =
@@ -149,12 +149,12 @@ module _ {T : Type 0} (Allowed : Type 0) (m : Name) where
 
   kept_filled : (S : State T) (n : Name) (c : Content T)
       → (m ≡ n → Allowed → is_some (value_at S n) ≡ true → is_some (value_of (Some c)) ≡ true
-      → value_of (Some c) ≡ value_at S n) → KeptIn S (filled S n c)
+      → value_of (Some c) ≡ value_at S n) → KeptIn S (fill S n c)
   kept_filled S n c h =
       ⊎_elim kept_same
       (λ e. let value = λ (o : Option (Cell T)). value_of (content_of o) in
       let at_n = ap (value_at S) (sym e.0) ∙ ap value e.2 in
-      subst (λ o. Keeps Allowed o (map.get (filled S n c).cells m)) (sym e.2)
+      subst (λ o. Keeps Allowed o (map.get (fill S n c).cells m)) (sym e.2)
       (subst (Keeps Allowed (Some e.1)) (sym e.3)
       (kept_refilled e.1 c (λ allowed some is.
       h e.0 allowed (ap is_some at_n ∙ some) is ∙ at_n))))
@@ -167,7 +167,7 @@ module _ {T : Type 0} (Allowed : Type 0) (m : Name) where
   kept_read S l to c had = kept_same refl
 
   kept_written : (S : State T) (l : Location) (to : Option Name) (c : Option (Content T))
-      → KeptIn S (written_at S l to c).1
+      → KeptIn S (write_at S l to c).1
   kept_written S l (Some n) (Some (Here v readers)) =
       kept_filled S n _ (λ is allowed h k. absurd (true≢false (sym k)))
   kept_written S l to c = kept_same refl
@@ -180,7 +180,7 @@ module _ {T : Type 0} (Allowed : Type 0) (m : Name) where
 
   -- what a writer gives back was lent before
   kept_back : (S : State T) (g : Guard) (v : T)
-      → knows_writer S g ≡ true → KeptIn S (filled S g.cell (Here v []))
+      → knows_writer S g ≡ true → KeptIn S (fill S g.cell (Here v []))
   kept_back S g v known = kept_filled S g.cell (Here v []) (λ is allowed h k.
       absurd (lent (content_at S g.cell) (and_parts _ _ known).1 h))
     where
@@ -205,10 +205,10 @@ module _ {T : Type 0} (Allowed : Type 0) (m : Name) where
 
   -- a Ref becomes a Ref made at the same place
   kept_turned : (S : State T) (a old new : Name) (l : Location)
-      → map.get S.cells a ≡ Some (Ref old l) → KeptIn S (turned S a old new l).1
+      → map.get S.cells a ≡ Some (Ref old l) → KeptIn S (turn S a old new l).1
   kept_turned S a old new l at_a =
       kept_if S (is_name old new) _ _ (λ _. kept_same refl)
-      (λ _. kept_unless S (hindrance_at S.cells (swept (map.insert S.cells a (Ref new l))) old) _
+      (λ _. kept_unless S (hindrance_at S.cells (sweep (map.insert S.cells a (Ref new l))) old) _
       (⊎_elim (λ e. ⊎_elim (λ is. here e.0 is)
       (λ ne. kept_same (e.0 ∙ get-insert_apart by_name S.cells a (Ref new l) m ne))
       (name_cases m a))
@@ -226,17 +226,17 @@ module _ {T : Type 0} (Allowed : Type 0) (m : Name) where
 
   kept_pointed : (S : State T) (a b : GenerationalPointer)
       (cell : Option (Cell T)) (to : Option Name) (target : Option (Cell T))
-      → map.get S.cells (name_of a) ≡ cell → KeptIn S (pointed S a b cell to target).1
+      → map.get S.cells (name_of a) ≡ cell → KeptIn S (point S a b cell to target).1
   kept_pointed S a b None to target at_a = kept_same refl
   kept_pointed S a b (Some (Ref old l)) (Some new) (Some (Shared c k)) at_a =
       kept_turned S (name_of a) old new l at_a
   kept_pointed S a b (Some _) to target at_a = kept_same refl
 
   kept_point : (S : State T) (a b : GenerationalPointer)
-      → KeptIn S (pointed S a b (own_cell S a) (reach S b) (found S (reach S b))).1
+      → KeptIn S (point S a b (own_cell S a) (reach S b) (found S (reach S b))).1
   kept_point S a b = split (nat_eq a.id.store S.number)
     where
-      split : (own : Bool) → KeptIn S (pointed S a b
+      split : (own : Bool) → KeptIn S (point S a b
           (cond own (map.get S.cells (name_of a)) None) (reach S b) (found S (reach S b))).1
       split true = kept_pointed S a b (map.get S.cells (name_of a)) (reach S b) _ refl
       split false = kept_same refl
@@ -256,8 +256,8 @@ module _ {T : Type 0} where
       kept_if _ m S (is_known S o) _ _ (λ _. kept_unless _ m S (read_trouble S b) _
       (kept_referred _ m S o b (reach S b) _ f.first s new)) (λ _. kept_same _ m refl)
   act_keeps S NewOwner f m s new = kept_same _ m refl
-  act_keeps S (CloneOwner o) f m s new = kept_cloned _ m S o (holding S o)
-  act_keeps S (ReleaseOwner o) f m s new = kept_let_go _ m S o (holding S o)
+  act_keeps S (CloneOwner o) f m s new = kept_cloned _ m S o (ownership S o)
+  act_keeps S (ReleaseOwner o) f m s new = kept_let_go _ m S o (ownership S o)
   act_keeps S (LeakOwner o) f m s new = kept_same _ m refl
   act_keeps S (Read b l) f m s new = kept_unless _ m S (read_trouble S b) _
       (kept_read _ m S l (reach S b) (contents S (reach S b)) refl)
@@ -270,7 +270,7 @@ module _ {T : Type 0} where
       (λ known. kept_back _ m S g v known) (λ _. kept_same _ m refl)
   act_keeps S (SetValue b v) f m s new =
       kept_set _ m S b v (reach S b) (contents S (reach S b)) (λ allowed e. allowed e)
-  act_keeps S (End b) f m s new = kept_unless _ m S (hindered S (own_name S b)) _
+  act_keeps S (End b) f m s new = kept_unless _ m S (hindrance_to S (own_name S b)) _
       (kept_close _ m S (own_name S b))
   act_keeps S (Point a b) f m s new =
       kept_if _ m S (has_same_id a b) _ _ (λ _. kept_same _ m refl)

@@ -12,10 +12,10 @@ use Rattle.generational_core.specs.Machine.{Action, Answer, Fresh, Outcome, Owne
 use Rattle.generational_core.specs.Machine.{knows_reader, knows_writer}
 use Rattle.generational_core.specs.Machine.Action.{LeakOwner, ReleaseReader, ReleaseWriter}
 use Rattle.generational_core.specs.Machine.Answer.{Done, Flag, Back, Refused}
-use Rattle.generational_core.specs.Steps.{Meets, limited, may_lack}
-use Rattle.generational_core.specs.Session.{SessionState, Held, Asked, asked, spent, released}
-use Rattle.generational_core.specs.Session.{with_box, with_owner, box_in, owner_in, held, replaced}
-use Rattle.generational_core.specs.Session.Asked.{Asks}
+use Rattle.generational_core.specs.Steps.{Meets, limit_tickets, may_lack}
+use Rattle.generational_core.specs.Session.{SessionState, Held, Request, ask, spend, release}
+use Rattle.generational_core.specs.Session.{with_box, with_owner, box_in, owner_in, at_place, replace}
+use Rattle.generational_core.specs.Session.Request.{Asks}
 use Rattle.generational_core.specs.Session.Held.{Reading, Writing}
 
 module _ {T : Type 0} where
@@ -27,39 +27,39 @@ module _ {T : Type 0} where
   Goes _ = ⊥
 
   goes_if : (S : State T) (b : Bool) (x y : Outcome T)
-      → Goes (limited S x).0 → Goes (limited S y).0 → Goes (limited S (cond b x y)).0
+      → Goes (limit_tickets S x).0 → Goes (limit_tickets S y).0 → Goes (limit_tickets S (cond b x y)).0
   goes_if S true x y h k = h
   goes_if S false x y h k = k
 
   never_refused : (S R : State T) (action : Action T) (e : StoreError)
-      → ((new : Fresh) → Goes (limited S (act S action new)).0) → may_lack S action ≡ false
+      → ((new : Fresh) → Goes (limit_tickets S (act S action new)).0) → may_lack S action ≡ false
       → Meets S action (Refused e) R → ⊥
   never_refused S R action e goes able (inl m) =
       subst Goes (sym (ap (λ (out : Outcome T). out.0) m.2)) (goes m.0)
   never_refused S R action e goes able (inr m) = true≢false (sym m.0 ∙ able)
 
   -- what the store refuses leaves the places as they are
-  abbrev pub SpendsNothing : SessionState T → Call T → Asked T → Type 0
+  abbrev pub SpendsNothing : SessionState T → Call T → Request T → Type 0
   SpendsNothing s c (Asks action) = (e : StoreError) (R : State T)
-      → Meets s.state action (Refused e) R → spent c (Refused e) s.table ≡ s.table
+      → Meets s.state action (Refused e) R → spend c (Refused e) s.table ≡ s.table
   SpendsNothing s c _ = Unit {0}
 
   nothing_by_box : (s : SessionState T) (c : Call T) (o : Option GenerationalPointer)
-      (back : Option T) (next : GenerationalPointer → Asked T)
+      (back : Option T) (next : GenerationalPointer → Request T)
       → ((b : GenerationalPointer) → SpendsNothing s c (next b))
       → SpendsNothing s c (with_box o back next)
   nothing_by_box s c None back next h = tt
   nothing_by_box s c (Some b) back next h = h b
 
   nothing_by_owner : (s : SessionState T) (c : Call T) (o : Option OwnerName)
-      (back : Option T) (next : OwnerName → Asked T)
+      (back : Option T) (next : OwnerName → Request T)
       → ((o : OwnerName) → SpendsNothing s c (next o))
       → SpendsNothing s c (with_owner o back next)
   nothing_by_owner s c None back next h = tt
   nothing_by_owner s c (Some o) back next h = h o
 
   nothing_released : (s : SessionState T) (p : ℕ) (h : Held T)
-      → SpendsNothing s (call.Release p) (released h)
+      → SpendsNothing s (call.Release p) (release h)
   nothing_released s p (Reading g) = λ e R m. absurd (never_refused s.state R (ReleaseReader g) e
       (λ new. goes_if s.state (knows_reader s.state g) _ _ tt tt) refl m)
   nothing_released s p (Writing g v) = λ e R m. absurd (never_refused s.state R
@@ -67,11 +67,11 @@ module _ {T : Type 0} where
   nothing_released s p _ = tt
 
   nothing_replaced : (s : SessionState T) (p : ℕ) (v : T) (h : Held T)
-      → SpendsNothing s (call.Replace p v) (replaced p h v)
+      → SpendsNothing s (call.Replace p v) (replace p h v)
   nothing_replaced s p v (Writing g old) = tt
   nothing_replaced s p v _ = tt
 
-  pub spends_nothing : (s : SessionState T) (c : Call T) → SpendsNothing s c (asked s c)
+  pub spends_nothing : (s : SessionState T) (c : Call T) → SpendsNothing s c (ask s c)
   spends_nothing s (call.Leak v l) = λ e R m. refl
   spends_nothing s (call.Insert p v l) =
       nothing_by_owner s (call.Insert p v l) (owner_in s p) (Some v) _ (λ o e R m. refl)
@@ -87,8 +87,8 @@ module _ {T : Type 0} where
       nothing_by_box s (call.TryRead a l) (box_in s a) None _ (λ b e R m. refl)
   spends_nothing s (call.TryWrite a l) =
       nothing_by_box s (call.TryWrite a l) (box_in s a) None _ (λ b e R m. refl)
-  spends_nothing s (call.Replace p v) = nothing_replaced s p v (held s.table p)
-  spends_nothing s (call.Release p) = nothing_released s p (held s.table p)
+  spends_nothing s (call.Replace p v) = nothing_replaced s p v (at_place s.table p)
+  spends_nothing s (call.Release p) = nothing_released s p (at_place s.table p)
   spends_nothing s (call.ManuallyDrop a) =
       nothing_by_box s (call.ManuallyDrop a) (box_in s a) None _ (λ b e R m. refl)
   spends_nothing s (call.PtrEq a d) = nothing_by_box s (call.PtrEq a d) (box_in s a) None _

@@ -81,5 +81,5 @@ module _ {T : Type 0} where
   value_of (Some (Lent w)) = None
 
   -- the value that a reader's guard opens, if the state knows the guard
-  abbrev pub opened : State T → Guard → Option T
-  opened S g = if knows_reader S g then value_of (content_at S g.cell) else None
+  abbrev pub value_behind : State T → Guard → Option T
+  value_behind S g = if knows_reader S g then value_of (content_at S g.cell) else None

@@ -4,8 +4,8 @@ use Rattle.std.specs.Prelude.{Option, None, Some, map as list_map}
 use Rattle.std.specs.FinMap as map
 use Rattle.generational_core.specs.declared.error.Location.{Location}
 use Rattle.generational_core.specs.declared.boxes.GenerationalPointer.{GenerationalPointer}
-use Rattle.generational_core.specs.Names.{Name, changed}
-use Rattle.generational_core.specs.Cells.{Content, Cell, content_of, refilled}
+use Rattle.generational_core.specs.Names.{Name, change}
+use Rattle.generational_core.specs.Cells.{Content, Cell, content_of, refill}
 use Rattle.generational_core.specs.Cells.Content.{Here, Lent}
 use Rattle.generational_core.specs.Cells.Cell.{Value, Shared, Ref}
 use Rattle.generational_core.specs.State.{State}
@@ -44,16 +44,16 @@ not_reached (Some n) l at = at n
 
 module _ {T : Type 0} where
   -- where a name's cell leads
-  abbrev pub reached : Option (Cell T) → Name → Option Name
-  reached None n = None
-  reached (Some (Value c l)) n = Some n
-  reached (Some (Shared c l)) n = None
-  reached (Some (Ref m l)) n = Some m
+  abbrev pub leads_to : Option (Cell T) → Name → Option Name
+  leads_to None n = None
+  leads_to (Some (Value c l)) n = Some n
+  leads_to (Some (Shared c l)) n = None
+  leads_to (Some (Ref m l)) n = Some m
 
   -- what a box reaches: its own Value, or the target of its Ref
   unfoldable pub reach : State T → GenerationalPointer → Option Name
   reach S b =
-      if nat_eq b.id.store S.number then reached (map.get S.cells (name_of b)) (name_of b) else None
+      if nat_eq b.id.store S.number then leads_to (map.get S.cells (name_of b)) (name_of b) else None
 
   abbrev pub content_at : State T → Name → Option (Content T)
   content_at S n = content_of (map.get S.cells n)
@@ -67,9 +67,9 @@ module _ {T : Type 0} where
   write_trouble S b = not_reached (reach S b) b.created_at (λ n. write_refusal (content_at S n))
 
   -- the state with another content in a cell
-  abbrev pub filled : State T → Name → Content T → State T
-  filled S n c = record S { cells = changed S.cells n (refilled c) }
+  abbrev pub fill : State T → Name → Content T → State T
+  fill S n c = record S { cells = change S.cells n (refill c) }
 
   -- the state with one ticket more given
-  abbrev pub stamped : State T → State T
-  stamped S = record S { next = S.next + 1 }
+  abbrev pub take_ticket : State T → State T
+  take_ticket S = record S { next = S.next + 1 }

@@ -13,7 +13,7 @@ use Rattle.generational_core.specs.declared.borrow.Borrow.{Borrow}
 use Rattle.generational_core.specs.Cells.{Content, Cell}
 use Rattle.generational_core.specs.Cells.Content.{Here, Lent}
 use Rattle.generational_core.specs.Cells.Cell.{Value, Shared, Ref}
-use Rattle.generational_core.specs.State.{State, Holding}
+use Rattle.generational_core.specs.State.{State, Ownership}
 use Rattle.generational_core.specs.Borrowing.{Guard}
 use Rattle.generational_core.specs.Boxes.{name_of, box_of}
 use Rattle.generational_core.specs.Machine.{Action, Answer, OwnerName, Fresh}
@@ -28,7 +28,7 @@ module _ (f : Name → Name) (d : ℕ) where
   abbrev pub moved_borrow : Borrow → Borrow
   moved_borrow b = record b { ticket = b.ticket + d }
 
-  abbrev pub moved_holding : Holding → Holding
+  abbrev pub moved_holding : Ownership → Ownership
   moved_holding h = record h { names = list_map f h.names }
 
   -- what is of this store; what is of another stays
@@ -102,7 +102,7 @@ module _ (f : Name → Name) (d : ℕ) where
           → map.get S.owners (key + d) ≡ option_map moved_holding (map.get A.owners key)
       -- S has no other owners
       pub keys : (key : ℕ) → is_some (map.get S.owners key) ≡ true → d ≤ key
-      pub listed : (key : ℕ) (h : Holding)
+      pub listed : (key : ℕ) (h : Ownership)
           → map.get A.owners key ≡ Some h → AllByRecursion Knows h.names
       -- known names keep apart
       pub apart : (j k : Name) → Knows j → Knows k → f j ≡ f k → j ≡ k

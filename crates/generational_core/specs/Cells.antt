@@ -24,10 +24,10 @@ content_of (Some (Shared c l)) = Some c
 content_of (Some (Ref m l)) = None
 
 -- the cell with another content
-abbrev pub refilled : {T : Type 0} → Content T → Cell T → Cell T
-refilled c (Value old l) = Value c l
-refilled c (Shared old l) = Shared c l
-refilled c (Ref m l) = Ref m l
+abbrev pub refill : {T : Type 0} → Content T → Cell T → Cell T
+refill c (Value old l) = Value c l
+refill c (Shared old l) = Shared c l
+refill c (Ref m l) = Ref m l
 
 -- whether a cell is a Shared one
 abbrev pub is_shared : {T : Type 0} → Option (Cell T) → Bool

@@ -14,8 +14,8 @@ or_else (Some t) other = Some t
 
 module _ {T : Type 0} where
   -- the cells but for the Shared ones that no live Ref names
-  unfoldable pub swept : NameMap (Cell T) → NameMap (Cell T)
-  swept cells = map.retain_keys cells (λ n. not (is_shared (map.get cells n)) || is_named cells n)
+  unfoldable pub sweep : NameMap (Cell T) → NameMap (Cell T)
+  sweep cells = map.retain_keys cells (λ n. not (is_shared (map.get cells n)) || is_named cells n)
 
   -- the cells but for the Value and Ref cells of these names
   unfoldable pub without : NameMap (Cell T) → List Name → NameMap (Cell T)
@@ -23,12 +23,12 @@ module _ {T : Type 0} where
       map.retain_keys cells (λ n. is_shared (map.get cells n) || not (among names n))
 
   -- the cells that are left when these names end
-  abbrev pub left_by : NameMap (Cell T) → List Name → NameMap (Cell T)
-  left_by cells names = swept (without cells names)
+  abbrev pub cells_after : NameMap (Cell T) → List Name → NameMap (Cell T)
+  cells_after cells names = sweep (without cells names)
 
   -- the state in which these names have ended
   abbrev pub close : State T → List Name → State T
-  close S names = record S { cells = left_by S.cells names }
+  close S names = record S { cells = cells_after S.cells names }
 
   -- whether a live cell is among those that go: the doomed ones
   abbrev pub is_doomed : NameMap (Cell T) → Name → Bool
@@ -53,5 +53,5 @@ module _ {T : Type 0} where
       or_else (hindrance_of cells left (map.get cells n) n) (first_hindrance cells left names)
 
   -- what hinders the end of these names, at the first of them that is hindered
-  unfoldable pub hindered : State T → List Name → Option Trouble
-  hindered S names = first_hindrance S.cells (left_by S.cells names) names
+  unfoldable pub hindrance_to : State T → List Name → Option Trouble
+  hindrance_to S names = first_hindrance S.cells (cells_after S.cells names) names

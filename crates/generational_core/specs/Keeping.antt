@@ -12,8 +12,8 @@ use Rattle.generational_core.specs.Borrowing.{reach, content_at}
 use Rattle.generational_core.specs.Machine.{Action}
 use Rattle.generational_core.specs.Machine.Action.{SetValue}
 use Rattle.generational_core.specs.Answers.{value_of}
-use Rattle.generational_core.specs.Session.{SessionState, Said, Asked, Run, asked}
-use Rattle.generational_core.specs.Session.Asked.{Asks}
+use Rattle.generational_core.specs.Session.{SessionState, SessionReply, Request, Run, ask}
+use Rattle.generational_core.specs.Session.Request.{Asks}
 
 module _ {T : Type 0} where
   -- the value at a name, unless a writer has it
@@ -36,13 +36,13 @@ module _ {T : Type 0} where
   Sets S _ m = ⊥
 
   -- what a call comes to sets the value at a name
-  abbrev pub AskedSets : State T → Asked T → Name → Type 0
+  abbrev pub AskedSets : State T → Request T → Name → Type 0
   AskedSets S (Asks action) m = Sets S action m
   AskedSets S _ m = ⊥
 
   -- a call of a session sets the value at a name
   abbrev pub CallSets : SessionState T → Call T → Name → Type 0
-  CallSets s c m = AskedSets s.state (asked s c) m
+  CallSets s c m = AskedSets s.state (ask s c) m
 
   -- a box reaches a name at which no writer has the value
   pub record IsUnwritten (b : GenerationalPointer) (m : Name) (S : State T) : Type 0 where
@@ -59,7 +59,7 @@ module _ {T : Type 0} where
   -- Nothing disturbs it in a run, from its first state to its last: the box reaches m in each, no
   -- writer has the value in any, and no call sets it.
   abbrev pub Undisturbed : (b : GenerationalPointer) (m : Name)
-      (s : SessionState T) (calls : List (Call T)) (replies : List (Said T)) (r : SessionState T)
+      (s : SessionState T) (calls : List (Call T)) (replies : List (SessionReply T)) (r : SessionState T)
       → Run s calls replies r → Type 0
   Undisturbed b m s [] [] r run = IsUnwritten b m s.state
   Undisturbed b m s (c ∷ calls) (x ∷ replies) r run =

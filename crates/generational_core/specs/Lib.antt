@@ -7,7 +7,6 @@ pub mod Cells
 pub mod Ending
 pub mod Guards
 pub mod History
-pub mod Holding
 pub mod Keeping
 pub mod Machine
 pub mod Names
@@ -21,6 +20,7 @@ pub mod Replies
 pub mod Session
 pub mod Slots
 pub mod Sound
+pub mod SoundSession
 pub mod State
 pub mod Steps
 pub mod Texts

@@ -10,16 +10,16 @@ use Rattle.generational_core.specs.declared.error.StoreError.{StoreError}
 use Rattle.generational_core.specs.declared.error.StoreError.TheVariants.{UnknownOwner}
 use Rattle.generational_core.specs.declared.borrow.Borrow.{Borrow}
 use Rattle.generational_core.specs.declared.boxes.GenerationalPointer.{GenerationalPointer}
-use Rattle.generational_core.specs.Names.{Name, is_name, changed}
+use Rattle.generational_core.specs.Names.{Name, is_name, change}
 use Rattle.generational_core.specs.Cells.{Content, Cell}
 use Rattle.generational_core.specs.Cells.Content.{Here, Lent}
 use Rattle.generational_core.specs.Cells.Cell.{Value, Shared, Ref}
-use Rattle.generational_core.specs.State.{State, Holding}
+use Rattle.generational_core.specs.State.{State, Ownership}
 use Rattle.generational_core.specs.Boxes.{name_of, box_of, has_same_id}
 use Rattle.generational_core.specs.Borrowing.{Trouble, Guard, reach, content_at}
-use Rattle.generational_core.specs.Borrowing.{read_trouble, write_trouble, filled, stamped}
+use Rattle.generational_core.specs.Borrowing.{read_trouble, write_trouble, fill, take_ticket}
 use Rattle.generational_core.specs.Borrowing.Trouble.{Dropped}
-use Rattle.generational_core.specs.Ending.{swept, close, hindered, hindrance_at}
+use Rattle.generational_core.specs.Ending.{sweep, close, hindrance_to, hindrance_at}
 
 -- An owner: its store's number and its key.
 pub record OwnerName : Type 0 where
@@ -73,36 +73,36 @@ module _ {T : Type 0} where
   unless None S other = other
 
   -- the state with one cell more, under a name that is given from now on
-  abbrev pub born : State T → Name → Cell T → State T
-  born S n cell =
+  abbrev pub add_cell : State T → Name → Cell T → State T
+  add_cell S n cell =
       let cells = map.insert S.cells n cell in
       record S { cells = cells; given = set.insert S.given n; peak = max S.peak (map.len cells) }
 
   -- the owner's record, if the owner is of this store
-  abbrev pub holding : State T → OwnerName → Option Holding
-  holding S o = if nat_eq o.store S.number then map.get S.owners o.key else None
+  abbrev pub ownership : State T → OwnerName → Option Ownership
+  ownership S o = if nat_eq o.store S.number then map.get S.owners o.key else None
 
   -- whether a making may go on: without an owner, or with one that the store knows
   abbrev pub is_known : State T → Option OwnerName → Bool
   is_known S None = true
-  is_known S (Some o) = is_some (holding S o)
+  is_known S (Some o) = is_some (ownership S o)
 
   -- the state with a name at the end of the owner's list
-  abbrev pub listed : State T → Option OwnerName → Name → State T
-  listed S None n = S
-  listed S (Some o) n =
-      let more = λ (h : Holding). record h { names = h.names ++ n ∷ [] } in
-      record S { owners = changed S.owners o.key more }
+  abbrev pub add_to_list : State T → Option OwnerName → Name → State T
+  add_to_list S None n = S
+  add_to_list S (Some o) n =
+      let more = λ (h : Ownership). record h { names = h.names ++ n ∷ [] } in
+      record S { owners = change S.owners o.key more }
 
   abbrev pub make_value : State T → Option OwnerName → T → Location → Name → Outcome T
   make_value S o v l n =
-      (Made (box_of S.number n l), listed (born S n (Value (Here v []) l)) o n)
+      (Made (box_of S.number n l), add_to_list (add_cell S n (Value (Here v []) l)) o n)
 
   -- a Shared cell first, then a Ref to it, whose box is answered
   abbrev pub make_shared : State T → Option OwnerName → T → Location → Fresh → Outcome T
   make_shared S o v l f =
-      let shared = born S f.first (Shared (Here v []) l) in
-      (Made (box_of S.number f.second l), listed (born shared f.second (Ref f.first l)) o f.second)
+      let shared = add_cell S f.first (Shared (Here v []) l) in
+      (Made (box_of S.number f.second l), add_to_list (add_cell shared f.second (Ref f.first l)) o f.second)
 
   -- the cell that was reached
   abbrev pub found : State T → Option Name → Option (Cell T)
@@ -115,33 +115,33 @@ module _ {T : Type 0} where
   contents S (Some m) = content_at S m
 
   -- a Ref to what was reached, if that is a Shared cell, with that cell's location
-  abbrev pub referred : State T → Option OwnerName → GenerationalPointer
+  abbrev pub refer : State T → Option OwnerName → GenerationalPointer
       → Option Name → Option (Cell T) → Name → Outcome T
-  referred S o b (Some m) (Some (Shared c l)) n =
-      (Made (box_of S.number n l), listed (born S n (Ref m l)) o n)
-  referred S o b _ _ n = (Troubled (Dropped b.created_at), S)
+  refer S o b (Some m) (Some (Shared c l)) n =
+      (Made (box_of S.number n l), add_to_list (add_cell S n (Ref m l)) o n)
+  refer S o b _ _ n = (Troubled (Dropped b.created_at), S)
 
-  abbrev pub with_owner : State T → ℕ → Holding → State T
-  with_owner S k h = record S { owners = map.insert S.owners k h }
+  abbrev pub set_ownership : State T → ℕ → Ownership → State T
+  set_ownership S k h = record S { owners = map.insert S.owners k h }
 
   -- a record with an empty list and one owner value, under the next ticket
   abbrev pub new_owner : State T → Outcome T
   new_owner S =
-      let after = with_owner S S.next (record { names = []; count = 1 }) in
-      (Owned (record { store = S.number; key = S.next }), stamped after)
+      let after = set_ownership S S.next (record { names = []; count = 1 }) in
+      (Owned (record { store = S.number; key = S.next }), take_ticket after)
 
   -- one owner value more
-  abbrev pub cloned : State T → OwnerName → Option Holding → Outcome T
-  cloned S o None = (Refused UnknownOwner, S)
-  cloned S o (Some h) = (Owned o, stamped (with_owner S o.key (record h { count = h.count + 1 })))
+  abbrev pub clone_owner : State T → OwnerName → Option Ownership → Outcome T
+  clone_owner S o None = (Refused UnknownOwner, S)
+  clone_owner S o (Some h) = (Owned o, take_ticket (set_ownership S o.key (record h { count = h.count + 1 })))
 
   -- one owner value less; with the last one all boxes of the list end, or nothing does
-  abbrev pub let_go : State T → OwnerName → Option Holding → Outcome T
-  let_go S o None = (Refused UnknownOwner, S)
-  let_go S o (Some h) =
+  abbrev pub release_owner : State T → OwnerName → Option Ownership → Outcome T
+  release_owner S o None = (Refused UnknownOwner, S)
+  release_owner S o (Some h) =
       if nat_lt 1 h.count
-      then (Done, with_owner S o.key (record h { count = h.count - 1 }))
-      else unless (hindered S h.names) S
+      then (Done, set_ownership S o.key (record h { count = h.count - 1 }))
+      else unless (hindrance_to S h.names) S
       (Done, record (close S h.names) { owners = map.remove S.owners o.key })
 
   -- the guard and the borrow that the next ticket gives
@@ -154,15 +154,15 @@ module _ {T : Type 0} where
   -- a reader at the end of the list
   abbrev pub read_at : State T → Location → Option Name → Option (Content T) → Outcome T
   read_at S l (Some m) (Some (Here v readers)) =
-      let after = filled S m (Here v (readers ++ next_borrow S l ∷ [])) in
-      (Reads (next_guard S m), stamped after)
+      let after = fill S m (Here v (readers ++ next_borrow S l ∷ [])) in
+      (Reads (next_guard S m), take_ticket after)
   read_at S l _ _ = (Done, S)
 
   -- a writer, whose guard owns the value
-  abbrev pub written_at : State T → Location → Option Name → Option (Content T) → Outcome T
-  written_at S l (Some m) (Some (Here v readers)) =
-      (Writes (next_guard S m) v, stamped (filled S m (Lent (next_borrow S l))))
-  written_at S l _ _ = (Done, S)
+  abbrev pub write_at : State T → Location → Option Name → Option (Content T) → Outcome T
+  write_at S l (Some m) (Some (Here v readers)) =
+      (Writes (next_guard S m) v, take_ticket (fill S m (Lent (next_borrow S l))))
+  write_at S l _ _ = (Done, S)
 
   -- whether the content has the ticket as a reader's
   abbrev pub has_reader : Option (Content T) → ℕ → Bool
@@ -187,14 +187,14 @@ module _ {T : Type 0} where
   -- the readers without the ticket's own
   abbrev pub without_reader : State T → Name → ℕ → Option (Content T) → State T
   without_reader S n t (Some (Here v readers)) =
-      filled S n (Here v (filter (λ r. not (nat_eq r.ticket t)) readers))
+      fill S n (Here v (filter (λ r. not (nat_eq r.ticket t)) readers))
   without_reader S n t _ = S
 
   -- another value where there is no borrow; the value comes back from what is read or lent
   abbrev pub set_at : State T → GenerationalPointer → T
       → Option Name → Option (Content T) → Outcome T
   set_at S b v None c = (Troubled (Dropped b.created_at), S)
-  set_at S b v (Some m) (Some (Here old [])) = (Old old, filled S m (Here v []))
+  set_at S b v (Some m) (Some (Here old [])) = (Old old, fill S m (Here v []))
   set_at S b v (Some m) _ = (Back v, S)
 
   -- the name of a box, if the box is of this store
@@ -213,19 +213,19 @@ module _ {T : Type 0} where
   created_at (Some (Ref m l)) b = l
 
   -- a's cell, a Ref to old made at l, becomes a Ref to new, and old goes if no Ref names it then
-  abbrev pub turned : State T → Name → Name → Name → Location → Outcome T
-  turned S a old new l =
-      let left = swept (map.insert S.cells a (Ref new l)) in
+  abbrev pub turn : State T → Name → Name → Name → Location → Outcome T
+  turn S a old new l =
+      let left = sweep (map.insert S.cells a (Ref new l)) in
       if is_name old new
       then (Done, S)
       else unless (hindrance_at S.cells left old) S (Done, record S { cells = left })
 
   -- a's own cell is asked after b was found free
-  abbrev pub pointed : State T → GenerationalPointer → GenerationalPointer
+  abbrev pub point : State T → GenerationalPointer → GenerationalPointer
       → Option (Cell T) → Option Name → Option (Cell T) → Outcome T
-  pointed S a b None to target = (Troubled (Dropped a.created_at), S)
-  pointed S a b (Some (Ref old l)) (Some new) (Some (Shared c k)) = turned S (name_of a) old new l
-  pointed S a b (Some _) to target = (Troubled (Dropped (created_at target b)), S)
+  point S a b None to target = (Troubled (Dropped a.created_at), S)
+  point S a b (Some (Ref old l)) (Some new) (Some (Shared c k)) = turn S (name_of a) old new l
+  point S a b (Some _) to target = (Troubled (Dropped (created_at target b)), S)
 
   -- what a call answers and leaves, but for tickets that run out and for want of memory
   abbrev pub act : State T → Action T → Fresh → Outcome T
@@ -235,28 +235,28 @@ module _ {T : Type 0} where
       if is_known S o then make_shared S o v l f else (Refused UnknownOwner, S)
   act S (Refer o b) f =
       if is_known S o
-      then unless (read_trouble S b) S (referred S o b (reach S b) (found S (reach S b)) f.first)
+      then unless (read_trouble S b) S (refer S o b (reach S b) (found S (reach S b)) f.first)
       else (Refused UnknownOwner, S)
   act S NewOwner f = new_owner S
-  act S (CloneOwner o) f = cloned S o (holding S o)
-  act S (ReleaseOwner o) f = let_go S o (holding S o)
+  act S (CloneOwner o) f = clone_owner S o (ownership S o)
+  act S (ReleaseOwner o) f = release_owner S o (ownership S o)
   act S (LeakOwner o) f = (Done, S)
   act S (Read b l) f =
       unless (read_trouble S b) S (read_at S l (reach S b) (contents S (reach S b)))
   act S (Write b l) f =
-      unless (write_trouble S b) S (written_at S l (reach S b) (contents S (reach S b)))
+      unless (write_trouble S b) S (write_at S l (reach S b) (contents S (reach S b)))
   act S (ReleaseReader g) f =
       if knows_reader S g
       then (Flag true, without_reader S g.cell g.ticket (content_at S g.cell))
       else (Flag false, S)
   act S (ReleaseWriter g v) f =
-      if knows_writer S g then (Done, filled S g.cell (Here v [])) else (Back v, S)
+      if knows_writer S g then (Done, fill S g.cell (Here v [])) else (Back v, S)
   act S (SetValue b v) f = set_at S b v (reach S b) (contents S (reach S b))
-  act S (End b) f = unless (hindered S (own_name S b)) S (Done, close S (own_name S b))
+  act S (End b) f = unless (hindrance_to S (own_name S b)) S (Done, close S (own_name S b))
   act S (Point a b) f =
       if has_same_id a b
       then (Done, S)
       else unless (read_trouble S b) S
-      (pointed S a b (own_cell S a) (reach S b) (found S (reach S b)))
+      (point S a b (own_cell S a) (reach S b) (found S (reach S b)))
   act S (CanRead b) f = (Flag (is_none (read_trouble S b)), S)
   act S (CanWrite b) f = (Flag (is_none (write_trouble S b)), S)

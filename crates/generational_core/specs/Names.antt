@@ -31,13 +31,13 @@ Names = set.FinSet name_cmp
 abbrev pub NameMap : Type 0 → Type 0
 NameMap X = map.FinMap name_cmp X
 
--- what `changed` makes of what stands at a key
-abbrev pub changed_if : {K X : Type 0} {R : K → K → Ordering}
+-- what `change` makes of what stands at a key
+abbrev pub change_if : {K X : Type 0} {R : K → K → Ordering}
     → map.FinMap R X → K → (X → X) → Option X → map.FinMap R X
-changed_if m k f None = m
-changed_if m k f (Some x) = map.insert m k (f x)
+change_if m k f None = m
+change_if m k f (Some x) = map.insert m k (f x)
 
 -- the map in which what stands at a key, if anything does, is changed by f
-unfoldable pub changed : {K X : Type 0} {R : K → K → Ordering}
+unfoldable pub change : {K X : Type 0} {R : K → K → Ordering}
     → map.FinMap R X → K → (X → X) → map.FinMap R X
-changed m k f = changed_if m k f (map.get m k)
+change m k f = change_if m k f (map.get m k)

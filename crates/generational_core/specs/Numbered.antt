@@ -14,14 +14,14 @@ use Rattle.generational_core.specs.Names.{Name, Names, among}
 use Rattle.generational_core.specs.Boxes.{id_of}
 use Rattle.generational_core.specs.State.{fresh}
 use Rattle.generational_core.specs.Machine.{Fresh, act}
-use Rattle.generational_core.specs.Session.{SessionState, Held, Said, Asked, asked, settled}
-use Rattle.generational_core.specs.Session.{placed, swapped, refusal}
-use Rattle.generational_core.specs.Session.Asked.{Asks, Tells, Swaps}
+use Rattle.generational_core.specs.Session.{SessionState, Held, SessionReply, Request, ask, settle}
+use Rattle.generational_core.specs.Session.{add_place, swap, refusal}
+use Rattle.generational_core.specs.Session.Request.{Asks, Tells, Swaps}
 use Rattle.generational_core.specs.Session.Held.{Boxed, Reading, Writing, Owning, Nothing}
-use Rattle.generational_core.specs.Session.Said.{ABox, AnOwner, AReader, AWriter, IsDone, TheOld}
-use Rattle.generational_core.specs.Session.Said.{Yes}
-use Rattle.generational_core.specs.Session.Said.{TheId, TheSlot, Created, Error, Lacking, HandedBack}
-use Rattle.generational_core.specs.Session.Said.{Unready, NoSuch}
+use Rattle.generational_core.specs.Session.SessionReply.{ABox, AnOwner, AReader, AWriter, IsDone, TheOld}
+use Rattle.generational_core.specs.Session.SessionReply.{Yes}
+use Rattle.generational_core.specs.Session.SessionReply.{TheId, TheSlot, Created, Error, Lacking, HandedBack}
+use Rattle.generational_core.specs.Session.SessionReply.{Unready, NoSuch}
 use Rattle.generational_core.specs.Carrying.{Carries, KnowsBox, KnowsGuard, moved_box, moved_guard}
 use Rattle.generational_core.specs.Carrying.{moved_owner}
 
@@ -90,7 +90,7 @@ any_id = id_of 0 (number 0)
 
 module _ {T : Type 0} where
   -- a reply with ids and slot numbers set aside: it stays a box, an id or the number of a slot
-  abbrev pub erase : Said T → Said T
+  abbrev pub erase : SessionReply T → SessionReply T
   erase (ABox b) = ABox (record b { id = any_id })
   erase (TheId id) = TheId any_id
   erase (TheSlot n) = TheSlot 0
@@ -108,7 +108,7 @@ module _ {T : Type 0} where
   erase (NoSuch o) = NoSuch o
 
   -- the want of memory or of numbers that a reply tells
-  abbrev pub refusal_in : Said T → Option StoreError
+  abbrev pub refusal_in : SessionReply T → Option StoreError
   refusal_in (Lacking e) = want e
   refusal_in (HandedBack v e) = want e
   refusal_in _ = None
@@ -122,18 +122,18 @@ module _ {T : Type 0} where
   -- What a call comes to in the numbered machine. A refusal that it meets is answered, with the
   -- value where one was handed in, and changes nothing.
   abbrev pub numbered : SessionState T
-      → Call T → Asked T → Option StoreError → Said T × SessionState T
-  numbered a c (Asks action) None = settled a c (act a.state action (next_numbers a))
-  numbered a c (Tells x) None = (x, placed a Nothing)
-  numbered a c (Swaps p g v old) None = (TheOld old, placed (swapped a p g v) Nothing)
-  numbered a c _ (Some e) = (refusal c e, placed a Nothing)
+      → Call T → Request T → Option StoreError → SessionReply T × SessionState T
+  numbered a c (Asks action) None = settle a c (act a.state action (next_numbers a))
+  numbered a c (Tells x) None = (x, add_place a Nothing)
+  numbered a c (Swaps p g v old) None = (TheOld old, add_place (swap a p g v) Nothing)
+  numbered a c _ (Some e) = (refusal c e, add_place a Nothing)
 
   -- a call of the numbered machine
-  abbrev pub numbered_act : SessionState T → Call T → Option StoreError → Said T × SessionState T
-  numbered_act a c e = numbered a c (asked a c) e
+  abbrev pub numbered_act : SessionState T → Call T → Option StoreError → SessionReply T × SessionState T
+  numbered_act a c e = numbered a c (ask a c) e
 
   -- the replies to calls, with the refusals that they met; calls beyond the refusals met none
-  abbrev pub answers : SessionState T → List (Call T) → List (Option StoreError) → List (Said T)
+  abbrev pub answers : SessionState T → List (Call T) → List (Option StoreError) → List (SessionReply T)
   answers a [] refusals = []
   answers a (c ∷ calls) (e ∷ refusals) =
       let out = numbered_act a c e in out.0 ∷ answers out.1 calls refusals
@@ -148,7 +148,7 @@ module _ {T : Type 0} where
   -- The replies to calls are those of a numbered session, ids aside, that meets the refusals which
   -- they tell; and what the calls left matches what they left of the numbered session.
   pub record AnswersAs (a : SessionState T)
-      (calls : List (Call T)) (replies : List (Said T)) (r : SessionState T) : Type 0 where
+      (calls : List (Call T)) (replies : List (SessionReply T)) (r : SessionState T) : Type 0 where
     pub same : list_map erase replies
         ≡ list_map erase (answers a calls (list_map refusal_in replies))
     pub matches : Matches r (after a calls (list_map refusal_in replies))

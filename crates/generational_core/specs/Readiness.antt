@@ -10,7 +10,7 @@ use Rattle.generational_core.specs.declared.steps.StepCall.TheVariants.{
 use Rattle.generational_core.specs.State.{State}
 use Rattle.generational_core.specs.Borrowing.{Trouble, read_trouble}
 use Rattle.generational_core.specs.Borrowing.Trouble.{Dropped, BeingRead, BeingWritten}
-use Rattle.generational_core.specs.Ending.{hindered}
+use Rattle.generational_core.specs.Ending.{hindrance_to}
 use Rattle.generational_core.specs.Machine.{own_name}
 
 -- whether a refusal, if there is one, tells of a borrow
@@ -25,4 +25,4 @@ abbrev pub is_ready : {T : Type 0} → State T → StepCall → Bool
 is_ready S (Leak l) = true
 is_ready S (Read b l) = not (tells_of_borrow (read_trouble S b))
 is_ready S (ReleaseRead t) = true
-is_ready S (ManuallyDrop b) = not (tells_of_borrow (hindered S (own_name S b)))
+is_ready S (ManuallyDrop b) = not (tells_of_borrow (hindrance_to S (own_name S b)))

@@ -3,16 +3,16 @@ use Rattle.std.specs.Prelude.{◌≡◌, true, false, List, None, Some}
 use Rattle.std.specs.FinMap as map
 use Rattle.generational_core.specs.Names.{Name, among}
 use Rattle.generational_core.specs.Cells.{is_shared}
-use Rattle.generational_core.specs.State.{State, Holding, IsNamed}
-use Rattle.generational_core.specs.Machine.{OwnerName, holding}
+use Rattle.generational_core.specs.State.{State, Ownership, IsNamed}
+use Rattle.generational_core.specs.Machine.{OwnerName, ownership}
 use Rattle.generational_core.specs.Machine.Action.{ReleaseOwner}
 use Rattle.generational_core.specs.Machine.Answer.{Done}
 use Rattle.generational_core.specs.Steps.{Meets}
 
 -- an owner whose record is h is released, which leads from S to R
-pub record IsReleased {T : Type 0} (S : State T) (o : OwnerName) (h : Holding) (R : State T)
+pub record IsReleased {T : Type 0} (S : State T) (o : OwnerName) (h : Ownership) (R : State T)
     : Type 0 where
-  pub held : holding S o ≡ Some h
+  pub held : ownership S o ≡ Some h
   pub done : Meets S (ReleaseOwner o) Done R
 
 -- The boxes of a list have ended, and then the Shared cells that no live Ref names any more. Every

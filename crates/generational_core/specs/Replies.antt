@@ -4,14 +4,14 @@ use Rattle.std.specs.FinSet as set
 use Rattle.generational_core.specs.declared.boxes.GenerationalPointer.{GenerationalPointer}
 use Rattle.generational_core.specs.declared.calls.Call.{Call}
 use Rattle.generational_core.specs.declared.calls.Call.TheVariants as call
-use Rattle.generational_core.specs.State.{State, Holding, IsEnded}
+use Rattle.generational_core.specs.State.{State, Ownership, IsEnded}
 use Rattle.generational_core.specs.Boxes.{name_of}
 use Rattle.generational_core.specs.Borrowing.Trouble.{Dropped}
-use Rattle.generational_core.specs.Machine.{OwnerName, holding}
+use Rattle.generational_core.specs.Machine.{OwnerName, ownership}
 use Rattle.generational_core.specs.Releasing.{AreEnded}
-use Rattle.generational_core.specs.Session.{SessionState, Said, Run, box_in, held}
+use Rattle.generational_core.specs.Session.{SessionState, SessionReply, Run, box_in, at_place}
 use Rattle.generational_core.specs.Session.Held.{Boxed, Owning}
-use Rattle.generational_core.specs.Session.Said.{ABox, IsDone, Error}
+use Rattle.generational_core.specs.Session.SessionReply.{ABox, IsDone, Error}
 
 module _ {T : Type 0} where
   -- a call is a read or a write of this box
@@ -21,7 +21,7 @@ module _ {T : Type 0} where
   Borrows s _ box = ⊥
 
   -- a read or a write of a box whose name has ended is answered so, with the box's own location
-  abbrev pub TellsEnds : SessionState T → Call T → Said T → Type 0
+  abbrev pub TellsEnds : SessionState T → Call T → SessionReply T → Type 0
   TellsEnds s c x = (b : GenerationalPointer)
       → Borrows s c b → IsEnded s.state (name_of b) → x ≡ Error (Dropped b.created_at)
 
@@ -31,25 +31,25 @@ module _ {T : Type 0} where
     pub fresh : set.contains S.given (name_of b) ≡ false
 
   -- a reply gives no box but one that is given for the first time
-  abbrev pub GivesNewBox : SessionState T → Said T → Type 0
+  abbrev pub GivesNewBox : SessionState T → SessionReply T → Type 0
   GivesNewBox s x = (b : GenerationalPointer) → x ≡ ABox b → IsFirstGiven s.state b
 
   -- a call releases the last owner value of a record
-  pub record ReleasesLast (s : SessionState T) (c : Call T) (h : Holding) : Type 0 where
+  pub record ReleasesLast (s : SessionState T) (c : Call T) (h : Ownership) : Type 0 where
     pub place : ℕ
     pub owner : OwnerName
     pub releases : c ≡ call.ReleaseOwner place
-    pub there : held s.table place ≡ Owning owner
-    pub known : holding s.state owner ≡ Some h
+    pub there : at_place s.table place ≡ Owning owner
+    pub known : ownership s.state owner ≡ Some h
     pub last : h.count ≤ 1
 
   -- the last release of an owner that is answered `Done` ends the boxes of its list
-  abbrev pub EndsOwned : SessionState T → Call T → Said T → SessionState T → Type 0
-  EndsOwned s c x r = (h : Holding)
+  abbrev pub EndsOwned : SessionState T → Call T → SessionReply T → SessionState T → Type 0
+  EndsOwned s c x r = (h : Ownership)
       → ReleasesLast s c h → x ≡ IsDone → AreEnded s.state h.names r.state
 
   -- what each call of a session promises
-  pub record KeepsPromises (s : SessionState T) (c : Call T) (x : Said T) (r : SessionState T)
+  pub record KeepsPromises (s : SessionState T) (c : Call T) (x : SessionReply T) (r : SessionState T)
       : Type 0 where
     pub tells_ends : TellsEnds s c x
     pub new_box : GivesNewBox s x
@@ -57,7 +57,7 @@ module _ {T : Type 0} where
 
   -- each call of a run keeps its promises
   abbrev pub AllKeepPromises : (s : SessionState T)
-      (calls : List (Call T)) (replies : List (Said T)) (r : SessionState T)
+      (calls : List (Call T)) (replies : List (SessionReply T)) (r : SessionState T)
       → Run s calls replies r → Type 0
   AllKeepPromises s [] [] r run = Unit {0}
   AllKeepPromises s (c ∷ calls) (x ∷ replies) r run =
@@ -66,7 +66,7 @@ module _ {T : Type 0} where
   AllKeepPromises s (c ∷ calls) [] r run = ⊥
 
   -- In a run, a read or a write of a box whose name had ended before the run is answered so.
-  abbrev pub AllTellEnds : SessionState T → List (Call T) → List (Said T) → Type 0
+  abbrev pub AllTellEnds : SessionState T → List (Call T) → List (SessionReply T) → Type 0
   AllTellEnds s calls replies = (i : ℕ) (c : Call T) (b : GenerationalPointer)
       → slice_get calls i ≡ Some c → Borrows s c b → IsEnded s.state (name_of b)
       → slice_get replies i ≡ Some (Error (Dropped b.created_at))
@@ -74,10 +74,10 @@ module _ {T : Type 0} where
   -- each place keeps its box
   abbrev pub KeepBoxes : SessionState T → SessionState T → Type 0
   KeepBoxes s r = (p : ℕ) (b : GenerationalPointer)
-      → held s.table p ≡ Boxed b → held r.table p ≡ Boxed b
+      → at_place s.table p ≡ Boxed b → at_place r.table p ≡ Boxed b
 
   -- no two of the replies give boxes with one id
-  abbrev pub GiveBoxesApart : List (Said T) → Type 0
+  abbrev pub GiveBoxesApart : List (SessionReply T) → Type 0
   GiveBoxesApart replies = (i j : ℕ) (b c : GenerationalPointer)
       → slice_get replies i ≡ Some (ABox b) → slice_get replies j ≡ Some (ABox c)
       → b.id ≡ c.id → i ≡ j

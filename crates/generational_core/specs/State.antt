@@ -13,13 +13,13 @@ use Rattle.generational_core.specs.Cells.Content.{Here, Lent}
 use Rattle.generational_core.specs.Cells.Cell.{Ref}
 
 -- An owner's record: its boxes in order of insertion, and how many owner values are held.
-pub record Holding : Type 0 where
+pub record Ownership : Type 0 where
   pub names : List Name
   pub count : ℕ
 
 -- owners' records by their keys
 abbrev pub Owners : Type 0
-Owners = map.FinMap nat_cmp Holding
+Owners = map.FinMap nat_cmp Ownership
 
 -- What a store stands for.
 pub record State (T : Type 0) : Type 0 where
@@ -92,7 +92,7 @@ module _ {T : Type 0} where
   pub record IsSound (S : State T) : Type 0 where
     -- live names and owners' names were given, and owners' names are names of boxes
     pub given : (n : Name) → IsLive S n → IsGiven S n
-    pub owned : (k : ℕ) (h : Holding) → map.get S.owners k ≡ Some h
+    pub owned : (k : ℕ) (h : Ownership) → map.get S.owners k ≡ Some h
         → AllByRecursion (IsBoxed S) h.names
     -- each live Ref names a live Shared cell
     pub targets : (n m : Name) (l : Location) → map.get S.cells n ≡ Some (Ref m l)

@@ -14,7 +14,7 @@ use Rattle.generational_core.specs.State.{State}
 use Rattle.generational_core.specs.Borrowing.{reach}
 use Rattle.generational_core.specs.Borrowing.Trouble.{BeingRead}
 use Rattle.generational_core.specs.Machine.{Action, Answer, Fresh, Outcome}
-use Rattle.generational_core.specs.Machine.{act, born, is_known, contents}
+use Rattle.generational_core.specs.Machine.{act, add_cell, is_known, contents}
 use Rattle.generational_core.specs.Machine.Action.{Make, MakeShared, Refer, NewOwner, ReleaseOwner}
 use Rattle.generational_core.specs.Machine.Action.{Read, Write, End, Point}
 use Rattle.generational_core.specs.Machine.Answer.{Made, Owned, Reads, Writes, Troubled, Refused}
@@ -36,7 +36,7 @@ module _ {T : Type 0} where
   abbrev pub AreNew : State T → Action T → Fresh → Type 0
   AreNew S (Make o v l) f = IsNew S f.first
   AreNew S (MakeShared o v l) f =
-      IsNew S f.first × IsNew (born S f.first (Shared (Here v []) l)) f.second
+      IsNew S f.first × IsNew (add_cell S f.first (Shared (Here v []) l)) f.second
   AreNew S (Refer o b) f = IsNew S f.first
   AreNew S _ f = Unit {0}
 
@@ -53,8 +53,8 @@ module _ {T : Type 0} where
   takes_ticket _ = false
 
   -- the last number is never given as a ticket: there the call is refused, and changes nothing
-  abbrev pub limited : State T → Outcome T → Outcome T
-  limited S out =
+  abbrev pub limit_tickets : State T → Outcome T → Outcome T
+  limit_tickets S out =
       if takes_ticket out.0 && nat_eq S.next (2 ^ 64 - 1)
       then (Refused NumbersExhausted, S)
       else out
@@ -79,7 +79,7 @@ module _ {T : Type 0} where
 
   -- a call's answer; of what kind it is doesn't depend on the names that the call takes
   abbrev pub answer_to : State T → Action T → Answer T
-  answer_to S call = (limited S (act S call no_names)).0
+  answer_to S call = (limit_tickets S (act S call no_names)).0
 
   -- whether a call may lack memory: for a slot where too few are free, for an owner's record or
   -- list, for a reader beside another, and for the list of locations in a refusal
@@ -103,5 +103,5 @@ module _ {T : Type 0} where
   -- or if memory lacked where it may, and then nothing changes.
   abbrev pub Meets : State T → Action T → Answer T → State T → Type 0
   Meets S call answer R =
-      ((new : Fresh) × Takes S call answer new × ((answer, R) ≡ limited S (act S call new)))
+      ((new : Fresh) × Takes S call answer new × ((answer, R) ≡ limit_tickets S (act S call new)))
       ⊎ ((may_lack S call ≡ true) × (answer ≡ Refused OutOfMemory) × (R ≡ S))

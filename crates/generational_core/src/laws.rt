@@ -7,12 +7,12 @@ ghost use Rattle.std.specs.FinSet as set;
 ghost use Rattle.generational_core.specs.declared.boxes.GenerationalPointer.{GenerationalPointer};
 ghost use Rattle.generational_core.specs.Names.{Name, among};
 ghost use Rattle.generational_core.specs.Cells.{is_shared};
-ghost use Rattle.generational_core.specs.State.{State, Holding, IsSound, IsLive, IsEnded, IsNamed};
+ghost use Rattle.generational_core.specs.State.{State, Ownership, IsSound, IsLive, IsEnded, IsNamed};
 ghost use Rattle.generational_core.specs.State.{fresh};
 ghost use Rattle.generational_core.specs.Boxes.{name_of, has_same_id};
 ghost use Rattle.generational_core.specs.Borrowing.{read_trouble, write_trouble};
 ghost use Rattle.generational_core.specs.Borrowing.Trouble.{Dropped};
-ghost use Rattle.generational_core.specs.Machine.{Action, Answer, Fresh, OwnerName, act, holding};
+ghost use Rattle.generational_core.specs.Machine.{Action, Answer, Fresh, OwnerName, act, ownership};
 ghost use Rattle.generational_core.specs.Machine.{is_known};
 ghost use Rattle.generational_core.specs.Machine.Action.{ReleaseOwner, LeakOwner};
 ghost use Rattle.generational_core.specs.Machine.Answer.{Done};
@@ -23,10 +23,10 @@ ghost use Rattle.generational_core.specs.Slots.{slots, retired};
 ghost use Rattle.generational_core.specs.Bounds.{IsBounded};
 ghost use Rattle.generational_core.specs.declared.calls.Call.{Call};
 ghost use Rattle.generational_core.specs.declared.calls.Call.TheVariants as call;
-ghost use Rattle.generational_core.specs.Session.{SessionState, Said, SessionStep, Run, held};
+ghost use Rattle.generational_core.specs.Session.{SessionState, SessionReply, SessionStep, Run, at_place};
 ghost use Rattle.generational_core.specs.Session.Held.{Owning};
-ghost use Rattle.generational_core.specs.Session.Said.{IsDone};
-ghost use Rattle.generational_core.specs.Holding.{IsKept};
+ghost use Rattle.generational_core.specs.Session.SessionReply.{IsDone};
+ghost use Rattle.generational_core.specs.SoundSession.{IsSoundSession};
 ghost use Rattle.generational_core.specs.Keeping.{Sets, IsUnwritten, IsUndisturbed, Undisturbed};
 ghost use Rattle.generational_core.specs.Keeping.{value_at, location_at};
 ghost use Rattle.generational_core.specs.Numbered.{Matches, AnswersAs, empty_session};
@@ -74,38 +74,38 @@ pub fn shared_values_live_by_references<T>()
 /// refused changes nothing, nor does a leak. In a session, an owner's release that is answered
 /// `Done` is such a release.
 pub fn owners_last_release_ends_its_boxes<T>()
-    ensures boxes { (S R : State T) (o : OwnerName) (h : Holding) (n : Name) →
+    ensures boxes { (S R : State T) (o : OwnerName) (h : Ownership) (n : Name) →
         IsSound S → IsReleased S o h R → h.count ≤ 1 →
         among h.names n ≡ true → map.get R.cells n ≡ None }
-    ensures others { (S R : State T) (o : OwnerName) (h : Holding) (n : Name) →
+    ensures others { (S R : State T) (o : OwnerName) (h : Ownership) (n : Name) →
         IsReleased S o h R → h.count ≤ 1 →
         among h.names n ≡ false → is_shared (map.get S.cells n) ≡ false →
         map.get R.cells n ≡ map.get S.cells n }
-    ensures unnamed { (S R : State T) (o : OwnerName) (h : Holding) (n : Name) →
+    ensures unnamed { (S R : State T) (o : OwnerName) (h : Ownership) (n : Name) →
         IsReleased S o h R → h.count ≤ 1 →
         is_shared (map.get S.cells n) ≡ true → (IsNamed R.cells n → ⊥) →
         map.get R.cells n ≡ None }
-    ensures named { (S R : State T) (o : OwnerName) (h : Holding) (n : Name) →
+    ensures named { (S R : State T) (o : OwnerName) (h : Ownership) (n : Name) →
         IsReleased S o h R → h.count ≤ 1 →
         is_shared (map.get S.cells n) ≡ true → IsNamed R.cells n →
         map.get R.cells n ≡ map.get S.cells n }
-    ensures gone { (S R : State T) (o : OwnerName) (h : Holding) →
+    ensures gone { (S R : State T) (o : OwnerName) (h : Ownership) →
         IsReleased S o h R → h.count ≤ 1 → map.get R.owners o.key ≡ None }
-    ensures earlier { (S R : State T) (o : OwnerName) (h : Holding) →
+    ensures earlier { (S R : State T) (o : OwnerName) (h : Ownership) →
         IsReleased S o h R → 1 < h.count → R.cells ≡ S.cells }
-    ensures counted { (S R : State T) (o : OwnerName) (h : Holding) →
+    ensures counted { (S R : State T) (o : OwnerName) (h : Ownership) →
         IsReleased S o h R → 1 < h.count → map.get R.owners o.key ≡ Some (one_less h) }
-    ensures records { (S R : State T) (o : OwnerName) (h : Holding) (k : ℕ) →
+    ensures records { (S R : State T) (o : OwnerName) (h : Ownership) (k : ℕ) →
         IsReleased S o h R → k ≢ o.key → map.get R.owners k ≡ map.get S.owners k }
-    ensures rest { (S R : State T) (o : OwnerName) (h : Holding) →
+    ensures rest { (S R : State T) (o : OwnerName) (h : Ownership) →
         IsReleased S o h R → R ≡ record S { cells = R.cells; owners = R.owners } }
     ensures refused { (S R : State T) (o : OwnerName) (answer : Answer T) →
         Meets S (ReleaseOwner o) answer R → answer ≢ Done → R ≡ S }
     ensures leak { (S R : State T) (o : OwnerName) (answer : Answer T) →
         Meets S (LeakOwner o) answer R → R ≡ S }
-    ensures session { (s r : SessionState T) (p : ℕ) (o : OwnerName) (h : Holding) →
-        SessionStep s (call.ReleaseOwner p) IsDone r → held s.table p ≡ Owning o →
-        holding s.state o ≡ Some h → IsReleased s.state o h r.state }
+    ensures session { (s r : SessionState T) (p : ℕ) (o : OwnerName) (h : Ownership) →
+        SessionStep s (call.ReleaseOwner p) IsDone r → at_place s.table p ≡ Owning o →
+        ownership s.state o ≡ Some h → IsReleased s.state o h r.state }
 {}
 
 /// The slots of a store are never more than the most cells that were live at once and the slots
@@ -122,20 +122,20 @@ pub fn slots_are_bounded<T>()
 pub fn sessions_are_kept<T>()
     ensures fresh { (number start next : ℕ) →
         let s : SessionState T = record { state = fresh number start next; table = [] } in
-        IsKept s }
-    ensures step { (s r : SessionState T) (c : Call T) (reply : Said T) →
-        IsKept s → SessionStep s c reply r → IsKept r }
-    ensures run { (calls : List (Call T)) (replies : List (Said T)) (s r : SessionState T) →
-        IsKept s → Run s calls replies r → IsKept r }
+        IsSoundSession s }
+    ensures step { (s r : SessionState T) (c : Call T) (reply : SessionReply T) →
+        IsSoundSession s → SessionStep s c reply r → IsSoundSession r }
+    ensures run { (calls : List (Call T)) (replies : List (SessionReply T)) (s r : SessionState T) →
+        IsSoundSession s → Run s calls replies r → IsSoundSession r }
     ensures owners { (s : SessionState T) (p : ℕ) (o : OwnerName) →
-        IsKept s → held s.table p ≡ Owning o → is_known s.state (Some o) ≡ true }
+        IsSoundSession s → at_place s.table p ≡ Owning o → is_known s.state (Some o) ≡ true }
 {}
 
 /// No call of a session makes an ended name live again, and no run does.
 pub fn sessions_keep_names_ended<T>()
-    ensures step { (s r : SessionState T) (c : Call T) (reply : Said T) (n : Name) →
+    ensures step { (s r : SessionState T) (c : Call T) (reply : SessionReply T) (n : Name) →
         SessionStep s c reply r → IsEnded s.state n → IsEnded r.state n }
-    ensures run { (calls : List (Call T)) (replies : List (Said T)) (s r : SessionState T)
+    ensures run { (calls : List (Call T)) (replies : List (SessionReply T)) (s r : SessionState T)
         (n : Name) → Run s calls replies r → IsEnded s.state n → IsEnded r.state n }
 {}
 
@@ -150,22 +150,22 @@ pub fn undisturbed_values_stay<T>()
     ensures location { (S R : State T) (call : Action T) (answer : Answer T) (m : Name) →
         IsSound S → Meets S call answer R → IsLive S m → IsLive R m →
         location_at R m ≡ location_at S m }
-    ensures session { (s r : SessionState T) (c : Call T) (reply : Said T)
+    ensures session { (s r : SessionState T) (c : Call T) (reply : SessionReply T)
         (b : GenerationalPointer) (m : Name) →
-        IsKept s → SessionStep s c reply r → IsUndisturbed b m s c r →
+        IsSoundSession s → SessionStep s c reply r → IsUndisturbed b m s c r →
         value_at r.state m ≡ value_at s.state m }
-    ensures run { (calls : List (Call T)) (replies : List (Said T)) (s r : SessionState T)
+    ensures run { (calls : List (Call T)) (replies : List (SessionReply T)) (s r : SessionState T)
         (b : GenerationalPointer) (m : Name) →
-        IsKept s → (run : Run s calls replies r) → Undisturbed b m s calls replies r run →
+        IsSoundSession s → (run : Run s calls replies r) → Undisturbed b m s calls replies r run →
         value_at r.state m ≡ value_at s.state m }
 {}
 
 /// The bound on slots holds after each call of a session, and after each run.
 pub fn sessions_are_bounded<T>()
-    ensures step { (s r : SessionState T) (c : Call T) (reply : Said T) →
+    ensures step { (s r : SessionState T) (c : Call T) (reply : SessionReply T) →
         IsSound s.state → IsBounded s.state → SessionStep s c reply r → IsBounded r.state }
-    ensures run { (calls : List (Call T)) (replies : List (Said T)) (s r : SessionState T) →
-        IsKept s → Run s calls replies r → IsBounded r.state }
+    ensures run { (calls : List (Call T)) (replies : List (SessionReply T)) (s r : SessionState T) →
+        IsSoundSession s → Run s calls replies r → IsBounded r.state }
 {}
 
 /// The machine without values takes the very same steps: what is answered, and what is left, are
@@ -183,11 +183,11 @@ pub fn plain_states_step<T>()
 /// depend on the calls, and on which of them memory or an exhausted number refused. Sessions that
 /// match were given equally many names, and the one has no owners but the other's.
 pub fn replies_depend_on_calls<T>()
-    ensures fresh { (number start next : ℕ) (calls : List (Call T)) (replies : List (Said T))
+    ensures fresh { (number start next : ℕ) (calls : List (Call T)) (replies : List (SessionReply T))
         (r : SessionState T) →
         let s : SessionState T = record { state = fresh number start next; table = [] } in
         Run s calls replies r → AnswersAs (empty_session number) calls replies r }
-    ensures run { (calls : List (Call T)) (replies : List (Said T)) (s r a : SessionState T) →
+    ensures run { (calls : List (Call T)) (replies : List (SessionReply T)) (s r a : SessionState T) →
         Matches s a → IsSound s.state → Run s calls replies r → AnswersAs a calls replies r }
     ensures names { (s a : SessionState T) →
         Matches s a → set.len s.state.given ≡ set.len a.state.given }

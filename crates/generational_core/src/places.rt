@@ -6,10 +6,10 @@ ghost use Rattle.std.specs.Option.{OnSome};
 ghost use Rattle.generational_core.specs.declared.calls.Call.TheVariants as call;
 ghost use Rattle.generational_core.specs.declared.places.Thing.TheVariants as thing;
 ghost use Rattle.generational_core.specs.Boxes.{pointer_of};
-ghost use Rattle.generational_core.specs.Session.{Held, box_in, held, owner_held, let_go_of};
+ghost use Rattle.generational_core.specs.Session.{Held, box_in, at_place, owner_held, release_held};
 ghost use Rattle.generational_core.specs.Session.Held.{Nothing};
-ghost use Rattle.generational_core.specs.Places.{thing_held, said_by, refusal_said, session_in};
-ghost use Rattle.generational_core.specs.Places.{exchanged, Gives};
+ghost use Rattle.generational_core.specs.Places.{as_held, as_reply, as_refusal, session_in};
+ghost use Rattle.generational_core.specs.Places.{exchange, Gives};
 
 use crate::boxes::GenerationalBox;
 use crate::calls::{BoxAt, Call, Reply};
@@ -35,7 +35,7 @@ pub(crate) fn answer<T: Drop, S: Storage<T>>(
     call: Call<T>,
 ) -> (Reply<T>, Thing<T>)
     ensures step { Gives (session_in (S.state store.old) things.old.items) call
-        (said_by result.0) (thing_held result.1)
+        (as_reply result.0) (as_held result.1)
         (session_in (S.state store.new) things.new.items) }
     ensures len { vec_len things.new ≡ vec_len things.old }
     ensures capacity { vec_capacity things.new ≡ vec_capacity things.old }
@@ -88,7 +88,7 @@ fn resolve<T, S: Storage<T>>(
 fn leak<T, S: Storage<T>>(store: &mut S, value: T, location: Location) -> (Reply<T>, Thing<T>)
     ensures { (table : List (Held T)) →
         Gives (record { state = S.state store.old; table = table }) (call.Leak value location)
-        (said_by result.0) (thing_held result.1)
+        (as_reply result.0) (as_held result.1)
         (record { state = S.state store.new; table = table }) }
 {
     match GenerationalBox::leak(store, value, location) {
@@ -99,7 +99,7 @@ fn leak<T, S: Storage<T>>(store: &mut S, value: T, location: Location) -> (Reply
 
 // The owner that a place holds.
 fn owner_at<T>(things: &[Thing<T>], place: usize) -> Option<&Owner>
-    ensures { option_copied result ≡ owner_held (held (list_map thing_held things.now) place) }
+    ensures { option_copied result ≡ owner_held (at_place (list_map as_held things.now) place) }
 {
     match things.get(place) {
         Some(Thing::Owner(owner)) => Some(owner),
@@ -116,7 +116,7 @@ fn insert<T, S: Storage<T>>(
     location: Location,
 ) -> (Reply<T>, Thing<T>)
     ensures { Gives (session_in (S.state store.old) things.now) (call.Insert place value location)
-        (said_by result.0) (thing_held result.1) (session_in (S.state store.new) things.now) }
+        (as_reply result.0) (as_held result.1) (session_in (S.state store.new) things.now) }
 {
     let Some(owner) = owner_at(things, place) else {
         return (Reply::NoSuch(Some(value)), Thing::Nothing);
@@ -131,7 +131,7 @@ fn insert<T, S: Storage<T>>(
 fn owner<T, S: Storage<T>>(store: &mut S) -> (Reply<T>, Thing<T>)
     ensures { (table : List (Held T)) →
         Gives (record { state = S.state store.old; table = table }) call.Owner
-        (said_by result.0) (thing_held result.1)
+        (as_reply result.0) (as_held result.1)
         (record { state = S.state store.new; table = table }) }
 {
     match store.owner() {
@@ -147,7 +147,7 @@ fn clone_owner<T, S: Storage<T>>(
     place: usize,
 ) -> (Reply<T>, Thing<T>)
     ensures { Gives (session_in (S.state store.old) things.now) (call.CloneOwner place)
-        (said_by result.0) (thing_held result.1) (session_in (S.state store.new) things.now) }
+        (as_reply result.0) (as_held result.1) (session_in (S.state store.new) things.now) }
 {
     let Some(owner) = owner_at(things, place) else {
         return (Reply::NoSuch(None), Thing::Nothing);
@@ -165,7 +165,7 @@ fn release_owner<T, S: Storage<T>>(
     place: usize,
 ) -> (Reply<T>, Thing<T>)
     ensures step { Gives (session_in (S.state store.old) things.old.items) (call.ReleaseOwner place)
-        (said_by result.0) (thing_held result.1)
+        (as_reply result.0) (as_held result.1)
         (session_in (S.state store.new) things.new.items) }
     ensures len { vec_len things.new ≡ vec_len things.old }
     ensures capacity { vec_capacity things.new ≡ vec_capacity things.old }
@@ -189,7 +189,7 @@ fn leak_owner<T, S: Storage<T>>(
     place: usize,
 ) -> (Reply<T>, Thing<T>)
     ensures step { Gives (session_in (S.state store.now) things.old.items) (call.LeakOwner place)
-        (said_by result.0) (thing_held result.1)
+        (as_reply result.0) (as_held result.1)
         (session_in (S.state store.now) things.new.items) }
     ensures len { vec_len things.new ≡ vec_len things.old }
     ensures capacity { vec_capacity things.new ≡ vec_capacity things.old }
@@ -205,7 +205,7 @@ fn leak_owner<T, S: Storage<T>>(
 
 // Takes the owner away that a place holds. The place holds nothing then.
 fn take_owner<T>(things: &mut Vec<Thing<T>>, place: usize) -> Option<Owner>
-    ensures owner { result ≡ owner_held (held (list_map thing_held things.old.items) place) }
+    ensures owner { result ≡ owner_held (at_place (list_map as_held things.old.items) place) }
     ensures taken { OnSome result
         (things.new.items ≡ slice_set things.old.items place thing.Nothing) }
     ensures there { IfSome result
@@ -239,7 +239,7 @@ fn put_owner<T>(things: &mut Vec<Thing<T>>, place: usize, owner: Owner)
 
 // The reply to a refusal, where no value was handed in.
 fn refusal<T>(refused: Refused<BorrowMutError>) -> Reply<T>
-    ensures { said_by result ≡ refusal_said refused }
+    ensures { as_reply result ≡ as_refusal refused }
 {
     match refused {
         Refused::Borrow(error) => Reply::Error(error),
@@ -255,7 +255,7 @@ fn try_read<T, S: Storage<T>>(
     location: Location,
 ) -> (Reply<T>, Thing<T>)
     ensures { Gives (session_in (S.state store.old) things.now) (call.TryRead at location)
-        (said_by result.0) (thing_held result.1) (session_in (S.state store.new) things.now) }
+        (as_reply result.0) (as_held result.1) (session_in (S.state store.new) things.now) }
 {
     let Some(from) = resolve(store, things, at) else {
         return (Reply::NoSuch(None), Thing::Nothing);
@@ -275,7 +275,7 @@ fn try_write<T, S: Storage<T>>(
     location: Location,
 ) -> (Reply<T>, Thing<T>)
     ensures { Gives (session_in (S.state store.old) things.now) (call.TryWrite at location)
-        (said_by result.0) (thing_held result.1) (session_in (S.state store.new) things.now) }
+        (as_reply result.0) (as_held result.1) (session_in (S.state store.new) things.now) }
 {
     let Some(from) = resolve(store, things, at) else {
         return (Reply::NoSuch(None), Thing::Nothing);
@@ -294,7 +294,7 @@ fn replace<T, S: Storage<T>>(
     value: T,
 ) -> (Reply<T>, Thing<T>)
     ensures step { Gives (session_in (S.state store.now) things.old.items)
-        (call.Replace place value) (said_by result.0) (thing_held result.1)
+        (call.Replace place value) (as_reply result.0) (as_held result.1)
         (session_in (S.state store.now) things.new.items) }
     ensures len { vec_len things.new ≡ vec_len things.old }
     ensures capacity { vec_capacity things.new ≡ vec_capacity things.old }
@@ -307,8 +307,8 @@ fn replace<T, S: Storage<T>>(
 
 // Puts another value into a thing that is a writer, and answers the old one.
 fn exchange<T>(thing: &mut Thing<T>, value: T) -> Reply<T>
-    ensures reply { said_by result ≡ (exchanged (thing_held thing.old) value).0 }
-    ensures thing { thing_held thing.new ≡ (exchanged (thing_held thing.old) value).1 }
+    ensures reply { as_reply result ≡ (exchange (as_held thing.old) value).0 }
+    ensures thing { as_held thing.new ≡ (exchange (as_held thing.old) value).1 }
 {
     match thing {
         Thing::Writer(guard) => Reply::Old(guard.replace(value)),
@@ -323,7 +323,7 @@ fn manually_drop<T, S: Storage<T>>(
     at: BoxAt<T>,
 ) -> (Reply<T>, Thing<T>)
     ensures { Gives (session_in (S.state store.old) things.now) (call.ManuallyDrop at)
-        (said_by result.0) (thing_held result.1) (session_in (S.state store.new) things.now) }
+        (as_reply result.0) (as_held result.1) (session_in (S.state store.new) things.now) }
 {
     let Some(from) = resolve(store, things, at) else {
         return (Reply::NoSuch(None), Thing::Nothing);
@@ -342,7 +342,7 @@ fn ptr_eq<T, S: Storage<T>>(
     other: BoxAt<T>,
 ) -> Reply<T>
     ensures { Gives (session_in (S.state store.now) things.now) (call.PtrEq one other)
-        (said_by result) Nothing (session_in (S.state store.now) things.now) }
+        (as_reply result) Nothing (session_in (S.state store.now) things.now) }
 {
     let Some(one) = resolve(store, things, one) else {
         return Reply::NoSuch(None);
@@ -356,7 +356,7 @@ fn ptr_eq<T, S: Storage<T>>(
 // The id of a box.
 fn id<T, S: Storage<T>>(store: &S, things: &[Thing<T>], at: BoxAt<T>) -> Reply<T>
     ensures { Gives (session_in (S.state store.now) things.now) (call.Id at)
-        (said_by result) Nothing (session_in (S.state store.now) things.now) }
+        (as_reply result) Nothing (session_in (S.state store.now) things.now) }
 {
     match resolve(store, things, at) {
         Some(named) => Reply::Id(named.id()),
@@ -367,7 +367,7 @@ fn id<T, S: Storage<T>>(store: &S, things: &[Thing<T>], at: BoxAt<T>) -> Reply<T
 // The number of a box's slot.
 fn raw_ptr<T, S: Storage<T>>(store: &S, things: &[Thing<T>], at: BoxAt<T>) -> Reply<T>
     ensures { Gives (session_in (S.state store.now) things.now) (call.RawPtr at)
-        (said_by result) Nothing (session_in (S.state store.now) things.now) }
+        (as_reply result) Nothing (session_in (S.state store.now) things.now) }
 {
     match resolve(store, things, at) {
         Some(named) => Reply::Slot(named.raw_ptr()),
@@ -378,7 +378,7 @@ fn raw_ptr<T, S: Storage<T>>(store: &S, things: &[Thing<T>], at: BoxAt<T>) -> Re
 // The location at which a box was made.
 fn created_at<T, S: Storage<T>>(store: &S, things: &[Thing<T>], at: BoxAt<T>) -> Reply<T>
     ensures { Gives (session_in (S.state store.now) things.now) (call.CreatedAt at)
-        (said_by result) Nothing (session_in (S.state store.now) things.now) }
+        (as_reply result) Nothing (session_in (S.state store.now) things.now) }
 {
     match resolve(store, things, at) {
         Some(named) => Reply::Created(named.created_at()),
@@ -393,7 +393,7 @@ fn release<T: Drop, S: Storage<T>>(
     place: usize,
 ) -> (Reply<T>, Thing<T>)
     ensures step { Gives (session_in (S.state store.old) things.old.items) (call.Release place)
-        (said_by result.0) (thing_held result.1)
+        (as_reply result.0) (as_held result.1)
         (session_in (S.state store.new) things.new.items) }
     ensures len { vec_len things.new ≡ vec_len things.old }
     ensures capacity { vec_capacity things.new ≡ vec_capacity things.old }
@@ -417,7 +417,7 @@ fn release<T: Drop, S: Storage<T>>(
 
 // Lets go of what a place holds.
 pub(crate) fn let_go<T: Drop, S: Storage<T>>(store: &mut S, thing: Thing<T>)
-    ensures { S.state store.new ≡ let_go_of (S.state store.old) (thing_held thing) }
+    ensures { S.state store.new ≡ release_held (S.state store.old) (as_held thing) }
 {
     match thing {
         Thing::Box(_) | Thing::Nothing => {}

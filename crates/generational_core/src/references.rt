@@ -30,7 +30,7 @@ impl<T> Model for GenerationalRef<T> {
 }
 
 impl<T> GenerationalRef<T> {
-    ghost use Rattle.generational_core.specs.Answers.{opened};
+    ghost use Rattle.generational_core.specs.Answers.{value_behind};
     ghost use Rattle.generational_core.specs.Machine.Action.{ReleaseReader};
     ghost use Rattle.generational_core.specs.Machine.Answer.{Flag};
     ghost use Rattle.generational_core.specs.Steps.{Meets};
@@ -47,7 +47,7 @@ impl<T> GenerationalRef<T> {
     /// the guard's, and a reader with its ticket stands at its cell. Takes no memory.
     #[inline(always)]
     pub fn deref<'a, S: Storage<T>>(&self, store: &'a S) -> Option<Ref<'a, T>>
-        ensures { result ≡ opened (S.state store.now) self.now }
+        ensures { result ≡ value_behind (S.state store.now) self.now }
     {
         let value = store.open(self)?;
         Some(Ref { value })

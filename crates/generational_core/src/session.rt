@@ -24,18 +24,18 @@ impl<T, S: Storage<T>> Model for Session<T, S> {
     ghost use Rattle.std.specs.FinMap as map;
     ghost use Rattle.std.specs.Prelude.{map as list_map};
     ghost use Rattle.generational_core.specs.Session.{SessionState};
-    ghost use Rattle.generational_core.specs.Holding.{IsKept};
-    ghost use Rattle.generational_core.specs.Places.{thing_held};
+    ghost use Rattle.generational_core.specs.SoundSession.{IsSoundSession};
+    ghost use Rattle.generational_core.specs.Places.{as_held};
 
     ghost Value = { SessionState T };
 
     ghost coded = { Prim.hlevel (codes, map.code) };
 
     ghost view = { λ s.
-        record { state = S.state s.store; table = list_map thing_held s.things.items } };
+        record { state = S.state s.store; table = list_map as_held s.things.items } };
 
-    ghost invariant = { λ s. IsKept
-        (record { state = S.state s.store; table = list_map thing_held s.things.items }) };
+    ghost invariant = { λ s. IsSoundSession
+        (record { state = S.state s.store; table = list_map as_held s.things.items }) };
 }
 
 impl<T: Drop, S: Storage<T>> Session<T, S> {
@@ -43,11 +43,11 @@ impl<T: Drop, S: Storage<T>> Session<T, S> {
     ghost use Rattle.std.specs.Prelude.{option_copied};
     ghost use Rattle.generational_core.specs.Names.{Name};
     ghost use Rattle.generational_core.specs.State.{IsFresh, IsEnded};
-    ghost use Rattle.generational_core.specs.Session.{SessionState, SessionStep, Run, viewed};
-    ghost use Rattle.generational_core.specs.Session.{all_let_go};
-    ghost use Rattle.generational_core.specs.Holding.{IsKept};
+    ghost use Rattle.generational_core.specs.Session.{SessionState, SessionStep, Run, loan_at};
+    ghost use Rattle.generational_core.specs.Session.{release_all};
+    ghost use Rattle.generational_core.specs.SoundSession.{IsSoundSession};
     ghost use Rattle.generational_core.specs.Keeping.{IsUndisturbed, Undisturbed, value_at};
-    ghost use Rattle.generational_core.specs.Places.{said_by, replies_said};
+    ghost use Rattle.generational_core.specs.Places.{as_reply, as_replies};
     ghost use Rattle.generational_core.specs.Slots.{slots, retired};
     ghost use Rattle.generational_core.specs.Numbered.{Matches, AnswersAs, empty_session};
     ghost use Rattle.generational_core.specs.Replies.{TellsEnds, GivesNewBox, EndsOwned};
@@ -72,28 +72,28 @@ impl<T: Drop, S: Storage<T>> Session<T, S> {
     /// its place finds no memory: then it has no place, and nothing changes.
     pub fn call(&mut self, call: Call<T>) -> Result<Reply<T>, Call<T>>
         // The call is a step of the machine on what the places hold.
-        ensures step { IfOk result (λ reply. SessionStep self.old call (said_by reply) self.new) }
+        ensures step { IfOk result (λ reply. SessionStep self.old call (as_reply reply) self.new) }
         ensures back { IfErr result (λ back. back ≡ call) }
         ensures unchanged { OnErr result (self.new ≡ self.old) }
 
         // Ids aside, the reply is the numbered machine's, which has no slots: it depends on the
         // calls, and on which of them memory or an exhausted number refused.
         ensures same_answer { IfOk result (λ reply. (a : SessionState T) → Matches self.old a →
-            AnswersAs a (call ∷ []) (said_by reply ∷ []) self.new) }
+            AnswersAs a (call ∷ []) (as_reply reply ∷ []) self.new) }
 
         // A read or a write of a box whose name has ended is answered so. A box that is given was
         // never given before, and a place keeps its box. The last release of an owner that is done
         // ends the boxes of its list.
-        ensures tells_ends { IfOk result (λ reply. TellsEnds self.old call (said_by reply)) }
-        ensures new_box { IfOk result (λ reply. GivesNewBox self.old (said_by reply)) }
+        ensures tells_ends { IfOk result (λ reply. TellsEnds self.old call (as_reply reply)) }
+        ensures new_box { IfOk result (λ reply. GivesNewBox self.old (as_reply reply)) }
         ensures keep_boxes { KeepBoxes self.old self.new }
         ensures ends_owned { IfOk result (λ reply.
-            EndsOwned self.old call (said_by reply) self.new) }
+            EndsOwned self.old call (as_reply reply) self.new) }
 
         // The state is sound, boxes at different places have different ids, and the store knows
         // the held guards and owners. There are no more slots than the peak and the retired ones.
         // A name that has ended is never live again. A value that nothing disturbs stays.
-        ensures kept { IsKept self.new }
+        ensures kept { IsSoundSession self.new }
         ensures bounded { slots self.new.state ≤ self.new.state.peak + retired self.new.state }
         ensures ended { (n : Name) → IsEnded self.old.state n → IsEnded self.new.state n }
         ensures kept_value { (b : GenerationalPointer) (m : Name) →
@@ -113,36 +113,36 @@ impl<T: Drop, S: Storage<T>> Session<T, S> {
     pub fn run(&mut self, mut calls: Vec<Call<T>>) -> Result<Vec<Reply<T>>, Vec<Call<T>>>
         // The calls and their replies are a run of the machine.
         ensures run { IfOk result (λ replies.
-            Run self.old calls.items (replies_said replies.items) self.new) }
+            Run self.old calls.items (as_replies replies.items) self.new) }
         ensures back { IfErr result (λ back. back.items ≡ calls.items) }
         ensures unchanged { OnErr result (self.new ≡ self.old) }
 
         // Ids aside, the replies are the numbered machine's, which has no slots: they depend on the
         // calls, and on which of them memory or an exhausted number refused.
         ensures same_answers { IfOk result (λ replies. (a : SessionState T) → Matches self.old a →
-            AnswersAs a calls.items (replies_said replies.items) self.new) }
+            AnswersAs a calls.items (as_replies replies.items) self.new) }
 
         // What `call` promises of a call holds of each call of the run. A read or a write of a box
         // whose name had ended before the run is answered so, wherever in the run it stands. No two
         // replies give boxes with one id.
         ensures promises { IfOk result (λ replies.
-            let said = replies_said replies.items in
-            (run : Run self.old calls.items said self.new) →
-            AllKeepPromises self.old calls.items said self.new run) }
+            let list = as_replies replies.items in
+            (run : Run self.old calls.items list self.new) →
+            AllKeepPromises self.old calls.items list self.new run) }
         ensures tell_ends { IfOk result (λ replies.
-            AllTellEnds self.old calls.items (replies_said replies.items)) }
+            AllTellEnds self.old calls.items (as_replies replies.items)) }
         ensures keep_boxes { KeepBoxes self.old self.new }
         ensures boxes_apart { IfOk result (λ replies.
-            GiveBoxesApart (replies_said replies.items)) }
+            GiveBoxesApart (as_replies replies.items)) }
 
         // What `call` keeps, each run keeps.
-        ensures kept { IsKept self.new }
+        ensures kept { IsSoundSession self.new }
         ensures bounded { slots self.new.state ≤ self.new.state.peak + retired self.new.state }
         ensures ended { (n : Name) → IsEnded self.old.state n → IsEnded self.new.state n }
         ensures kept_value { IfOk result (λ replies.
-            let said = replies_said replies.items in
-            (b : GenerationalPointer) (m : Name) (run : Run self.old calls.items said self.new) →
-            Undisturbed b m self.old calls.items said self.new run →
+            let list = as_replies replies.items in
+            (b : GenerationalPointer) (m : Name) (run : Run self.old calls.items list self.new) →
+            Undisturbed b m self.old calls.items list self.new run →
             value_at self.new.state m ≡ value_at self.old.state m) }
     {
         let count = calls.len();
@@ -166,7 +166,7 @@ impl<T: Drop, S: Storage<T>> Session<T, S> {
     /// The value that the guard at a place lends, a writer's being its own: None where the place
     /// holds no guard. Takes no memory.
     pub fn view(&self, place: usize) -> Option<&T>
-        ensures { option_copied result ≡ viewed self.now place }
+        ensures { option_copied result ≡ loan_at self.now place }
     {
         match self.things.get(place) {
             Some(Thing::Reader(guard)) => self.store.open(guard),
@@ -185,7 +185,7 @@ impl<T: Drop, S: Storage<T>> Session<T, S> {
     /// The store, after the held guards were released in order of place; the values of writers are
     /// put back, and owners are leaked. Takes no memory.
     pub fn finish(self) -> S
-        ensures { S.state result ≡ all_let_go self.state self.table }
+        ensures { S.state result ≡ release_all self.state self.table }
     {
         let Session {
             alloc: _,

@@ -11,7 +11,7 @@ ghost use Rattle.generational_core.specs.Steps.{Meets};
 ghost use Rattle.generational_core.specs.Readiness.{is_ready};
 ghost use Rattle.generational_core.specs.Answers.{make_answer, owner_answer, release_answer};
 ghost use Rattle.generational_core.specs.Answers.{read_answer, write_answer, back_answer};
-ghost use Rattle.generational_core.specs.Answers.{end_answer, opened};
+ghost use Rattle.generational_core.specs.Answers.{end_answer, value_behind};
 
 use crate::boxes::GenerationalPointer;
 use crate::error::{
@@ -152,7 +152,7 @@ pub trait Storage<T>: AnyStorage<T> {
 
     /// The value that a reader's guard opens, exactly where the store knows the guard.
     fn open(&self, guard: &GenerationalRef<T>) -> Option<&T>
-        ensures { option_copied result ≡ opened (Self.state self.now) guard.now };
+        ensures { option_copied result ≡ value_behind (Self.state self.now) guard.now };
 
     /// Begins a write, which takes the value out of the cell and into the guard.
     ///

@@ -17,7 +17,7 @@ use Rattle.generational_core.specs.Cells.Content.{Here, Lent}
 use Rattle.generational_core.specs.State.{State, IsSound}
 use Rattle.generational_core.specs.Borrowing.{Trouble, Guard, content_at, read_trouble, reach}
 use Rattle.generational_core.specs.Borrowing.Trouble.{Dropped, BeingRead, BeingWritten}
-use Rattle.generational_core.specs.Ending.{hindered, close}
+use Rattle.generational_core.specs.Ending.{hindrance_to, close}
 use Rattle.generational_core.specs.Machine.{Action, Answer, Fresh, Outcome, act, unless, make_value}
 use Rattle.generational_core.specs.Machine.{knows_reader, without_reader, own_name, read_at}
 use Rattle.generational_core.specs.Machine.{contents}
@@ -27,7 +27,7 @@ use Rattle.generational_core.specs.Machine.Action.{ReleaseReader, ReleaseWriter,
 use Rattle.generational_core.specs.Machine.Action.{Point, CanRead, CanWrite}
 use Rattle.generational_core.specs.Machine.Answer.{Made, Owned, Reads, Writes, Done, Old, Flag, Back}
 use Rattle.generational_core.specs.Machine.Answer.{Troubled, Refused}
-use Rattle.generational_core.specs.Steps.{IsNew, Meets, Takes, limited, takes_ticket, is_made}
+use Rattle.generational_core.specs.Steps.{IsNew, Meets, Takes, limit_tickets, takes_ticket, is_made}
 use Rattle.generational_core.specs.Readiness.{is_ready}
 use Rattle.generational_core.specs.Recording.{recorded_as, is_hindered}
 use Rattle.generational_core.specs.History.{plain, plain_call, plain_answer}
@@ -54,7 +54,7 @@ IsPlain T = (S R : State T) (a : Action T) (answer : Answer T) → Meets S a ans
 
 -- an answer that is recorded tells of no borrow
 unhindered : (P : Plain) (out : Outcome (Unit {0})) (r : StepReply)
-    → reply_to (limited P out).0 ≡ Some r → is_hindered out.0 ≡ false
+    → reply_to (limit_tickets P out).0 ≡ Some r → is_hindered out.0 ≡ false
 unhindered P (Troubled (BeingRead ls), Q) r h = absurd cc
 unhindered P (Troubled (BeingWritten l), Q) r h = absurd cc
 unhindered P (Troubled (Dropped l), Q) r h = refl
@@ -93,7 +93,7 @@ unnamed P (Back v) (reply.Made c) none h = absurd cc
 
 -- a read gives no box
 limited_unmade : (P : Plain) (out : Outcome (Unit {0}))
-    → is_made out.0 ≡ false → is_made (limited P out).0 ≡ false
+    → is_made out.0 ≡ false → is_made (limit_tickets P out).0 ≡ false
 limited_unmade P out h = at (takes_ticket out.0 && nat_eq P.next (2 ^ 64 - 1))
   where
     at : (b : Bool)
@@ -116,50 +116,50 @@ read_unmade P l (Some m) (Some (Lent w)) = refl
 
 -- a release whose answer is recorded was of a guard that the state knew
 known_by : (b : Bool) (P Q : Plain) (r : StepReply)
-    → let out : Outcome (Unit {0}) = limited P (cond b (Flag true, Q) (Flag false, P)) in
+    → let out : Outcome (Unit {0}) = limit_tickets P (cond b (Flag true, Q) (Flag false, P)) in
     reply_to out.0 ≡ Some r → b ≡ true
 known_by true P Q r h = refl
 known_by false P Q r h = absurd cc
 
 flag_unmade : (b : Bool) (P Q : Plain)
-    → let out : Outcome (Unit {0}) = limited P (cond b (Flag true, Q) (Flag false, P)) in
+    → let out : Outcome (Unit {0}) = limit_tickets P (cond b (Flag true, Q) (Flag false, P)) in
     is_made out.0 ≡ false
 flag_unmade true P Q = refl
 flag_unmade false P Q = refl
 
 -- ---- a step without values
 
-module _ (told : IsTold) (P : Plain) where
+module _ (tell : IsTold) (P : Plain) where
   -- a call is a lawful step, where the names in its reply are those that it takes
   lawful : (c : StepCall) (r : StepReply) (a : Action (Unit {0})) → recorded_as a ≡ Some c
       → action_of P c ≡ Some a → gives_new P r ≡ true
-      → reply_to (limited P (act P a (names_in r))).0 ≡ Some r
-      → plain_step P c r ≡ Some (limited P (act P a (names_in r))).1
+      → reply_to (limit_tickets P (act P a (names_in r))).0 ≡ Some r
+      → plain_step P c r ≡ Some (limit_tickets P (act P a (names_in r))).1
   unfolding plain_step
   lawful c r a as_call action new h =
-      let out : Outcome (Unit {0}) = limited P (act P a (names_in r)) in
+      let out : Outcome (Unit {0}) = limit_tickets P (act P a (names_in r)) in
       let free = ap not (unhindered P (act P a (names_in r)) r h) in
-      let ready = told P a c (names_in r) as_call ∙ free in
+      let ready = tell P a c (names_in r) as_call ∙ free in
       ap (step_by P c r) action ∙ ap (λ b. cond b (Some out.1) None)
       (and_from _ _ ready (and_from _ _ new (recorded_is (reply_to out.0) r h)))
 
   -- the same, by what is left
   leads : (c : StepCall) (r : StepReply) (a : Action (Unit {0})) (answer : Answer (Unit {0}))
       (Q : Plain) → recorded_as a ≡ Some c → action_of P c ≡ Some a
-      → is_made (limited P (act P a (names_in r))).0 ≡ false
-      → (answer, Q) ≡ limited P (act P a (names_in r)) → reply_to answer ≡ Some r
+      → is_made (limit_tickets P (act P a (names_in r))).0 ≡ false
+      → (answer, Q) ≡ limit_tickets P (act P a (names_in r)) → reply_to answer ≡ Some r
       → plain_step P c r ≡ Some Q
   leads c r a answer Q as_call action none m h =
-      let said = ap (λ (o : Outcome (Unit {0})). reply_to o.0) (sym m) ∙ h in
-      lawful c r a as_call action (unnamed P _ r none said) said
+      let reply = ap (λ (o : Outcome (Unit {0})). reply_to o.0) (sym m) ∙ h in
+      lawful c r a as_call action (unnamed P _ r none reply) reply
       ∙ ap (λ (o : Outcome (Unit {0})). Some o.1) (sym m)
 
   made_follows : (l : Location) (f : Fresh) (answer : Answer (Unit {0})) (Q : Plain)
       (r : StepReply) → IsNew P f.first → (answer, Q) ≡ make_value P None tt l f.first
       → reply_to answer ≡ Some r → plain_step P (call.Leak l) r ≡ Some Q
   made_follows l f answer Q r new m h =
-      let said = ap (λ (o : Outcome (Unit {0})). reply_to o.0) (sym m) ∙ h in
-      subst (λ x. plain_step P (call.Leak l) x ≡ Some Q) (some_is _ _ said)
+      let reply = ap (λ (o : Outcome (Unit {0})). reply_to o.0) (sym m) ∙ h in
+      subst (λ x. plain_step P (call.Leak l) x ≡ Some Q) (some_is _ _ reply)
       (lawful (call.Leak l) _ (Make None tt l) refl refl (new_to P f.first new) refl
       ∙ ap (λ (o : Outcome (Unit {0})). Some o.1) (sym m))
     where
@@ -167,13 +167,13 @@ module _ (told : IsTold) (P : Plain) where
       some_is x y e = cc
 
   release_follows : (g : Guard) (new : Fresh) (answer : Answer (Unit {0})) (Q : Plain)
-      (r : StepReply) → IsSound P → (answer, Q) ≡ limited P (act P (ReleaseReader g) new)
+      (r : StepReply) → IsSound P → (answer, Q) ≡ limit_tickets P (act P (ReleaseReader g) new)
       → reply_to answer ≡ Some r → plain_step P (call.ReleaseRead g.ticket) r ≡ Some Q
   release_follows g new answer Q r sound m h =
-      let said = ap (λ (o : Outcome (Unit {0})). reply_to o.0) (sym m) ∙ h in
+      let reply = ap (λ (o : Outcome (Unit {0})). reply_to o.0) (sym m) ∙ h in
       let left = without_reader P g.cell g.ticket (content_at P g.cell) in
       let parts = and_parts (nat_eq g.store P.number) _
-      (known_by (knows_reader P g) P left r said) in
+      (known_by (knows_reader P g) P left r reply) in
       let own : guard_at P g.ticket g.cell ≡ g = λ i.
       record {
         store = sym (eqb-true g.store P.number parts.0) i;
@@ -188,7 +188,7 @@ module _ (told : IsTold) (P : Plain) where
   -- a step of a recorded call, under the names that it takes
   does : (a : Action (Unit {0})) (c : StepCall) (new : Fresh) (answer : Answer (Unit {0}))
       (Q : Plain) (r : StepReply) → IsSound P → recorded_as a ≡ Some c
-      → Takes P a answer new → (answer, Q) ≡ limited P (act P a new) → reply_to answer ≡ Some r
+      → Takes P a answer new → (answer, Q) ≡ limit_tickets P (act P a new) → reply_to answer ≡ Some r
       → plain_step P c r ≡ Some Q
   does (Make None v l) c new answer Q r sound e takes m h =
       let same : call.Leak l ≡ c = cc in
@@ -206,7 +206,7 @@ module _ (told : IsTold) (P : Plain) where
       subst (λ x. plain_step P x r ≡ Some Q) same (release_follows g new answer Q r sound m h)
   does (End b) c new answer Q r sound e takes m h =
       let same : call.ManuallyDrop b ≡ c = cc in
-      let none = unless_unmade P (hindered P (own_name P b)) (Done, close P (own_name P b)) refl in
+      let none = unless_unmade P (hindrance_to P (own_name P b)) (Done, close P (own_name P b)) refl in
       subst (λ x. plain_step P x r ≡ Some Q) same
       (leads (call.ManuallyDrop b) r (End b) answer Q refl refl (limited_unmade P _ none) m h)
   does (Make (Some o) v l) c new answer Q r sound e takes m h = absurd cc
@@ -256,6 +256,6 @@ module _ {T : Type 0} where
       (answer : Answer T) (r : StepReply) → IsSound (plain S) → recorded_as a ≡ Some c
       → Meets S a answer R → reply_to answer ≡ Some r
       → plain_step (plain S) c r ≡ Some (plain R)
-  plain_follows told without S R a c answer r sound e m h =
-      follows told (plain S) (plain_call a) c (plain_answer answer) (plain R) r sound
+  plain_follows tell without S R a c answer r sound e m h =
+      follows tell (plain S) (plain_call a) c (plain_answer answer) (plain R) r sound
       (plain_recorded a ∙ e) (without S R a answer m) (plain_reply answer ∙ h)

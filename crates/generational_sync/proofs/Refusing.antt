@@ -26,13 +26,13 @@ use Rattle.generational_core.specs.State.{State}
 use Rattle.generational_core.specs.Borrowing.{Trouble, reach, content_at, read_trouble, not_reached}
 use Rattle.generational_core.specs.Borrowing.{read_refusal, write_refusal}
 use Rattle.generational_core.specs.Borrowing.Trouble.{Dropped, BeingRead, BeingWritten}
-use Rattle.generational_core.specs.Ending.{hindered, first_hindrance, hindrance_of}
-use Rattle.generational_core.specs.Ending.{is_doomed, left_by, or_else, close}
+use Rattle.generational_core.specs.Ending.{hindrance_to, first_hindrance, hindrance_of}
+use Rattle.generational_core.specs.Ending.{is_doomed, cells_after, or_else, close}
 use Rattle.generational_core.specs.Machine.{Answer, Outcome, unless, read_at, contents}
 use Rattle.generational_core.specs.Machine.{own_name}
 use Rattle.generational_core.specs.Machine.Action.{Read, End}
 use Rattle.generational_core.specs.Machine.Answer.{Done, Troubled, Refused as refuses}
-use Rattle.generational_core.specs.Steps.{Meets, limited, is_being_read}
+use Rattle.generational_core.specs.Steps.{Meets, limit_tickets, is_being_read}
 use Rattle.generational_core.specs.Answers.{read_refused, end_refused, end_answer}
 use Rattle.generational_core.specs.Readiness.{is_ready, tells_of_borrow}
 use Rattle.generational_sync.specs.Shared.{MayRefuseRead}
@@ -96,7 +96,7 @@ module _ {T : Type 0} where
   Tells t answer = (trouble_in answer ≡ t) × (is_unknown answer ≡ false)
 
   read_tells : (S : State T) (l : Location) (o : Option Name) (c : Option (Content T))
-      → Tells None (limited S (read_at S l o c)).0
+      → Tells None (limit_tickets S (read_at S l o c)).0
   read_tells S l None c = (refl, refl)
   read_tells S l (Some m) None = (refl, refl)
   read_tells S l (Some m) (Some (Lent w)) = (refl, refl)
@@ -110,7 +110,7 @@ module _ {T : Type 0} where
       at false = (refl, refl)
 
   unless_tells : (S : State T) (l : Location) (o : Option Name) (c : Option (Content T))
-      (t : Option Trouble) → Tells t (limited S (unless t S (read_at S l o c))).0
+      (t : Option Trouble) → Tells t (limit_tickets S (unless t S (read_at S l o c))).0
   unless_tells S l o c None = read_tells S l o c
   unless_tells S l o c (Some t) = (refl, refl)
 
@@ -181,9 +181,9 @@ module _ {T : Type 0} where
       borrow_first (hindrance_of cells left (map.get cells n) n) (first_hindrance cells left names)
       (borrow_of cells left (map.get cells n) n) (borrow_among cells left names)
 
-  hindered_borrow : (S : State T) (names : List Name) → is_borrow (hindered S names) ≡ true
-  unfolding hindered
-  hindered_borrow S names = borrow_among S.cells (left_by S.cells names) names
+  hindered_borrow : (S : State T) (names : List Name) → is_borrow (hindrance_to S names) ≡ true
+  unfolding hindrance_to
+  hindered_borrow S names = borrow_among S.cells (cells_after S.cells names) names
 
   -- an end that no borrow hinders is carried out
   pub end_done : {U : Type 0} (S R : State T) (b : GenerationalPointer)
@@ -192,13 +192,13 @@ module _ {T : Type 0} where
   end_done S R b (Ok u) m ready err = true≢false err
   end_done S R b (Err e) m ready err = at m
     where
-      free : hindered S (own_name S b) ≡ None
-      free = none_hinders (hindered S (own_name S b)) (hindered_borrow S (own_name S b)) ready
+      free : hindrance_to S (own_name S b) ≡ None
+      free = none_hinders (hindrance_to S (own_name S b)) (hindered_borrow S (own_name S b)) ready
 
-      over : (limited S (unless (hindered S (own_name S b)) S (Done, close S (own_name S b)))).0
+      over : (limit_tickets S (unless (hindrance_to S (own_name S b)) S (Done, close S (own_name S b)))).0
           ≡ Done
       over = ap (λ (t : Option Trouble).
-          (limited S (unless t S (Done, close S (own_name S b)))).0) free
+          (limit_tickets S (unless t S (Done, close S (own_name S b)))).0) free
 
       at : Meets S (End b) (end_refused e) R → ⊥
       at (inl m) = true≢false (sym (ap is_done over)

@@ -16,7 +16,7 @@ use Rattle.generational_core.specs.Boxes.{name_of}
 use Rattle.generational_core.specs.Machine.{Action, Answer, Fresh, Outcome, act}
 use Rattle.generational_core.specs.Machine.Action.{Make, Read as ReadBox, ReleaseReader, End}
 use Rattle.generational_core.specs.Machine.Answer.{Made}
-use Rattle.generational_core.specs.Steps.{AreNew, Takes, Meets, limited}
+use Rattle.generational_core.specs.Steps.{AreNew, Takes, Meets, limit_tickets}
 use Rattle.generational_core.specs.Readiness.{is_ready}
 use Rattle.generational_core.specs.History.{plain}
 use Rattle.generational_sync.specs.declared.step.Step.{Step}
@@ -39,7 +39,7 @@ taken_by : (P Q : Plain) (c : StepCall) (r : StepReply) (a : Action (Unit {0}))
 taken_by P Q c r a asks new e = at (is_lawful P c r out.0) refl e
   where
     out : Outcome (Unit {0})
-    out = limited P (act P a (names_in r))
+    out = limit_tickets P (act P a (names_in r))
 
     at : (b : Bool) → is_lawful P c r out.0 ≡ b → cond b (Some out.1) None ≡ Some Q
         → IsTaken P c r Q

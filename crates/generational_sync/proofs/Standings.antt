@@ -12,18 +12,18 @@ use Rattle.generational_core.specs.declared.error.StoreError.TheVariants.{Number
 use Rattle.generational_core.specs.declared.borrow.Borrow.{Borrow}
 use Rattle.generational_core.specs.declared.boxes.GenerationalPointer.{GenerationalPointer}
 use Rattle.generational_core.specs.Names.{Name, NameMap, among}
-use Rattle.generational_core.specs.Cells.{Content, Cell, content_of, refilled, is_shared}
+use Rattle.generational_core.specs.Cells.{Content, Cell, content_of, refill, is_shared}
 use Rattle.generational_core.specs.Cells.Content.{Here, Lent}
 use Rattle.generational_core.specs.Cells.Cell.{Value, Shared, Ref}
 use Rattle.generational_core.specs.State.{State, tickets_of, is_named}
-use Rattle.generational_core.specs.Borrowing.{Trouble, Guard, content_at, filled, reach}
+use Rattle.generational_core.specs.Borrowing.{Trouble, Guard, content_at, fill, reach}
 use Rattle.generational_core.specs.Borrowing.{read_trouble}
-use Rattle.generational_core.specs.Ending.{swept, without, close, hindered}
+use Rattle.generational_core.specs.Ending.{sweep, without, close, hindrance_to}
 use Rattle.generational_core.specs.Machine.{Answer, Outcome, unless, read_at, contents}
 use Rattle.generational_core.specs.Machine.{has_reader, knows_reader, without_reader, own_name}
 use Rattle.generational_core.specs.Machine.Action.{Make, Read, ReleaseReader, End}
 use Rattle.generational_core.specs.Machine.Answer.{Made, Reads, Done, Flag, Refused}
-use Rattle.generational_core.specs.Steps.{Meets, limited, takes_ticket}
+use Rattle.generational_core.specs.Steps.{Meets, limit_tickets, takes_ticket}
 use Rattle.generational_sync.specs.Standing.{borrows, borrows_in}
 use Rattle.generational_sync.proofs.Weighing.{borrows_retained, borrows_inserted, borrows_changed}
 
@@ -65,18 +65,18 @@ module _ {T : Type 0} where
 
   -- another content in a cell
   filled_borrows : (S : State T) (m : Name) (c old : Content T) → content_at S m ≡ Some old
-      → borrows (filled S m c) + size old ≡ borrows S + size c
+      → borrows (fill S m c) + size old ≡ borrows S + size c
   filled_borrows S m c old had = at (map.get S.cells m) refl had
     where
       at : (o : Option (Cell T)) → map.get S.cells m ≡ o → content_of o ≡ Some old
-          → borrows (filled S m c) + size old ≡ borrows S + size c
+          → borrows (fill S m c) + size old ≡ borrows S + size c
       at None is h = absurd cc
       at (Some (Value d l)) is h =
-          let weighs = borrows_changed S.cells m (refilled c) (Value d l) is in
+          let weighs = borrows_changed S.cells m (refill c) (Value d l) is in
           let same : size d ≡ size old = ap (λ o. length (tickets_of o)) h in
           omega arith
       at (Some (Shared d l)) is h =
-          let weighs = borrows_changed S.cells m (refilled c) (Shared d l) is in
+          let weighs = borrows_changed S.cells m (refill c) (Shared d l) is in
           let same : size d ≡ size old = ap (λ o. length (tickets_of o)) h in
           omega arith
       at (Some (Ref k l)) is h = absurd cc
@@ -89,7 +89,7 @@ module _ {T : Type 0} where
   abbrev Grows : State T → Outcome T → Type 0
   Grows S out = borrows out.1 ≤ borrows S + lends out.0
 
-  limited_grows : (S : State T) (out : Outcome T) → Grows S out → Grows S (limited S out)
+  limited_grows : (S : State T) (out : Outcome T) → Grows S out → Grows S (limit_tickets S out)
   limited_grows S out h = at (takes_ticket out.0 && nat_eq S.next (2 ^ 64 - 1))
     where
       at : (b : Bool) → Grows S (cond b (Refused NumbersExhausted, S) out)
@@ -131,8 +131,8 @@ module _ {T : Type 0} where
       let after = ap borrows m.2 in let none = ap lends m.1 in omega arith
 
   swept_fewer : (cells : NameMap (Cell T))
-      → borrows_in (map.entries (swept cells)) ≤ borrows_in (map.entries cells)
-  unfolding swept
+      → borrows_in (map.entries (sweep cells)) ≤ borrows_in (map.entries cells)
+  unfolding sweep
   swept_fewer cells =
       borrows_retained cells (λ n. not (is_shared (map.get cells n)) || is_named cells n)
 
@@ -152,7 +152,7 @@ module _ {T : Type 0} where
       → Meets S (End b) Done R → borrows R ≤ borrows S
   end_stand S R b (inl m) =
       let grows = subst (λ (o : Outcome T). Grows S o) (sym m.2)
-      (limited_grows S _ (unless_grows S (hindered S (own_name S b)) _
+      (limited_grows S _ (unless_grows S (hindrance_to S (own_name S b)) _
       (end_grows S (own_name S b)))) in
       omega arith
   end_stand S R b (inr m) = absurd cc
@@ -178,7 +178,7 @@ module _ {T : Type 0} where
   release_stand S R g (inl m) = at (knows_reader S g) refl m.2
     where
       at : (b : Bool) → knows_reader S g ≡ b
-          → (Flag true, R) ≡ limited S (cond b
+          → (Flag true, R) ≡ limit_tickets S (cond b
           (Flag true, without_reader S g.cell g.ticket (content_at S g.cell)) (Flag false, S))
           → borrows R + 1 ≤ borrows S
       at true known e =

@@ -7,7 +7,7 @@ use Rattle.std.specs.declared.cmp.Ordering.TheVariants.{Less, Equal, Greater}
 use Rattle.std.specs.Ordering.{is_eq, is_lt}
 use Rattle.std.proofs.lemmas.Bool.{and_parts, and_from}
 use Rattle.std.specs.FinMap as map
-use Rattle.generational_core.specs.Names.{Name, NameMap, name_cmp, changed, changed_if}
+use Rattle.generational_core.specs.Names.{Name, NameMap, name_cmp, change, change_if}
 use Rattle.generational_core.specs.Cells.{Cell}
 use Rattle.generational_sync.specs.Standing.{borrows_of, borrows_in}
 use Rattle.generational_sync.proofs.Naming.{name_total, name_exact}
@@ -110,11 +110,11 @@ module _ {T : Type 0} where
 
   pub borrows_changed : (m : NameMap (Cell T)) (k : Name) (f : Cell T → Cell T) (x : Cell T)
       → map.get m k ≡ Some x
-      → borrows_in (map.entries (changed m k f)) + borrows_of x
+      → borrows_in (map.entries (change m k f)) + borrows_of x
       ≡ borrows_in (map.entries m) + borrows_of (f x)
-  unfolding changed
+  unfolding change
   borrows_changed m k f x is =
-      let put = ap (λ o. borrows_in (map.entries (changed_if m k f o))) is in
+      let put = ap (λ o. borrows_in (map.entries (change_if m k f o))) is in
       let got = ap borrows_there is in
       let weighs = borrows_inserted m k (f x) in
       omega arith

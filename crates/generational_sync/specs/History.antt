@@ -17,7 +17,7 @@ use Rattle.generational_core.specs.Borrowing.{Guard, content_at}
 use Rattle.generational_core.specs.Machine.{Action, Answer, Fresh, Outcome, act, has_reader}
 use Rattle.generational_core.specs.Machine.Action.{Make, Read as ReadBox, ReleaseReader, End}
 use Rattle.generational_core.specs.Slots.{slots_of, slots, free, is_free, last_name}
-use Rattle.generational_core.specs.Steps.{Meets, IsNew, limited, no_names}
+use Rattle.generational_core.specs.Steps.{Meets, IsNew, limit_tickets, no_names}
 use Rattle.generational_core.specs.Readiness.{is_ready}
 use Rattle.generational_sync.specs.declared.step.Step.{Step}
 use Rattle.generational_sync.specs.declared.step.StepReply.{StepReply}
@@ -85,7 +85,7 @@ is_lawful P call r answer =
 abbrev pub step_by : Plain → StepCall → StepReply → Option (Action (Unit {0})) → Option Plain
 step_by P call r None = None
 step_by P call r (Some a) =
-    let out : Outcome (Unit {0}) = limited P (act P a (names_in r)) in
+    let out : Outcome (Unit {0}) = limit_tickets P (act P a (names_in r)) in
     if is_lawful P call r out.0 then Some out.1 else None
 
 -- what a recorded step makes of a state without values; none where it isn't lawful

@@ -11,7 +11,7 @@ ghost use Rattle.generational_core.specs.Machine.{knows_reader};
 ghost use Rattle.generational_core.specs.Machine.Action.{Make, Read, ReleaseReader, End};
 ghost use Rattle.generational_core.specs.Machine.Answer.{Flag};
 ghost use Rattle.generational_core.specs.Steps.{Meets};
-ghost use Rattle.generational_core.specs.Answers.{box_answer, read_answer, end_answer, opened};
+ghost use Rattle.generational_core.specs.Answers.{box_answer, read_answer, end_answer, value_behind};
 ghost use Rattle.generational_core.specs.Readiness.{is_ready};
 ghost use Rattle.generational_sync.specs.Counts.{new_tallies};
 ghost use Rattle.generational_sync.specs.Kinds.{IsCounted};
@@ -133,7 +133,7 @@ impl<T: Drop, const NUMBER: u64, M: Count, L: Count, C: Count, R: Count> SyncSta
     /// The value that a reader's guard opens, exactly where the state knows the guard. It isn't a
     /// step. Takes no memory.
     pub fn open(&self, guard: &GenerationalRef<T>) -> Option<&T>
-        ensures opened { option_copied result ≡ opened self.now.state guard.now }
+        ensures opened { option_copied result ≡ value_behind self.now.state guard.now }
         ensures replays { Replays NUMBER self.now }
     {
         self.store.open(guard)

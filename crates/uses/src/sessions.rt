@@ -5,10 +5,10 @@ ghost use Rattle.generational_core.specs.declared.boxes.GenerationalPointer.{Gen
 ghost use Rattle.generational_core.specs.Boxes.{name_of};
 ghost use Rattle.generational_core.specs.State.{IsFresh, IsEnded};
 ghost use Rattle.generational_core.specs.Borrowing.Trouble.{Dropped};
-ghost use Rattle.generational_core.specs.Session.{held};
+ghost use Rattle.generational_core.specs.Session.{at_place};
 ghost use Rattle.generational_core.specs.Session.Held.{Boxed};
-ghost use Rattle.generational_core.specs.Session.Said.{Error};
-ghost use Rattle.generational_core.specs.Places.{said_by, replies_said};
+ghost use Rattle.generational_core.specs.Session.SessionReply.{Error};
+ghost use Rattle.generational_core.specs.Places.{as_reply, as_replies};
 ghost use Rattle.generational_core.specs.Numbered.{answers, erase, refusal_in, empty_session};
 
 use generational_box::{BoxAt, Call, Location, Reply, Session, Storage};
@@ -23,8 +23,8 @@ pub fn read_later<S: Storage<u64>>(
 ) -> Option<(Reply<u64>, Reply<u64>)>
     // A box whose name had ended before is told so, with its own location.
     ensures { IfSome result (λ replies. (b : GenerationalPointer) →
-        held session.old.table place ≡ Boxed b → IsEnded session.old.state (name_of b) →
-        said_by replies.1 ≡ Error (Dropped b.created_at)) }
+        at_place session.old.table place ≡ Boxed b → IsEnded session.old.state (name_of b) →
+        as_reply replies.1 ≡ Error (Dropped b.created_at)) }
 {
     let reply = session.call(call).ok()?;
     let read = session.call(Call::TryRead(BoxAt::Place(place), here)).ok()?;
@@ -41,10 +41,10 @@ pub fn replies_over<S: Storage<u64> + Drop>(
     requires { IsFresh (S.state store) }
     // Ids aside they are those of a machine without slots, where the same calls are refused.
     ensures { IfSome result (λ replies.
-        let said = replies_said replies.items in
+        let list = as_replies replies.items in
         let empty = empty_session (S.state store).number in
-        let own = answers empty calls.items (list_map refusal_in said) in
-        list_map erase said ≡ list_map erase own) }
+        let own = answers empty calls.items (list_map refusal_in list) in
+        list_map erase list ≡ list_map erase own) }
 {
     let mut session = Session::new(alloc, store);
     let replies = session.run(calls).ok();
@@ -67,10 +67,10 @@ pub fn replies_over_both<S: Storage<u64> + Drop, R: Storage<u64> + Drop>(
     // Where the same calls were refused for want of memory or of numbers, all replies are the same,
     // ids aside.
     ensures { IfSome result (λ both.
-        let said = replies_said both.0.items in
-        let said_again = replies_said both.1.items in
-        list_map refusal_in said ≡ list_map refusal_in said_again →
-        list_map erase said ≡ list_map erase said_again) }
+        let list = as_replies both.0.items in
+        let list_again = as_replies both.1.items in
+        list_map refusal_in list ≡ list_map refusal_in list_again →
+        list_map erase list ≡ list_map erase list_again) }
 {
     let replies = replies_over(alloc, first, calls)?;
     let replies_again = replies_over(alloc, second, again)?;

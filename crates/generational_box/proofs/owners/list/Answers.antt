@@ -3,7 +3,7 @@ use Rattle.std.specs.Prelude.{map as list_map}
 use Rattle.std.specs.BTreeMap.{get}
 use Rattle.std.proofs.lemmas.List.{map-append}
 use Rattle.generational_box.specs.declared.owners.OwnerRecord.{OwnerRecord}
-use Rattle.generational_core.specs.Names.{changed}
+use Rattle.generational_core.specs.Names.{change}
 use Rattle.generational_core.specs.Records.{one_listed}
 use Rattle.generational_box.specs.OwnerRecords.{owners_of, name_seen}
 use Rattle.generational_box.proofs.OwnerMaps.{newest_first, under, owners_written, owners_kept}
@@ -23,7 +23,7 @@ returns-in-Ok-clause-ok c =
     (ap (λ names. record { names = names; count = c.in-Some.found.now.count })
     (ap (list_map name_seen) c.in-Ok.ensures.items
     ∙ map-append name_seen c.in-Some.found.now.boxes.items (c.args.name ∷ [])))
-    ∙ ap (λ key. changed (owners_of c.args.owners.now) key (one_listed (name_seen c.args.name))) c.key_of.ensures
+    ∙ ap (λ key. change (owners_of c.args.owners.now) key (one_listed (name_seen c.args.name))) c.key_of.ensures
 
 pub returns-in-Err-clause-err : goal.returns-in-Err-clause-err
 returns-in-Err-clause-err c =

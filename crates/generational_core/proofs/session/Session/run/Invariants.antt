@@ -1,6 +1,6 @@
 use Rattle.std.proofs.Common.{◌+◌, ◌≤◌, ◌++◌, reverse, vec_len, vec_capacity}
 use Rattle.generational_core.specs.Session.{Run}
-use Rattle.generational_core.specs.Places.{session_in, replies_said}
+use Rattle.generational_core.specs.Places.{session_in, as_replies}
 use Rattle.generational_core.proofs.session.Session.run.Given as goal
 
 -- a run of the calls that are left, behind the replies so far, is a run of all
@@ -9,7 +9,7 @@ invariant-loop-call g l = record {
   run : (rest : _) (last : _) → Run
       (session_in (g.S.AnyStorage.state l.self-inside.store) l.self-inside.things.items)
       (reverse l.calls.items) rest last
-      → Run l.fn.self l.fn.calls.items (replies_said l.replies.items ++ rest) last;
+      → Run l.fn.self l.fn.calls.items (as_replies l.replies.items ++ rest) last;
   things : vec_len l.self-inside.things + vec_len l.calls ≤ vec_capacity l.self-inside.things;
   replies : vec_len l.replies + vec_len l.calls ≤ vec_capacity l.replies;
 }
