@@ -28,7 +28,8 @@ use Rattle.generational_core.specs.Steps.{Meets, limit_tickets, no_names, is_bei
 use Rattle.generational_box.specs.Entry.{IsBeingRead, FoundBorrowed, Kept, content_in, is_live}
 use Rattle.generational_box.specs.Entry.Kept.{Empty, Live}
 use Rattle.generational_core.specs.Answers.{trouble_of, end_refused}
-use Rattle.generational_box.specs.Slotted.{own_cell_at, cell_of, OnlyValues}
+use Rattle.generational_box.specs.Slotted.{cell_of, OnlyValues}
+use Rattle.generational_core.specs.Machine.{own_cell}
 use Rattle.generational_core.proofs.Maps.{by_name, name_exact, name_total, name_same, get-keep}
 use Rattle.generational_core.proofs.Maps.{get-remove_here}
 
@@ -111,7 +112,7 @@ module _ {T : Type 0} (S : State T) (values : OnlyValues S) where
         ≡ limit_tickets S (unless o S (Done, close S (own_name S b)))
     end_is o is = ap (λ t. limit_tickets S (unless t S (Done, close S (own_name S b)))) is
 
-    own_yes : (x : Cell T) → own_cell_at S b.id ≡ Some x
+    own_yes : (x : Cell T) → own_cell S b.id ≡ Some x
         → (nat_eq b.id.store S.number ≡ true) × (map.get S.cells (name_of b) ≡ Some x)
     own_yes x is = at (nat_eq b.id.store S.number) is
       where
@@ -120,14 +121,14 @@ module _ {T : Type 0} (S : State T) (values : OnlyValues S) where
         at true e = (refl, e)
         at false e = cc
 
-    pub hindered_is : (c : Content T) (k : Location) → own_cell_at S b.id ≡ Some (Value c k)
+    pub hindered_is : (c : Content T) (k : Location) → own_cell S b.id ≡ Some (Value c k)
         → hindrance_to S (own_name S b) ≡ write_refusal (Some c)
     hindered_is c k is =
         let own = own_yes (Value c k) is in
         ap (λ x. hindrance_to S (cond x (name_of b ∷ []) [])) own.0 ∙ hindrance_value (name_of b) c k own.1
 
     -- a box that names no live cell of this store
-    pub end_gone : own_cell_at S b.id ≡ None → Meets S (End b) Done S
+    pub end_gone : own_cell S b.id ≡ None → Meets S (End b) Done S
     end_gone is =
         inl (
           no_names,
@@ -147,13 +148,13 @@ module _ {T : Type 0} (S : State T) (values : OnlyValues S) where
         stays false e = left_none
 
     -- a borrow stands in the way
-    pub end_hindered : (c : Content T) (k : Location) (t : Trouble) → own_cell_at S b.id ≡ Some (Value c k)
+    pub end_hindered : (c : Content T) (k : Location) (t : Trouble) → own_cell S b.id ≡ Some (Value c k)
         → write_refusal (Some c) ≡ Some t → Meets S (End b) (Troubled t) S
     end_hindered c k t is borrowed =
         inl (no_names, tt, sym (end_is (Some t) (hindered_is c k is ∙ borrowed)))
 
     -- the list of the readers' locations found no memory
-    pub end_lacks : (c : Content T) (k : Location) → own_cell_at S b.id ≡ Some (Value c k)
+    pub end_lacks : (c : Content T) (k : Location) → own_cell S b.id ≡ Some (Value c k)
         → IsBeingRead (write_refusal (Some c)) → Meets S (End b) (refuses OutOfMemory) S
     end_lacks c k is reading =
         inr (at (write_refusal (Some c)) (hindered_is c k is) reading, refl, refl)
@@ -165,7 +166,7 @@ module _ {T : Type 0} (S : State T) (values : OnlyValues S) where
         at (Some (BeingWritten l)) e h = absurd h
         at (Some (BeingRead ls)) e h = ap (λ (out : Outcome T). is_being_read out.0) (end_is (Some (BeingRead ls)) e)
 
-    pub end_done : (R : State T) (c : Content T) (k : Location) → own_cell_at S b.id ≡ Some (Value c k)
+    pub end_done : (R : State T) (c : Content T) (k : Location) → own_cell S b.id ≡ Some (Value c k)
         → write_refusal (Some c) ≡ None → R ≡ record S { cells = map.remove S.cells (name_of b) }
         → Meets S (End b) Done R
     end_done R c k is free after =
@@ -183,13 +184,13 @@ module _ {T : Type 0} (S : State T) (values : OnlyValues S) where
 
     -- ---- the same, by what a slot keeps
 
-    pub done_by_kept : (R : State T) (k : Kept T) → own_cell_at S b.id ≡ cell_of k → is_live k ≡ true
+    pub done_by_kept : (R : State T) (k : Kept T) → own_cell S b.id ≡ cell_of k → is_live k ≡ true
         → write_refusal (content_in k) ≡ None → R ≡ record S { cells = map.remove S.cells (name_of b) }
         → Meets S (End b) Done R
     done_by_kept R Empty cell live free after = absurd (false≢true live)
     done_by_kept R (Live c k) cell live free after = end_done R c k cell free after
 
-    pub refused_by_kept : (k : Kept T) (e : Refused BorrowMutError) → own_cell_at S b.id ≡ cell_of k → is_live k ≡ true
+    pub refused_by_kept : (k : Kept T) (e : Refused BorrowMutError) → own_cell S b.id ≡ cell_of k → is_live k ≡ true
         → FoundBorrowed (write_refusal (content_in k)) (Err e) → Meets S (End b) (end_refused e) S
     refused_by_kept Empty e cell live found = absurd (false≢true live)
     refused_by_kept (Live c k) (refused.Borrow e) cell live found = end_hindered c k (trouble_of e) cell found

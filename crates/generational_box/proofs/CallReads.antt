@@ -29,7 +29,8 @@ use Rattle.generational_core.specs.Steps.{Meets, limit_tickets, no_names, has_re
 use Rattle.generational_core.specs.Steps.{answer_to}
 use Rattle.generational_box.specs.Entry.{Kept, content_in, is_live}
 use Rattle.generational_box.specs.Entry.Kept.{Empty, Live}
-use Rattle.generational_box.specs.Slotted.{own_cell_at, cell_of}
+use Rattle.generational_box.specs.Slotted.{cell_of}
+use Rattle.generational_core.specs.Machine.{own_cell}
 use Rattle.generational_core.proofs.Maps.{by_name, name_exact, name_total, changed_view}
 
 -- a list without the ticket stays as it is
@@ -48,7 +49,7 @@ module _ {T : Type 0} where
   -- ---- reads
 
   -- a box whose cell is live is of this store
-  pub own_store : (S : State T) (b : GenerationalPointer) (x : Cell T) → own_cell_at S b.id ≡ Some x
+  pub own_store : (S : State T) (b : GenerationalPointer) (x : Cell T) → own_cell S b.id ≡ Some x
       → b.id.store ≡ S.number
   own_store S b x is = at (nat_eq b.id.store S.number) refl is
     where
@@ -57,7 +58,7 @@ module _ {T : Type 0} where
       at false h e = cc
 
   -- what a box of a Value reaches, and how a read of it is answered
-  pub reach_is : (S : State T) (b : GenerationalPointer) (o : Option (Cell T)) → own_cell_at S b.id ≡ o
+  pub reach_is : (S : State T) (b : GenerationalPointer) (o : Option (Cell T)) → own_cell S b.id ≡ o
       → reach S b ≡ leads_to o (name_of b)
   unfolding reach
   reach_is S b o is = at (nat_eq b.id.store S.number) refl ∙ ap (λ c. leads_to c (name_of b)) is
@@ -69,7 +70,7 @@ module _ {T : Type 0} where
       at false h = refl
 
   pub own_content : (S : State T) (b : GenerationalPointer) (c : Content T) (k : Location)
-      → own_cell_at S b.id ≡ Some (Value c k) → content_at S (name_of b) ≡ Some c
+      → own_cell S b.id ≡ Some (Value c k) → content_at S (name_of b) ≡ Some c
   own_content S b c k is = at (nat_eq b.id.store S.number) is
     where
       at : (own : Bool) → cond own (map.get S.cells (name_of b)) None ≡ Some (Value c k)
@@ -77,13 +78,13 @@ module _ {T : Type 0} where
       at true e = ap content_of e
       at false e = cc
 
-  pub trouble_gone : (S : State T) (b : GenerationalPointer) → own_cell_at S b.id ≡ None
+  pub trouble_gone : (S : State T) (b : GenerationalPointer) → own_cell S b.id ≡ None
       → read_trouble S b ≡ Some (Dropped b.created_at)
   unfolding read_trouble
   trouble_gone S b is = rw (reach_is S b None is) refl
 
   pub trouble_here : (S : State T) (b : GenerationalPointer) (c : Content T) (k : Location)
-      → own_cell_at S b.id ≡ Some (Value c k) → read_trouble S b ≡ read_refusal (Some c)
+      → own_cell S b.id ≡ Some (Value c k) → read_trouble S b ≡ read_refusal (Some c)
   unfolding read_trouble
   trouble_here S b c k is =
       rw (reach_is S b (Some (Value c k)) is) (ap read_refusal (own_content S b c k is))
@@ -95,21 +96,21 @@ module _ {T : Type 0} where
   read_is S b l o is = ap (λ t. unless t S (read_at S l (reach S b) (contents S (reach S b)))) is
 
   -- a box that names no live cell of this store
-  pub read_gone : (S : State T) (b : GenerationalPointer) (l : Location) → own_cell_at S b.id ≡ None
+  pub read_gone : (S : State T) (b : GenerationalPointer) (l : Location) → own_cell S b.id ≡ None
       → Meets S (Read b l) (Troubled (Dropped b.created_at)) S
   read_gone S b l is =
       inl (no_names, tt, sym (ap (limit_tickets S) (read_is S b l (Some (Dropped b.created_at)) (trouble_gone S b is))))
 
   -- a writer stands in the way
   pub read_lent : (S : State T) (b : GenerationalPointer) (l : Location) (c : Content T) (k : Location) (t : Trouble)
-      → own_cell_at S b.id ≡ Some (Value c k) → read_refusal (Some c) ≡ Some t
+      → own_cell S b.id ≡ Some (Value c k) → read_refusal (Some c) ≡ Some t
       → Meets S (Read b l) (Troubled t) S
   read_lent S b l c k t is lent =
       inl (no_names, tt, sym (ap (limit_tickets S) (read_is S b l (Some t) (trouble_here S b c k is ∙ lent))))
 
   -- a read that may begin
   read_free : (S : State T) (b : GenerationalPointer) (l : Location) (v : T) (rs : List Borrow) (k : Location)
-      → own_cell_at S b.id ≡ Some (Value (Here v rs) k)
+      → own_cell S b.id ≡ Some (Value (Here v rs) k)
       → act S (Read b l) no_names ≡ read_at S l (Some (name_of b)) (Some (Here v rs))
   read_free S b l v rs k is =
       read_is S b l None (trouble_here S b (Here v rs) k is)
@@ -117,7 +118,7 @@ module _ {T : Type 0} where
       ∙ ap (read_at S l (Some (name_of b))) (own_content S b (Here v rs) k is))
 
   pub read_begins : (S R : State T) (b : GenerationalPointer) (l : Location) (c : Content T) (k : Location)
-      → own_cell_at S b.id ≡ Some (Value c k) → read_refusal (Some c) ≡ None → S.next < 2 ^ 64 - 1
+      → own_cell S b.id ≡ Some (Value c k) → read_refusal (Some c) ≡ None → S.next < 2 ^ 64 - 1
       → R ≡ (read_at S l (Some (name_of b)) (content_at S (name_of b))).1
       → Meets S (Read b l) (Reads (next_guard S (name_of b))) R
   read_begins S R b l (Here v rs) k is free below after =
@@ -131,7 +132,7 @@ module _ {T : Type 0} where
   read_begins S R b l (Lent w) k is free below after = cc
 
   pub read_exhausted : (S : State T) (b : GenerationalPointer) (l : Location) (c : Content T) (k : Location)
-      → own_cell_at S b.id ≡ Some (Value c k) → read_refusal (Some c) ≡ None → S.next ≡ 2 ^ 64 - 1
+      → own_cell S b.id ≡ Some (Value c k) → read_refusal (Some c) ≡ None → S.next ≡ 2 ^ 64 - 1
       → Meets S (Read b l) (Refused NumbersExhausted) S
   read_exhausted S b l (Here v rs) k is free last =
       inl (
@@ -143,7 +144,7 @@ module _ {T : Type 0} where
   read_exhausted S b l (Lent w) k is free last = cc
 
   pub read_lacks : (S : State T) (b : GenerationalPointer) (l : Location) (c : Content T) (k : Location)
-      → own_cell_at S b.id ≡ Some (Value c k) → read_refusal (Some c) ≡ None → S.next < 2 ^ 64 - 1
+      → own_cell S b.id ≡ Some (Value c k) → read_refusal (Some c) ≡ None → S.next < 2 ^ 64 - 1
       → has_readers (Some c) ≡ true → Meets S (Read b l) (Refused OutOfMemory) S
   read_lacks S b l (Here v rs) k is free below beside =
       inr (
@@ -199,7 +200,7 @@ module _ {T : Type 0} where
 
   -- a guard whose cell isn't live in this store
   pub release_gone : (S : State T) (g : Guard) (id : GenerationalBoxId) → g ≡ record { store = id.store; cell = name_in id; ticket = g.ticket }
-      → own_cell_at S id ≡ None → Meets S (ReleaseReader g) (Flag false) S
+      → own_cell S id ≡ None → Meets S (ReleaseReader g) (Flag false) S
   release_gone S g id same is =
       inl (no_names, tt, sym (rw unknown refl))
     where
@@ -217,18 +218,18 @@ module _ {T : Type 0} where
 
 module _ {T : Type 0} (S : State T) (b : GenerationalPointer) (l : Location) where
   -- the answer to a read, where the slot was found
-  pub read_by_kept : (k : Kept T) → own_cell_at S b.id ≡ cell_of k → is_live k ≡ true
+  pub read_by_kept : (k : Kept T) → own_cell S b.id ≡ cell_of k → is_live k ≡ true
       → (t : Trouble) → Some t ≡ read_refusal (content_in k) → Meets S (Read b l) (Troubled t) S
   read_by_kept Empty cell live t lent = absurd (false≢true live)
   read_by_kept (Live c k) cell live t lent = read_lent S b l c k t cell (sym lent)
 
-  pub exhausted_by_kept : (k : Kept T) → own_cell_at S b.id ≡ cell_of k → is_live k ≡ true
+  pub exhausted_by_kept : (k : Kept T) → own_cell S b.id ≡ cell_of k → is_live k ≡ true
       → None ≡ read_refusal (content_in k) → S.next ≡ 2 ^ 64 - 1
       → Meets S (Read b l) (Refused NumbersExhausted) S
   exhausted_by_kept Empty cell live free last = absurd (false≢true live)
   exhausted_by_kept (Live c k) cell live free last = read_exhausted S b l c k cell (sym free) last
 
-  pub begun_by_kept : (R : State T) (g : Guard) (t : ℕ) (k : Kept T) → own_cell_at S b.id ≡ cell_of k → is_live k ≡ true
+  pub begun_by_kept : (R : State T) (g : Guard) (t : ℕ) (k : Kept T) → own_cell S b.id ≡ cell_of k → is_live k ≡ true
       → None ≡ read_refusal (content_in k) → S.next < 2 ^ 64 - 1
       → g ≡ record { store = b.id.store; cell = name_of b; ticket = t } → t ≡ S.next
       → R ≡ (read_at S l (Some (name_of b)) (content_at S (name_of b))).1
@@ -239,7 +240,7 @@ module _ {T : Type 0} (S : State T) (b : GenerationalPointer) (l : Location) whe
       (sym (is ∙ (λ i. record { store = own_store S b (Value c k) cell i; cell = name_of b; ticket = next i })))
       (read_begins S R b l c k cell (sym free) below after)
 
-  pub lacks_by_kept : (R : State T) (k : Kept T) → own_cell_at S b.id ≡ cell_of k → is_live k ≡ true
+  pub lacks_by_kept : (R : State T) (k : Kept T) → own_cell S b.id ≡ cell_of k → is_live k ≡ true
       → None ≡ read_refusal (content_in k) → S.next < 2 ^ 64 - 1
       → has_readers (content_at S (name_of b)) ≡ true → R ≡ S
       → Meets S (Read b l) (Refused OutOfMemory) R
@@ -249,7 +250,7 @@ module _ {T : Type 0} (S : State T) (b : GenerationalPointer) (l : Location) whe
 
 module _ {T : Type 0} (S : State T) (g : Guard) (id : GenerationalBoxId) (t : ℕ)
     (same : g ≡ record { store = id.store; cell = name_in id; ticket = t }) where
-  pub released_by_kept : (R : State T) (known : Bool) (k : Kept T) → own_cell_at S id ≡ cell_of k → is_live k ≡ true
+  pub released_by_kept : (R : State T) (known : Bool) (k : Kept T) → own_cell S id ≡ cell_of k → is_live k ≡ true
       → known ≡ has_reader (content_at S (name_in id)) t
       → R ≡ without_reader S (name_in id) t (content_at S (name_in id))
       → Meets S (ReleaseReader g) (Flag known) R
@@ -263,7 +264,7 @@ module _ {T : Type 0} (S : State T) (g : Guard) (id : GenerationalBoxId) (t : �
       box : GenerationalPointer
       box = record { id = id; created_at = k }
 
-  pub release_of_gone : own_cell_at S id ≡ None → Meets S (ReleaseReader g) (Flag false) S
+  pub release_of_gone : own_cell S id ≡ None → Meets S (ReleaseReader g) (Flag false) S
   release_of_gone is = rw same (release_gone S guard id refl is)
     where
       guard : Guard

@@ -31,15 +31,16 @@ use Rattle.generational_core.specs.Steps.{Meets, limit_tickets, no_names, is_bei
 use Rattle.generational_core.specs.Answers.{trouble_of, end_refused, back_answer}
 use Rattle.generational_box.specs.Entry.{IsBeingRead, FoundBorrowed, Kept, content_in, is_live}
 use Rattle.generational_box.specs.Entry.Kept.{Empty, Live}
-use Rattle.generational_box.specs.Slotted.{own_cell_at, cell_of}
+use Rattle.generational_box.specs.Slotted.{cell_of}
+use Rattle.generational_core.specs.Machine.{own_cell}
 use Rattle.generational_box.proofs.CallReads.{reach_is, own_content, own_store}
 
 module _ {T : Type 0} (S : State T) (b : GenerationalPointer) (l : Location) where
-  write_gone_trouble : own_cell_at S b.id ≡ None → write_trouble S b ≡ Some (Dropped b.created_at)
+  write_gone_trouble : own_cell S b.id ≡ None → write_trouble S b ≡ Some (Dropped b.created_at)
   unfolding write_trouble
   write_gone_trouble is = rw (reach_is S b None is) refl
 
-  write_here_trouble : (c : Content T) (k : Location) → own_cell_at S b.id ≡ Some (Value c k)
+  write_here_trouble : (c : Content T) (k : Location) → own_cell S b.id ≡ Some (Value c k)
       → write_trouble S b ≡ write_refusal (Some c)
   unfolding write_trouble
   write_here_trouble c k is =
@@ -53,16 +54,16 @@ module _ {T : Type 0} (S : State T) (b : GenerationalPointer) (l : Location) whe
       ap (λ t. limit_tickets S (unless t S (write_at S l (reach S b) (contents S (reach S b))))) is
 
   -- a box that names no live cell of this store
-  pub write_gone : own_cell_at S b.id ≡ None → Meets S (Write b l) (Troubled (Dropped b.created_at)) S
+  pub write_gone : own_cell S b.id ≡ None → Meets S (Write b l) (Troubled (Dropped b.created_at)) S
   write_gone is =
       inl (no_names, tt, sym (write_is (Some (Dropped b.created_at)) (write_gone_trouble is)))
 
-  write_hindered : (c : Content T) (k : Location) (t : Trouble) → own_cell_at S b.id ≡ Some (Value c k)
+  write_hindered : (c : Content T) (k : Location) (t : Trouble) → own_cell S b.id ≡ Some (Value c k)
       → write_refusal (Some c) ≡ Some t → Meets S (Write b l) (Troubled t) S
   write_hindered c k t is borrowed =
       inl (no_names, tt, sym (write_is (Some t) (write_here_trouble c k is ∙ borrowed)))
 
-  write_lacks : (c : Content T) (k : Location) → own_cell_at S b.id ≡ Some (Value c k)
+  write_lacks : (c : Content T) (k : Location) → own_cell S b.id ≡ Some (Value c k)
       → IsBeingRead (write_refusal (Some c)) → Meets S (Write b l) (refuses OutOfMemory) S
   write_lacks c k is reading = inr (at (write_refusal (Some c)) (write_here_trouble c k is) reading, refl, refl)
     where
@@ -75,7 +76,7 @@ module _ {T : Type 0} (S : State T) (b : GenerationalPointer) (l : Location) whe
           ap (λ (out : Outcome T). is_being_read out.0) (write_is (Some (BeingRead ls)) e)
 
   -- a write that may begin
-  write_free : (v : T) (k : Location) → own_cell_at S b.id ≡ Some (Value (Here v []) k)
+  write_free : (v : T) (k : Location) → own_cell S b.id ≡ Some (Value (Here v []) k)
       → act S (Write b l) no_names ≡ write_at S l (Some (name_of b)) (Some (Here v []))
   write_free v k is =
       ap (λ t. unless t S (write_at S l (reach S b) (contents S (reach S b)))) (write_here_trouble (Here v []) k is)
@@ -84,7 +85,7 @@ module _ {T : Type 0} (S : State T) (b : GenerationalPointer) (l : Location) whe
 
   -- ---- by what the slot keeps
 
-  pub write_refused : (k : Kept T) (e : Refused BorrowMutError) → own_cell_at S b.id ≡ cell_of k
+  pub write_refused : (k : Kept T) (e : Refused BorrowMutError) → own_cell S b.id ≡ cell_of k
       → is_live k ≡ true → FoundBorrowed (write_refusal (content_in k)) (Err e)
       → Meets S (Write b l) (end_refused e) S
   write_refused Empty e cell live found = absurd (false≢true live)
@@ -93,7 +94,7 @@ module _ {T : Type 0} (S : State T) (b : GenerationalPointer) (l : Location) whe
   write_refused (Live c k) (refused.Store NumbersExhausted) cell live found = absurd found
   write_refused (Live c k) (refused.Store UnknownOwner) cell live found = absurd found
 
-  pub write_exhausted : (k : Kept T) → own_cell_at S b.id ≡ cell_of k → is_live k ≡ true
+  pub write_exhausted : (k : Kept T) → own_cell S b.id ≡ cell_of k → is_live k ≡ true
       → write_refusal (content_in k) ≡ None → S.next ≡ 2 ^ 64 - 1
       → Meets S (Write b l) (refuses NumbersExhausted) S
   write_exhausted Empty cell live free last = absurd (false≢true live)
@@ -108,7 +109,7 @@ module _ {T : Type 0} (S : State T) (b : GenerationalPointer) (l : Location) whe
   write_exhausted (Live (Lent w) k) cell live free last = cc
 
   pub write_begins : (R : State T) (g : WriteGuard T) (t : ℕ) (v : T) (k : Kept T)
-      → own_cell_at S b.id ≡ cell_of k → is_live k ≡ true
+      → own_cell S b.id ≡ cell_of k → is_live k ≡ true
       → write_refusal (content_in k) ≡ None → S.next < 2 ^ 64 - 1
       → g.guard ≡ record { store = b.id.store; cell = name_of b; ticket = t } → t ≡ S.next
       → g.value ≡ v → content_at S (name_of b) ≡ Some (Here v [])
@@ -152,7 +153,7 @@ module _ {T : Type 0} (S : State T) (g : WriteGuard T) (id : GenerationalBoxId) 
   unknown : knows_writer S g.guard ≡ false → Meets S (ReleaseWriter g.guard g.value) (Back v) S
   unknown not = inl (no_names, tt, sym (rw not (λ i. (Back (value i), S))))
 
-  pub back_of_gone : own_cell_at S id ≡ None → Meets S (ReleaseWriter g.guard g.value) (Back v) S
+  pub back_of_gone : own_cell S id ≡ None → Meets S (ReleaseWriter g.guard g.value) (Back v) S
   back_of_gone is = unknown (ap (knows_writer S) guard ∙ at (nat_eq id.store S.number) is)
     where
       at : (own : Bool) → cond own (map.get S.cells (name_in id)) None ≡ None
@@ -182,7 +183,7 @@ module _ {T : Type 0} (S : State T) (g : WriteGuard T) (id : GenerationalBoxId) 
       (subst (λ x. Meets S (ReleaseWriter g.guard g.value) (Back x) S) (sym err.0)
       (unknown (knows_is own ∙ false_from_ne_true _ (λ h. false≢true (stands h)))))
 
-  pub back_by_kept : (R : State T) (r : Result (Unit {0}) T) (k : Kept T) → own_cell_at S id ≡ cell_of k
+  pub back_by_kept : (R : State T) (r : Result (Unit {0}) T) (k : Kept T) → own_cell S id ≡ cell_of k
       → is_live k ≡ true
       → (IsTrue (is_ok r) → has_writer (content_at S (name_in id)) t ≡ true)
       × (has_writer (content_at S (name_in id)) t ≡ true → IsTrue (is_ok r))

@@ -21,7 +21,7 @@ use Rattle.generational_core.specs.Machine.Action.{Make, NewOwner, CloneOwner, R
 use Rattle.generational_core.specs.Machine.Answer.{Made, Owned, Done, Refused}
 use Rattle.generational_core.specs.Steps.{Meets, limit_tickets, no_names, may_lack, is_made, is_being_read}
 use Rattle.generational_core.specs.Records.{one_more, one_less}
-use Rattle.generational_box.specs.OwnerRecords.{knows, knows_any, listed_in}
+use Rattle.generational_box.specs.OwnerRecords.{knows, knows_any, add_to_list_in}
 use Rattle.generational_core.specs.Records.{names_in, names_under, count_in}
 use Rattle.generational_box.specs.OwnerRecords.{first_borrowed}
 use Rattle.generational_core.specs.Records.{count_under}
@@ -81,7 +81,7 @@ module _ {T : Type 0} where
   -- a making without an owner, and then the name at the end of the owner's list
   pub made_for : (S R : State T) (o : Option OwnerName) (v : T) (l : Location) (b : GenerationalPointer)
       → knows_any S.number S.owners o ≡ true → Meets S (Make None v l) (Made b) R
-      → Meets S (Make o v l) (Made b) (record R { owners = listed_in R.owners o (name_of b) })
+      → Meets S (Make o v l) (Made b) (record R { owners = add_to_list_in R.owners o (name_of b) })
   unfolding box_said
   made_for S R None v l b known step = step
   made_for S R (Some o) v l b known (inl (new, takes, is)) =
@@ -246,7 +246,7 @@ module _ {T : Type 0} where
     pub made_step : (o : Option OwnerName) (v : T) (l : Location) (b : GenerationalPointer) (n : Name)
         → (between after : Owners) (peak' : ℕ) (slots' : List (Entry T)) → knows_any number owners o ≡ true
         → Meets S (Make None v l) (Made b) (state_of owners number start next peak' slots')
-        → between ≡ owners → after ≡ listed_in between o n → n ≡ name_of b
+        → between ≡ owners → after ≡ add_to_list_in between o n → n ≡ name_of b
         → Meets S (Make o v l) (Made b) (state_of after number start next peak' slots')
     made_step o v l b n between after peak' slots' known step same listing is =
         rw (listing, same, is)

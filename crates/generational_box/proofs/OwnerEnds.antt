@@ -14,14 +14,15 @@ use Rattle.generational_core.specs.Borrowing.{write_refusal}
 use Rattle.generational_core.specs.Ending.{close, cells_after, hindrance_to, hindrance_of, first_hindrance}
 use Rattle.generational_core.specs.Ending.{or_else}
 use Rattle.generational_box.specs.OwnerRecords.{first_borrowed}
-use Rattle.generational_box.specs.Slotted.{own_cell_at, is_value, OnlyValues}
+use Rattle.generational_box.specs.Slotted.{is_value, OnlyValues}
+use Rattle.generational_core.specs.Machine.{own_cell}
 use Rattle.generational_core.proofs.Maps.{name_total, name_exact, name_here}
 use Rattle.generational_box.proofs.CallEnds.{left_get, left_none, removed_none}
 
 module _ {T : Type 0} (S : State T) where
   -- a name of this store that isn't found is live nowhere
   pub removed_gone : OnlyValues S → (id : GenerationalBoxId) → id.store ≡ S.number
-      → own_cell_at S id ≡ None → S ≡ record S { cells = map.remove S.cells (name_in id) }
+      → own_cell S id ≡ None → S ≡ record S { cells = map.remove S.cells (name_in id) }
   removed_gone values id own gone =
       ap (λ (cells : NameMap (Cell T)). record S { cells = cells }) (sym (removed_none S values (name_in id) absent))
     where

@@ -17,9 +17,9 @@ use Rattle.generational_box.specs.declared.owners.OwnerRecord.{OwnerRecord}
 use Rattle.generational_core.specs.Names.{Name, change, change_if}
 use Rattle.generational_core.specs.State.{Ownership, Owners}
 use Rattle.generational_core.specs.Records.{one_more, one_less, one_listed}
-use Rattle.generational_box.specs.OwnerRecords.{owners_of, holding_of}
+use Rattle.generational_box.specs.OwnerRecords.{owners_of, ownership_of}
 use Rattle.generational_core.specs.Records.{count_in, count_under}
-use Rattle.generational_box.specs.OwnerRecords.{listed_in, knows, AreCounted}
+use Rattle.generational_box.specs.OwnerRecords.{add_to_list_in, knows, AreCounted}
 use Rattle.generational_box.specs.OwnerRecords.{IsCounted}
 use Rattle.generational_core.specs.Machine.{OwnerName}
 use Rattle.generational_core.proofs.Maps.{by_number, key_here, key_cases, changed_there}
@@ -34,27 +34,27 @@ abbrev pub under : ℕ → Reverse ℕ
 under k = record { 0 = k }
 
 abbrev record_seen : Reverse ℕ × OwnerRecord → ℕ × Ownership
-record_seen e = (e.0.0, holding_of e.1)
+record_seen e = (e.0.0, ownership_of e.1)
 
 find_is : (q : ℕ) (es : List (Reverse ℕ × OwnerRecord))
     → map.find nat_cmp q (list_map record_seen es)
-    ≡ option_map holding_of (lookup (is_at (newest_first (under q))) es)
+    ≡ option_map ownership_of (lookup (is_at (newest_first (under q))) es)
 find_is q [] = refl
 find_is q (e ∷ es) =
     at (is_eq (nat_cmp q e.0.0)) (find_is q es)
-    ∙ ap (λ b. option_map holding_of (cond b (Some e.1) (lookup (is_at (newest_first (under q))) es)))
+    ∙ ap (λ b. option_map ownership_of (cond b (Some e.1) (lookup (is_at (newest_first (under q))) es)))
     ((eq_by_cmp_equiv nat_cmp_total).symm q e.0.0)
   where
     at : (b : Bool) → map.find nat_cmp q (list_map record_seen es)
-        ≡ option_map holding_of (lookup (is_at (newest_first (under q))) es)
-        → cond b (Some (holding_of e.1)) (map.find nat_cmp q (list_map record_seen es))
-        ≡ option_map holding_of (cond b (Some e.1) (lookup (is_at (newest_first (under q))) es))
+        ≡ option_map ownership_of (lookup (is_at (newest_first (under q))) es)
+        → cond b (Some (ownership_of e.1)) (map.find nat_cmp q (list_map record_seen es))
+        ≡ option_map ownership_of (cond b (Some e.1) (lookup (is_at (newest_first (under q))) es))
     at true rest = refl
     at false rest = rest
 
 -- what the machine's map has under a key
 pub owners_get : (m : BTreeMap (Reverse ℕ) OwnerRecord) (q : ℕ)
-    → map.get (owners_of m) q ≡ option_map holding_of (get newest_first m (under q))
+    → map.get (owners_of m) q ≡ option_map ownership_of (get newest_first m (under q))
 owners_get m q =
     map.get-from_entries nat_cmp_total (list_map record_seen m.entries) q
     ∙ find_is q m.entries
@@ -63,23 +63,23 @@ module _ (m n : BTreeMap (Reverse ℕ) OwnerRecord) (k : ℕ) (v : Option OwnerR
     (updates : (q : Reverse ℕ) → get newest_first n q ≡ cond (is_at (newest_first (under k)) q) v (get newest_first m q)) where
   -- a change at one key
   updated : (q : ℕ) → map.get (owners_of n) q
-      ≡ cond (eq_by_cmp nat_cmp q k) (option_map holding_of v) (map.get (owners_of m) q)
+      ≡ cond (eq_by_cmp nat_cmp q k) (option_map ownership_of v) (map.get (owners_of m) q)
   updated q =
       owners_get n q
-      ∙ (ap (option_map holding_of) (updates (under q))
+      ∙ (ap (option_map ownership_of) (updates (under q))
       ∙ at (eq_by_cmp nat_cmp q k))
     where
-      at : (b : Bool) → option_map holding_of (cond b v (get newest_first m (under q)))
-          ≡ cond b (option_map holding_of v) (map.get (owners_of m) q)
+      at : (b : Bool) → option_map ownership_of (cond b v (get newest_first m (under q)))
+          ≡ cond b (option_map ownership_of v) (map.get (owners_of m) q)
       at true = refl
       at false = sym (owners_get m q)
 
 pub owners_insert : (m n : BTreeMap (Reverse ℕ) OwnerRecord) (k : ℕ) (r : OwnerRecord)
     → ((q : Reverse ℕ) → get newest_first n q ≡ cond (is_at (newest_first (under k)) q) (Some r) (get newest_first m q))
-    → owners_of n ≡ map.insert (owners_of m) k (holding_of r)
+    → owners_of n ≡ map.insert (owners_of m) k (ownership_of r)
 owners_insert m n k r updates =
     map.same_map nat_cmp_total map.nat_cmp-IsAntisymmetric _ _ (λ q.
-    updated m n k (Some r) updates q ∙ sym (map.get-insert nat_cmp_total (owners_of m) k (holding_of r) q))
+    updated m n k (Some r) updates q ∙ sym (map.get-insert nat_cmp_total (owners_of m) k (ownership_of r) q))
 
 pub owners_remove : (m n : BTreeMap (Reverse ℕ) OwnerRecord) (k : ℕ)
     → ((q : Reverse ℕ) → get newest_first n q ≡ cond (is_at (newest_first (under k)) q) None (get newest_first m q))
@@ -92,13 +92,13 @@ owners_remove m n k updates =
 pub owners_changed : (m n : BTreeMap (Reverse ℕ) OwnerRecord) (k : ℕ) (r s : OwnerRecord) (f : Ownership → Ownership)
     → Some r ≡ get newest_first m (under k)
     → ((q : Reverse ℕ) → get newest_first n q ≡ cond (is_at (newest_first (under k)) q) (Some s) (get newest_first m q))
-    → holding_of s ≡ f (holding_of r)
+    → ownership_of s ≡ f (ownership_of r)
     → owners_of n ≡ change (owners_of m) k f
 owners_changed m n k r s f there updates is =
     owners_insert m n k s updates
     ∙ (ap (map.insert (owners_of m) k) is
-    ∙ sym (changed_there by_number (owners_of m) k f (holding_of r)
-    (owners_get m k ∙ ap (option_map holding_of) (sym there))))
+    ∙ sym (changed_there by_number (owners_of m) k f (ownership_of r)
+    (owners_get m k ∙ ap (option_map ownership_of) (sym there))))
 
 pub owners_same : (m n : BTreeMap (Reverse ℕ) OwnerRecord) → n.entries ≡ m.entries → owners_of n ≡ owners_of m
 owners_same m n e =
@@ -107,7 +107,7 @@ owners_same m n e =
 -- a record is written through what `get_mut` lent
 pub owners_written : (m n : BTreeMap (Reverse ℕ) OwnerRecord) (k : ℕ) (r s : OwnerRecord) (f : Ownership → Ownership)
     → Some r ≡ get newest_first m (under k) → WritesThrough newest_first (newest_first (under k)) m s n
-    → holding_of s ≡ f (holding_of r) → owners_of n ≡ change (owners_of m) k f
+    → ownership_of s ≡ f (ownership_of r) → owners_of n ≡ change (owners_of m) k f
 owners_written m n k r s f there through is =
     owners_changed m n k r s f there (through.3 (subst IsSome there refl)).0 is
 
@@ -117,23 +117,23 @@ pub owners_absent : (m n : BTreeMap (Reverse ℕ) OwnerRecord) (k : ℕ) (f : Ow
 unfolding change
 owners_absent m n k f absent same =
     ap owners_of same
-    ∙ sym (ap (change_if (owners_of m) k f) (owners_get m k ∙ ap (option_map holding_of) (sym absent)))
+    ∙ sym (ap (change_if (owners_of m) k f) (owners_get m k ∙ ap (option_map ownership_of) (sym absent)))
 
 -- what holds of the machine's record holds of the one that is there
 pub owners_hold : (P : Ownership → Type 0) (m : BTreeMap (Reverse ℕ) OwnerRecord) (k : ℕ) (r : OwnerRecord)
-    → IfSome (map.get (owners_of m) k) P → Some r ≡ get newest_first m (under k) → P (holding_of r)
+    → IfSome (map.get (owners_of m) k) P → Some r ≡ get newest_first m (under k) → P (ownership_of r)
 owners_hold P m k r holds there =
-    subst (λ o. IfSome o P) (owners_get m k ∙ ap (option_map holding_of) (sym there)) holds
+    subst (λ o. IfSome o P) (owners_get m k ∙ ap (option_map ownership_of) (sym there)) holds
 
 -- a record is written as it was
 pub owners_kept : (m n : BTreeMap (Reverse ℕ) OwnerRecord) (k : ℕ) (r s : OwnerRecord)
     → Some r ≡ get newest_first m (under k) → WritesThrough newest_first (newest_first (under k)) m s n
-    → holding_of s ≡ holding_of r → owners_of n ≡ owners_of m
+    → ownership_of s ≡ ownership_of r → owners_of n ≡ owners_of m
 owners_kept m n k r s there through is =
     owners_insert m n k s (through.3 (subst IsSome there refl)).0
     ∙ (ap (map.insert (owners_of m) k) is
-    ∙ insert_there by_number (owners_of m) k (holding_of r)
-    (owners_get m k ∙ ap (option_map holding_of) (sym there)))
+    ∙ insert_there by_number (owners_of m) k (ownership_of r)
+    (owners_get m k ∙ ap (option_map ownership_of) (sym there)))
 
 -- ---- no records
 
@@ -141,24 +141,24 @@ pub owners_empty : (m : BTreeMap (Reverse ℕ) OwnerRecord) → m.entries ≡ []
 owners_empty m none =
     map.same_map nat_cmp_total map.nat_cmp-IsAntisymmetric _ _ (λ q.
     owners_get m q
-    ∙ (ap (λ es. option_map holding_of (lookup (is_at (newest_first (under q))) es)) none
+    ∙ (ap (λ es. option_map ownership_of (lookup (is_at (newest_first (under q))) es)) none
     ∙ sym (map.get-empty nat_cmp q)))
 
 pub owners_none : (m : BTreeMap (Reverse ℕ) OwnerRecord) → owners_of m ≡ map.empty → m.entries ≡ []
 owners_none m nobody = at m.entries refl
   where
     first : (e : Reverse ℕ × OwnerRecord) (es : List (Reverse ℕ × OwnerRecord)) → m.entries ≡ e ∷ es
-        → None ≡ Some (holding_of e.1)
+        → None ≡ Some (ownership_of e.1)
     first e es is =
         sym (map.get-empty nat_cmp e.0.0)
         ∙ (ap (λ o. map.get o e.0.0) (sym nobody)
         ∙ (owners_get m e.0.0
-        ∙ (ap (λ xs. option_map holding_of (lookup (is_at (newest_first (under e.0.0))) xs)) is
-        ∙ ap (λ b. option_map holding_of (cond b (Some e.1) (lookup (is_at (newest_first (under e.0.0))) es))) (key_here by_number e.0.0))))
+        ∙ (ap (λ xs. option_map ownership_of (lookup (is_at (newest_first (under e.0.0))) xs)) is
+        ∙ ap (λ b. option_map ownership_of (cond b (Some e.1) (lookup (is_at (newest_first (under e.0.0))) es))) (key_here by_number e.0.0))))
 
     at : (es : List (Reverse ℕ × OwnerRecord)) → m.entries ≡ es → m.entries ≡ []
     at [] is = is
-    at (e ∷ es) is = absurd (none-some (holding_of e.1) (first e es is))
+    at (e ∷ es) is = absurd (none-some (ownership_of e.1) (first e es is))
 
 -- ---- counts
 
@@ -219,14 +219,14 @@ counted_down next owners k counted several =
 
 -- the records after a listing are as counted
 pub counted_listed : (next : ℕ) (owners : Owners) (o : Option OwnerName) (n : Name) → AreCounted next owners
-    → AreCounted next (listed_in owners o n)
+    → AreCounted next (add_to_list_in owners o n)
 counted_listed next owners None n counted = counted
 counted_listed next owners (Some o) n counted =
     counted_changed next owners o.key (one_listed n) counted (λ h is c. c)
 
 -- ---- known owners
 
-same_there : (r : Option OwnerRecord) → is_some (option_map holding_of r) ≡ is_some r
+same_there : (r : Option OwnerRecord) → is_some (option_map ownership_of r) ≡ is_some r
 same_there None = refl
 same_there (Some r) = refl
 

@@ -16,7 +16,7 @@ use Rattle.generational_core.specs.Borrowing.{Trouble, write_refusal}
 use Rattle.generational_core.specs.Ending.{or_else}
 use Rattle.generational_box.specs.Entry.{Entry, Kept, FoundBorrowed, content_in}
 use Rattle.generational_box.specs.Entry.Kept.{Empty, Live}
-use Rattle.generational_box.specs.OwnerRecords.{first_borrowed, name_seen}
+use Rattle.generational_box.specs.OwnerRecords.{first_borrowed, name_of_cell}
 use Rattle.generational_box.specs.Slotted.{cells_of, cell_of, cell_found, entry_in}
 use Rattle.generational_box.proofs.SlotCells.{get_cells}
 use Rattle.generational_box.proofs.SlotFound.{entry_cell}
@@ -33,23 +33,23 @@ found_first t u (refused.Store UnknownOwner) found = absurd found
 
 module _ {T : Type 0} where
   scan_next : (cells : NameMap (Cell T)) (names : List CellName) (i : ℕ) (d : CellName) → i < length names
-      → first_borrowed cells (list_map name_seen (drop i names))
-      ≡ or_else (write_refusal (content_of (map.get cells (name_seen (slice_index_or names i d)))))
-      (first_borrowed cells (list_map name_seen (drop (suc i) names)))
+      → first_borrowed cells (list_map name_of_cell (drop i names))
+      ≡ or_else (write_refusal (content_of (map.get cells (name_of_cell (slice_index_or names i d)))))
+      (first_borrowed cells (list_map name_of_cell (drop (suc i) names)))
   scan_next cells [] i d within = absurd (omega (arith, within))
   scan_next cells (n ∷ names) zero d within = refl
   scan_next cells (n ∷ names) (suc i) d within = scan_next cells names i d (omega (arith, within))
 
   -- the i-th box, and then those after it
   pub scan : (cells : NameMap (Cell T)) (names : List CellName) (i : ℕ) (d : CellName) → i < length names
-      → first_borrowed cells (list_map name_seen (drop i names))
-      ≡ or_else (write_refusal (content_of (map.get cells (name_seen (slice_index_or names i d)))))
-      (first_borrowed cells (list_map name_seen (drop (i + 1) names)))
+      → first_borrowed cells (list_map name_of_cell (drop i names))
+      ≡ or_else (write_refusal (content_of (map.get cells (name_of_cell (slice_index_or names i d)))))
+      (first_borrowed cells (list_map name_of_cell (drop (i + 1) names)))
   scan cells names i d within =
       let next : suc i ≡ i + 1 = omega arith in
       scan_next cells names i d within
-      ∙ ap (λ k. or_else (write_refusal (content_of (map.get cells (name_seen (slice_index_or names i d)))))
-      (first_borrowed cells (list_map name_seen (drop k names)))) next
+      ∙ ap (λ k. or_else (write_refusal (content_of (map.get cells (name_of_cell (slice_index_or names i d)))))
+      (first_borrowed cells (list_map name_of_cell (drop k names)))) next
 
   -- what stands in the way of an end of a slot's cell
   abbrev pub refusal_at : Option (Entry T) → Option Trouble

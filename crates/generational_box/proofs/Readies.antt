@@ -16,7 +16,8 @@ use Rattle.generational_core.specs.Ending.{hindrance_to}
 use Rattle.generational_core.specs.Readiness.{is_ready, tells_of_borrow}
 use Rattle.generational_box.specs.Entry.{Kept, content_in, is_live}
 use Rattle.generational_box.specs.Entry.Kept.{Empty, Live}
-use Rattle.generational_box.specs.Slotted.{own_cell_at, cell_of, OnlyValues}
+use Rattle.generational_box.specs.Slotted.{cell_of, OnlyValues}
+use Rattle.generational_core.specs.Machine.{own_cell}
 use Rattle.generational_box.proofs.CallReads.{trouble_here, trouble_gone}
 use Rattle.generational_box.proofs.CallEnds.{hindrance_one, nothing_hinders, hindered_is}
 
@@ -41,22 +42,22 @@ module _ {T : Type 0} where
   write_tells (Lent w) = refl
 
   module _ (S : State T) (b : GenerationalPointer) where
-    pub read_ready : (l : Location) (k : Kept T) → own_cell_at S b.id ≡ cell_of k
+    pub read_ready : (l : Location) (k : Kept T) → own_cell S b.id ≡ cell_of k
         → is_live k ≡ true → is_none (read_refusal (content_in k)) ≡ is_ready S (Read b l)
     read_ready l Empty cell live = absurd (false≢true live)
     read_ready l (Live c k) cell live =
         read_tells c ∙ ap (λ t. not (tells_of_borrow t)) (sym (trouble_here S b c k cell))
 
-    pub read_ready_gone : (l : Location) → own_cell_at S b.id ≡ None → true ≡ is_ready S (Read b l)
+    pub read_ready_gone : (l : Location) → own_cell S b.id ≡ None → true ≡ is_ready S (Read b l)
     read_ready_gone l gone = ap (λ t. not (tells_of_borrow t)) (sym (trouble_gone S b gone))
 
-    pub end_ready : OnlyValues S → (k : Kept T) → own_cell_at S b.id ≡ cell_of k
+    pub end_ready : OnlyValues S → (k : Kept T) → own_cell S b.id ≡ cell_of k
         → is_live k ≡ true → is_none (write_refusal (content_in k)) ≡ is_ready S (ManuallyDrop b)
     end_ready values Empty cell live = absurd (false≢true live)
     end_ready values (Live c k) cell live =
         write_tells c ∙ ap (λ t. not (tells_of_borrow t)) (sym (hindered_is S values b c k cell))
 
-    pub end_ready_gone : OnlyValues S → own_cell_at S b.id ≡ None
+    pub end_ready_gone : OnlyValues S → own_cell S b.id ≡ None
         → true ≡ is_ready S (ManuallyDrop b)
     end_ready_gone values gone =
         ap (λ t. not (tells_of_borrow t)) (sym (unhindered (nat_eq b.id.store S.number) gone))

@@ -24,7 +24,8 @@ use Rattle.generational_core.specs.Steps.{has_readers}
 use Rattle.generational_core.specs.Machine.{read_at, has_reader, without_reader}
 use Rattle.generational_box.specs.Entry.{Entry, Kept, with_reader, without_reader_in, content_in}
 use Rattle.generational_box.specs.Entry.Kept.{Live}
-use Rattle.generational_box.specs.Slotted.{cell_of, cells_of, state_of, entry_changed, own_cell_at}
+use Rattle.generational_box.specs.Slotted.{cell_of, cells_of, state_of, change_entry}
+use Rattle.generational_core.specs.Machine.{own_cell}
 use Rattle.generational_box.specs.Slotted.{is_here, is_reusable, HasBegun, IsSlotted}
 use Rattle.generational_core.proofs.Maps.{by_name, name_total, changed_there}
 use Rattle.generational_box.proofs.SliceGet.{get-set_same, get-set_other, set-own}
@@ -38,7 +39,7 @@ module _ {T : Type 0} where
       {slots : List (Entry T)} {id : GenerationalBoxId} (f : IsFound number slots id)
       (d : Content T) (g : Kept T → Kept T) → g (Live f.content f.created) ≡ Live d f.created
       → IsSlotted free rooms start live peak slots
-      → IsSlotted free rooms start live peak (entry_changed slots id.slot (λ e. record e { kept = g e.kept }))
+      → IsSlotted free rooms start live peak (change_entry slots id.slot (λ e. record e { kept = g e.kept }))
   slotted-filled free rooms start live peak {number} {slots} {id} f d g is s =
       subst (IsSlotted free rooms start live peak) (sym changes) (record {
         pooled = λ k. s.pooled k ∙ same_use k;
@@ -52,7 +53,7 @@ module _ {T : Type 0} where
       entry : Entry T
       entry = record f.entry { kept = Live d f.created }
 
-      changes : entry_changed slots id.slot (λ e. record e { kept = g e.kept }) ≡ slice_set slots id.slot entry
+      changes : change_entry slots id.slot (λ e. record e { kept = g e.kept }) ≡ slice_set slots id.slot entry
       changes = rw (f.there, f.live, is) refl
 
       same_use : (k : ℕ) → is_reusable (slice_get slots k) ≡ is_reusable (slice_get (slice_set slots id.slot entry) k)
@@ -90,10 +91,10 @@ module _ {T : Type 0} where
 
   -- the slot of a cell that isn't lent
   pub found_here : {S : State T} {owners : Owners} (number start next peak : ℕ) (slots : List (Entry T)) (id : GenerationalBoxId)
-      → state_of owners number start next peak slots ≡ S → is_here (own_cell_at S id) ≡ true
+      → state_of owners number start next peak slots ≡ S → is_here (own_cell S id) ≡ true
       → IsFound number slots id
   found_here {S} number start next peak slots id view here =
-      found number start next peak slots id view (is_live_here (own_cell_at S id) here)
+      found number start next peak slots id view (is_live_here (own_cell S id) here)
 
   pub found_within : {number : ℕ} {slots : List (Entry T)} {id : GenerationalBoxId}
       → IsFound number slots id → id.slot < length slots
@@ -108,7 +109,7 @@ module _ {T : Type 0} where
   -- the cell as the state sees it
   pub own_seen : {S : State T} {owners : Owners} (number start next peak : ℕ) (slots : List (Entry T)) (id : GenerationalBoxId)
       → state_of owners number start next peak slots ≡ S → (f : IsFound number slots id)
-      → own_cell_at S id ≡ Some (Value f.content f.created)
+      → own_cell S id ≡ Some (Value f.content f.created)
   own_seen number start next peak slots id view f =
       rw (← view, eq-eqb id.store number f.store)
       (ap (map.get (cells_of slots)) (found_name f)
@@ -126,8 +127,8 @@ module _ {T : Type 0} where
 
   -- a reader more is the machine's read
   pub begin_state : {S : State T} {owners : Owners} (number start next peak : ℕ) (slots : List (Entry T)) (id : GenerationalBoxId) (l : Location)
-      → state_of owners number start next peak slots ≡ S → is_here (own_cell_at S id) ≡ true
-      → state_of owners number start (next + 1) peak (entry_changed slots id.slot (λ e. record e { kept = with_reader (record { ticket = next; location = l }) e.kept }))
+      → state_of owners number start next peak slots ≡ S → is_here (own_cell S id) ≡ true
+      → state_of owners number start (next + 1) peak (change_entry slots id.slot (λ e. record e { kept = with_reader (record { ticket = next; location = l }) e.kept }))
       ≡ (read_at S l (Some (name_in id)) (content_at S (name_in id))).1
   begin_state {S} {owners} number start next peak slots id l view here =
       state-filled owners start (next + 1) peak f (more_read b f.content) (with_reader b) (with_reader-live b f.content f.created)
@@ -177,13 +178,13 @@ module _ {T : Type 0} where
   -- a reader less is the machine's release
   pub end_state : {S : State T} {owners : Owners} (number start next peak : ℕ) (slots : List (Entry T)) (id : GenerationalBoxId) (t : ℕ)
       → state_of owners number start next peak slots ≡ S → IsFound number slots id
-      → state_of owners number start next peak (entry_changed slots id.slot (λ e. record e { kept = without_reader_in t e.kept }))
+      → state_of owners number start next peak (change_entry slots id.slot (λ e. record e { kept = without_reader_in t e.kept }))
       ≡ without_reader S (name_in id) t (content_at S (name_in id))
   end_state {S} {owners} number start next peak slots id t view f =
       at f.content f.live (content_seen number start next peak slots id view f)
     where
       at : (c : Content T) → f.entry.kept ≡ Live c f.created → content_at S (name_in id) ≡ Some c
-          → state_of owners number start next peak (entry_changed slots id.slot (λ e. record e { kept = without_reader_in t e.kept }))
+          → state_of owners number start next peak (change_entry slots id.slot (λ e. record e { kept = without_reader_in t e.kept }))
           ≡ without_reader S (name_in id) t (content_at S (name_in id))
       at (Here v rs) live seen =
           rw (seen, ← view)
@@ -192,7 +193,7 @@ module _ {T : Type 0} where
           rw (seen, ← view)
           (ap (state_of owners number start next peak) same)
         where
-          same : entry_changed slots id.slot (λ e. record e { kept = without_reader_in t e.kept }) ≡ slots
+          same : change_entry slots id.slot (λ e. record e { kept = without_reader_in t e.kept }) ≡ slots
           same =
               rw (f.there, live)
               (ap (λ k. slice_set slots id.slot (record f.entry { kept = k })) (sym live)

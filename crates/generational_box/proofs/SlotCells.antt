@@ -14,7 +14,7 @@ use Rattle.generational_box.specs.Entry.{Entry, Kept}
 use Rattle.generational_box.specs.Entry.Kept.{Empty, Live}
 use Rattle.generational_box.specs.Slotted.{is_value, cell_of, with_cell, live_from, cells_of}
 use Rattle.generational_box.specs.Slotted.{cell_in}
-use Rattle.generational_core.proofs.Maps.{by_name, name_exact, name_total, name_here, name_same}
+use Rattle.generational_core.proofs.Maps.{by_name, name_exact, name_total}
 use Rattle.generational_core.proofs.SameNames.{name_test}
 use Rattle.generational_core.proofs.Maps.{get-insert_name, changed_there}
 use Rattle.generational_box.proofs.SliceGet.{get-set_same, get-set_other, get-push_last}

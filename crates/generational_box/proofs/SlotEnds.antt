@@ -14,7 +14,7 @@ use Rattle.generational_core.specs.State.{State, Owners}
 use Rattle.generational_core.specs.Slots.{last_generation}
 use Rattle.generational_box.specs.Entry.{Entry}
 use Rattle.generational_box.specs.Entry.Kept.{Empty}
-use Rattle.generational_box.specs.Slotted.{cell_of, cells_of, state_of, entry_changed, is_reusable}
+use Rattle.generational_box.specs.Slotted.{cell_of, cells_of, state_of, change_entry, is_reusable}
 use Rattle.generational_box.specs.Slotted.{HasBegun, IsSlotted}
 use Rattle.generational_core.proofs.Maps.{by_number, name_total, contains-insert_here}
 use Rattle.generational_core.proofs.Maps.{contains-insert_apart}
@@ -25,7 +25,7 @@ use Rattle.generational_box.proofs.SlotFound.{IsFound, found_name}
 
 module _ {T : Type 0} {number : ℕ} {slots : List (Entry T)} {id : GenerationalBoxId} (f : IsFound number slots id) where
   abbrev pub ended : List (Entry T)
-  ended = entry_changed slots id.slot (λ e. record e { kept = Empty })
+  ended = change_entry slots id.slot (λ e. record e { kept = Empty })
 
   abbrev empty_entry : Entry T
   empty_entry = record f.entry { kept = Empty }

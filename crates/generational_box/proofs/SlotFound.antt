@@ -15,7 +15,8 @@ use Rattle.generational_core.specs.Borrowing.{fill}
 use Rattle.generational_box.specs.Entry.{Entry, Kept, is_live}
 use Rattle.generational_box.specs.Entry.Kept.{Empty, Live}
 use Rattle.generational_box.specs.Slotted.{cell_of, cell_in, cells_of, state_of, entry_in}
-use Rattle.generational_box.specs.Slotted.{entry_changed, cell_found, own_cell_at}
+use Rattle.generational_box.specs.Slotted.{change_entry, cell_found}
+use Rattle.generational_core.specs.Machine.{own_cell}
 use Rattle.generational_box.proofs.SlotCells.{get_cells, get_own, cells-changed}
 use Rattle.generational_box.proofs.SlotNames.{given-set}
 
@@ -69,7 +70,7 @@ module _ {T : Type 0} where
 
   -- a live cell has a slot
   pub found : {S : State T} {owners : Owners} (number start next peak : ℕ) (slots : List (Entry T)) (id : GenerationalBoxId)
-      → state_of owners number start next peak slots ≡ S → is_some (own_cell_at S id) ≡ true
+      → state_of owners number start next peak slots ≡ S → is_some (own_cell S id) ≡ true
       → IsFound number slots id
   found number start next peak slots id view live =
       at (nat_eq id.store number) refl (rw (← view) at live)
@@ -95,14 +96,14 @@ module _ {T : Type 0} where
 
   -- a change of a slot's kept cell to another content
   entry_changed-there : (slots : List (Entry T)) (i : ℕ) (f : Entry T → Entry T) (e : Entry T)
-      → slice_get slots i ≡ Some e → entry_changed slots i f ≡ slice_set slots i (f e)
+      → slice_get slots i ≡ Some e → change_entry slots i f ≡ slice_set slots i (f e)
   entry_changed-there slots i f e there = rw there refl
 
   -- another content of a found cell is the machine's
   pub state-filled : {number : ℕ} {slots : List (Entry T)} {id : GenerationalBoxId} (owners : Owners) (start next peak : ℕ)
       (f : IsFound number slots id) (d : Content T) (g : Kept T → Kept T)
       → g (Live f.content f.created) ≡ Live d f.created
-      → state_of owners number start next peak (entry_changed slots id.slot (λ e. record e { kept = g e.kept }))
+      → state_of owners number start next peak (change_entry slots id.slot (λ e. record e { kept = g e.kept }))
       ≡ fill (state_of owners number start next peak slots) (name_in id) d
   state-filled {number} {slots} {id} owners start next peak f d g is =
       ap (λ xs. state_of owners number start next peak xs)

@@ -11,7 +11,8 @@ use Rattle.generational_core.specs.Boxes.{name_in}
 use Rattle.generational_core.specs.State.{State, fresh, IsFresh, Owners}
 use Rattle.generational_box.specs.Entry.{Entry}
 use Rattle.generational_box.specs.Slotted.{cells_of, given_of, state_of, HasBegun, IsSlotted}
-use Rattle.generational_box.specs.Slotted.{entry_in, cell_found, own_cell_at, OnlyValues}
+use Rattle.generational_box.specs.Slotted.{entry_in, cell_found, OnlyValues}
+use Rattle.generational_core.specs.Machine.{own_cell}
 use Rattle.generational_box.proofs.SlotCells.{get_cells, values_alone}
 use Rattle.generational_box.proofs.SlotNames.{get_given}
 use Rattle.generational_box.proofs.SlotFound.{entry_cell}
@@ -82,7 +83,7 @@ module _ {T : Type 0} where
 
     -- the look-up of an id of this store, and of another
     pub own_found : (id : GenerationalBoxId) → id.store ≡ number
-        → own_cell_at S id ≡ cell_found (entry_in id.generation (slice_get slots id.slot))
+        → own_cell S id ≡ cell_found (entry_in id.generation (slice_get slots id.slot))
     own_found id own =
         rw (← view, eq-eqb id.store number own)
         (get_cells slots (name_in id) ∙ sym (entry_cell id.generation (slice_get slots id.slot)))

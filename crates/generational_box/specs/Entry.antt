@@ -62,16 +62,16 @@ module _ {T : Type 0} where
   without_reader_in t other = other
 
   -- whether a content has no borrows
-  abbrev pub is_free : Option (Content T) → Bool
-  is_free None = false
-  is_free (Some (Here v [])) = true
-  is_free (Some (Here v (r ∷ readers))) = false
-  is_free (Some (Lent w)) = false
+  abbrev pub has_no_borrow : Option (Content T) → Bool
+  has_no_borrow None = false
+  has_no_borrow (Some (Here v [])) = true
+  has_no_borrow (Some (Here v (r ∷ readers))) = false
+  has_no_borrow (Some (Lent w)) = false
 
   -- the content lent to a writer
-  abbrev pub lent_to : Borrow → Kept T → Kept T
-  lent_to w Empty = Empty
-  lent_to w (Live c l) = Live (Lent w) l
+  abbrev pub lend_to : Borrow → Kept T → Kept T
+  lend_to w Empty = Empty
+  lend_to w (Live c l) = Live (Lent w) l
 
   -- a value without borrows
   abbrev pub with_value : T → Kept T → Kept T

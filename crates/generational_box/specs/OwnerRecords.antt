@@ -1,6 +1,6 @@
 -- The records of owners that a store keeps, as the machine sees them.
 use Rattle.std.specs.Prelude.{◌≡◌, Bool, true, false, nat_eq, ◌&&◌, is_some, IsSome}
-use Rattle.std.specs.Prelude.{ℕ, ◌+◌, ◌-◌, ◌<◌, ◌≤◌, Option, None, Some, List, [], ◌∷◌, ◌++◌}
+use Rattle.std.specs.Prelude.{ℕ, ◌<◌, ◌≤◌, Option, None, Some, List, [], ◌∷◌}
 use Rattle.std.specs.Prelude.{map as list_map}
 use Rattle.std.specs.FinMap as map
 use Rattle.std.specs.BTreeMap.{BTreeMap}
@@ -18,16 +18,16 @@ use Rattle.generational_core.specs.Machine.{OwnerName}
 use Rattle.generational_core.specs.State.{Ownership, Owners}
 use Rattle.generational_core.specs.Records.{one_listed}
 
-abbrev pub name_seen : CellName → Name
-name_seen n = record { slot = n.slot; generation = n.generation }
+abbrev pub name_of_cell : CellName → Name
+name_of_cell n = record { slot = n.slot; generation = n.generation }
 
-abbrev pub holding_of : OwnerRecord → Ownership
-holding_of r = record { names = list_map name_seen r.boxes.items; count = r.count }
+abbrev pub ownership_of : OwnerRecord → Ownership
+ownership_of r = record { names = list_map name_of_cell r.boxes.items; count = r.count }
 
 -- the records under their keys
 abbrev pub owners_of : BTreeMap (Reverse ℕ) OwnerRecord → Owners
 owners_of m =
-    map.from_entries (list_map (λ (e : Reverse ℕ × OwnerRecord). (e.0.0, holding_of e.1)) m.entries)
+    map.from_entries (list_map (λ (e : Reverse ℕ × OwnerRecord). (e.0.0, ownership_of e.1)) m.entries)
 
 -- what stands in the way of an end of these cells, at the first of them that is borrowed
 abbrev pub first_borrowed : {T : Type 0} → NameMap (Cell T) → List Name → Option Trouble
@@ -52,9 +52,9 @@ IsRefusal number owners o OutOfMemory =
 IsRefusal number owners o NumbersExhausted = ⊥
 
 -- the records with a name at the end of the owner's list
-abbrev pub listed_in : Owners → Option OwnerName → Name → Owners
-listed_in owners None n = owners
-listed_in owners (Some o) n = change owners o.key (one_listed n)
+abbrev pub add_to_list_in : Owners → Option OwnerName → Name → Owners
+add_to_list_in owners None n = owners
+add_to_list_in owners (Some o) n = change owners o.key (one_listed n)
 
 -- Each record stands for an owner value at least, and for no more than tickets were given.
 abbrev pub IsCounted : ℕ → Option Ownership → Type 0

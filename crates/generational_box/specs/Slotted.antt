@@ -6,13 +6,11 @@ use Rattle.std.specs.Ordering.{nat_cmp}
 use Rattle.std.specs.FinMap as map
 use Rattle.std.specs.FinSet as set
 use Rattle.generational_core.specs.Names.{Name, NameMap, Names}
-use Rattle.generational_core.specs.declared.boxes.GenerationalBoxId.{GenerationalBoxId}
-use Rattle.generational_core.specs.Boxes.{name_in}
 use Rattle.generational_core.specs.Cells.{Cell, is_shared}
 use Rattle.generational_core.specs.Cells.Content.{Here, Lent}
 use Rattle.generational_core.specs.Cells.Cell.{Value, Shared, Ref}
 use Rattle.generational_core.specs.State.{State, Owners}
-use Rattle.generational_box.specs.Entry.{Entry, Kept, is_live, valid_at, is_free}
+use Rattle.generational_box.specs.Entry.{Entry, Kept, is_live, valid_at, has_no_borrow}
 use Rattle.generational_box.specs.Entry.Kept.{Empty, Live}
 use Rattle.generational_core.specs.Slots.{last_generation}
 
@@ -102,13 +100,13 @@ module _ {T : Type 0} where
     pub bounded : peak ≤ length slots
 
   -- the slots with the i-th one changed by f, if there is one
-  abbrev pub entry_changed_if : List (Entry T) → ℕ → (Entry T → Entry T)
+  abbrev pub change_entry_if : List (Entry T) → ℕ → (Entry T → Entry T)
       → Option (Entry T) → List (Entry T)
-  entry_changed_if slots i f None = slots
-  entry_changed_if slots i f (Some e) = slice_set slots i (f e)
+  change_entry_if slots i f None = slots
+  change_entry_if slots i f (Some e) = slice_set slots i (f e)
 
-  abbrev pub entry_changed : List (Entry T) → ℕ → (Entry T → Entry T) → List (Entry T)
-  entry_changed slots i f = entry_changed_if slots i f (slice_get slots i)
+  abbrev pub change_entry : List (Entry T) → ℕ → (Entry T → Entry T) → List (Entry T)
+  change_entry slots i f = change_entry_if slots i f (slice_get slots i)
 
   -- the slot, if its live cell has this generation
   abbrev pub entry_in : ℕ → Option (Entry T) → Option (Entry T)
@@ -118,10 +116,6 @@ module _ {T : Type 0} where
   abbrev pub cell_found : Option (Entry T) → Option (Cell T)
   cell_found None = None
   cell_found (Some e) = cell_of e.kept
-
-  -- the cell that an id names, if it is of this store
-  abbrev pub own_cell_at : State T → GenerationalBoxId → Option (Cell T)
-  own_cell_at S id = if nat_eq id.store S.number then map.get S.cells (name_in id) else None
 
   -- whether a cell is a Value that isn't lent
   abbrev pub is_here : Option (Cell T) → Bool
@@ -134,7 +128,7 @@ module _ {T : Type 0} where
   -- whether a cell is a Value without borrows
   abbrev pub is_unborrowed : Option (Cell T) → Bool
   is_unborrowed None = false
-  is_unborrowed (Some (Value c l)) = is_free (Some c)
+  is_unborrowed (Some (Value c l)) = has_no_borrow (Some c)
   is_unborrowed (Some (Shared c l)) = false
   is_unborrowed (Some (Ref m l)) = false
 

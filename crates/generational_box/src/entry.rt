@@ -50,8 +50,8 @@ impl<T> StorageEntry<T> {
     ghost use Rattle.generational_core.specs.Machine.{has_reader, has_writer};
     ghost use Rattle.generational_core.specs.Steps.{has_readers};
     ghost use Rattle.generational_box.specs.Entry.Kept.{Empty, Live};
-    ghost use Rattle.generational_box.specs.Entry.{content_in, valid_at, is_free, with_reader};
-    ghost use Rattle.generational_box.specs.Entry.{without_reader_in, lent_to, with_value};
+    ghost use Rattle.generational_box.specs.Entry.{content_in, valid_at, has_no_borrow, with_reader};
+    ghost use Rattle.generational_box.specs.Entry.{without_reader_in, lend_to, with_value};
     ghost use Rattle.generational_box.specs.Entry.{value_for, FoundBorrowed};
 
     // The first cell of a slot.
@@ -199,9 +199,9 @@ impl<T> StorageEntry<T> {
     pub(crate) fn lend(&mut self, writer: Borrow) -> T
     where
         T: Drop,
-        requires { is_free (content_in self.old.kept) ≡ true }
+        requires { has_no_borrow (content_in self.old.kept) ≡ true }
         ensures value { content_in self.old.kept ≡ Some (Here result []) }
-        ensures after { self.new ≡ record self.old { kept = lent_to writer self.old.kept } }
+        ensures after { self.new ≡ record self.old { kept = lend_to writer self.old.kept } }
     {
         match mem::replace(&mut self.content, StorageEntryData::Lent(writer)) {
             StorageEntryData::Data(value, _) => value,

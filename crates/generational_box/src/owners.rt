@@ -5,9 +5,9 @@ ghost use Rattle.std.specs.Prelude.{IfErr, OnOk, OnErr, option_copied, option_ma
 ghost use Rattle.std.specs.Prelude.{if◌then◌else◌};
 ghost use Rattle.std.specs.FinMap as map;
 ghost use Rattle.generational_core.specs.Records.{one_more};
-ghost use Rattle.generational_box.specs.OwnerRecords.{owners_of, holding_of, name_seen};
+ghost use Rattle.generational_box.specs.OwnerRecords.{owners_of, ownership_of, name_of_cell};
 ghost use Rattle.generational_core.specs.Records.{one_less, one_listed, count_under, names_under};
-ghost use Rattle.generational_box.specs.OwnerRecords.{knows, knows_any, listed_in, IsRefusal};
+ghost use Rattle.generational_box.specs.OwnerRecords.{knows, knows_any, add_to_list_in, IsRefusal};
 ghost use Rattle.generational_core.specs.declared.error.StoreError.TheVariants.{OutOfMemory};
 ghost use Rattle.generational_core.specs.declared.error.StoreError.TheVariants.{UnknownOwner};
 ghost use Rattle.generational_core.specs.Names.{change};
@@ -35,7 +35,7 @@ pub(crate) struct OwnerRecord {
 impl OwnerRecord {
     // A record without boxes, for one owner value. Takes no memory.
     pub(crate) fn new(alloc: Global) -> OwnerRecord
-        ensures { holding_of result ≡ record { names = []; count = 1 } }
+        ensures { ownership_of result ≡ record { names = []; count = 1 } }
     {
         OwnerRecord {
             boxes: Vec::new(alloc),
@@ -60,7 +60,7 @@ pub(crate) fn count(owners: &OwnerRecords, key: u64) -> u64
 
 // The record under a key.
 pub(crate) fn find(owners: &OwnerRecords, key: u64) -> Option<&OwnerRecord>
-    ensures { option_map holding_of (option_copied result) ≡ map.get (owners_of owners.now) key }
+    ensures { option_map ownership_of (option_copied result) ≡ map.get (owners_of owners.now) key }
 {
     owners.get(&Reverse(key))
 }
@@ -82,8 +82,8 @@ pub(crate) fn list_for(
 ) -> Result<(), StoreError>
     ensures known { OnOk result (knows_any number (owners_of owners.old) (option_copied owner.entry)
         ≡ true) }
-    ensures ok { OnOk result (owners_of owners.new ≡ listed_in (owners_of owners.old)
-        (option_copied owner.entry) (name_seen name)) }
+    ensures ok { OnOk result (owners_of owners.new ≡ add_to_list_in (owners_of owners.old)
+        (option_copied owner.entry) (name_of_cell name)) }
     ensures err { OnErr result (owners_of owners.new ≡ owners_of owners.old) }
     ensures refused { IfErr result (λ cause. IsRefusal number (owners_of owners.old)
         (option_copied owner.entry) cause) }
@@ -103,7 +103,7 @@ fn list(
 ) -> Result<(), StoreError>
     ensures known { OnOk result (knows number (owners_of owners.old) owner.now ≡ true) }
     ensures ok { OnOk result (owners_of owners.new ≡ change (owners_of owners.old) owner.now.key
-        (one_listed (name_seen name))) }
+        (one_listed (name_of_cell name))) }
     ensures err { OnErr result (owners_of owners.new ≡ owners_of owners.old) }
     ensures refused { IfErr result (λ cause. IsRefusal number (owners_of owners.old)
         (Some owner.now) cause) }
@@ -149,7 +149,7 @@ fn lacking_for(owners: &OwnerRecords, number: u64, owner: &Owner) -> StoreError
 // Adds a record under a key. Want of memory changes nothing.
 pub(crate) fn add(owners: &mut OwnerRecords, key: u64, added: OwnerRecord) -> Result<(), AllocError>
     ensures ok { OnOk result (owners_of owners.new ≡ map.insert (owners_of owners.old) key
-        (holding_of added)) }
+        (ownership_of added)) }
     ensures err { OnErr result (owners_of owners.new ≡ owners_of owners.old) }
 {
     match owners.insert(Reverse(key), added) {
@@ -161,7 +161,7 @@ pub(crate) fn add(owners: &mut OwnerRecords, key: u64, added: OwnerRecord) -> Re
 // Takes a record away: its boxes.
 pub(crate) fn take(owners: &mut OwnerRecords, key: u64, alloc: Global) -> Vec<CellName>
     ensures after { owners_of owners.new ≡ map.remove (owners_of owners.old) key }
-    ensures names { list_map name_seen result.items ≡ names_under (owners_of owners.old) key }
+    ensures names { list_map name_of_cell result.items ≡ names_under (owners_of owners.old) key }
 {
     match owners.remove(&Reverse(key)) {
         Some(found) => {

@@ -21,9 +21,9 @@ ghost use Rattle.generational_core.specs.Machine.Answer.{Flag};
 ghost use Rattle.generational_core.specs.Steps.{Meets, has_readers};
 ghost use Rattle.generational_core.specs.Ending.{close};
 ghost use Rattle.generational_core.specs.Records.{names_under};
-ghost use Rattle.generational_box.specs.OwnerRecords.{first_borrowed, name_seen};
+ghost use Rattle.generational_box.specs.OwnerRecords.{first_borrowed, name_of_cell};
 ghost use Rattle.generational_box.specs.Entry.{FoundBorrowed, content_in, is_live, valid_at};
-ghost use Rattle.generational_box.specs.Entry.{is_free, with_reader, without_reader_in, lent_to};
+ghost use Rattle.generational_box.specs.Entry.{has_no_borrow, with_reader, without_reader_in, lend_to};
 ghost use Rattle.generational_box.specs.Entry.{with_value};
 ghost use Rattle.generational_core.specs.Answers.{make_answer, owner_answer, release_answer};
 ghost use Rattle.generational_core.specs.Answers.{read_answer, write_answer, back_answer};
@@ -31,8 +31,9 @@ ghost use Rattle.generational_core.specs.Answers.{end_answer, value_behind};
 ghost use Rattle.generational_core.specs.Readiness.{is_ready};
 ghost use Rattle.generational_core.specs.Slots.{slots, free, retired};
 ghost use Rattle.generational_box.specs.Entry.Kept.{Empty, Live};
-ghost use Rattle.generational_box.specs.Slotted.{cells_of, entry_changed, entry_in, cell_found};
-ghost use Rattle.generational_box.specs.Slotted.{own_cell_at, is_here, is_unborrowed, OnlyValues};
+ghost use Rattle.generational_box.specs.Slotted.{cells_of, change_entry, entry_in, cell_found};
+ghost use Rattle.generational_box.specs.Slotted.{is_here, is_unborrowed, OnlyValues};
+ghost use Rattle.generational_core.specs.Machine.{own_cell};
 
 use crate::entry::StorageEntry;
 use crate::owners::{self, CellName, OwnerRecord, OwnerRecords};
@@ -119,7 +120,7 @@ impl<T: Drop, P: SlotPool> Parts<T, P> {
     // The slot whose live cell has this id.
     #[inline(always)]
     fn entry(&self, id: GenerationalBoxId) -> Option<&StorageEntry<T>>
-        ensures cell { own_cell_at self.now id ≡ cell_found (option_copied result) }
+        ensures cell { own_cell self.now id ≡ cell_found (option_copied result) }
         ensures live { IfSome result (λ entry. is_live entry.now.kept ≡ true) }
         ensures values { OnlyValues self.now }
     {
@@ -132,7 +133,7 @@ impl<T: Drop, P: SlotPool> Parts<T, P> {
     // Begins a read of a live cell that isn't lent. Want of memory changes nothing.
     #[inline(always)]
     fn begin_read(&mut self, id: GenerationalBoxId, location: Location) -> Result<u64, AllocError>
-        requires here { is_here (own_cell_at self.old id) ≡ true }
+        requires here { is_here (own_cell self.old id) ≡ true }
         requires numbers { self.old.next < 18446744073709551615 }
         ensures ticket { IfOk result (λ ticket. ticket ≡ self.old.next) }
         ensures ok { OnOk result (self.new ≡
@@ -154,7 +155,7 @@ impl<T: Drop, P: SlotPool> Parts<T, P> {
     // Takes a reader away from a live cell. The answer is whether it stood.
     #[inline(always)]
     fn end_read(&mut self, id: GenerationalBoxId, ticket: u64) -> bool
-        requires { IsSome (own_cell_at self.old id) }
+        requires { IsSome (own_cell self.old id) }
         ensures known { result ≡ has_reader (content_at self.old (name_in id)) ticket }
         ensures after { self.new ≡ without_reader self.old (name_in id) ticket
             (content_at self.old (name_in id)) }
@@ -165,7 +166,7 @@ impl<T: Drop, P: SlotPool> Parts<T, P> {
     // Lends the value of a cell without borrows to a writer.
     #[inline(always)]
     fn begin_write(&mut self, id: GenerationalBoxId, location: Location) -> T
-        requires free { is_unborrowed (own_cell_at self.old id) ≡ true }
+        requires free { is_unborrowed (own_cell self.old id) ≡ true }
         requires numbers { self.old.next < 18446744073709551615 }
         ensures value { content_at self.old (name_in id) ≡ Some (Here result []) }
         ensures after { self.new ≡ (write_at self.old location (Some (name_in id))
@@ -180,7 +181,7 @@ impl<T: Drop, P: SlotPool> Parts<T, P> {
     // stand, which changes nothing.
     #[inline(always)]
     fn end_write(&mut self, id: GenerationalBoxId, ticket: u64, value: T) -> Result<(), T>
-        requires { IsSome (own_cell_at self.old id) }
+        requires { IsSome (own_cell self.old id) }
         ensures known { IsTrue (is_ok result) ↔
             (has_writer (content_at self.old (name_in id)) ticket ≡ true) }
         ensures ok { OnOk result (self.new ≡ fill self.old (name_in id) (Here value [])) }
@@ -192,7 +193,7 @@ impl<T: Drop, P: SlotPool> Parts<T, P> {
     // Ends a live cell. Its slot is free from then on, unless its generation is the last.
     #[inline(always)]
     fn end(&mut self, id: GenerationalBoxId)
-        requires { IsSome (own_cell_at self.old id) }
+        requires { IsSome (own_cell self.old id) }
         ensures { self.new ≡ record self.old { cells = map.remove self.old.cells (name_in id) } }
     {
         end_cell(&mut self.slots, id.slot);
@@ -217,7 +218,7 @@ impl<T: Drop, P: SlotPool> Parts<T, P> {
 
     // Takes a record away: its boxes.
     fn take_boxes(&mut self, key: u64) -> Vec<CellName>
-        ensures names { list_map name_seen result.items ≡ names_under self.old.owners key }
+        ensures names { list_map name_of_cell result.items ≡ names_under self.old.owners key }
         ensures after { self.new ≡ record self.old { owners = map.remove self.old.owners key } }
         ensures values { OnlyValues self.new }
     {
@@ -228,7 +229,7 @@ impl<T: Drop, P: SlotPool> Parts<T, P> {
     // in the order of the list.
     fn end_all(&mut self, boxes: Vec<CellName>)
         requires { OnlyValues self.old }
-        ensures { self.new ≡ close self.old (list_map name_seen boxes.items) }
+        ensures { self.new ≡ close self.old (list_map name_of_cell boxes.items) }
     {
         for name in boxes.as_slice() {
             self.end_named(*name);
@@ -237,7 +238,7 @@ impl<T: Drop, P: SlotPool> Parts<T, P> {
 
     // Ends a cell, if it is live.
     fn end_named(&mut self, name: CellName)
-        ensures { self.new ≡ record self.old { cells = map.remove self.old.cells (name_seen name) } }
+        ensures { self.new ≡ record self.old { cells = map.remove self.old.cells (name_of_cell name) } }
     {
         let id = id_at(self.number, name.slot, name.generation);
         match self.entry(id) {
@@ -253,7 +254,7 @@ fn first_borrowed<T>(
     names: &[CellName],
     alloc: Global,
 ) -> BorrowMutResult<()>
-    ensures { FoundBorrowed (first_borrowed (cells_of slots.now) (list_map name_seen names.now))
+    ensures { FoundBorrowed (first_borrowed (cells_of slots.now) (list_map name_of_cell names.now))
         result }
 {
     for name in names {
@@ -288,7 +289,7 @@ fn add_reader<T>(
     borrow: Borrow,
 ) -> Result<(), AllocError>
     requires { slot < vec_len slots.old }
-    ensures ok { OnOk result (slots.new.items ≡ entry_changed slots.old.items slot
+    ensures ok { OnOk result (slots.new.items ≡ change_entry slots.old.items slot
         (λ entry. record entry { kept = with_reader borrow entry.kept })) }
     ensures err { OnErr result (slots.new.items ≡ slots.old.items) }
     ensures beside { OnErr result (IfSome (slice_get slots.old.items slot)
@@ -303,7 +304,7 @@ fn remove_reader<T>(slots: &mut Vec<StorageEntry<T>>, slot: usize, ticket: u64) 
     requires { slot < vec_len slots.old }
     ensures known { IfSome (slice_get slots.old.items slot)
         (λ entry. result ≡ has_reader (content_in entry.kept) ticket) }
-    ensures after { slots.new.items ≡ entry_changed slots.old.items slot
+    ensures after { slots.new.items ≡ change_entry slots.old.items slot
         (λ entry. record entry { kept = without_reader_in ticket entry.kept }) }
 {
     slots[slot].drop_borrow(ticket)
@@ -314,11 +315,11 @@ fn remove_reader<T>(slots: &mut Vec<StorageEntry<T>>, slot: usize, ticket: u64) 
 fn lend_value<T: Drop>(slots: &mut Vec<StorageEntry<T>>, slot: usize, writer: Borrow) -> T
     requires within { slot < vec_len slots.old }
     requires free { IfSome (slice_get slots.old.items slot)
-        (λ entry. is_free (content_in entry.kept) ≡ true) }
+        (λ entry. has_no_borrow (content_in entry.kept) ≡ true) }
     ensures value { IfSome (slice_get slots.old.items slot)
         (λ entry. content_in entry.kept ≡ Some (Here result [])) }
-    ensures after { slots.new.items ≡ entry_changed slots.old.items slot
-        (λ entry. record entry { kept = lent_to writer entry.kept }) }
+    ensures after { slots.new.items ≡ change_entry slots.old.items slot
+        (λ entry. record entry { kept = lend_to writer entry.kept }) }
 {
     slots[slot].lend(writer)
 }
@@ -335,7 +336,7 @@ fn put_value_back<T: Drop>(
     requires { slot < vec_len slots.old }
     ensures known { IfSome (slice_get slots.old.items slot)
         (λ entry. IsTrue (is_ok result) ↔ (has_writer (content_in entry.kept) ticket ≡ true)) }
-    ensures ok { OnOk result (slots.new.items ≡ entry_changed slots.old.items slot
+    ensures ok { OnOk result (slots.new.items ≡ change_entry slots.old.items slot
         (λ entry. record entry { kept = with_value value entry.kept })) }
     ensures err { IfErr result (λ back. (back ≡ value) × (slots.new.items ≡ slots.old.items)) }
 {
@@ -346,7 +347,7 @@ fn put_value_back<T: Drop>(
 #[inline(always)]
 fn end_cell<T: Drop>(slots: &mut Vec<StorageEntry<T>>, slot: usize)
     requires { slot < vec_len slots.old }
-    ensures { slots.new.items ≡ entry_changed slots.old.items slot
+    ensures { slots.new.items ≡ change_entry slots.old.items slot
         (λ entry. record entry { kept = Empty }) }
 {
     slots[slot].end();

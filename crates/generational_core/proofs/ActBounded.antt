@@ -138,7 +138,7 @@ module _ {T : Type 0} where
   pointed_bounded S a b (Some _) to x h k = k
 
   point_bounded : (S : State T) (a b : GenerationalPointer)
-      → IsBounded S → IsBounded (point S a b (own_cell S a) (reach S b) (found S (reach S b))).1
+      → IsBounded S → IsBounded (point S a b (own_cell S a.id) (reach S b) (found S (reach S b))).1
   point_bounded S a b h = split (nat_eq a.id.store S.number)
     where
       split : (own : Bool) → IsBounded (point S a b
@@ -202,8 +202,8 @@ module _ {T : Type 0} where
   act_bounded S (End x) f s new b = unless_bounded S (hindrance_to S (own_name S x))
       (Done, close S (own_name S x)) b (close_bounded S (own_name S x) b)
   act_bounded S (Point a x) f s new b = if_bounded (has_same_id a x) (Done, S)
-      (unless (read_trouble S x) S (point S a x (own_cell S a) (reach S x) (found S (reach S x))))
+      (unless (read_trouble S x) S (point S a x (own_cell S a.id) (reach S x) (found S (reach S x))))
       b (unless_bounded S (read_trouble S x)
-      (point S a x (own_cell S a) (reach S x) (found S (reach S x))) b (point_bounded S a x b))
+      (point S a x (own_cell S a.id) (reach S x) (found S (reach S x))) b (point_bounded S a x b))
   act_bounded S (CanRead x) f s new b = b
   act_bounded S (CanWrite x) f s new b = b

@@ -128,7 +128,7 @@ module _ {T U : Type 0} {f : Name → Name} {d : ℕ} {g : T → U}
       if_alike c (same_box_moved f d c.apart A.number a b k.0 k.1) (λ _. stays c Done refl tt)
       (λ _. unless_alike c (read_trouble_moved c b k.1)
       (with_found c b k.1 (λ to x. Alike c (point S mine (moved_box f d A.number b)
-      (own_cell S mine) to x) (point A a b (own_cell A a) (reach A b) (found A (reach A b))))
+      (own_cell S mine.id) to x) (point A a b (own_cell A a.id) (reach A b) (found A (reach A b))))
       (point_matched c a b (reach A b) (found A (reach A b)) k.0 k.1 (reach_known c b k.1))))
   act_matched (CanRead b) new k kn = stays c
       (Flag (is_none (read_trouble A b))) (ap (λ t. Flag (is_none t)) (read_trouble_moved c b k)) tt

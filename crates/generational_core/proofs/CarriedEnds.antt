@@ -182,17 +182,17 @@ module _ {T U : Type 0} {f : Name → Name} {d : ℕ} {g : T → U}
   pub point_matched : (a b : GenerationalPointer) (to : Option Name) (x : Option (Cell T))
       → KnowsBox Knows A.number a → KnowsBox Knows A.number b → IfThere to Knows
       → Alike c (point S (moved_box f d A.number a) (moved_box f d A.number b)
-      (own_cell S (moved_box f d A.number a)) (option_map f to) (option_map (moved_cell f d g) x))
-      (point A a b (own_cell A a) to x)
+      (own_cell S (moved_box f d A.number a).id) (option_map f to) (option_map (moved_cell f d g) x))
+      (point A a b (own_cell A a.id) to x)
   point_matched a b to x ka kb k =
       let to_f = option_map f to in
       let cell = option_map (moved_cell f d g) x in
       let other = moved_box f d A.number b in
       let mine = box_of A.number (f (name_of a)) a.created_at in
       box_cases c a ka (λ y.
-      Alike c (point S y other (own_cell S y) to_f cell) (point A a b (own_cell A a) to x))
+      Alike c (point S y other (own_cell S y.id) to_f cell) (point A a b (own_cell A a.id) to x))
       (λ own kn.
-      subst (λ y. Alike c (point S mine other y to_f cell) (point A a b (own_cell A a) to x))
+      subst (λ y. Alike c (point S mine other y to_f cell) (point A a b (own_cell A a.id) to x))
       (sym (ap (λ t. cond t (map.get S.cells (f (name_of a))) None) (own_number c)
       ∙ c.cells.at (name_of a) kn))
       (subst (λ y. Alike c (point S mine other (option_map (moved_cell f d g)
@@ -200,7 +200,7 @@ module _ {T U : Type 0} {f : Name → Name} {d : ℕ} {g : T → U}
       (sym (ap (λ t. cond t (map.get A.cells (name_of a)) None) own))
       (pointed_own a b (map.get A.cells (name_of a)) to x kb k kn refl)))
       (λ strange.
-      subst (λ y. Alike c (point S a other y to_f cell) (point A a b (own_cell A a) to x))
+      subst (λ y. Alike c (point S a other y to_f cell) (point A a b (own_cell A a.id) to x))
       (sym
       (ap (λ t. cond t (map.get S.cells (name_of a)) None) (strange_number c a.id.store strange)))
       (subst (λ y. Alike c (point S a other None to_f cell) (point A a b y to x))

@@ -144,7 +144,7 @@ module _ {T : Type 0} where
   follows_pointed S a b (Some _) to target h = follows_same S
 
   follows_point : (S : State T) (a b : GenerationalPointer)
-      → Follows S (point S a b (own_cell S a) (reach S b) (found S (reach S b))).1
+      → Follows S (point S a b (own_cell S a.id) (reach S b) (found S (reach S b))).1
   follows_point S a b = split (nat_eq a.id.store S.number)
     where
       split : (own : Bool) → Follows S (point S a b

@@ -318,7 +318,7 @@ module _ {T : Type 0} where
       (quiet S (close S (own_name S b)) (End b) Done done_none refl)
   act_counts S (Point a b) f sound = counts_if S (Point a b) (has_same_id a b) (Done, S) _
       (quiet S S (Point a b) Done done_none refl) (counts_unless S (Point a b) (read_trouble S b) _
-      (counts_pointed S (Point a b) a b (own_cell S a) (reach S b) (found S (reach S b))))
+      (counts_pointed S (Point a b) a b (own_cell S a.id) (reach S b) (found S (reach S b))))
   act_counts S (CanRead b) f sound = quiet S S (CanRead b) (Flag _) (λ key. refl, λ o e. cc) refl
   act_counts S (CanWrite b) f sound = quiet S S (CanWrite b) (Flag _) (λ key. refl, λ o e. cc) refl
 

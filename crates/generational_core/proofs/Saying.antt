@@ -228,10 +228,10 @@ module _ {T : Type 0} where
   act_says S (SetValue b v) f new = says_set S b v (reach S b) (contents S (reach S b))
   act_says S (End b) f new = says_done S (close S (own_name S b)) (hindrance_to S (own_name S b))
   act_says S (Point a b) f new =
-      let out : Outcome T = point S a b (own_cell S a) (reach S b) (found S (reach S b)) in
+      let out : Outcome T = point S a b (own_cell S a.id) (reach S b) (found S (reach S b)) in
       says_if S (has_same_id a b)
       (Done, S) (unless (read_trouble S b) S out) (record { so = tt; able = refl })
       (says_unless S
-      (read_trouble S b) out (says_pointed S a b (own_cell S a) (reach S b) (found S (reach S b))))
+      (read_trouble S b) out (says_pointed S a b (own_cell S a.id) (reach S b) (found S (reach S b))))
   act_says S (CanRead b) f new = record { so = tt; able = refl }
   act_says S (CanWrite b) f new = record { so = tt; able = refl }

@@ -264,7 +264,7 @@ module _ {T : Type 0} where
   sound_pointed S a b (Some _) to target s at_a at_b = s
 
   sound_point : (S : State T) (a b : GenerationalPointer)
-      → IsSound S → IsSound (point S a b (own_cell S a) (reach S b) (found S (reach S b))).1
+      → IsSound S → IsSound (point S a b (own_cell S a.id) (reach S b) (found S (reach S b))).1
   sound_point S a b s = split (nat_eq a.id.store S.number)
     where
       split : (own : Bool) → IsSound (point S a b
@@ -308,8 +308,8 @@ module _ {T : Type 0} where
   act_sound S (End b) f s new = unless_sound S (hindrance_to S (own_name S b))
       (Done, close S (own_name S b)) s (λ _. sound_close S (own_name S b) s)
   act_sound S (Point a b) f s new = if_sound (has_same_id a b) (Done, S)
-      (unless (read_trouble S b) S (point S a b (own_cell S a) (reach S b) (found S (reach S b))))
+      (unless (read_trouble S b) S (point S a b (own_cell S a.id) (reach S b) (found S (reach S b))))
       (λ _. s) (λ _. unless_sound S (read_trouble S b)
-      (point S a b (own_cell S a) (reach S b) (found S (reach S b))) s (λ _. sound_point S a b s))
+      (point S a b (own_cell S a.id) (reach S b) (found S (reach S b))) s (λ _. sound_point S a b s))
   act_sound S (CanRead b) f s new = s
   act_sound S (CanWrite b) f s new = s

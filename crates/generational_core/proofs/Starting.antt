@@ -152,6 +152,6 @@ module _ {T : Type 0} where
       begins_unless S (hindrance_to S (own_name S b)) (begins S Done (close S (own_name S b)) refl refl)
   act_start S (Point a b) f =
       begins_if S (has_same_id a b) (begins S Done S refl refl) (begins_unless S
-      (read_trouble S b) (begins_pointed S a b (own_cell S a) (reach S b) (found S (reach S b))))
+      (read_trouble S b) (begins_pointed S a b (own_cell S a.id) (reach S b) (found S (reach S b))))
   act_start S (CanRead b) f = begins S _ _ refl refl
   act_start S (CanWrite b) f = begins S _ _ refl refl

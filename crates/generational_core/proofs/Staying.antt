@@ -181,7 +181,7 @@ module _ {T : Type 0} (p : Option (Content T) → Bool) (is : IsBorrow p) where
   stays_pointed S a b (Some _) to target s at_a = stays_same S
 
   stays_point : (S : State T) (a b : GenerationalPointer)
-      → IsSound S → Stays S (point S a b (own_cell S a) (reach S b) (found S (reach S b))).1
+      → IsSound S → Stays S (point S a b (own_cell S a.id) (reach S b) (found S (reach S b))).1
   stays_point S a b s = split (nat_eq a.id.store S.number)
     where
       split : (own : Bool) → Stays S (point S a b
@@ -234,6 +234,6 @@ module _ {T : Type 0} (p : Option (Content T) → Bool) (is : IsBorrow p) where
       (λ free. stays_cells S (close S (own_name S b)) (borrowed_left S (own_name S b) s free))
   act_stays S (Point a b) f s new spared =
       stays_if S (has_same_id a b) _ _ (λ _. stays_same S) (λ _. stays_unless S (read_trouble S b)
-      (point S a b (own_cell S a) (reach S b) (found S (reach S b))) (λ _. stays_point S a b s))
+      (point S a b (own_cell S a.id) (reach S b) (found S (reach S b))) (λ _. stays_point S a b s))
   act_stays S (CanRead b) f s new spared = stays_same S
   act_stays S (CanWrite b) f s new spared = stays_same S

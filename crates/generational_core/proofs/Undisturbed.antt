@@ -233,7 +233,7 @@ module _ {T : Type 0} (Allowed : Type 0) (m : Name) where
   kept_pointed S a b (Some _) to target at_a = kept_same refl
 
   kept_point : (S : State T) (a b : GenerationalPointer)
-      → KeptIn S (point S a b (own_cell S a) (reach S b) (found S (reach S b))).1
+      → KeptIn S (point S a b (own_cell S a.id) (reach S b) (found S (reach S b))).1
   kept_point S a b = split (nat_eq a.id.store S.number)
     where
       split : (own : Bool) → KeptIn S (point S a b

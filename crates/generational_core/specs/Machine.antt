@@ -9,13 +9,14 @@ use Rattle.generational_core.specs.declared.error.Location.{Location}
 use Rattle.generational_core.specs.declared.error.StoreError.{StoreError}
 use Rattle.generational_core.specs.declared.error.StoreError.TheVariants.{UnknownOwner}
 use Rattle.generational_core.specs.declared.borrow.Borrow.{Borrow}
+use Rattle.generational_core.specs.declared.boxes.GenerationalBoxId.{GenerationalBoxId}
 use Rattle.generational_core.specs.declared.boxes.GenerationalPointer.{GenerationalPointer}
 use Rattle.generational_core.specs.Names.{Name, is_name, change}
 use Rattle.generational_core.specs.Cells.{Content, Cell}
 use Rattle.generational_core.specs.Cells.Content.{Here, Lent}
 use Rattle.generational_core.specs.Cells.Cell.{Value, Shared, Ref}
 use Rattle.generational_core.specs.State.{State, Ownership}
-use Rattle.generational_core.specs.Boxes.{name_of, box_of, has_same_id}
+use Rattle.generational_core.specs.Boxes.{name_in, name_of, box_of, has_same_id}
 use Rattle.generational_core.specs.Borrowing.{Trouble, Guard, reach, content_at}
 use Rattle.generational_core.specs.Borrowing.{read_trouble, write_trouble, fill, take_ticket}
 use Rattle.generational_core.specs.Borrowing.Trouble.{Dropped}
@@ -201,9 +202,9 @@ module _ {T : Type 0} where
   abbrev pub own_name : State T → GenerationalPointer → List Name
   own_name S b = if nat_eq b.id.store S.number then name_of b ∷ [] else []
 
-  -- the cell that a box names, if the box is of this store
-  abbrev pub own_cell : State T → GenerationalPointer → Option (Cell T)
-  own_cell S b = if nat_eq b.id.store S.number then map.get S.cells (name_of b) else None
+  -- the cell that an id names, if it is of this store
+  abbrev pub own_cell : State T → GenerationalBoxId → Option (Cell T)
+  own_cell S id = if nat_eq id.store S.number then map.get S.cells (name_in id) else None
 
   -- the location at which a cell was made
   abbrev pub created_at : Option (Cell T) → GenerationalPointer → Location
@@ -257,6 +258,6 @@ module _ {T : Type 0} where
       if has_same_id a b
       then (Done, S)
       else unless (read_trouble S b) S
-      (point S a b (own_cell S a) (reach S b) (found S (reach S b)))
+      (point S a b (own_cell S a.id) (reach S b) (found S (reach S b)))
   act S (CanRead b) f = (Flag (is_none (read_trouble S b)), S)
   act S (CanWrite b) f = (Flag (is_none (write_trouble S b)), S)

@@ -34,7 +34,7 @@ use Rattle.generational_core.specs.History.{plain, plain_call, plain_answer}
 use Rattle.generational_sync.specs.declared.step.StepReply.{StepReply}
 use Rattle.generational_sync.specs.declared.step.StepReply.TheVariants as reply
 use Rattle.generational_sync.specs.Replies.{reply_to}
-use Rattle.generational_sync.specs.History.{Plain, plain_step, step_by, action_of, names_in}
+use Rattle.generational_sync.specs.History.{Plain, plain_step, step_by, action_of, names_of_reply}
 use Rattle.generational_sync.specs.History.{gives_new, guard_at}
 use Rattle.generational_sync.proofs.Replying.{recorded_is, plain_reply}
 use Rattle.generational_sync.proofs.Fitting.{new_to}
@@ -133,21 +133,21 @@ module _ (tell : IsTold) (P : Plain) where
   -- a call is a lawful step, where the names in its reply are those that it takes
   lawful : (c : StepCall) (r : StepReply) (a : Action (Unit {0})) → recorded_as a ≡ Some c
       → action_of P c ≡ Some a → gives_new P r ≡ true
-      → reply_to (limit_tickets P (act P a (names_in r))).0 ≡ Some r
-      → plain_step P c r ≡ Some (limit_tickets P (act P a (names_in r))).1
+      → reply_to (limit_tickets P (act P a (names_of_reply r))).0 ≡ Some r
+      → plain_step P c r ≡ Some (limit_tickets P (act P a (names_of_reply r))).1
   unfolding plain_step
   lawful c r a as_call action new h =
-      let out : Outcome (Unit {0}) = limit_tickets P (act P a (names_in r)) in
-      let free = ap not (unhindered P (act P a (names_in r)) r h) in
-      let ready = tell P a c (names_in r) as_call ∙ free in
+      let out : Outcome (Unit {0}) = limit_tickets P (act P a (names_of_reply r)) in
+      let free = ap not (unhindered P (act P a (names_of_reply r)) r h) in
+      let ready = tell P a c (names_of_reply r) as_call ∙ free in
       ap (step_by P c r) action ∙ ap (λ b. cond b (Some out.1) None)
       (and_from _ _ ready (and_from _ _ new (recorded_is (reply_to out.0) r h)))
 
   -- the same, by what is left
   leads : (c : StepCall) (r : StepReply) (a : Action (Unit {0})) (answer : Answer (Unit {0}))
       (Q : Plain) → recorded_as a ≡ Some c → action_of P c ≡ Some a
-      → is_made (limit_tickets P (act P a (names_in r))).0 ≡ false
-      → (answer, Q) ≡ limit_tickets P (act P a (names_in r)) → reply_to answer ≡ Some r
+      → is_made (limit_tickets P (act P a (names_of_reply r))).0 ≡ false
+      → (answer, Q) ≡ limit_tickets P (act P a (names_of_reply r)) → reply_to answer ≡ Some r
       → plain_step P c r ≡ Some Q
   leads c r a answer Q as_call action none m h =
       let reply = ap (λ (o : Outcome (Unit {0})). reply_to o.0) (sym m) ∙ h in

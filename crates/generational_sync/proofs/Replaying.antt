@@ -22,7 +22,7 @@ use Rattle.generational_core.specs.History.{plain}
 use Rattle.generational_sync.specs.declared.step.Step.{Step}
 use Rattle.generational_sync.specs.declared.step.StepReply.{StepReply}
 use Rattle.generational_sync.specs.declared.step.StepReply.TheVariants as reply
-use Rattle.generational_sync.specs.History.{Plain, plain_step, step_by, names_in, action_of}
+use Rattle.generational_sync.specs.History.{Plain, plain_step, step_by, names_of_reply, action_of}
 use Rattle.generational_sync.specs.History.{gives_new, is_lawful, guard_at, reader_cell}
 use Rattle.generational_sync.specs.History.{replay_on, replay_from, start, IsTaken, LeadsOver}
 use Rattle.generational_sync.proofs.Fitting.{new_from, gives_from}
@@ -34,12 +34,12 @@ takes_any P a _ f new = tt
 
 -- a step that is lawful is taken
 taken_by : (P Q : Plain) (c : StepCall) (r : StepReply) (a : Action (Unit {0}))
-    → action_of P c ≡ Some a → (gives_new P r ≡ true → AreNew P a (names_in r))
+    → action_of P c ≡ Some a → (gives_new P r ≡ true → AreNew P a (names_of_reply r))
     → step_by P c r (Some a) ≡ Some Q → IsTaken P c r Q
 taken_by P Q c r a asks new e = at (is_lawful P c r out.0) refl e
   where
     out : Outcome (Unit {0})
-    out = limit_tickets P (act P a (names_in r))
+    out = limit_tickets P (act P a (names_of_reply r))
 
     at : (b : Bool) → is_lawful P c r out.0 ≡ b → cond b (Some out.1) None ≡ Some Q
         → IsTaken P c r Q
@@ -53,8 +53,8 @@ taken_by P Q c r a asks new e = at (is_lawful P c r out.0) refl e
           ready = ready.0;
           answer = out.0;
           met = inl (
-            names_in r,
-            takes_any P a out.0 (names_in r) (new gives.0),
+            names_of_reply r,
+            takes_any P a out.0 (names_of_reply r) (new gives.0),
             λ i. (out.0, sym same i),
           );
           replied = gives.1;

@@ -50,9 +50,9 @@ gives_new P (reply.Made b) = is_new P (name_of b)
 gives_new P _ = true
 
 -- the names that a recorded reply gives
-abbrev pub names_in : StepReply → Fresh
-names_in (reply.Made b) = record { first = name_of b; second = name_of b }
-names_in _ = no_names
+abbrev pub names_of_reply : StepReply → Fresh
+names_of_reply (reply.Made b) = record { first = name_of b; second = name_of b }
+names_of_reply _ = no_names
 
 -- the first of these names that passes
 abbrev pub first_name : (Name → Bool) → List Name → Option Name
@@ -85,7 +85,7 @@ is_lawful P call r answer =
 abbrev pub step_by : Plain → StepCall → StepReply → Option (Action (Unit {0})) → Option Plain
 step_by P call r None = None
 step_by P call r (Some a) =
-    let out : Outcome (Unit {0}) = limit_tickets P (act P a (names_in r)) in
+    let out : Outcome (Unit {0}) = limit_tickets P (act P a (names_of_reply r)) in
     if is_lawful P call r out.0 then Some out.1 else None
 
 -- what a recorded step makes of a state without values; none where it isn't lawful

@@ -1,6 +1,6 @@
 use Rattle.std.proofs.Common.{arith, refl}
 use Rattle.generational_core.specs.Cells.Content.{Lent}
-use Rattle.generational_box.specs.Entry.{lent_to}
+use Rattle.generational_box.specs.Entry.{lend_to}
 use Rattle.generational_box.proofs.SlotBorrows.{found_within, slotted-filled}
 use Rattle.generational_box.proofs.SlotWrites.{found_unborrowed, free_seen, lent_seen, write_state}
 use Rattle.generational_box.specs.OwnerRecords.{owners_of}
@@ -20,7 +20,7 @@ pub invariant_of-self : goal.invariant_of-self
 invariant_of-self g c =
     let f = found_unborrowed _ _ _ _ _ c.args.id c.self.view_is c.requires.free in (
       rw c.lend_value.ensures.after
-          (slotted-filled _ _ _ _ _ f (Lent _) (lent_to _) refl c.self.invariant.0),
+          (slotted-filled _ _ _ _ _ f (Lent _) (lend_to _) refl c.self.invariant.0),
       counted_more c.self.inside.next (owners_of c.self.inside.owners) c.self.invariant.1,
     )
 

@@ -5,7 +5,7 @@ use Rattle.std.specs.FinMap as map
 use Rattle.std.proofs.lemmas.List.{at_drop_more, at_drop_all}
 use Rattle.generational_box.specs.declared.owners.CellName.{CellName}
 use Rattle.generational_core.specs.Ending.{close}
-use Rattle.generational_box.specs.OwnerRecords.{name_seen}
+use Rattle.generational_box.specs.OwnerRecords.{name_of_cell}
 use Rattle.generational_box.specs.Slotted.{OnlyValues}
 use Rattle.generational_box.proofs.OwnerEnds.{values_less, close_first, close_none}
 use Rattle.generational_box.proofs.parts.Parts.end_all.Goals as goal
@@ -18,13 +18,13 @@ loop-name-preserved g c =
     let i = c.loop-name.name-index in
     let same = c.as_slice-name-items.ensures.value in
     let none : CellName = record { slot = 0; generation = 0 } in
-    let n = name_seen (slice_index_or boxes i none) in
-    let rest = list_map name_seen (drop (i + 1) boxes) in
-    let closed = λ (names : List CellName). close S (list_map name_seen names) in
+    let n = name_of_cell (slice_index_or boxes i none) in
+    let rest = list_map name_of_cell (drop (i + 1) boxes) in
+    let closed = λ (names : List CellName). close S (list_map name_of_cell names) in
     let within = subst (λ names. i < length names) same c.loop-name-test.true in
     let ended : c.end_named.new.self ≡ record S { cells = map.remove S.cells n } =
     c.end_named.ensures ∙ ap (λ names. record S {
-      cells = map.remove S.cells (name_seen (slice_index_or names i none));
+      cells = map.remove S.cells (name_of_cell (slice_index_or names i none));
     }) same in (
       subst OnlyValues (sym ended) (values_less S values n),
       ap (λ R. close R rest) ended
@@ -40,5 +40,5 @@ returns g c =
     let same = c.as_slice-name-items.ensures.value in
     let past = subst (λ names. length names ≤ i) same c.loop-name-test.false in
     close_none S c.loop-name.invariant.0
-    ∙ (sym (at_drop_all (λ names. close S (list_map name_seen names)) c.args.boxes.items i past)
+    ∙ (sym (at_drop_all (λ names. close S (list_map name_of_cell names)) c.args.boxes.items i past)
     ∙ c.loop-name.invariant.1)
