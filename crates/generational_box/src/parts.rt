@@ -18,7 +18,7 @@ ghost use Rattle.generational_core.specs.Machine.Action.{Make, NewOwner, CloneOw
 ghost use Rattle.generational_core.specs.Machine.Action.{Read, Write, ReleaseReader, ReleaseWriter};
 ghost use Rattle.generational_core.specs.Machine.Action.{End};
 ghost use Rattle.generational_core.specs.Machine.Answer.{Flag};
-ghost use Rattle.generational_core.specs.Steps.{Meets, has_readers};
+ghost use Rattle.generational_core.specs.Steps.{Meets, has_readers, last_ticket};
 ghost use Rattle.generational_core.specs.Ending.{close};
 ghost use Rattle.generational_core.specs.Records.{names_under};
 ghost use Rattle.generational_box.specs.OwnerRecords.{first_borrowed, name_of_cell};
@@ -134,7 +134,7 @@ impl<T: Drop, P: SlotPool> Parts<T, P> {
     #[inline(always)]
     fn begin_read(&mut self, id: GenerationalBoxId, location: Location) -> Result<u64, AllocError>
         requires here { is_here (own_cell self.old id) ≡ true }
-        requires numbers { self.old.next < 18446744073709551615 }
+        requires numbers { self.old.next < last_ticket }
         ensures ticket { IfOk result (λ ticket. ticket ≡ self.old.next) }
         ensures ok { OnOk result (self.new ≡
             (read_at self.old location (Some (name_in id)) (content_at self.old (name_in id))).1) }
@@ -167,7 +167,7 @@ impl<T: Drop, P: SlotPool> Parts<T, P> {
     #[inline(always)]
     fn begin_write(&mut self, id: GenerationalBoxId, location: Location) -> T
         requires free { is_unborrowed (own_cell self.old id) ≡ true }
-        requires numbers { self.old.next < 18446744073709551615 }
+        requires numbers { self.old.next < last_ticket }
         ensures value { content_at self.old (name_in id) ≡ Some (Here result []) }
         ensures after { self.new ≡ (write_at self.old location (Some (name_in id))
             (content_at self.old (name_in id))).1 }
@@ -504,7 +504,7 @@ impl<T: Drop, P: SlotPool> Parts<T, P> {
 
     // How many tickets are left.
     pub(crate) fn tickets_left(&self) -> u64
-        ensures { result ≡ 18446744073709551615 - self.now.next }
+        ensures { result ≡ last_ticket - self.now.next }
     {
         u64::MAX - self.next
     }

@@ -1,5 +1,5 @@
 -- A step of the machine: the names that it may take, the end of tickets, and want of memory.
-use Rattle.std.specs.Prelude.{◌≡◌, ◌-◌, ◌^◌, Bool, true, false, if◌then◌else◌, not, ◌&&◌, ◌⊎◌}
+use Rattle.std.specs.Prelude.{◌≡◌, ℕ, ◌-◌, ◌^◌, Bool, true, false, if◌then◌else◌, not, ◌&&◌, ◌⊎◌}
 use Rattle.std.specs.Prelude.{nat_eq, nat_lt, [], ◌∷◌, Option, None, Some}
 use Rattle.std.specs.FinSet as set
 use Rattle.generational_core.specs.declared.error.StoreError.TheVariants.{
@@ -19,6 +19,10 @@ use Rattle.generational_core.specs.Machine.Action.{Make, MakeShared, Refer, NewO
 use Rattle.generational_core.specs.Machine.Action.{Read, Write, End, Point}
 use Rattle.generational_core.specs.Machine.Answer.{Made, Owned, Reads, Writes, Troubled, Refused}
 use Rattle.generational_core.specs.Slots.{Fits, free}
+
+-- the last number of all, which is never given as a ticket
+abbrev pub last_ticket : ℕ
+last_ticket = 2 ^ 64 - 1
 
 -- names for calls that take none
 abbrev pub no_names : Fresh
@@ -52,10 +56,10 @@ module _ {T : Type 0} where
   takes_ticket (Writes g v) = true
   takes_ticket _ = false
 
-  -- the last number is never given as a ticket: there the call is refused, and changes nothing
+  -- where the tickets are used up a call that takes one is refused, and changes nothing
   abbrev pub limit_tickets : State T → Outcome T → Outcome T
   limit_tickets S out =
-      if takes_ticket out.0 && nat_eq S.next (2 ^ 64 - 1)
+      if takes_ticket out.0 && nat_eq S.next last_ticket
       then (Refused NumbersExhausted, S)
       else out
 
@@ -90,7 +94,7 @@ module _ {T : Type 0} where
   may_lack S (MakeShared (Some o) v l) = is_known S (Some o)
   may_lack S (Refer None b) = is_made (answer_to S (Refer None b)) && nat_eq (free S) 0
   may_lack S (Refer (Some o) b) = is_made (answer_to S (Refer (Some o) b))
-  may_lack S NewOwner = not (nat_eq S.next (2 ^ 64 - 1))
+  may_lack S NewOwner = not (nat_eq S.next last_ticket)
   may_lack S (Read b l) =
       is_reader (answer_to S (Read b l)) && has_readers (contents S (reach S b))
   may_lack S (ReleaseOwner o) = is_being_read (answer_to S (ReleaseOwner o))

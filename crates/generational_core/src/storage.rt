@@ -7,7 +7,7 @@ ghost use Rattle.generational_core.specs.Machine.Action.{Make, NewOwner, CloneOw
 ghost use Rattle.generational_core.specs.Machine.Action.{Read, Write, ReleaseReader, ReleaseWriter};
 ghost use Rattle.generational_core.specs.Machine.Action.{End};
 ghost use Rattle.generational_core.specs.Machine.Answer.{Flag};
-ghost use Rattle.generational_core.specs.Steps.{Meets};
+ghost use Rattle.generational_core.specs.Steps.{Meets, last_ticket};
 ghost use Rattle.generational_core.specs.Readiness.{is_ready};
 ghost use Rattle.generational_core.specs.Answers.{make_answer, owner_answer, release_answer};
 ghost use Rattle.generational_core.specs.Answers.{read_answer, write_answer, back_answer};
@@ -61,7 +61,7 @@ pub trait AnyStorage<T> {
     /// How many tickets are left: each owner, each owner's clone and each borrow takes one. Takes
     /// no memory.
     fn tickets_left(&self) -> u64
-        ensures { result ≡ 18446744073709551615 - (state self.now).next };
+        ensures { result ≡ last_ticket - (state self.now).next };
 
     /// The number of the slot that the pointer names. Looks at no slot: the cell may have ended,
     /// or be of another store. Takes no memory.
