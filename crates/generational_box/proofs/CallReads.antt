@@ -1,5 +1,5 @@
 -- The calls of a store whose cells are Values, as steps of the machine.
-use Rattle.std.proofs.Common.{◌≡◌, ℕ, ◌-◌, ◌^◌, ◌<◌, Bool, true, false, cond, ◌&&◌, List, [], ◌∷◌}
+use Rattle.std.proofs.Common.{◌≡◌, ℕ, ◌<◌, Bool, true, false, cond, ◌&&◌, List, [], ◌∷◌}
 use Rattle.std.proofs.Common.{Option, None, Some, refl, sym, ap, subst, ◌∙◌, arith, inl, inr}
 use Rattle.std.proofs.Common.{⊎_elim}
 use Rattle.std.specs.Prelude.{not, nat_eq, ◌||◌}
@@ -25,7 +25,7 @@ use Rattle.generational_core.specs.Machine.{act, read_at, next_guard, contents, 
 use Rattle.generational_core.specs.Machine.{has_reader, without_reader, unless}
 use Rattle.generational_core.specs.Machine.Action.{Read, ReleaseReader}
 use Rattle.generational_core.specs.Machine.Answer.{Reads, Flag, Troubled, Refused}
-use Rattle.generational_core.specs.Steps.{Meets, limit_tickets, no_names, has_readers, is_reader}
+use Rattle.generational_core.specs.Steps.{Meets, limit_tickets, no_names, has_readers, is_reader, last_ticket}
 use Rattle.generational_core.specs.Steps.{answer_to}
 use Rattle.generational_box.specs.Entry.{Kept, content_in, is_live}
 use Rattle.generational_box.specs.Entry.Kept.{Empty, Live}
@@ -118,7 +118,7 @@ module _ {T : Type 0} where
       ∙ ap (read_at S l (Some (name_of b))) (own_content S b (Here v rs) k is))
 
   pub read_begins : (S R : State T) (b : GenerationalPointer) (l : Location) (c : Content T) (k : Location)
-      → own_cell S b.id ≡ Some (Value c k) → read_refusal (Some c) ≡ None → S.next < 2 ^ 64 - 1
+      → own_cell S b.id ≡ Some (Value c k) → read_refusal (Some c) ≡ None → S.next < last_ticket
       → R ≡ (read_at S l (Some (name_of b)) (content_at S (name_of b))).1
       → Meets S (Read b l) (Reads (next_guard S (name_of b))) R
   read_begins S R b l (Here v rs) k is free below after =
@@ -126,25 +126,25 @@ module _ {T : Type 0} where
         no_names,
         tt,
         sym (ap (limit_tickets S) (read_free S b l v rs k is)
-            ∙ (rw (ne_eqb S.next (2 ^ 64 - 1) (λ e. omega arith))
+            ∙ (rw (ne_eqb S.next last_ticket (λ e. omega arith))
             (λ i. (Reads (next_guard S (name_of b)), (sym (ap (λ o. (read_at S l (Some (name_of b)) o).1) (own_content S b (Here v rs) k is)) ∙ sym after) i)))),
       )
   read_begins S R b l (Lent w) k is free below after = cc
 
   pub read_exhausted : (S : State T) (b : GenerationalPointer) (l : Location) (c : Content T) (k : Location)
-      → own_cell S b.id ≡ Some (Value c k) → read_refusal (Some c) ≡ None → S.next ≡ 2 ^ 64 - 1
+      → own_cell S b.id ≡ Some (Value c k) → read_refusal (Some c) ≡ None → S.next ≡ last_ticket
       → Meets S (Read b l) (Refused NumbersExhausted) S
   read_exhausted S b l (Here v rs) k is free last =
       inl (
         no_names,
         tt,
         sym (ap (limit_tickets S) (read_free S b l v rs k is)
-            ∙ rw (eq-eqb S.next (2 ^ 64 - 1) last) refl),
+            ∙ rw (eq-eqb S.next last_ticket last) refl),
       )
   read_exhausted S b l (Lent w) k is free last = cc
 
   pub read_lacks : (S : State T) (b : GenerationalPointer) (l : Location) (c : Content T) (k : Location)
-      → own_cell S b.id ≡ Some (Value c k) → read_refusal (Some c) ≡ None → S.next < 2 ^ 64 - 1
+      → own_cell S b.id ≡ Some (Value c k) → read_refusal (Some c) ≡ None → S.next < last_ticket
       → has_readers (Some c) ≡ true → Meets S (Read b l) (Refused OutOfMemory) S
   read_lacks S b l (Here v rs) k is free below beside =
       inr (
@@ -156,7 +156,7 @@ module _ {T : Type 0} where
       answers : answer_to S (Read b l) ≡ Reads (next_guard S (name_of b))
       answers =
           ap (λ out. (limit_tickets S out).0) (read_free S b l v rs k is)
-          ∙ rw (ne_eqb S.next (2 ^ 64 - 1) (λ e. omega arith)) refl
+          ∙ rw (ne_eqb S.next last_ticket (λ e. omega arith)) refl
 
       there : contents S (reach S b) ≡ Some (Here v rs)
       there =
@@ -224,13 +224,13 @@ module _ {T : Type 0} (S : State T) (b : GenerationalPointer) (l : Location) whe
   read_by_kept (Live c k) cell live t lent = read_lent S b l c k t cell (sym lent)
 
   pub exhausted_by_kept : (k : Kept T) → own_cell S b.id ≡ cell_of k → is_live k ≡ true
-      → None ≡ read_refusal (content_in k) → S.next ≡ 2 ^ 64 - 1
+      → None ≡ read_refusal (content_in k) → S.next ≡ last_ticket
       → Meets S (Read b l) (Refused NumbersExhausted) S
   exhausted_by_kept Empty cell live free last = absurd (false≢true live)
   exhausted_by_kept (Live c k) cell live free last = read_exhausted S b l c k cell (sym free) last
 
   pub begun_by_kept : (R : State T) (g : Guard) (t : ℕ) (k : Kept T) → own_cell S b.id ≡ cell_of k → is_live k ≡ true
-      → None ≡ read_refusal (content_in k) → S.next < 2 ^ 64 - 1
+      → None ≡ read_refusal (content_in k) → S.next < last_ticket
       → g ≡ record { store = b.id.store; cell = name_of b; ticket = t } → t ≡ S.next
       → R ≡ (read_at S l (Some (name_of b)) (content_at S (name_of b))).1
       → Meets S (Read b l) (Reads g) R
@@ -241,7 +241,7 @@ module _ {T : Type 0} (S : State T) (b : GenerationalPointer) (l : Location) whe
       (read_begins S R b l c k cell (sym free) below after)
 
   pub lacks_by_kept : (R : State T) (k : Kept T) → own_cell S b.id ≡ cell_of k → is_live k ≡ true
-      → None ≡ read_refusal (content_in k) → S.next < 2 ^ 64 - 1
+      → None ≡ read_refusal (content_in k) → S.next < last_ticket
       → has_readers (content_at S (name_of b)) ≡ true → R ≡ S
       → Meets S (Read b l) (Refused OutOfMemory) R
   lacks_by_kept R Empty cell live free below beside same = absurd (false≢true live)

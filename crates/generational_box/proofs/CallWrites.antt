@@ -1,5 +1,5 @@
 -- Writes in a store whose cells are Values, as steps of the machine.
-use Rattle.std.proofs.Common.{◌≡◌, ℕ, ◌-◌, ◌^◌, ◌<◌, Bool, true, false, cond, ◌&&◌, [], ◌∷◌}
+use Rattle.std.proofs.Common.{◌≡◌, ℕ, ◌<◌, Bool, true, false, cond, ◌&&◌, [], ◌∷◌}
 use Rattle.std.proofs.Common.{Option, None, Some, Result, Ok, Err, IsTrue, refl, sym, ap, subst}
 use Rattle.std.proofs.Common.{◌∙◌, arith, inl, inr}
 use Rattle.std.specs.Prelude.{nat_eq, is_ok, IfErr, OnOk}
@@ -27,7 +27,7 @@ use Rattle.generational_core.specs.Machine.{Outcome, act, write_at, next_guard, 
 use Rattle.generational_core.specs.Machine.{knows_writer, has_writer, unless}
 use Rattle.generational_core.specs.Machine.Action.{Write, ReleaseWriter}
 use Rattle.generational_core.specs.Machine.Answer.{Writes, Back, Done, Troubled, Refused as refuses}
-use Rattle.generational_core.specs.Steps.{Meets, limit_tickets, no_names, is_being_read}
+use Rattle.generational_core.specs.Steps.{Meets, limit_tickets, no_names, is_being_read, last_ticket}
 use Rattle.generational_core.specs.Answers.{trouble_of, end_refused, back_answer}
 use Rattle.generational_box.specs.Entry.{IsBeingRead, FoundBorrowed, Kept, content_in, is_live}
 use Rattle.generational_box.specs.Entry.Kept.{Empty, Live}
@@ -95,7 +95,7 @@ module _ {T : Type 0} (S : State T) (b : GenerationalPointer) (l : Location) whe
   write_refused (Live c k) (refused.Store UnknownOwner) cell live found = absurd found
 
   pub write_exhausted : (k : Kept T) → own_cell S b.id ≡ cell_of k → is_live k ≡ true
-      → write_refusal (content_in k) ≡ None → S.next ≡ 2 ^ 64 - 1
+      → write_refusal (content_in k) ≡ None → S.next ≡ last_ticket
       → Meets S (Write b l) (refuses NumbersExhausted) S
   write_exhausted Empty cell live free last = absurd (false≢true live)
   write_exhausted (Live (Here v []) k) cell live free last =
@@ -103,14 +103,14 @@ module _ {T : Type 0} (S : State T) (b : GenerationalPointer) (l : Location) whe
         no_names,
         tt,
         sym (ap (limit_tickets S) (write_free v k cell)
-            ∙ rw (eq-eqb S.next (2 ^ 64 - 1) last) refl),
+            ∙ rw (eq-eqb S.next last_ticket last) refl),
       )
   write_exhausted (Live (Here v (r ∷ rs)) k) cell live free last = cc
   write_exhausted (Live (Lent w) k) cell live free last = cc
 
   pub write_begins : (R : State T) (g : WriteGuard T) (t : ℕ) (v : T) (k : Kept T)
       → own_cell S b.id ≡ cell_of k → is_live k ≡ true
-      → write_refusal (content_in k) ≡ None → S.next < 2 ^ 64 - 1
+      → write_refusal (content_in k) ≡ None → S.next < last_ticket
       → g.guard ≡ record { store = b.id.store; cell = name_of b; ticket = t } → t ≡ S.next
       → g.value ≡ v → content_at S (name_of b) ≡ Some (Here v [])
       → R ≡ (write_at S l (Some (name_of b)) (content_at S (name_of b))).1
@@ -121,7 +121,7 @@ module _ {T : Type 0} (S : State T) (b : GenerationalPointer) (l : Location) whe
         no_names,
         tt,
         sym (ap (limit_tickets S) (write_free u k cell)
-            ∙ (rw (ne_eqb S.next (2 ^ 64 - 1) (λ e. omega arith))
+            ∙ (rw (ne_eqb S.next last_ticket (λ e. omega arith))
             (λ i. (Writes (guard_is i) (same i), left i)))),
       )
     where

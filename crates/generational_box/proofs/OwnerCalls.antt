@@ -1,5 +1,5 @@
 -- The calls of owners, as steps of the machine.
-use Rattle.std.proofs.Common.{◌≡◌, ℕ, ◌+◌, ◌-◌, ◌^◌, ◌<◌, ◌≤◌, Bool, true, false, cond, ◌&&◌, List}
+use Rattle.std.proofs.Common.{◌≡◌, ℕ, ◌+◌, ◌-◌, ◌<◌, ◌≤◌, Bool, true, false, cond, ◌&&◌, List}
 use Rattle.std.proofs.Common.{[]}
 use Rattle.std.proofs.Common.{Option, None, Some, Err, refl, sym, ap, subst, ◌∙◌, arith, inl, inr}
 use Rattle.std.specs.Prelude.{is_some, not, nat_eq, nat_lt}
@@ -19,7 +19,7 @@ use Rattle.generational_core.specs.Machine.{OwnerName, Answer, act, make_value, 
 use Rattle.generational_core.specs.Machine.{add_to_list, set_ownership, clone_owner, release_owner, unless}
 use Rattle.generational_core.specs.Machine.Action.{Make, NewOwner, CloneOwner, ReleaseOwner}
 use Rattle.generational_core.specs.Machine.Answer.{Made, Owned, Done, Refused}
-use Rattle.generational_core.specs.Steps.{Meets, limit_tickets, no_names, may_lack, is_made, is_being_read}
+use Rattle.generational_core.specs.Steps.{Meets, limit_tickets, no_names, may_lack, is_made, is_being_read, last_ticket}
 use Rattle.generational_core.specs.Records.{one_more, one_less}
 use Rattle.generational_box.specs.OwnerRecords.{knows, knows_any, add_to_list_in}
 use Rattle.generational_core.specs.Records.{names_in, names_under, count_in}
@@ -119,21 +119,21 @@ module _ {T : Type 0} where
 
   -- ---- owners
 
-  pub new_exhausted : (S : State T) → S.next ≡ 2 ^ 64 - 1 → Meets S NewOwner (Refused NumbersExhausted) S
-  new_exhausted S last = inl (no_names, tt, rw (eq-eqb S.next (2 ^ 64 - 1) last) refl)
+  pub new_exhausted : (S : State T) → S.next ≡ last_ticket → Meets S NewOwner (Refused NumbersExhausted) S
+  new_exhausted S last = inl (no_names, tt, rw (eq-eqb S.next last_ticket last) refl)
 
-  pub new_lacks : (S R : State T) → S.next < 2 ^ 64 - 1 → R ≡ S → Meets S NewOwner (Refused OutOfMemory) R
+  pub new_lacks : (S R : State T) → S.next < last_ticket → R ≡ S → Meets S NewOwner (Refused OutOfMemory) R
   new_lacks S R below same =
-      inr (ap not (ne_eqb S.next (2 ^ 64 - 1) (λ e. omega arith)), refl, same)
+      inr (ap not (ne_eqb S.next last_ticket (λ e. omega arith)), refl, same)
 
-  pub new_made : (S R : State T) → S.next < 2 ^ 64 - 1
+  pub new_made : (S R : State T) → S.next < last_ticket
       → R ≡ record S { owners = map.insert S.owners S.next (record { names = []; count = 1 }); next = S.next + 1 }
       → Meets S NewOwner (Owned (record { store = S.number; key = S.next })) R
   new_made S R below after =
       inl (
         no_names,
         tt,
-        rw (ne_eqb S.next (2 ^ 64 - 1) (λ e. omega arith))
+        rw (ne_eqb S.next last_ticket (λ e. omega arith))
             (λ i. (Owned (record { store = S.number; key = S.next }), after i)),
       )
 
@@ -147,17 +147,17 @@ module _ {T : Type 0} where
       inl (no_names, tt, sym (clone_is S o None (holding_none S o unknown)))
 
   pub clone_exhausted : (S : State T) (o : OwnerName) → knows S.number S.owners o ≡ true
-      → S.next ≡ 2 ^ 64 - 1 → Meets S (CloneOwner o) (Refused NumbersExhausted) S
+      → S.next ≡ last_ticket → Meets S (CloneOwner o) (Refused NumbersExhausted) S
   clone_exhausted S o known last =
       let there = holding_some S o known in
       inl (
         no_names,
         tt,
-        sym (clone_is S o (Some there.0) there.1 ∙ rw (eq-eqb S.next (2 ^ 64 - 1) last) refl),
+        sym (clone_is S o (Some there.0) there.1 ∙ rw (eq-eqb S.next last_ticket last) refl),
       )
 
   pub clone_made : (S R : State T) (o : OwnerName) → knows S.number S.owners o ≡ true
-      → S.next < 2 ^ 64 - 1
+      → S.next < last_ticket
       → R ≡ record S { owners = change S.owners o.key one_more; next = S.next + 1 }
       → Meets S (CloneOwner o) (Owned o) R
   clone_made S R o known below after =
@@ -166,7 +166,7 @@ module _ {T : Type 0} where
         no_names,
         tt,
         sym (clone_is S o (Some there.0) there.1
-            ∙ (rw (ne_eqb S.next (2 ^ 64 - 1) (λ e. omega arith))
+            ∙ (rw (ne_eqb S.next last_ticket (λ e. omega arith))
             (λ i. (
               Owned o,
               (ap (λ (owners : Owners). record S { owners = owners; next = S.next + 1 })
@@ -211,7 +211,7 @@ module _ {T : Type 0} where
     pub known_seen : (o : OwnerName) (b : Bool) → knows number owners o ≡ b → knows S.number S.owners o ≡ b
     known_seen o b is = subst (λ (X : State T). knows X.number X.owners o ≡ b) view is
 
-    pub new_step : (o : OwnerName) (owners' : Owners) (h : Ownership) → next < 2 ^ 64 - 1
+    pub new_step : (o : OwnerName) (owners' : Owners) (h : Ownership) → next < last_ticket
         → o ≡ record { store = number; key = next } → h ≡ record { names = []; count = 1 }
         → owners' ≡ map.insert owners next h
         → Meets S NewOwner (Owned o) (state_of owners' number start (next + 1) peak slots)
@@ -227,7 +227,7 @@ module _ {T : Type 0} where
         (sym (eqb-true o.store number (and_parts (nat_eq o.store number) (is_some (map.get owners o.key)) known).0))
 
     pub clone_step : (o r : OwnerName) (k j : ℕ) (owners' : Owners) → knows number owners o ≡ true
-        → next < 2 ^ 64 - 1 → r ≡ record { store = number; key = j } → j ≡ o.key → k ≡ o.key
+        → next < last_ticket → r ≡ record { store = number; key = j } → j ≡ o.key → k ≡ o.key
         → owners' ≡ change owners k one_more
         → Meets S (CloneOwner o) (Owned r) (state_of owners' number start (next + 1) peak slots)
     clone_step o r k j owners' known below is key there after =

@@ -48,6 +48,7 @@ impl<T> StorageEntry<T> {
     ghost use Rattle.generational_core.specs.Borrowing.{read_refusal, write_refusal};
     ghost use Rattle.generational_core.specs.Borrowing.Trouble.{BeingWritten};
     ghost use Rattle.generational_core.specs.Machine.{has_reader, has_writer};
+    ghost use Rattle.generational_core.specs.Slots.{last_generation};
     ghost use Rattle.generational_core.specs.Steps.{has_readers};
     ghost use Rattle.generational_box.specs.Entry.Kept.{Empty, Live};
     ghost use Rattle.generational_box.specs.Entry.{content_in, valid_at, has_no_borrow, with_reader};
@@ -183,7 +184,7 @@ impl<T> StorageEntry<T> {
     pub(crate) fn refill(&mut self, value: T, location: Location) -> u64
     where
         T: Drop,
-        requires { self.old.generation < 18446744073709551615 }
+        requires { self.old.generation < last_generation }
         ensures generation { result ≡ self.old.generation + 1 }
         ensures filled { self.new ≡ record
             { generation = result; kept = Live (Here value []) location } }

@@ -18,6 +18,7 @@ ghost use Rattle.generational_core.specs.Machine.Action.{Make, NewOwner, CloneOw
 ghost use Rattle.generational_core.specs.Machine.Action.{Read, Write, ReleaseReader, ReleaseWriter};
 ghost use Rattle.generational_core.specs.Machine.Action.{End};
 ghost use Rattle.generational_core.specs.Machine.Answer.{Flag};
+ghost use Rattle.generational_core.specs.Slots.{last_generation};
 ghost use Rattle.generational_core.specs.Steps.{Meets, has_readers, last_ticket};
 ghost use Rattle.generational_core.specs.Ending.{close};
 ghost use Rattle.generational_core.specs.Records.{names_under};
@@ -358,7 +359,7 @@ fn end_cell<T: Drop>(slots: &mut Vec<StorageEntry<T>>, slot: usize)
 fn next_generation<T>(slots: &Vec<StorageEntry<T>>, slot: usize) -> u64
     requires within { slot < vec_len slots.now }
     requires below { IfSome (slice_get slots.now.items slot)
-        (λ entry. entry.generation < 18446744073709551615) }
+        (λ entry. entry.generation < last_generation) }
     ensures { IfSome (slice_get slots.now.items slot) (λ entry. result ≡ entry.generation + 1) }
 {
     slots[slot].generation() + 1
@@ -374,7 +375,7 @@ fn refill<T: Drop>(
 ) -> u64
     requires within { slot < vec_len slots.old }
     requires below { IfSome (slice_get slots.old.items slot)
-        (λ entry. entry.generation < 18446744073709551615) }
+        (λ entry. entry.generation < last_generation) }
     ensures generation { IfSome (slice_get slots.old.items slot)
         (λ entry. result ≡ entry.generation + 1) }
     ensures filled { slots.new.items ≡ slice_set slots.old.items slot

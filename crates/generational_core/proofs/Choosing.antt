@@ -2,7 +2,7 @@
 use Rattle.std.proofs.Common.{◌≡◌, ◌≢◌, ℕ, ◌+◌, ◌≤◌, ◌<◌, Bool, true, false, cond, List, [], ◌∷◌}
 use Rattle.std.proofs.Common.{Option, None, Some, refl, sym, ap, subst, ◌∙◌, inl, inr, ⊎_elim}
 use Rattle.std.proofs.Common.{arith}
-use Rattle.std.specs.Prelude.{nat_eq, ◌&&◌, ◌-◌, ◌^◌, ◌⊎◌}
+use Rattle.std.specs.Prelude.{nat_eq, ◌&&◌, ◌⊎◌}
 use Rattle.std.specs.Ordering.{eq_by_cmp}
 use Rattle.std.specs.List.{list_any}
 use Rattle.std.proofs.lemmas.Bool.{true≢false, or_cases, false_from_ne_true}
@@ -20,7 +20,7 @@ use Rattle.generational_core.specs.Machine.{Action, Answer, Fresh, Outcome, Owne
 use Rattle.generational_core.specs.Machine.{is_known, refer, found, make_value, make_shared}
 use Rattle.generational_core.specs.Machine.Action.{Make, MakeShared, Refer}
 use Rattle.generational_core.specs.Machine.Answer.{Refused}
-use Rattle.generational_core.specs.Steps.{AreNew, Takes, Meets, takes_ticket}
+use Rattle.generational_core.specs.Steps.{AreNew, Takes, Meets, takes_ticket, last_ticket}
 use Rattle.generational_core.specs.Numbered.{want}
 use Rattle.generational_core.proofs.Maps.{by_name, key_same}
 use Rattle.generational_core.proofs.Fresh.{AreFresh, new_fresh}
@@ -100,7 +100,7 @@ module _ {T : Type 0} where
       → ((e : StoreError) × (want e ≡ Some e) × (answer ≡ Refused e) × (R ≡ S))
       ⊎ ((new : Fresh) × AreFresh S call new × ((answer, R) ≡ act S call new))
   meets_fresh S R call answer (inl m) =
-      split (takes_ticket (act S call m.0).0 && nat_eq S.next (2 ^ 64 - 1)) m.2
+      split (takes_ticket (act S call m.0).0 && nat_eq S.next last_ticket) m.2
     where
       pick : (answer, R) ≡ act S call m.0
           → AreNew S call m.0 ⊎ IsRefused S (act S call m.0).0 (act S call m.0).1

@@ -2,7 +2,7 @@
 -- memory lacks.
 use Rattle.std.proofs.Common.{◌≡◌, ℕ, Bool, true, false, cond, not, ◌&&◌, [], ◌∷◌}
 use Rattle.std.proofs.Common.{Option, None, Some, refl, sym, ap, subst, ◌∙◌, inl, inr}
-use Rattle.std.specs.Prelude.{is_some, nat_eq, nat_lt, ◌-◌, ◌^◌, option_map}
+use Rattle.std.specs.Prelude.{is_some, nat_eq, nat_lt, option_map}
 use Rattle.std.specs.FinMap as map
 use Rattle.generational_core.specs.declared.error.StoreError.TheVariants.{NumbersExhausted}
 use Rattle.generational_core.specs.declared.boxes.GenerationalPointer.{GenerationalPointer}
@@ -22,7 +22,7 @@ use Rattle.generational_core.specs.Machine.Answer.{Made, Owned, Reads, Writes, D
 use Rattle.generational_core.specs.Machine.Answer.{Troubled, Refused}
 use Rattle.generational_core.specs.Slots.{Fits, free, is_free, slots_of, last_name}
 use Rattle.generational_core.specs.Slots.{last_generation}
-use Rattle.generational_core.specs.Steps.{IsNew, AreNew, Takes, Meets, limit_tickets, takes_ticket}
+use Rattle.generational_core.specs.Steps.{IsNew, AreNew, Takes, Meets, limit_tickets, takes_ticket, last_ticket}
 use Rattle.generational_core.specs.Steps.{is_made, is_reader, is_being_read, has_readers, answer_to}
 use Rattle.generational_core.specs.Steps.{may_lack, no_names}
 use Rattle.generational_core.specs.Carrying.{moved_content, moved_cell}
@@ -95,7 +95,7 @@ module _ {T : Type 0} where
       ≡ plain_out (limit_tickets S (act S call new))
   plain_limited S call new =
       let out = act S call new in
-      let last = nat_eq S.next (2 ^ 64 - 1) in
+      let last = nat_eq S.next last_ticket in
       ap (limit_tickets (plain S)) (plain_act S call new)
       ∙ (ap (λ b. cond (b && last) (Refused NumbersExhausted, plain S) (plain_out out))
       (plain_ticket out.0) ∙ moved (takes_ticket out.0 && last) out)

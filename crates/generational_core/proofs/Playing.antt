@@ -1,7 +1,7 @@
 -- Worked rows, played line by line from states that are written out.
 use Rattle.std.proofs.Common.{◌≡◌, ℕ, cond, not, List, [], ◌∷◌, Option, refl, sym, ap, ◌∙◌}
 use Rattle.std.proofs.Common.{subst}
-use Rattle.std.specs.Prelude.{Bool, true, false, ◌&&◌, ◌-◌, ◌^◌, nat_eq, nat_lt, is_some}
+use Rattle.std.specs.Prelude.{Bool, true, false, ◌&&◌, nat_eq, nat_lt, is_some}
 use Rattle.std.specs.Prelude.{unwrap_or}
 use Rattle.std.specs.Ordering.{nat_cmp}
 use Rattle.std.specs.FinMap as map
@@ -15,7 +15,7 @@ use Rattle.generational_core.specs.Borrowing.{Guard}
 use Rattle.generational_core.specs.Machine.{Action, Answer, Fresh, Outcome, act}
 use Rattle.generational_core.specs.Machine.Answer.{Made, Refused}
 use Rattle.generational_core.specs.Slots.{slots_of, last_generation}
-use Rattle.generational_core.specs.Steps.{limit_tickets, takes_ticket, no_names}
+use Rattle.generational_core.specs.Steps.{limit_tickets, takes_ticket, no_names, last_ticket}
 use Rattle.generational_core.proofs.Bounding.{no_slots}
 use Rattle.generational_core.proofs.Entries.{entries, names_none, numbers_none}
 use Rattle.generational_core.proofs.Lasts.{lasts_insert}
@@ -30,7 +30,7 @@ pub ruleset slots_there = (lasts_insert, no_slots, entries)
 module _ {T : Type 0} where
   -- whether a call can't have its ticket
   abbrev is_short : Answer T → ℕ → Bool
-  is_short answer next = takes_ticket answer && nat_eq next (2 ^ 64 - 1)
+  is_short answer next = takes_ticket answer && nat_eq next last_ticket
 
   -- ---- from any state
 

@@ -1,7 +1,7 @@
 -- A recorded call is ready exactly where its answer tells of no borrow.
 use Rattle.std.proofs.Common.{◌≡◌, Bool, true, false, cond, not, ◌&&◌, Option, None, Some, refl, sym}
 use Rattle.std.proofs.Common.{ap, ◌∙◌, inl, inr}
-use Rattle.std.specs.Prelude.{nat_eq, ◌-◌, ◌^◌}
+use Rattle.std.specs.Prelude.{nat_eq}
 use Rattle.std.proofs.lemmas.Bool.{true≢false}
 use Rattle.generational_core.specs.declared.error.Location.{Location}
 use Rattle.generational_core.specs.declared.error.StoreError.TheVariants.{NumbersExhausted}
@@ -21,7 +21,7 @@ use Rattle.generational_core.specs.Machine.Action.{ReleaseOwner, LeakOwner, Read
 use Rattle.generational_core.specs.Machine.Action.{ReleaseReader, ReleaseWriter, SetValue, End}
 use Rattle.generational_core.specs.Machine.Action.{Point, CanRead, CanWrite}
 use Rattle.generational_core.specs.Machine.Answer.{Flag, Refused}
-use Rattle.generational_core.specs.Steps.{Meets, limit_tickets, takes_ticket}
+use Rattle.generational_core.specs.Steps.{Meets, limit_tickets, takes_ticket, last_ticket}
 use Rattle.generational_core.specs.Readiness.{is_ready, tells_of_borrow}
 use Rattle.generational_core.specs.Recording.{recorded_as, is_hindered}
 
@@ -85,7 +85,7 @@ module _ {T : Type 0} where
   -- what is limited tells of no borrow, where what was done didn't
   limited_free : (S : State T) (out : Outcome T)
       → is_hindered out.0 ≡ false → is_hindered (limit_tickets S out).0 ≡ false
-  limited_free S out h = at (takes_ticket out.0 && nat_eq S.next (2 ^ 64 - 1))
+  limited_free S out h = at (takes_ticket out.0 && nat_eq S.next last_ticket)
     where
       at : (b : Bool)
           → let r : Outcome T = cond b (Refused NumbersExhausted, S) out in

@@ -1,7 +1,7 @@
 -- What holds of each call of a store, whichever names it takes and whatever memory lacks.
 use Rattle.std.proofs.Common.{◌≡◌, ℕ, ◌+◌, ◌≤◌, Bool, true, false, cond, not, List, [], ◌∷◌}
 use Rattle.std.proofs.Common.{Option, None, Some, refl, sym, ap, subst, ◌∙◌, inl, inr, ⊎_elim}
-use Rattle.std.specs.Prelude.{is_some, nat_eq, ◌&&◌, ◌-◌, ◌^◌, ◌⊎◌}
+use Rattle.std.specs.Prelude.{is_some, nat_eq, ◌&&◌, ◌⊎◌}
 use Rattle.std.specs.List.{list_any}
 use Rattle.std.specs.FinSet as set
 use Rattle.std.proofs.lemmas.Bool.{true≢false, or_cases, or_right, or_left, and_parts, eqb-true}
@@ -23,7 +23,7 @@ use Rattle.generational_core.specs.Machine.{has_reader, has_writer, make_value, 
 use Rattle.generational_core.specs.Machine.Action.{Make, MakeShared, Refer, ReleaseReader}
 use Rattle.generational_core.specs.Machine.Action.{ReleaseWriter}
 use Rattle.generational_core.specs.Machine.Answer.{Made, Owned, Reads, Writes, Troubled, Refused}
-use Rattle.generational_core.specs.Steps.{AreNew, Takes, Meets, takes_ticket}
+use Rattle.generational_core.specs.Steps.{AreNew, Takes, Meets, takes_ticket, last_ticket}
 use Rattle.generational_core.proofs.Fresh.{AreFresh, new_fresh}
 use Rattle.generational_core.proofs.Growing.{Follows, act_follows, follows_same}
 use Rattle.generational_core.proofs.SoundCalls.{act_sound}
@@ -104,7 +104,7 @@ module _ {T : Type 0} where
   pub meets_cases : (S R : State T) (call : Action T) (answer : Answer T)
       → Meets S call answer R → IsRefused S answer R ⊎ Acts S call answer R
   meets_cases S R call answer (inl m) =
-      split (takes_ticket (act S call m.0).0 && nat_eq S.next (2 ^ 64 - 1)) m.2
+      split (takes_ticket (act S call m.0).0 && nat_eq S.next last_ticket) m.2
     where
       pick : (answer, R) ≡ act S call m.0
           → AreNew S call m.0 ⊎ IsRefused S (act S call m.0).0 (act S call m.0).1

@@ -1,7 +1,7 @@
 -- The state without values takes the recorded step.
 use Rattle.std.proofs.Common.{◌≡◌, Bool, true, false, cond, not, ◌&&◌, Option, None, Some}
 use Rattle.std.proofs.Common.{refl, sym, ap, subst, ◌∙◌, inl, inr}
-use Rattle.std.specs.Prelude.{nat_eq, ◌-◌, ◌^◌, option_map}
+use Rattle.std.specs.Prelude.{nat_eq, option_map}
 use Rattle.std.proofs.lemmas.Bool.{true≢false, and_parts, and_from, eqb-true}
 use Rattle.generational_core.specs.declared.error.Location.{Location}
 use Rattle.generational_core.specs.declared.error.StoreError.TheVariants.{
@@ -27,7 +27,7 @@ use Rattle.generational_core.specs.Machine.Action.{ReleaseReader, ReleaseWriter,
 use Rattle.generational_core.specs.Machine.Action.{Point, CanRead, CanWrite}
 use Rattle.generational_core.specs.Machine.Answer.{Made, Owned, Reads, Writes, Done, Old, Flag, Back}
 use Rattle.generational_core.specs.Machine.Answer.{Troubled, Refused}
-use Rattle.generational_core.specs.Steps.{IsNew, Meets, Takes, limit_tickets, takes_ticket, is_made}
+use Rattle.generational_core.specs.Steps.{IsNew, Meets, Takes, limit_tickets, takes_ticket, is_made, last_ticket}
 use Rattle.generational_core.specs.Readiness.{is_ready}
 use Rattle.generational_core.specs.Recording.{recorded_as, is_hindered}
 use Rattle.generational_core.specs.History.{plain, plain_call, plain_answer}
@@ -94,7 +94,7 @@ unnamed P (Back v) (reply.Made c) none h = absurd cc
 -- a read gives no box
 limited_unmade : (P : Plain) (out : Outcome (Unit {0}))
     → is_made out.0 ≡ false → is_made (limit_tickets P out).0 ≡ false
-limited_unmade P out h = at (takes_ticket out.0 && nat_eq P.next (2 ^ 64 - 1))
+limited_unmade P out h = at (takes_ticket out.0 && nat_eq P.next last_ticket)
   where
     at : (b : Bool)
         → let x : Outcome (Unit {0}) = cond b (Refused NumbersExhausted, P) out in

@@ -1,7 +1,7 @@
 -- How a call that no borrow hinders is refused.
 use Rattle.std.proofs.Common.{◌≡◌, Bool, true, false, cond, not, List, [], ◌∷◌, Option}
 use Rattle.std.proofs.Common.{None, Some, refl, sym, ap, subst, ◌∙◌, inl, inr, Result, Ok, Err}
-use Rattle.std.specs.Prelude.{nat_eq, ◌-◌, ◌^◌}
+use Rattle.std.specs.Prelude.{nat_eq}
 use Rattle.std.specs.Result.{is_err}
 use Rattle.std.proofs.lemmas.Bool.{true≢false}
 use Rattle.std.specs.FinMap as map
@@ -32,7 +32,7 @@ use Rattle.generational_core.specs.Machine.{Answer, Outcome, unless, read_at, co
 use Rattle.generational_core.specs.Machine.{own_name}
 use Rattle.generational_core.specs.Machine.Action.{Read, End}
 use Rattle.generational_core.specs.Machine.Answer.{Done, Troubled, Refused as refuses}
-use Rattle.generational_core.specs.Steps.{Meets, limit_tickets, is_being_read}
+use Rattle.generational_core.specs.Steps.{Meets, limit_tickets, is_being_read, last_ticket}
 use Rattle.generational_core.specs.Answers.{read_refused, end_refused, end_answer}
 use Rattle.generational_core.specs.Readiness.{is_ready, tells_of_borrow}
 use Rattle.generational_sync.specs.Shared.{MayRefuseRead}
@@ -100,7 +100,7 @@ module _ {T : Type 0} where
   read_tells S l None c = (refl, refl)
   read_tells S l (Some m) None = (refl, refl)
   read_tells S l (Some m) (Some (Lent w)) = (refl, refl)
-  read_tells S l (Some m) (Some (Here v rs)) = at (nat_eq S.next (2 ^ 64 - 1))
+  read_tells S l (Some m) (Some (Here v rs)) = at (nat_eq S.next last_ticket)
     where
       at : (b : Bool)
           → let out : Outcome T = cond b (refuses NumbersExhausted, S)

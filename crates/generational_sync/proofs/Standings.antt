@@ -2,7 +2,7 @@
 use Rattle.std.proofs.Common.{◌≡◌, ℕ, ◌+◌, ◌≤◌, Bool, true, false, cond, not, ◌&&◌, List, [], ◌∷◌}
 use Rattle.std.proofs.Common.{◌++◌, length, Option, None, Some, refl, sym, ap, subst, ◌∙◌, arith}
 use Rattle.std.proofs.Common.{inl, inr, length-append}
-use Rattle.std.specs.Prelude.{nat_eq, ◌-◌, ◌^◌, suc, ◌||◌}
+use Rattle.std.specs.Prelude.{nat_eq, suc, ◌||◌}
 use Rattle.std.specs.List.{list_any, filter}
 use Rattle.std.proofs.lemmas.Bool.{true≢false, and_parts}
 use Rattle.std.proofs.lemmas.List.{length-map}
@@ -23,7 +23,7 @@ use Rattle.generational_core.specs.Machine.{Answer, Outcome, unless, read_at, co
 use Rattle.generational_core.specs.Machine.{has_reader, knows_reader, without_reader, own_name}
 use Rattle.generational_core.specs.Machine.Action.{Make, Read, ReleaseReader, End}
 use Rattle.generational_core.specs.Machine.Answer.{Made, Reads, Done, Flag, Refused}
-use Rattle.generational_core.specs.Steps.{Meets, limit_tickets, takes_ticket}
+use Rattle.generational_core.specs.Steps.{Meets, limit_tickets, takes_ticket, last_ticket}
 use Rattle.generational_sync.specs.Standing.{borrows, borrows_in}
 use Rattle.generational_sync.proofs.Weighing.{borrows_retained, borrows_inserted, borrows_changed}
 
@@ -90,7 +90,7 @@ module _ {T : Type 0} where
   Grows S out = borrows out.1 ≤ borrows S + lends out.0
 
   limited_grows : (S : State T) (out : Outcome T) → Grows S out → Grows S (limit_tickets S out)
-  limited_grows S out h = at (takes_ticket out.0 && nat_eq S.next (2 ^ 64 - 1))
+  limited_grows S out h = at (takes_ticket out.0 && nat_eq S.next last_ticket)
     where
       at : (b : Bool) → Grows S (cond b (Refused NumbersExhausted, S) out)
       at true = omega arith
