@@ -15,6 +15,8 @@ mod ending;
 #[cfg(test)]
 mod equality;
 #[cfg(test)]
+mod example;
+#[cfg(test)]
 mod expected;
 #[cfg(test)]
 mod growth;

@@ -1,0 +1,36 @@
+//! The example of the README, run.
+
+use generational_box::{GenerationalBox, Location, UnsyncStorage};
+use std::alloc::Global;
+use std::test::Fail;
+
+/// The length of a text that is kept in a store, read and ended.
+pub fn length_in_store(alloc: Global, text: String) -> Option<usize> {
+    let mut store = UnsyncStorage::new(alloc, 1);
+    let here = Location::new("example.rt", 4, 16);
+
+    // The store owns the text. The box is Copy, and owns nothing.
+    let made = GenerationalBox::leak(&mut store, text, here).ok()?;
+
+    // A guard names its borrow, and lends a view of the value. It must be released.
+    let guard = made.try_read(&mut store, here).ok()?;
+    let length = guard.deref(&store).map(|view| view.len());
+    guard.release(&mut store);
+
+    // The text ends. The box stays a box, and a read of it is refused.
+    made.manually_drop(&mut store).ok()?;
+    match made.try_read(&mut store, here) {
+        Ok(guard) => {
+            guard.release(&mut store);
+            None
+        }
+        Err(_) => length,
+    }
+}
+
+#[test]
+fn the_length_of_a_text_that_is_ended(rt: HostRuntime) -> Result<(), Fail> {
+    let text = String::from_str(rt.alloc(), "hello world")?;
+    assert_eq!(rt; length_in_store(rt.alloc(), text), Some(11));
+    Ok(())
+}
