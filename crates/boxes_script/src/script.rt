@@ -1,6 +1,6 @@
 //! The commands of a script, and their replies.
 ghost use Rattle.std.specs.Prelude.{◌<◌, ◌≤◌, OnOk, vec_len};
-ghost use Rattle.generational_core.specs.State.{IsFresh};
+ghost use Rattle.generational_core.specs.Conditions.{IsFresh};
 
 use crate::fault::Fault;
 use generational_box::{BoxAt, Call, Location, Reply, Session, Storage, StoreError};

@@ -1,4 +1,6 @@
 -- Ends in a store whose cells are Values, as steps of the machine.
+use Rattle.generational_core.specs.Steps.{needs_memory}
+use Rattle.generational_core.specs.Steps.{may_lack}
 use Rattle.std.proofs.Common.{◌≡◌, Bool, true, false, cond, List, [], ◌∷◌}
 use Rattle.std.proofs.Common.{Option, None, Some, refl, sym, ap, ◌∙◌, inl, inr, Err}
 use Rattle.std.specs.Prelude.{is_some, not, nat_eq, ◌||◌}
@@ -19,12 +21,12 @@ use Rattle.generational_core.specs.Boxes.{name_of}
 use Rattle.generational_core.specs.State.{State, is_named}
 use Rattle.generational_core.specs.Borrowing.{Trouble, write_refusal}
 use Rattle.generational_core.specs.Borrowing.Trouble.{Dropped, BeingRead, BeingWritten}
-use Rattle.generational_core.specs.Ending.{sweep, without, cells_after, close, hindrance_to, hindrance_of}
-use Rattle.generational_core.specs.Ending.{or_else}
+use Rattle.generational_core.specs.Ending.{sweep, take_away, cells_after, close, hindrance_to, hindrance_of}
+use Rattle.std.specs.Option.{option_or}
 use Rattle.generational_core.specs.Machine.{Outcome, act, own_name, unless}
 use Rattle.generational_core.specs.Machine.Action.{End}
 use Rattle.generational_core.specs.Machine.Answer.{Done, Troubled, Refused as refuses}
-use Rattle.generational_core.specs.Steps.{Meets, limit_tickets, no_names, is_being_read}
+use Rattle.generational_core.specs.Steps.{Meets, limit_tickets, no_names}
 use Rattle.generational_box.specs.Entry.{IsBeingRead, FoundBorrowed, Kept, content_in, is_live}
 use Rattle.generational_box.specs.Entry.Kept.{Empty, Live}
 use Rattle.generational_core.specs.Answers.{trouble_of, end_refused}
@@ -35,13 +37,13 @@ use Rattle.generational_core.proofs.Maps.{get-remove_here}
 
 module _ {T : Type 0} (S : State T) (values : OnlyValues S) where
   without_get : (names : List Name) (q : Name)
-      → map.get (without S.cells names) q ≡ cond (not (among names q)) (map.get S.cells q) None
-  unfolding without
+      → map.get (take_away S.cells names) q ≡ cond (not (among names q)) (map.get S.cells q) None
+  unfolding take_away
   without_get names q =
       get-keep by_name S.cells _ q
       ∙ ap (λ b. cond (b || not (among names q)) (map.get S.cells q) None) (values q)
 
-  without_values : (names : List Name) (q : Name) → is_shared (map.get (without S.cells names) q) ≡ false
+  without_values : (names : List Name) (q : Name) → is_shared (map.get (take_away S.cells names) q) ≡ false
   without_values names q = ap is_shared (without_get names q) ∙ at (not (among names q))
     where
       at : (b : Bool) → is_shared (cond b (map.get S.cells q) None) ≡ false
@@ -53,8 +55,8 @@ module _ {T : Type 0} (S : State T) (values : OnlyValues S) where
       → map.get (cells_after S.cells names) q ≡ cond (not (among names q)) (map.get S.cells q) None
   unfolding sweep
   left_get names q =
-      get-keep by_name (without S.cells names) _ q
-      ∙ (ap (λ b. cond (not b || is_named (without S.cells names) q) (map.get (without S.cells names) q) None) (without_values names q)
+      get-keep by_name (take_away S.cells names) _ q
+      ∙ (ap (λ b. cond (not b || is_named (take_away S.cells names) q) (map.get (take_away S.cells names) q) None) (without_values names q)
       ∙ without_get names q)
 
   pub left_none : cells_after S.cells [] ≡ S.cells
@@ -82,7 +84,7 @@ module _ {T : Type 0} (S : State T) (values : OnlyValues S) where
 
   -- ---- what hinders an end
 
-  or_none : (t : Option Trouble) → or_else t None ≡ t
+  or_none : (t : Option Trouble) → option_or t None ≡ t
   or_none None = refl
   or_none (Some t) = refl
 
@@ -160,11 +162,12 @@ module _ {T : Type 0} (S : State T) (values : OnlyValues S) where
         inr (at (write_refusal (Some c)) (hindered_is c k is) reading, refl, refl)
       where
         at : (o : Option Trouble) → hindrance_to S (own_name S b) ≡ o → IsBeingRead o
-            → is_being_read (limit_tickets S (act S (End b) no_names)).0 ≡ true
+            → may_lack S (End b) ≡ true
         at None e h = absurd h
         at (Some (Dropped l)) e h = absurd h
         at (Some (BeingWritten l)) e h = absurd h
-        at (Some (BeingRead ls)) e h = ap (λ (out : Outcome T). is_being_read out.0) (end_is (Some (BeingRead ls)) e)
+        at (Some (BeingRead ls)) e h =
+            ap (λ (out : Outcome T). needs_memory S out.0 (End b)) (end_is (Some (BeingRead ls)) e)
 
     pub end_done : (R : State T) (c : Content T) (k : Location) → own_cell S b.id ≡ Some (Value c k)
         → write_refusal (Some c) ≡ None → R ≡ record S { cells = map.remove S.cells (name_of b) }

@@ -1,4 +1,7 @@
 -- The calls of a store whose cells are Values, as steps of the machine.
+use Rattle.generational_core.specs.Steps.{needs_memory}
+use Rattle.generational_core.specs.Borrowing.{write_refusal}
+use Rattle.std.proofs.Common.{is_some}
 use Rattle.std.proofs.Common.{◌≡◌, ℕ, ◌<◌, Bool, true, false, cond, ◌&&◌, List, [], ◌∷◌}
 use Rattle.std.proofs.Common.{Option, None, Some, refl, sym, ap, subst, ◌∙◌, arith, inl, inr}
 use Rattle.std.proofs.Common.{⊎_elim}
@@ -18,14 +21,15 @@ use Rattle.generational_core.specs.Cells.Content.{Here, Lent}
 use Rattle.generational_core.specs.Cells.Cell.{Value, Shared, Ref}
 use Rattle.generational_core.specs.Boxes.{name_of, name_in}
 use Rattle.generational_core.specs.State.{State}
+use Rattle.generational_core.specs.State.{content_at}
 use Rattle.generational_core.specs.Borrowing.{Trouble, Guard, reach, leads_to, read_trouble}
-use Rattle.generational_core.specs.Borrowing.{read_refusal, content_at, fill}
+use Rattle.generational_core.specs.Borrowing.{read_refusal, fill}
 use Rattle.generational_core.specs.Borrowing.Trouble.{Dropped}
-use Rattle.generational_core.specs.Machine.{act, read_at, next_guard, contents, knows_reader}
-use Rattle.generational_core.specs.Machine.{has_reader, without_reader, unless}
+use Rattle.generational_core.specs.Machine.{act, read_at, next_guard, cell_at, knows_reader}
+use Rattle.generational_core.specs.Machine.{has_reader, remove_reader, unless}
 use Rattle.generational_core.specs.Machine.Action.{Read, ReleaseReader}
 use Rattle.generational_core.specs.Machine.Answer.{Reads, Flag, Troubled, Refused}
-use Rattle.generational_core.specs.Steps.{Meets, limit_tickets, no_names, has_readers, is_reader, last_ticket}
+use Rattle.generational_core.specs.Steps.{Meets, limit_tickets, no_names, last_ticket}
 use Rattle.generational_core.specs.Steps.{answer_to}
 use Rattle.generational_box.specs.Entry.{Kept, content_in, is_live}
 use Rattle.generational_box.specs.Entry.Kept.{Empty, Live}
@@ -92,8 +96,8 @@ module _ {T : Type 0} where
   -- a read's outcome
   read_is : (S : State T) (b : GenerationalPointer) (l : Location) (o : Option Trouble)
       → read_trouble S b ≡ o
-      → act S (Read b l) no_names ≡ unless o S (read_at S l (reach S b) (contents S (reach S b)))
-  read_is S b l o is = ap (λ t. unless t S (read_at S l (reach S b) (contents S (reach S b)))) is
+      → act S (Read b l) no_names ≡ unless o S (read_at S l (reach S b) (content_of (cell_at S (reach S b))))
+  read_is S b l o is = ap (λ t. unless t S (read_at S l (reach S b) (content_of (cell_at S (reach S b))))) is
 
   -- a box that names no live cell of this store
   pub read_gone : (S : State T) (b : GenerationalPointer) (l : Location) → own_cell S b.id ≡ None
@@ -114,7 +118,7 @@ module _ {T : Type 0} where
       → act S (Read b l) no_names ≡ read_at S l (Some (name_of b)) (Some (Here v rs))
   read_free S b l v rs k is =
       read_is S b l None (trouble_here S b (Here v rs) k is)
-      ∙ (ap (λ n. read_at S l n (contents S n)) (reach_is S b (Some (Value (Here v rs) k)) is)
+      ∙ (ap (λ n. read_at S l n (content_of (cell_at S n))) (reach_is S b (Some (Value (Here v rs) k)) is)
       ∙ ap (read_at S l (Some (name_of b))) (own_content S b (Here v rs) k is))
 
   pub read_begins : (S R : State T) (b : GenerationalPointer) (l : Location) (c : Content T) (k : Location)
@@ -145,10 +149,11 @@ module _ {T : Type 0} where
 
   pub read_lacks : (S : State T) (b : GenerationalPointer) (l : Location) (c : Content T) (k : Location)
       → own_cell S b.id ≡ Some (Value c k) → read_refusal (Some c) ≡ None → S.next < last_ticket
-      → has_readers (Some c) ≡ true → Meets S (Read b l) (Refused OutOfMemory) S
+      → is_some (write_refusal (Some c)) ≡ true → Meets S (Read b l) (Refused OutOfMemory) S
   read_lacks S b l (Here v rs) k is free below beside =
       inr (
-        (λ i. is_reader (answers i) && has_readers (there i)) ∙ rw beside refl,
+        ap (λ a. needs_memory S a (Read b l)) answers
+            ∙ (ap (λ c. is_some (write_refusal c)) there ∙ beside),
         refl,
         refl,
       )
@@ -158,9 +163,9 @@ module _ {T : Type 0} where
           ap (λ out. (limit_tickets S out).0) (read_free S b l v rs k is)
           ∙ rw (ne_eqb S.next last_ticket (λ e. omega arith)) refl
 
-      there : contents S (reach S b) ≡ Some (Here v rs)
+      there : content_of (cell_at S (reach S b)) ≡ Some (Here v rs)
       there =
-          ap (contents S) (reach_is S b (Some (Value (Here v rs) k)) is)
+          ap (λ to. content_of (cell_at S to)) (reach_is S b (Some (Value (Here v rs) k)) is)
           ∙ own_content S b (Here v rs) k is
   read_lacks S b l (Lent w) k is free below beside = cc
 
@@ -182,7 +187,7 @@ module _ {T : Type 0} where
           (changed_view by_name S.cells n (refill c) q))
 
   unread : (S : State T) (n : Name) (t : ℕ) (o : Option (Content T)) → content_at S n ≡ o
-      → has_reader o t ≡ false → without_reader S n t o ≡ S
+      → has_reader o t ≡ false → remove_reader S n t o ≡ S
   unread S n t None is h = refl
   unread S n t (Some (Here v rs)) is h =
       ap (λ xs. fill S n (Here v xs)) (nothing_left t rs h) ∙ filled_own S n (Here v rs) is
@@ -191,7 +196,7 @@ module _ {T : Type 0} where
   -- a guard of this store, where the answer is whether its reader stood
   pub release : (S R : State T) (g : Guard) (known : Bool) → nat_eq g.store S.number ≡ true
       → known ≡ has_reader (content_at S g.cell) g.ticket
-      → R ≡ without_reader S g.cell g.ticket (content_at S g.cell)
+      → R ≡ remove_reader S g.cell g.ticket (content_at S g.cell)
       → Meets S (ReleaseReader g) (Flag known) R
   release S R g true own is after =
       inl (no_names, tt, sym (rw (own, ← is) (λ i. (Flag true, sym after i))))
@@ -242,17 +247,17 @@ module _ {T : Type 0} (S : State T) (b : GenerationalPointer) (l : Location) whe
 
   pub lacks_by_kept : (R : State T) (k : Kept T) → own_cell S b.id ≡ cell_of k → is_live k ≡ true
       → None ≡ read_refusal (content_in k) → S.next < last_ticket
-      → has_readers (content_at S (name_of b)) ≡ true → R ≡ S
+      → is_some (write_refusal (content_at S (name_of b))) ≡ true → R ≡ S
       → Meets S (Read b l) (Refused OutOfMemory) R
   lacks_by_kept R Empty cell live free below beside same = absurd (false≢true live)
   lacks_by_kept R (Live c k) cell live free below beside same =
-      rw same (read_lacks S b l c k cell (sym free) below (sym (ap has_readers (own_content S b c k cell)) ∙ beside))
+      rw same (read_lacks S b l c k cell (sym free) below (sym (ap (λ c. is_some (write_refusal c)) (own_content S b c k cell)) ∙ beside))
 
 module _ {T : Type 0} (S : State T) (g : Guard) (id : GenerationalBoxId) (t : ℕ)
     (same : g ≡ record { store = id.store; cell = name_in id; ticket = t }) where
   pub released_by_kept : (R : State T) (known : Bool) (k : Kept T) → own_cell S id ≡ cell_of k → is_live k ≡ true
       → known ≡ has_reader (content_at S (name_in id)) t
-      → R ≡ without_reader S (name_in id) t (content_at S (name_in id))
+      → R ≡ remove_reader S (name_in id) t (content_at S (name_in id))
       → Meets S (ReleaseReader g) (Flag known) R
   released_by_kept R known Empty cell live is after = absurd (false≢true live)
   released_by_kept R known (Live c k) cell live is after =

@@ -1,4 +1,6 @@
 -- Writes in a store whose cells are Values, as steps of the machine.
+use Rattle.generational_core.specs.Steps.{needs_memory}
+use Rattle.generational_core.specs.Steps.{may_lack}
 use Rattle.std.proofs.Common.{◌≡◌, ℕ, ◌<◌, Bool, true, false, cond, ◌&&◌, [], ◌∷◌}
 use Rattle.std.proofs.Common.{Option, None, Some, Result, Ok, Err, IsTrue, refl, sym, ap, subst}
 use Rattle.std.proofs.Common.{◌∙◌, arith, inl, inr}
@@ -19,15 +21,16 @@ use Rattle.generational_core.specs.Cells.Content.{Here, Lent}
 use Rattle.generational_core.specs.Cells.Cell.{Value}
 use Rattle.generational_core.specs.Boxes.{name_of, name_in}
 use Rattle.generational_core.specs.State.{State}
+use Rattle.generational_core.specs.State.{content_at}
 use Rattle.generational_core.specs.Borrowing.{Trouble, Guard, reach, write_trouble, write_refusal}
-use Rattle.generational_core.specs.Borrowing.{content_at, fill}
+use Rattle.generational_core.specs.Borrowing.{fill}
 use Rattle.generational_core.specs.Borrowing.Trouble.{Dropped, BeingRead, BeingWritten}
 use Rattle.generational_core.specs.Writing.{WriteGuard}
-use Rattle.generational_core.specs.Machine.{Outcome, act, write_at, next_guard, contents}
+use Rattle.generational_core.specs.Machine.{Outcome, act, write_at, next_guard, cell_at}
 use Rattle.generational_core.specs.Machine.{knows_writer, has_writer, unless}
 use Rattle.generational_core.specs.Machine.Action.{Write, ReleaseWriter}
 use Rattle.generational_core.specs.Machine.Answer.{Writes, Back, Done, Troubled, Refused as refuses}
-use Rattle.generational_core.specs.Steps.{Meets, limit_tickets, no_names, is_being_read, last_ticket}
+use Rattle.generational_core.specs.Steps.{Meets, limit_tickets, no_names, last_ticket}
 use Rattle.generational_core.specs.Answers.{trouble_of, end_refused, back_answer}
 use Rattle.generational_box.specs.Entry.{IsBeingRead, FoundBorrowed, Kept, content_in, is_live}
 use Rattle.generational_box.specs.Entry.Kept.{Empty, Live}
@@ -49,9 +52,9 @@ module _ {T : Type 0} (S : State T) (b : GenerationalPointer) (l : Location) whe
   -- a write's answer, once its trouble is known
   write_is : (o : Option Trouble) → write_trouble S b ≡ o
       → limit_tickets S (act S (Write b l) no_names)
-      ≡ limit_tickets S (unless o S (write_at S l (reach S b) (contents S (reach S b))))
+      ≡ limit_tickets S (unless o S (write_at S l (reach S b) (content_of (cell_at S (reach S b)))))
   write_is o is =
-      ap (λ t. limit_tickets S (unless t S (write_at S l (reach S b) (contents S (reach S b))))) is
+      ap (λ t. limit_tickets S (unless t S (write_at S l (reach S b) (content_of (cell_at S (reach S b)))))) is
 
   -- a box that names no live cell of this store
   pub write_gone : own_cell S b.id ≡ None → Meets S (Write b l) (Troubled (Dropped b.created_at)) S
@@ -68,19 +71,19 @@ module _ {T : Type 0} (S : State T) (b : GenerationalPointer) (l : Location) whe
   write_lacks c k is reading = inr (at (write_refusal (Some c)) (write_here_trouble c k is) reading, refl, refl)
     where
       at : (o : Option Trouble) → write_trouble S b ≡ o → IsBeingRead o
-          → is_being_read (limit_tickets S (act S (Write b l) no_names)).0 ≡ true
+          → may_lack S (Write b l) ≡ true
       at None e h = absurd h
       at (Some (Dropped l)) e h = absurd h
       at (Some (BeingWritten l)) e h = absurd h
       at (Some (BeingRead ls)) e h =
-          ap (λ (out : Outcome T). is_being_read out.0) (write_is (Some (BeingRead ls)) e)
+          ap (λ (out : Outcome T). needs_memory S out.0 (Write b l)) (write_is (Some (BeingRead ls)) e)
 
   -- a write that may begin
   write_free : (v : T) (k : Location) → own_cell S b.id ≡ Some (Value (Here v []) k)
       → act S (Write b l) no_names ≡ write_at S l (Some (name_of b)) (Some (Here v []))
   write_free v k is =
-      ap (λ t. unless t S (write_at S l (reach S b) (contents S (reach S b)))) (write_here_trouble (Here v []) k is)
-      ∙ (ap (λ n. write_at S l n (contents S n)) (reach_is S b (Some (Value (Here v []) k)) is)
+      ap (λ t. unless t S (write_at S l (reach S b) (content_of (cell_at S (reach S b))))) (write_here_trouble (Here v []) k is)
+      ∙ (ap (λ n. write_at S l n (content_of (cell_at S n))) (reach_is S b (Some (Value (Here v []) k)) is)
       ∙ ap (write_at S l (Some (name_of b))) (own_content S b (Here v []) k is))
 
   -- ---- by what the slot keeps

@@ -1,4 +1,8 @@
 -- The calls of owners, as steps of the machine.
+use Rattle.generational_core.specs.Steps.{needs_memory}
+use Rattle.generational_core.specs.Cells.Cell.{Value}
+use Rattle.generational_core.specs.Cells.Content.{Here}
+use Rattle.generational_core.specs.Machine.{Outcome}
 use Rattle.std.proofs.Common.{◌≡◌, ℕ, ◌+◌, ◌-◌, ◌<◌, ◌≤◌, Bool, true, false, cond, ◌&&◌, List}
 use Rattle.std.proofs.Common.{[]}
 use Rattle.std.proofs.Common.{Option, None, Some, Err, refl, sym, ap, subst, ◌∙◌, arith, inl, inr}
@@ -15,11 +19,11 @@ use Rattle.generational_core.specs.declared.boxes.GenerationalPointer.{Generatio
 use Rattle.generational_core.specs.Names.{Name, change}
 use Rattle.generational_core.specs.Boxes.{name_of, box_of}
 use Rattle.generational_core.specs.State.{State, Ownership, Owners}
-use Rattle.generational_core.specs.Machine.{OwnerName, Answer, act, make_value, ownership, is_known}
+use Rattle.generational_core.specs.Machine.{OwnerName, Answer, act, make, ownership, is_known}
 use Rattle.generational_core.specs.Machine.{add_to_list, set_ownership, clone_owner, release_owner, unless}
 use Rattle.generational_core.specs.Machine.Action.{Make, NewOwner, CloneOwner, ReleaseOwner}
 use Rattle.generational_core.specs.Machine.Answer.{Made, Owned, Done, Refused}
-use Rattle.generational_core.specs.Steps.{Meets, limit_tickets, no_names, may_lack, is_made, is_being_read, last_ticket}
+use Rattle.generational_core.specs.Steps.{Meets, limit_tickets, no_names, may_lack, last_ticket}
 use Rattle.generational_core.specs.Records.{one_more, one_less}
 use Rattle.generational_box.specs.OwnerRecords.{knows, knows_any, add_to_list_in}
 use Rattle.generational_core.specs.Records.{names_in, names_under, count_in}
@@ -94,14 +98,30 @@ module _ {T : Type 0} where
       )
   made_for S R (Some o) v l b known (inr lacks) = cc
 
+  -- a making by an owner that is known needs memory, for the owner's list
+  listing_needs : (S : State T) (o : OwnerName) (v : T) (l : Location)
+      → is_known S (Some o) ≡ true → may_lack S (Make (Some o) v l) ≡ true
+  listing_needs S o v l known = at (is_known S (Some o)) known
+    where
+      at : (k : Bool) → k ≡ true → needs_memory S
+          (limit_tickets S (cond k
+          (make S (Some o) no_names.first (Value (Here v []) l) l) (Refused UnknownOwner, S))).0
+          (Make (Some o) v l) ≡ true
+      at true h = refl
+      at false h = absurd (false≢true h)
+
   pub lacks_for : (S R : State T) (o : Option OwnerName) (v : T) (l : Location)
       → knows_any S.number S.owners o ≡ true → Meets S (Make None v l) (Refused OutOfMemory) R
       → Meets S (Make o v l) (Refused OutOfMemory) R
   lacks_for S R None v l known step = step
   lacks_for S R (Some o) v l known (inl (new, takes, is)) =
       absurd (false≢true (ap (λ out. is_made out.0) is))
+    where
+      is_made : Answer T → Bool
+      is_made (Made b) = true
+      is_made _ = false
   lacks_for S R (Some o) v l known (inr (lack, answer, same)) =
-      inr (any_known S (Some o) ∙ known, answer, same)
+      inr (listing_needs S o v l (any_known S (Some o) ∙ known), answer, same)
 
   -- an owner that isn't known, or no memory for its list
   pub refused_for : (S : State T) (o : Option OwnerName) (v : T) (l : Location) (e : StoreError)
@@ -111,10 +131,11 @@ module _ {T : Type 0} where
       inl (
         no_names,
         tt,
-        sym (ap (λ k. limit_tickets S (cond k (make_value S (Some o) v l no_names.first) (Refused UnknownOwner, S))) (any_known S (Some o) ∙ is)),
+        sym (ap (λ k. limit_tickets S (cond k (make S (Some o) no_names.first (Value (Here v []) l) l) (Refused UnknownOwner, S))) (any_known S (Some o) ∙ is)),
       )
   refused_for S None v l OutOfMemory is = absurd (false≢true is.0)
-  refused_for S (Some o) v l OutOfMemory is = inr (any_known S (Some o) ∙ is.1, refl, refl)
+  refused_for S (Some o) v l OutOfMemory is =
+      inr (listing_needs S o v l (any_known S (Some o) ∙ is.1), refl, refl)
   refused_for S o v l NumbersExhausted is = absurd is
 
   -- ---- owners
@@ -124,7 +145,12 @@ module _ {T : Type 0} where
 
   pub new_lacks : (S R : State T) → S.next < last_ticket → R ≡ S → Meets S NewOwner (Refused OutOfMemory) R
   new_lacks S R below same =
-      inr (ap not (ne_eqb S.next last_ticket (λ e. omega arith)), refl, same)
+      inr (at (nat_eq S.next last_ticket) (ne_eqb S.next last_ticket (λ e. omega arith)), refl, same)
+    where
+      at : (k : Bool) → k ≡ false → needs_memory S
+          (cond k (Refused NumbersExhausted, S) (act S NewOwner no_names)).0 NewOwner ≡ true
+      at true h = absurd (false≢true (sym h))
+      at false h = refl
 
   pub new_made : (S R : State T) → S.next < last_ticket
       → R ≡ record S { owners = map.insert S.owners S.next (record { names = []; count = 1 }); next = S.next + 1 }
@@ -319,7 +345,8 @@ module _ {T : Type 0} where
             → may_lack S (ReleaseOwner o) ≡ true
         lacking None is found = absurd found
         lacking (Some (Dropped l)) is found = absurd found
-        lacking (Some (BeingRead ls)) is found = ap (λ out. is_being_read out.0) (last_is (Some (BeingRead ls)) is)
+        lacking (Some (BeingRead ls)) is found =
+            ap (λ (out : Outcome T). needs_memory S out.0 (ReleaseOwner o)) (last_is (Some (BeingRead ls)) is)
         lacking (Some (BeingWritten l)) is found = absurd found
     last_refused (refused.Store NumbersExhausted) found = absurd found
     last_refused (refused.Store UnknownOwner) found = absurd found

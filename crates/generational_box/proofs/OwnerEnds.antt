@@ -12,7 +12,7 @@ use Rattle.generational_core.specs.Boxes.{name_in}
 use Rattle.generational_core.specs.State.{State}
 use Rattle.generational_core.specs.Borrowing.{write_refusal}
 use Rattle.generational_core.specs.Ending.{close, cells_after, hindrance_to, hindrance_of, first_hindrance}
-use Rattle.generational_core.specs.Ending.{or_else}
+use Rattle.std.specs.Option.{option_or}
 use Rattle.generational_box.specs.OwnerRecords.{first_borrowed}
 use Rattle.generational_box.specs.Slotted.{is_value, OnlyValues}
 use Rattle.generational_core.specs.Machine.{own_cell}
@@ -90,7 +90,7 @@ module _ {T : Type 0} (S : State T) (values : OnlyValues S) where
           → first_hindrance S.cells (cells_after S.cells names) rest ≡ first_borrowed S.cells rest
       at [] inside = refl
       at (n ∷ rest) inside =
-          ap (λ t. or_else t (first_hindrance S.cells (cells_after S.cells names) rest))
+          ap (λ t. option_or t (first_hindrance S.cells (cells_after S.cells names) rest))
           (one n (map.get S.cells n) refl (inside n (ap (λ b. b || among rest n) (name_here n))))
-          ∙ ap (or_else (write_refusal (content_of (map.get S.cells n))))
+          ∙ ap (option_or (write_refusal (content_of (map.get S.cells n))))
           (at rest (λ q h. inside q (ap (λ b. is_name q n || b) h ∙ or_true (is_name q n))))

@@ -13,7 +13,7 @@ use Rattle.generational_box.specs.declared.owners.CellName.{CellName}
 use Rattle.generational_core.specs.Names.{Name, NameMap}
 use Rattle.generational_core.specs.Cells.{Cell, content_of}
 use Rattle.generational_core.specs.Borrowing.{Trouble, write_refusal}
-use Rattle.generational_core.specs.Ending.{or_else}
+use Rattle.std.specs.Option.{option_or}
 use Rattle.generational_box.specs.Entry.{Entry, Kept, FoundBorrowed, content_in}
 use Rattle.generational_box.specs.Entry.Kept.{Empty, Live}
 use Rattle.generational_box.specs.OwnerRecords.{first_borrowed, name_of_cell}
@@ -23,7 +23,7 @@ use Rattle.generational_box.proofs.SlotFound.{entry_cell}
 
 -- what is found first stays so, whatever comes after
 pub found_first : (t u : Option Trouble) (e : Refused BorrowMutError)
-    → FoundBorrowed t (Err e) → FoundBorrowed (or_else t u) (Err e)
+    → FoundBorrowed t (Err e) → FoundBorrowed (option_or t u) (Err e)
 found_first None u (refused.Borrow e) found = cc
 found_first None u (refused.Store OutOfMemory) found = absurd found
 found_first (Some t) u (refused.Borrow e) found = found
@@ -34,7 +34,7 @@ found_first t u (refused.Store UnknownOwner) found = absurd found
 module _ {T : Type 0} where
   scan_next : (cells : NameMap (Cell T)) (names : List CellName) (i : ℕ) (d : CellName) → i < length names
       → first_borrowed cells (list_map name_of_cell (drop i names))
-      ≡ or_else (write_refusal (content_of (map.get cells (name_of_cell (slice_index_or names i d)))))
+      ≡ option_or (write_refusal (content_of (map.get cells (name_of_cell (slice_index_or names i d)))))
       (first_borrowed cells (list_map name_of_cell (drop (suc i) names)))
   scan_next cells [] i d within = absurd (omega (arith, within))
   scan_next cells (n ∷ names) zero d within = refl
@@ -43,12 +43,12 @@ module _ {T : Type 0} where
   -- the i-th box, and then those after it
   pub scan : (cells : NameMap (Cell T)) (names : List CellName) (i : ℕ) (d : CellName) → i < length names
       → first_borrowed cells (list_map name_of_cell (drop i names))
-      ≡ or_else (write_refusal (content_of (map.get cells (name_of_cell (slice_index_or names i d)))))
+      ≡ option_or (write_refusal (content_of (map.get cells (name_of_cell (slice_index_or names i d)))))
       (first_borrowed cells (list_map name_of_cell (drop (i + 1) names)))
   scan cells names i d within =
       let next : suc i ≡ i + 1 = omega arith in
       scan_next cells names i d within
-      ∙ ap (λ k. or_else (write_refusal (content_of (map.get cells (name_of_cell (slice_index_or names i d)))))
+      ∙ ap (λ k. option_or (write_refusal (content_of (map.get cells (name_of_cell (slice_index_or names i d)))))
       (first_borrowed cells (list_map name_of_cell (drop k names)))) next
 
   -- what stands in the way of an end of a slot's cell

@@ -1,4 +1,5 @@
 -- What the begin and the end of a read do to the slots.
+use Rattle.generational_core.specs.Borrowing.{write_refusal}
 use Rattle.std.proofs.Common.{◌≡◌, ◌≢◌, ℕ, ◌+◌, ◌<◌, Bool, true, cond, List, [], ◌∷◌, ◌++◌, length}
 use Rattle.std.proofs.Common.{Option, None, Some, IfSome, refl, sym, ap, subst, ◌∙◌, ⊎_elim}
 use Rattle.std.proofs.Common.{slice_get, slice_set}
@@ -19,9 +20,9 @@ use Rattle.generational_core.specs.Cells.Content.{Here, Lent}
 use Rattle.generational_core.specs.Cells.Cell.{Value}
 use Rattle.generational_core.specs.Boxes.{name_in}
 use Rattle.generational_core.specs.State.{State, Owners}
-use Rattle.generational_core.specs.Borrowing.{content_at, fill}
-use Rattle.generational_core.specs.Steps.{has_readers}
-use Rattle.generational_core.specs.Machine.{read_at, has_reader, without_reader}
+use Rattle.generational_core.specs.State.{content_at}
+use Rattle.generational_core.specs.Borrowing.{fill}
+use Rattle.generational_core.specs.Machine.{read_at, has_reader, remove_reader}
 use Rattle.generational_box.specs.Entry.{Entry, Kept, with_reader, without_reader_in, content_in}
 use Rattle.generational_box.specs.Entry.Kept.{Live}
 use Rattle.generational_box.specs.Slotted.{cell_of, cells_of, state_of, change_entry}
@@ -152,10 +153,10 @@ module _ {T : Type 0} where
   -- what the slot says of its readers is what the state sees
   pub beside_seen : {S : State T} {owners : Owners} (number start next peak : ℕ) (slots : List (Entry T)) (id : GenerationalBoxId)
       → state_of owners number start next peak slots ≡ S → IsFound number slots id
-      → IfSome (slice_get slots id.slot) (λ e. has_readers (content_in e.kept) ≡ true)
-      → has_readers (content_at S (name_in id)) ≡ true
+      → IfSome (slice_get slots id.slot) (λ e. is_some (write_refusal (content_in e.kept)) ≡ true)
+      → is_some (write_refusal (content_at S (name_in id))) ≡ true
   beside_seen number start next peak slots id view f h =
-      ap has_readers (content_seen number start next peak slots id view f) ∙ (rw (f.there, f.live) at h)
+      ap (λ c. is_some (write_refusal c)) (content_seen number start next peak slots id view f) ∙ (rw (f.there, f.live) at h)
 
   pub known_seen : {S : State T} {owners : Owners} (number start next peak : ℕ) (slots : List (Entry T)) (id : GenerationalBoxId) (known : Bool) (t : ℕ)
       → state_of owners number start next peak slots ≡ S → IsFound number slots id
@@ -179,13 +180,13 @@ module _ {T : Type 0} where
   pub end_state : {S : State T} {owners : Owners} (number start next peak : ℕ) (slots : List (Entry T)) (id : GenerationalBoxId) (t : ℕ)
       → state_of owners number start next peak slots ≡ S → IsFound number slots id
       → state_of owners number start next peak (change_entry slots id.slot (λ e. record e { kept = without_reader_in t e.kept }))
-      ≡ without_reader S (name_in id) t (content_at S (name_in id))
+      ≡ remove_reader S (name_in id) t (content_at S (name_in id))
   end_state {S} {owners} number start next peak slots id t view f =
       at f.content f.live (content_seen number start next peak slots id view f)
     where
       at : (c : Content T) → f.entry.kept ≡ Live c f.created → content_at S (name_in id) ≡ Some c
           → state_of owners number start next peak (change_entry slots id.slot (λ e. record e { kept = without_reader_in t e.kept }))
-          ≡ without_reader S (name_in id) t (content_at S (name_in id))
+          ≡ remove_reader S (name_in id) t (content_at S (name_in id))
       at (Here v rs) live seen =
           rw (seen, ← view)
           (state-filled owners start next peak (record f { content = Here v rs; live = live }) (less_read t (Here v rs)) (without_reader_in t) refl)

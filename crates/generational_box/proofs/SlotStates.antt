@@ -8,7 +8,8 @@ use Rattle.std.specs.FinSet as set
 use Rattle.generational_core.specs.declared.boxes.GenerationalBoxId.{GenerationalBoxId}
 use Rattle.generational_core.specs.Names.{Name, name_cmp}
 use Rattle.generational_core.specs.Boxes.{name_in}
-use Rattle.generational_core.specs.State.{State, fresh, IsFresh, Owners}
+use Rattle.generational_core.specs.State.{State, Owners}
+use Rattle.generational_core.specs.Conditions.{fresh, IsFresh}
 use Rattle.generational_box.specs.Entry.{Entry}
 use Rattle.generational_box.specs.Slotted.{cells_of, given_of, state_of, HasBegun, IsSlotted}
 use Rattle.generational_box.specs.Slotted.{entry_in, cell_found, OnlyValues}

@@ -13,7 +13,8 @@ use Rattle.generational_core.specs.Cells.{Content, Cell}
 use Rattle.generational_core.specs.Cells.Content.{Here, Lent}
 use Rattle.generational_core.specs.Boxes.{name_in}
 use Rattle.generational_core.specs.State.{State, Owners}
-use Rattle.generational_core.specs.Borrowing.{content_at, fill}
+use Rattle.generational_core.specs.State.{content_at}
+use Rattle.generational_core.specs.Borrowing.{fill}
 use Rattle.generational_core.specs.Machine.{write_at, has_writer}
 use Rattle.generational_box.specs.Entry.{Entry, has_no_borrow, lend_to, with_value, content_in}
 use Rattle.generational_box.specs.Slotted.{state_of, change_entry, is_unborrowed}

@@ -13,7 +13,7 @@ use Rattle.generational_core.specs.declared.error.StoreError.TheVariants.{Number
 use Rattle.generational_core.specs.Names.{Name, NameMap, change}
 use Rattle.generational_core.specs.Cells.{Cell, content_of}
 use Rattle.generational_core.specs.Borrowing.{Trouble, write_refusal}
-use Rattle.generational_core.specs.Ending.{or_else}
+use Rattle.std.specs.Option.{option_or}
 use Rattle.generational_core.specs.Machine.{OwnerName}
 use Rattle.generational_core.specs.State.{Ownership, Owners}
 use Rattle.generational_core.specs.Records.{one_listed}
@@ -33,7 +33,7 @@ owners_of m =
 abbrev pub first_borrowed : {T : Type 0} → NameMap (Cell T) → List Name → Option Trouble
 first_borrowed cells [] = None
 first_borrowed cells (n ∷ names) =
-    or_else (write_refusal (content_of (map.get cells n))) (first_borrowed cells names)
+    option_or (write_refusal (content_of (map.get cells n))) (first_borrowed cells names)
 
 -- whether an owner is of a store with this number and these records
 abbrev pub knows : ℕ → Owners → OwnerName → Bool

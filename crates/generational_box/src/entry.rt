@@ -49,7 +49,8 @@ impl<T> StorageEntry<T> {
     ghost use Rattle.generational_core.specs.Borrowing.Trouble.{BeingWritten};
     ghost use Rattle.generational_core.specs.Machine.{has_reader, has_writer};
     ghost use Rattle.generational_core.specs.Slots.{last_generation};
-    ghost use Rattle.generational_core.specs.Steps.{has_readers};
+    ghost use Rattle.std.specs.Prelude.{is_some};
+    ghost use Rattle.generational_core.specs.Borrowing.{write_refusal};
     ghost use Rattle.generational_box.specs.Entry.Kept.{Empty, Live};
     ghost use Rattle.generational_box.specs.Entry.{content_in, valid_at, has_no_borrow, with_reader};
     ghost use Rattle.generational_box.specs.Entry.{without_reader_in, lend_to, with_value};
@@ -138,7 +139,7 @@ impl<T> StorageEntry<T> {
         ensures ok { OnOk result (self.new ≡ record self.old
             { kept = with_reader borrow self.old.kept }) }
         ensures err { OnErr result (self.new ≡ self.old) }
-        ensures first { OnErr result (has_readers (content_in self.old.kept) ≡ true) }
+        ensures first { OnErr result (is_some (write_refusal (content_in self.old.kept)) ≡ true) }
     {
         match &mut self.content {
             StorageEntryData::Data(_, readers) => readers.push(alloc, borrow),

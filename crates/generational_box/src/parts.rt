@@ -10,16 +10,18 @@ ghost use Rattle.generational_core.specs.declared.error.BorrowError.TheVariants 
 ghost use Rattle.generational_core.specs.declared.error.BorrowMutError.TheVariants as writes;
 ghost use Rattle.generational_core.specs.Cells.Content.{Here};
 ghost use Rattle.generational_core.specs.Boxes.{name_in};
-ghost use Rattle.generational_core.specs.State.{fresh, IsFresh};
-ghost use Rattle.generational_core.specs.Borrowing.{content_at, fill};
+ghost use Rattle.generational_core.specs.Conditions.{fresh, IsFresh};
+ghost use Rattle.generational_core.specs.Borrowing.{fill};
+ghost use Rattle.generational_core.specs.State.{content_at};
+ghost use Rattle.generational_core.specs.Borrowing.{write_refusal};
+ghost use Rattle.generational_core.specs.Machine.{remove_reader};
 ghost use Rattle.generational_core.specs.Machine.{read_at, write_at, has_reader, has_writer};
-ghost use Rattle.generational_core.specs.Machine.{without_reader};
 ghost use Rattle.generational_core.specs.Machine.Action.{Make, NewOwner, CloneOwner, ReleaseOwner};
 ghost use Rattle.generational_core.specs.Machine.Action.{Read, Write, ReleaseReader, ReleaseWriter};
 ghost use Rattle.generational_core.specs.Machine.Action.{End};
 ghost use Rattle.generational_core.specs.Machine.Answer.{Flag};
 ghost use Rattle.generational_core.specs.Slots.{last_generation};
-ghost use Rattle.generational_core.specs.Steps.{Meets, has_readers, last_ticket};
+ghost use Rattle.generational_core.specs.Steps.{Meets, last_ticket};
 ghost use Rattle.generational_core.specs.Ending.{close};
 ghost use Rattle.generational_core.specs.Records.{names_under};
 ghost use Rattle.generational_box.specs.OwnerRecords.{first_borrowed, name_of_cell};
@@ -140,7 +142,7 @@ impl<T: Drop, P: SlotPool> Parts<T, P> {
         ensures ok { OnOk result (self.new ≡
             (read_at self.old location (Some (name_in id)) (content_at self.old (name_in id))).1) }
         ensures err { OnErr result (self.new ≡ self.old) }
-        ensures beside { OnErr result (has_readers (content_at self.old (name_in id)) ≡ true) }
+        ensures beside { OnErr result (is_some (write_refusal (content_at self.old (name_in id))) ≡ true) }
     {
         let ticket = self.next;
         let borrow = Borrow { ticket, location };
@@ -158,7 +160,7 @@ impl<T: Drop, P: SlotPool> Parts<T, P> {
     fn end_read(&mut self, id: GenerationalBoxId, ticket: u64) -> bool
         requires { IsSome (own_cell self.old id) }
         ensures known { result ≡ has_reader (content_at self.old (name_in id)) ticket }
-        ensures after { self.new ≡ without_reader self.old (name_in id) ticket
+        ensures after { self.new ≡ remove_reader self.old (name_in id) ticket
             (content_at self.old (name_in id)) }
     {
         remove_reader(&mut self.slots, id.slot, ticket)
@@ -294,7 +296,7 @@ fn add_reader<T>(
         (λ entry. record entry { kept = with_reader borrow entry.kept })) }
     ensures err { OnErr result (slots.new.items ≡ slots.old.items) }
     ensures beside { OnErr result (IfSome (slice_get slots.old.items slot)
-        (λ entry. has_readers (content_in entry.kept) ≡ true)) }
+        (λ entry. is_some (write_refusal (content_in entry.kept)) ≡ true)) }
 {
     slots[slot].borrow(alloc, borrow)
 }

@@ -1,7 +1,7 @@
 //! The sequential store.
 
 ghost use Rattle.generational_core.specs.State.{IsSound};
-ghost use Rattle.generational_core.specs.Bounds.{IsBounded};
+ghost use Rattle.generational_core.specs.Conditions.{IsBounded};
 ghost use Rattle.generational_core.specs.Sound.{IsSound-prop, IsBounded-prop};
 
 use crate::parts::{Numbers, Parts};
@@ -44,7 +44,7 @@ impl<T, P: SlotPool> Model for Store<T, P> {
 
 impl<T, P: SlotPool> Store<T, P> {
     ghost use Rattle.std.specs.Prelude.{◌≡◌, ◌≤◌};
-    ghost use Rattle.generational_core.specs.State.{fresh};
+    ghost use Rattle.generational_core.specs.Conditions.{fresh};
 
     /// An empty store with this number, by which it tells its boxes from those of other stores:
     /// its maker chooses it. Generations begin at 1, and tickets at 0. Takes no memory.

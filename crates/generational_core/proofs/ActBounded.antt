@@ -12,14 +12,16 @@ use Rattle.generational_core.specs.Cells.{Content, Cell}
 use Rattle.generational_core.specs.Cells.Content.{Here}
 use Rattle.generational_core.specs.Cells.Cell.{Value, Shared, Ref}
 use Rattle.generational_core.specs.State.{State, Ownership, IsSound}
-use Rattle.generational_core.specs.Borrowing.{Trouble, fill, reach, content_at}
+use Rattle.generational_core.specs.State.{content_at}
+use Rattle.generational_core.specs.Borrowing.{Trouble, fill, reach}
 use Rattle.generational_core.specs.Borrowing.{read_trouble, write_trouble}
 use Rattle.generational_core.specs.Boxes.{name_of, box_of, has_same_id}
 use Rattle.generational_core.specs.Ending.{sweep, close, hindrance_to, hindrance_at}
+use Rattle.generational_core.specs.Cells.{content_of}
 use Rattle.generational_core.specs.Machine.{Action, Fresh, Outcome, OwnerName, act, add_cell, ownership}
-use Rattle.generational_core.specs.Machine.{is_known, add_to_list, unless, refer, found, clone_owner}
-use Rattle.generational_core.specs.Machine.{release_owner, read_at, write_at, contents, own_cell}
-use Rattle.generational_core.specs.Machine.{own_name, knows_reader, knows_writer, without_reader}
+use Rattle.generational_core.specs.Machine.{is_known, add_to_list, unless, refer, cell_at, clone_owner}
+use Rattle.generational_core.specs.Machine.{release_owner, read_at, write_at, cell_at, own_cell}
+use Rattle.generational_core.specs.Machine.{own_name, knows_reader, knows_writer, remove_reader}
 use Rattle.generational_core.specs.Machine.{set_at, point, turn}
 use Rattle.generational_core.specs.Machine.Action.{Make, MakeShared, Refer, NewOwner, CloneOwner}
 use Rattle.generational_core.specs.Machine.Action.{ReleaseOwner, LeakOwner, Read, Write}
@@ -34,7 +36,7 @@ use Rattle.generational_core.proofs.Soundness.{left_live}
 use Rattle.generational_core.proofs.Filled.{filled_live}
 use Rattle.generational_core.proofs.Ends.{swept_view}
 use Rattle.generational_core.proofs.BoundSteps.{kept_bounded, born_bounded}
-use Rattle.generational_core.specs.Bounds.{IsBounded}
+use Rattle.generational_core.specs.Conditions.{IsBounded}
 
 module _ {T : Type 0} where
   if_bounded : (b : Bool) (x y : Outcome T)
@@ -106,7 +108,7 @@ module _ {T : Type 0} where
   write_bounded S l m c b = b
 
   without_bounded : (S : State T) (n : Name) (t : ℕ) (c : Option (Content T))
-      → IsBounded S → IsBounded (without_reader S n t c)
+      → IsBounded S → IsBounded (remove_reader S n t c)
   without_bounded S n t (Some (Here v rs)) b = filled_bounded S n _ S.next b
   without_bounded S n t c b = b
 
@@ -138,13 +140,13 @@ module _ {T : Type 0} where
   pointed_bounded S a b (Some _) to x h k = k
 
   point_bounded : (S : State T) (a b : GenerationalPointer)
-      → IsBounded S → IsBounded (point S a b (own_cell S a.id) (reach S b) (found S (reach S b))).1
+      → IsBounded S → IsBounded (point S a b (own_cell S a.id) (reach S b) (cell_at S (reach S b))).1
   point_bounded S a b h = split (nat_eq a.id.store S.number)
     where
       split : (own : Bool) → IsBounded (point S a b
-          (cond own (map.get S.cells (name_of a)) None) (reach S b) (found S (reach S b))).1
+          (cond own (map.get S.cells (name_of a)) None) (reach S b) (cell_at S (reach S b))).1
       split true = pointed_bounded S a b
-          (map.get S.cells (name_of a)) (reach S b) (found S (reach S b)) refl h
+          (map.get S.cells (name_of a)) (reach S b) (cell_at S (reach S b)) refl h
       split false = h
 
   -- what is live after a birth was given
@@ -177,33 +179,33 @@ module _ {T : Type 0} where
       (Ref f.first l) (born_given S f.first (Shared (Here v []) l) s.given) (born_bounded S f.first
       (Shared (Here v []) l) s.given b new.0.fresh new.0.fits) new.1.fresh new.1.fits)) b
   act_bounded S (Refer o x) f s new b = if_bounded (is_known S o)
-      (unless (read_trouble S x) S (refer S o x (reach S x) (found S (reach S x)) f.first))
+      (unless (read_trouble S x) S (refer S o x (reach S x) (cell_at S (reach S x)) f.first))
       (Refused UnknownOwner, S) (unless_bounded S
-      (read_trouble S x) (refer S o x (reach S x) (found S (reach S x)) f.first) b
-      (referred_bounded S o x (reach S x) (found S (reach S x)) f.first s new b)) b
+      (read_trouble S x) (refer S o x (reach S x) (cell_at S (reach S x)) f.first) b
+      (referred_bounded S o x (reach S x) (cell_at S (reach S x)) f.first s new b)) b
   act_bounded S NewOwner f s new b = same_bounded S (act S NewOwner f).1 refl refl refl b
   act_bounded S (CloneOwner o) f s new b = cloned_bounded S o (ownership S o) b
   act_bounded S (ReleaseOwner o) f s new b = let_go_bounded S o (ownership S o) b
   act_bounded S (LeakOwner o) f s new b = b
   act_bounded S (Read x l) f s new b =
-      unless_bounded S (read_trouble S x) (read_at S l (reach S x) (contents S (reach S x))) b
-      (read_bounded S l (reach S x) (contents S (reach S x)) b)
+      unless_bounded S (read_trouble S x) (read_at S l (reach S x) (content_of (cell_at S (reach S x)))) b
+      (read_bounded S l (reach S x) (content_of (cell_at S (reach S x))) b)
   act_bounded S (Write x l) f s new b =
-      unless_bounded S (write_trouble S x) (write_at S l (reach S x) (contents S (reach S x))) b
-      (write_bounded S l (reach S x) (contents S (reach S x)) b)
+      unless_bounded S (write_trouble S x) (write_at S l (reach S x) (content_of (cell_at S (reach S x)))) b
+      (write_bounded S l (reach S x) (content_of (cell_at S (reach S x))) b)
   act_bounded S (ReleaseReader g) f s new b = if_bounded
-      (knows_reader S g) (Flag true, without_reader S g.cell g.ticket (content_at S g.cell))
+      (knows_reader S g) (Flag true, remove_reader S g.cell g.ticket (content_at S g.cell))
       (Flag false, S) (without_bounded S g.cell g.ticket (content_at S g.cell) b) b
   act_bounded S (ReleaseWriter g v) f s new b =
       if_bounded (knows_writer S g) (Done, fill S g.cell (Here v [])) (Back v, S)
       (filled_bounded S g.cell (Here v []) S.next b) b
   act_bounded S (SetValue x v) f s new b =
-      set_bounded S x v (reach S x) (contents S (reach S x)) b
+      set_bounded S x v (reach S x) (content_of (cell_at S (reach S x))) b
   act_bounded S (End x) f s new b = unless_bounded S (hindrance_to S (own_name S x))
       (Done, close S (own_name S x)) b (close_bounded S (own_name S x) b)
   act_bounded S (Point a x) f s new b = if_bounded (has_same_id a x) (Done, S)
-      (unless (read_trouble S x) S (point S a x (own_cell S a.id) (reach S x) (found S (reach S x))))
+      (unless (read_trouble S x) S (point S a x (own_cell S a.id) (reach S x) (cell_at S (reach S x))))
       b (unless_bounded S (read_trouble S x)
-      (point S a x (own_cell S a.id) (reach S x) (found S (reach S x))) b (point_bounded S a x b))
+      (point S a x (own_cell S a.id) (reach S x) (cell_at S (reach S x))) b (point_bounded S a x b))
   act_bounded S (CanRead x) f s new b = b
   act_bounded S (CanWrite x) f s new b = b

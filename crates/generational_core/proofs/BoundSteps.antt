@@ -15,7 +15,7 @@ use Rattle.generational_core.specs.Slots.{lasts, slots_of, last_name, is_last_li
 use Rattle.generational_core.specs.Slots.{is_retired, slots, free, retired, last_generation, Fits}
 use Rattle.generational_core.proofs.Maps.{by_name, by_number, name_total, key_cases, keep_view}
 use Rattle.generational_core.proofs.Maps.{get-insert_apart}
-use Rattle.generational_core.specs.Bounds.{IsBounded}
+use Rattle.generational_core.specs.Conditions.{IsBounded}
 use Rattle.generational_core.proofs.Lengths.{len_within, kept_key}
 use Rattle.generational_core.proofs.SlotBound.{slots_bounded}
 use Rattle.generational_core.proofs.Lasts.{lasts_insert, greater}

@@ -8,11 +8,12 @@ use Rattle.std.specs.FinSet as set
 use Rattle.generational_core.specs.Cells.{Cell}
 use Rattle.generational_core.proofs.Lasts.{lasts_same}
 use Rattle.generational_core.specs.Names.{name_cmp}
-use Rattle.generational_core.specs.State.{State, IsSound, fresh}
+use Rattle.generational_core.specs.State.{State, IsSound}
+use Rattle.generational_core.specs.Conditions.{fresh}
 use Rattle.generational_core.specs.Machine.{Action, Answer, Outcome}
 use Rattle.generational_core.specs.Steps.{Meets}
 use Rattle.generational_core.specs.Slots.{lasts, slots_of}
-use Rattle.generational_core.specs.Bounds.{IsBounded}
+use Rattle.generational_core.specs.Conditions.{IsBounded}
 use Rattle.generational_core.proofs.ActBounded.{act_bounded}
 use Rattle.generational_core.proofs.Stepping.{meets_cases, meets_sound}
 

@@ -14,14 +14,15 @@ use Rattle.generational_core.specs.Cells.{Content, Cell, content_of, refill}
 use Rattle.generational_core.specs.Cells.Cell.{Value, Shared, Ref}
 use Rattle.generational_core.specs.State.{State, Ownership}
 use Rattle.generational_core.specs.Boxes.{name_of, box_of}
+use Rattle.generational_core.specs.State.{content_at}
 use Rattle.generational_core.specs.Borrowing.{Trouble, Guard, fill, take_ticket, reach}
-use Rattle.generational_core.specs.Borrowing.{leads_to, not_reached, content_at, read_trouble}
+use Rattle.generational_core.specs.Borrowing.{leads_to, refusal_at, read_trouble}
 use Rattle.generational_core.specs.Borrowing.{write_trouble, read_refusal, write_refusal}
 use Rattle.generational_core.specs.Borrowing.Trouble.{Dropped}
 use Rattle.generational_core.specs.Machine.{Answer, Outcome, add_cell}
 use Rattle.generational_core.specs.Machine.Answer.{Troubled}
-use Rattle.generational_core.specs.Machine.{unless, found}
-use Rattle.generational_core.specs.Machine.{contents}
+use Rattle.generational_core.specs.Machine.{unless, cell_at}
+use Rattle.generational_core.specs.Machine.{cell_at}
 use Rattle.generational_core.specs.Machine.{next_guard}
 use Rattle.generational_core.specs.Carrying.{Carries, CarriesCells, KnowsBox}
 use Rattle.generational_core.specs.Carrying.{KnowsAnswer}
@@ -139,28 +140,28 @@ module _ {T U : Type 0} {f : Name → Name} {d : ℕ} {g : T → U}
       split false is = tt
 
   contents_moved : (m : Option Name) → IfThere m Knows
-      → contents S (option_map f m) ≡ option_map (moved_content f d g) (contents A m)
+      → content_of (cell_at S (option_map f m)) ≡ option_map (moved_content f d g) (content_of (cell_at A m))
   contents_moved None k = refl
   contents_moved (Some n) k = content_there n k
 
   found_moved : (m : Option Name)
-      → IfThere m Knows → found S (option_map f m) ≡ option_map (moved_cell f d g) (found A m)
+      → IfThere m Knows → cell_at S (option_map f m) ≡ option_map (moved_cell f d g) (cell_at A m)
   found_moved None k = refl
   found_moved (Some n) k = c.cells.at n k
 
   -- what is done by what a box reaches, and by the content or the cell that is reached
   pub with_contents : (b : GenerationalPointer)
       → KnowsBox Knows A.number b → (P : Option Name → Option (Content U) → Type 0)
-      → P (option_map f (reach A b)) (option_map (moved_content f d g) (contents A (reach A b)))
-      → P (reach S (moved_box f d A.number b)) (contents S (reach S (moved_box f d A.number b)))
-  with_contents b k P h = subst (λ to. P to (contents S to)) (sym (reach_moved b k))
+      → P (option_map f (reach A b)) (option_map (moved_content f d g) (content_of (cell_at A (reach A b))))
+      → P (reach S (moved_box f d A.number b)) (content_of (cell_at S (reach S (moved_box f d A.number b))))
+  with_contents b k P h = subst (λ to. P to (content_of (cell_at S to))) (sym (reach_moved b k))
       (subst (P (option_map f (reach A b))) (sym (contents_moved (reach A b) (reach_known b k))) h)
 
   pub with_found : (b : GenerationalPointer)
       → KnowsBox Knows A.number b → (P : Option Name → Option (Cell U) → Type 0)
-      → P (option_map f (reach A b)) (option_map (moved_cell f d g) (found A (reach A b)))
-      → P (reach S (moved_box f d A.number b)) (found S (reach S (moved_box f d A.number b)))
-  with_found b k P h = subst (λ to. P to (found S to)) (sym (reach_moved b k))
+      → P (option_map f (reach A b)) (option_map (moved_cell f d g) (cell_at A (reach A b)))
+      → P (reach S (moved_box f d A.number b)) (cell_at S (reach S (moved_box f d A.number b)))
+  with_found b k P h = subst (λ to. P to (cell_at S to)) (sym (reach_moved b k))
       (subst (P (option_map f (reach A b))) (sym (found_moved (reach A b) (reach_known b k))) h)
 
   -- a box keeps its location
@@ -182,24 +183,24 @@ module _ {T U : Type 0} {f : Name → Name} {d : ℕ} {g : T → U}
   pub read_trouble_moved : (b : GenerationalPointer)
       → KnowsBox Knows A.number b → read_trouble S (moved_box f d A.number b) ≡ read_trouble A b
   unfolding read_trouble
-  read_trouble_moved b k = (λ i. not_reached (reach_moved b k i)
+  read_trouble_moved b k = (λ i. refusal_at (reach_moved b k i)
       (created_moved b k i) (λ n. read_refusal (content_at S n))) ∙ at (reach A b) (reach_known b k)
     where
       at : (m : Option Name) → IfThere m Knows
-          → not_reached (option_map f m) b.created_at (λ n. read_refusal (content_at S n))
-          ≡ not_reached m b.created_at (λ n. read_refusal (content_at A n))
+          → refusal_at (option_map f m) b.created_at (λ n. read_refusal (content_at S n))
+          ≡ refusal_at m b.created_at (λ n. read_refusal (content_at A n))
       at None kn = refl
       at (Some n) kn = ap read_refusal (content_there n kn) ∙ read_moved f d g (content_at A n)
 
   pub write_trouble_moved : (b : GenerationalPointer)
       → KnowsBox Knows A.number b → write_trouble S (moved_box f d A.number b) ≡ write_trouble A b
   unfolding write_trouble
-  write_trouble_moved b k = (λ i. not_reached (reach_moved b k i) (created_moved b k i)
+  write_trouble_moved b k = (λ i. refusal_at (reach_moved b k i) (created_moved b k i)
       (λ n. write_refusal (content_at S n))) ∙ at (reach A b) (reach_known b k)
     where
       at : (m : Option Name) → IfThere m Knows
-          → not_reached (option_map f m) b.created_at (λ n. write_refusal (content_at S n))
-          ≡ not_reached m b.created_at (λ n. write_refusal (content_at A n))
+          → refusal_at (option_map f m) b.created_at (λ n. write_refusal (content_at S n))
+          ≡ refusal_at m b.created_at (λ n. write_refusal (content_at A n))
       at None kn = refl
       at (Some n) kn = ap write_refusal (content_there n kn) ∙ write_moved f d g (content_at A n)
 

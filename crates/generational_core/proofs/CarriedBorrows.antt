@@ -11,12 +11,12 @@ use Rattle.generational_core.specs.Names.{Name}
 use Rattle.generational_core.specs.Cells.{Content}
 use Rattle.generational_core.specs.Cells.Content.{Here, Lent}
 use Rattle.generational_core.specs.State.{State}
+use Rattle.generational_core.specs.State.{content_at}
 use Rattle.generational_core.specs.Borrowing.{Guard, fill}
-use Rattle.generational_core.specs.Borrowing.{content_at}
 use Rattle.generational_core.specs.Machine.{Fresh, act}
 use Rattle.generational_core.specs.Machine.{read_at, write_at}
 use Rattle.generational_core.specs.Machine.{knows_reader, knows_writer}
-use Rattle.generational_core.specs.Machine.{has_reader, has_writer, without_reader, set_at}
+use Rattle.generational_core.specs.Machine.{has_reader, has_writer, remove_reader, set_at}
 use Rattle.generational_core.specs.Machine.{next_borrow}
 use Rattle.generational_core.specs.Machine.Action.{ReleaseReader, ReleaseWriter}
 use Rattle.generational_core.specs.Machine.Answer.{Reads, Writes, Done, Flag, Back}
@@ -32,7 +32,7 @@ use Rattle.generational_core.proofs.Carried.{made_guard, with_content}
 use Rattle.generational_core.proofs.Carried.{next_moved}
 
 without_number : {T : Type 0} (S : State T) (n : Name) (t : ℕ) (c : Option (Content T))
-    → (without_reader S n t c).number ≡ S.number
+    → (remove_reader S n t c).number ≡ S.number
 without_number S n t None = refl
 without_number S n t (Some (Here v readers)) = refl
 without_number S n t (Some (Lent w)) = refl
@@ -130,7 +130,7 @@ module _ {T U : Type 0} {f : Name → Name} {d : ℕ} {g : T → U}
       (strange_number c guard.store strange) ∙ sym (ap mine strange))
 
   without_matched : (n : Name) (t : ℕ) (x : Option (Content T)) → Knows n → Carries f d g Knows
-      (without_reader S (f n) (t + d) (option_map (moved_content f d g) x)) (without_reader A n t x)
+      (remove_reader S (f n) (t + d) (option_map (moved_content f d g) x)) (remove_reader A n t x)
   without_matched n t None k = c
   without_matched n t (Some (Lent w)) k = c
   without_matched n t (Some (Here v readers)) k =
@@ -142,7 +142,7 @@ module _ {T U : Type 0} {f : Name → Name} {d : ℕ} {g : T → U}
       → Alike c (act S (ReleaseReader (moved_guard f d A.number guard)) (moved_fresh f new))
       (act A (ReleaseReader guard) new)
   release_reader_matched guard new k =
-      let after = without_reader A guard.cell guard.ticket (content_at A guard.cell) in
+      let after = remove_reader A guard.cell guard.ticket (content_at A guard.cell) in
       if_alike c (knows_reader_moved guard k)
       (λ known.
       let own = (and_parts (nat_eq guard.store A.number) _ known).0 in
@@ -151,9 +151,9 @@ module _ {T U : Type 0} {f : Name → Name} {d : ℕ} {g : T → U}
         same = without_number A guard.cell guard.ticket (content_at A guard.cell);
         known = tt;
         state = subst (λ (x : Guard).
-            Carries f d g Knows (without_reader S x.cell x.ticket (content_at S x.cell)) after)
+            Carries f d g Knows (remove_reader S x.cell x.ticket (content_at S x.cell)) after)
             (sym (guard_own f d A.number guard own))
-            (subst (λ x. Carries f d g Knows (without_reader S (f guard.cell) (guard.ticket + d) x)
+            (subst (λ x. Carries f d g Knows (remove_reader S (f guard.cell) (guard.ticket + d) x)
             after) (sym (content_there c guard.cell (k own)))
             (without_matched guard.cell guard.ticket (content_at A guard.cell) (k own)));
       })

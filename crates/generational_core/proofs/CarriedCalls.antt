@@ -1,4 +1,5 @@
 -- A call is answered alike where one state carries another, and the states after it carry again.
+use Rattle.generational_core.specs.Machine.{make}
 use Rattle.std.proofs.Common.{◌≡◌, ℕ, true, []}
 use Rattle.std.proofs.Common.{Option, Some, refl, sym, ap, subst}
 use Rattle.std.specs.Prelude.{is_none, option_map}
@@ -12,11 +13,12 @@ use Rattle.generational_core.specs.State.{State}
 use Rattle.generational_core.specs.Borrowing.{reach}
 use Rattle.generational_core.specs.Borrowing.{read_trouble}
 use Rattle.generational_core.specs.Borrowing.{write_trouble}
+use Rattle.generational_core.specs.Cells.{content_of}
 use Rattle.generational_core.specs.Machine.{Action, Fresh, Outcome, OwnerName, act, add_cell}
-use Rattle.generational_core.specs.Machine.{ownership, is_known, refer, found}
-use Rattle.generational_core.specs.Machine.{clone_owner, release_owner, read_at, write_at, contents, own_cell}
+use Rattle.generational_core.specs.Machine.{ownership, is_known, refer, cell_at}
+use Rattle.generational_core.specs.Machine.{clone_owner, release_owner, read_at, write_at, cell_at, own_cell}
 use Rattle.generational_core.specs.Machine.{set_at, point}
-use Rattle.generational_core.specs.Machine.{make_value, make_shared}
+use Rattle.generational_core.specs.Machine.{make_shared}
 use Rattle.generational_core.specs.Machine.Action.{Make, MakeShared, Refer, NewOwner, CloneOwner}
 use Rattle.generational_core.specs.Machine.Action.{ReleaseOwner, LeakOwner, Read, Write}
 use Rattle.generational_core.specs.Machine.Action.{ReleaseReader, ReleaseWriter, SetValue, End}
@@ -53,7 +55,7 @@ module _ {T U : Type 0} {f : Name → Name} {d : ℕ} {g : T → U}
     {Knows : Name → Type 0} {S : State U} {A : State T} (c : Carries f d g Knows S A) where
   make_matched : (o : Option OwnerName) (v : T) (l : Location) (n : Name)
       → is_known A o ≡ true → Knows n → Alike c
-      (make_value S (option_map (moved_owner f d A.number) o) (g v) l (f n)) (make_value A o v l n)
+      (make S (option_map (moved_owner f d A.number) o) (f n) (Value (Here (g v) []) l) l) (make A o n (Value (Here v []) l) l)
   make_matched o v l n ko kn = record {
     answer = ap Made (made_box c n l);
     same = listed_number (add_cell A n (Value (Here v []) l)) o n;
@@ -84,12 +86,12 @@ module _ {T U : Type 0} {f : Name → Name} {d : ℕ} {g : T → U}
   refer_matched : (o : Option OwnerName) (b : GenerationalPointer) (n : Name)
       → KnowsBox Knows A.number b → is_known A o ≡ true
       → Knows n → (let m = moved_box f d A.number b in let out : Outcome U = refer S
-      (option_map (moved_owner f d A.number) o) m (reach S m) (found S (reach S m)) (f n) in
-      Alike c out (refer A o b (reach A b) (found A (reach A b)) n))
+      (option_map (moved_owner f d A.number) o) m (reach S m) (cell_at S (reach S m)) (f n) in
+      Alike c out (refer A o b (reach A b) (cell_at A (reach A b)) n))
   refer_matched o b n k ko kn =
       with_found c b k (λ to x. Alike c (refer S (option_map (moved_owner f d A.number) o)
-      (moved_box f d A.number b) to x (f n)) (refer A o b (reach A b) (found A (reach A b)) n))
-      (referred_matched c o b (reach A b) (found A (reach A b)) n k ko (reach_known c b k) kn)
+      (moved_box f d A.number b) to x (f n)) (refer A o b (reach A b) (cell_at A (reach A b)) n))
+      (referred_matched c o b (reach A b) (cell_at A (reach A b)) n k ko (reach_known c b k) kn)
 
   -- each call of a carried state matches the call of the state that carries it
   pub act_matched : (call : Action T) (new : Fresh)
@@ -102,7 +104,7 @@ module _ {T U : Type 0} {f : Name → Name} {d : ℕ} {g : T → U}
   act_matched (Refer o b) new k kn = if_alike c (known_moved c o)
       (λ ko. unless_alike c (read_trouble_moved c b k) (refer_matched o b new.first k ko kn))
       (λ _. unknown)
-  act_matched NewOwner new k kn = new_owner_matched c
+  act_matched NewOwner new k kn = new_owner_matched c new (moved_fresh f new)
   act_matched (CloneOwner o) new k kn =
       subst (λ h. Alike c (clone_owner S (moved_owner f d A.number o) h) (clone_owner A o (ownership A o)))
       (sym (holding_moved c o)) (cloned_matched c o (ownership A o) refl)
@@ -111,25 +113,25 @@ module _ {T U : Type 0} {f : Name → Name} {d : ℕ} {g : T → U}
       (sym (holding_moved c o)) (let_go_matched c o (ownership A o) refl)
   act_matched (LeakOwner o) new k kn = stays c Done refl tt
   act_matched (Read b l) new k kn = unless_alike c (read_trouble_moved c b k) (with_contents c b k
-      (λ to x. Alike c (read_at S l to x) (read_at A l (reach A b) (contents A (reach A b))))
-      (read_at_matched c l (reach A b) (contents A (reach A b)) (reach_known c b k)))
+      (λ to x. Alike c (read_at S l to x) (read_at A l (reach A b) (content_of (cell_at A (reach A b)))))
+      (read_at_matched c l (reach A b) (content_of (cell_at A (reach A b))) (reach_known c b k)))
   act_matched (Write b l) new k kn = unless_alike c (write_trouble_moved c b k) (with_contents c b k
-      (λ to x. Alike c (write_at S l to x) (write_at A l (reach A b) (contents A (reach A b))))
-      (written_at_matched c l (reach A b) (contents A (reach A b)) (reach_known c b k)))
+      (λ to x. Alike c (write_at S l to x) (write_at A l (reach A b) (content_of (cell_at A (reach A b)))))
+      (written_at_matched c l (reach A b) (content_of (cell_at A (reach A b))) (reach_known c b k)))
   act_matched (ReleaseReader guard) new k kn = release_reader_matched c guard new k
   act_matched (ReleaseWriter guard v) new k kn = release_writer_matched c guard v new k
   act_matched (SetValue b v) new k kn = with_contents c b k
       (λ to x. Alike c (set_at S (moved_box f d A.number b) (g v) to x)
-      (set_at A b v (reach A b) (contents A (reach A b))))
-      (set_at_matched c b v (reach A b) (contents A (reach A b)) k (reach_known c b k))
+      (set_at A b v (reach A b) (content_of (cell_at A (reach A b)))))
+      (set_at_matched c b v (reach A b) (content_of (cell_at A (reach A b))) k (reach_known c b k))
   act_matched (End b) new k kn = end_matched c b new k
   act_matched (Point a b) new k kn =
       let mine = moved_box f d A.number a in
       if_alike c (same_box_moved f d c.apart A.number a b k.0 k.1) (λ _. stays c Done refl tt)
       (λ _. unless_alike c (read_trouble_moved c b k.1)
       (with_found c b k.1 (λ to x. Alike c (point S mine (moved_box f d A.number b)
-      (own_cell S mine.id) to x) (point A a b (own_cell A a.id) (reach A b) (found A (reach A b))))
-      (point_matched c a b (reach A b) (found A (reach A b)) k.0 k.1 (reach_known c b k.1))))
+      (own_cell S mine.id) to x) (point A a b (own_cell A a.id) (reach A b) (cell_at A (reach A b))))
+      (point_matched c a b (reach A b) (cell_at A (reach A b)) k.0 k.1 (reach_known c b k.1))))
   act_matched (CanRead b) new k kn = stays c
       (Flag (is_none (read_trouble A b))) (ap (λ t. Flag (is_none t)) (read_trouble_moved c b k)) tt
   act_matched (CanWrite b) new k kn = stays c (Flag (is_none (write_trouble A b)))

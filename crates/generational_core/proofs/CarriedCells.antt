@@ -13,8 +13,9 @@ use Rattle.generational_core.specs.Cells.{Content, Cell, content_of, is_shared, 
 use Rattle.generational_core.specs.Cells.Cell.{Value, Shared, Ref}
 use Rattle.generational_core.specs.State.{is_named}
 use Rattle.generational_core.specs.Borrowing.{write_refusal}
-use Rattle.generational_core.specs.Ending.{sweep, without, cells_after, hindrance_at, hindrance_of}
-use Rattle.generational_core.specs.Ending.{or_else, first_hindrance}
+use Rattle.generational_core.specs.Ending.{sweep, take_away, cells_after, hindrance_at, hindrance_of}
+use Rattle.generational_core.specs.Ending.{first_hindrance}
+use Rattle.std.specs.Option.{option_or}
 use Rattle.generational_core.specs.Carrying.{CarriesCells, moved_content, moved_cell}
 use Rattle.generational_core.proofs.Maps.{by_name, name_cases, name_here, name_apart}
 use Rattle.generational_core.proofs.Maps.{get-keep, keep_view, get-insert_name, get-changed_name}
@@ -102,8 +103,8 @@ module _ {T U : Type 0} {f : Name → Name} {d : ℕ} {g : T → U} {Knows : Nam
     cells_swept = cells_keep _ _ (λ k kk i. not (shared_at k kk i) || named_moved k kk i)
 
     cells_without : (names : List Name) → AllByRecursion Knows names
-        → CarriesCells f d g Knows (without S (list_map f names)) (without A names)
-    unfolding without
+        → CarriesCells f d g Knows (take_away S (list_map f names)) (take_away A names)
+    unfolding take_away
     cells_without names h =
         cells_keep _ _ (λ k kk i. shared_at k kk i || not (among_moved apart names k h kk i))
 
@@ -189,4 +190,4 @@ module _ {T U : Type 0} {f : Name → Name} {d : ℕ} {g : T → U} {Knows : Nam
     first_moved (n ∷ names) h =
         let own = ap (λ x. hindrance_of S L x (f n)) (c.at n h.0)
         ∙ hindrance_of_moved (map.get A n) n h.0 (c.leads n) in
-        λ i. or_else (own i) (first_moved names h.1 i)
+        λ i. option_or (own i) (first_moved names h.1 i)

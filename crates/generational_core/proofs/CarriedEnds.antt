@@ -1,4 +1,6 @@
 -- References and ends, where one state carries another.
+use Rattle.generational_core.specs.Cells.{location_of}
+use Rattle.std.proofs.Common.{unwrap_or}
 use Rattle.std.proofs.Common.{◌≡◌, ℕ, Bool, true, false, cond, ◌&&◌, List, []}
 use Rattle.std.proofs.Common.{◌∷◌, Option, None, Some, refl, sym, ap, subst, ◌∙◌}
 use Rattle.std.specs.Prelude.{nat_eq, option_map, map as list_map}
@@ -18,7 +20,7 @@ use Rattle.generational_core.specs.Ending.{sweep, close, hindrance_to}
 use Rattle.generational_core.specs.Machine.{Fresh, OwnerName, act, add_cell}
 use Rattle.generational_core.specs.Machine.{is_known, unless, refer}
 use Rattle.generational_core.specs.Machine.{own_cell}
-use Rattle.generational_core.specs.Machine.{own_name, created_at}
+use Rattle.generational_core.specs.Machine.{own_name}
 use Rattle.generational_core.specs.Machine.{point}
 use Rattle.generational_core.specs.Machine.{turn}
 use Rattle.generational_core.specs.Machine.Action.{End}
@@ -143,7 +145,8 @@ module _ {T U : Type 0} {f : Name → Name} {d : ℕ} {g : T → U}
       if_alike c (same_test c.apart old new ko kn) (λ _. stays c Done refl tt) (λ _. turn)
 
   created_at_moved : (b : GenerationalPointer) (x : Option (Cell T)) → KnowsBox Knows A.number b
-      → created_at (option_map (moved_cell f d g) x) (moved_box f d A.number b) ≡ created_at x b
+      → unwrap_or (location_of (option_map (moved_cell f d g) x)) (moved_box f d A.number b).created_at
+      ≡ unwrap_or (location_of x) b.created_at
   created_at_moved b None k = created_moved c b k
   created_at_moved b (Some (Value y l)) k = refl
   created_at_moved b (Some (Shared y l)) k = refl
@@ -153,10 +156,10 @@ module _ {T U : Type 0} {f : Name → Name} {d : ℕ} {g : T → U}
   no_target : (b : GenerationalPointer) (x : Option (Cell T))
       → KnowsBox Knows A.number b → Alike c (
         Troubled
-            (Dropped (created_at (option_map (moved_cell f d g) x) (moved_box f d A.number b))),
+            (Dropped (unwrap_or (location_of (option_map (moved_cell f d g) x)) (moved_box f d A.number b).created_at)),
         S,
-      ) (Troubled (Dropped (created_at x b)), A)
-  no_target b x k = stays c (Troubled (Dropped (created_at x b)))
+      ) (Troubled (Dropped (unwrap_or (location_of x) b.created_at)), A)
+  no_target b x k = stays c (Troubled (Dropped (unwrap_or (location_of x) b.created_at)))
       (ap (λ l. Troubled (Dropped l)) (created_at_moved b x k)) tt
 
   -- a's cell, whose box is of this store

@@ -1,4 +1,7 @@
 -- Owners, where one state carries another.
+use Rattle.generational_core.specs.Machine.{NewOwner}
+use Rattle.generational_core.specs.Machine.{act}
+use Rattle.generational_core.specs.Machine.{Fresh}
 use Rattle.std.proofs.Common.{◌≡◌, arith, ℕ, ◌+◌, ◌-◌, Bool, true, false, cond, List, []}
 use Rattle.std.proofs.Common.{◌∷◌, ◌++◌, Option, None, Some, refl, sym, ap, subst, ◌∙◌}
 use Rattle.std.proofs.Common.{⊎_elim}
@@ -14,7 +17,7 @@ use Rattle.generational_core.specs.Ending.{close, hindrance_to}
 use Rattle.generational_core.specs.Machine.{OwnerName}
 use Rattle.generational_core.specs.Machine.{ownership, is_known, add_to_list}
 use Rattle.generational_core.specs.Machine.{clone_owner, release_owner}
-use Rattle.generational_core.specs.Machine.{new_owner, set_ownership}
+use Rattle.generational_core.specs.Machine.{set_ownership}
 use Rattle.generational_core.specs.Machine.Answer.{Owned, Done}
 use Rattle.generational_core.specs.Machine.Answer.{Refused}
 use Rattle.generational_core.specs.Carrying.{Carries}
@@ -156,8 +159,8 @@ module _ {T U : Type 0} {f : Name → Name} {d : ℕ} {g : T → U}
       ∙ sym (ap (λ t. cond t (own_owner d A.number mine) mine) (nat_eq_equiv.refl A.number))
 
   -- a new owner, a clone of one, and one that is let go
-  pub new_owner_matched : Alike c (new_owner S) (new_owner A)
-  new_owner_matched =
+  pub new_owner_matched : (k h : Fresh) → Alike c (act S NewOwner k) (act A NewOwner h)
+  new_owner_matched k h =
       let first : Ownership = record { names = []; count = 1 } in
       record {
         answer = ap Owned made_owner;

@@ -1,4 +1,7 @@
 -- New names can always be chosen, and a call that is refused is refused with whichever names.
+use Rattle.generational_core.specs.Cells.{Here}
+use Rattle.generational_core.specs.Cells.{Value}
+use Rattle.generational_core.specs.Machine.{make}
 use Rattle.std.proofs.Common.{◌≡◌, ◌≢◌, ℕ, ◌+◌, ◌≤◌, ◌<◌, Bool, true, false, cond, List, [], ◌∷◌}
 use Rattle.std.proofs.Common.{Option, None, Some, refl, sym, ap, subst, ◌∙◌, inl, inr, ⊎_elim}
 use Rattle.std.proofs.Common.{arith}
@@ -17,7 +20,7 @@ use Rattle.generational_core.specs.Cells.Cell.{Shared}
 use Rattle.generational_core.specs.State.{State}
 use Rattle.generational_core.specs.Borrowing.{Trouble, reach, read_trouble}
 use Rattle.generational_core.specs.Machine.{Action, Answer, Fresh, Outcome, OwnerName, act, unless}
-use Rattle.generational_core.specs.Machine.{is_known, refer, found, make_value, make_shared}
+use Rattle.generational_core.specs.Machine.{is_known, refer, cell_at, make_shared}
 use Rattle.generational_core.specs.Machine.Action.{Make, MakeShared, Refer}
 use Rattle.generational_core.specs.Machine.Answer.{Refused}
 use Rattle.generational_core.specs.Steps.{AreNew, Takes, Meets, takes_ticket, last_ticket}
@@ -86,13 +89,13 @@ module _ {T : Type 0} where
   -- a call that is refused doesn't depend on the names
   unnamed : (S : State T) (call : Action T) (f h : Fresh)
       → is_refusal (act S call f).0 ≡ true → act S call f ≡ act S call h
-  unnamed S (Make o v l) f h k = unnamed_if (is_known S o) (make_value S o v l f.first)
-      (make_value S o v l h.first) _ (λ e. absurd (true≢false (sym e))) k
+  unnamed S (Make o v l) f h k = unnamed_if (is_known S o) (make S o f.first (Value (Here v []) l) l)
+      (make S o h.first (Value (Here v []) l) l) _ (λ e. absurd (true≢false (sym e))) k
   unnamed S (MakeShared o v l) f h k = unnamed_if (is_known S o)
       (make_shared S o v l f) (make_shared S o v l h) _ (λ e. absurd (true≢false (sym e))) k
   unnamed S (Refer o b) f h k =
       unnamed_if (is_known S o) _ _ _ (unnamed_unless S (read_trouble S b) _ _
-      (unnamed_referred S o b (reach S b) (found S (reach S b)) f.first h.first)) k
+      (unnamed_referred S o b (reach S b) (cell_at S (reach S b)) f.first h.first)) k
   unnamed S _ f h k = refl
 
   -- a call wants memory or tickets, or does what the machine does with names that were never given

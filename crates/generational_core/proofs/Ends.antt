@@ -9,9 +9,10 @@ use Rattle.generational_core.specs.declared.error.Location.{Location}
 use Rattle.generational_core.specs.Names.{Name, among, NameMap}
 use Rattle.generational_core.specs.Cells.{Cell, content_of, is_shared}
 use Rattle.generational_core.specs.Cells.Cell.{Ref}
-use Rattle.generational_core.specs.State.{IsNamed, is_named}
+use Rattle.generational_core.specs.State.{is_named}
+use Rattle.generational_core.specs.Conditions.{IsNamed}
 use Rattle.generational_core.specs.State.{tickets_of, tickets_at, Stands}
-use Rattle.generational_core.specs.Ending.{sweep, without}
+use Rattle.generational_core.specs.Ending.{sweep, take_away}
 use Rattle.generational_core.proofs.Maps.{by_name, name_cases, get-insert_here}
 use Rattle.generational_core.proofs.Maps.{get-insert_apart, keep_view}
 use Rattle.generational_core.proofs.Named.{named_gives, named_from}
@@ -52,9 +53,9 @@ module _ {T : Type 0} where
 
   -- what is taken away wasn't Shared
   pub without_view : (cells : NameMap (Cell T)) (names : List Name) (n : Name)
-      → (map.get (without cells names) n ≡ map.get cells n)
-      ⊎ ((map.get (without cells names) n ≡ None) × (is_shared (map.get cells n) ≡ false))
-  unfolding without
+      → (map.get (take_away cells names) n ≡ map.get cells n)
+      ⊎ ((map.get (take_away cells names) n ≡ None) × (is_shared (map.get cells n) ≡ false))
+  unfolding take_away
   without_view cells names n = ⊎_elim (λ h. inl h.0)
       (λ h. inr (h.0, (or_parts (is_shared (map.get cells n)) (not (among names n)) h.1).0))
       (keep_view by_name cells (λ n. is_shared (map.get cells n) || not (among names n)) n)
@@ -89,7 +90,7 @@ module _ {T : Type 0} where
 
   -- where names end, each Ref names a Shared cell still
   pub without_targets : (cells : NameMap (Cell T)) (names : List Name)
-      → HasTargets cells → HasTargets (without cells names)
+      → HasTargets cells → HasTargets (take_away cells names)
   without_targets cells names t n m l h =
       ⊎_elim
       (λ e. let s = t n m l (sym e ∙ h) in ⊎_elim (λ k. ap is_shared k ∙ s)
@@ -110,7 +111,7 @@ module _ {T : Type 0} where
       (λ e. inr (none_tickets _ e.0)) (swept_view cells n)
 
   pub without_tickets : (cells : NameMap (Cell T)) (names : List Name)
-      → NoNewTickets cells (without cells names)
+      → NoNewTickets cells (take_away cells names)
   without_tickets cells names n = ⊎_elim (λ e. inl (ap (λ x. tickets_of (content_of x)) e))
       (λ e. inr (none_tickets _ e.0)) (without_view cells names n)
 

@@ -12,7 +12,7 @@ use Rattle.std.specs.FinMap.Entries.{find-where_key, is_sorted-where_key}
 use Rattle.generational_core.specs.Names.{Name, name_cmp, NameMap, among, change, change_if}
 use Rattle.generational_core.specs.Cells.{Cell, is_shared, refers_to}
 use Rattle.generational_core.specs.State.{is_named}
-use Rattle.generational_core.specs.Ending.{sweep, without}
+use Rattle.generational_core.specs.Ending.{sweep, take_away}
 use Rattle.generational_core.proofs.Maps.{IsKeyOrder, by_name, by_number, get-keep}
 
 module _ {K X : Type 0} {R : K → K → Ordering} (o : IsKeyOrder R) where
@@ -160,9 +160,9 @@ module _ {T : Type 0} (es : List (Name × Cell T)) (h : is_sorted name_cmp es �
       ∙ ap (λ xs. map.from_sorted (filter (λ e. not (shared_in xs e.0) || named_in xs e.0) xs))
       (there by_name es h)
 
-  pub without_there : (names : List Name) → without cells names
+  pub without_there : (names : List Name) → take_away cells names
       ≡ map.from_sorted (filter (λ e. shared_in es e.0 || not (among names e.0)) es)
-  unfolding without
+  unfolding take_away
   without_there names =
       kept by_name cells (λ n. is_shared (map.get cells n) || not (among names n))
       ∙ (λ i. map.from_sorted (filter (λ e. is_shared (map.get-entries cells e.0 i)

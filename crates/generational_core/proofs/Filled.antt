@@ -10,7 +10,8 @@ use Rattle.generational_core.specs.Cells.{Content, Cell, content_of, refill, is_
 use Rattle.generational_core.specs.Cells.Cell.{Value, Shared, Ref}
 use Rattle.generational_core.specs.State.{State, IsSound}
 use Rattle.generational_core.specs.State.{tickets_of, tickets_at}
-use Rattle.generational_core.specs.Borrowing.{fill, content_at}
+use Rattle.generational_core.specs.State.{content_at}
+use Rattle.generational_core.specs.Borrowing.{fill}
 use Rattle.generational_core.proofs.Maps.{by_name}
 use Rattle.generational_core.proofs.Maps.{changed_view}
 use Rattle.generational_core.proofs.Soundness.{each_boxed}

@@ -12,13 +12,14 @@ use Rattle.generational_core.specs.Names.{Name, is_name, NameMap}
 use Rattle.generational_core.specs.Cells.{Content, Cell, refill}
 use Rattle.generational_core.specs.Cells.Content.{Here}
 use Rattle.generational_core.specs.Cells.Cell.{Shared, Ref}
-use Rattle.generational_core.specs.State.{State, Ownership, IsGiven, IsEnded}
+use Rattle.generational_core.specs.State.{State, Ownership, IsGiven}
+use Rattle.generational_core.specs.Conditions.{IsEnded}
 use Rattle.generational_core.specs.Boxes.{name_of}
 use Rattle.generational_core.specs.Borrowing.{Trouble, fill, reach}
-use Rattle.generational_core.specs.Ending.{sweep, without, close}
+use Rattle.generational_core.specs.Ending.{sweep, take_away, close}
 use Rattle.generational_core.specs.Machine.{Action, Fresh, Outcome, OwnerName, act, add_cell, add_to_list}
-use Rattle.generational_core.specs.Machine.{unless, refer, found, clone_owner, release_owner, read_at}
-use Rattle.generational_core.specs.Machine.{write_at, own_cell, ownership, without_reader, set_at}
+use Rattle.generational_core.specs.Machine.{unless, refer, cell_at, clone_owner, release_owner, read_at}
+use Rattle.generational_core.specs.Machine.{write_at, own_cell, ownership, remove_reader, set_at}
 use Rattle.generational_core.specs.Machine.{point, turn}
 use Rattle.generational_core.specs.Machine.Action.{Make, MakeShared, Refer, NewOwner, CloneOwner}
 use Rattle.generational_core.specs.Machine.Action.{ReleaseOwner, LeakOwner, Read, Write}
@@ -117,8 +118,8 @@ module _ {T : Type 0} where
   swept_none m n h = kept_none m _ n h
 
   without_none : (m : NameMap (Cell T)) (names : List Name) (n : Name)
-      → map.get m n ≡ None → map.get (without m names) n ≡ None
-  unfolding without
+      → map.get m n ≡ None → map.get (take_away m names) n ≡ None
+  unfolding take_away
   without_none m names n h = kept_none m _ n h
 
   follows_close : (S : State T) (names : List Name) → Follows S (close S names)
@@ -144,11 +145,11 @@ module _ {T : Type 0} where
   follows_pointed S a b (Some _) to target h = follows_same S
 
   follows_point : (S : State T) (a b : GenerationalPointer)
-      → Follows S (point S a b (own_cell S a.id) (reach S b) (found S (reach S b))).1
+      → Follows S (point S a b (own_cell S a.id) (reach S b) (cell_at S (reach S b))).1
   follows_point S a b = split (nat_eq a.id.store S.number)
     where
       split : (own : Bool) → Follows S (point S a b
-          (cond own (map.get S.cells (name_of a)) None) (reach S b) (found S (reach S b))).1
+          (cond own (map.get S.cells (name_of a)) None) (reach S b) (cell_at S (reach S b))).1
       split true = follows_pointed S a b (map.get S.cells (name_of a)) _ _ refl
       split false = follows_same S
 
@@ -188,7 +189,7 @@ module _ {T : Type 0} where
   follows_write S l m c = follows_same S
 
   follows_without : (S : State T) (n : Name) (t : ℕ) (c : Option (Content T))
-      → Follows S (without_reader S n t c)
+      → Follows S (remove_reader S n t c)
   follows_without S n t (Some (Here v readers)) = follows_filled S n _ S.next (omega arith)
   follows_without S n t c = follows_same S
 

@@ -8,9 +8,11 @@ use Rattle.generational_core.specs.declared.error.Location.{Location}
 use Rattle.generational_core.specs.Names.{Name, NameMap, among}
 use Rattle.generational_core.specs.Cells.{Cell, content_of, is_shared}
 use Rattle.generational_core.specs.Cells.Cell.{Value, Shared, Ref}
-use Rattle.generational_core.specs.State.{State, IsSound, IsNamed}
+use Rattle.generational_core.specs.State.{State, IsSound}
+use Rattle.generational_core.specs.Conditions.{IsNamed}
 use Rattle.generational_core.specs.Borrowing.{Trouble, write_refusal}
-use Rattle.generational_core.specs.Ending.{sweep, without, cells_after, close, or_else, hindrance_at}
+use Rattle.generational_core.specs.Ending.{sweep, take_away, cells_after, close, hindrance_at}
+use Rattle.std.specs.Option.{option_or}
 use Rattle.generational_core.specs.Ending.{hindrance_of, first_hindrance, hindrance_to}
 use Rattle.generational_core.proofs.Maps.{by_name, name_cases, name_same}
 use Rattle.generational_core.proofs.Maps.{get-insert_apart, keep_view}
@@ -34,7 +36,7 @@ module _ {T : Type 0} where
       (λ k. hindrance_of cells left (map.get cells k) k ≡ None) (sym (name_same n m e)) both.0)
       (λ e. none_hindered cells left names both.1 n e) (or_cases _ _ at)
     where
-      parts : (a b : Option Trouble) → or_else a b ≡ None → (a ≡ None) × (b ≡ None)
+      parts : (a b : Option Trouble) → option_or a b ≡ None → (a ≡ None) × (b ≡ None)
       parts None b h = (refl, h)
       parts (Some t) b h = absurd (none≢some _ t h refl)
 
@@ -46,9 +48,9 @@ module _ {T : Type 0} where
 
   -- what goes with some names, but for Shared cells, is among them
   without_among : (cells : NameMap (Cell T)) (names : List Name) (n : Name)
-      → map.get (without cells names) n ≡ None
+      → map.get (take_away cells names) n ≡ None
       → is_some (map.get cells n) ≡ true → among names n ≡ true
-  unfolding without
+  unfolding take_away
   without_among cells names n gone live =
       ⊎_elim (λ h. absurd (true≢false (sym live ∙ ap is_some (sym h.0 ∙ gone))))
       (λ h. not-false _ (or_parts (is_shared (map.get cells n)) (not (among names n)) h.1).1)
@@ -73,7 +75,7 @@ module _ {T : Type 0} where
   shared_named : (cells : NameMap (Cell T)) (names : List Name) (m n : Name) (l : Location)
       → first_hindrance cells (cells_after cells names) names ≡ None
       → map.get cells m ≡ Some (Ref n l) → map.get (cells_after cells names) n ≡ None
-      → IsBorrowed (map.get cells n) → map.get (without cells names) m ≡ Some (Ref n l)
+      → IsBorrowed (map.get cells n) → map.get (take_away cells names) m ≡ Some (Ref n l)
   shared_named cells names m n l free at_m gone borrowed =
       ⊎_elim (λ e. e ∙ at_m)
       (λ e.
@@ -100,11 +102,11 @@ module _ {T : Type 0} where
       (λ e. ⊎_elim
       (λ k.
       let it = named_gives S.cells n (s.shared n (ap is_shared (sym k) ∙ e.1)) in
-      let named : IsNamed (without S.cells names) n =
+      let named : IsNamed (take_away S.cells names) n =
       (it.0, it.1, shared_named S.cells names it.0 n it.1 free it.2 e.0 borrowed) in
-      absurd (true≢false (sym (named_from (without S.cells names) n named) ∙ e.2)))
+      absurd (true≢false (sym (named_from (take_away S.cells names) n named) ∙ e.2)))
       (λ k. absurd (true≢false (sym e.1 ∙ ap is_shared k.0))) (without_view S.cells names n))
-      (swept_view (without S.cells names) n)
+      (swept_view (take_away S.cells names) n)
 
   -- an end that nothing hinders leaves each borrowed cell as it was
   pub borrowed_left : (S : State T) (names : List Name)

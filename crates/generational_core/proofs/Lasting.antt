@@ -12,12 +12,14 @@ use Rattle.std.specs.FinMap as map
 use Rattle.generational_core.specs.declared.boxes.GenerationalPointer.{GenerationalPointer}
 use Rattle.generational_core.specs.Names.{Name, name_cmp}
 use Rattle.generational_core.specs.Cells.{is_shared, content_of}
-use Rattle.generational_core.specs.State.{State, Ownership, IsSound, IsNamed, IsEnded, fresh}
+use Rattle.generational_core.specs.State.{State, Ownership, IsSound}
+use Rattle.generational_core.specs.Conditions.{IsNamed, IsEnded, fresh}
 use Rattle.generational_core.specs.State.{tickets_of}
 use Rattle.generational_core.specs.Boxes.{name_of}
+use Rattle.generational_core.specs.State.{content_at}
 use Rattle.generational_core.specs.Borrowing.{read_trouble, write_trouble, reach, leads_to}
-use Rattle.generational_core.specs.Borrowing.{not_reached}
-use Rattle.generational_core.specs.Borrowing.{read_refusal, write_refusal, content_at}
+use Rattle.generational_core.specs.Borrowing.{refusal_at}
+use Rattle.generational_core.specs.Borrowing.{read_refusal, write_refusal}
 use Rattle.generational_core.specs.Borrowing.Trouble.{Dropped}
 use Rattle.generational_core.proofs.Ends.{none≢some}
 
@@ -60,13 +62,13 @@ module _ {T : Type 0} where
       → IsEnded S (name_of b) → read_trouble S b ≡ Some (Dropped b.created_at)
   unfolding read_trouble
   ended_read S b e = ap
-      (λ to. not_reached to b.created_at (λ n. read_refusal (content_at S n))) (ended_reach S b e)
+      (λ to. refusal_at to b.created_at (λ n. read_refusal (content_at S n))) (ended_reach S b e)
 
   pub ended_write : (S : State T) (b : GenerationalPointer)
       → IsEnded S (name_of b) → write_trouble S b ≡ Some (Dropped b.created_at)
   unfolding write_trouble
   ended_write S b e = ap
-      (λ to. not_reached to b.created_at (λ n. write_refusal (content_at S n))) (ended_reach S b e)
+      (λ to. refusal_at to b.created_at (λ n. write_refusal (content_at S n))) (ended_reach S b e)
 
   -- a Shared cell is live exactly while a live Ref names it
   pub named_shared : (S : State T)

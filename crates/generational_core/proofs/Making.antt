@@ -1,4 +1,5 @@
 -- What a making leaves: it is refused, or gives a box and the names that it took.
+use Rattle.generational_core.specs.Machine.{make}
 use Rattle.std.proofs.Common.{◌≡◌, Bool, true, false, cond, [], Option, None, Some, refl, inl}
 use Rattle.std.proofs.Common.{inr}
 use Rattle.std.specs.Prelude.{◌⊎◌}
@@ -14,7 +15,7 @@ use Rattle.generational_core.specs.State.{State}
 use Rattle.generational_core.specs.Boxes.{box_of}
 use Rattle.generational_core.specs.Borrowing.{Trouble, reach, read_trouble}
 use Rattle.generational_core.specs.Machine.{Fresh, Outcome, OwnerName, act, add_cell, add_to_list}
-use Rattle.generational_core.specs.Machine.{unless, is_known, refer, found, make_value}
+use Rattle.generational_core.specs.Machine.{unless, is_known, refer, cell_at}
 use Rattle.generational_core.specs.Machine.{make_shared}
 use Rattle.generational_core.specs.Machine.Action.{Make, MakeShared, Refer}
 use Rattle.generational_core.specs.Machine.Answer.{Made, Refused}
@@ -50,7 +51,7 @@ module _ {T : Type 0} where
   made_value S o v l new =
       let made = listed_given (add_cell S new.first (Value (Here v []) l)) o new.first in
       made_if S (set.insert S.given new.first)
-      (is_known S o) (make_value S o v l new.first) (inr (box_of S.number new.first l, refl, made))
+      (is_known S o) (make S o new.first (Value (Here v []) l) l) (inr (box_of S.number new.first l, refl, made))
 
   -- a shared value
   pub made_shared : (S : State T) (o : Option OwnerName) (v : T) (l : Location) (new : Fresh)
@@ -73,6 +74,6 @@ module _ {T : Type 0} where
   pub made_reference : (S : State T) (o : Option OwnerName) (b : GenerationalPointer) (new : Fresh)
       → MadeOrRefused S (set.insert S.given new.first) (act S (Refer o b) new)
   made_reference S o b new =
-      let out = refer S o b (reach S b) (found S (reach S b)) new.first in
+      let out = refer S o b (reach S b) (cell_at S (reach S b)) new.first in
       made_if S _ (is_known S o) (unless (read_trouble S b) S out) (made_unless S _
-      (read_trouble S b) out (made_referred S o b (reach S b) (found S (reach S b)) new.first))
+      (read_trouble S b) out (made_referred S o b (reach S b) (cell_at S (reach S b)) new.first))

@@ -10,7 +10,8 @@ use Rattle.generational_core.specs.declared.error.Location.{Location}
 use Rattle.generational_core.specs.Names.{Name, name_cmp, NameMap}
 use Rattle.generational_core.specs.Cells.{Cell, refers_to}
 use Rattle.generational_core.specs.Cells.Cell.{Value, Shared, Ref}
-use Rattle.generational_core.specs.State.{is_named, IsNamed}
+use Rattle.generational_core.specs.State.{is_named}
+use Rattle.generational_core.specs.Conditions.{IsNamed}
 use Rattle.generational_core.proofs.Maps.{by_name, name_here, name_same, key_same}
 
 -- some element of a list passes

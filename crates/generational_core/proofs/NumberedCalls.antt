@@ -14,7 +14,8 @@ use Rattle.generational_core.specs.declared.error.StoreError.{StoreError}
 use Rattle.generational_core.specs.declared.calls.Call.{Call}
 use Rattle.generational_core.specs.declared.calls.Call.TheVariants as call
 use Rattle.generational_core.specs.Names.{Name, name_cmp}
-use Rattle.generational_core.specs.State.{State, IsSound, IsFresh, fresh}
+use Rattle.generational_core.specs.State.{State, IsSound}
+use Rattle.generational_core.specs.Conditions.{IsFresh, fresh}
 use Rattle.generational_core.specs.Machine.{Action, Answer, Fresh, act}
 use Rattle.generational_core.specs.Machine.Action.{Make, MakeShared, Refer, NewOwner, CloneOwner}
 use Rattle.generational_core.specs.Machine.Action.{ReleaseOwner, LeakOwner, Read, Write}

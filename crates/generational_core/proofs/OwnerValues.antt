@@ -1,4 +1,5 @@
 -- How many owner values each call of the machine gives and spends, beside what the records count.
+use Rattle.generational_core.specs.Machine.{make}
 use Rattle.std.proofs.Common.{◌≡◌, ◌≢◌, ℕ, ◌+◌, ◌-◌, ◌≤◌, Bool, true, false, cond, []}
 use Rattle.std.proofs.Common.{Option, None, Some, refl, sym, ap, subst, ◌∙◌, inl, inr, ⊎_elim}
 use Rattle.std.proofs.Common.{arith}
@@ -16,14 +17,15 @@ use Rattle.generational_core.specs.Cells.Content.{Here}
 use Rattle.generational_core.specs.Cells.Cell.{Value, Shared, Ref}
 use Rattle.generational_core.specs.State.{State, Ownership, IsSound}
 use Rattle.generational_core.specs.Boxes.{name_of, has_same_id}
+use Rattle.generational_core.specs.State.{content_at}
 use Rattle.generational_core.specs.Borrowing.{Trouble, read_trouble, write_trouble, reach}
-use Rattle.generational_core.specs.Borrowing.{content_at}
 use Rattle.generational_core.specs.Ending.{close, hindrance_to, hindrance_at, sweep}
 use Rattle.generational_core.specs.Records.{count_in, count_under}
+use Rattle.generational_core.specs.Cells.{content_of}
 use Rattle.generational_core.specs.Machine.{Action, Answer, Fresh, Outcome, OwnerName, act, unless}
-use Rattle.generational_core.specs.Machine.{add_cell, add_to_list, make_value, make_shared, refer, found}
-use Rattle.generational_core.specs.Machine.{contents, is_known, ownership, clone_owner, release_owner, set_ownership}
-use Rattle.generational_core.specs.Machine.{read_at, write_at, without_reader, set_at, own_cell}
+use Rattle.generational_core.specs.Machine.{add_cell, add_to_list, make_shared, refer, cell_at}
+use Rattle.generational_core.specs.Machine.{cell_at, is_known, ownership, clone_owner, release_owner, set_ownership}
+use Rattle.generational_core.specs.Machine.{read_at, write_at, remove_reader, set_at, own_cell}
 use Rattle.generational_core.specs.Machine.{own_name, point, turn}
 use Rattle.generational_core.specs.Machine.Action.{Make, MakeShared, Refer, NewOwner, CloneOwner}
 use Rattle.generational_core.specs.Machine.Action.{ReleaseOwner, LeakOwner, Read, Write}
@@ -259,7 +261,7 @@ module _ {T : Type 0} where
   counts_set S call b v m c = quiet S S call (Back v) (λ key. refl, λ o e. cc) refl
 
   unread_owners : (S : State T) (n : Name) (t : ℕ) (c : Option (Content T))
-      → (without_reader S n t c).owners ≡ S.owners
+      → (remove_reader S n t c).owners ≡ S.owners
   unread_owners S n t (Some (Here v readers)) = refl
   unread_owners S n t c = refl
 
@@ -286,7 +288,7 @@ module _ {T : Type 0} where
   pub act_counts : (S : State T) (call : Action T) (f : Fresh) → IsSound S
       → Counts S call (act S call f)
   act_counts S (Make o v l) f sound = counts_if S (Make o v l) (is_known S o)
-      (make_value S o v l f.first) _ (making S (add_cell S f.first (Value (Here v []) l))
+      (make S o f.first (Value (Here v []) l) l) _ (making S (add_cell S f.first (Value (Here v []) l))
       (Make o v l) _ o f.first refl) (refused S (Make o v l) _ refl)
   act_counts S (MakeShared o v l) f sound =
       let shared = add_cell S f.first (Shared (Here v []) l) in
@@ -295,16 +297,16 @@ module _ {T : Type 0} where
       (refused S (MakeShared o v l) _ refl)
   act_counts S (Refer o b) f sound = counts_if S (Refer o b) (is_known S o) _ _
       (counts_unless S (Refer o b) (read_trouble S b) _
-      (counts_referred S (Refer o b) o b (reach S b) (found S (reach S b)) f.first))
+      (counts_referred S (Refer o b) o b (reach S b) (cell_at S (reach S b)) f.first))
       (refused S (Refer o b) _ refl)
   act_counts S NewOwner f sound = counts_new S f sound
   act_counts S (CloneOwner o) f sound = counts_cloned S o (ownership S o) refl
   act_counts S (ReleaseOwner o) f sound = counts_released S o (ownership S o) refl
   act_counts S (LeakOwner o) f sound = quiet S S (LeakOwner o) Done done_none refl
   act_counts S (Read b l) f sound = counts_unless S (Read b l) (read_trouble S b) _
-      (counts_read S (Read b l) l (reach S b) (contents S (reach S b)))
+      (counts_read S (Read b l) l (reach S b) (content_of (cell_at S (reach S b))))
   act_counts S (Write b l) f sound = counts_unless S (Write b l) (write_trouble S b) _
-      (counts_write S (Write b l) l (reach S b) (contents S (reach S b)))
+      (counts_write S (Write b l) l (reach S b) (content_of (cell_at S (reach S b))))
   act_counts S (ReleaseReader g) f sound = counts_if S (ReleaseReader g) _ _ _
       (quiet S _ (ReleaseReader g) (Flag true) (λ key. refl, λ o e. cc)
       (unread_owners S g.cell g.ticket (content_at S g.cell)))
@@ -313,12 +315,12 @@ module _ {T : Type 0} where
       (quiet S _ (ReleaseWriter g v) Done done_none refl)
       (quiet S S (ReleaseWriter g v) (Back v) (λ key. refl, λ o e. cc) refl)
   act_counts S (SetValue b v) f sound =
-      counts_set S (SetValue b v) b v (reach S b) (contents S (reach S b))
+      counts_set S (SetValue b v) b v (reach S b) (content_of (cell_at S (reach S b)))
   act_counts S (End b) f sound = counts_unless S (End b) (hindrance_to S (own_name S b)) _
       (quiet S (close S (own_name S b)) (End b) Done done_none refl)
   act_counts S (Point a b) f sound = counts_if S (Point a b) (has_same_id a b) (Done, S) _
       (quiet S S (Point a b) Done done_none refl) (counts_unless S (Point a b) (read_trouble S b) _
-      (counts_pointed S (Point a b) a b (own_cell S a.id) (reach S b) (found S (reach S b))))
+      (counts_pointed S (Point a b) a b (own_cell S a.id) (reach S b) (cell_at S (reach S b))))
   act_counts S (CanRead b) f sound = quiet S S (CanRead b) (Flag _) (λ key. refl, λ o e. cc) refl
   act_counts S (CanWrite b) f sound = quiet S S (CanWrite b) (Flag _) (λ key. refl, λ o e. cc) refl
 

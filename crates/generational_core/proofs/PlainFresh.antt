@@ -3,7 +3,8 @@ use Rattle.std.proofs.Common.{◌≡◌, ℕ, sym, ap, ◌∙◌}
 use Rattle.std.specs.Prelude.{option_map}
 use Rattle.std.specs.FinMap as map
 use Rattle.generational_core.specs.Names.{name_cmp}
-use Rattle.generational_core.specs.State.{State, fresh}
+use Rattle.generational_core.specs.State.{State}
+use Rattle.generational_core.specs.Conditions.{fresh}
 use Rattle.generational_core.specs.History.{plain}
 use Rattle.generational_core.proofs.Maps.{name_total, name_exact}
 use Rattle.generational_core.proofs.Plain.{carries_plain}

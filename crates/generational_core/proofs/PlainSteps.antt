@@ -1,5 +1,7 @@
 -- Each call of a store is one of the store without values, whichever names it takes and whatever
 -- memory lacks.
+use Rattle.generational_core.specs.Steps.{needs_memory}
+use Rattle.generational_core.specs.Borrowing.{write_refusal}
 use Rattle.std.proofs.Common.{◌≡◌, ℕ, Bool, true, false, cond, not, ◌&&◌, [], ◌∷◌}
 use Rattle.std.proofs.Common.{Option, None, Some, refl, sym, ap, subst, ◌∙◌, inl, inr}
 use Rattle.std.specs.Prelude.{is_some, nat_eq, nat_lt, option_map}
@@ -13,7 +15,8 @@ use Rattle.generational_core.specs.Cells.Cell.{Shared}
 use Rattle.generational_core.specs.State.{State}
 use Rattle.generational_core.specs.Borrowing.{reach}
 use Rattle.generational_core.specs.Borrowing.Trouble.{Dropped, BeingRead, BeingWritten}
-use Rattle.generational_core.specs.Machine.{Action, Answer, Fresh, Outcome, act, add_cell, contents}
+use Rattle.generational_core.specs.Cells.{content_of}
+use Rattle.generational_core.specs.Machine.{Action, Answer, Fresh, Outcome, act, add_cell, cell_at}
 use Rattle.generational_core.specs.Machine.Action.{Make, MakeShared, Refer, NewOwner, CloneOwner}
 use Rattle.generational_core.specs.Machine.Action.{ReleaseOwner, LeakOwner, Read, Write}
 use Rattle.generational_core.specs.Machine.Action.{ReleaseReader, ReleaseWriter, SetValue, End}
@@ -23,7 +26,7 @@ use Rattle.generational_core.specs.Machine.Answer.{Troubled, Refused}
 use Rattle.generational_core.specs.Slots.{Fits, free, is_free, slots_of, last_name}
 use Rattle.generational_core.specs.Slots.{last_generation}
 use Rattle.generational_core.specs.Steps.{IsNew, AreNew, Takes, Meets, limit_tickets, takes_ticket, last_ticket}
-use Rattle.generational_core.specs.Steps.{is_made, is_reader, is_being_read, has_readers, answer_to}
+use Rattle.generational_core.specs.Steps.{answer_to}
 use Rattle.generational_core.specs.Steps.{may_lack, no_names}
 use Rattle.generational_core.specs.Carrying.{moved_content, moved_cell}
 use Rattle.generational_core.specs.History.{bare, plain, plain_call, plain_answer}
@@ -46,45 +49,6 @@ module _ {T : Type 0} where
   plain_ticket (Back v) = refl
   plain_ticket (Troubled t) = refl
   plain_ticket (Refused e) = refl
-
-  plain_made : (answer : Answer T) → is_made (plain_answer answer) ≡ is_made answer
-  plain_made (Made b) = refl
-  plain_made (Owned o) = refl
-  plain_made (Reads g) = refl
-  plain_made (Writes g v) = refl
-  plain_made Done = refl
-  plain_made (Old v) = refl
-  plain_made (Flag b) = refl
-  plain_made (Back v) = refl
-  plain_made (Troubled t) = refl
-  plain_made (Refused e) = refl
-
-  plain_reader : (answer : Answer T) → is_reader (plain_answer answer) ≡ is_reader answer
-  plain_reader (Made b) = refl
-  plain_reader (Owned o) = refl
-  plain_reader (Reads g) = refl
-  plain_reader (Writes g v) = refl
-  plain_reader Done = refl
-  plain_reader (Old v) = refl
-  plain_reader (Flag b) = refl
-  plain_reader (Back v) = refl
-  plain_reader (Troubled t) = refl
-  plain_reader (Refused e) = refl
-
-  plain_being_read : (answer : Answer T)
-      → is_being_read (plain_answer answer) ≡ is_being_read answer
-  plain_being_read (Made b) = refl
-  plain_being_read (Owned o) = refl
-  plain_being_read (Reads g) = refl
-  plain_being_read (Writes g v) = refl
-  plain_being_read Done = refl
-  plain_being_read (Old v) = refl
-  plain_being_read (Flag b) = refl
-  plain_being_read (Back v) = refl
-  plain_being_read (Troubled (Dropped l)) = refl
-  plain_being_read (Troubled (BeingRead ls)) = refl
-  plain_being_read (Troubled (BeingWritten l)) = refl
-  plain_being_read (Refused e) = refl
 
   -- an outcome without values
   abbrev plain_out : Outcome T → Outcome (Unit {0})
@@ -176,53 +140,38 @@ module _ {T : Type 0} where
   plain_answer_to S call = ap (λ (o : Outcome (Unit {0})). o.0) (plain_limited S call no_names)
 
   plain_readers : (c : Option (Content T))
-      → has_readers (option_map (moved_content same_name 0 bare) c) ≡ has_readers c
-  plain_readers None = refl
-  plain_readers (Some (Here v [])) = refl
+      → is_some (write_refusal (option_map (moved_content same_name 0 bare) c))
+      ≡ is_some (write_refusal c)
   plain_readers (Some (Here v (r ∷ readers))) = refl
-  plain_readers (Some (Lent w)) = refl
+  plain_readers _ = refl
 
   plain_reached : (S : State T) (b : GenerationalPointer)
-      → has_readers (contents (plain S) (reach (plain S) b)) ≡ has_readers (contents S (reach S b))
+      → is_some (write_refusal (content_of (cell_at (plain S) (reach (plain S) b))))
+      ≡ is_some (write_refusal (content_of (cell_at S (reach S b))))
   plain_reached S b =
-      subst (λ x. has_readers (contents (plain S) (reach (plain S) x)) ≡ has_readers
-      (contents S (reach S b))) (same_box S.number b)
-      (with_contents (carries_plain S) b (λ _. tt) (λ to c. has_readers c ≡ has_readers
-      (contents S (reach S b))) (plain_readers (contents S (reach S b))))
+      let writes = λ (c : Option (Content (Unit {0}))). is_some (write_refusal c) in
+      let is = is_some (write_refusal (content_of (cell_at S (reach S b)))) in
+      subst (λ x. writes (content_of (cell_at (plain S) (reach (plain S) x))) ≡ is)
+      (same_box S.number b)
+      (with_contents (carries_plain S) b (λ _. tt) (λ to c. writes c ≡ is)
+      (plain_readers (content_of (cell_at S (reach S b)))))
 
-  made_to : (S : State T) (call : Action T)
-      → is_made (answer_to (plain S) (plain_call call)) ≡ is_made (answer_to S call)
-  made_to S call = ap is_made (plain_answer_to S call) ∙ plain_made (answer_to S call)
-
-  being_read_to : (S : State T) (call : Action T)
-      → is_being_read (answer_to (plain S) (plain_call call)) ≡ is_being_read (answer_to S call)
-  being_read_to S call =
-      ap is_being_read (plain_answer_to S call) ∙ plain_being_read (answer_to S call)
+  plain_needs : (S : State T) (answer : Answer T) (call : Action T)
+      → needs_memory (plain S) (plain_answer answer) (plain_call call)
+      ≡ needs_memory S answer call
+  plain_needs S (Made b) (Make None v l) = ap (λ n. nat_eq n 0) (plain_free S)
+  plain_needs S (Made b) (MakeShared None v l) = ap (λ n. nat_lt n 2) (plain_free S)
+  plain_needs S (Made b) (Refer None c) = ap (λ n. nat_eq n 0) (plain_free S)
+  plain_needs S (Owned o) NewOwner = refl
+  plain_needs S (Reads g) (Read b l) = plain_reached S b
+  plain_needs S (Troubled (BeingRead readers)) call = refl
+  plain_needs S _ _ = refl
 
   plain_lacks : (S : State T) (call : Action T)
       → may_lack (plain S) (plain_call call) ≡ may_lack S call
-  plain_lacks S (Make None v l) = ap (λ n. nat_eq n 0) (plain_free S)
-  plain_lacks S (Make (Some o) v l) = refl
-  plain_lacks S (MakeShared None v l) = ap (λ n. nat_lt n 2) (plain_free S)
-  plain_lacks S (MakeShared (Some o) v l) = refl
-  plain_lacks S (Refer None b) = λ i. made_to S (Refer None b) i && nat_eq (plain_free S i) 0
-  plain_lacks S (Refer (Some o) b) = made_to S (Refer (Some o) b)
-  plain_lacks S NewOwner = refl
-  plain_lacks S (CloneOwner o) = refl
-  plain_lacks S (ReleaseOwner o) = being_read_to S (ReleaseOwner o)
-  plain_lacks S (LeakOwner o) = refl
-  plain_lacks S (Read b l) =
-      let reads =
-      ap is_reader (plain_answer_to S (Read b l)) ∙ plain_reader (answer_to S (Read b l)) in
-      λ i. reads i && plain_reached S b i
-  plain_lacks S (Write b l) = being_read_to S (Write b l)
-  plain_lacks S (ReleaseReader g) = refl
-  plain_lacks S (ReleaseWriter g v) = refl
-  plain_lacks S (SetValue b v) = refl
-  plain_lacks S (End b) = being_read_to S (End b)
-  plain_lacks S (Point a b) = being_read_to S (Point a b)
-  plain_lacks S (CanRead b) = refl
-  plain_lacks S (CanWrite b) = refl
+  plain_lacks S call =
+      ap (λ answer. needs_memory (plain S) answer (plain_call call)) (plain_answer_to S call)
+      ∙ plain_needs S (answer_to S call) call
 
   -- each call of a store is one of the store without values
   pub plain_meets : (S R : State T) (call : Action T) (answer : Answer T)

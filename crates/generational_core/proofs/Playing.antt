@@ -10,7 +10,8 @@ use Rattle.generational_core.specs.declared.error.StoreError.TheVariants.{Number
 use Rattle.generational_core.specs.declared.boxes.GenerationalPointer.{GenerationalPointer}
 use Rattle.generational_core.specs.Names.{Name, NameMap}
 use Rattle.generational_core.specs.Cells.{Cell}
-use Rattle.generational_core.specs.State.{State, Ownership, fresh}
+use Rattle.generational_core.specs.State.{State, Ownership}
+use Rattle.generational_core.specs.Conditions.{fresh}
 use Rattle.generational_core.specs.Borrowing.{Guard}
 use Rattle.generational_core.specs.Machine.{Action, Answer, Fresh, Outcome, act}
 use Rattle.generational_core.specs.Machine.Answer.{Made, Refused}

@@ -1,4 +1,5 @@
 -- Each call of a session keeps its promises, and so does each call of a run.
+use Rattle.generational_core.specs.Steps.{needs_memory}
 use Rattle.std.proofs.Common.{◌≡◌, ◌≢◌, ℕ, false, List, [], ◌∷◌}
 use Rattle.std.proofs.Common.{Bool, ◌&&◌, ◌≤◌, inl, inr}
 use Rattle.std.proofs.Common.{Option, None, Some, refl, sym, ap, subst, ◌∙◌}
@@ -10,17 +11,19 @@ use Rattle.generational_core.specs.declared.error.StoreError.{StoreError}
 use Rattle.generational_core.specs.declared.boxes.GenerationalPointer.{GenerationalPointer}
 use Rattle.generational_core.specs.declared.calls.Call.{Call}
 use Rattle.generational_core.specs.declared.calls.Call.TheVariants as call
-use Rattle.generational_core.specs.State.{State, Ownership, IsSound, IsGiven, IsEnded, IsNamed}
+use Rattle.generational_core.specs.State.{State, Ownership, IsSound, IsGiven}
+use Rattle.generational_core.specs.Conditions.{IsEnded, IsNamed}
 use Rattle.generational_core.specs.Boxes.{name_of}
 use Rattle.generational_core.specs.Borrowing.{Trouble, reach}
 use Rattle.generational_core.specs.Borrowing.Trouble.{Dropped}
+use Rattle.generational_core.specs.Cells.{content_of}
 use Rattle.generational_core.specs.Machine.{Action, Answer, Fresh, Outcome, OwnerName, act}
-use Rattle.generational_core.specs.Machine.{contents, read_at, write_at, unless}
+use Rattle.generational_core.specs.Machine.{cell_at, read_at, write_at, unless}
 use Rattle.generational_core.specs.Machine.Action.{Read, Write}
 use Rattle.generational_core.specs.Machine.Answer.{Made, Owned, Reads, Writes, Done, Old, Flag, Back}
 use Rattle.generational_core.specs.Machine.Answer.{Troubled, Refused}
-use Rattle.generational_core.specs.Steps.{Meets, limit_tickets, may_lack, is_reader, is_being_read}
-use Rattle.generational_core.specs.Steps.{has_readers, no_names}
+use Rattle.generational_core.specs.Steps.{Meets, limit_tickets, may_lack}
+use Rattle.generational_core.specs.Steps.{no_names}
 use Rattle.generational_core.specs.Releasing.{IsReleased, AreEnded}
 use Rattle.generational_core.specs.Session.{SessionState, Held, SessionReply, Request, Settles, SessionStep}
 use Rattle.generational_core.specs.Session.{Run, box_in, owner_in, at_place, with_box, with_owner}
@@ -55,19 +58,18 @@ module _ {T : Type 0} where
       → answer ≡ Troubled (Dropped b.created_at)
   read_told S R b l answer ended =
       let acts = λ (new : Fresh). ap (λ o. unless o S (read_at S l (reach S b)
-      (contents S (reach S b)))) (ended_read S b ended) in
+      (content_of (cell_at S (reach S b))))) (ended_read S b ended) in
       one_trouble S R (Read b l) (Dropped b.created_at) answer acts
-      (ap (λ (out : Outcome T). is_reader (limit_tickets S out).0
-      && has_readers (contents S (reach S b))) (acts no_names))
+      (ap (λ (out : Outcome T). needs_memory S (limit_tickets S out).0 (Read b l)) (acts no_names))
 
   write_told : (S R : State T) (b : GenerationalPointer) (l : Location) (answer : Answer T)
       → IsEnded S (name_of b) → Meets S (Write b l) answer R
       → answer ≡ Troubled (Dropped b.created_at)
   write_told S R b l answer ended =
       let acts = λ (new : Fresh). ap (λ o. unless o S (write_at S l (reach S b)
-      (contents S (reach S b)))) (ended_write S b ended) in
+      (content_of (cell_at S (reach S b))))) (ended_write S b ended) in
       one_trouble S R (Write b l) (Dropped b.created_at) answer acts
-      (ap (λ (out : Outcome T). is_being_read (limit_tickets S out).0) (acts no_names))
+      (ap (λ (out : Outcome T). needs_memory S (limit_tickets S out).0 (Write b l)) (acts no_names))
 
   -- a call of a box that a place or the caller names
   with_box_is : (s r : SessionState T) (c : Call T) (x : SessionReply T) (b : GenerationalPointer)

@@ -11,11 +11,13 @@ use Rattle.generational_core.specs.Names.{Name}
 use Rattle.generational_core.specs.Cells.{Content}
 use Rattle.generational_core.specs.Cells.Content.{Here, Lent}
 use Rattle.generational_core.specs.State.{State}
-use Rattle.generational_core.specs.Borrowing.{Trouble, content_at, read_trouble, reach}
+use Rattle.generational_core.specs.State.{content_at}
+use Rattle.generational_core.specs.Borrowing.{Trouble, read_trouble, reach}
 use Rattle.generational_core.specs.Borrowing.Trouble.{Dropped, BeingRead, BeingWritten}
 use Rattle.generational_core.specs.Ending.{hindrance_to}
+use Rattle.generational_core.specs.Cells.{content_of}
 use Rattle.generational_core.specs.Machine.{Action, Answer, Fresh, Outcome, act, unless, read_at}
-use Rattle.generational_core.specs.Machine.{contents, knows_reader, own_name, without_reader}
+use Rattle.generational_core.specs.Machine.{cell_at, knows_reader, own_name, remove_reader}
 use Rattle.generational_core.specs.Machine.Action.{Make, MakeShared, Refer, NewOwner, CloneOwner}
 use Rattle.generational_core.specs.Machine.Action.{ReleaseOwner, LeakOwner, Read, Write}
 use Rattle.generational_core.specs.Machine.Action.{ReleaseReader, ReleaseWriter, SetValue, End}
@@ -60,11 +62,11 @@ module _ {T : Type 0} where
   ready_told S (Read b l) step new e =
       let same : call.Read b l ≡ step = cc in
       ap (is_ready S) (sym same)
-      ∙ unless_told S (read_trouble S b) _ (read_free S l (reach S b) (contents S (reach S b)))
+      ∙ unless_told S (read_trouble S b) _ (read_free S l (reach S b) (content_of (cell_at S (reach S b))))
   ready_told S (ReleaseReader g) step new e =
       let same : call.ReleaseRead g.ticket ≡ step = cc in
       ap (is_ready S) (sym same)
-      ∙ flag_free S (knows_reader S g) (without_reader S g.cell g.ticket (content_at S g.cell))
+      ∙ flag_free S (knows_reader S g) (remove_reader S g.cell g.ticket (content_at S g.cell))
   ready_told S (End b) step new e =
       let same : call.ManuallyDrop b ≡ step = cc in
       ap (is_ready S) (sym same) ∙ unless_told S (hindrance_to S (own_name S b)) _ refl

@@ -9,9 +9,10 @@ use Rattle.std.specs.List.{AllByRecursion}
 use Rattle.std.specs.FinMap as map
 use Rattle.generational_core.specs.Names.{Name, NameMap, among}
 use Rattle.generational_core.specs.Cells.{Cell, is_shared}
-use Rattle.generational_core.specs.State.{State, Ownership, IsSound, IsBoxed, IsNamed, is_named}
+use Rattle.generational_core.specs.State.{State, Ownership, IsSound, IsBoxed, is_named}
+use Rattle.generational_core.specs.Conditions.{IsNamed}
 use Rattle.generational_core.specs.Borrowing.{Trouble}
-use Rattle.generational_core.specs.Ending.{sweep, without, cells_after, close, hindrance_to}
+use Rattle.generational_core.specs.Ending.{sweep, take_away, cells_after, close, hindrance_to}
 use Rattle.generational_core.specs.Machine.{Answer, Outcome, OwnerName, ownership, release_owner, unless}
 use Rattle.generational_core.specs.Machine.{set_ownership}
 use Rattle.generational_core.specs.Machine.Action.{ReleaseOwner, LeakOwner}
@@ -30,31 +31,31 @@ module _ {T : Type 0} where
   -- ---- what is left of the cells when names end
 
   module _ (cells : NameMap (Cell T)) (names : List Name) (n : Name) where
-    without_get : map.get (without cells names) n
+    without_get : map.get (take_away cells names) n
         ≡ cond (is_shared (map.get cells n) || not (among names n)) (map.get cells n) None
-    unfolding without
+    unfolding take_away
     without_get =
         get-keep by_name cells (λ q. is_shared (map.get cells q) || not (among names q)) n
 
     left_get : map.get (cells_after cells names) n
         ≡ cond
-        (not (is_shared (map.get (without cells names) n)) || is_named (without cells names) n)
-        (map.get (without cells names) n) None
+        (not (is_shared (map.get (take_away cells names) n)) || is_named (take_away cells names) n)
+        (map.get (take_away cells names) n) None
     unfolding sweep
     left_get =
-        get-keep by_name (without cells names)
+        get-keep by_name (take_away cells names)
         (λ q.
-        not (is_shared (map.get (without cells names) q)) || is_named (without cells names) q) n
+        not (is_shared (map.get (take_away cells names) q)) || is_named (take_away cells names) q) n
 
     -- Refs of the cells that are left name what they named before
-    named_left : (is_named (without cells names) n ≡ true) → IsNamed (cells_after cells names) n
+    named_left : (is_named (take_away cells names) n ≡ true) → IsNamed (cells_after cells names) n
     named_left h =
-        let it = named_gives (without cells names) n h in
-        (it.0, it.1, swept_ref (without cells names) it.0 n it.1 it.2)
+        let it = named_gives (take_away cells names) n h in
+        (it.0, it.1, swept_ref (take_away cells names) it.0 n it.1 it.2)
 
-    named_before : IsNamed (cells_after cells names) n → is_named (without cells names) n ≡ true
+    named_before : IsNamed (cells_after cells names) n → is_named (take_away cells names) n ≡ true
     named_before h =
-        named_from (without cells names) n (h.0, h.1, swept_was (without cells names) h.0 n h.1 h.2)
+        named_from (take_away cells names) n (h.0, h.1, swept_was (take_away cells names) h.0 n h.1 h.2)
 
     -- a Value or a Ref goes exactly where the names hold it
     module _ (box : is_shared (map.get cells n) ≡ false) where

@@ -9,7 +9,8 @@ use Rattle.generational_core.specs.Cells.{Content}
 use Rattle.generational_core.specs.Cells.Content.{Here, Lent}
 use Rattle.generational_core.specs.State.{State}
 use Rattle.generational_core.specs.Boxes.{box_of}
-use Rattle.generational_core.specs.Borrowing.{Guard, content_at}
+use Rattle.generational_core.specs.State.{content_at}
+use Rattle.generational_core.specs.Borrowing.{Guard}
 use Rattle.generational_core.specs.Machine.{Action, Answer, Fresh, OwnerName, act, knows_reader}
 use Rattle.generational_core.specs.Slots.{slots, free, retired}
 use Rattle.generational_core.specs.Steps.{limit_tickets, no_names}

@@ -7,7 +7,7 @@ use Rattle.generational_core.specs.declared.error.StoreError.TheVariants.{
   NumbersExhausted,
 }
 use Rattle.generational_core.specs.Names.{is_name}
-use Rattle.generational_core.specs.State.{fresh}
+use Rattle.generational_core.specs.Conditions.{fresh}
 use Rattle.generational_core.specs.Boxes.{box_of}
 use Rattle.generational_core.specs.Borrowing.{reach, read_trouble, write_trouble}
 use Rattle.generational_core.specs.Borrowing.Trouble.{Dropped, BeingRead, BeingWritten}

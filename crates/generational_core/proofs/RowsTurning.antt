@@ -2,7 +2,7 @@
 use Rattle.std.proofs.Common.{refl, true, false, [], ◌∷◌, None, Some}
 use Rattle.generational_core.specs.declared.error.Location.{Location}
 use Rattle.generational_core.specs.Names.{is_name}
-use Rattle.generational_core.specs.State.{fresh}
+use Rattle.generational_core.specs.Conditions.{fresh}
 use Rattle.generational_core.specs.Borrowing.{reach, read_trouble, write_trouble}
 use Rattle.generational_core.specs.Borrowing.Trouble.{Dropped, BeingRead, BeingWritten}
 use Rattle.generational_core.specs.Ending.{hindrance_to}

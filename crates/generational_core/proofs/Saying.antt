@@ -1,4 +1,5 @@
 -- What an answer says of the state that a call leaves: the new box, the new guard, the new ticket.
+use Rattle.generational_core.specs.Machine.{make}
 use Rattle.std.proofs.Common.{◌≡◌, ℕ, ◌+◌, Bool, true, false, cond, List, [], ◌∷◌, ◌++◌}
 use Rattle.std.proofs.Common.{Option, None, Some, refl, ap, ◌∙◌}
 use Rattle.std.specs.Prelude.{nat_eq, nat_lt, ◌&&◌, ◌-◌}
@@ -17,12 +18,13 @@ use Rattle.generational_core.specs.Cells.Content.{Here, Lent}
 use Rattle.generational_core.specs.Cells.Cell.{Value, Shared, Ref}
 use Rattle.generational_core.specs.State.{State, Ownership, IsGiven}
 use Rattle.generational_core.specs.Boxes.{name_of, has_same_id}
-use Rattle.generational_core.specs.Borrowing.{Trouble, reach, content_at, fill}
+use Rattle.generational_core.specs.State.{content_at}
+use Rattle.generational_core.specs.Borrowing.{Trouble, reach, fill}
 use Rattle.generational_core.specs.Machine.{Action, Answer, Fresh, Outcome, OwnerName, act, add_cell}
-use Rattle.generational_core.specs.Machine.{add_to_list, unless, refer, found, contents, clone_owner}
+use Rattle.generational_core.specs.Machine.{add_to_list, unless, refer, cell_at, cell_at, clone_owner}
 use Rattle.generational_core.specs.Machine.{release_owner, ownership, read_at, write_at, own_cell}
 use Rattle.generational_core.specs.Machine.{knows_reader, knows_writer, has_reader, has_writer}
-use Rattle.generational_core.specs.Machine.{without_reader, set_at, point, turn}
+use Rattle.generational_core.specs.Machine.{remove_reader, set_at, point, turn}
 use Rattle.generational_core.specs.Machine.Action.{Make, MakeShared, Refer, NewOwner, CloneOwner}
 use Rattle.generational_core.specs.Machine.Action.{ReleaseOwner, LeakOwner, Read, Write}
 use Rattle.generational_core.specs.Machine.Action.{ReleaseReader, ReleaseWriter, SetValue, End}
@@ -33,7 +35,7 @@ use Rattle.generational_core.specs.Machine.Answer.{Refused}
 use Rattle.generational_core.specs.declared.error.StoreError.{StoreError}
 use Rattle.generational_core.specs.declared.error.StoreError.TheVariants.{UnknownOwner}
 use Rattle.generational_core.specs.Numbered.{want}
-use Rattle.generational_core.specs.Machine.{is_known, make_value, make_shared}
+use Rattle.generational_core.specs.Machine.{is_known, make_shared}
 use Rattle.generational_core.specs.Borrowing.{read_trouble}
 use Rattle.generational_core.specs.Ending.{close, hindrance_to, hindrance_at, sweep}
 use Rattle.generational_core.proofs.Fresh.{AreFresh}
@@ -153,7 +155,7 @@ module _ {T : Type 0} where
           (get-changed_here by_name S.cells m (refill c) (Shared d l) is)
 
   says_read : (S : State T) (l : Location) (m : Option Name) (c : Option (Content T))
-      → contents S m ≡ c → IsSaid S (read_at S l m c)
+      → content_of (cell_at S m) ≡ c → IsSaid S (read_at S l m c)
   says_read S l (Some m) (Some (Here v readers)) had =
       let b : Borrow = record { ticket = S.next; location = l } in
       let there = ap (λ c. has_reader c S.next)
@@ -163,7 +165,7 @@ module _ {T : Type 0} where
   says_read S l m c had = record { so = tt; able = refl }
 
   says_write : (S : State T) (l : Location) (m : Option Name) (c : Option (Content T))
-      → contents S m ≡ c → IsSaid S (write_at S l m c)
+      → content_of (cell_at S m) ≡ c → IsSaid S (write_at S l m c)
   says_write S l (Some m) (Some (Here v readers)) had =
       let b : Borrow = record { ticket = S.next; location = l } in
       let fill = filled_content S m (Lent b) (Here v readers) had in
@@ -197,26 +199,26 @@ module _ {T : Type 0} where
   -- what each call answers is so
   pub act_says : (S : State T) (call : Action T) (f : Fresh)
       → AreFresh S call f → IsSaid S (act S call f)
-  act_says S (Make o v l) f new = says_known S (is_known S o) (make_value S o v l f.first)
+  act_says S (Make o v l) f new = says_known S (is_known S o) (make S o f.first (Value (Here v []) l) l)
       (record { so = says_born S S (Value (Here v []) l) o _ refl new; able = refl })
   act_says S (MakeShared o v l) f new =
       let shared = add_cell S f.first (Shared (Here v []) l) in
       says_known S (is_known S o) (make_shared S o v l f)
       (record { so = says_born S shared (Ref f.first l) o _ refl new.1; able = refl })
   act_says S (Refer o b) f new = says_known S (is_known S o)
-      (unless (read_trouble S b) S (refer S o b (reach S b) (found S (reach S b)) f.first))
+      (unless (read_trouble S b) S (refer S o b (reach S b) (cell_at S (reach S b)) f.first))
       (says_unless S
-      (read_trouble S b) _ (says_referred S o b (reach S b) (found S (reach S b)) f.first new))
+      (read_trouble S b) _ (says_referred S o b (reach S b) (cell_at S (reach S b)) f.first new))
   act_says S NewOwner f new = record { so = refl; able = refl }
   act_says S (CloneOwner o) f new = says_cloned S o (ownership S o)
   act_says S (ReleaseOwner o) f new = says_let_go S o (ownership S o)
   act_says S (LeakOwner o) f new = record { so = tt; able = refl }
   act_says S (Read b l) f new =
-      says_unless S _ _ (says_read S l (reach S b) (contents S (reach S b)) refl)
+      says_unless S _ _ (says_read S l (reach S b) (content_of (cell_at S (reach S b))) refl)
   act_says S (Write b l) f new =
-      says_unless S _ _ (says_write S l (reach S b) (contents S (reach S b)) refl)
+      says_unless S _ _ (says_write S l (reach S b) (content_of (cell_at S (reach S b))) refl)
   act_says S (ReleaseReader g) f new =
-      let after = without_reader S g.cell g.ticket (content_at S g.cell) in
+      let after = remove_reader S g.cell g.ticket (content_at S g.cell) in
       says_if S (knows_reader S g)
       (Flag true, after)
       (Flag false, S) (record { so = tt; able = refl }) (record { so = tt; able = refl })
@@ -225,13 +227,13 @@ module _ {T : Type 0} where
       says_if S
       (knows_writer S g) (Done, after)
       (Back v, S) (record { so = tt; able = refl }) (record { so = tt; able = refl })
-  act_says S (SetValue b v) f new = says_set S b v (reach S b) (contents S (reach S b))
+  act_says S (SetValue b v) f new = says_set S b v (reach S b) (content_of (cell_at S (reach S b)))
   act_says S (End b) f new = says_done S (close S (own_name S b)) (hindrance_to S (own_name S b))
   act_says S (Point a b) f new =
-      let out : Outcome T = point S a b (own_cell S a.id) (reach S b) (found S (reach S b)) in
+      let out : Outcome T = point S a b (own_cell S a.id) (reach S b) (cell_at S (reach S b)) in
       says_if S (has_same_id a b)
       (Done, S) (unless (read_trouble S b) S out) (record { so = tt; able = refl })
       (says_unless S
-      (read_trouble S b) out (says_pointed S a b (own_cell S a.id) (reach S b) (found S (reach S b))))
+      (read_trouble S b) out (says_pointed S a b (own_cell S a.id) (reach S b) (cell_at S (reach S b))))
   act_says S (CanRead b) f new = record { so = tt; able = refl }
   act_says S (CanWrite b) f new = record { so = tt; able = refl }

@@ -12,7 +12,8 @@ use Rattle.generational_core.specs.declared.calls.Call.TheVariants as call
 use Rattle.generational_core.specs.declared.calls.Reply.{Reply}
 use Rattle.generational_core.specs.declared.places.Thing.{Thing}
 use Rattle.generational_core.specs.declared.places.Thing.TheVariants as thing
-use Rattle.generational_core.specs.State.{State, IsFresh}
+use Rattle.generational_core.specs.State.{State}
+use Rattle.generational_core.specs.Conditions.{IsFresh}
 use Rattle.generational_core.specs.Borrowing.{Guard}
 use Rattle.generational_core.specs.Writing.{WriteGuard}
 use Rattle.generational_core.specs.declared.error.BorrowMutError.{BorrowMutError}

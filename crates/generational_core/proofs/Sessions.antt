@@ -10,7 +10,8 @@ use Rattle.generational_core.specs.declared.boxes.GenerationalPointer.{Generatio
 use Rattle.generational_core.specs.declared.calls.Call.{Call}
 use Rattle.generational_core.specs.declared.calls.Call.TheVariants as call
 use Rattle.generational_core.specs.Names.{Name}
-use Rattle.generational_core.specs.State.{State, Ownership, IsSound, IsEnded, fresh}
+use Rattle.generational_core.specs.State.{State, Ownership, IsSound}
+use Rattle.generational_core.specs.Conditions.{IsEnded, fresh}
 use Rattle.generational_core.specs.Borrowing.{Guard}
 use Rattle.generational_core.specs.Machine.{Action, Answer, OwnerName, is_known}
 use Rattle.generational_core.specs.Records.{count_in, count_under}
@@ -26,7 +27,7 @@ use Rattle.generational_core.specs.Session.{release, replace, swap}
 use Rattle.generational_core.specs.Session.Request.{Asks, Tells, Swaps}
 use Rattle.generational_core.specs.Session.Held.{Boxed, Reading, Writing, Owning, Nothing}
 use Rattle.generational_core.specs.SoundSession.{IsSoundSession, holds_owner}
-use Rattle.generational_core.specs.Bounds.{IsBounded}
+use Rattle.generational_core.specs.Conditions.{IsBounded}
 use Rattle.generational_core.specs.Keeping.{AskedSets, IsUndisturbed, Undisturbed, value_at}
 use Rattle.generational_core.proofs.Undisturbed.{meets_value}
 use Rattle.generational_core.proofs.Bounding.{meets_bounded, fresh_bounded}

@@ -15,15 +15,17 @@ use Rattle.generational_core.specs.Cells.{Content, Cell, is_shared}
 use Rattle.generational_core.specs.Cells.Content.{Here, Lent}
 use Rattle.generational_core.specs.Cells.Cell.{Value, Shared, Ref}
 use Rattle.generational_core.specs.State.{State, Ownership, IsSound, IsGiven, IsBoxed, tickets_of}
-use Rattle.generational_core.specs.Borrowing.{Trouble, fill, reach, content_at}
+use Rattle.generational_core.specs.State.{content_at}
+use Rattle.generational_core.specs.Borrowing.{Trouble, fill, reach}
 use Rattle.generational_core.specs.Borrowing.{read_trouble}
 use Rattle.generational_core.specs.Boxes.{name_of, has_same_id}
 use Rattle.generational_core.specs.Ending.{sweep, close, hindrance_to}
+use Rattle.generational_core.specs.Cells.{content_of}
 use Rattle.generational_core.specs.Machine.{Action, Fresh, Outcome, OwnerName, act, add_cell, ownership}
-use Rattle.generational_core.specs.Machine.{is_known, add_to_list, unless, refer, found, clone_owner}
-use Rattle.generational_core.specs.Machine.{release_owner, read_at, write_at, contents, own_cell}
+use Rattle.generational_core.specs.Machine.{is_known, add_to_list, unless, refer, cell_at, clone_owner}
+use Rattle.generational_core.specs.Machine.{release_owner, read_at, write_at, cell_at, own_cell}
 use Rattle.generational_core.specs.Machine.{own_name, knows_reader, knows_writer, has_writer}
-use Rattle.generational_core.specs.Machine.{without_reader, set_at, point, turn}
+use Rattle.generational_core.specs.Machine.{remove_reader, set_at, point, turn}
 use Rattle.generational_core.specs.Machine.Answer.{Done}
 use Rattle.generational_core.specs.Machine.Action.{Make, MakeShared, Refer, NewOwner, CloneOwner}
 use Rattle.generational_core.specs.Machine.Action.{ReleaseOwner, LeakOwner, Read, Write}
@@ -147,7 +149,7 @@ module _ {T : Type 0} where
   -- ---- borrows
 
   sound_read : (S : State T) (l : Location) (m : Option Name) (c : Option (Content T))
-      → IsSound S → contents S m ≡ c → IsSound (read_at S l m c).1
+      → IsSound S → content_of (cell_at S m) ≡ c → IsSound (read_at S l m c).1
   sound_read S l (Some m) (Some (Here v readers)) s is =
       let b : Borrow = record { ticket = S.next; location = l } in
       sound_filled S m (Here v (readers ++ b ∷ [])) (Here v readers) (S.next + 1) s is (omega arith)
@@ -159,7 +161,7 @@ module _ {T : Type 0} where
   sound_read S l m c s is = s
 
   sound_write : (S : State T) (l : Location) (m : Option Name) (c : Option (Content T))
-      → IsSound S → contents S m ≡ c → IsSound (write_at S l m c).1
+      → IsSound S → content_of (cell_at S m) ≡ c → IsSound (write_at S l m c).1
   unfolding IsDistinct
   sound_write S l (Some m) (Some (Here v readers)) s is =
       sound_filled S m (Lent (record { ticket = S.next; location = l }))
@@ -169,7 +171,7 @@ module _ {T : Type 0} where
   sound_write S l m c s is = s
 
   sound_without : (S : State T) (n : Name) (t : ℕ) (c : Option (Content T))
-      → IsSound S → content_at S n ≡ c → IsSound (without_reader S n t c)
+      → IsSound S → content_at S n ≡ c → IsSound (remove_reader S n t c)
   sound_without S n t (Some (Here v readers)) s is =
       sound_filled S n (Here v (filter (λ r. not (nat_eq r.ticket t)) readers))
       (Here v readers) S.next s is (omega arith)
@@ -185,7 +187,7 @@ module _ {T : Type 0} where
       (Here v []) c S.next s is (omega arith) tt (λ u e. absurd (true≢false (sym e)))
 
   sound_set : (S : State T) (b : GenerationalPointer) (v : T) (m : Option Name)
-      (c : Option (Content T)) → IsSound S → contents S m ≡ c → IsSound (set_at S b v m c).1
+      (c : Option (Content T)) → IsSound S → content_of (cell_at S m) ≡ c → IsSound (set_at S b v m c).1
   sound_set S b v (Some m) (Some (Here old [])) s is = sound_filled S m (Here v []) (Here old [])
       S.next s is (omega arith)
       (subst (λ x. IsDistinct nat_eq (tickets_of x)) is (s.apart m)) (λ t h. inl h)
@@ -194,7 +196,7 @@ module _ {T : Type 0} where
   -- ---- references
 
   sound_referred : (S : State T) (o : Option OwnerName) (b : GenerationalPointer)
-      (to : Option Name) (target : Option (Cell T)) (n : Name) → IsSound S → found S to ≡ target
+      (to : Option Name) (target : Option (Cell T)) (n : Name) → IsSound S → cell_at S to ≡ target
       → set.contains S.given n ≡ false → IsSound (refer S o b to target n).1
   sound_referred S o b (Some m) (Some (Shared c l)) n s is new =
       sound_listed (add_cell S n (Ref m l)) o n
@@ -257,18 +259,18 @@ module _ {T : Type 0} where
 
   sound_pointed : (S : State T) (a b : GenerationalPointer) (ca : Option (Cell T))
       (to : Option Name) (target : Option (Cell T)) → IsSound S → map.get S.cells (name_of a) ≡ ca
-      → found S to ≡ target → IsSound (point S a b ca to target).1
+      → cell_at S to ≡ target → IsSound (point S a b ca to target).1
   sound_pointed S a b None to target s at_a at_b = s
   sound_pointed S a b (Some (Ref old l)) (Some new) (Some (Shared c k)) s at_a at_b =
       sound_turned S (name_of a) old new l s at_a (ap is_shared at_b)
   sound_pointed S a b (Some _) to target s at_a at_b = s
 
   sound_point : (S : State T) (a b : GenerationalPointer)
-      → IsSound S → IsSound (point S a b (own_cell S a.id) (reach S b) (found S (reach S b))).1
+      → IsSound S → IsSound (point S a b (own_cell S a.id) (reach S b) (cell_at S (reach S b))).1
   sound_point S a b s = split (nat_eq a.id.store S.number)
     where
       split : (own : Bool) → IsSound (point S a b
-          (cond own (map.get S.cells (name_of a)) None) (reach S b) (found S (reach S b))).1
+          (cond own (map.get S.cells (name_of a)) None) (reach S b) (cell_at S (reach S b))).1
       split true = sound_pointed S a b (map.get S.cells (name_of a)) (reach S b) _ s refl refl
       split false = s
 
@@ -295,21 +297,21 @@ module _ {T : Type 0} where
   act_sound S (ReleaseOwner o) f s new = sound_let_go S o (ownership S o) s refl
   act_sound S (LeakOwner o) f s new = s
   act_sound S (Read b l) f s new =
-      unless_sound S _ _ s (λ _. sound_read S l (reach S b) (contents S (reach S b)) s refl)
+      unless_sound S _ _ s (λ _. sound_read S l (reach S b) (content_of (cell_at S (reach S b))) s refl)
   act_sound S (Write b l) f s new =
-      unless_sound S _ _ s (λ _. sound_write S l (reach S b) (contents S (reach S b)) s refl)
+      unless_sound S _ _ s (λ _. sound_write S l (reach S b) (content_of (cell_at S (reach S b))) s refl)
   act_sound S (ReleaseReader g) f s new = if_sound (knows_reader S g) _ _
       (λ _. sound_without S g.cell g.ticket (content_at S g.cell) s refl) (λ _. s)
   act_sound S (ReleaseWriter g v) f s new = if_sound (knows_writer S g) _ _
       (λ h. sound_returned S g.cell g.ticket v (content_at S g.cell) s refl (and_parts _ _ h).1)
       (λ _. s)
   act_sound S (SetValue b v) f s new =
-      sound_set S b v (reach S b) (contents S (reach S b)) s refl
+      sound_set S b v (reach S b) (content_of (cell_at S (reach S b))) s refl
   act_sound S (End b) f s new = unless_sound S (hindrance_to S (own_name S b))
       (Done, close S (own_name S b)) s (λ _. sound_close S (own_name S b) s)
   act_sound S (Point a b) f s new = if_sound (has_same_id a b) (Done, S)
-      (unless (read_trouble S b) S (point S a b (own_cell S a.id) (reach S b) (found S (reach S b))))
+      (unless (read_trouble S b) S (point S a b (own_cell S a.id) (reach S b) (cell_at S (reach S b))))
       (λ _. s) (λ _. unless_sound S (read_trouble S b)
-      (point S a b (own_cell S a.id) (reach S b) (found S (reach S b))) s (λ _. sound_point S a b s))
+      (point S a b (own_cell S a.id) (reach S b) (cell_at S (reach S b))) s (λ _. sound_point S a b s))
   act_sound S (CanRead b) f s new = s
   act_sound S (CanWrite b) f s new = s

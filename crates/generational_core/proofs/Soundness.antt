@@ -14,7 +14,7 @@ use Rattle.generational_core.specs.Cells.Content.{Here}
 use Rattle.generational_core.specs.Cells.Cell.{Shared, Ref}
 use Rattle.generational_core.specs.State.{State, Ownership, IsSound, IsBoxed}
 use Rattle.generational_core.specs.State.{tickets_of}
-use Rattle.generational_core.specs.Ending.{without, cells_after, close}
+use Rattle.generational_core.specs.Ending.{take_away, cells_after, close}
 use Rattle.generational_core.specs.Machine.{add_cell}
 use Rattle.generational_core.proofs.Maps.{by_name, name_cases, get-insert_here}
 use Rattle.generational_core.proofs.Maps.{get-insert_apart}
@@ -74,7 +74,7 @@ module _ {T : Type 0} where
       → is_some (map.get (cells_after S.cells names) n) ≡ true → is_some (map.get S.cells n) ≡ true
   left_live S names n h = ⊎_elim (λ e. ⊎_elim (λ k. sym (ap is_some (e.0 ∙ k)) ∙ h)
       (λ k. absurd (true≢false (sym h ∙ ap is_some (e.0 ∙ k.0)))) (without_view S.cells names n))
-      (λ e. absurd (true≢false (sym h ∙ ap is_some e.0))) (swept_view (without S.cells names) n)
+      (λ e. absurd (true≢false (sym h ∙ ap is_some e.0))) (swept_view (take_away S.cells names) n)
 
   -- what is left of other cells than Shared ones is no Shared cell
   left_plain : (S : State T) (names : List Name) (n : Name)
@@ -82,14 +82,14 @@ module _ {T : Type 0} where
       → is_shared (map.get (cells_after S.cells names) n) ≡ false
   left_plain S names n h = ⊎_elim (λ e. ⊎_elim (λ k. ap is_shared (e.0 ∙ k) ∙ h)
       (λ k. ap is_shared (e.0 ∙ k.0)) (without_view S.cells names n))
-      (λ e. ap is_shared e.0) (swept_view (without S.cells names) n)
+      (λ e. ap is_shared e.0) (swept_view (take_away S.cells names) n)
 
   -- a state in which names end
   pub sound_close : (S : State T) (names : List Name) → IsSound S → IsSound (close S names)
   sound_close S names s = sound_cells S (cells_after S.cells names) S.given S.peak s
       (swept_targets _ (without_targets S.cells names s.targets))
-      (swept_named _) (no_more S.cells (without S.cells names) (cells_after S.cells names)
-      (without_tickets S.cells names) (swept_tickets (without S.cells names)))
+      (swept_named _) (no_more S.cells (take_away S.cells names) (cells_after S.cells names)
+      (without_tickets S.cells names) (swept_tickets (take_away S.cells names)))
       (λ n h. s.given n (left_live S names n h)) (λ n h. (h.0, left_plain S names n h.1))
 
   -- ---- a new cell

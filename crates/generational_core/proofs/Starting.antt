@@ -13,13 +13,15 @@ use Rattle.generational_core.specs.Cells.Content.{Here}
 use Rattle.generational_core.specs.Cells.Cell.{Value, Shared, Ref}
 use Rattle.generational_core.specs.State.{State, Ownership}
 use Rattle.generational_core.specs.Boxes.{name_of, box_of, has_same_id}
-use Rattle.generational_core.specs.Borrowing.{Trouble, reach, content_at, fill}
+use Rattle.generational_core.specs.State.{content_at}
+use Rattle.generational_core.specs.Borrowing.{Trouble, reach, fill}
 use Rattle.generational_core.specs.Borrowing.{read_trouble, write_trouble}
 use Rattle.generational_core.specs.Ending.{sweep, close, hindrance_to, hindrance_at}
+use Rattle.generational_core.specs.Cells.{content_of}
 use Rattle.generational_core.specs.Machine.{Action, Answer, Fresh, Outcome, OwnerName, act, add_cell}
-use Rattle.generational_core.specs.Machine.{add_to_list, unless, is_known, refer, found, contents}
+use Rattle.generational_core.specs.Machine.{add_to_list, unless, is_known, refer, cell_at, cell_at}
 use Rattle.generational_core.specs.Machine.{clone_owner, release_owner, ownership, read_at, write_at, own_cell}
-use Rattle.generational_core.specs.Machine.{own_name, knows_reader, knows_writer, without_reader}
+use Rattle.generational_core.specs.Machine.{own_name, knows_reader, knows_writer, remove_reader}
 use Rattle.generational_core.specs.Machine.{set_at, point, turn, set_ownership}
 use Rattle.generational_core.specs.Machine.Action.{Make, MakeShared, Refer, NewOwner, CloneOwner}
 use Rattle.generational_core.specs.Machine.Action.{ReleaseOwner, LeakOwner, Read, Write}
@@ -90,12 +92,12 @@ module _ {T : Type 0} where
   begins_write S l m c = begins S _ _ refl refl
 
   without_start : (S : State T) (n : Name) (t : ℕ) (c : Option (Content T))
-      → (without_reader S n t c).start ≡ S.start
+      → (remove_reader S n t c).start ≡ S.start
   without_start S n t (Some (Here v readers)) = refl
   without_start S n t c = refl
 
   without_given : (S : State T) (n : Name) (t : ℕ) (c : Option (Content T))
-      → (without_reader S n t c).given ≡ S.given
+      → (remove_reader S n t c).given ≡ S.given
   without_given S n t (Some (Here v readers)) = refl
   without_given S n t c = refl
 
@@ -132,26 +134,26 @@ module _ {T : Type 0} where
       (add_cell (add_cell S f.first (Shared (Here v []) l)) f.second (Ref f.first l)) o f.second))
       (begins S (Refused UnknownOwner) S refl refl)
   act_start S (Refer o b) f = begins_if S (is_known S o) (begins_unless S
-      (read_trouble S b) (begins_referred S o b (reach S b) (found S (reach S b)) f.first))
+      (read_trouble S b) (begins_referred S o b (reach S b) (cell_at S (reach S b)) f.first))
       (begins S (Refused UnknownOwner) S refl refl)
   act_start S NewOwner f = begins S _ _ refl refl
   act_start S (CloneOwner o) f = begins_cloned S o (ownership S o)
   act_start S (ReleaseOwner o) f = begins_let_go S o (ownership S o)
   act_start S (LeakOwner o) f = begins S _ _ refl refl
   act_start S (Read b l) f =
-      begins_unless S (read_trouble S b) (begins_read S l (reach S b) (contents S (reach S b)))
+      begins_unless S (read_trouble S b) (begins_read S l (reach S b) (content_of (cell_at S (reach S b))))
   act_start S (Write b l) f =
-      begins_unless S (write_trouble S b) (begins_write S l (reach S b) (contents S (reach S b)))
+      begins_unless S (write_trouble S b) (begins_write S l (reach S b) (content_of (cell_at S (reach S b))))
   act_start S (ReleaseReader g) f = begins_if S (knows_reader S g)
       (begins S (Flag true) _ (without_start S g.cell g.ticket (content_at S g.cell))
       (without_given S g.cell g.ticket (content_at S g.cell))) (begins S (Flag false) S refl refl)
   act_start S (ReleaseWriter g v) f = begins_if S (knows_writer S g)
       (begins S Done (fill S g.cell (Here v [])) refl refl) (begins S (Back v) S refl refl)
-  act_start S (SetValue b v) f = begins_set S b v (reach S b) (contents S (reach S b))
+  act_start S (SetValue b v) f = begins_set S b v (reach S b) (content_of (cell_at S (reach S b)))
   act_start S (End b) f =
       begins_unless S (hindrance_to S (own_name S b)) (begins S Done (close S (own_name S b)) refl refl)
   act_start S (Point a b) f =
       begins_if S (has_same_id a b) (begins S Done S refl refl) (begins_unless S
-      (read_trouble S b) (begins_pointed S a b (own_cell S a.id) (reach S b) (found S (reach S b))))
+      (read_trouble S b) (begins_pointed S a b (own_cell S a.id) (reach S b) (cell_at S (reach S b))))
   act_start S (CanRead b) f = begins S _ _ refl refl
   act_start S (CanWrite b) f = begins S _ _ refl refl

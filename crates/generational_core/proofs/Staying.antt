@@ -15,14 +15,15 @@ use Rattle.generational_core.specs.Cells.Content.{Here}
 use Rattle.generational_core.specs.Cells.Cell.{Value, Shared, Ref}
 use Rattle.generational_core.specs.State.{State, Ownership, IsSound}
 use Rattle.generational_core.specs.Boxes.{name_of, has_same_id}
-use Rattle.generational_core.specs.Borrowing.{Trouble, not_reached, write_refusal, write_trouble}
-use Rattle.generational_core.specs.Borrowing.{read_trouble, reach, content_at, fill}
+use Rattle.generational_core.specs.State.{content_at}
+use Rattle.generational_core.specs.Borrowing.{Trouble, refusal_at, write_refusal, write_trouble}
+use Rattle.generational_core.specs.Borrowing.{read_trouble, reach, fill}
 use Rattle.generational_core.specs.Ending.{sweep, close, hindrance_at}
 use Rattle.generational_core.specs.Ending.{hindrance_to}
 use Rattle.generational_core.specs.Machine.{Action, Fresh, Outcome, OwnerName, act, add_cell, add_to_list}
-use Rattle.generational_core.specs.Machine.{unless, is_known, refer, found, contents, clone_owner}
+use Rattle.generational_core.specs.Machine.{unless, is_known, refer, cell_at, cell_at, clone_owner}
 use Rattle.generational_core.specs.Machine.{release_owner, ownership, read_at, write_at, own_cell, own_name}
-use Rattle.generational_core.specs.Machine.{knows_reader, knows_writer, has_writer, without_reader}
+use Rattle.generational_core.specs.Machine.{knows_reader, knows_writer, has_writer, remove_reader}
 use Rattle.generational_core.specs.Machine.{set_at, point, turn}
 use Rattle.generational_core.specs.Machine.Action.{Make, MakeShared, Refer, NewOwner, CloneOwner}
 use Rattle.generational_core.specs.Machine.Action.{ReleaseOwner, LeakOwner, Read, Write}
@@ -140,13 +141,13 @@ module _ {T : Type 0} (p : Option (Content T) → Bool) (is : IsBorrow p) where
       refilled_content (Ref r l) k = absurd (true≢false (sym (is.refused None k)))
 
   stays_read : (S : State T) (l : Location) (m : Option Name) (c : Option (Content T))
-      → contents S m ≡ c → Stays S (read_at S l m c).1
+      → content_of (cell_at S m) ≡ c → Stays S (read_at S l m c).1
   stays_read S l (Some m) (Some (Here v readers)) had =
       stays_filled S m _ (Some (Here v readers)) had (is.pushed v readers _)
   stays_read S l m c had = stays_same S
 
   stays_write : (S : State T) (l : Location) (m : Option Name) (c : Option (Content T))
-      → contents S m ≡ c → write_refusal c ≡ None → Stays S (write_at S l m c).1
+      → content_of (cell_at S m) ≡ c → write_refusal c ≡ None → Stays S (write_at S l m c).1
   stays_write S l (Some m) (Some (Here v readers)) had free =
       stays_filled S m _ (Some (Here v readers)) had
       (λ h. absurd (true≢false (sym (is.refused (Some (Here v readers)) h) ∙ ap is_some free)))
@@ -154,13 +155,13 @@ module _ {T : Type 0} (p : Option (Content T) → Bool) (is : IsBorrow p) where
 
   stays_without : (S : State T) (n : Name) (t : ℕ) (c : Option (Content T))
       → content_at S n ≡ c → ((v : T) (readers : List Borrow) → p (Some (Here v readers)) ≡ true
-      → p (Some (Here v (unread t readers))) ≡ true) → Stays S (without_reader S n t c)
+      → p (Some (Here v (unread t readers))) ≡ true) → Stays S (remove_reader S n t c)
   stays_without S n t (Some (Here v readers)) had still =
       stays_filled S n _ (Some (Here v readers)) had (still v readers)
   stays_without S n t c had still = stays_same S
 
   stays_set : (S : State T) (b : GenerationalPointer) (v : T) (m : Option Name)
-      (c : Option (Content T)) → contents S m ≡ c → Stays S (set_at S b v m c).1
+      (c : Option (Content T)) → content_of (cell_at S m) ≡ c → Stays S (set_at S b v m c).1
   stays_set S b v (Some m) (Some (Here old [])) had =
       stays_filled S m _ (Some (Here old [])) had (is.replaced old v [])
   stays_set S b v m c had = stays_same S
@@ -181,23 +182,23 @@ module _ {T : Type 0} (p : Option (Content T) → Bool) (is : IsBorrow p) where
   stays_pointed S a b (Some _) to target s at_a = stays_same S
 
   stays_point : (S : State T) (a b : GenerationalPointer)
-      → IsSound S → Stays S (point S a b (own_cell S a.id) (reach S b) (found S (reach S b))).1
+      → IsSound S → Stays S (point S a b (own_cell S a.id) (reach S b) (cell_at S (reach S b))).1
   stays_point S a b s = split (nat_eq a.id.store S.number)
     where
       split : (own : Bool) → Stays S (point S a b
-          (cond own (map.get S.cells (name_of a)) None) (reach S b) (found S (reach S b))).1
+          (cond own (map.get S.cells (name_of a)) None) (reach S b) (cell_at S (reach S b))).1
       split true = stays_pointed S a b (map.get S.cells (name_of a)) (reach S b) _ s refl
       split false = stays_same S
 
   -- what may be written isn't borrowed
   free_to_write : (S : State T) (b : GenerationalPointer)
-      → write_trouble S b ≡ None → write_refusal (contents S (reach S b)) ≡ None
+      → write_trouble S b ≡ None → write_refusal (content_of (cell_at S (reach S b))) ≡ None
   unfolding write_trouble
   free_to_write S b h = free_at S b.created_at (reach S b) h
     where
       free_at : (S : State T) (l : Location) (to : Option Name)
-          → not_reached to l (λ n. write_refusal (content_at S n)) ≡ None
-          → write_refusal (contents S to) ≡ None
+          → refusal_at to l (λ n. write_refusal (content_at S n)) ≡ None
+          → write_refusal (content_of (cell_at S to)) ≡ None
       free_at S l None h = refl
       free_at S l (Some m) h = h
 
@@ -219,21 +220,21 @@ module _ {T : Type 0} (p : Option (Content T) → Bool) (is : IsBorrow p) where
   act_stays S (ReleaseOwner o) f s new spared = stays_let_go S o (ownership S o) s
   act_stays S (LeakOwner o) f s new spared = stays_same S
   act_stays S (Read b l) f s new spared = stays_unless S
-      (read_trouble S b) _ (λ _. stays_read S l (reach S b) (contents S (reach S b)) refl)
+      (read_trouble S b) _ (λ _. stays_read S l (reach S b) (content_of (cell_at S (reach S b))) refl)
   act_stays S (Write b l) f s new spared = stays_unless S (write_trouble S b) _
-      (λ free. stays_write S l (reach S b) (contents S (reach S b)) refl (free_to_write S b free))
+      (λ free. stays_write S l (reach S b) (content_of (cell_at S (reach S b))) refl (free_to_write S b free))
   act_stays S (ReleaseReader g) f s new spared = stays_if S (knows_reader S g) _ _
       (λ _. stays_without S g.cell g.ticket (content_at S g.cell) refl spared) (λ _. stays_same S)
   act_stays S (ReleaseWriter g v) f s new spared = stays_if S
       (knows_writer S g) _ _ (λ known. stays_filled S g.cell (Here v []) (content_at S g.cell) refl
       (λ h. absurd (spared (content_at S g.cell) (and_parts _ _ known).1 h))) (λ _. stays_same S)
   act_stays S (SetValue b v) f s new spared =
-      stays_set S b v (reach S b) (contents S (reach S b)) refl
+      stays_set S b v (reach S b) (content_of (cell_at S (reach S b))) refl
   act_stays S (End b) f s new spared =
       stays_unless S (hindrance_to S (own_name S b)) (Done, close S (own_name S b))
       (λ free. stays_cells S (close S (own_name S b)) (borrowed_left S (own_name S b) s free))
   act_stays S (Point a b) f s new spared =
       stays_if S (has_same_id a b) _ _ (λ _. stays_same S) (λ _. stays_unless S (read_trouble S b)
-      (point S a b (own_cell S a.id) (reach S b) (found S (reach S b))) (λ _. stays_point S a b s))
+      (point S a b (own_cell S a.id) (reach S b) (cell_at S (reach S b))) (λ _. stays_point S a b s))
   act_stays S (CanRead b) f s new spared = stays_same S
   act_stays S (CanWrite b) f s new spared = stays_same S

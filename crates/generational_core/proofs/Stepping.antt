@@ -1,4 +1,6 @@
 -- What holds of each call of a store, whichever names it takes and whatever memory lacks.
+use Rattle.generational_core.specs.Cells.{Value}
+use Rattle.generational_core.specs.Machine.{make}
 use Rattle.std.proofs.Common.{◌≡◌, ℕ, ◌+◌, ◌≤◌, Bool, true, false, cond, not, List, [], ◌∷◌}
 use Rattle.std.proofs.Common.{Option, None, Some, refl, sym, ap, subst, ◌∙◌, inl, inr, ⊎_elim}
 use Rattle.std.specs.Prelude.{is_some, nat_eq, ◌&&◌, ◌⊎◌}
@@ -13,13 +15,15 @@ use Rattle.generational_core.specs.Names.{Name}
 use Rattle.generational_core.specs.Cells.{Content, Cell}
 use Rattle.generational_core.specs.Cells.Content.{Here, Lent}
 use Rattle.generational_core.specs.Cells.Cell.{Shared}
-use Rattle.generational_core.specs.State.{State, IsSound, IsGiven, IsEnded}
+use Rattle.generational_core.specs.State.{State, IsSound, IsGiven}
+use Rattle.generational_core.specs.Conditions.{IsEnded}
 use Rattle.generational_core.specs.Boxes.{name_of}
-use Rattle.generational_core.specs.Borrowing.{Trouble, Guard, read_trouble, reach, content_at}
+use Rattle.generational_core.specs.State.{content_at}
+use Rattle.generational_core.specs.Borrowing.{Trouble, Guard, read_trouble, reach}
 use Rattle.generational_core.specs.Borrowing.{write_refusal}
 use Rattle.generational_core.specs.Machine.{Action, Answer, Fresh, Outcome, OwnerName, act, unless}
-use Rattle.generational_core.specs.Machine.{refer, found, is_known, knows_reader, knows_writer}
-use Rattle.generational_core.specs.Machine.{has_reader, has_writer, make_value, make_shared}
+use Rattle.generational_core.specs.Machine.{refer, cell_at, is_known, knows_reader, knows_writer}
+use Rattle.generational_core.specs.Machine.{has_reader, has_writer, make_shared}
 use Rattle.generational_core.specs.Machine.Action.{Make, MakeShared, Refer, ReleaseReader}
 use Rattle.generational_core.specs.Machine.Action.{ReleaseWriter}
 use Rattle.generational_core.specs.Machine.Answer.{Made, Owned, Reads, Writes, Troubled, Refused}
@@ -92,12 +96,12 @@ module _ {T : Type 0} where
   pub takes_new : (S : State T) (call : Action T) (f : Fresh) → Takes S call (act S call f).0 f
       → AreNew S call f ⊎ IsRefused S (act S call f).0 (act S call f).1
   takes_new S (Make o v l) f t =
-      takes_if S (Make o v l) f (is_known S o) (make_value S o v l f.first) _ inl (refl, refl) t
+      takes_if S (Make o v l) f (is_known S o) (make S o f.first (Value (Here v []) l) l) _ inl (refl, refl) t
   takes_new S (MakeShared o v l) f t =
       takes_if S (MakeShared o v l) f (is_known S o) (make_shared S o v l f) _ inl (refl, refl) t
   takes_new S (Refer o b) f t =
       takes_if S (Refer o b) f (is_known S o) _ _ (takes_unless S (Refer o b) f (read_trouble S b) _
-      (takes_referred S (Refer o b) f o b (reach S b) (found S (reach S b)))) (refl, refl) t
+      (takes_referred S (Refer o b) f o b (reach S b) (cell_at S (reach S b)))) (refl, refl) t
   takes_new S _ f t = inl tt
 
   -- a call is refused and changes nothing, or takes new names and does what the machine does

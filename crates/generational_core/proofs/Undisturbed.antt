@@ -14,22 +14,24 @@ use Rattle.generational_core.specs.Cells.Content.{Here, Lent}
 use Rattle.generational_core.specs.Cells.Cell.{Value, Shared, Ref}
 use Rattle.generational_core.specs.State.{State, Ownership, IsSound}
 use Rattle.generational_core.specs.Boxes.{name_of, has_same_id}
-use Rattle.generational_core.specs.Borrowing.{Trouble, Guard, content_at, reach}
+use Rattle.generational_core.specs.State.{content_at}
+use Rattle.generational_core.specs.Borrowing.{Trouble, Guard, reach}
 use Rattle.generational_core.specs.Borrowing.{read_trouble, fill}
 use Rattle.generational_core.specs.Borrowing.{write_trouble}
-use Rattle.generational_core.specs.Ending.{sweep, without, close, hindrance_to, hindrance_at}
+use Rattle.generational_core.specs.Ending.{sweep, take_away, close, hindrance_to, hindrance_at}
 use Rattle.generational_core.specs.Machine.{Action, Answer, Fresh, Outcome, OwnerName, act, add_cell}
-use Rattle.generational_core.specs.Machine.{add_to_list, unless, is_known, refer, found, contents}
+use Rattle.generational_core.specs.Machine.{add_to_list, unless, is_known, refer, cell_at, cell_at}
 use Rattle.generational_core.specs.Machine.{clone_owner, release_owner, ownership, read_at, write_at, own_cell}
 use Rattle.generational_core.specs.Machine.{own_name, knows_reader, knows_writer, has_writer}
-use Rattle.generational_core.specs.Machine.{without_reader, set_at, point, turn}
+use Rattle.generational_core.specs.Machine.{remove_reader, set_at, point, turn}
 use Rattle.generational_core.specs.Machine.Action.{Make, MakeShared, Refer, NewOwner, CloneOwner}
 use Rattle.generational_core.specs.Machine.Action.{ReleaseOwner, LeakOwner, Read, Write}
 use Rattle.generational_core.specs.Machine.Action.{ReleaseReader, ReleaseWriter, SetValue, End}
 use Rattle.generational_core.specs.Machine.Action.{Point, CanRead, CanWrite}
 use Rattle.generational_core.specs.Steps.{Meets}
 use Rattle.generational_core.specs.Answers.{value_of}
-use Rattle.generational_core.specs.Keeping.{value_at, location_of, location_at, Sets}
+use Rattle.generational_core.specs.Keeping.{value_at, location_at, Sets}
+use Rattle.generational_core.specs.Cells.{location_of}
 use Rattle.generational_core.proofs.Fresh.{AreFresh, new_fresh}
 use Rattle.generational_core.proofs.Maps.{by_name, name_cases, get-insert_here}
 use Rattle.generational_core.proofs.Maps.{get-insert_apart}
@@ -125,7 +127,7 @@ module _ {T : Type 0} (Allowed : Type 0) (m : Name) where
   kept_close : (S : State T) (names : List Name) → KeptIn S (close S names)
   kept_close S names =
       ⊎_elim (λ e. ⊎_elim (λ f. kept_same (e.0 ∙ f)) (λ f. kept_gone (e.0 ∙ f.0))
-      (without_view S.cells names m)) (λ e. kept_gone e.0) (swept_view (without S.cells names) m)
+      (without_view S.cells names m)) (λ e. kept_gone e.0) (swept_view (take_away S.cells names) m)
 
   kept_cloned : (S : State T) (o : OwnerName) (h : Option Ownership) → KeptIn S (clone_owner S o h).1
   kept_cloned S o None = kept_same refl
@@ -161,7 +163,7 @@ module _ {T : Type 0} (Allowed : Type 0) (m : Name) where
       (filled_view S n c m)
 
   kept_read : (S : State T) (l : Location) (to : Option Name) (c : Option (Content T))
-      → contents S to ≡ c → KeptIn S (read_at S l to c).1
+      → content_of (cell_at S to) ≡ c → KeptIn S (read_at S l to c).1
   kept_read S l (Some n) (Some (Here v readers)) had =
       kept_filled S n _ (λ is allowed h k. sym (ap value_of had))
   kept_read S l to c had = kept_same refl
@@ -173,7 +175,7 @@ module _ {T : Type 0} (Allowed : Type 0) (m : Name) where
   kept_written S l to c = kept_same refl
 
   kept_without : (S : State T) (n : Name) (t : ℕ) (c : Option (Content T))
-      → content_at S n ≡ c → KeptIn S (without_reader S n t c)
+      → content_at S n ≡ c → KeptIn S (remove_reader S n t c)
   kept_without S n t (Some (Here v readers)) had =
       kept_filled S n _ (λ is allowed h k. sym (ap value_of had))
   kept_without S n t c had = kept_same refl
@@ -233,11 +235,11 @@ module _ {T : Type 0} (Allowed : Type 0) (m : Name) where
   kept_pointed S a b (Some _) to target at_a = kept_same refl
 
   kept_point : (S : State T) (a b : GenerationalPointer)
-      → KeptIn S (point S a b (own_cell S a.id) (reach S b) (found S (reach S b))).1
+      → KeptIn S (point S a b (own_cell S a.id) (reach S b) (cell_at S (reach S b))).1
   kept_point S a b = split (nat_eq a.id.store S.number)
     where
       split : (own : Bool) → KeptIn S (point S a b
-          (cond own (map.get S.cells (name_of a)) None) (reach S b) (found S (reach S b))).1
+          (cond own (map.get S.cells (name_of a)) None) (reach S b) (cell_at S (reach S b))).1
       split true = kept_pointed S a b (map.get S.cells (name_of a)) (reach S b) _ refl
       split false = kept_same refl
 
@@ -260,16 +262,16 @@ module _ {T : Type 0} where
   act_keeps S (ReleaseOwner o) f m s new = kept_let_go _ m S o (ownership S o)
   act_keeps S (LeakOwner o) f m s new = kept_same _ m refl
   act_keeps S (Read b l) f m s new = kept_unless _ m S (read_trouble S b) _
-      (kept_read _ m S l (reach S b) (contents S (reach S b)) refl)
+      (kept_read _ m S l (reach S b) (content_of (cell_at S (reach S b))) refl)
   act_keeps S (Write b l) f m s new = kept_unless _ m S (write_trouble S b) _
-      (kept_written _ m S l (reach S b) (contents S (reach S b)))
+      (kept_written _ m S l (reach S b) (content_of (cell_at S (reach S b))))
   act_keeps S (ReleaseReader g) f m s new = kept_if _ m S (knows_reader S g) _ _
       (λ _. kept_without _ m S g.cell g.ticket (content_at S g.cell) refl)
       (λ _. kept_same _ m refl)
   act_keeps S (ReleaseWriter g v) f m s new = kept_if _ m S (knows_writer S g) _ _
       (λ known. kept_back _ m S g v known) (λ _. kept_same _ m refl)
   act_keeps S (SetValue b v) f m s new =
-      kept_set _ m S b v (reach S b) (contents S (reach S b)) (λ allowed e. allowed e)
+      kept_set _ m S b v (reach S b) (content_of (cell_at S (reach S b))) (λ allowed e. allowed e)
   act_keeps S (End b) f m s new = kept_unless _ m S (hindrance_to S (own_name S b)) _
       (kept_close _ m S (own_name S b))
   act_keeps S (Point a b) f m s new =

@@ -1,4 +1,7 @@
 -- A call that the store refuses spends nothing: releases of guards and leaks are never refused.
+use Rattle.generational_core.specs.Steps.{no_names}
+use Rattle.generational_core.specs.Steps.{answer_to}
+use Rattle.generational_core.specs.Steps.{needs_memory}
 use Rattle.std.proofs.Common.{◌≡◌, ℕ, Bool, true, false, cond}
 use Rattle.std.proofs.Common.{Option, None, Some, refl, sym, ap, ◌∙◌}
 use Rattle.std.proofs.Common.{inl, inr, subst}
@@ -11,7 +14,7 @@ use Rattle.generational_core.specs.State.{State}
 use Rattle.generational_core.specs.Machine.{Action, Answer, Fresh, Outcome, OwnerName, act}
 use Rattle.generational_core.specs.Machine.{knows_reader, knows_writer}
 use Rattle.generational_core.specs.Machine.Action.{LeakOwner, ReleaseReader, ReleaseWriter}
-use Rattle.generational_core.specs.Machine.Answer.{Done, Flag, Back, Refused}
+use Rattle.generational_core.specs.Machine.Answer.{Made, Owned, Reads, Troubled, Done, Flag, Back, Refused}
 use Rattle.generational_core.specs.Steps.{Meets, limit_tickets, may_lack}
 use Rattle.generational_core.specs.Session.{SessionState, Held, Request, ask, spend, release}
 use Rattle.generational_core.specs.Session.{with_box, with_owner, box_in, owner_in, at_place, replace}
@@ -31,12 +34,21 @@ module _ {T : Type 0} where
   goes_if S true x y h k = h
   goes_if S false x y h k = k
 
+  needs_nothing : (S : State T) (action : Action T) (answer : Answer T)
+      → Goes answer → needs_memory S answer action ≡ false
+  needs_nothing S action (Made b) goes = absurd goes
+  needs_nothing S action (Owned o) goes = absurd goes
+  needs_nothing S action (Reads g) goes = absurd goes
+  needs_nothing S action (Troubled t) goes = absurd goes
+  needs_nothing S action _ goes = refl
+
   never_refused : (S R : State T) (action : Action T) (e : StoreError)
-      → ((new : Fresh) → Goes (limit_tickets S (act S action new)).0) → may_lack S action ≡ false
+      → ((new : Fresh) → Goes (limit_tickets S (act S action new)).0)
       → Meets S action (Refused e) R → ⊥
-  never_refused S R action e goes able (inl m) =
+  never_refused S R action e goes (inl m) =
       subst Goes (sym (ap (λ (out : Outcome T). out.0) m.2)) (goes m.0)
-  never_refused S R action e goes able (inr m) = true≢false (sym m.0 ∙ able)
+  never_refused S R action e goes (inr m) =
+      true≢false (sym m.0 ∙ needs_nothing S action (answer_to S action) (goes no_names))
 
   -- what the store refuses leaves the places as they are
   abbrev pub SpendsNothing : SessionState T → Call T → Request T → Type 0
@@ -61,9 +73,9 @@ module _ {T : Type 0} where
   nothing_released : (s : SessionState T) (p : ℕ) (h : Held T)
       → SpendsNothing s (call.Release p) (release h)
   nothing_released s p (Reading g) = λ e R m. absurd (never_refused s.state R (ReleaseReader g) e
-      (λ new. goes_if s.state (knows_reader s.state g) _ _ tt tt) refl m)
+      (λ new. goes_if s.state (knows_reader s.state g) _ _ tt tt) m)
   nothing_released s p (Writing g v) = λ e R m. absurd (never_refused s.state R
-      (ReleaseWriter g v) e (λ new. goes_if s.state (knows_writer s.state g) _ _ tt tt) refl m)
+      (ReleaseWriter g v) e (λ new. goes_if s.state (knows_writer s.state g) _ _ tt tt) m)
   nothing_released s p _ = tt
 
   nothing_replaced : (s : SessionState T) (p : ℕ) (v : T) (h : Held T)
@@ -82,7 +94,7 @@ module _ {T : Type 0} where
       nothing_by_owner s (call.ReleaseOwner p) (owner_in s p) None _ (λ o e R m. refl)
   spends_nothing s (call.LeakOwner p) =
       nothing_by_owner s (call.LeakOwner p) (owner_in s p) None _
-      (λ o e R m. absurd (never_refused s.state R (LeakOwner o) e (λ new. tt) refl m))
+      (λ o e R m. absurd (never_refused s.state R (LeakOwner o) e (λ new. tt) m))
   spends_nothing s (call.TryRead a l) =
       nothing_by_box s (call.TryRead a l) (box_in s a) None _ (λ b e R m. refl)
   spends_nothing s (call.TryWrite a l) =

@@ -13,7 +13,8 @@ use Rattle.generational_core.specs.Boxes.{pointer_of}
 use Rattle.generational_core.specs.Cells.{Content}
 use Rattle.generational_core.specs.Cells.Content.{Here, Lent}
 use Rattle.generational_core.specs.State.{State}
-use Rattle.generational_core.specs.Borrowing.{Trouble, Guard, content_at}
+use Rattle.generational_core.specs.State.{content_at}
+use Rattle.generational_core.specs.Borrowing.{Trouble, Guard}
 use Rattle.generational_core.specs.Borrowing.Trouble.{Dropped, BeingRead, BeingWritten}
 use Rattle.generational_core.specs.Writing.{WriteGuard}
 use Rattle.generational_core.specs.declared.error.StoreError.{StoreError}

@@ -1,4 +1,5 @@
 -- What a box reaches, and how a borrow of it is answered.
+use Rattle.generational_core.specs.State.{content_at}
 use Rattle.std.specs.Prelude.{ℕ, ◌+◌, if◌then◌else◌, nat_eq, List, [], ◌∷◌}
 use Rattle.std.specs.Prelude.{Option, None, Some, map as list_map}
 use Rattle.std.specs.FinMap as map
@@ -24,52 +25,43 @@ pub record Guard : Type 0 where
   pub cell : Name
   pub ticket : ℕ
 
--- how a read of a content is refused
-abbrev pub read_refusal : {T : Type 0} → Option (Content T) → Option Trouble
-read_refusal None = None
-read_refusal (Some (Here v readers)) = None
-read_refusal (Some (Lent w)) = Some (BeingWritten w.location)
-
--- how a write of a content is refused
-abbrev pub write_refusal : {T : Type 0} → Option (Content T) → Option Trouble
-write_refusal None = None
-write_refusal (Some (Here v [])) = None
-write_refusal (Some (Here v (r ∷ readers))) =
-    Some (BeingRead (list_map (λ b. b.location) (r ∷ readers)))
-write_refusal (Some (Lent w)) = Some (BeingWritten w.location)
-
-abbrev pub not_reached : Option Name → Location → (Name → Option Trouble) → Option Trouble
-not_reached None l at = Some (Dropped l)
-not_reached (Some n) l at = at n
+-- how a box is refused that was made at l: where it reaches nothing, its value is gone
+abbrev pub refusal_at : Option Name → Location → (Name → Option Trouble) → Option Trouble
+refusal_at None l at = Some (Dropped l)
+refusal_at (Some n) l at = at n
 
 module _ {T : Type 0} where
-  -- where a name's cell leads
-  abbrev pub leads_to : Option (Cell T) → Name → Option Name
-  leads_to None n = None
-  leads_to (Some (Value c l)) n = Some n
-  leads_to (Some (Shared c l)) n = None
-  leads_to (Some (Ref m l)) n = Some m
+  -- how a read of a content is refused, and how a write of it is
+  abbrev pub read_refusal : Option (Content T) → Option Trouble
+  read_refusal (Some (Lent w)) = Some (BeingWritten w.location)
+  read_refusal _ = None
 
-  -- what a box reaches: its own Value, or the target of its Ref
+  abbrev pub write_refusal : Option (Content T) → Option Trouble
+  write_refusal (Some (Here v (r ∷ readers))) =
+      Some (BeingRead (list_map (λ b. b.location) (r ∷ readers)))
+  write_refusal c = read_refusal c
+
+  -- where a name's cell leads: a Value to itself, and a Ref to its target
+  abbrev pub leads_to : Option (Cell T) → Name → Option Name
+  leads_to (Some (Value c l)) n = Some n
+  leads_to (Some (Ref m l)) n = Some m
+  leads_to _ n = None
+
+  -- what a box reaches
   unfoldable pub reach : State T → GenerationalPointer → Option Name
   reach S b =
       if nat_eq b.id.store S.number then leads_to (map.get S.cells (name_of b)) (name_of b) else None
 
-  abbrev pub content_at : State T → Name → Option (Content T)
-  content_at S n = content_of (map.get S.cells n)
-
-  -- how a read of a box is refused
+  -- how a read of a box is refused, and how a write of it is
   unfoldable pub read_trouble : State T → GenerationalPointer → Option Trouble
-  read_trouble S b = not_reached (reach S b) b.created_at (λ n. read_refusal (content_at S n))
+  read_trouble S b = refusal_at (reach S b) b.created_at (λ n. read_refusal (content_at S n))
 
-  -- how a write of a box is refused
   unfoldable pub write_trouble : State T → GenerationalPointer → Option Trouble
-  write_trouble S b = not_reached (reach S b) b.created_at (λ n. write_refusal (content_at S n))
+  write_trouble S b = refusal_at (reach S b) b.created_at (λ n. write_refusal (content_at S n))
 
-  -- the state with another content in a cell
+  -- the state with another content in a cell, and with one ticket more given
   abbrev pub fill : State T → Name → Content T → State T
   fill S n c = record S { cells = change S.cells n (refill c) }
 
-  -- the state with one ticket more given
   abbrev pub take_ticket : State T → State T
   take_ticket S = record S { next = S.next + 1 }

@@ -18,11 +18,10 @@ name_in id = record { slot = id.slot; generation = id.generation }
 abbrev pub name_of : GenerationalPointer → Name
 name_of b = name_in b.id
 
--- the id of a name in a store
+-- the id of a name in a store, and its box, made at a location
 abbrev pub id_of : ℕ → Name → GenerationalBoxId
 id_of number n = record { store = number; slot = n.slot; generation = n.generation }
 
--- the box of a name in a store
 abbrev pub box_of : ℕ → Name → Location → GenerationalPointer
 box_of number n l = record { id = id_of number n; created_at = l }
 

@@ -16,29 +16,30 @@ pub data Cell (T : Type 0) : Type 0 where
   Shared : (content : Content T) (created : Location) → Cell T
   Ref : (target : Name) (created : Location) → Cell T
 
--- the content of a Value or a Shared cell
-abbrev pub content_of : {T : Type 0} → Option (Cell T) → Option (Content T)
-content_of None = None
-content_of (Some (Value c l)) = Some c
-content_of (Some (Shared c l)) = Some c
-content_of (Some (Ref m l)) = None
+module _ {T : Type 0} where
+  -- the content of a Value or a Shared cell, and the cell with another content
+  abbrev pub content_of : Option (Cell T) → Option (Content T)
+  content_of (Some (Value c l)) = Some c
+  content_of (Some (Shared c l)) = Some c
+  content_of _ = None
 
--- the cell with another content
-abbrev pub refill : {T : Type 0} → Content T → Cell T → Cell T
-refill c (Value old l) = Value c l
-refill c (Shared old l) = Shared c l
-refill c (Ref m l) = Ref m l
+  abbrev pub refill : Content T → Cell T → Cell T
+  refill c (Value old l) = Value c l
+  refill c (Shared old l) = Shared c l
+  refill c ref = ref
 
--- whether a cell is a Shared one
-abbrev pub is_shared : {T : Type 0} → Option (Cell T) → Bool
-is_shared None = false
-is_shared (Some (Value c l)) = false
-is_shared (Some (Shared c l)) = true
-is_shared (Some (Ref m l)) = false
+  -- whether a cell is a Shared one, and whether it is a Ref to a name
+  abbrev pub is_shared : Option (Cell T) → Bool
+  is_shared (Some (Shared c l)) = true
+  is_shared _ = false
 
--- whether a cell is a Ref to a name
-abbrev pub refers_to : {T : Type 0} → Name → Option (Cell T) → Bool
-refers_to n None = false
-refers_to n (Some (Value c l)) = false
-refers_to n (Some (Shared c l)) = false
-refers_to n (Some (Ref m l)) = is_name n m
+  abbrev pub refers_to : Name → Option (Cell T) → Bool
+  refers_to n (Some (Ref m l)) = is_name n m
+  refers_to n _ = false
+
+  -- the location at which a cell was made
+  abbrev pub location_of : Option (Cell T) → Option Location
+  location_of None = None
+  location_of (Some (Value c l)) = Some l
+  location_of (Some (Shared c l)) = Some l
+  location_of (Some (Ref m l)) = Some l

@@ -1,6 +1,7 @@
 -- What ends when names end, and what hinders it.
 use Rattle.std.specs.Prelude.{Bool, if◌then◌else◌, not, ◌||◌, List, [], ◌∷◌}
 use Rattle.std.specs.Prelude.{Option, None, Some, is_some}
+use Rattle.std.specs.Option.{option_or}
 use Rattle.std.specs.FinMap as map
 use Rattle.generational_core.specs.Names.{Name, NameMap, among}
 use Rattle.generational_core.specs.Cells.{Cell, content_of, is_shared}
@@ -8,50 +9,40 @@ use Rattle.generational_core.specs.Cells.Cell.{Value, Shared, Ref}
 use Rattle.generational_core.specs.State.{State, is_named}
 use Rattle.generational_core.specs.Borrowing.{Trouble, write_refusal}
 
-abbrev pub or_else : Option Trouble → Option Trouble → Option Trouble
-or_else None other = other
-or_else (Some t) other = Some t
-
 module _ {T : Type 0} where
   -- the cells but for the Shared ones that no live Ref names
   unfoldable pub sweep : NameMap (Cell T) → NameMap (Cell T)
   sweep cells = map.retain_keys cells (λ n. not (is_shared (map.get cells n)) || is_named cells n)
 
   -- the cells but for the Value and Ref cells of these names
-  unfoldable pub without : NameMap (Cell T) → List Name → NameMap (Cell T)
-  without cells names =
+  unfoldable pub take_away : NameMap (Cell T) → List Name → NameMap (Cell T)
+  take_away cells names =
       map.retain_keys cells (λ n. is_shared (map.get cells n) || not (among names n))
 
-  -- the cells that are left when these names end
+  -- the cells that are left when these names end, and the state in which they have ended
   abbrev pub cells_after : NameMap (Cell T) → List Name → NameMap (Cell T)
-  cells_after cells names = sweep (without cells names)
+  cells_after cells names = sweep (take_away cells names)
 
-  -- the state in which these names have ended
   abbrev pub close : State T → List Name → State T
   close S names = record S { cells = cells_after S.cells names }
 
-  -- whether a live cell is among those that go: the doomed ones
-  abbrev pub is_doomed : NameMap (Cell T) → Name → Bool
-  is_doomed left n = not (is_some (map.get left n))
-
-  -- what hinders the end of a cell: a borrow of it, if it is doomed
+  -- what hinders the end of a cell that isn't left: a borrow of it
   abbrev pub hindrance_at : NameMap (Cell T) → NameMap (Cell T) → Name → Option Trouble
   hindrance_at cells left n =
-      if is_doomed left n then write_refusal (content_of (map.get cells n)) else None
+      if not (is_some (map.get left n)) then write_refusal (content_of (map.get cells n)) else None
 
   -- what hinders the end of a name: a borrow of its Value, or of its Ref's target
   abbrev pub hindrance_of : NameMap (Cell T) → NameMap (Cell T)
       → Option (Cell T) → Name → Option Trouble
-  hindrance_of cells left None n = None
   hindrance_of cells left (Some (Value c l)) n = hindrance_at cells left n
-  hindrance_of cells left (Some (Shared c l)) n = None
   hindrance_of cells left (Some (Ref m l)) n = hindrance_at cells left m
+  hindrance_of cells left _ n = None
 
+  -- what hinders the end of these names, at the first of them that is hindered
   abbrev pub first_hindrance : NameMap (Cell T) → NameMap (Cell T) → List Name → Option Trouble
   first_hindrance cells left [] = None
   first_hindrance cells left (n ∷ names) =
-      or_else (hindrance_of cells left (map.get cells n) n) (first_hindrance cells left names)
+      option_or (hindrance_of cells left (map.get cells n) n) (first_hindrance cells left names)
 
-  -- what hinders the end of these names, at the first of them that is hindered
   unfoldable pub hindrance_to : State T → List Name → Option Trouble
   hindrance_to S names = first_hindrance S.cells (cells_after S.cells names) names

@@ -1,4 +1,5 @@
 -- When a value stays as it is: no writer has it, and no call sets it.
+use Rattle.generational_core.specs.Cells.{location_of}
 use Rattle.std.specs.Prelude.{◌≡◌, true, List, [], ◌∷◌, Option, None, Some, is_some}
 use Rattle.std.specs.FinMap as map
 use Rattle.generational_core.specs.declared.error.Location.{Location}
@@ -8,7 +9,8 @@ use Rattle.generational_core.specs.Names.{Name}
 use Rattle.generational_core.specs.Cells.{Cell}
 use Rattle.generational_core.specs.Cells.Cell.{Value, Shared, Ref}
 use Rattle.generational_core.specs.State.{State}
-use Rattle.generational_core.specs.Borrowing.{reach, content_at}
+use Rattle.generational_core.specs.State.{content_at}
+use Rattle.generational_core.specs.Borrowing.{reach}
 use Rattle.generational_core.specs.Machine.{Action}
 use Rattle.generational_core.specs.Machine.Action.{SetValue}
 use Rattle.generational_core.specs.Answers.{value_of}
@@ -21,12 +23,6 @@ module _ {T : Type 0} where
   value_at S m = value_of (content_at S m)
 
   -- the location at which a live cell was made
-  abbrev pub location_of : Option (Cell T) → Option Location
-  location_of None = None
-  location_of (Some (Value c l)) = Some l
-  location_of (Some (Shared c l)) = Some l
-  location_of (Some (Ref m l)) = Some l
-
   abbrev pub location_at : State T → Name → Option Location
   location_at S m = location_of (map.get S.cells m)
 

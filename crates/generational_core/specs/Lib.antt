@@ -1,9 +1,9 @@
 pub mod Answers
 pub mod Borrowing
-pub mod Bounds
 pub mod Boxes
 pub mod Carrying
 pub mod Cells
+pub mod Conditions
 pub mod Ending
 pub mod Guards
 pub mod History

@@ -1,4 +1,7 @@
 -- The machine: what each call answers and leaves, once the new names are chosen.
+use Rattle.generational_core.specs.Cells.{location_of}
+use Rattle.generational_core.specs.Cells.{content_of}
+use Rattle.std.specs.Prelude.{unwrap_or}
 use Rattle.std.specs.Prelude.{ℕ, ◌+◌, ◌-◌, Bool, true, false, if◌then◌else◌, not, ◌&&◌}
 use Rattle.std.specs.Prelude.{nat_eq, nat_lt, max, List, [], ◌∷◌, ◌++◌}
 use Rattle.std.specs.Prelude.{Option, None, Some, is_some, is_none}
@@ -17,7 +20,8 @@ use Rattle.generational_core.specs.Cells.Content.{Here, Lent}
 use Rattle.generational_core.specs.Cells.Cell.{Value, Shared, Ref}
 use Rattle.generational_core.specs.State.{State, Ownership}
 use Rattle.generational_core.specs.Boxes.{name_in, name_of, box_of, has_same_id}
-use Rattle.generational_core.specs.Borrowing.{Trouble, Guard, reach, content_at}
+use Rattle.generational_core.specs.Borrowing.{Trouble, Guard, reach}
+use Rattle.generational_core.specs.State.{content_at}
 use Rattle.generational_core.specs.Borrowing.{read_trouble, write_trouble, fill, take_ticket}
 use Rattle.generational_core.specs.Borrowing.Trouble.{Dropped}
 use Rattle.generational_core.specs.Ending.{sweep, close, hindrance_to, hindrance_at}
@@ -73,12 +77,6 @@ module _ {T : Type 0} where
   unless (Some t) S other = (Troubled t, S)
   unless None S other = other
 
-  -- the state with one cell more, under a name that is given from now on
-  abbrev pub add_cell : State T → Name → Cell T → State T
-  add_cell S n cell =
-      let cells = map.insert S.cells n cell in
-      record S { cells = cells; given = set.insert S.given n; peak = max S.peak (map.len cells) }
-
   -- the owner's record, if the owner is of this store
   abbrev pub ownership : State T → OwnerName → Option Ownership
   ownership S o = if nat_eq o.store S.number then map.get S.owners o.key else None
@@ -88,6 +86,12 @@ module _ {T : Type 0} where
   is_known S None = true
   is_known S (Some o) = is_some (ownership S o)
 
+  -- the state with one cell more, under a name that is given from now on
+  abbrev pub add_cell : State T → Name → Cell T → State T
+  add_cell S n cell =
+      let cells = map.insert S.cells n cell in
+      record S { cells = cells; given = set.insert S.given n; peak = max S.peak (map.len cells) }
+
   -- the state with a name at the end of the owner's list
   abbrev pub add_to_list : State T → Option OwnerName → Name → State T
   add_to_list S None n = S
@@ -95,46 +99,34 @@ module _ {T : Type 0} where
       let more = λ (h : Ownership). record h { names = h.names ++ n ∷ [] } in
       record S { owners = change S.owners o.key more }
 
-  abbrev pub make_value : State T → Option OwnerName → T → Location → Name → Outcome T
-  make_value S o v l n =
-      (Made (box_of S.number n l), add_to_list (add_cell S n (Value (Here v []) l)) o n)
+  -- a box of a new cell, which is added to the owner's list
+  abbrev pub make : State T → Option OwnerName → Name → Cell T → Location → Outcome T
+  make S o n cell l = (Made (box_of S.number n l), add_to_list (add_cell S n cell) o n)
 
   -- a Shared cell first, then a Ref to it, whose box is answered
   abbrev pub make_shared : State T → Option OwnerName → T → Location → Fresh → Outcome T
   make_shared S o v l f =
-      let shared = add_cell S f.first (Shared (Here v []) l) in
-      (Made (box_of S.number f.second l), add_to_list (add_cell shared f.second (Ref f.first l)) o f.second)
+      make (add_cell S f.first (Shared (Here v []) l)) o f.second (Ref f.first l) l
 
-  -- the cell that was reached
-  abbrev pub found : State T → Option Name → Option (Cell T)
-  found S None = None
-  found S (Some n) = map.get S.cells n
-
-  -- the content that was reached
-  abbrev pub contents : State T → Option Name → Option (Content T)
-  contents S None = None
-  contents S (Some m) = content_at S m
+  -- the cell at a name that was reached
+  abbrev pub cell_at : State T → Option Name → Option (Cell T)
+  cell_at S None = None
+  cell_at S (Some n) = map.get S.cells n
 
   -- a Ref to what was reached, if that is a Shared cell, with that cell's location
   abbrev pub refer : State T → Option OwnerName → GenerationalPointer
       → Option Name → Option (Cell T) → Name → Outcome T
-  refer S o b (Some m) (Some (Shared c l)) n =
-      (Made (box_of S.number n l), add_to_list (add_cell S n (Ref m l)) o n)
+  refer S o b (Some m) (Some (Shared c l)) n = make S o n (Ref m l) l
   refer S o b _ _ n = (Troubled (Dropped b.created_at), S)
 
   abbrev pub set_ownership : State T → ℕ → Ownership → State T
   set_ownership S k h = record S { owners = map.insert S.owners k h }
 
-  -- a record with an empty list and one owner value, under the next ticket
-  abbrev pub new_owner : State T → Outcome T
-  new_owner S =
-      let after = set_ownership S S.next (record { names = []; count = 1 }) in
-      (Owned (record { store = S.number; key = S.next }), take_ticket after)
-
   -- one owner value more
   abbrev pub clone_owner : State T → OwnerName → Option Ownership → Outcome T
   clone_owner S o None = (Refused UnknownOwner, S)
-  clone_owner S o (Some h) = (Owned o, take_ticket (set_ownership S o.key (record h { count = h.count + 1 })))
+  clone_owner S o (Some h) =
+      (Owned o, take_ticket (set_ownership S o.key (record h { count = h.count + 1 })))
 
   -- one owner value less; with the last one all boxes of the list end, or nothing does
   abbrev pub release_owner : State T → OwnerName → Option Ownership → Outcome T
@@ -154,9 +146,10 @@ module _ {T : Type 0} where
 
   -- a reader at the end of the list
   abbrev pub read_at : State T → Location → Option Name → Option (Content T) → Outcome T
-  read_at S l (Some m) (Some (Here v readers)) =
-      let after = fill S m (Here v (readers ++ next_borrow S l ∷ [])) in
-      (Reads (next_guard S m), take_ticket after)
+  read_at S l (Some m) (Some (Here v readers)) = (
+    Reads (next_guard S m),
+    take_ticket (fill S m (Here v (readers ++ next_borrow S l ∷ []))),
+  )
   read_at S l _ _ = (Done, S)
 
   -- a writer, whose guard owns the value
@@ -165,31 +158,27 @@ module _ {T : Type 0} where
       (Writes (next_guard S m) v, take_ticket (fill S m (Lent (next_borrow S l))))
   write_at S l _ _ = (Done, S)
 
-  -- whether the content has the ticket as a reader's
+  -- whether the ticket is one of the content's readers, or its writer's
   abbrev pub has_reader : Option (Content T) → ℕ → Bool
-  has_reader None t = false
   has_reader (Some (Here v readers)) t = list_any (λ r. nat_eq r.ticket t) readers
-  has_reader (Some (Lent w)) t = false
+  has_reader _ t = false
 
-  -- whether the content has the ticket as its writer's
   abbrev pub has_writer : Option (Content T) → ℕ → Bool
-  has_writer None t = false
-  has_writer (Some (Here v readers)) t = false
   has_writer (Some (Lent w)) t = nat_eq w.ticket t
+  has_writer _ t = false
 
-  -- whether the state knows a reader's guard: its number, and its ticket at its cell
+  -- whether the state knows a reader's guard, or a writer's: its number, and its ticket at its cell
   abbrev pub knows_reader : State T → Guard → Bool
   knows_reader S g = nat_eq g.store S.number && has_reader (content_at S g.cell) g.ticket
 
-  -- the same of a writer's guard
   abbrev pub knows_writer : State T → Guard → Bool
   knows_writer S g = nat_eq g.store S.number && has_writer (content_at S g.cell) g.ticket
 
-  -- the readers without the ticket's own
-  abbrev pub without_reader : State T → Name → ℕ → Option (Content T) → State T
-  without_reader S n t (Some (Here v readers)) =
+  -- the state without the reader of a ticket
+  abbrev pub remove_reader : State T → Name → ℕ → Option (Content T) → State T
+  remove_reader S n t (Some (Here v readers)) =
       fill S n (Here v (filter (λ r. not (nat_eq r.ticket t)) readers))
-  without_reader S n t _ = S
+  remove_reader S n t _ = S
 
   -- another value where there is no borrow; the value comes back from what is read or lent
   abbrev pub set_at : State T → GenerationalPointer → T
@@ -198,20 +187,12 @@ module _ {T : Type 0} where
   set_at S b v (Some m) (Some (Here old [])) = (Old old, fill S m (Here v []))
   set_at S b v (Some m) _ = (Back v, S)
 
-  -- the name of a box, if the box is of this store
+  -- the name of a box, and the cell that an id names, if they are of this store
   abbrev pub own_name : State T → GenerationalPointer → List Name
   own_name S b = if nat_eq b.id.store S.number then name_of b ∷ [] else []
 
-  -- the cell that an id names, if it is of this store
   abbrev pub own_cell : State T → GenerationalBoxId → Option (Cell T)
   own_cell S id = if nat_eq id.store S.number then map.get S.cells (name_in id) else None
-
-  -- the location at which a cell was made
-  abbrev pub created_at : Option (Cell T) → GenerationalPointer → Location
-  created_at None b = b.created_at
-  created_at (Some (Value c l)) b = l
-  created_at (Some (Shared c l)) b = l
-  created_at (Some (Ref m l)) b = l
 
   -- a's cell, a Ref to old made at l, becomes a Ref to new, and old goes if no Ref names it then
   abbrev pub turn : State T → Name → Name → Name → Location → Outcome T
@@ -226,38 +207,41 @@ module _ {T : Type 0} where
       → Option (Cell T) → Option Name → Option (Cell T) → Outcome T
   point S a b None to target = (Troubled (Dropped a.created_at), S)
   point S a b (Some (Ref old l)) (Some new) (Some (Shared c k)) = turn S (name_of a) old new l
-  point S a b (Some _) to target = (Troubled (Dropped (created_at target b)), S)
+  point S a b (Some _) to target =
+      (Troubled (Dropped (unwrap_or (location_of target) b.created_at)), S)
 
   -- what a call answers and leaves, but for tickets that run out and for want of memory
   abbrev pub act : State T → Action T → Fresh → Outcome T
   act S (Make o v l) f =
-      if is_known S o then make_value S o v l f.first else (Refused UnknownOwner, S)
+      if is_known S o then make S o f.first (Value (Here v []) l) l else (Refused UnknownOwner, S)
   act S (MakeShared o v l) f =
       if is_known S o then make_shared S o v l f else (Refused UnknownOwner, S)
   act S (Refer o b) f =
       if is_known S o
-      then unless (read_trouble S b) S (refer S o b (reach S b) (found S (reach S b)) f.first)
+      then unless (read_trouble S b) S (refer S o b (reach S b) (cell_at S (reach S b)) f.first)
       else (Refused UnknownOwner, S)
-  act S NewOwner f = new_owner S
+  act S NewOwner f =
+      let after = set_ownership S S.next (record { names = []; count = 1 }) in
+      (Owned (record { store = S.number; key = S.next }), take_ticket after)
   act S (CloneOwner o) f = clone_owner S o (ownership S o)
   act S (ReleaseOwner o) f = release_owner S o (ownership S o)
   act S (LeakOwner o) f = (Done, S)
   act S (Read b l) f =
-      unless (read_trouble S b) S (read_at S l (reach S b) (contents S (reach S b)))
+      unless (read_trouble S b) S (read_at S l (reach S b) (content_of (cell_at S (reach S b))))
   act S (Write b l) f =
-      unless (write_trouble S b) S (write_at S l (reach S b) (contents S (reach S b)))
+      unless (write_trouble S b) S (write_at S l (reach S b) (content_of (cell_at S (reach S b))))
   act S (ReleaseReader g) f =
       if knows_reader S g
-      then (Flag true, without_reader S g.cell g.ticket (content_at S g.cell))
+      then (Flag true, remove_reader S g.cell g.ticket (content_at S g.cell))
       else (Flag false, S)
   act S (ReleaseWriter g v) f =
       if knows_writer S g then (Done, fill S g.cell (Here v [])) else (Back v, S)
-  act S (SetValue b v) f = set_at S b v (reach S b) (contents S (reach S b))
+  act S (SetValue b v) f = set_at S b v (reach S b) (content_of (cell_at S (reach S b)))
   act S (End b) f = unless (hindrance_to S (own_name S b)) S (Done, close S (own_name S b))
   act S (Point a b) f =
       if has_same_id a b
       then (Done, S)
       else unless (read_trouble S b) S
-      (point S a b (own_cell S a.id) (reach S b) (found S (reach S b)))
+      (point S a b (own_cell S a.id) (reach S b) (cell_at S (reach S b)))
   act S (CanRead b) f = (Flag (is_none (read_trouble S b)), S)
   act S (CanWrite b) f = (Flag (is_none (write_trouble S b)), S)

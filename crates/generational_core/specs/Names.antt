@@ -15,29 +15,26 @@ pub record Name : Type 0 where
 abbrev pub name_cmp : Name → Name → Ordering
 name_cmp a b = ordering_then (nat_cmp a.slot b.slot) (nat_cmp a.generation b.generation)
 
--- whether two names are the same
+-- whether two names are the same, and whether a name stands in a list
 unfoldable pub is_name : Name → Name → Bool
 is_name a b = eq_by_cmp name_cmp a b
 
--- whether a name stands in a list
 abbrev pub among : List Name → Name → Bool
 among names n = list_any (is_name n) names
 
--- a finite set of names
+-- finite sets of names, and finite maps under them
 abbrev pub Names : Type 0
 Names = set.FinSet name_cmp
 
--- a finite map under names
 abbrev pub NameMap : Type 0 → Type 0
 NameMap X = map.FinMap name_cmp X
 
--- what `change` makes of what stands at a key
+-- the map in which what stands at a key, if anything does, is changed by f
 abbrev pub change_if : {K X : Type 0} {R : K → K → Ordering}
     → map.FinMap R X → K → (X → X) → Option X → map.FinMap R X
 change_if m k f None = m
 change_if m k f (Some x) = map.insert m k (f x)
 
--- the map in which what stands at a key, if anything does, is changed by f
 unfoldable pub change : {K X : Type 0} {R : K → K → Ordering}
     → map.FinMap R X → K → (X → X) → map.FinMap R X
 change m k f = change_if m k f (map.get m k)

@@ -12,7 +12,7 @@ use Rattle.generational_core.specs.declared.boxes.GenerationalBoxId.{Generationa
 use Rattle.generational_core.specs.declared.calls.Call.{Call}
 use Rattle.generational_core.specs.Names.{Name, Names, among}
 use Rattle.generational_core.specs.Boxes.{id_of}
-use Rattle.generational_core.specs.State.{fresh}
+use Rattle.generational_core.specs.Conditions.{fresh}
 use Rattle.generational_core.specs.Machine.{Fresh, act}
 use Rattle.generational_core.specs.Session.{SessionState, Held, SessionReply, Request, ask, settle}
 use Rattle.generational_core.specs.Session.{add_place, swap, refusal}

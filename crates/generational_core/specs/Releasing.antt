@@ -3,7 +3,8 @@ use Rattle.std.specs.Prelude.{◌≡◌, true, false, List, None, Some}
 use Rattle.std.specs.FinMap as map
 use Rattle.generational_core.specs.Names.{Name, among}
 use Rattle.generational_core.specs.Cells.{is_shared}
-use Rattle.generational_core.specs.State.{State, Ownership, IsNamed}
+use Rattle.generational_core.specs.State.{State, Ownership}
+use Rattle.generational_core.specs.Conditions.{IsNamed}
 use Rattle.generational_core.specs.Machine.{OwnerName, ownership}
 use Rattle.generational_core.specs.Machine.Action.{ReleaseOwner}
 use Rattle.generational_core.specs.Machine.Answer.{Done}

@@ -4,7 +4,8 @@ use Rattle.std.specs.FinSet as set
 use Rattle.generational_core.specs.declared.boxes.GenerationalPointer.{GenerationalPointer}
 use Rattle.generational_core.specs.declared.calls.Call.{Call}
 use Rattle.generational_core.specs.declared.calls.Call.TheVariants as call
-use Rattle.generational_core.specs.State.{State, Ownership, IsEnded}
+use Rattle.generational_core.specs.State.{State, Ownership}
+use Rattle.generational_core.specs.Conditions.{IsEnded}
 use Rattle.generational_core.specs.Boxes.{name_of}
 use Rattle.generational_core.specs.Borrowing.Trouble.{Dropped}
 use Rattle.generational_core.specs.Machine.{OwnerName, ownership}

@@ -6,7 +6,7 @@ use Rattle.std.specs.List.{IsDistinct, AllByRecursion}
 use mathlib.Core.HLevel.{is_prop→PathP}
 use Rattle.generational_core.specs.Names.{Name}
 use Rattle.generational_core.specs.State.{State, IsSound}
-use Rattle.generational_core.specs.Bounds.{IsBounded}
+use Rattle.generational_core.specs.Conditions.{IsBounded}
 
 -- a name is stored as its slot and its generation
 name_code : Coded Name

@@ -7,7 +7,7 @@ use Rattle.generational_core.specs.Boxes.{name_of}
 use Rattle.generational_core.specs.State.{IsSound, IsGiven}
 use Rattle.generational_core.specs.Borrowing.{Guard}
 use Rattle.generational_core.specs.Machine.{OwnerName, knows_reader, knows_writer}
-use Rattle.generational_core.specs.Bounds.{IsBounded}
+use Rattle.generational_core.specs.Conditions.{IsBounded}
 use Rattle.generational_core.specs.Records.{count_under}
 use Rattle.generational_core.specs.Session.{SessionState, Held, at_place}
 use Rattle.generational_core.specs.Session.Held.{Boxed, Reading, Writing, Owning}

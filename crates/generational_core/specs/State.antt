@@ -21,54 +21,25 @@ pub record Ownership : Type 0 where
 abbrev pub Owners : Type 0
 Owners = map.FinMap nat_cmp Ownership
 
--- What a store stands for.
+-- What a store stands for. A name is live if a cell stands under it.
 pub record State (T : Type 0) : Type 0 where
-  -- the number by which stores tell their boxes apart
-  pub number : ℕ
-  -- what is live: a name is live if it is in this map
+  pub number : ℕ  -- by which stores tell their boxes apart
   pub cells : NameMap (Cell T)
-  -- all names ever given
-  pub given : Names
-  -- the records of owners, by their keys
+  pub given : Names  -- all names ever given
   pub owners : Owners
-  -- the next ticket
-  pub next : ℕ
-  -- the most cells that were live at once
-  pub peak : ℕ
-  -- the first generation of a slot
-  pub start : ℕ
-
--- the state without given names and without owners' records
-abbrev pub fresh : {T : Type 0} → ℕ → ℕ → ℕ → State T
-fresh number start next =
-    record {
-      number = number;
-      cells = map.empty;
-      given = set.empty;
-      owners = map.empty;
-      next = next;
-      peak = 0;
-      start = start;
-    }
+  pub next : ℕ  -- the next ticket, of a borrow or as an owner's key
+  pub peak : ℕ  -- the most cells that were live at once
+  pub start : ℕ  -- the first generation of a slot
 
 module _ {T : Type 0} where
-  -- no name was given, and no owner's record stands
-  abbrev pub IsFresh : State T → Type 0
-  IsFresh S = S ≡ fresh S.number S.start S.next
+  -- the content at a name, and the tickets of the borrows that stand there
+  abbrev pub content_at : State T → Name → Option (Content T)
+  content_at S n = content_of (map.get S.cells n)
 
-  -- whether a live Ref names m
-  unfoldable pub is_named : NameMap (Cell T) → Name → Bool
-  is_named cells m = list_any (λ n. refers_to m (map.get cells n)) (map.keys cells)
-
-  -- a live Ref names m
-  abbrev pub IsNamed : NameMap (Cell T) → Name → Type 0
-  IsNamed cells m = (n : Name) × (l : Location) × (map.get cells n ≡ Some (Ref m l))
-
-  -- the tickets of the borrows that stand at a content
   abbrev pub tickets_of : Option (Content T) → List ℕ
-  tickets_of None = []
   tickets_of (Some (Here v readers)) = list_map (λ r. r.ticket) readers
   tickets_of (Some (Lent w)) = w.ticket ∷ []
+  tickets_of None = []
 
   abbrev pub tickets_at : NameMap (Cell T) → Name → List ℕ
   tickets_at cells n = tickets_of (content_of (map.get cells n))
@@ -77,13 +48,14 @@ module _ {T : Type 0} where
   abbrev pub Stands : NameMap (Cell T) → Name → ℕ → Type 0
   Stands cells n t = list_any (nat_eq t) (tickets_at cells n) ≡ true
 
-  abbrev pub IsLive : State T → Name → Type 0
-  IsLive S n = is_some (map.get S.cells n) ≡ true
+  -- whether a live Ref names m
+  unfoldable pub is_named : NameMap (Cell T) → Name → Bool
+  is_named cells m = list_any (λ n. refers_to m (map.get cells n)) (map.keys cells)
 
+  -- a name was given, or is one that a box may have: given, and not a Shared cell's
   abbrev pub IsGiven : State T → Name → Type 0
   IsGiven S n = set.contains S.given n ≡ true
 
-  -- a name that a box may have: it was given, and isn't a Shared cell's
   abbrev pub IsBoxed : State T → Name → Type 0
   IsBoxed S n = IsGiven S n × (is_shared (map.get S.cells n) ≡ false)
 
@@ -91,21 +63,15 @@ module _ {T : Type 0} where
   -- writer, holds of every state, since the borrows are a part of the content.
   pub record IsSound (S : State T) : Type 0 where
     -- live names and owners' names were given, and owners' names are names of boxes
-    pub given : (n : Name) → IsLive S n → IsGiven S n
+    pub given : (n : Name) → is_some (map.get S.cells n) ≡ true → IsGiven S n
     pub owned : (k : ℕ) (h : Ownership) → map.get S.owners k ≡ Some h
         → AllByRecursion (IsBoxed S) h.names
-    -- each live Ref names a live Shared cell
+    -- each live Ref names a live Shared cell, and each live Shared cell is named by a live Ref
     pub targets : (n m : Name) (l : Location) → map.get S.cells n ≡ Some (Ref m l)
         → is_shared (map.get S.cells m) ≡ true
-    -- each live Shared cell is named by a live Ref
     pub shared : (m : Name) → is_shared (map.get S.cells m) ≡ true → is_named S.cells m ≡ true
-    -- tickets are below the next one, and no ticket stands twice
+    -- tickets and owners' keys are below the next ticket, and no ticket stands twice
     pub below : (n : Name) (t : ℕ) → Stands S.cells n t → t < S.next
     pub apart : (n : Name) → IsDistinct nat_eq (tickets_at S.cells n)
     pub one_cell : (n m : Name) (t : ℕ) → Stands S.cells n t → Stands S.cells m t → n ≡ m
-    -- owners' keys are tickets too
     pub keys : (k : ℕ) → is_some (map.get S.owners k) ≡ true → k < S.next
-
-  -- a name that was given and isn't live any more
-  abbrev pub IsEnded : State T → Name → Type 0
-  IsEnded S n = IsGiven S n × (map.get S.cells n ≡ None)

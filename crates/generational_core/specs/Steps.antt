@@ -1,4 +1,8 @@
 -- A step of the machine: the names that it may take, the end of tickets, and want of memory.
+use Rattle.generational_core.specs.Borrowing.{write_refusal}
+use Rattle.std.specs.Prelude.{is_some}
+use Rattle.generational_core.specs.Machine.{cell_at}
+use Rattle.generational_core.specs.Cells.{content_of}
 use Rattle.std.specs.Prelude.{◌≡◌, ℕ, ◌-◌, ◌^◌, Bool, true, false, if◌then◌else◌, not, ◌&&◌, ◌⊎◌}
 use Rattle.std.specs.Prelude.{nat_eq, nat_lt, [], ◌∷◌, Option, None, Some}
 use Rattle.std.specs.FinSet as set
@@ -14,7 +18,7 @@ use Rattle.generational_core.specs.State.{State}
 use Rattle.generational_core.specs.Borrowing.{reach}
 use Rattle.generational_core.specs.Borrowing.Trouble.{BeingRead}
 use Rattle.generational_core.specs.Machine.{Action, Answer, Fresh, Outcome}
-use Rattle.generational_core.specs.Machine.{act, add_cell, is_known, contents}
+use Rattle.generational_core.specs.Machine.{act, add_cell, is_known}
 use Rattle.generational_core.specs.Machine.Action.{Make, MakeShared, Refer, NewOwner, ReleaseOwner}
 use Rattle.generational_core.specs.Machine.Action.{Read, Write, End, Point}
 use Rattle.generational_core.specs.Machine.Answer.{Made, Owned, Reads, Writes, Troubled, Refused}
@@ -27,8 +31,7 @@ last_ticket = 2 ^ 64 - 1
 -- names for calls that take none
 abbrev pub no_names : Fresh
 no_names =
-    let none : Name = record { slot = 0; generation = 0 } in
-    record { first = none; second = none }
+    let none : Name = record { slot = 0; generation = 0 } in record { first = none; second = none }
 
 module _ {T : Type 0} where
   -- a name that was never given, and that fits
@@ -59,49 +62,28 @@ module _ {T : Type 0} where
   -- where the tickets are used up a call that takes one is refused, and changes nothing
   abbrev pub limit_tickets : State T → Outcome T → Outcome T
   limit_tickets S out =
-      if takes_ticket out.0 && nat_eq S.next last_ticket
-      then (Refused NumbersExhausted, S)
-      else out
+      if takes_ticket out.0 && nat_eq S.next last_ticket then (Refused NumbersExhausted, S) else out
 
-  abbrev pub is_being_read : Answer T → Bool
-  is_being_read (Troubled (BeingRead l)) = true
-  is_being_read _ = false
-
-  abbrev pub is_made : Answer T → Bool
-  is_made (Made b) = true
-  is_made _ = false
-
-  abbrev pub is_reader : Answer T → Bool
-  is_reader (Reads g) = true
-  is_reader _ = false
-
-  abbrev pub has_readers : Option (Content T) → Bool
-  has_readers None = false
-  has_readers (Some (Here v [])) = false
-  has_readers (Some (Here v (r ∷ readers))) = true
-  has_readers (Some (Lent w)) = false
-
-  -- a call's answer; of what kind it is doesn't depend on the names that the call takes
+  -- a call's answer, but for its names
   abbrev pub answer_to : State T → Action T → Answer T
   answer_to S call = (limit_tickets S (act S call no_names)).0
 
-  -- whether a call may lack memory: for a slot where too few are free, for an owner's record or
-  -- list, for a reader beside another, and for the list of locations in a refusal
+  -- whether a call that would be answered so may lack memory: for a slot where too few are free, for
+  -- an owner's record or list, for a reader beside another, and for a refusal's list of locations
+  abbrev pub needs_memory : State T → Answer T → Action T → Bool
+  needs_memory S (Made b) (Make None v l) = nat_eq (free S) 0
+  needs_memory S (Made b) (MakeShared None v l) = nat_lt (free S) 2
+  needs_memory S (Made b) (Refer None c) = nat_eq (free S) 0
+  needs_memory S (Made b) call = true
+  needs_memory S (Owned o) NewOwner = true
+  needs_memory S (Reads g) (Read b l) =
+      is_some (write_refusal (content_of (cell_at S (reach S b))))
+  needs_memory S (Troubled (BeingRead readers)) call = true
+  needs_memory S _ call = false
+
+  -- the same of a call; of what kind its answer is doesn't depend on the names that it takes
   abbrev pub may_lack : State T → Action T → Bool
-  may_lack S (Make None v l) = nat_eq (free S) 0
-  may_lack S (Make (Some o) v l) = is_known S (Some o)
-  may_lack S (MakeShared None v l) = nat_lt (free S) 2
-  may_lack S (MakeShared (Some o) v l) = is_known S (Some o)
-  may_lack S (Refer None b) = is_made (answer_to S (Refer None b)) && nat_eq (free S) 0
-  may_lack S (Refer (Some o) b) = is_made (answer_to S (Refer (Some o) b))
-  may_lack S NewOwner = not (nat_eq S.next last_ticket)
-  may_lack S (Read b l) =
-      is_reader (answer_to S (Read b l)) && has_readers (contents S (reach S b))
-  may_lack S (ReleaseOwner o) = is_being_read (answer_to S (ReleaseOwner o))
-  may_lack S (Write b l) = is_being_read (answer_to S (Write b l))
-  may_lack S (End b) = is_being_read (answer_to S (End b))
-  may_lack S (Point a b) = is_being_read (answer_to S (Point a b))
-  may_lack S _ = false
+  may_lack S call = needs_memory S (answer_to S call) call
 
   -- A call meets the machine if, for some new names, it answers and leaves what the machine does;
   -- or if memory lacked where it may, and then nothing changes.

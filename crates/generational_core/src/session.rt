@@ -42,7 +42,7 @@ impl<T: Drop, S: Storage<T>> Session<T, S> {
     ghost use Rattle.std.specs.Prelude.{◌≡◌, ◌≤◌, ◌+◌, [], ◌∷◌, IfOk, IfErr, OnErr};
     ghost use Rattle.std.specs.Prelude.{option_copied};
     ghost use Rattle.generational_core.specs.Names.{Name};
-    ghost use Rattle.generational_core.specs.State.{IsFresh, IsEnded};
+    ghost use Rattle.generational_core.specs.Conditions.{IsFresh, IsEnded};
     ghost use Rattle.generational_core.specs.Session.{SessionState, SessionStep, Run, loan_at};
     ghost use Rattle.generational_core.specs.Session.{release_all};
     ghost use Rattle.generational_core.specs.SoundSession.{IsSoundSession};

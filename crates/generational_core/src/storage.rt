@@ -1,7 +1,8 @@
 //! What every store does.
 
 ghost use Rattle.std.specs.Prelude.{◌≡◌, ◌≤◌, ◌+◌, ◌-◌, ◌↔◌, IsTrue, IfErr, None, option_copied};
-ghost use Rattle.generational_core.specs.State.{State, IsFresh, IsSound};
+ghost use Rattle.generational_core.specs.State.{State, IsSound};
+ghost use Rattle.generational_core.specs.Conditions.{IsFresh};
 ghost use Rattle.generational_core.specs.Slots.{slots, free, retired};
 ghost use Rattle.generational_core.specs.Machine.Action.{Make, NewOwner, CloneOwner, ReleaseOwner};
 ghost use Rattle.generational_core.specs.Machine.Action.{Read, Write, ReleaseReader, ReleaseWriter};

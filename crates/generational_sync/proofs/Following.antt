@@ -1,4 +1,6 @@
 -- The state without values takes the recorded step.
+use Rattle.std.proofs.Common.{[]}
+use Rattle.generational_core.specs.Cells.{Value}
 use Rattle.std.proofs.Common.{◌≡◌, Bool, true, false, cond, not, ◌&&◌, Option, None, Some}
 use Rattle.std.proofs.Common.{refl, sym, ap, subst, ◌∙◌, inl, inr}
 use Rattle.std.specs.Prelude.{nat_eq, option_map}
@@ -15,19 +17,21 @@ use Rattle.generational_core.specs.Names.{Name}
 use Rattle.generational_core.specs.Cells.{Content}
 use Rattle.generational_core.specs.Cells.Content.{Here, Lent}
 use Rattle.generational_core.specs.State.{State, IsSound}
-use Rattle.generational_core.specs.Borrowing.{Trouble, Guard, content_at, read_trouble, reach}
+use Rattle.generational_core.specs.State.{content_at}
+use Rattle.generational_core.specs.Borrowing.{Trouble, Guard, read_trouble, reach}
 use Rattle.generational_core.specs.Borrowing.Trouble.{Dropped, BeingRead, BeingWritten}
 use Rattle.generational_core.specs.Ending.{hindrance_to, close}
-use Rattle.generational_core.specs.Machine.{Action, Answer, Fresh, Outcome, act, unless, make_value}
-use Rattle.generational_core.specs.Machine.{knows_reader, without_reader, own_name, read_at}
-use Rattle.generational_core.specs.Machine.{contents}
+use Rattle.generational_core.specs.Cells.{content_of}
+use Rattle.generational_core.specs.Machine.{Action, Answer, Fresh, Outcome, act, unless, make}
+use Rattle.generational_core.specs.Machine.{knows_reader, remove_reader, own_name, read_at}
+use Rattle.generational_core.specs.Machine.{cell_at}
 use Rattle.generational_core.specs.Machine.Action.{Make, MakeShared, Refer, NewOwner, CloneOwner}
 use Rattle.generational_core.specs.Machine.Action.{ReleaseOwner, LeakOwner, Read, Write}
 use Rattle.generational_core.specs.Machine.Action.{ReleaseReader, ReleaseWriter, SetValue, End}
 use Rattle.generational_core.specs.Machine.Action.{Point, CanRead, CanWrite}
 use Rattle.generational_core.specs.Machine.Answer.{Made, Owned, Reads, Writes, Done, Old, Flag, Back}
 use Rattle.generational_core.specs.Machine.Answer.{Troubled, Refused}
-use Rattle.generational_core.specs.Steps.{IsNew, Meets, Takes, limit_tickets, takes_ticket, is_made, last_ticket}
+use Rattle.generational_core.specs.Steps.{IsNew, Meets, Takes, limit_tickets, takes_ticket, last_ticket}
 use Rattle.generational_core.specs.Readiness.{is_ready}
 use Rattle.generational_core.specs.Recording.{recorded_as, is_hindered}
 use Rattle.generational_core.specs.History.{plain, plain_call, plain_answer}
@@ -67,6 +71,11 @@ unhindered P (Old v, Q) r h = refl
 unhindered P (Flag b, Q) r h = refl
 unhindered P (Back v, Q) r h = refl
 unhindered P (Refused e, Q) r h = refl
+
+-- whether an answer gives a box
+abbrev is_made : {T : Type 0} → Answer T → Bool
+is_made (Made b) = true
+is_made _ = false
 
 -- an answer that gives no box is recorded without one
 unnamed : (P : Plain) (answer : Answer (Unit {0})) (r : StepReply)
@@ -155,7 +164,7 @@ module _ (tell : IsTold) (P : Plain) where
       ∙ ap (λ (o : Outcome (Unit {0})). Some o.1) (sym m)
 
   made_follows : (l : Location) (f : Fresh) (answer : Answer (Unit {0})) (Q : Plain)
-      (r : StepReply) → IsNew P f.first → (answer, Q) ≡ make_value P None tt l f.first
+      (r : StepReply) → IsNew P f.first → (answer, Q) ≡ make P None f.first (Value (Here tt []) l) l
       → reply_to answer ≡ Some r → plain_step P (call.Leak l) r ≡ Some Q
   made_follows l f answer Q r new m h =
       let reply = ap (λ (o : Outcome (Unit {0})). reply_to o.0) (sym m) ∙ h in
@@ -171,7 +180,7 @@ module _ (tell : IsTold) (P : Plain) where
       → reply_to answer ≡ Some r → plain_step P (call.ReleaseRead g.ticket) r ≡ Some Q
   release_follows g new answer Q r sound m h =
       let reply = ap (λ (o : Outcome (Unit {0})). reply_to o.0) (sym m) ∙ h in
-      let left = without_reader P g.cell g.ticket (content_at P g.cell) in
+      let left = remove_reader P g.cell g.ticket (content_at P g.cell) in
       let parts = and_parts (nat_eq g.store P.number) _
       (known_by (knows_reader P g) P left r reply) in
       let own : guard_at P g.ticket g.cell ≡ g = λ i.
@@ -196,9 +205,9 @@ module _ (tell : IsTold) (P : Plain) where
       subst (λ x. plain_step P x r ≡ Some Q) same (made_follows l new answer Q r fits m h)
   does (Read b l) c new answer Q r sound e takes m h =
       let same : call.Read b l ≡ c = cc in
-      let read = read_at P l (reach P b) (contents P (reach P b)) in
+      let read = read_at P l (reach P b) (content_of (cell_at P (reach P b))) in
       let none = unless_unmade P (read_trouble P b) read
-      (read_unmade P l (reach P b) (contents P (reach P b))) in
+      (read_unmade P l (reach P b) (content_of (cell_at P (reach P b)))) in
       subst (λ x. plain_step P x r ≡ Some Q) same
       (leads (call.Read b l) r (Read b l) answer Q refl refl (limited_unmade P _ none) m h)
   does (ReleaseReader g) c new answer Q r sound e takes m h =

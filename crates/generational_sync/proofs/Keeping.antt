@@ -22,7 +22,8 @@ use Rattle.generational_core.specs.declared.steps.StepCall.{StepCall}
 use Rattle.generational_core.specs.declared.steps.StepCall.TheVariants as call
 use Rattle.generational_core.specs.Names.{Name, name_cmp}
 use Rattle.generational_core.specs.Cells.{Cell}
-use Rattle.generational_core.specs.State.{State, IsSound, fresh}
+use Rattle.generational_core.specs.State.{State, IsSound}
+use Rattle.generational_core.specs.Conditions.{fresh}
 use Rattle.generational_core.specs.Borrowing.{Guard}
 use Rattle.generational_core.specs.Machine.{Action, Answer, Outcome}
 use Rattle.generational_core.specs.Machine.Action.{Make, Read, ReleaseReader, End}

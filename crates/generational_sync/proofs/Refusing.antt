@@ -1,4 +1,6 @@
 -- How a call that no borrow hinders is refused.
+use Rattle.generational_core.specs.Steps.{needs_memory}
+use Rattle.std.proofs.Common.{is_some}
 use Rattle.std.proofs.Common.{◌≡◌, Bool, true, false, cond, not, List, [], ◌∷◌, Option}
 use Rattle.std.proofs.Common.{None, Some, refl, sym, ap, subst, ◌∙◌, inl, inr, Result, Ok, Err}
 use Rattle.std.specs.Prelude.{nat_eq}
@@ -23,16 +25,19 @@ use Rattle.generational_core.specs.Cells.{Content, Cell}
 use Rattle.generational_core.specs.Cells.Content.{Here, Lent}
 use Rattle.generational_core.specs.Cells.Cell.{Value, Shared, Ref}
 use Rattle.generational_core.specs.State.{State}
-use Rattle.generational_core.specs.Borrowing.{Trouble, reach, content_at, read_trouble, not_reached}
+use Rattle.generational_core.specs.State.{content_at}
+use Rattle.generational_core.specs.Borrowing.{Trouble, reach, read_trouble, refusal_at}
 use Rattle.generational_core.specs.Borrowing.{read_refusal, write_refusal}
 use Rattle.generational_core.specs.Borrowing.Trouble.{Dropped, BeingRead, BeingWritten}
 use Rattle.generational_core.specs.Ending.{hindrance_to, first_hindrance, hindrance_of}
-use Rattle.generational_core.specs.Ending.{is_doomed, cells_after, or_else, close}
-use Rattle.generational_core.specs.Machine.{Answer, Outcome, unless, read_at, contents}
+use Rattle.generational_core.specs.Ending.{cells_after, close}
+use Rattle.std.specs.Option.{option_or}
+use Rattle.generational_core.specs.Cells.{content_of}
+use Rattle.generational_core.specs.Machine.{Answer, Outcome, unless, read_at, cell_at}
 use Rattle.generational_core.specs.Machine.{own_name}
 use Rattle.generational_core.specs.Machine.Action.{Read, End}
 use Rattle.generational_core.specs.Machine.Answer.{Done, Troubled, Refused as refuses}
-use Rattle.generational_core.specs.Steps.{Meets, limit_tickets, is_being_read, last_ticket}
+use Rattle.generational_core.specs.Steps.{Meets, limit_tickets, last_ticket}
 use Rattle.generational_core.specs.Answers.{read_refused, end_refused, end_answer}
 use Rattle.generational_core.specs.Readiness.{is_ready, tells_of_borrow}
 use Rattle.generational_sync.specs.Shared.{MayRefuseRead}
@@ -64,7 +69,7 @@ borrow_at true t h = h
 borrow_at false t h = refl
 
 borrow_first : (t u : Option Trouble)
-    → is_borrow t ≡ true → is_borrow u ≡ true → is_borrow (or_else t u) ≡ true
+    → is_borrow t ≡ true → is_borrow u ≡ true → is_borrow (option_or t u) ≡ true
 borrow_first None u h k = k
 borrow_first (Some t) u h k = h
 
@@ -116,7 +121,7 @@ module _ {T : Type 0} where
 
   -- a box that reaches nothing is told its own location
   told_own : (o : Option Name) (c : Name → Option (Content T)) (l k : Location)
-      → not_reached o l (λ n. read_refusal (c n)) ≡ Some (Dropped k) → k ≡ l
+      → refusal_at o l (λ n. read_refusal (c n)) ≡ Some (Dropped k) → k ≡ l
   told_own None c l k e = let same : Dropped l ≡ Dropped k = cc in cc
   told_own (Some n) c l k e = at (c n) e
     where
@@ -147,7 +152,7 @@ module _ {T : Type 0} where
   read_refused_so S R b l e (inl m) ready =
       refused_by S b e ready
       (subst (Tells (read_trouble S b)) (sym (ap (λ (o : Outcome T). o.0) m.2))
-      (unless_tells S l (reach S b) (contents S (reach S b)) (read_trouble S b)))
+      (unless_tells S l (reach S b) (content_of (cell_at S (reach S b))) (read_trouble S b)))
   read_refused_so S R b l e (inr m) ready = lacked_by T b e m.1
 
   -- the same, where the state and the box are known by others
@@ -170,9 +175,9 @@ module _ {T : Type 0} where
   borrow_of : (cells left : NameMap (Cell T)) (o : Option (Cell T)) (n : Name)
       → is_borrow (hindrance_of cells left o n) ≡ true
   borrow_of cells left None n = refl
-  borrow_of cells left (Some (Value c l)) n = borrow_at (is_doomed left n) _ (borrow_written _)
+  borrow_of cells left (Some (Value c l)) n = borrow_at (not (is_some (map.get left n))) _ (borrow_written _)
   borrow_of cells left (Some (Shared c l)) n = refl
-  borrow_of cells left (Some (Ref m l)) n = borrow_at (is_doomed left m) _ (borrow_written _)
+  borrow_of cells left (Some (Ref m l)) n = borrow_at (not (is_some (map.get left m))) _ (borrow_written _)
 
   borrow_among : (cells left : NameMap (Cell T)) (names : List Name)
       → is_borrow (first_hindrance cells left names) ≡ true
@@ -203,7 +208,7 @@ module _ {T : Type 0} where
       at : Meets S (End b) (end_refused e) R → ⊥
       at (inl m) = true≢false (sym (ap is_done over)
           ∙ (sym (ap (λ (o : Outcome T). is_done o.0) m.2) ∙ not_done T e))
-      at (inr m) = true≢false (sym m.0 ∙ ap is_being_read over)
+      at (inr m) = true≢false (sym m.0 ∙ ap (λ a. needs_memory S a (End b)) over)
 
   pub end_done_as : {U : Type 0} (S R seen : State T) (b asked : GenerationalPointer)
       (r : Result U (Refused BorrowMutError)) → S ≡ seen → b ≡ asked

@@ -16,11 +16,12 @@ use Rattle.generational_core.specs.Cells.{Content, Cell, content_of, refill, is_
 use Rattle.generational_core.specs.Cells.Content.{Here, Lent}
 use Rattle.generational_core.specs.Cells.Cell.{Value, Shared, Ref}
 use Rattle.generational_core.specs.State.{State, tickets_of, is_named}
-use Rattle.generational_core.specs.Borrowing.{Trouble, Guard, content_at, fill, reach}
+use Rattle.generational_core.specs.State.{content_at}
+use Rattle.generational_core.specs.Borrowing.{Trouble, Guard, fill, reach}
 use Rattle.generational_core.specs.Borrowing.{read_trouble}
-use Rattle.generational_core.specs.Ending.{sweep, without, close, hindrance_to}
-use Rattle.generational_core.specs.Machine.{Answer, Outcome, unless, read_at, contents}
-use Rattle.generational_core.specs.Machine.{has_reader, knows_reader, without_reader, own_name}
+use Rattle.generational_core.specs.Ending.{sweep, take_away, close, hindrance_to}
+use Rattle.generational_core.specs.Machine.{Answer, Outcome, unless, read_at, cell_at}
+use Rattle.generational_core.specs.Machine.{has_reader, knows_reader, remove_reader, own_name}
 use Rattle.generational_core.specs.Machine.Action.{Make, Read, ReleaseReader, End}
 use Rattle.generational_core.specs.Machine.Answer.{Made, Reads, Done, Flag, Refused}
 use Rattle.generational_core.specs.Steps.{Meets, limit_tickets, takes_ticket, last_ticket}
@@ -102,7 +103,7 @@ module _ {T : Type 0} where
   unless_grows S (Some t) out h = omega arith
 
   read_grows : (S : State T) (l : Location) (o : Option Name) (c : Option (Content T))
-      → contents S o ≡ c → Grows S (read_at S l o c)
+      → content_of (cell_at S o) ≡ c → Grows S (read_at S l o c)
   read_grows S l None c is = omega arith
   read_grows S l (Some m) None is = omega arith
   read_grows S l (Some m) (Some (Lent w)) is = omega arith
@@ -126,7 +127,7 @@ module _ {T : Type 0} where
   read_stand S R b l answer (inl m) =
       subst (λ (o : Outcome T). Grows S o) (sym m.2)
       (limited_grows S _ (unless_grows S (read_trouble S b) _
-      (read_grows S l (reach S b) (contents S (reach S b)) refl)))
+      (read_grows S l (reach S b) (content_of (cell_at S (reach S b))) refl)))
   read_stand S R b l answer (inr m) =
       let after = ap borrows m.2 in let none = ap lends m.1 in omega arith
 
@@ -137,15 +138,15 @@ module _ {T : Type 0} where
       borrows_retained cells (λ n. not (is_shared (map.get cells n)) || is_named cells n)
 
   without_fewer : (cells : NameMap (Cell T)) (names : List Name)
-      → borrows_in (map.entries (without cells names)) ≤ borrows_in (map.entries cells)
-  unfolding without
+      → borrows_in (map.entries (take_away cells names)) ≤ borrows_in (map.entries cells)
+  unfolding take_away
   without_fewer cells names =
       borrows_retained cells (λ n. is_shared (map.get cells n) || not (among names n))
 
   end_grows : (S : State T) (names : List Name) → Grows S (Done, close S names)
   end_grows S names =
       let first = without_fewer S.cells names in
-      let second = swept_fewer (without S.cells names) in
+      let second = swept_fewer (take_away S.cells names) in
       omega arith
 
   pub end_stand : (S R : State T) (b : GenerationalPointer)
@@ -158,7 +159,7 @@ module _ {T : Type 0} where
   end_stand S R b (inr m) = absurd cc
 
   without_stand : (S : State T) (n : Name) (t : ℕ) (c : Option (Content T)) → content_at S n ≡ c
-      → has_reader c t ≡ true → borrows (without_reader S n t c) + 1 ≤ borrows S
+      → has_reader c t ≡ true → borrows (remove_reader S n t c) + 1 ≤ borrows S
   without_stand S n t None is h = absurd (true≢false (sym h))
   without_stand S n t (Some (Lent w)) is h = absurd (true≢false (sym h))
   without_stand S n t (Some (Here v rs)) is h =
@@ -179,7 +180,7 @@ module _ {T : Type 0} where
     where
       at : (b : Bool) → knows_reader S g ≡ b
           → (Flag true, R) ≡ limit_tickets S (cond b
-          (Flag true, without_reader S g.cell g.ticket (content_at S g.cell)) (Flag false, S))
+          (Flag true, remove_reader S g.cell g.ticket (content_at S g.cell)) (Flag false, S))
           → borrows R + 1 ≤ borrows S
       at true known e =
           let after = ap (λ (o : Outcome T). borrows o.1) e in

@@ -12,8 +12,10 @@ use Rattle.generational_core.specs.declared.steps.StepCall.TheVariants.{
 }
 use Rattle.generational_core.specs.Names.{Name}
 use Rattle.generational_core.specs.Boxes.{name_of}
-use Rattle.generational_core.specs.State.{State, fresh}
-use Rattle.generational_core.specs.Borrowing.{Guard, content_at}
+use Rattle.generational_core.specs.State.{State}
+use Rattle.generational_core.specs.Conditions.{fresh}
+use Rattle.generational_core.specs.State.{content_at}
+use Rattle.generational_core.specs.Borrowing.{Guard}
 use Rattle.generational_core.specs.Machine.{Action, Answer, Fresh, Outcome, act, has_reader}
 use Rattle.generational_core.specs.Machine.Action.{Make, Read as ReadBox, ReleaseReader, End}
 use Rattle.generational_core.specs.Slots.{slots_of, slots, free, is_free, last_name}

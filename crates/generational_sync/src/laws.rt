@@ -1,7 +1,8 @@
 //! Laws of histories, each the contract of a function that does nothing.
 
 ghost use Rattle.std.specs.Prelude.{◌≡◌, ℕ, List, ◌∷◌, ◌++◌, Some};
-ghost use Rattle.generational_core.specs.State.{State, IsSound, fresh};
+ghost use Rattle.generational_core.specs.State.{State, IsSound};
+ghost use Rattle.generational_core.specs.Conditions.{fresh};
 ghost use Rattle.generational_core.specs.declared.steps.StepCall.{StepCall};
 ghost use Rattle.generational_core.specs.Machine.{Action, Answer};
 ghost use Rattle.generational_core.specs.Steps.{Meets};

@@ -5,7 +5,7 @@ ghost use Rattle.std.specs.Prelude.{option_copied};
 ghost use Rattle.generational_core.specs.declared.error.StoreError.TheVariants.{OutOfMemory};
 ghost use Rattle.generational_core.specs.declared.error.Refused.TheVariants as refused;
 ghost use Rattle.generational_core.specs.declared.steps.StepCall.TheVariants as call;
-ghost use Rattle.generational_core.specs.State.{fresh};
+ghost use Rattle.generational_core.specs.Conditions.{fresh};
 ghost use Rattle.generational_core.specs.Boxes.{pointer_of};
 ghost use Rattle.generational_core.specs.Machine.{knows_reader};
 ghost use Rattle.generational_core.specs.Machine.Action.{Make, Read, ReleaseReader, End};

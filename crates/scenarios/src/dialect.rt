@@ -13,7 +13,7 @@
 //! the box that the stores beside gave K-th, counted from 0. Other NAMEs are places. A value that
 //! comes back unused is told by `back VALUE`.
 
-ghost use Rattle.generational_core.specs.State.{IsFresh};
+ghost use Rattle.generational_core.specs.Conditions.{IsFresh};
 
 use crate::naming::Strangers;
 use boxes_script::{Fault, Script, write_reply};

@@ -3,7 +3,7 @@
 ghost use Rattle.std.specs.Prelude.{◌≡◌, IfSome, Some, map as list_map};
 ghost use Rattle.generational_core.specs.declared.boxes.GenerationalPointer.{GenerationalPointer};
 ghost use Rattle.generational_core.specs.Boxes.{name_of};
-ghost use Rattle.generational_core.specs.State.{IsFresh, IsEnded};
+ghost use Rattle.generational_core.specs.Conditions.{IsFresh, IsEnded};
 ghost use Rattle.generational_core.specs.Borrowing.Trouble.{Dropped};
 ghost use Rattle.generational_core.specs.Session.{at_place};
 ghost use Rattle.generational_core.specs.Session.Held.{Boxed};

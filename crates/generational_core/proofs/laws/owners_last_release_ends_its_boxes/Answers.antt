@@ -1,6 +1,6 @@
 use Rattle.std.proofs.Common.{ap, sym, subst, ◌∙◌}
 use Rattle.std.specs.FinMap as map
-use Rattle.generational_core.specs.State.{IsNamed}
+use Rattle.generational_core.specs.Conditions.{IsNamed}
 use Rattle.generational_core.proofs.Releasing.{box_ends, box_stays, shared_ends, shared_stays}
 use Rattle.generational_core.proofs.Releasing.{listed_boxed, last_cells, earlier_cells, last_record}
 use Rattle.generational_core.proofs.Releasing.{earlier_record}

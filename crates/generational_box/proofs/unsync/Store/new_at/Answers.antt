@@ -1,6 +1,6 @@
 use Rattle.std.proofs.Common.{subst, sym}
 use Rattle.generational_core.specs.State.{IsSound}
-use Rattle.generational_core.specs.Bounds.{IsBounded}
+use Rattle.generational_core.specs.Conditions.{IsBounded}
 use Rattle.generational_core.proofs.Lasting.{fresh_sound}
 use Rattle.generational_core.proofs.Bounding.{fresh_bounded}
 use Rattle.generational_box.proofs.unsync.Store.new_at.Goals as goal
