@@ -105,55 +105,60 @@ fn any_argument_is_a_fault(rt: HostRuntime) -> Result<(), Fail> {
     Ok(())
 }
 
+// Lines of no form.
+const BAD_LINES: [&str; 32] = [
+    "",
+    " ",
+    "leak",
+    " leak a",
+    "Leak a",
+    "leak\ta",
+    "try_read",
+    "try_read ",
+    "try_read 0",
+    "try_read 01",
+    "try_read +1",
+    "try_read -1",
+    "try_read  1",
+    "try_read 1 ",
+    "try_read 1\r",
+    "try_read 1x",
+    "try_read 1 1",
+    "try_read 1000001",
+    "try_read 4294967297",
+    "try_write",
+    "try_write ",
+    "try_write 01",
+    "replace",
+    "replace ",
+    "replace 1",
+    "replace 01 b",
+    "replace  1 b",
+    "replace b",
+    "show",
+    "release",
+    "end one",
+    "end 1.",
+];
+
+// Lines that name what isn't there.
+const LINES_OF_NOTHING: [&str; 8] = [
+    "try_read 2",
+    "try_write 2",
+    "replace 1 b",
+    "replace 2 b",
+    "show 1",
+    "release 1",
+    "end 1000000",
+    "end 2",
+];
+
 #[test]
 fn forms_of_lines(rt: HostRuntime) {
-    let bad = [
-        "",
-        " ",
-        "leak",
-        " leak a",
-        "Leak a",
-        "leak\ta",
-        "try_read",
-        "try_read ",
-        "try_read 0",
-        "try_read 01",
-        "try_read +1",
-        "try_read -1",
-        "try_read  1",
-        "try_read 1 ",
-        "try_read 1\r",
-        "try_read 1x",
-        "try_read 1 1",
-        "try_read 1000001",
-        "try_read 4294967297",
-        "try_write",
-        "try_write ",
-        "try_write 01",
-        "replace",
-        "replace ",
-        "replace 1",
-        "replace 01 b",
-        "replace  1 b",
-        "replace b",
-        "show",
-        "release",
-        "end one",
-        "end 1.",
-    ];
-    for line in bad {
+    for line in BAD_LINES {
         assert_line(&rt, rt.alloc(), line, "bad line\n");
     }
-    for line in [
-        "try_read 2",
-        "try_write 2",
-        "replace 1 b",
-        "replace 2 b",
-        "show 1",
-        "release 1",
-        "end 1000000",
-        "end 2",
-    ] {
+    for line in LINES_OF_NOTHING {
         assert_line(&rt, rt.alloc(), line, "no such\n");
     }
 }

@@ -26,51 +26,17 @@ pub(crate) fn pass_calls_on<
     let two = second.leak(rt, text(rt, alloc, "three"), made_later());
     let reader = first.read(rt, one, read());
     let later = second.read(rt, two, read_later());
-    let mut wanted = begun(rt, alloc, one, two, &reader, &later);
+    let mut wanted = steps_of_makings(rt, alloc, one, two, &reader, &later);
+    add_steps_of_ends(rt, &mut wanted, one, two, reader.ticket(), later.ticket());
     assert!(rt; first.opens(rt, &reader, 3) && first.opens(rt, &later, 5));
     assert_strangers(rt, alloc, &mut first, &reader);
     assert!(rt; second.opens(rt, &reader, 3) && second.opens(rt, &later, 5));
 
-    append(
-        rt,
-        &mut wanted,
-        1,
-        StepCall::ReleaseRead(reader.ticket()),
-        StepReply::Done,
-    );
     assert!(rt; second.release(rt, reader));
-    append(
-        rt,
-        &mut wanted,
-        0,
-        StepCall::ManuallyDrop(one.pointer()),
-        StepReply::Done,
-    );
     assert!(rt; first.end(rt, one));
     assert!(rt; first.opens(rt, &later, 5));
-    append(
-        rt,
-        &mut wanted,
-        1,
-        StepCall::Read(one.pointer(), read()),
-        gone(),
-    );
     assert!(rt; second.finds_dropped(rt, one, read(), made()));
-    append(
-        rt,
-        &mut wanted,
-        0,
-        StepCall::ReleaseRead(later.ticket()),
-        StepReply::Done,
-    );
     assert!(rt; first.release(rt, later));
-    append(
-        rt,
-        &mut wanted,
-        1,
-        StepCall::ManuallyDrop(two.pointer()),
-        StepReply::Done,
-    );
     assert!(rt; second.end(rt, two));
 
     first.take_over(rt, second);
@@ -78,7 +44,7 @@ pub(crate) fn pass_calls_on<
 }
 
 // What is recorded of two makings and two reads.
-fn begun(
+fn steps_of_makings(
     rt: &impl Abort,
     alloc: Global,
     one: GenerationalBox<String>,
@@ -107,6 +73,23 @@ fn begun(
     let reply = StepReply::Reader(later.ticket());
     append(rt, &mut steps, 1, StepCall::Read(two, read_later()), reply);
     steps
+}
+
+// And of the releases and ends after them, with a read of what has ended.
+fn add_steps_of_ends(
+    rt: &impl Abort,
+    steps: &mut Vec<Step>,
+    one: GenerationalBox<String>,
+    two: GenerationalBox<String>,
+    reader: u64,
+    later: u64,
+) {
+    let (one, two) = (one.pointer(), two.pointer());
+    append(rt, steps, 1, StepCall::ReleaseRead(reader), StepReply::Done);
+    append(rt, steps, 0, StepCall::ManuallyDrop(one), StepReply::Done);
+    append(rt, steps, 1, StepCall::Read(one, read()), gone());
+    append(rt, steps, 0, StepCall::ReleaseRead(later), StepReply::Done);
+    append(rt, steps, 1, StepCall::ManuallyDrop(two), StepReply::Done);
 }
 
 fn append(rt: &impl Abort, steps: &mut Vec<Step>, worker: usize, call: StepCall, reply: StepReply) {
