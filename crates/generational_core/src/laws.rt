@@ -24,7 +24,8 @@ ghost use Rattle.generational_core.specs.Slots.{slots, retired};
 ghost use Rattle.generational_core.specs.Conditions.{IsBounded};
 ghost use Rattle.generational_core.specs.declared.calls.Call.{Call};
 ghost use Rattle.generational_core.specs.declared.calls.Call.TheVariants as call;
-ghost use Rattle.generational_core.specs.Session.{SessionState, SessionReply, SessionStep, Run, at_place};
+ghost use Rattle.generational_core.specs.Session.{SessionState, SessionReply, SessionStep, Run};
+ghost use Rattle.generational_core.specs.Session.{at_place};
 ghost use Rattle.generational_core.specs.Session.Held.{Owning};
 ghost use Rattle.generational_core.specs.Session.SessionReply.{IsDone};
 ghost use Rattle.generational_core.specs.SoundSession.{IsSoundSession};
@@ -184,11 +185,12 @@ pub fn plain_states_step<T>()
 /// depend on the calls, and on which of them memory or an exhausted number refused. Sessions that
 /// match were given equally many names, and the one has no owners but the other's.
 pub fn replies_depend_on_calls<T>()
-    ensures fresh { (number start next : ℕ) (calls : List (Call T)) (replies : List (SessionReply T))
-        (r : SessionState T) →
+    ensures fresh { (number start next : ℕ) (calls : List (Call T))
+        (replies : List (SessionReply T)) (r : SessionState T) →
         let s : SessionState T = record { state = fresh number start next; table = [] } in
         Run s calls replies r → AnswersAs (empty_session number) calls replies r }
-    ensures run { (calls : List (Call T)) (replies : List (SessionReply T)) (s r a : SessionState T) →
+    ensures run { (calls : List (Call T)) (replies : List (SessionReply T))
+        (s r a : SessionState T) →
         Matches s a → IsSound s.state → Run s calls replies r → AnswersAs a calls replies r }
     ensures names { (s a : SessionState T) →
         Matches s a → set.len s.state.given ≡ set.len a.state.given }

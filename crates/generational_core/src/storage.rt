@@ -35,8 +35,8 @@ pub trait AnyStorage<T> {
         ensures { result ≡ (state self.now).number };
 
     /// Whether the store is as a new one, but for its numbers: no slot was made, and no owner's
-    /// record stands. It is so again once all owners of a store without slots are released. Takes no
-    /// memory.
+    /// record stands. It is so again once all owners of a store without slots are released. Takes
+    /// no memory.
     fn is_fresh(&self) -> bool
         ensures { IsTrue result ↔ IsFresh (state self.now) };
 
@@ -44,7 +44,8 @@ pub trait AnyStorage<T> {
     /// most cells that were live at once and the retired slots. Takes no memory.
     fn slots(&self) -> usize
         ensures count { result ≡ slots (state self.now) }
-        ensures bounded { slots (state self.now) ≤ (state self.now).peak + retired (state self.now) };
+        ensures bounded { slots (state self.now)
+            ≤ (state self.now).peak + retired (state self.now) };
 
     /// How many slots have no live cell and may be used again. Takes no memory.
     fn free(&self) -> usize

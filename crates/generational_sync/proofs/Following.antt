@@ -29,9 +29,11 @@ use Rattle.generational_core.specs.Machine.Action.{Make, MakeShared, Refer, NewO
 use Rattle.generational_core.specs.Machine.Action.{ReleaseOwner, LeakOwner, Read, Write}
 use Rattle.generational_core.specs.Machine.Action.{ReleaseReader, ReleaseWriter, SetValue, End}
 use Rattle.generational_core.specs.Machine.Action.{Point, CanRead, CanWrite}
-use Rattle.generational_core.specs.Machine.Answer.{Made, Owned, Reads, Writes, Done, Old, Flag, Back}
+use Rattle.generational_core.specs.Machine.Answer.{Made, Owned, Reads, Writes, Done, Old, Flag}
+use Rattle.generational_core.specs.Machine.Answer.{Back}
 use Rattle.generational_core.specs.Machine.Answer.{Troubled, Refused}
-use Rattle.generational_core.specs.Steps.{IsNew, Meets, Takes, limit_tickets, takes_ticket, last_ticket}
+use Rattle.generational_core.specs.Steps.{IsNew, Meets, Takes, limit_tickets, takes_ticket}
+use Rattle.generational_core.specs.Steps.{last_ticket}
 use Rattle.generational_core.specs.Readiness.{is_ready}
 use Rattle.generational_core.specs.Recording.{recorded_as, is_hindered}
 use Rattle.generational_core.specs.History.{plain, plain_call, plain_answer}
@@ -197,7 +199,8 @@ module _ (tell : IsTold) (P : Plain) where
   -- a step of a recorded call, under the names that it takes
   does : (a : Action (Unit {0})) (c : StepCall) (new : Fresh) (answer : Answer (Unit {0}))
       (Q : Plain) (r : StepReply) → IsSound P → recorded_as a ≡ Some c
-      → Takes P a answer new → (answer, Q) ≡ limit_tickets P (act P a new) → reply_to answer ≡ Some r
+      → Takes P a answer new → (answer, Q) ≡ limit_tickets P (act P a new)
+      → reply_to answer ≡ Some r
       → plain_step P c r ≡ Some Q
   does (Make None v l) c new answer Q r sound e takes m h =
       let same : call.Leak l ≡ c = cc in
@@ -215,7 +218,8 @@ module _ (tell : IsTold) (P : Plain) where
       subst (λ x. plain_step P x r ≡ Some Q) same (release_follows g new answer Q r sound m h)
   does (End b) c new answer Q r sound e takes m h =
       let same : call.ManuallyDrop b ≡ c = cc in
-      let none = unless_unmade P (hindrance_to P (own_name P b)) (Done, close P (own_name P b)) refl in
+      let none =
+      unless_unmade P (hindrance_to P (own_name P b)) (Done, close P (own_name P b)) refl in
       subst (λ x. plain_step P x r ≡ Some Q) same
       (leads (call.ManuallyDrop b) r (End b) answer Q refl refl (limited_unmade P _ none) m h)
   does (Make (Some o) v l) c new answer Q r sound e takes m h = absurd cc

@@ -175,9 +175,11 @@ module _ {T : Type 0} where
   borrow_of : (cells left : NameMap (Cell T)) (o : Option (Cell T)) (n : Name)
       → is_borrow (hindrance_of cells left o n) ≡ true
   borrow_of cells left None n = refl
-  borrow_of cells left (Some (Value c l)) n = borrow_at (not (is_some (map.get left n))) _ (borrow_written _)
+  borrow_of cells left (Some (Value c l)) n =
+      borrow_at (not (is_some (map.get left n))) _ (borrow_written _)
   borrow_of cells left (Some (Shared c l)) n = refl
-  borrow_of cells left (Some (Ref m l)) n = borrow_at (not (is_some (map.get left m))) _ (borrow_written _)
+  borrow_of cells left (Some (Ref m l)) n =
+      borrow_at (not (is_some (map.get left m))) _ (borrow_written _)
 
   borrow_among : (cells left : NameMap (Cell T)) (names : List Name)
       → is_borrow (first_hindrance cells left names) ≡ true
@@ -200,8 +202,8 @@ module _ {T : Type 0} where
       free : hindrance_to S (own_name S b) ≡ None
       free = none_hinders (hindrance_to S (own_name S b)) (hindered_borrow S (own_name S b)) ready
 
-      over : (limit_tickets S (unless (hindrance_to S (own_name S b)) S (Done, close S (own_name S b)))).0
-          ≡ Done
+      over : (limit_tickets S
+          (unless (hindrance_to S (own_name S b)) S (Done, close S (own_name S b)))).0 ≡ Done
       over = ap (λ (t : Option Trouble).
           (limit_tickets S (unless t S (Done, close S (own_name S b)))).0) free
 

@@ -4,9 +4,9 @@
 //! the store records the worker, the call and the reply, and the worker's [`Tally`] counts it by
 //! its [`Kind`]. The history replays: from an empty store the abstract machine, without values,
 //! takes the recorded steps one by one and gives the recorded replies, and comes to the state that
-//! the store has. [`SyncStorage::audit`] answers whoever holds all tallies with a list that replays,
-//! and that has of each kind as many steps as they have counted. What a history is stands in plain
-//! words in `docs/history.md` at the repository's root.
+//! the store has. [`SyncStorage::audit`] answers whoever holds all tallies with a list that
+//! replays, and that has of each kind as many steps as they have counted. What a history is stands
+//! in plain words in `docs/history.md` at the repository's root.
 //!
 //! [`SyncState`] is what lies under the lock. It needs no threads.
 #![tactic(auto)]

@@ -85,7 +85,8 @@ impl<M: Count, L: Count, C: Count, R: Count> Log<M, L, C, R> {
     // Appends a step of the tally's worker, for which there is room.
     pub(crate) fn append(&mut self, call: StepCall, reply: StepReply, tally: &mut Tally<M, L, C, R>)
         requires { 0 < self.old.room }
-        ensures steps { self.new.steps ≡ self.old.steps ++ step_of tally.old.worker call reply ∷ [] }
+        ensures steps { self.new.steps ≡
+            self.old.steps ++ step_of tally.old.worker call reply ∷ [] }
         ensures standing { self.new.standing ≡ self.old.standing }
         ensures room { self.new.room + 1 ≡ self.old.room }
         ensures tally { tally.new ≡ raised (kind_of reply) tally.old }

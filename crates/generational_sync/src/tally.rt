@@ -85,8 +85,10 @@ impl<M: Count, L: Count, C: Count, R: Count> Model for Tally<M, L, C, R> {
     } };
 
     ghost invariant = { λ t. (0 < t.parts) × (t.parts ≤ t.workers)
-        × (t.made.parts ≡ t.parts) × (t.lent.parts ≡ t.parts) × (t.changed.parts ≡ t.parts) × (t.refused.parts ≡ t.parts)
-        × (t.workers ≡ M.workers) × (t.workers ≡ L.workers) × (t.workers ≡ C.workers) × (t.workers ≡ R.workers) };
+        × (t.made.parts ≡ t.parts) × (t.lent.parts ≡ t.parts)
+        × (t.changed.parts ≡ t.parts) × (t.refused.parts ≡ t.parts)
+        × (t.workers ≡ M.workers) × (t.workers ≡ L.workers)
+        × (t.workers ≡ C.workers) × (t.workers ≡ R.workers) };
 }
 
 impl<M: Count, L: Count, C: Count, R: Count> Tally<M, L, C, R> {
@@ -123,7 +125,8 @@ impl<M: Count, L: Count, C: Count, R: Count> Tally<M, L, C, R> {
     pub fn merge(&mut self, other: Tally<M, L, C, R>) -> Result<(), Tally<M, L, C, R>>
         ensures { MatchResult result
             (λ _. self.new ≡ merged self.old other)
-            (λ back. (back ≡ other) × (self.new ≡ self.old) × (M.workers < self.old.parts + other.parts)) }
+            (λ back. (back ≡ other) × (self.new ≡ self.old)
+            × (M.workers < self.old.parts + other.parts)) }
     {
         if other.parts > self.workers - self.parts {
             return Err(other);

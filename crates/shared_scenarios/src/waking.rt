@@ -16,7 +16,8 @@ use std::test::*;
 use std::thread;
 use std::thread::Threads;
 
-// Waits for the gate, and then ends the box. The worker says that it asks, and that it was answered.
+// Waits for the gate, and then ends the box. The worker says that it asks, and that it was
+// answered.
 fn ends_when_told<A: Count, B: Count, C: Count, D: Count>(
     rt: &(impl Wait + Abort),
     worker: &mut Worker<A, B, C, D>,

@@ -3,4 +3,5 @@ use Rattle.gbox_workloads.proofs.workloads.make_many.Given as goal
 
 -- as many keys as were made, with room for all
 abbrev pub invariant-loop-made : goal.invariant-loop-made
-invariant-loop-made g l = record { made : vec_len l.keys ≡ l._made; room : l.n ≤ vec_capacity l.keys }
+invariant-loop-made g l =
+    record { made : vec_len l.keys ≡ l._made; room : l.n ≤ vec_capacity l.keys }

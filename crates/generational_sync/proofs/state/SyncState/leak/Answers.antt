@@ -5,7 +5,8 @@ use Rattle.generational_sync.proofs.state.SyncState.leak.Goals as goal
 
 pub invariant_of-self-2 : goal.invariant_of-self-2
 invariant_of-self-2 g c =
-    made_kept c.recorded_calls_are_lawful.ensures.step c.histories_lead_to_sound_states.ensures.sound
+    made_kept c.recorded_calls_are_lawful.ensures.step
+    c.histories_lead_to_sound_states.ensures.sound
     g.row.NUMBER c.self.inside.store.state c.new.new.self.state c.self.inside.log
     c.reserve.new.self c.append.new.self c.args.tally.now.worker c.self.invariant
     c.reserve.ensures.steps c.args.value c.args.location c.in_ok-made.made c.append.ensures.steps
@@ -19,6 +20,7 @@ returns-clause-made g c = (
       ∙ number_kept g.row.NUMBER c.self.inside.store.state c.new.new.self.state c.self.inside.log
       c.self.invariant c.histories_lead_to_sound_states.ensures.number),
   ap (λ p. p.created_at) c.box_at.ensures
-      ∙ made_at g.row.NUMBER c.self.inside.store.state c.new.new.self.state c.self.inside.log c.self.invariant
+      ∙ made_at g.row.NUMBER c.self.inside.store.state c.new.new.self.state c.self.inside.log
+      c.self.invariant
       c.args.value c.args.location c.in_ok-made.made c.in_ok-made.ensures.step,
 )

@@ -7,7 +7,8 @@ use Rattle.generational_sync.proofs.state.SyncState.try_read.Goals as goal
 
 pub invariant_of-self-in-Ok : goal.invariant_of-self-in-Ok
 invariant_of-self-in-Ok g c =
-    read_kept c.recorded_calls_are_lawful.ensures.step c.histories_lead_to_sound_states.ensures.sound
+    read_kept c.recorded_calls_are_lawful.ensures.step
+    c.histories_lead_to_sound_states.ensures.sound
     g.row.NUMBER c.self.inside.store.state c.begin_read.new.store.state c.self.inside.log
     c.reserve.new.self c.borrow_begins.new.self c.args.tally.now.worker c.self.invariant
     c.reserve.ensures.steps c.pointer-pointer.result c.args.location c.in-Ok.guard
@@ -18,7 +19,8 @@ invariant_of-self-in-Ok g c =
 
 pub invariant_of-self-in-Some : goal.invariant_of-self-in-Some
 invariant_of-self-in-Some g c =
-    refused_kept c.recorded_calls_are_lawful.ensures.step c.histories_lead_to_sound_states.ensures.sound
+    refused_kept c.recorded_calls_are_lawful.ensures.step
+    c.histories_lead_to_sound_states.ensures.sound
     g.row.NUMBER c.self.inside.store.state c.begin_read.new.store.state c.self.inside.log
     c.reserve.new.self c.append-in-Some.new.self c.args.tally.now.worker c.self.invariant
     c.reserve.ensures.steps c.pointer-pointer.result c.args.location c.in-Err.refused
@@ -29,7 +31,8 @@ pub returns-in-Ok-clause-guard : goal.returns-in-Ok-clause-guard
 returns-in-Ok-clause-guard g c =
     c.boxes_and_guards_are_new.ensures.guard c.self.inside.store.state c.begin_read.new.store.state
     (Read c.pointer-pointer.result c.args.location) c.in-Ok.guard c.in-Ok.ensures
-    ∙ number_kept g.row.NUMBER c.self.inside.store.state c.begin_read.new.store.state c.self.inside.log
+    ∙ number_kept g.row.NUMBER c.self.inside.store.state c.begin_read.new.store.state
+    c.self.inside.log
     c.self.invariant c.histories_lead_to_sound_states.ensures.number
 
 pub returns-after-read_refusal-clause-refusal : goal.returns-after-read_refusal-clause-refusal
