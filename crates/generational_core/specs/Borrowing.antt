@@ -19,8 +19,7 @@ pub data Trouble : Type 0 where
   BeingWritten : (writer : Location) → Trouble
   BeingRead : (readers : List Location) → Trouble
 
--- A guard: its store's number, its cell and its ticket.
-pub record Guard : Type 0 where
+pub record Guard : Type 0 where  -- a guard: its store's number, its cell and its ticket
   pub store : ℕ
   pub cell : Name
   pub ticket : ℕ
@@ -37,8 +36,7 @@ module _ {T : Type 0} where
   read_refusal _ = None
 
   abbrev pub write_refusal : Option (Content T) → Option Trouble
-  write_refusal (Some (Here v (r ∷ readers))) =
-      Some (BeingRead (list_map (λ b. b.location) (r ∷ readers)))
+  write_refusal (Some (Here v (r ∷ rs))) = Some (BeingRead (list_map (λ b. b.location) (r ∷ rs)))
   write_refusal c = read_refusal c
 
   -- where a name's cell leads: a Value to itself, and a Ref to its target
@@ -47,8 +45,7 @@ module _ {T : Type 0} where
   leads_to (Some (Ref m l)) n = Some m
   leads_to _ n = None
 
-  -- what a box reaches
-  unfoldable pub reach : State T → GenerationalPointer → Option Name
+  unfoldable pub reach : State T → GenerationalPointer → Option Name  -- what a box reaches
   reach S b =
       if nat_eq b.id.store S.number then leads_to (map.get S.cells (name_of b)) (name_of b) else None
 

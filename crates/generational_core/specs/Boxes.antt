@@ -11,8 +11,7 @@ use Rattle.generational_core.specs.Names.{Name}
 abbrev pub pointer_of : {T : Type 0} → GenerationalBox T → GenerationalPointer
 pointer_of b = b.raw
 
--- the name in an id, and in a box
-abbrev pub name_in : GenerationalBoxId → Name
+abbrev pub name_in : GenerationalBoxId → Name  -- the name in an id, and in a box
 name_in id = record { slot = id.slot; generation = id.generation }
 
 abbrev pub name_of : GenerationalPointer → Name

@@ -10,8 +10,7 @@ pub data Content (T : Type 0) : Type 0 where
   Here : (value : T) (readers : List Borrow) → Content T
   Lent : (writer : Borrow) → Content T
 
--- A live cell, with the location at which it was made.
-pub data Cell (T : Type 0) : Type 0 where
+pub data Cell (T : Type 0) : Type 0 where  -- a live cell, with the location where it was made
   Value : (content : Content T) (created : Location) → Cell T
   Shared : (content : Content T) (created : Location) → Cell T
   Ref : (target : Name) (created : Location) → Cell T
@@ -37,8 +36,7 @@ module _ {T : Type 0} where
   refers_to n (Some (Ref m l)) = is_name n m
   refers_to n _ = false
 
-  -- the location at which a cell was made
-  abbrev pub location_of : Option (Cell T) → Option Location
+  abbrev pub location_of : Option (Cell T) → Option Location  -- where a cell was made
   location_of None = None
   location_of (Some (Value c l)) = Some l
   location_of (Some (Shared c l)) = Some l

@@ -26,8 +26,7 @@ use Rattle.generational_core.specs.Borrowing.{read_trouble, write_trouble, fill,
 use Rattle.generational_core.specs.Borrowing.Trouble.{Dropped}
 use Rattle.generational_core.specs.Ending.{sweep, close, hindrance_to, hindrance_at}
 
--- An owner: its store's number and its key.
-pub record OwnerName : Type 0 where
+pub record OwnerName : Type 0 where  -- an owner: its store's number and its key
   pub store : ℕ
   pub key : ℕ
 
@@ -36,8 +35,7 @@ pub record Fresh : Type 0 where
   pub first : Name
   pub second : Name
 
--- A call. A making may go by an owner.
-pub data Action (T : Type 0) : Type 0 where
+pub data Action (T : Type 0) : Type 0 where  -- a call; a making may go by an owner
   Make : (owner : Option OwnerName) (value : T) (at : Location) → Action T
   MakeShared : (owner : Option OwnerName) (value : T) (at : Location) → Action T
   Refer : (owner : Option OwnerName) (box : GenerationalPointer) → Action T
@@ -67,8 +65,7 @@ pub data Answer (T : Type 0) : Type 0 where
   Troubled : (trouble : Trouble) → Answer T
   Refused : (cause : StoreError) → Answer T
 
--- what a call answers, and the state after it
-abbrev pub Outcome : Type 0 → Type 0
+abbrev pub Outcome : Type 0 → Type 0  -- what a call answers, and the state after it
 Outcome T = Answer T × State T
 
 module _ {T : Type 0} where
@@ -86,7 +83,7 @@ module _ {T : Type 0} where
   is_known S None = true
   is_known S (Some o) = is_some (ownership S o)
 
-  -- the state with one cell more, under a name that is given from now on
+  -- the state with a cell more, under a name that is given from now on
   abbrev pub add_cell : State T → Name → Cell T → State T
   add_cell S n cell =
       let cells = map.insert S.cells n cell in
@@ -108,8 +105,7 @@ module _ {T : Type 0} where
   make_shared S o v l f =
       make (add_cell S f.first (Shared (Here v []) l)) o f.second (Ref f.first l) l
 
-  -- the cell at a name that was reached
-  abbrev pub cell_at : State T → Option Name → Option (Cell T)
+  abbrev pub cell_at : State T → Option Name → Option (Cell T)  -- the cell at what was reached
   cell_at S None = None
   cell_at S (Some n) = map.get S.cells n
 
@@ -137,8 +133,7 @@ module _ {T : Type 0} where
       else unless (hindrance_to S h.names) S
       (Done, record (close S h.names) { owners = map.remove S.owners o.key })
 
-  -- the guard and the borrow that the next ticket gives
-  abbrev pub next_guard : State T → Name → Guard
+  abbrev pub next_guard : State T → Name → Guard  -- what the next ticket gives
   next_guard S m = record { store = S.number; cell = m; ticket = S.next }
 
   abbrev pub next_borrow : State T → Location → Borrow
@@ -146,10 +141,8 @@ module _ {T : Type 0} where
 
   -- a reader at the end of the list
   abbrev pub read_at : State T → Location → Option Name → Option (Content T) → Outcome T
-  read_at S l (Some m) (Some (Here v readers)) = (
-    Reads (next_guard S m),
-    take_ticket (fill S m (Here v (readers ++ next_borrow S l ∷ []))),
-  )
+  read_at S l (Some m) (Some (Here v rs)) =
+      (Reads (next_guard S m), take_ticket (fill S m (Here v (rs ++ next_borrow S l ∷ []))))
   read_at S l _ _ = (Done, S)
 
   -- a writer, whose guard owns the value

@@ -11,8 +11,7 @@ pub record Name : Type 0 where
   pub slot : ℕ
   pub generation : ℕ
 
--- an order of names, by which finite maps are kept
-abbrev pub name_cmp : Name → Name → Ordering
+abbrev pub name_cmp : Name → Name → Ordering  -- an order of names, by which finite maps are kept
 name_cmp a b = ordering_then (nat_cmp a.slot b.slot) (nat_cmp a.generation b.generation)
 
 -- whether two names are the same, and whether a name stands in a list
@@ -22,8 +21,7 @@ is_name a b = eq_by_cmp name_cmp a b
 abbrev pub among : List Name → Name → Bool
 among names n = list_any (is_name n) names
 
--- finite sets of names, and finite maps under them
-abbrev pub Names : Type 0
+abbrev pub Names : Type 0  -- finite sets of names, and finite maps under them
 Names = set.FinSet name_cmp
 
 abbrev pub NameMap : Type 0 → Type 0

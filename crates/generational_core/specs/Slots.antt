@@ -7,15 +7,13 @@ use Rattle.std.specs.FinSet as set
 use Rattle.generational_core.specs.Names.{Name}
 use Rattle.generational_core.specs.State.{State}
 
--- the greatest generation given in each slot
-unfoldable pub lasts : List Name → map.FinMap nat_cmp ℕ
+unfoldable pub lasts : List Name → map.FinMap nat_cmp ℕ  -- each slot's greatest generation
 lasts [] = map.empty
 lasts (n ∷ names) =
     let rest = lasts names in
     map.insert rest n.slot (max n.generation (unwrap_or (map.get rest n.slot) 0))
 
--- the last generation of all
-abbrev pub last_generation : ℕ
+abbrev pub last_generation : ℕ  -- the last generation of all
 last_generation = 2 ^ 64 - 1
 
 module _ {T : Type 0} where

@@ -17,8 +17,7 @@ pub record Ownership : Type 0 where
   pub names : List Name
   pub count : ℕ
 
--- owners' records by their keys
-abbrev pub Owners : Type 0
+abbrev pub Owners : Type 0  -- owners' records by their keys
 Owners = map.FinMap nat_cmp Ownership
 
 -- What a store stands for. A name is live if a cell stands under it.
@@ -44,12 +43,10 @@ module _ {T : Type 0} where
   abbrev pub tickets_at : NameMap (Cell T) → Name → List ℕ
   tickets_at cells n = tickets_of (content_of (map.get cells n))
 
-  -- a borrow with ticket t stands at n
-  abbrev pub Stands : NameMap (Cell T) → Name → ℕ → Type 0
+  abbrev pub Stands : NameMap (Cell T) → Name → ℕ → Type 0  -- a borrow with ticket t stands at n
   Stands cells n t = list_any (nat_eq t) (tickets_at cells n) ≡ true
 
-  -- whether a live Ref names m
-  unfoldable pub is_named : NameMap (Cell T) → Name → Bool
+  unfoldable pub is_named : NameMap (Cell T) → Name → Bool  -- whether a live Ref names m
   is_named cells m = list_any (λ n. refers_to m (map.get cells n)) (map.keys cells)
 
   -- a name was given, or is one that a box may have: given, and not a Shared cell's
@@ -59,8 +56,7 @@ module _ {T : Type 0} where
   abbrev pub IsBoxed : State T → Name → Type 0
   IsBoxed S n = IsGiven S n × (is_shared (map.get S.cells n) ≡ false)
 
-  -- That borrows stand at Value and Shared cells alone, and that a content is lent exactly under a
-  -- writer, holds of every state, since the borrows are a part of the content.
+  -- (Borrows are a part of a content, which is lent under a writer alone, in any state.)
   pub record IsSound (S : State T) : Type 0 where
     -- live names and owners' names were given, and owners' names are names of boxes
     pub given : (n : Name) → is_some (map.get S.cells n) ≡ true → IsGiven S n

@@ -24,12 +24,10 @@ use Rattle.generational_core.specs.Machine.Action.{Read, Write, End, Point}
 use Rattle.generational_core.specs.Machine.Answer.{Made, Owned, Reads, Writes, Troubled, Refused}
 use Rattle.generational_core.specs.Slots.{Fits, free}
 
--- the last number of all, which is never given as a ticket
-abbrev pub last_ticket : ℕ
+abbrev pub last_ticket : ℕ  -- the last number of all, which is never given as a ticket
 last_ticket = 2 ^ 64 - 1
 
--- names for calls that take none
-abbrev pub no_names : Fresh
+abbrev pub no_names : Fresh  -- names for calls that take none
 no_names =
     let none : Name = record { slot = 0; generation = 0 } in record { first = none; second = none }
 
@@ -52,8 +50,7 @@ module _ {T : Type 0} where
   Takes S call (Made b) f = AreNew S call f
   Takes S call _ f = Unit {0}
 
-  -- whether an answer gives a ticket
-  abbrev pub takes_ticket : Answer T → Bool
+  abbrev pub takes_ticket : Answer T → Bool  -- whether an answer gives a ticket
   takes_ticket (Owned o) = true
   takes_ticket (Reads g) = true
   takes_ticket (Writes g v) = true
@@ -64,8 +61,7 @@ module _ {T : Type 0} where
   limit_tickets S out =
       if takes_ticket out.0 && nat_eq S.next last_ticket then (Refused NumbersExhausted, S) else out
 
-  -- a call's answer, but for its names
-  abbrev pub answer_to : State T → Action T → Answer T
+  abbrev pub answer_to : State T → Action T → Answer T  -- a call's answer, but for its names
   answer_to S call = (limit_tickets S (act S call no_names)).0
 
   -- whether a call that would be answered so may lack memory: for a slot where too few are free, for
