@@ -1,15 +1,10 @@
 -- What a slot's representation means.
-use Rattle.std.specs.Prelude.{◌≡◌, ℕ, Bool, true, false, ◌&&◌, not, nat_eq}
-use Rattle.std.specs.Prelude.{if◌then◌else◌, List, [], ◌∷◌, ◌++◌, Option, Some, None}
-use Rattle.std.specs.Prelude.{Result, Ok, Err, map as list_map}
+use Rattle.std.specs.Prelude.{◌≡◌, ℕ, Bool, true, false, ◌&&◌, not, nat_eq, if◌then◌else◌, List, []}
+use Rattle.std.specs.Prelude.{◌∷◌, ◌++◌, Option, Some, None, Result, Ok, Err, map as list_map}
 use Rattle.std.specs.List.{filter}
 use Rattle.generational_core.specs.declared.error.Location.{Location}
 use Rattle.generational_core.specs.declared.error.BorrowMutError.{BorrowMutError}
-use Rattle.generational_core.specs.declared.error.StoreError.TheVariants.{
-  OutOfMemory,
-  NumbersExhausted,
-  UnknownOwner,
-}
+use Rattle.generational_core.specs.declared.error.StoreError.TheVariants.{OutOfMemory}
 use Rattle.generational_core.specs.declared.error.Refused.{Refused}
 use Rattle.generational_core.specs.declared.error.Refused.TheVariants as refused
 use Rattle.generational_core.specs.declared.borrow.Borrow.{Borrow}
@@ -18,7 +13,7 @@ use Rattle.generational_box.specs.declared.entry.StorageEntryData.TheVariants as
 use Rattle.generational_core.specs.Cells.{Content}
 use Rattle.generational_core.specs.Cells.Content.{Here, Lent}
 use Rattle.generational_core.specs.Borrowing.{Trouble}
-use Rattle.generational_core.specs.Borrowing.Trouble.{Dropped, BeingRead, BeingWritten}
+use Rattle.generational_core.specs.Borrowing.Trouble.{BeingRead}
 use Rattle.generational_core.specs.Machine.{has_reader}
 use Rattle.generational_core.specs.Answers.{trouble_of, value_of}
 
@@ -50,33 +45,39 @@ module _ {T : Type 0} where
   abbrev pub valid_at : ℕ → Entry T → Bool
   valid_at g e = nat_eq e.generation g && is_live e.kept
 
+  -- another content of a live cell
+  abbrev pub with_content : (Content T → Content T) → Kept T → Kept T
+  with_content f Empty = Empty
+  with_content f (Live c l) = Live (f c) l
+
   -- a reader at the end of the list
+  abbrev pub one_read : Borrow → Content T → Content T
+  one_read b (Here v readers) = Here v (readers ++ b ∷ [])
+  one_read b (Lent w) = Lent w
+
   abbrev pub with_reader : Borrow → Kept T → Kept T
-  with_reader b (Live (Here v readers) l) = Live (Here v (readers ++ b ∷ [])) l
-  with_reader b other = other
+  with_reader b = with_content (one_read b)
 
   -- the readers without the ticket's own
+  abbrev pub less_read : ℕ → Content T → Content T
+  less_read t (Here v readers) = Here v (filter (λ r. not (nat_eq r.ticket t)) readers)
+  less_read t (Lent w) = Lent w
+
   abbrev pub without_reader_in : ℕ → Kept T → Kept T
-  without_reader_in t (Live (Here v readers) l) =
-      Live (Here v (filter (λ r. not (nat_eq r.ticket t)) readers)) l
-  without_reader_in t other = other
+  without_reader_in t = with_content (less_read t)
 
   -- whether a content has no borrows
   abbrev pub has_no_borrow : Option (Content T) → Bool
-  has_no_borrow None = false
   has_no_borrow (Some (Here v [])) = true
-  has_no_borrow (Some (Here v (r ∷ readers))) = false
-  has_no_borrow (Some (Lent w)) = false
+  has_no_borrow _ = false
 
   -- the content lent to a writer
   abbrev pub lend_to : Borrow → Kept T → Kept T
-  lend_to w Empty = Empty
-  lend_to w (Live c l) = Live (Lent w) l
+  lend_to w = with_content (λ c. Lent w)
 
   -- a value without borrows
   abbrev pub with_value : T → Kept T → Kept T
-  with_value v Empty = Empty
-  with_value v (Live c l) = Live (Here v []) l
+  with_value v = with_content (λ c. Here v [])
 
   -- the value, where the ticket is a reader's
   abbrev pub value_for : ℕ → Option (Content T) → Option T
@@ -87,20 +88,16 @@ abbrev pub FoundReaders : List Borrow → Refused BorrowMutError → Type 0
 FoundReaders readers (refused.Borrow e) =
     trouble_of e ≡ BeingRead (list_map (λ r. r.location) readers)
 FoundReaders readers (refused.Store OutOfMemory) = Unit {0}
-FoundReaders readers (refused.Store NumbersExhausted) = ⊥
-FoundReaders readers (refused.Store UnknownOwner) = ⊥
+FoundReaders readers (refused.Store _) = ⊥
 
 -- readers stand in the way
 abbrev pub IsBeingRead : Option Trouble → Type 0
-IsBeingRead None = ⊥
-IsBeingRead (Some (Dropped l)) = ⊥
 IsBeingRead (Some (BeingRead ls)) = Unit {0}
-IsBeingRead (Some (BeingWritten l)) = ⊥
+IsBeingRead _ = ⊥
 
 -- a call that meets this trouble, or none, is answered so, unless its list found no memory
 abbrev pub FoundBorrowed : Option Trouble → Result (Unit {0}) (Refused BorrowMutError) → Type 0
 FoundBorrowed trouble (Ok u) = trouble ≡ None
 FoundBorrowed trouble (Err (refused.Borrow e)) = trouble ≡ Some (trouble_of e)
 FoundBorrowed trouble (Err (refused.Store OutOfMemory)) = IsBeingRead trouble
-FoundBorrowed trouble (Err (refused.Store NumbersExhausted)) = ⊥
-FoundBorrowed trouble (Err (refused.Store UnknownOwner)) = ⊥
+FoundBorrowed trouble (Err (refused.Store _)) = ⊥

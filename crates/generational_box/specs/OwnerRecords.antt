@@ -1,7 +1,6 @@
 -- The records of owners that a store keeps, as the machine sees them.
-use Rattle.std.specs.Prelude.{◌≡◌, Bool, true, false, nat_eq, ◌&&◌, is_some, IsSome}
-use Rattle.std.specs.Prelude.{ℕ, ◌<◌, ◌≤◌, Option, None, Some, List, [], ◌∷◌}
-use Rattle.std.specs.Prelude.{map as list_map}
+use Rattle.std.specs.Prelude.{◌≡◌, Bool, true, false, nat_eq, if◌then◌else◌, is_some, IsSome, ℕ}
+use Rattle.std.specs.Prelude.{◌<◌, ◌≤◌, Option, None, Some, List, [], ◌∷◌, map as list_map}
 use Rattle.std.specs.FinMap as map
 use Rattle.std.specs.BTreeMap.{BTreeMap}
 use Rattle.std.specs.declared.cmp.Reverse.{Reverse}
@@ -16,7 +15,7 @@ use Rattle.generational_core.specs.Borrowing.{Trouble, write_refusal}
 use Rattle.std.specs.Option.{option_or}
 use Rattle.generational_core.specs.Machine.{OwnerName}
 use Rattle.generational_core.specs.State.{Ownership, Owners}
-use Rattle.generational_core.specs.Records.{one_listed}
+use Rattle.generational_core.specs.Conditions.{one_listed}
 
 abbrev pub name_of_cell : CellName → Name
 name_of_cell n = record { slot = n.slot; generation = n.generation }
@@ -27,7 +26,8 @@ ownership_of r = record { names = list_map name_of_cell r.boxes.items; count = r
 -- the records under their keys
 abbrev pub owners_of : BTreeMap (Reverse ℕ) OwnerRecord → Owners
 owners_of m =
-    map.from_entries (list_map (λ (e : Reverse ℕ × OwnerRecord). (e.0.0, ownership_of e.1)) m.entries)
+    map.from_entries
+    (list_map (λ (e : Reverse ℕ × OwnerRecord). (e.0.0, ownership_of e.1)) m.entries)
 
 -- what stands in the way of an end of these cells, at the first of them that is borrowed
 abbrev pub first_borrowed : {T : Type 0} → NameMap (Cell T) → List Name → Option Trouble
@@ -37,7 +37,7 @@ first_borrowed cells (n ∷ names) =
 
 -- whether an owner is of a store with this number and these records
 abbrev pub knows : ℕ → Owners → OwnerName → Bool
-knows number owners o = nat_eq o.store number && is_some (map.get owners o.key)
+knows number owners o = is_some (if nat_eq o.store number then map.get owners o.key else None)
 
 -- the same of an owner, if there is one
 abbrev pub knows_any : ℕ → Owners → Option OwnerName → Bool
@@ -61,5 +61,5 @@ abbrev pub IsCounted : ℕ → Option Ownership → Type 0
 IsCounted next None = Unit {0}
 IsCounted next (Some h) = (0 < h.count) × (h.count ≤ next)
 
-abbrev pub AreCounted : ℕ → Owners → Type 0
-AreCounted next owners = (key : ℕ) → IsCounted next (map.get owners key)
+pub record AreCounted (next : ℕ) (owners : Owners) : Type 0 where
+  pub each : (key : ℕ) → IsCounted next (map.get owners key)

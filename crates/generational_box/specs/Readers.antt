@@ -12,12 +12,10 @@ readers_kept (kept.Many bs) = bs.items
 
 -- a list that is kept isn't empty
 abbrev pub IsKeptWell : KeptReaders → Type 0
-IsKeptWell kept.Nobody = Unit {0}
-IsKeptWell (kept.One b) = Unit {0}
 IsKeptWell (kept.Many bs) = bs.items ≢ []
+IsKeptWell _ = Unit {0}
 
 -- nobody reads, or there is a list
 abbrev pub IsNotOne : KeptReaders → Type 0
-IsNotOne kept.Nobody = Unit {0}
 IsNotOne (kept.One b) = ⊥
-IsNotOne (kept.Many bs) = Unit {0}
+IsNotOne _ = Unit {0}

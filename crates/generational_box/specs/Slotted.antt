@@ -1,14 +1,14 @@
 -- The state for which a vector of slots stands, and what holds of every such vector.
 use Rattle.std.specs.Prelude.{◌≡◌, ℕ, ◌+◌, ◌-◌, ◌≤◌, suc, zero, Bool, true, false, ◌&&◌, nat_eq}
-use Rattle.std.specs.Prelude.{nat_le, nat_lt, not, if◌then◌else◌, length}
-use Rattle.std.specs.Prelude.{List, [], ◌∷◌, ◌++◌, Option, None, Some, slice_get, slice_set}
+use Rattle.std.specs.Prelude.{nat_le, nat_lt, not, if◌then◌else◌, length, List, [], ◌∷◌, ◌++◌}
+use Rattle.std.specs.Prelude.{Option, None, Some, slice_get, slice_set}
 use Rattle.std.specs.Ordering.{nat_cmp}
 use Rattle.std.specs.FinMap as map
 use Rattle.std.specs.FinSet as set
 use Rattle.generational_core.specs.Names.{Name, NameMap, Names}
-use Rattle.generational_core.specs.Cells.{Cell, is_shared}
-use Rattle.generational_core.specs.Cells.Content.{Here, Lent}
-use Rattle.generational_core.specs.Cells.Cell.{Value, Shared, Ref}
+use Rattle.generational_core.specs.Cells.{Cell}
+use Rattle.generational_core.specs.Cells.Content.{Here}
+use Rattle.generational_core.specs.Cells.Cell.{Value}
 use Rattle.generational_core.specs.State.{State, Owners}
 use Rattle.generational_box.specs.Entry.{Entry, Kept, is_live, valid_at, has_no_borrow}
 use Rattle.generational_box.specs.Entry.Kept.{Empty, Live}
@@ -19,6 +19,11 @@ abbrev pub names_up : ℕ → ℕ → ℕ → List Name
 names_up slot from zero = []
 names_up slot from (suc count) =
     record { slot = slot; generation = from + count } ∷ names_up slot from count
+
+-- how many elements pass a test
+abbrev pub how_many : {A : Type 0} → (A → Bool) → List A → ℕ
+how_many p [] = 0
+how_many p (x ∷ xs) = (if p x then 1 else 0) + how_many p xs
 
 module _ {T : Type 0} where
   abbrev pub cell_of : Kept T → Option (Cell T)
@@ -75,9 +80,12 @@ module _ {T : Type 0} where
   given_in start (Some e) g = nat_le start g && nat_le g e.generation
 
   -- whether a slot is free: it has no cell, and its last generation wasn't the last of all
+  abbrev pub is_spent : Entry T → Bool
+  is_spent e = not (is_live e.kept) && nat_lt e.generation last_generation
+
   abbrev pub is_reusable : Option (Entry T) → Bool
   is_reusable None = false
-  is_reusable (Some e) = not (is_live e.kept) && nat_lt e.generation last_generation
+  is_reusable (Some e) = is_spent e
 
   abbrev pub HasBegun : ℕ → Option (Entry T) → Type 0
   HasBegun start None = Unit {0}
@@ -85,15 +93,17 @@ module _ {T : Type 0} where
 
   -- What holds of a store's slots and of the set of its free slots.
   pub record IsSlotted
-      (free : set.FinSet nat_cmp) (rooms start live peak : ℕ) (slots : List (Entry T)) : Type 0 where
+      (free : set.FinSet nat_cmp) (rooms start live peak : ℕ) (slots : List (Entry T))
+      : Type 0 where
     -- the free slots are those that may be used again
     pub pooled : (k : ℕ) → set.contains free k ≡ is_reusable (slice_get slots k)
     -- there is room for all of them
     pub roomy : length slots ≤ rooms
     -- no slot's generation is below the first one
     pub begun : (k : ℕ) → HasBegun start (slice_get slots k)
-    -- the live cells are counted
-    pub counted : live ≡ map.len (cells_of slots)
+    -- the live cells and the free slots are counted
+    pub counted : live ≡ how_many (λ e. is_live e.kept) slots
+    pub stocked : set.len free ≡ how_many is_spent slots
     -- a slot is made only where none is free: so the live and the free ones are no more than the
     -- peak, which is no more than there are slots
     pub few : live + set.len free ≤ peak
@@ -119,26 +129,20 @@ module _ {T : Type 0} where
 
   -- whether a cell is a Value that isn't lent
   abbrev pub is_here : Option (Cell T) → Bool
-  is_here None = false
   is_here (Some (Value (Here v readers) l)) = true
-  is_here (Some (Value (Lent w) l)) = false
-  is_here (Some (Shared c l)) = false
-  is_here (Some (Ref m l)) = false
+  is_here _ = false
 
   -- whether a cell is a Value without borrows
   abbrev pub is_unborrowed : Option (Cell T) → Bool
-  is_unborrowed None = false
   is_unborrowed (Some (Value c l)) = has_no_borrow (Some c)
-  is_unborrowed (Some (Shared c l)) = false
-  is_unborrowed (Some (Ref m l)) = false
-
-  -- no cell is a Shared one
-  abbrev pub OnlyValues : State T → Type 0
-  OnlyValues S = (n : Name) → is_shared (map.get S.cells n) ≡ false
+  is_unborrowed _ = false
 
   -- whether a cell is no other than a Value
   abbrev pub is_value : Option (Cell T) → Bool
   is_value None = true
   is_value (Some (Value c l)) = true
-  is_value (Some (Shared c l)) = false
-  is_value (Some (Ref m l)) = false
+  is_value (Some _) = false
+
+  -- the cells are Values
+  abbrev pub OnlyValues : NameMap (Cell T) → Type 0
+  OnlyValues cells = (n : Name) → is_value (map.get cells n) ≡ true

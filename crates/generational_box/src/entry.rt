@@ -52,14 +52,16 @@ impl<T> StorageEntry<T> {
     ghost use Rattle.std.specs.Prelude.{is_some};
     ghost use Rattle.generational_core.specs.Borrowing.{write_refusal};
     ghost use Rattle.generational_box.specs.Entry.Kept.{Empty, Live};
-    ghost use Rattle.generational_box.specs.Entry.{content_in, valid_at, has_no_borrow, with_reader};
+    ghost use Rattle.generational_box.specs.Entry.{content_in, valid_at, has_no_borrow};
+    ghost use Rattle.generational_box.specs.Entry.{with_reader};
     ghost use Rattle.generational_box.specs.Entry.{without_reader_in, lend_to, with_value};
     ghost use Rattle.generational_box.specs.Entry.{value_for, FoundBorrowed};
 
     // The first cell of a slot.
     #[inline(always)]
     pub(crate) fn new(generation: u64, value: T, location: Location) -> StorageEntry<T>
-        ensures { result ≡ record { generation = generation; kept = Live (Here value []) location } }
+        ensures { result ≡ record
+            { generation = generation; kept = Live (Here value []) location } }
     {
         StorageEntry {
             generation,
@@ -151,7 +153,8 @@ impl<T> StorageEntry<T> {
     #[inline(always)]
     pub(crate) fn drop_borrow(&mut self, ticket: u64) -> bool
         ensures known { result ≡ has_reader (content_in self.old.kept) ticket }
-        ensures after { self.new ≡ record self.old { kept = without_reader_in ticket self.old.kept } }
+        ensures after { self.new ≡ record self.old
+            { kept = without_reader_in ticket self.old.kept } }
     {
         match &mut self.content {
             StorageEntryData::Data(_, readers) => readers.remove(ticket),

@@ -4,9 +4,10 @@ ghost use Rattle.std.specs.Prelude.{◌≡◌, ℕ, ◌+◌, ◌-◌, ◌<◌, [
 ghost use Rattle.std.specs.Prelude.{IfErr, OnOk, OnErr, option_copied, option_map, map as list_map};
 ghost use Rattle.std.specs.Prelude.{if◌then◌else◌};
 ghost use Rattle.std.specs.FinMap as map;
-ghost use Rattle.generational_core.specs.Records.{one_more};
+ghost use Rattle.generational_core.specs.Conditions.{one_more};
 ghost use Rattle.generational_box.specs.OwnerRecords.{owners_of, ownership_of, name_of_cell};
-ghost use Rattle.generational_core.specs.Records.{one_less, one_listed, count_under, names_under};
+ghost use Rattle.generational_core.specs.Conditions.{one_less, one_listed, count_under};
+ghost use Rattle.generational_core.specs.Conditions.{names_under};
 ghost use Rattle.generational_box.specs.OwnerRecords.{knows, knows_any, add_to_list_in, IsRefusal};
 ghost use Rattle.generational_core.specs.declared.error.StoreError.TheVariants.{OutOfMemory};
 ghost use Rattle.generational_core.specs.declared.error.StoreError.TheVariants.{UnknownOwner};

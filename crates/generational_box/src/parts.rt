@@ -23,15 +23,16 @@ ghost use Rattle.generational_core.specs.Machine.Answer.{Flag};
 ghost use Rattle.generational_core.specs.Slots.{last_generation};
 ghost use Rattle.generational_core.specs.Steps.{Meets, last_ticket};
 ghost use Rattle.generational_core.specs.Ending.{close};
-ghost use Rattle.generational_core.specs.Records.{names_under};
+ghost use Rattle.generational_core.specs.Conditions.{names_under};
 ghost use Rattle.generational_box.specs.OwnerRecords.{first_borrowed, name_of_cell};
 ghost use Rattle.generational_box.specs.Entry.{FoundBorrowed, content_in, is_live, valid_at};
-ghost use Rattle.generational_box.specs.Entry.{has_no_borrow, with_reader, without_reader_in, lend_to};
+ghost use Rattle.generational_box.specs.Entry.{has_no_borrow, with_reader, without_reader_in};
+ghost use Rattle.generational_box.specs.Entry.{lend_to};
 ghost use Rattle.generational_box.specs.Entry.{with_value};
 ghost use Rattle.generational_core.specs.Answers.{make_answer, owner_answer, release_answer};
 ghost use Rattle.generational_core.specs.Answers.{read_answer, write_answer, back_answer};
 ghost use Rattle.generational_core.specs.Answers.{end_answer, value_behind};
-ghost use Rattle.generational_core.specs.Readiness.{is_ready};
+ghost use Rattle.generational_core.specs.StepCalls.{is_ready};
 ghost use Rattle.generational_core.specs.Slots.{slots, free, retired};
 ghost use Rattle.generational_box.specs.Entry.Kept.{Empty, Live};
 ghost use Rattle.generational_box.specs.Slotted.{cells_of, change_entry, entry_in, cell_found};
@@ -84,7 +85,8 @@ impl<T, P: SlotPool> Model for Parts<T, P> {
 
     ghost coded = { Prim.hlevel (codes, map.code) };
 
-    ghost view = { λ s. state_of (owners_of s.owners) s.number s.start s.next s.peak s.slots.items };
+    ghost view = { λ s.
+        state_of (owners_of s.owners) s.number s.start s.next s.peak s.slots.items };
 
     ghost invariant = { λ s. IsSlotted (P.members s.pool) (P.rooms s.pool) s.start s.live s.peak
         s.slots.items × AreCounted s.next (owners_of s.owners) };
@@ -125,7 +127,7 @@ impl<T: Drop, P: SlotPool> Parts<T, P> {
     fn entry(&self, id: GenerationalBoxId) -> Option<&StorageEntry<T>>
         ensures cell { own_cell self.now id ≡ cell_found (option_copied result) }
         ensures live { IfSome result (λ entry. is_live entry.now.kept ≡ true) }
-        ensures values { OnlyValues self.now }
+        ensures values { OnlyValues self.now.cells }
     {
         if id.store != self.number {
             return None;
@@ -142,7 +144,8 @@ impl<T: Drop, P: SlotPool> Parts<T, P> {
         ensures ok { OnOk result (self.new ≡
             (read_at self.old location (Some (name_in id)) (content_at self.old (name_in id))).1) }
         ensures err { OnErr result (self.new ≡ self.old) }
-        ensures beside { OnErr result (is_some (write_refusal (content_at self.old (name_in id))) ≡ true) }
+        ensures beside { OnErr result
+            (is_some (write_refusal (content_at self.old (name_in id))) ≡ true) }
     {
         let ticket = self.next;
         let borrow = Borrow { ticket, location };
@@ -223,7 +226,7 @@ impl<T: Drop, P: SlotPool> Parts<T, P> {
     fn take_boxes(&mut self, key: u64) -> Vec<CellName>
         ensures names { list_map name_of_cell result.items ≡ names_under self.old.owners key }
         ensures after { self.new ≡ record self.old { owners = map.remove self.old.owners key } }
-        ensures values { OnlyValues self.new }
+        ensures values { OnlyValues self.new.cells }
     {
         owners::take(&mut self.owners, key, self.alloc)
     }
@@ -231,7 +234,7 @@ impl<T: Drop, P: SlotPool> Parts<T, P> {
     // Ends the live cells among these, from the first to the last: so their slots go to the pool
     // in the order of the list.
     fn end_all(&mut self, boxes: Vec<CellName>)
-        requires { OnlyValues self.old }
+        requires { OnlyValues self.old.cells }
         ensures { self.new ≡ close self.old (list_map name_of_cell boxes.items) }
     {
         for name in boxes.as_slice() {
@@ -241,7 +244,8 @@ impl<T: Drop, P: SlotPool> Parts<T, P> {
 
     // Ends a cell, if it is live.
     fn end_named(&mut self, name: CellName)
-        ensures { self.new ≡ record self.old { cells = map.remove self.old.cells (name_of_cell name) } }
+        ensures { self.new ≡ record self.old
+            { cells = map.remove self.old.cells (name_of_cell name) } }
     {
         let id = id_at(self.number, name.slot, name.generation);
         match self.entry(id) {
@@ -749,7 +753,8 @@ fn dropped(pointer: GenerationalPointer) -> Refused<BorrowError>
 
 // The answer to a write of a box that reaches nothing.
 fn dropped_mut(pointer: GenerationalPointer) -> Refused<BorrowMutError>
-    ensures { result ≡ refused.Borrow (writes.Dropped (record { created_at = pointer.created_at })) }
+    ensures { result ≡ refused.Borrow
+        (writes.Dropped (record { created_at = pointer.created_at })) }
 {
     Refused::Borrow(BorrowMutError::Dropped(ValueDroppedError::new(pointer.created_at)))
 }

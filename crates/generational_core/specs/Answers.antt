@@ -9,18 +9,25 @@ use Rattle.generational_core.specs.declared.error.Refused.TheVariants as refused
 use Rattle.generational_core.specs.declared.error.Refusal.{Refusal}
 use Rattle.generational_core.specs.declared.boxes.GenerationalPointer.{GenerationalPointer}
 use Rattle.generational_core.specs.declared.boxes.GenerationalBox.{GenerationalBox}
-use Rattle.generational_core.specs.Boxes.{pointer_of}
 use Rattle.generational_core.specs.Cells.{Content}
-use Rattle.generational_core.specs.Cells.Content.{Here, Lent}
-use Rattle.generational_core.specs.State.{State}
-use Rattle.generational_core.specs.State.{content_at}
+use Rattle.generational_core.specs.Cells.Content.{Here}
+use Rattle.generational_core.specs.Names.{Name}
+use Rattle.generational_core.specs.State.{State, content_at}
 use Rattle.generational_core.specs.Borrowing.{Trouble, Guard}
 use Rattle.generational_core.specs.Borrowing.Trouble.{Dropped, BeingRead, BeingWritten}
-use Rattle.generational_core.specs.Writing.{WriteGuard}
 use Rattle.generational_core.specs.declared.error.StoreError.{StoreError}
 use Rattle.generational_core.specs.Machine.{Answer, OwnerName, knows_reader}
 use Rattle.generational_core.specs.Machine.Answer.{Made, Owned, Reads, Writes, Back, Done, Troubled}
 use Rattle.generational_core.specs.Machine.Answer.{Refused as refuses}
+
+-- the box without its element type
+abbrev pub pointer_of : {T : Type 0} → GenerationalBox T → GenerationalPointer
+pointer_of b = b.raw
+
+-- a writer's guard, and the value that it owns
+pub record WriteGuard (T : Type 0) : Type 0 where
+  pub guard : Guard
+  pub value : T
 
 -- why a read, and why a write or an end, was refused
 abbrev pub read_trouble_of : BorrowError → Trouble
@@ -76,11 +83,14 @@ module _ {T : Type 0} where
   release_answer (Ok u) = Done
   release_answer (Err e) = end_refused e.1
 
+  -- the value of a content and at a name, unless a writer has it; the value that a reader's guard
+  -- opens, if the state knows the guard
   abbrev pub value_of : Option (Content T) → Option T
-  value_of None = None
   value_of (Some (Here v readers)) = Some v
-  value_of (Some (Lent w)) = None
+  value_of _ = None
 
-  -- the value that a reader's guard opens, if the state knows the guard
+  abbrev pub value_at : State T → Name → Option T
+  value_at S m = value_of (content_at S m)
+
   abbrev pub value_behind : State T → Guard → Option T
-  value_behind S g = if knows_reader S g then value_of (content_at S g.cell) else None
+  value_behind S g = if knows_reader S g then value_at S g.cell else None

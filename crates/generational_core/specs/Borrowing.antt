@@ -1,15 +1,14 @@
 -- What a box reaches, and how a borrow of it is answered.
-use Rattle.generational_core.specs.State.{content_at}
-use Rattle.std.specs.Prelude.{ℕ, ◌+◌, if◌then◌else◌, nat_eq, List, [], ◌∷◌}
-use Rattle.std.specs.Prelude.{Option, None, Some, map as list_map}
+use Rattle.generational_core.specs.State.{content_at, State}
+use Rattle.std.specs.Prelude.{ℕ, ◌+◌, if◌then◌else◌, nat_eq, List, ◌∷◌, Option, None, Some}
+use Rattle.std.specs.Prelude.{map as list_map}
 use Rattle.std.specs.FinMap as map
 use Rattle.generational_core.specs.declared.error.Location.{Location}
 use Rattle.generational_core.specs.declared.boxes.GenerationalPointer.{GenerationalPointer}
 use Rattle.generational_core.specs.Names.{Name, change}
-use Rattle.generational_core.specs.Cells.{Content, Cell, content_of, refill}
+use Rattle.generational_core.specs.Cells.{Content, Cell, refill}
 use Rattle.generational_core.specs.Cells.Content.{Here, Lent}
-use Rattle.generational_core.specs.Cells.Cell.{Value, Shared, Ref}
-use Rattle.generational_core.specs.State.{State}
+use Rattle.generational_core.specs.Cells.Cell.{Value, Ref}
 use Rattle.generational_core.specs.Boxes.{name_of}
 
 -- Why a borrow is refused: the value is gone (with the location at which the box was made), it is
@@ -30,12 +29,11 @@ refusal_at None l at = Some (Dropped l)
 refusal_at (Some n) l at = at n
 
 module _ {T : Type 0} where
-  -- how a read of a content is refused, and how a write of it is
-  abbrev pub read_refusal : Option (Content T) → Option Trouble
+  abbrev pub read_refusal : Option (Content T) → Option Trouble  -- how a read of it is refused
   read_refusal (Some (Lent w)) = Some (BeingWritten w.location)
   read_refusal _ = None
 
-  abbrev pub write_refusal : Option (Content T) → Option Trouble
+  abbrev pub write_refusal : Option (Content T) → Option Trouble  -- and how a write of it is
   write_refusal (Some (Here v (r ∷ rs))) = Some (BeingRead (list_map (λ b. b.location) (r ∷ rs)))
   write_refusal c = read_refusal c
 
@@ -46,8 +44,8 @@ module _ {T : Type 0} where
   leads_to _ n = None
 
   unfoldable pub reach : State T → GenerationalPointer → Option Name  -- what a box reaches
-  reach S b =
-      if nat_eq b.id.store S.number then leads_to (map.get S.cells (name_of b)) (name_of b) else None
+  reach S b = if nat_eq b.id.store S.number
+      then leads_to (map.get S.cells (name_of b)) (name_of b) else None
 
   -- how a read of a box is refused, and how a write of it is
   unfoldable pub read_trouble : State T → GenerationalPointer → Option Trouble
@@ -56,9 +54,8 @@ module _ {T : Type 0} where
   unfoldable pub write_trouble : State T → GenerationalPointer → Option Trouble
   write_trouble S b = refusal_at (reach S b) b.created_at (λ n. write_refusal (content_at S n))
 
-  -- the state with another content in a cell, and with one ticket more given
-  abbrev pub fill : State T → Name → Content T → State T
+  abbrev pub fill : State T → Name → Content T → State T  -- another content in a cell
   fill S n c = record S { cells = change S.cells n (refill c) }
 
-  abbrev pub take_ticket : State T → State T
+  abbrev pub take_ticket : State T → State T  -- one ticket more is given
   take_ticket S = record S { next = S.next + 1 }

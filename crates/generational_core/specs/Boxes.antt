@@ -4,12 +4,7 @@ use Rattle.std.specs.Ordering.{eq_of_both, on}
 use Rattle.generational_core.specs.declared.error.Location.{Location}
 use Rattle.generational_core.specs.declared.boxes.GenerationalBoxId.{GenerationalBoxId}
 use Rattle.generational_core.specs.declared.boxes.GenerationalPointer.{GenerationalPointer}
-use Rattle.generational_core.specs.declared.boxes.GenerationalBox.{GenerationalBox}
 use Rattle.generational_core.specs.Names.{Name}
-
--- the box without its element type
-abbrev pub pointer_of : {T : Type 0} → GenerationalBox T → GenerationalPointer
-pointer_of b = b.raw
 
 abbrev pub name_in : GenerationalBoxId → Name  -- the name in an id, and in a box
 name_in id = record { slot = id.slot; generation = id.generation }

@@ -1,8 +1,7 @@
 -- When one state carries another into itself: its names by a renaming, its tickets and keys by a
 -- difference, its values by a function.
 use Rattle.std.specs.Prelude.{◌≡◌, ℕ, ◌+◌, ◌≤◌, true, if◌then◌else◌, nat_eq, Some, is_some}
-use Rattle.std.specs.Prelude.{option_map}
-use Rattle.std.specs.Prelude.{map as list_map}
+use Rattle.std.specs.Prelude.{option_map, map as list_map}
 use Rattle.std.specs.List.{AllByRecursion}
 use Rattle.std.specs.FinMap as map
 use Rattle.std.specs.FinSet as set
@@ -21,73 +20,95 @@ use Rattle.generational_core.specs.Machine.Action.{Make, MakeShared, Refer, NewO
 use Rattle.generational_core.specs.Machine.Action.{ReleaseOwner, LeakOwner, Read, Write}
 use Rattle.generational_core.specs.Machine.Action.{ReleaseReader, ReleaseWriter, SetValue, End}
 use Rattle.generational_core.specs.Machine.Action.{Point, CanRead, CanWrite}
-use Rattle.generational_core.specs.Machine.Answer.{Made, Owned, Reads, Writes, Done, Old, Flag, Back}
-use Rattle.generational_core.specs.Machine.Answer.{Troubled, Refused}
+use Rattle.generational_core.specs.Machine.Answer.{Made, Owned, Reads, Writes, Done, Old, Flag}
+use Rattle.generational_core.specs.Machine.Answer.{Back, Troubled, Refused}
+
+-- what becomes of the boxes, guards, owners and values in calls and answers
+pub record Mapping (T U : Type 0) : Type 0 where
+  pub box : GenerationalPointer → GenerationalPointer
+  pub guard : Guard → Guard
+  pub owner : OwnerName → OwnerName
+  pub value : T → U
+
+module _ {T U : Type 0} (m : Mapping T U) where
+  abbrev pub map_action : Action T → Action U
+  map_action (Make o v l) = Make (option_map m.owner o) (m.value v) l
+  map_action (MakeShared o v l) = MakeShared (option_map m.owner o) (m.value v) l
+  map_action (Refer o b) = Refer (option_map m.owner o) (m.box b)
+  map_action NewOwner = NewOwner
+  map_action (CloneOwner o) = CloneOwner (m.owner o)
+  map_action (ReleaseOwner o) = ReleaseOwner (m.owner o)
+  map_action (LeakOwner o) = LeakOwner (m.owner o)
+  map_action (Read b l) = Read (m.box b) l
+  map_action (Write b l) = Write (m.box b) l
+  map_action (ReleaseReader g) = ReleaseReader (m.guard g)
+  map_action (ReleaseWriter g v) = ReleaseWriter (m.guard g) (m.value v)
+  map_action (SetValue b v) = SetValue (m.box b) (m.value v)
+  map_action (End b) = End (m.box b)
+  map_action (Point a b) = Point (m.box a) (m.box b)
+  map_action (CanRead b) = CanRead (m.box b)
+  map_action (CanWrite b) = CanWrite (m.box b)
+
+  abbrev pub map_answer : Answer T → Answer U
+  map_answer (Made b) = Made (m.box b)
+  map_answer (Owned o) = Owned (m.owner o)
+  map_answer (Reads g) = Reads (m.guard g)
+  map_answer (Writes g v) = Writes (m.guard g) (m.value v)
+  map_answer Done = Done
+  map_answer (Old v) = Old (m.value v)
+  map_answer (Flag b) = Flag b
+  map_answer (Back v) = Back (m.value v)
+  map_answer (Troubled t) = Troubled t
+  map_answer (Refused cause) = Refused cause
 
 module _ (f : Name → Name) (d : ℕ) where
-  abbrev pub moved_borrow : Borrow → Borrow
-  moved_borrow b = record b { ticket = b.ticket + d }
+  abbrev pub shift_borrow : Borrow → Borrow
+  shift_borrow b = record b { ticket = b.ticket + d }
 
-  abbrev pub moved_holding : Ownership → Ownership
-  moved_holding h = record h { names = list_map f h.names }
+  abbrev pub rename_ownership : Ownership → Ownership
+  rename_ownership h = record h { names = list_map f h.names }
 
   -- what is of this store; what is of another stays
-  abbrev pub moved_box : ℕ → GenerationalPointer → GenerationalPointer
-  moved_box number b =
+  abbrev pub rename_box : ℕ → GenerationalPointer → GenerationalPointer
+  rename_box number b =
       if nat_eq b.id.store number then box_of number (f (name_of b)) b.created_at else b
 
-  abbrev pub moved_guard : ℕ → Guard → Guard
-  moved_guard number g = if nat_eq g.store number
+  abbrev pub rename_guard : ℕ → Guard → Guard
+  rename_guard number g = if nat_eq g.store number
       then record { store = number; cell = f g.cell; ticket = g.ticket + d } else g
 
-  abbrev pub moved_owner : ℕ → OwnerName → OwnerName
-  moved_owner number o =
+  abbrev pub shift_owner : ℕ → OwnerName → OwnerName
+  shift_owner number o =
       if nat_eq o.store number then record { store = number; key = o.key + d } else o
 
   module _ {T U : Type 0} (g : T → U) where
-    abbrev pub moved_content : Content T → Content U
-    moved_content (Here v readers) = Here (g v) (list_map moved_borrow readers)
-    moved_content (Lent w) = Lent (moved_borrow w)
+    abbrev pub rename_content : Content T → Content U
+    rename_content (Here v readers) = Here (g v) (list_map shift_borrow readers)
+    rename_content (Lent w) = Lent (shift_borrow w)
 
-    abbrev pub moved_cell : Cell T → Cell U
-    moved_cell (Value c l) = Value (moved_content c) l
-    moved_cell (Shared c l) = Shared (moved_content c) l
-    moved_cell (Ref m l) = Ref (f m) l
+    abbrev pub rename_cell : Cell T → Cell U
+    rename_cell (Value c l) = Value (rename_content c) l
+    rename_cell (Shared c l) = Shared (rename_content c) l
+    rename_cell (Ref m l) = Ref (f m) l
 
-    abbrev pub moved_action : ℕ → Action T → Action U
-    moved_action number (Make o v l) = Make (option_map (moved_owner number) o) (g v) l
-    moved_action number (MakeShared o v l) = MakeShared (option_map (moved_owner number) o) (g v) l
-    moved_action number (Refer o b) = Refer (option_map (moved_owner number) o) (moved_box number b)
-    moved_action number NewOwner = NewOwner
-    moved_action number (CloneOwner o) = CloneOwner (moved_owner number o)
-    moved_action number (ReleaseOwner o) = ReleaseOwner (moved_owner number o)
-    moved_action number (LeakOwner o) = LeakOwner (moved_owner number o)
-    moved_action number (Read b l) = Read (moved_box number b) l
-    moved_action number (Write b l) = Write (moved_box number b) l
-    moved_action number (ReleaseReader guard) = ReleaseReader (moved_guard number guard)
-    moved_action number (ReleaseWriter guard v) = ReleaseWriter (moved_guard number guard) (g v)
-    moved_action number (SetValue b v) = SetValue (moved_box number b) (g v)
-    moved_action number (End b) = End (moved_box number b)
-    moved_action number (Point a b) = Point (moved_box number a) (moved_box number b)
-    moved_action number (CanRead b) = CanRead (moved_box number b)
-    moved_action number (CanWrite b) = CanWrite (moved_box number b)
+    abbrev pub renaming : ℕ → Mapping T U
+    renaming number = record {
+      box = rename_box number;
+      guard = rename_guard number;
+      owner = shift_owner number;
+      value = g;
+    }
 
-    abbrev pub moved_answer : ℕ → Answer T → Answer U
-    moved_answer number (Made b) = Made (moved_box number b)
-    moved_answer number (Owned o) = Owned (moved_owner number o)
-    moved_answer number (Reads guard) = Reads (moved_guard number guard)
-    moved_answer number (Writes guard v) = Writes (moved_guard number guard) (g v)
-    moved_answer number Done = Done
-    moved_answer number (Old v) = Old (g v)
-    moved_answer number (Flag b) = Flag b
-    moved_answer number (Back v) = Back (g v)
-    moved_answer number (Troubled t) = Troubled t
-    moved_answer number (Refused cause) = Refused cause
+    abbrev pub rename_action : ℕ → Action T → Action U
+    rename_action number = map_action (renaming number)
+
+    abbrev pub rename_answer : ℕ → Answer T → Answer U
+    rename_answer number = map_answer (renaming number)
 
     -- on the known names S's cells are A's, and S has no others
     pub record CarriesCells
         (Knows : Name → Type 0) (S : NameMap (Cell U)) (A : NameMap (Cell T)) : Type 0 where
-      pub at : (k : Name) → Knows k → map.get S (f k) ≡ option_map moved_cell (map.get A k)
+      pub at : (k : Name) → Knows k → map.get S (f k) ≡ option_map rename_cell (map.get A k)
       pub from : (n : Name) → is_some (map.get S n) ≡ true → (k : Name) × Knows k × (f k ≡ n)
       pub known : (k : Name) → is_some (map.get A k) ≡ true → Knows k
       pub leads : (k m : Name) (l : Location) → map.get A k ≡ Some (Ref m l) → Knows m
@@ -99,7 +120,7 @@ module _ (f : Name → Name) (d : ℕ) where
       pub cells : CarriesCells Knows S.cells A.cells
       pub given : (k : Name) → Knows k → set.contains S.given (f k) ≡ set.contains A.given k
       pub owners : (key : ℕ)
-          → map.get S.owners (key + d) ≡ option_map moved_holding (map.get A.owners key)
+          → map.get S.owners (key + d) ≡ option_map rename_ownership (map.get A.owners key)
       -- S has no other owners
       pub keys : (key : ℕ) → is_some (map.get S.owners key) ≡ true → d ≤ key
       pub listed : (key : ℕ) (h : Ownership)
@@ -141,5 +162,5 @@ KnowsFresh Knows (MakeShared o v l) new = Knows new.first × Knows new.second
 KnowsFresh Knows (Refer o b) new = Knows new.first
 KnowsFresh Knows _ new = Unit {0}
 
-abbrev pub moved_fresh : (Name → Name) → Fresh → Fresh
-moved_fresh f new = record { first = f new.first; second = f new.second }
+abbrev pub rename_fresh : (Name → Name) → Fresh → Fresh
+rename_fresh f new = record { first = f new.first; second = f new.second }

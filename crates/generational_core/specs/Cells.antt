@@ -16,23 +16,21 @@ pub data Cell (T : Type 0) : Type 0 where  -- a live cell, with the location whe
   Ref : (target : Name) (created : Location) → Cell T
 
 module _ {T : Type 0} where
-  -- the content of a Value or a Shared cell, and the cell with another content
-  abbrev pub content_of : Option (Cell T) → Option (Content T)
+  abbrev pub content_of : Option (Cell T) → Option (Content T)  -- of a Value or a Shared cell
   content_of (Some (Value c l)) = Some c
   content_of (Some (Shared c l)) = Some c
   content_of _ = None
 
-  abbrev pub refill : Content T → Cell T → Cell T
+  abbrev pub refill : Content T → Cell T → Cell T  -- the cell with another content
   refill c (Value old l) = Value c l
   refill c (Shared old l) = Shared c l
   refill c ref = ref
 
-  -- whether a cell is a Shared one, and whether it is a Ref to a name
-  abbrev pub is_shared : Option (Cell T) → Bool
+  abbrev pub is_shared : Option (Cell T) → Bool  -- whether a cell is a Shared one
   is_shared (Some (Shared c l)) = true
   is_shared _ = false
 
-  abbrev pub refers_to : Name → Option (Cell T) → Bool
+  abbrev pub refers_to : Name → Option (Cell T) → Bool  -- whether it is a Ref to a name
   refers_to n (Some (Ref m l)) = is_name n m
   refers_to n _ = false
 

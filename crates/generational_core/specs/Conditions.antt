@@ -1,12 +1,17 @@
 -- Conditions of states, of which the laws speak.
-use Rattle.std.specs.Prelude.{◌≡◌, ℕ, ◌+◌, ◌≤◌, ◌<◌, true, Some, None, is_some}
+use Rattle.std.specs.Prelude.{◌-◌, ◌++◌, ◌∷◌, List, [], Option, ◌≡◌, ℕ, ◌+◌, ◌≤◌, ◌<◌, true, false}
+use Rattle.std.specs.Prelude.{Some, None, is_some}
+use Rattle.generational_core.specs.State.{Owners, State, Ownership, IsGiven}
 use Rattle.std.specs.FinMap as map
 use Rattle.std.specs.FinSet as set
 use Rattle.generational_core.specs.declared.error.Location.{Location}
-use Rattle.generational_core.specs.Names.{Name, NameMap}
-use Rattle.generational_core.specs.Cells.{Cell}
+use Rattle.generational_core.specs.Names.{Name, NameMap, among}
+use Rattle.generational_core.specs.Cells.{Cell, is_shared}
 use Rattle.generational_core.specs.Cells.Cell.{Ref}
-use Rattle.generational_core.specs.State.{State, IsGiven}
+use Rattle.generational_core.specs.Machine.{OwnerName, ownership}
+use Rattle.generational_core.specs.Machine.Action.{ReleaseOwner}
+use Rattle.generational_core.specs.Machine.Answer.{Done}
+use Rattle.generational_core.specs.Steps.{Meets}
 use Rattle.generational_core.specs.Slots.{slots, slots_of, retired}
 
 -- the state without given names and without owners' records
@@ -21,6 +26,32 @@ fresh number start next =
       peak = 0;
       start = start;
     }
+
+-- a record's boxes, and how many owner values are held: none where there is no record
+abbrev pub names_in : Option Ownership → List Name
+names_in None = []
+names_in (Some h) = h.names
+
+abbrev pub names_under : Owners → ℕ → List Name
+names_under owners key = names_in (map.get owners key)
+
+abbrev pub count_in : Option Ownership → ℕ
+count_in None = 0
+count_in (Some h) = h.count
+
+abbrev pub count_under : Owners → ℕ → ℕ
+count_under owners key = count_in (map.get owners key)
+
+-- one owner value more, and one less
+abbrev pub one_more : Ownership → Ownership
+one_more h = record h { count = h.count + 1 }
+
+abbrev pub one_less : Ownership → Ownership
+one_less h = record h { count = h.count - 1 }
+
+-- one box more at the end of the list
+abbrev pub one_listed : Name → Ownership → Ownership
+one_listed n h = record h { names = h.names ++ n ∷ [] }
 
 module _ {T : Type 0} where
   -- no name was given, and no owner's record stands
@@ -45,3 +76,19 @@ module _ {T : Type 0} where
     pub live : map.len S.cells ≤ S.peak
     -- slots are numbered from 0 in the order in which they were made
     pub dense : (s : ℕ) → map.contains_key (slots_of S) s ≡ true → s < slots S
+
+  -- an owner whose record is h is released, which leads from S to R
+  pub record IsReleased (S : State T) (o : OwnerName) (h : Ownership) (R : State T) : Type 0 where
+    pub held : ownership S o ≡ Some h
+    pub done : Meets S (ReleaseOwner o) Done R
+
+  -- The boxes of a list have ended, and then the Shared cells that no live Ref names any more.
+  -- Every other cell is as it was.
+  pub record AreEnded (S : State T) (names : List Name) (R : State T) : Type 0 where
+    pub boxes : (n : Name) → among names n ≡ true → map.get R.cells n ≡ None
+    pub others : (n : Name) → among names n ≡ false → is_shared (map.get S.cells n) ≡ false
+        → map.get R.cells n ≡ map.get S.cells n
+    pub unnamed : (n : Name) → is_shared (map.get S.cells n) ≡ true → (IsNamed R.cells n → ⊥)
+        → map.get R.cells n ≡ None
+    pub named : (n : Name) → is_shared (map.get S.cells n) ≡ true → IsNamed R.cells n
+        → map.get R.cells n ≡ map.get S.cells n

@@ -1,17 +1,15 @@
 -- What ends when names end, and what hinders it.
-use Rattle.std.specs.Prelude.{Bool, if◌then◌else◌, not, ◌||◌, List, [], ◌∷◌}
-use Rattle.std.specs.Prelude.{Option, None, Some, is_some}
+use Rattle.std.specs.Prelude.{if◌then◌else◌, not, ◌||◌, List, [], ◌∷◌, Option, None, Some, is_some}
 use Rattle.std.specs.Option.{option_or}
 use Rattle.std.specs.FinMap as map
 use Rattle.generational_core.specs.Names.{Name, NameMap, among}
 use Rattle.generational_core.specs.Cells.{Cell, content_of, is_shared}
-use Rattle.generational_core.specs.Cells.Cell.{Value, Shared, Ref}
+use Rattle.generational_core.specs.Cells.Cell.{Value, Ref}
 use Rattle.generational_core.specs.State.{State, is_named}
 use Rattle.generational_core.specs.Borrowing.{Trouble, write_refusal}
 
 module _ {T : Type 0} where
-  -- the cells but for the Shared ones that no live Ref names
-  unfoldable pub sweep : NameMap (Cell T) → NameMap (Cell T)
+  unfoldable pub sweep : NameMap (Cell T) → NameMap (Cell T)  -- without unnamed Shared cells
   sweep cells = map.retain_keys cells (λ n. not (is_shared (map.get cells n)) || is_named cells n)
 
   -- the cells but for the Value and Ref cells of these names

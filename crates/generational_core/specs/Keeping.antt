@@ -1,27 +1,20 @@
 -- When a value stays as it is: no writer has it, and no call sets it.
 use Rattle.generational_core.specs.Cells.{location_of}
-use Rattle.std.specs.Prelude.{◌≡◌, true, List, [], ◌∷◌, Option, None, Some, is_some}
+use Rattle.std.specs.Prelude.{◌≡◌, true, List, [], ◌∷◌, Option, Some, is_some}
 use Rattle.std.specs.FinMap as map
 use Rattle.generational_core.specs.declared.error.Location.{Location}
 use Rattle.generational_core.specs.declared.boxes.GenerationalPointer.{GenerationalPointer}
 use Rattle.generational_core.specs.declared.calls.Call.{Call}
 use Rattle.generational_core.specs.Names.{Name}
-use Rattle.generational_core.specs.Cells.{Cell}
-use Rattle.generational_core.specs.Cells.Cell.{Value, Shared, Ref}
 use Rattle.generational_core.specs.State.{State}
-use Rattle.generational_core.specs.State.{content_at}
 use Rattle.generational_core.specs.Borrowing.{reach}
 use Rattle.generational_core.specs.Machine.{Action}
 use Rattle.generational_core.specs.Machine.Action.{SetValue}
-use Rattle.generational_core.specs.Answers.{value_of}
+use Rattle.generational_core.specs.Answers.{value_at}
 use Rattle.generational_core.specs.Session.{SessionState, SessionReply, Request, Run, ask}
 use Rattle.generational_core.specs.Session.Request.{Asks}
 
 module _ {T : Type 0} where
-  -- the value at a name, unless a writer has it
-  abbrev pub value_at : State T → Name → Option T
-  value_at S m = value_of (content_at S m)
-
   -- the location at which a live cell was made
   abbrev pub location_at : State T → Name → Option Location
   location_at S m = location_of (map.get S.cells m)
@@ -55,12 +48,12 @@ module _ {T : Type 0} where
   -- Nothing disturbs it in a run, from its first state to its last: the box reaches m in each, no
   -- writer has the value in any, and no call sets it.
   abbrev pub Undisturbed : (b : GenerationalPointer) (m : Name)
-      (s : SessionState T) (calls : List (Call T)) (replies : List (SessionReply T)) (r : SessionState T)
+      (s : SessionState T) (calls : List (Call T)) (replies : List (SessionReply T))
+      (r : SessionState T)
       → Run s calls replies r → Type 0
   Undisturbed b m s [] [] r run = IsUnwritten b m s.state
   Undisturbed b m s (c ∷ calls) (x ∷ replies) r run =
       IsUnwritten b m s.state
       × (CallSets s c m → ⊥)
       × Undisturbed b m run.0 calls replies r run.2
-  Undisturbed b m s [] (x ∷ replies) r run = ⊥
-  Undisturbed b m s (c ∷ calls) [] r run = ⊥
+  Undisturbed b m s _ _ r run = ⊥

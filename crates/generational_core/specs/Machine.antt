@@ -1,10 +1,8 @@
 -- The machine: what each call answers and leaves, once the new names are chosen.
-use Rattle.generational_core.specs.Cells.{location_of}
-use Rattle.generational_core.specs.Cells.{content_of}
-use Rattle.std.specs.Prelude.{unwrap_or}
-use Rattle.std.specs.Prelude.{ℕ, ◌+◌, ◌-◌, Bool, true, false, if◌then◌else◌, not, ◌&&◌}
-use Rattle.std.specs.Prelude.{nat_eq, nat_lt, max, List, [], ◌∷◌, ◌++◌}
-use Rattle.std.specs.Prelude.{Option, None, Some, is_some, is_none}
+use Rattle.generational_core.specs.Cells.{location_of, content_of, Content, Cell}
+use Rattle.std.specs.Prelude.{unwrap_or, ℕ, ◌+◌, ◌-◌, Bool, true, false, if◌then◌else◌, not, ◌&&◌}
+use Rattle.std.specs.Prelude.{nat_eq, nat_lt, max, List, [], ◌∷◌, ◌++◌, Option, None, Some, is_some}
+use Rattle.std.specs.Prelude.{is_none}
 use Rattle.std.specs.List.{list_any, filter}
 use Rattle.std.specs.FinMap as map
 use Rattle.std.specs.FinSet as set
@@ -15,14 +13,12 @@ use Rattle.generational_core.specs.declared.borrow.Borrow.{Borrow}
 use Rattle.generational_core.specs.declared.boxes.GenerationalBoxId.{GenerationalBoxId}
 use Rattle.generational_core.specs.declared.boxes.GenerationalPointer.{GenerationalPointer}
 use Rattle.generational_core.specs.Names.{Name, is_name, change}
-use Rattle.generational_core.specs.Cells.{Content, Cell}
 use Rattle.generational_core.specs.Cells.Content.{Here, Lent}
 use Rattle.generational_core.specs.Cells.Cell.{Value, Shared, Ref}
-use Rattle.generational_core.specs.State.{State, Ownership}
+use Rattle.generational_core.specs.State.{State, Ownership, content_at}
 use Rattle.generational_core.specs.Boxes.{name_in, name_of, box_of, has_same_id}
-use Rattle.generational_core.specs.Borrowing.{Trouble, Guard, reach}
-use Rattle.generational_core.specs.State.{content_at}
-use Rattle.generational_core.specs.Borrowing.{read_trouble, write_trouble, fill, take_ticket}
+use Rattle.generational_core.specs.Borrowing.{Trouble, Guard, reach, read_trouble, write_trouble}
+use Rattle.generational_core.specs.Borrowing.{fill, take_ticket}
 use Rattle.generational_core.specs.Borrowing.Trouble.{Dropped}
 use Rattle.generational_core.specs.Ending.{sweep, close, hindrance_to, hindrance_at}
 
@@ -69,17 +65,14 @@ abbrev pub Outcome : Type 0 → Type 0  -- what a call answers, and the state af
 Outcome T = Answer T × State T
 
 module _ {T : Type 0} where
-  -- the answer to a refusal, which changes nothing, or else what comes otherwise
-  abbrev pub unless : Option Trouble → State T → Outcome T → Outcome T
+  abbrev pub unless : Option Trouble → State T → Outcome T → Outcome T  -- a refusal changes nothing
   unless (Some t) S other = (Troubled t, S)
   unless None S other = other
 
-  -- the owner's record, if the owner is of this store
-  abbrev pub ownership : State T → OwnerName → Option Ownership
+  abbrev pub ownership : State T → OwnerName → Option Ownership  -- if it is of this store
   ownership S o = if nat_eq o.store S.number then map.get S.owners o.key else None
 
-  -- whether a making may go on: without an owner, or with one that the store knows
-  abbrev pub is_known : State T → Option OwnerName → Bool
+  abbrev pub is_known : State T → Option OwnerName → Bool  -- whether a making may go on
   is_known S None = true
   is_known S (Some o) = is_some (ownership S o)
 
@@ -100,11 +93,6 @@ module _ {T : Type 0} where
   abbrev pub make : State T → Option OwnerName → Name → Cell T → Location → Outcome T
   make S o n cell l = (Made (box_of S.number n l), add_to_list (add_cell S n cell) o n)
 
-  -- a Shared cell first, then a Ref to it, whose box is answered
-  abbrev pub make_shared : State T → Option OwnerName → T → Location → Fresh → Outcome T
-  make_shared S o v l f =
-      make (add_cell S f.first (Shared (Here v []) l)) o f.second (Ref f.first l) l
-
   abbrev pub cell_at : State T → Option Name → Option (Cell T)  -- the cell at what was reached
   cell_at S None = None
   cell_at S (Some n) = map.get S.cells n
@@ -118,8 +106,7 @@ module _ {T : Type 0} where
   abbrev pub set_ownership : State T → ℕ → Ownership → State T
   set_ownership S k h = record S { owners = map.insert S.owners k h }
 
-  -- one owner value more
-  abbrev pub clone_owner : State T → OwnerName → Option Ownership → Outcome T
+  abbrev pub clone_owner : State T → OwnerName → Option Ownership → Outcome T  -- one more
   clone_owner S o None = (Refused UnknownOwner, S)
   clone_owner S o (Some h) =
       (Owned o, take_ticket (set_ownership S o.key (record h { count = h.count + 1 })))
@@ -151,12 +138,11 @@ module _ {T : Type 0} where
       (Writes (next_guard S m) v, take_ticket (fill S m (Lent (next_borrow S l))))
   write_at S l _ _ = (Done, S)
 
-  -- whether the ticket is one of the content's readers, or its writer's
-  abbrev pub has_reader : Option (Content T) → ℕ → Bool
+  abbrev pub has_reader : Option (Content T) → ℕ → Bool  -- whether a ticket is a reader's
   has_reader (Some (Here v readers)) t = list_any (λ r. nat_eq r.ticket t) readers
   has_reader _ t = false
 
-  abbrev pub has_writer : Option (Content T) → ℕ → Bool
+  abbrev pub has_writer : Option (Content T) → ℕ → Bool  -- or the writer's
   has_writer (Some (Lent w)) t = nat_eq w.ticket t
   has_writer _ t = false
 
@@ -180,11 +166,10 @@ module _ {T : Type 0} where
   set_at S b v (Some m) (Some (Here old [])) = (Old old, fill S m (Here v []))
   set_at S b v (Some m) _ = (Back v, S)
 
-  -- the name of a box, and the cell that an id names, if they are of this store
-  abbrev pub own_name : State T → GenerationalPointer → List Name
+  abbrev pub own_name : State T → GenerationalPointer → List Name  -- if it is of this store
   own_name S b = if nat_eq b.id.store S.number then name_of b ∷ [] else []
 
-  abbrev pub own_cell : State T → GenerationalBoxId → Option (Cell T)
+  abbrev pub own_cell : State T → GenerationalBoxId → Option (Cell T)  -- likewise
   own_cell S id = if nat_eq id.store S.number then map.get S.cells (name_in id) else None
 
   -- a's cell, a Ref to old made at l, becomes a Ref to new, and old goes if no Ref names it then
@@ -208,7 +193,8 @@ module _ {T : Type 0} where
   act S (Make o v l) f =
       if is_known S o then make S o f.first (Value (Here v []) l) l else (Refused UnknownOwner, S)
   act S (MakeShared o v l) f =
-      if is_known S o then make_shared S o v l f else (Refused UnknownOwner, S)
+      let shared = add_cell S f.first (Shared (Here v []) l) in
+      if is_known S o then make shared o f.second (Ref f.first l) l else (Refused UnknownOwner, S)
   act S (Refer o b) f =
       if is_known S o
       then unless (read_trouble S b) S (refer S o b (reach S b) (cell_at S (reach S b)) f.first)

@@ -14,11 +14,10 @@ pub record Name : Type 0 where
 abbrev pub name_cmp : Name → Name → Ordering  -- an order of names, by which finite maps are kept
 name_cmp a b = ordering_then (nat_cmp a.slot b.slot) (nat_cmp a.generation b.generation)
 
--- whether two names are the same, and whether a name stands in a list
-unfoldable pub is_name : Name → Name → Bool
+unfoldable pub is_name : Name → Name → Bool  -- whether two names are the same
 is_name a b = eq_by_cmp name_cmp a b
 
-abbrev pub among : List Name → Name → Bool
+abbrev pub among : List Name → Name → Bool  -- whether a name stands in a list
 among names n = list_any (is_name n) names
 
 abbrev pub Names : Type 0  -- finite sets of names, and finite maps under them

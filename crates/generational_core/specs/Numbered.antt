@@ -1,12 +1,10 @@
 -- The numbered machine: the k-th name given is the number k, tickets count without end, and there
 -- are no slots. What it answers depends on the calls, and on the refusals that they met.
-use Rattle.std.specs.Prelude.{◌≡◌, ℕ, ◌+◌, ◌<◌, true, List, [], ◌∷◌, Option, None, Some, length}
-use Rattle.std.specs.Prelude.{map as list_map}
+use Rattle.std.specs.Prelude.{◌≡◌, ◌+◌, true, List, [], Option, None, Some, length, map as list_map}
+use Rattle.std.specs.Prelude.{ℕ, ◌<◌, ◌∷◌}
 use Rattle.std.specs.List.{slice_index_or, AllByRecursion}
 use Rattle.std.specs.FinSet as set
 use Rattle.generational_core.specs.declared.error.StoreError.{StoreError}
-use Rattle.generational_core.specs.declared.error.StoreError.TheVariants.{OutOfMemory}
-use Rattle.generational_core.specs.declared.error.StoreError.TheVariants.{NumbersExhausted}
 use Rattle.generational_core.specs.declared.error.StoreError.TheVariants.{UnknownOwner}
 use Rattle.generational_core.specs.declared.boxes.GenerationalBoxId.{GenerationalBoxId}
 use Rattle.generational_core.specs.declared.calls.Call.{Call}
@@ -14,16 +12,13 @@ use Rattle.generational_core.specs.Names.{Name, Names, among}
 use Rattle.generational_core.specs.Boxes.{id_of}
 use Rattle.generational_core.specs.Conditions.{fresh}
 use Rattle.generational_core.specs.Machine.{Fresh, act}
-use Rattle.generational_core.specs.Session.{SessionState, Held, SessionReply, Request, ask, settle}
-use Rattle.generational_core.specs.Session.{add_place, swap, refusal}
+use Rattle.generational_core.specs.Session.{SessionState, SessionReply, Request, add_place, refusal}
+use Rattle.generational_core.specs.Session.{Held, ask, settle, swap}
 use Rattle.generational_core.specs.Session.Request.{Asks, Tells, Swaps}
 use Rattle.generational_core.specs.Session.Held.{Boxed, Reading, Writing, Owning, Nothing}
-use Rattle.generational_core.specs.Session.SessionReply.{ABox, AnOwner, AReader, AWriter, IsDone, TheOld}
-use Rattle.generational_core.specs.Session.SessionReply.{Yes}
-use Rattle.generational_core.specs.Session.SessionReply.{TheId, TheSlot, Created, Error, Lacking, HandedBack}
-use Rattle.generational_core.specs.Session.SessionReply.{Unready, NoSuch}
-use Rattle.generational_core.specs.Carrying.{Carries, KnowsBox, KnowsGuard, moved_box, moved_guard}
-use Rattle.generational_core.specs.Carrying.{moved_owner}
+use Rattle.generational_core.specs.Session.SessionReply.{ABox, TheOld, TheSlot, TheId}
+use Rattle.generational_core.specs.Carrying.{KnowsGuard, rename_box, rename_guard, shift_owner}
+use Rattle.generational_core.specs.Carrying.{Carries, KnowsBox}
 
 -- a name of the numbered machine
 abbrev pub number : ℕ → Name
@@ -43,25 +38,24 @@ abbrev pub named_by : List Name → Name → Name
 named_by order k = slice_index_or order k.slot k
 
 module _ {T : Type 0} (f : Name → Name) (d : ℕ) (store : ℕ) where
-  abbrev pub moved_held : Held T → Held T
-  moved_held (Boxed b) = Boxed (moved_box f d store b)
-  moved_held (Reading g) = Reading (moved_guard f d store g)
-  moved_held (Writing g v) = Writing (moved_guard f d store g) v
-  moved_held (Owning o) = Owning (moved_owner f d store o)
-  moved_held Nothing = Nothing
+  abbrev pub rename_held : Held T → Held T
+  rename_held (Boxed b) = Boxed (rename_box f d store b)
+  rename_held (Reading g) = Reading (rename_guard f d store g)
+  rename_held (Writing g v) = Writing (rename_guard f d store g) v
+  rename_held (Owning o) = Owning (shift_owner f d store o)
+  rename_held Nothing = Nothing
 
 abbrev pub KnowsHeld : {T : Type 0} → (Name → Type 0) → ℕ → Held T → Type 0
 KnowsHeld Knows store (Boxed b) = KnowsBox Knows store b
 KnowsHeld Knows store (Reading g) = KnowsGuard Knows store g
 KnowsHeld Knows store (Writing g v) = KnowsGuard Knows store g
-KnowsHeld Knows store (Owning o) = Unit {0}
-KnowsHeld Knows store Nothing = Unit {0}
+KnowsHeld Knows store _ = Unit {0}
 
 -- a session's state and table are those of another, names and tickets aside
 pub record CarriesSession {T : Type 0}
     (f : Name → Name) (d : ℕ) (Knows : Name → Type 0) (s a : SessionState T) : Type 0 where
   pub state : Carries f d (λ v. v) Knows s.state a.state
-  pub table : s.table ≡ list_map (moved_held f d a.state.number) a.table
+  pub table : s.table ≡ list_map (rename_held f d a.state.number) a.table
   pub known : AllByRecursion (KnowsHeld Knows a.state.number) a.table
 
 -- the names given are those of a list, in which each stands once
@@ -80,9 +74,8 @@ pub record Matches {T : Type 0} (s a : SessionState T) : Type 0 where
 
 -- the refusal of a store that can't go on, which the numbered machine doesn't know of itself
 abbrev pub want : StoreError → Option StoreError
-want OutOfMemory = Some OutOfMemory
-want NumbersExhausted = Some NumbersExhausted
 want UnknownOwner = None
+want e = Some e
 
 -- the id that stands for every id
 abbrev pub any_id : GenerationalBoxId
@@ -94,23 +87,12 @@ module _ {T : Type 0} where
   erase (ABox b) = ABox (record b { id = any_id })
   erase (TheId id) = TheId any_id
   erase (TheSlot n) = TheSlot 0
-  erase AnOwner = AnOwner
-  erase AReader = AReader
-  erase AWriter = AWriter
-  erase IsDone = IsDone
-  erase (TheOld v) = TheOld v
-  erase (Yes b) = Yes b
-  erase (Created l) = Created l
-  erase (Error t) = Error t
-  erase (Lacking e) = Lacking e
-  erase (HandedBack v e) = HandedBack v e
-  erase (Unready o) = Unready o
-  erase (NoSuch o) = NoSuch o
+  erase reply = reply
 
   -- the want of memory or of numbers that a reply tells
   abbrev pub refusal_in : SessionReply T → Option StoreError
-  refusal_in (Lacking e) = want e
-  refusal_in (HandedBack v e) = want e
+  refusal_in (SessionReply.Lacking e) = want e
+  refusal_in (SessionReply.HandedBack v e) = want e
   refusal_in _ = None
 
   -- the numbers behind all that were given
@@ -129,11 +111,13 @@ module _ {T : Type 0} where
   numbered a c _ (Some e) = (refusal c e, add_place a Nothing)
 
   -- a call of the numbered machine
-  abbrev pub numbered_act : SessionState T → Call T → Option StoreError → SessionReply T × SessionState T
+  abbrev pub numbered_act : SessionState T
+      → Call T → Option StoreError → SessionReply T × SessionState T
   numbered_act a c e = numbered a c (ask a c) e
 
   -- the replies to calls, with the refusals that they met; calls beyond the refusals met none
-  abbrev pub answers : SessionState T → List (Call T) → List (Option StoreError) → List (SessionReply T)
+  abbrev pub answers : SessionState T
+      → List (Call T) → List (Option StoreError) → List (SessionReply T)
   answers a [] refusals = []
   answers a (c ∷ calls) (e ∷ refusals) =
       let out = numbered_act a c e in out.0 ∷ answers out.1 calls refusals

@@ -7,20 +7,18 @@ use Rattle.generational_core.specs.declared.calls.Reply.TheVariants as reply
 use Rattle.generational_core.specs.declared.error.BorrowMutError.{BorrowMutError}
 use Rattle.generational_core.specs.declared.error.Refused.{Refused}
 use Rattle.generational_core.specs.declared.error.Refused.TheVariants as refused
-use Rattle.generational_core.specs.Boxes.{pointer_of}
+use Rattle.generational_core.specs.Answers.{pointer_of, trouble_of}
 use Rattle.generational_core.specs.declared.calls.Call.{Call}
 use Rattle.generational_core.specs.State.{State}
 use Rattle.generational_core.specs.Machine.{Answer}
 use Rattle.generational_core.specs.Steps.{Meets}
-use Rattle.generational_core.specs.Session.{Held, SessionReply, SessionState, Request, ask, reply_of, gives}
-use Rattle.generational_core.specs.Session.{spend, swap}
+use Rattle.generational_core.specs.Session.{Held, SessionReply, SessionState, Request, ask, gives}
+use Rattle.generational_core.specs.Session.{reply_of, spend, swap}
 use Rattle.generational_core.specs.Session.Request.{Asks, Tells, Swaps}
 use Rattle.generational_core.specs.Session.Held.{Boxed, Reading, Writing, Owning, Nothing}
-use Rattle.generational_core.specs.Session.SessionReply.{ABox, AnOwner, AReader, AWriter, IsDone, TheOld}
-use Rattle.generational_core.specs.Session.SessionReply.{Yes}
-use Rattle.generational_core.specs.Session.SessionReply.{TheId, TheSlot, Created, Error, Lacking, HandedBack}
-use Rattle.generational_core.specs.Session.SessionReply.{NoSuch}
-use Rattle.generational_core.specs.Answers.{trouble_of}
+use Rattle.generational_core.specs.Session.SessionReply.{ABox, AnOwner, AReader, AWriter, IsDone}
+use Rattle.generational_core.specs.Session.SessionReply.{TheOld, Yes, TheId, TheSlot, Created}
+use Rattle.generational_core.specs.Session.SessionReply.{Error, Lacking, HandedBack, NoSuch}
 
 module _ {T : Type 0} where
   -- what a place holds

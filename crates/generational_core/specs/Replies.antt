@@ -5,11 +5,10 @@ use Rattle.generational_core.specs.declared.boxes.GenerationalPointer.{Generatio
 use Rattle.generational_core.specs.declared.calls.Call.{Call}
 use Rattle.generational_core.specs.declared.calls.Call.TheVariants as call
 use Rattle.generational_core.specs.State.{State, Ownership}
-use Rattle.generational_core.specs.Conditions.{IsEnded}
+use Rattle.generational_core.specs.Conditions.{IsEnded, AreEnded}
 use Rattle.generational_core.specs.Boxes.{name_of}
 use Rattle.generational_core.specs.Borrowing.Trouble.{Dropped}
 use Rattle.generational_core.specs.Machine.{OwnerName, ownership}
-use Rattle.generational_core.specs.Releasing.{AreEnded}
 use Rattle.generational_core.specs.Session.{SessionState, SessionReply, Run, box_in, at_place}
 use Rattle.generational_core.specs.Session.Held.{Boxed, Owning}
 use Rattle.generational_core.specs.Session.SessionReply.{ABox, IsDone, Error}
@@ -50,8 +49,8 @@ module _ {T : Type 0} where
       → ReleasesLast s c h → x ≡ IsDone → AreEnded s.state h.names r.state
 
   -- what each call of a session promises
-  pub record KeepsPromises (s : SessionState T) (c : Call T) (x : SessionReply T) (r : SessionState T)
-      : Type 0 where
+  pub record KeepsPromises (s : SessionState T) (c : Call T) (x : SessionReply T)
+      (r : SessionState T) : Type 0 where
     pub tells_ends : TellsEnds s c x
     pub new_box : GivesNewBox s x
     pub ends_owned : EndsOwned s c x r
@@ -63,8 +62,7 @@ module _ {T : Type 0} where
   AllKeepPromises s [] [] r run = Unit {0}
   AllKeepPromises s (c ∷ calls) (x ∷ replies) r run =
       KeepsPromises s c x run.0 × AllKeepPromises run.0 calls replies r run.2
-  AllKeepPromises s [] (x ∷ replies) r run = ⊥
-  AllKeepPromises s (c ∷ calls) [] r run = ⊥
+  AllKeepPromises s _ _ r run = ⊥
 
   -- In a run, a read or a write of a box whose name had ended before the run is answered so.
   abbrev pub AllTellEnds : SessionState T → List (Call T) → List (SessionReply T) → Type 0

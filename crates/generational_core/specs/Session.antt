@@ -1,6 +1,6 @@
 -- A session: calls that name earlier boxes, guards and owners by their places.
-use Rattle.std.specs.Prelude.{◌≡◌, ℕ, Bool, true, false, if◌then◌else◌, nat_eq}
-use Rattle.std.specs.Prelude.{List, [], ◌∷◌, ◌++◌, Option, None, Some, slice_set}
+use Rattle.std.specs.Prelude.{◌≡◌, ℕ, Bool, true, false, if◌then◌else◌, nat_eq, List, [], ◌∷◌, ◌++◌}
+use Rattle.std.specs.Prelude.{Option, None, Some, slice_set}
 use Rattle.std.specs.List.{slice_index_or}
 use Rattle.generational_core.specs.declared.error.Location.{Location}
 use Rattle.generational_core.specs.declared.error.StoreError.{StoreError}
@@ -10,17 +10,17 @@ use Rattle.generational_core.specs.declared.calls.BoxAt.{BoxAt}
 use Rattle.generational_core.specs.declared.calls.BoxAt.TheVariants.{Place, Foreign}
 use Rattle.generational_core.specs.declared.calls.Call.{Call}
 use Rattle.generational_core.specs.declared.calls.Call.TheVariants as call
-use Rattle.generational_core.specs.Boxes.{pointer_of, has_same_id}
+use Rattle.generational_core.specs.Answers.{pointer_of, value_behind}
+use Rattle.generational_core.specs.Boxes.{has_same_id}
 use Rattle.generational_core.specs.State.{State}
 use Rattle.generational_core.specs.Borrowing.{Trouble, Guard}
 use Rattle.generational_core.specs.Machine.{Action, Answer, OwnerName, Outcome, act}
-use Rattle.generational_core.specs.Machine.Action.{Make, NewOwner, CloneOwner, ReleaseOwner}
-use Rattle.generational_core.specs.Machine.Action.{LeakOwner, Read, Write, End}
-use Rattle.generational_core.specs.Machine.Action.{ReleaseReader, ReleaseWriter}
-use Rattle.generational_core.specs.Machine.Answer.{Made, Owned, Reads, Writes, Done, Old, Flag}
-use Rattle.generational_core.specs.Machine.Answer.{Back, Troubled, Refused}
+use Rattle.generational_core.specs.Machine.Action.{Make, NewOwner, CloneOwner, ReleaseOwner, Read}
+use Rattle.generational_core.specs.Machine.Action.{LeakOwner, Write, End, ReleaseReader}
+use Rattle.generational_core.specs.Machine.Action.{ReleaseWriter}
+use Rattle.generational_core.specs.Machine.Answer.{Made, Owned, Reads, Writes, Done, Flag, Troubled}
+use Rattle.generational_core.specs.Machine.Answer.{Refused}
 use Rattle.generational_core.specs.Steps.{Meets, no_names}
-use Rattle.generational_core.specs.Answers.{value_behind}
 
 -- What a place holds.
 pub data Held (T : Type 0) : Type 0 where
@@ -57,7 +57,7 @@ pub data SessionReply (T : Type 0) : Type 0 where
 -- another value for the writer at a place.
 pub data Request (T : Type 0) : Type 0 where
   Asks : (action : Action T) → Request T
-  Tells : (reply_of : SessionReply T) → Request T
+  Tells : (reply : SessionReply T) → Request T
   Swaps : (place : ℕ) (guard : Guard) (value old : T) → Request T
 
 module _ {T : Type 0} where
@@ -141,12 +141,10 @@ module _ {T : Type 0} where
   reply_of c (Owned o) = AnOwner
   reply_of c (Reads g) = AReader
   reply_of c (Writes g v) = AWriter
-  reply_of c Done = IsDone
-  reply_of c (Old v) = IsDone
   reply_of c (Flag b) = if is_release c then IsDone else Yes b
-  reply_of c (Back v) = IsDone
   reply_of c (Troubled t) = Error t
   reply_of c (Refused e) = refusal c e
+  reply_of c _ = IsDone
 
   -- what a call gives to its own place
   abbrev pub gives : Answer T → Held T
@@ -178,7 +176,9 @@ module _ {T : Type 0} where
       let after : SessionState T = record { state = out.1; table = spend c out.0 s.table } in
       (reply_of c out.0, add_place after (gives out.0))
 
-  abbrev pub Settles : SessionState T → Call T → Request T → SessionReply T → SessionState T → Type 0
+  -- a call that comes to this request is answered x and leads from s to r
+  abbrev pub Settles : SessionState T → Call T → Request T
+      → SessionReply T → SessionState T → Type 0
   Settles s c (Asks action) x r =
       (answer : Answer T)
       × (R : State T)
@@ -196,8 +196,7 @@ module _ {T : Type 0} where
   Run s [] [] r = r ≡ s
   Run s (c ∷ calls) (x ∷ replies) r =
       (next : SessionState T) × SessionStep s c x next × Run next calls replies r
-  Run s [] (x ∷ replies) r = ⊥
-  Run s (c ∷ calls) [] r = ⊥
+  Run s _ _ r = ⊥
 
   -- the value that what a place holds lends
   abbrev pub loan_of : State T → Held T → Option T

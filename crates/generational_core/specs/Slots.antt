@@ -1,6 +1,6 @@
 -- Slots: how many there are, which are free, and which names fit.
-use Rattle.std.specs.Prelude.{◌≡◌, ℕ, ◌+◌, ◌-◌, ◌^◌, Bool, true, not, ◌&&◌, nat_lt, max}
-use Rattle.std.specs.Prelude.{List, [], ◌∷◌, unwrap_or, is_some, ◌⊎◌}
+use Rattle.std.specs.Prelude.{◌≡◌, ℕ, ◌+◌, ◌-◌, ◌^◌, Bool, true, not, ◌&&◌, nat_lt, max, List, []}
+use Rattle.std.specs.Prelude.{◌∷◌, unwrap_or, is_some, ◌⊎◌}
 use Rattle.std.specs.Ordering.{nat_cmp}
 use Rattle.std.specs.FinMap as map
 use Rattle.std.specs.FinSet as set
@@ -17,8 +17,7 @@ abbrev pub last_generation : ℕ  -- the last generation of all
 last_generation = 2 ^ 64 - 1
 
 module _ {T : Type 0} where
-  -- the slots that were ever made, each with the generation of its last name
-  abbrev pub slots_of : State T → map.FinMap nat_cmp ℕ
+  abbrev pub slots_of : State T → map.FinMap nat_cmp ℕ  -- each slot's last generation
   slots_of S = lasts (set.items S.given)
 
   abbrev pub last_name : State T → ℕ → Name
@@ -34,14 +33,13 @@ module _ {T : Type 0} where
   abbrev pub is_retired : State T → ℕ → Bool
   is_retired S s = not (is_last_live S s) && not (nat_lt (last_name S s).generation last_generation)
 
-  -- how many slots were ever made, how many of them are free, and how many are retired
-  abbrev pub slots : State T → ℕ
+  abbrev pub slots : State T → ℕ  -- how many slots were ever made
   slots S = map.len (slots_of S)
 
-  abbrev pub free : State T → ℕ
+  abbrev pub free : State T → ℕ  -- how many of them are free
   free S = map.len (map.retain_keys (slots_of S) (is_free S))
 
-  abbrev pub retired : State T → ℕ
+  abbrev pub retired : State T → ℕ  -- and how many are retired
   retired S = map.len (map.retain_keys (slots_of S) (is_retired S))
 
   -- a name fits: a new slot at its first generation if none is free, else a free slot's next one

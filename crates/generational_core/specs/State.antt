@@ -1,7 +1,6 @@
 -- The state of a store, and when it is sound.
 use Rattle.std.specs.Prelude.{◌≡◌, ℕ, ◌<◌, Bool, true, false, List, [], ◌∷◌, Option, None, Some}
-use Rattle.std.specs.Prelude.{is_some}
-use Rattle.std.specs.Prelude.{nat_eq, map as list_map}
+use Rattle.std.specs.Prelude.{is_some, nat_eq, map as list_map}
 use Rattle.std.specs.Ordering.{nat_cmp}
 use Rattle.std.specs.List.{list_any, IsDistinct, AllByRecursion}
 use Rattle.std.specs.FinMap as map
@@ -31,11 +30,10 @@ pub record State (T : Type 0) : Type 0 where
   pub start : ℕ  -- the first generation of a slot
 
 module _ {T : Type 0} where
-  -- the content at a name, and the tickets of the borrows that stand there
-  abbrev pub content_at : State T → Name → Option (Content T)
+  abbrev pub content_at : State T → Name → Option (Content T)  -- the content at a name
   content_at S n = content_of (map.get S.cells n)
 
-  abbrev pub tickets_of : Option (Content T) → List ℕ
+  abbrev pub tickets_of : Option (Content T) → List ℕ  -- of the borrows that stand there
   tickets_of (Some (Here v readers)) = list_map (λ r. r.ticket) readers
   tickets_of (Some (Lent w)) = w.ticket ∷ []
   tickets_of None = []
@@ -49,11 +47,10 @@ module _ {T : Type 0} where
   unfoldable pub is_named : NameMap (Cell T) → Name → Bool  -- whether a live Ref names m
   is_named cells m = list_any (λ n. refers_to m (map.get cells n)) (map.keys cells)
 
-  -- a name was given, or is one that a box may have: given, and not a Shared cell's
-  abbrev pub IsGiven : State T → Name → Type 0
+  abbrev pub IsGiven : State T → Name → Type 0  -- the name was given
   IsGiven S n = set.contains S.given n ≡ true
 
-  abbrev pub IsBoxed : State T → Name → Type 0
+  abbrev pub IsBoxed : State T → Name → Type 0  -- and isn't a Shared cell's
   IsBoxed S n = IsGiven S n × (is_shared (map.get S.cells n) ≡ false)
 
   -- (Borrows are a part of a content, which is lent under a writer alone, in any state.)

@@ -1,26 +1,18 @@
 -- A step of the machine: the names that it may take, the end of tickets, and want of memory.
-use Rattle.generational_core.specs.Borrowing.{write_refusal}
-use Rattle.std.specs.Prelude.{is_some}
-use Rattle.generational_core.specs.Machine.{cell_at}
+use Rattle.generational_core.specs.Borrowing.{write_refusal, reach}
+use Rattle.std.specs.Prelude.{is_some, ◌≡◌, ℕ, ◌-◌, ◌^◌, Bool, true, false, if◌then◌else◌, ◌&&◌}
+use Rattle.std.specs.Prelude.{◌⊎◌, nat_eq, nat_lt, [], None}
+use Rattle.generational_core.specs.Machine.{cell_at, Action, Answer, Fresh, Outcome, act, add_cell}
 use Rattle.generational_core.specs.Cells.{content_of}
-use Rattle.std.specs.Prelude.{◌≡◌, ℕ, ◌-◌, ◌^◌, Bool, true, false, if◌then◌else◌, not, ◌&&◌, ◌⊎◌}
-use Rattle.std.specs.Prelude.{nat_eq, nat_lt, [], ◌∷◌, Option, None, Some}
 use Rattle.std.specs.FinSet as set
-use Rattle.generational_core.specs.declared.error.StoreError.TheVariants.{
-  NumbersExhausted,
-  OutOfMemory,
-}
+use Rattle.generational_core.specs.declared.error.StoreError.TheVariants.{NumbersExhausted}
+use Rattle.generational_core.specs.declared.error.StoreError.TheVariants.{OutOfMemory}
 use Rattle.generational_core.specs.Names.{Name}
-use Rattle.generational_core.specs.Cells.{Content}
-use Rattle.generational_core.specs.Cells.Content.{Here, Lent}
+use Rattle.generational_core.specs.Cells.Content.{Here}
 use Rattle.generational_core.specs.Cells.Cell.{Shared}
 use Rattle.generational_core.specs.State.{State}
-use Rattle.generational_core.specs.Borrowing.{reach}
 use Rattle.generational_core.specs.Borrowing.Trouble.{BeingRead}
-use Rattle.generational_core.specs.Machine.{Action, Answer, Fresh, Outcome}
-use Rattle.generational_core.specs.Machine.{act, add_cell, is_known}
-use Rattle.generational_core.specs.Machine.Action.{Make, MakeShared, Refer, NewOwner, ReleaseOwner}
-use Rattle.generational_core.specs.Machine.Action.{Read, Write, End, Point}
+use Rattle.generational_core.specs.Machine.Action.{Make, MakeShared, Refer, NewOwner, Read}
 use Rattle.generational_core.specs.Machine.Answer.{Made, Owned, Reads, Writes, Troubled, Refused}
 use Rattle.generational_core.specs.Slots.{Fits, free}
 
@@ -64,8 +56,8 @@ module _ {T : Type 0} where
   abbrev pub answer_to : State T → Action T → Answer T  -- a call's answer, but for its names
   answer_to S call = (limit_tickets S (act S call no_names)).0
 
-  -- whether a call that would be answered so may lack memory: for a slot where too few are free, for
-  -- an owner's record or list, for a reader beside another, and for a refusal's list of locations
+  -- whether a call that would be answered so may lack memory: for a slot where too few are free,
+  -- for an owner's record or list, for a reader beside another, for a refusal's list of locations
   abbrev pub needs_memory : State T → Answer T → Action T → Bool
   needs_memory S (Made b) (Make None v l) = nat_eq (free S) 0
   needs_memory S (Made b) (MakeShared None v l) = nat_lt (free S) 2

@@ -1,7 +1,8 @@
 //! Ids, pointers and boxes.
 
 ghost use Rattle.std.specs.Prelude.{◌≡◌, Some, ⊤};
-ghost use Rattle.generational_core.specs.Boxes.{box_of, pointer_of};
+ghost use Rattle.generational_core.specs.Boxes.{box_of};
+ghost use Rattle.generational_core.specs.Answers.{pointer_of};
 ghost use Rattle.generational_core.specs.Texts.{id_text};
 
 use crate::error::{BorrowMutResult, BorrowResult, Location, Refusal};
@@ -131,7 +132,8 @@ impl<T> fmt::Debug for GenerationalBox<T> {
 
 impl<T> GenerationalBox<T> {
     ghost use Rattle.std.specs.Prelude.{◌≡◌};
-    ghost use Rattle.generational_core.specs.Boxes.{pointer_of, has_same_id};
+    ghost use Rattle.generational_core.specs.Answers.{pointer_of};
+    ghost use Rattle.generational_core.specs.Boxes.{has_same_id};
 
     /// The box without its element type, as a recorded call names it.
     pub fn pointer(&self) -> GenerationalPointer
@@ -174,7 +176,7 @@ impl<T> GenerationalBox<T> {
 
 impl<T> GenerationalBox<T> {
     ghost use Rattle.std.specs.Prelude.{◌≡◌, IfErr, None};
-    ghost use Rattle.generational_core.specs.Boxes.{pointer_of};
+    ghost use Rattle.generational_core.specs.Answers.{pointer_of};
     ghost use Rattle.generational_core.specs.Machine.Action.{Make, Read, Write, End};
     ghost use Rattle.generational_core.specs.Steps.{Meets};
     ghost use Rattle.generational_core.specs.Answers.{box_answer, read_answer, write_answer};

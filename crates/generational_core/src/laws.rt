@@ -1,11 +1,12 @@
 //! Laws of the machine, each the contract of a function that does nothing.
 
-ghost use Rattle.std.specs.Prelude.{◌≡◌, ◌≢◌, ◌≤◌, ◌<◌, ◌+◌, ◌↔◌, true, false, ℕ, List, [], Some};
+ghost use Rattle.std.specs.Prelude.{◌≡◌, ◌≢◌, ◌≤◌, ◌<◌, ◌+◌, ◌↔◌, true, false, ℕ, List, [], ◌∷◌};
+ghost use Rattle.std.specs.Prelude.{Some};
 ghost use Rattle.std.specs.Prelude.{None, is_some, map as map_list};
 ghost use Rattle.std.specs.FinMap as map;
 ghost use Rattle.std.specs.FinSet as set;
 ghost use Rattle.generational_core.specs.declared.boxes.GenerationalPointer.{GenerationalPointer};
-ghost use Rattle.generational_core.specs.Names.{Name, among};
+ghost use Rattle.generational_core.specs.Names.{Name, Names, name_cmp, among};
 ghost use Rattle.generational_core.specs.Cells.{is_shared};
 ghost use Rattle.generational_core.specs.State.{State, Ownership, IsSound};
 ghost use Rattle.generational_core.specs.Conditions.{IsLive, IsEnded, IsNamed};
@@ -17,10 +18,10 @@ ghost use Rattle.generational_core.specs.Machine.{Action, Answer, Fresh, OwnerNa
 ghost use Rattle.generational_core.specs.Machine.{is_known};
 ghost use Rattle.generational_core.specs.Machine.Action.{ReleaseOwner, LeakOwner};
 ghost use Rattle.generational_core.specs.Machine.Answer.{Done};
-ghost use Rattle.generational_core.specs.Records.{one_less};
-ghost use Rattle.generational_core.specs.Releasing.{IsReleased};
+ghost use Rattle.generational_core.specs.Conditions.{one_less};
+ghost use Rattle.generational_core.specs.Conditions.{IsReleased};
 ghost use Rattle.generational_core.specs.Steps.{Meets};
-ghost use Rattle.generational_core.specs.Slots.{slots, retired};
+ghost use Rattle.generational_core.specs.Slots.{slots, retired, lasts};
 ghost use Rattle.generational_core.specs.Conditions.{IsBounded};
 ghost use Rattle.generational_core.specs.declared.calls.Call.{Call};
 ghost use Rattle.generational_core.specs.declared.calls.Call.TheVariants as call;
@@ -30,7 +31,8 @@ ghost use Rattle.generational_core.specs.Session.Held.{Owning};
 ghost use Rattle.generational_core.specs.Session.SessionReply.{IsDone};
 ghost use Rattle.generational_core.specs.SoundSession.{IsSoundSession};
 ghost use Rattle.generational_core.specs.Keeping.{Sets, IsUnwritten, IsUndisturbed, Undisturbed};
-ghost use Rattle.generational_core.specs.Keeping.{value_at, location_at};
+ghost use Rattle.generational_core.specs.Answers.{value_at};
+ghost use Rattle.generational_core.specs.Keeping.{location_at};
 ghost use Rattle.generational_core.specs.Numbered.{Matches, AnswersAs, empty_session};
 ghost use Rattle.generational_core.specs.History.{plain, plain_call, plain_answer};
 ghost use Rattle.std.specs.Prelude.{not};
@@ -40,8 +42,8 @@ ghost use Rattle.generational_core.specs.Borrowing.{Guard};
 ghost use Rattle.generational_core.specs.Machine.{knows_reader, knows_writer};
 ghost use Rattle.generational_core.specs.Machine.Answer.{Made, Reads, Writes};
 ghost use Rattle.generational_core.specs.State.{IsGiven};
-ghost use Rattle.generational_core.specs.Readiness.{is_ready};
-ghost use Rattle.generational_core.specs.Recording.{recorded_as, is_hindered};
+ghost use Rattle.generational_core.specs.StepCalls.{is_ready};
+ghost use Rattle.generational_core.specs.StepCalls.{recorded_as, is_hindered};
 
 /// A state in which nothing was made is sound, and each call leads from a sound state to a sound
 /// one.
@@ -259,4 +261,12 @@ pub fn boxes_and_guards_are_new<T>()
 pub fn fresh_states_are_plain<T>()
     ensures { (number start next : ℕ) →
         plain (fresh {T = T} number start next) ≡ fresh number start next }
+{}
+
+/// The slots follow from which names were given, and not from their order: of each slot the
+/// greatest generation stands, and one more name counts as if it were given last.
+pub fn slots_follow_from_names()
+    ensures none { lasts (set.items (set.empty {R = name_cmp})) ≡ lasts [] }
+    ensures more { (given : Names) (n : Name) →
+        lasts (set.items (set.insert given n)) ≡ lasts (n ∷ set.items given) }
 {}

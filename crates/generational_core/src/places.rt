@@ -5,7 +5,7 @@ ghost use Rattle.std.specs.Prelude.{slice_get, slice_set, vec_len, vec_capacity,
 ghost use Rattle.std.specs.Option.{OnSome};
 ghost use Rattle.generational_core.specs.declared.calls.Call.TheVariants as call;
 ghost use Rattle.generational_core.specs.declared.places.Thing.TheVariants as thing;
-ghost use Rattle.generational_core.specs.Boxes.{pointer_of};
+ghost use Rattle.generational_core.specs.Answers.{pointer_of};
 ghost use Rattle.generational_core.specs.Session.{Held, box_in, at_place, owner_held, release_held};
 ghost use Rattle.generational_core.specs.Session.Held.{Nothing};
 ghost use Rattle.generational_core.specs.Places.{as_held, as_reply, as_refusal, session_in};

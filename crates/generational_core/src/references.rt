@@ -158,7 +158,7 @@ pub struct GenerationalRefMut<T> {
 }
 
 impl<T> Model for GenerationalRefMut<T> {
-    ghost use Rattle.generational_core.specs.Writing.{WriteGuard};
+    ghost use Rattle.generational_core.specs.Answers.{WriteGuard};
     ghost use Rattle.generational_core.specs.Boxes.{name_in};
 
     ghost Value = { WriteGuard T };
@@ -174,7 +174,7 @@ impl<T> GenerationalRefMut<T> {
     ghost use Rattle.std.specs.Prelude.{◌≡◌};
     ghost use Rattle.std.specs.Borrow.{sem};
     ghost use Rattle.generational_core.specs.Boxes.{name_in};
-    ghost use Rattle.generational_core.specs.Guards.{LendsValue};
+    ghost use Rattle.generational_core.specs.Loans.{LendsValue};
     ghost use Rattle.generational_core.specs.Machine.Action.{ReleaseWriter};
     ghost use Rattle.generational_core.specs.Answers.{back_answer};
     ghost use Rattle.generational_core.specs.Steps.{Meets};
@@ -250,7 +250,7 @@ impl<'a, T> DerefMut for Mut<'a, T> {
     ghost use Rattle.std.specs.Prelude.{[]};
     ghost use Rattle.std.specs.Borrow.{sem, follows};
     ghost use mir.Syntax.{named};
-    ghost use Rattle.generational_core.specs.Views.{writes_through};
+    ghost use Rattle.generational_core.specs.Loans.{writes_through};
     ghost use Rattle.generational_core.specs.contracts.references.Mut.{the_row};
 
     ghost deref_mut_gives = { λ m x. x ≡ m.guard.now.value };

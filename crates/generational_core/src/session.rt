@@ -46,7 +46,8 @@ impl<T: Drop, S: Storage<T>> Session<T, S> {
     ghost use Rattle.generational_core.specs.Session.{SessionState, SessionStep, Run, loan_at};
     ghost use Rattle.generational_core.specs.Session.{release_all};
     ghost use Rattle.generational_core.specs.SoundSession.{IsSoundSession};
-    ghost use Rattle.generational_core.specs.Keeping.{IsUndisturbed, Undisturbed, value_at};
+    ghost use Rattle.generational_core.specs.Answers.{value_at};
+    ghost use Rattle.generational_core.specs.Keeping.{IsUndisturbed, Undisturbed};
     ghost use Rattle.generational_core.specs.Places.{as_reply, as_replies};
     ghost use Rattle.generational_core.specs.Slots.{slots, retired};
     ghost use Rattle.generational_core.specs.Numbered.{Matches, AnswersAs, empty_session};

@@ -9,7 +9,7 @@ ghost use Rattle.generational_core.specs.Machine.Action.{Read, Write, ReleaseRea
 ghost use Rattle.generational_core.specs.Machine.Action.{End};
 ghost use Rattle.generational_core.specs.Machine.Answer.{Flag};
 ghost use Rattle.generational_core.specs.Steps.{Meets, last_ticket};
-ghost use Rattle.generational_core.specs.Readiness.{is_ready};
+ghost use Rattle.generational_core.specs.StepCalls.{is_ready};
 ghost use Rattle.generational_core.specs.Answers.{make_answer, owner_answer, release_answer};
 ghost use Rattle.generational_core.specs.Answers.{read_answer, write_answer, back_answer};
 ghost use Rattle.generational_core.specs.Answers.{end_answer, value_behind};

@@ -10,8 +10,7 @@ use Rattle.generational_core.specs.declared.borrow.Borrow.{Borrow}
 use Rattle.generational_core.specs.Names.{Name, name_cmp}
 use Rattle.generational_core.specs.Cells.{Content, Cell, content_of}
 use Rattle.generational_core.specs.Cells.Content.{Here, Lent}
-use Rattle.generational_core.specs.State.{IsSound, tickets_of}
-use Rattle.generational_core.specs.State.{content_at}
+use Rattle.generational_core.specs.State.{IsSound, tickets_of, content_at}
 use Rattle.generational_core.specs.Machine.{has_reader}
 use Rattle.generational_sync.specs.History.{Plain, first_name, reader_cell}
 use Rattle.generational_sync.proofs.Naming.{name_same}

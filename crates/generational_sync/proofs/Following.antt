@@ -1,41 +1,33 @@
 -- The state without values takes the recorded step.
-use Rattle.std.proofs.Common.{[]}
-use Rattle.generational_core.specs.Cells.{Value}
-use Rattle.std.proofs.Common.{◌≡◌, Bool, true, false, cond, not, ◌&&◌, Option, None, Some}
-use Rattle.std.proofs.Common.{refl, sym, ap, subst, ◌∙◌, inl, inr}
+use Rattle.std.proofs.Common.{[], ◌≡◌, Bool, true, false, cond, not, ◌&&◌, Option, None, Some, refl}
+use Rattle.std.proofs.Common.{sym, ap, subst, ◌∙◌, inl, inr}
+use Rattle.generational_core.specs.Cells.Cell.{Value}
 use Rattle.std.specs.Prelude.{nat_eq, option_map}
 use Rattle.std.proofs.lemmas.Bool.{true≢false, and_parts, and_from, eqb-true}
 use Rattle.generational_core.specs.declared.error.Location.{Location}
-use Rattle.generational_core.specs.declared.error.StoreError.TheVariants.{
-  OutOfMemory,
-  NumbersExhausted,
-  UnknownOwner,
-}
+use Rattle.generational_core.specs.declared.error.StoreError.TheVariants.{OutOfMemory}
+use Rattle.generational_core.specs.declared.error.StoreError.TheVariants.{NumbersExhausted}
+use Rattle.generational_core.specs.declared.error.StoreError.TheVariants.{UnknownOwner}
 use Rattle.generational_core.specs.declared.steps.StepCall.{StepCall}
 use Rattle.generational_core.specs.declared.steps.StepCall.TheVariants as call
 use Rattle.generational_core.specs.Names.{Name}
-use Rattle.generational_core.specs.Cells.{Content}
+use Rattle.generational_core.specs.Cells.{Content, content_of}
 use Rattle.generational_core.specs.Cells.Content.{Here, Lent}
-use Rattle.generational_core.specs.State.{State, IsSound}
-use Rattle.generational_core.specs.State.{content_at}
+use Rattle.generational_core.specs.State.{State, IsSound, content_at}
 use Rattle.generational_core.specs.Borrowing.{Trouble, Guard, read_trouble, reach}
 use Rattle.generational_core.specs.Borrowing.Trouble.{Dropped, BeingRead, BeingWritten}
 use Rattle.generational_core.specs.Ending.{hindrance_to, close}
-use Rattle.generational_core.specs.Cells.{content_of}
 use Rattle.generational_core.specs.Machine.{Action, Answer, Fresh, Outcome, act, unless, make}
-use Rattle.generational_core.specs.Machine.{knows_reader, remove_reader, own_name, read_at}
-use Rattle.generational_core.specs.Machine.{cell_at}
+use Rattle.generational_core.specs.Machine.{knows_reader, remove_reader, own_name, read_at, cell_at}
 use Rattle.generational_core.specs.Machine.Action.{Make, MakeShared, Refer, NewOwner, CloneOwner}
 use Rattle.generational_core.specs.Machine.Action.{ReleaseOwner, LeakOwner, Read, Write}
 use Rattle.generational_core.specs.Machine.Action.{ReleaseReader, ReleaseWriter, SetValue, End}
 use Rattle.generational_core.specs.Machine.Action.{Point, CanRead, CanWrite}
 use Rattle.generational_core.specs.Machine.Answer.{Made, Owned, Reads, Writes, Done, Old, Flag}
-use Rattle.generational_core.specs.Machine.Answer.{Back}
-use Rattle.generational_core.specs.Machine.Answer.{Troubled, Refused}
+use Rattle.generational_core.specs.Machine.Answer.{Back, Troubled, Refused}
 use Rattle.generational_core.specs.Steps.{IsNew, Meets, Takes, limit_tickets, takes_ticket}
 use Rattle.generational_core.specs.Steps.{last_ticket}
-use Rattle.generational_core.specs.Readiness.{is_ready}
-use Rattle.generational_core.specs.Recording.{recorded_as, is_hindered}
+use Rattle.generational_core.specs.StepCalls.{is_ready, recorded_as, is_hindered}
 use Rattle.generational_core.specs.History.{plain, plain_call, plain_answer}
 use Rattle.generational_sync.specs.declared.step.StepReply.{StepReply}
 use Rattle.generational_sync.specs.declared.step.StepReply.TheVariants as reply

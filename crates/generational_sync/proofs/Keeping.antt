@@ -1,8 +1,6 @@
 -- What lies under the lock stays as it is kept.
-use Rattle.std.proofs.Common.{◌≡◌, ℕ, ◌+◌, ◌≤◌, true, List, [], ◌∷◌, ◌++◌, length}
-use Rattle.std.proofs.Common.{None}
-use Rattle.std.proofs.Common.{Result, Ok, Err, false, Some, refl, sym, ap, ◌∙◌, arith, inl}
-use Rattle.std.proofs.Common.{inr}
+use Rattle.std.proofs.Common.{◌≡◌, ℕ, ◌+◌, ◌≤◌, true, List, [], ◌∷◌, ◌++◌, length, None, Result, Ok}
+use Rattle.std.proofs.Common.{Err, false, Some, refl, sym, ap, ◌∙◌, arith, inl, inr}
 use Rattle.std.specs.Result.{is_err}
 use Rattle.std.proofs.lemmas.Bool.{true≢false}
 use Rattle.std.specs.FinMap as map
@@ -12,11 +10,9 @@ use Rattle.generational_core.specs.declared.error.BorrowError.TheVariants as rea
 use Rattle.generational_core.specs.declared.error.BorrowMutError.{BorrowMutError}
 use Rattle.generational_core.specs.declared.error.Refused.{Refused}
 use Rattle.generational_core.specs.declared.error.Refused.TheVariants as refused
-use Rattle.generational_core.specs.declared.error.StoreError.TheVariants.{
-  OutOfMemory,
-  NumbersExhausted,
-  UnknownOwner,
-}
+use Rattle.generational_core.specs.declared.error.StoreError.TheVariants.{OutOfMemory}
+use Rattle.generational_core.specs.declared.error.StoreError.TheVariants.{NumbersExhausted}
+use Rattle.generational_core.specs.declared.error.StoreError.TheVariants.{UnknownOwner}
 use Rattle.generational_core.specs.declared.boxes.GenerationalPointer.{GenerationalPointer}
 use Rattle.generational_core.specs.declared.steps.StepCall.{StepCall}
 use Rattle.generational_core.specs.declared.steps.StepCall.TheVariants as call
@@ -30,7 +26,7 @@ use Rattle.generational_core.specs.Machine.Action.{Make, Read, ReleaseReader, En
 use Rattle.generational_core.specs.Machine.Answer.{Made, Reads, Done, Flag}
 use Rattle.generational_core.specs.Steps.{Meets}
 use Rattle.generational_core.specs.Answers.{read_refused, end_answer}
-use Rattle.generational_core.specs.Recording.{recorded_as}
+use Rattle.generational_core.specs.StepCalls.{recorded_as}
 use Rattle.generational_core.specs.History.{plain}
 use Rattle.generational_sync.specs.declared.step.Step.{Step}
 use Rattle.generational_sync.specs.declared.step.StepReply.{StepReply}

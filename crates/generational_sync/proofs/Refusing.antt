@@ -1,7 +1,6 @@
 -- How a call that no borrow hinders is refused.
-use Rattle.generational_core.specs.Steps.{needs_memory}
-use Rattle.std.proofs.Common.{is_some}
-use Rattle.std.proofs.Common.{◌≡◌, Bool, true, false, cond, not, List, [], ◌∷◌, Option}
+use Rattle.generational_core.specs.Steps.{needs_memory, Meets, limit_tickets, last_ticket}
+use Rattle.std.proofs.Common.{is_some, ◌≡◌, Bool, true, false, cond, not, List, [], ◌∷◌, Option}
 use Rattle.std.proofs.Common.{None, Some, refl, sym, ap, subst, ◌∙◌, inl, inr, Result, Ok, Err}
 use Rattle.std.specs.Prelude.{nat_eq}
 use Rattle.std.specs.Result.{is_err}
@@ -13,33 +12,27 @@ use Rattle.generational_core.specs.declared.error.BorrowError.TheVariants as rea
 use Rattle.generational_core.specs.declared.error.BorrowMutError.{BorrowMutError}
 use Rattle.generational_core.specs.declared.error.Refused.{Refused}
 use Rattle.generational_core.specs.declared.error.Refused.TheVariants as refused
-use Rattle.generational_core.specs.declared.error.StoreError.TheVariants.{
-  OutOfMemory,
-  NumbersExhausted,
-  UnknownOwner,
-}
+use Rattle.generational_core.specs.declared.error.StoreError.TheVariants.{OutOfMemory}
+use Rattle.generational_core.specs.declared.error.StoreError.TheVariants.{NumbersExhausted}
+use Rattle.generational_core.specs.declared.error.StoreError.TheVariants.{UnknownOwner}
 use Rattle.generational_core.specs.declared.boxes.GenerationalPointer.{GenerationalPointer}
 use Rattle.generational_core.specs.declared.steps.StepCall.TheVariants as call
 use Rattle.generational_core.specs.Names.{Name, NameMap}
-use Rattle.generational_core.specs.Cells.{Content, Cell}
+use Rattle.generational_core.specs.Cells.{Content, Cell, content_of}
 use Rattle.generational_core.specs.Cells.Content.{Here, Lent}
 use Rattle.generational_core.specs.Cells.Cell.{Value, Shared, Ref}
-use Rattle.generational_core.specs.State.{State}
-use Rattle.generational_core.specs.State.{content_at}
+use Rattle.generational_core.specs.State.{State, content_at}
 use Rattle.generational_core.specs.Borrowing.{Trouble, reach, read_trouble, refusal_at}
 use Rattle.generational_core.specs.Borrowing.{read_refusal, write_refusal}
 use Rattle.generational_core.specs.Borrowing.Trouble.{Dropped, BeingRead, BeingWritten}
-use Rattle.generational_core.specs.Ending.{hindrance_to, first_hindrance, hindrance_of}
-use Rattle.generational_core.specs.Ending.{cells_after, close}
+use Rattle.generational_core.specs.Ending.{hindrance_to, first_hindrance, hindrance_of, cells_after}
+use Rattle.generational_core.specs.Ending.{close}
 use Rattle.std.specs.Option.{option_or}
-use Rattle.generational_core.specs.Cells.{content_of}
-use Rattle.generational_core.specs.Machine.{Answer, Outcome, unless, read_at, cell_at}
-use Rattle.generational_core.specs.Machine.{own_name}
+use Rattle.generational_core.specs.Machine.{Answer, Outcome, unless, read_at, cell_at, own_name}
 use Rattle.generational_core.specs.Machine.Action.{Read, End}
 use Rattle.generational_core.specs.Machine.Answer.{Done, Troubled, Refused as refuses}
-use Rattle.generational_core.specs.Steps.{Meets, limit_tickets, last_ticket}
 use Rattle.generational_core.specs.Answers.{read_refused, end_refused, end_answer}
-use Rattle.generational_core.specs.Readiness.{is_ready, tells_of_borrow}
+use Rattle.generational_core.specs.StepCalls.{is_ready, tells_of_borrow}
 use Rattle.generational_sync.specs.Shared.{MayRefuseRead}
 
 module _ {T : Type 0} where

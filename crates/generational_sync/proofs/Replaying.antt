@@ -1,15 +1,11 @@
 -- What holds of each history that replays: its states are sound, and of the one store.
-use Rattle.std.proofs.Common.{◌≡◌, ℕ, Bool, true, false, cond, List, [], ◌∷◌, ◌++◌, Option}
-use Rattle.std.proofs.Common.{None, Some, refl, sym, ap, subst, ◌∙◌, inl}
+use Rattle.std.proofs.Common.{◌≡◌, ℕ, Bool, true, false, cond, List, [], ◌∷◌, ◌++◌, Option, None}
+use Rattle.std.proofs.Common.{Some, refl, sym, ap, subst, ◌∙◌, inl}
 use Rattle.std.specs.Prelude.{option_map}
 use Rattle.std.proofs.lemmas.Bool.{and_parts}
 use Rattle.generational_core.specs.declared.steps.StepCall.{StepCall}
-use Rattle.generational_core.specs.declared.steps.StepCall.TheVariants.{
-  Leak,
-  Read,
-  ReleaseRead,
-  ManuallyDrop,
-}
+use Rattle.generational_core.specs.declared.steps.StepCall.TheVariants.{Leak, Read, ReleaseRead}
+use Rattle.generational_core.specs.declared.steps.StepCall.TheVariants.{ManuallyDrop}
 use Rattle.generational_core.specs.Names.{Name}
 use Rattle.generational_core.specs.State.{State, IsSound}
 use Rattle.generational_core.specs.Boxes.{name_of}
@@ -17,14 +13,14 @@ use Rattle.generational_core.specs.Machine.{Action, Answer, Fresh, Outcome, act}
 use Rattle.generational_core.specs.Machine.Action.{Make, Read as ReadBox, ReleaseReader, End}
 use Rattle.generational_core.specs.Machine.Answer.{Made}
 use Rattle.generational_core.specs.Steps.{AreNew, Takes, Meets, limit_tickets}
-use Rattle.generational_core.specs.Readiness.{is_ready}
+use Rattle.generational_core.specs.StepCalls.{is_ready}
 use Rattle.generational_core.specs.History.{plain}
 use Rattle.generational_sync.specs.declared.step.Step.{Step}
 use Rattle.generational_sync.specs.declared.step.StepReply.{StepReply}
 use Rattle.generational_sync.specs.declared.step.StepReply.TheVariants as reply
 use Rattle.generational_sync.specs.History.{Plain, plain_step, step_by, names_of_reply, action_of}
-use Rattle.generational_sync.specs.History.{gives_new, is_lawful, guard_at, reader_cell}
-use Rattle.generational_sync.specs.History.{replay_on, replay_from, start, IsTaken, LeadsOver}
+use Rattle.generational_sync.specs.History.{gives_new, is_lawful, guard_at, reader_cell, replay_on}
+use Rattle.generational_sync.specs.History.{replay_from, start, IsTaken, LeadsOver}
 use Rattle.generational_sync.proofs.Fitting.{new_from, gives_from}
 
 takes_any : (P : Plain) (a : Action (Unit {0})) (answer : Answer (Unit {0})) (f : Fresh)

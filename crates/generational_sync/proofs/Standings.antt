@@ -15,13 +15,11 @@ use Rattle.generational_core.specs.Names.{Name, NameMap, among}
 use Rattle.generational_core.specs.Cells.{Content, Cell, content_of, refill, is_shared}
 use Rattle.generational_core.specs.Cells.Content.{Here, Lent}
 use Rattle.generational_core.specs.Cells.Cell.{Value, Shared, Ref}
-use Rattle.generational_core.specs.State.{State, tickets_of, is_named}
-use Rattle.generational_core.specs.State.{content_at}
-use Rattle.generational_core.specs.Borrowing.{Trouble, Guard, fill, reach}
-use Rattle.generational_core.specs.Borrowing.{read_trouble}
+use Rattle.generational_core.specs.State.{State, tickets_of, is_named, content_at}
+use Rattle.generational_core.specs.Borrowing.{Trouble, Guard, fill, reach, read_trouble}
 use Rattle.generational_core.specs.Ending.{sweep, take_away, close, hindrance_to}
-use Rattle.generational_core.specs.Machine.{Answer, Outcome, unless, read_at, cell_at}
-use Rattle.generational_core.specs.Machine.{has_reader, knows_reader, remove_reader, own_name}
+use Rattle.generational_core.specs.Machine.{Answer, Outcome, unless, read_at, cell_at, has_reader}
+use Rattle.generational_core.specs.Machine.{knows_reader, remove_reader, own_name}
 use Rattle.generational_core.specs.Machine.Action.{Make, Read, ReleaseReader, End}
 use Rattle.generational_core.specs.Machine.Answer.{Made, Reads, Done, Flag, Refused}
 use Rattle.generational_core.specs.Steps.{Meets, limit_tickets, takes_ticket, last_ticket}

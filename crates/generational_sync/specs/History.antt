@@ -1,26 +1,21 @@
 -- Histories of steps, and what they make of a state without values.
-use Rattle.std.specs.Prelude.{◌≡◌, ℕ, ◌+◌, Bool, true, not, ◌&&◌, ◌||◌, nat_eq}
-use Rattle.std.specs.Prelude.{if◌then◌else◌, List, [], ◌∷◌, Option, Some, None, option_map}
+use Rattle.std.specs.Prelude.{◌≡◌, ℕ, ◌+◌, Bool, true, not, ◌&&◌, ◌||◌, nat_eq, if◌then◌else◌, List}
+use Rattle.std.specs.Prelude.{[], ◌∷◌, Option, Some, None, option_map}
 use Rattle.std.specs.FinMap as map
 use Rattle.std.specs.FinSet as set
 use Rattle.generational_core.specs.declared.steps.StepCall.{StepCall}
-use Rattle.generational_core.specs.declared.steps.StepCall.TheVariants.{
-  Leak,
-  Read,
-  ReleaseRead,
-  ManuallyDrop,
-}
+use Rattle.generational_core.specs.declared.steps.StepCall.TheVariants.{Leak, Read, ReleaseRead}
+use Rattle.generational_core.specs.declared.steps.StepCall.TheVariants.{ManuallyDrop}
 use Rattle.generational_core.specs.Names.{Name}
 use Rattle.generational_core.specs.Boxes.{name_of}
-use Rattle.generational_core.specs.State.{State}
+use Rattle.generational_core.specs.State.{State, content_at}
 use Rattle.generational_core.specs.Conditions.{fresh}
-use Rattle.generational_core.specs.State.{content_at}
 use Rattle.generational_core.specs.Borrowing.{Guard}
 use Rattle.generational_core.specs.Machine.{Action, Answer, Fresh, Outcome, act, has_reader}
 use Rattle.generational_core.specs.Machine.Action.{Make, Read as ReadBox, ReleaseReader, End}
 use Rattle.generational_core.specs.Slots.{slots_of, slots, free, is_free, last_name}
 use Rattle.generational_core.specs.Steps.{Meets, IsNew, limit_tickets, no_names}
-use Rattle.generational_core.specs.Readiness.{is_ready}
+use Rattle.generational_core.specs.StepCalls.{is_ready}
 use Rattle.generational_sync.specs.declared.step.Step.{Step}
 use Rattle.generational_sync.specs.declared.step.StepReply.{StepReply}
 use Rattle.generational_sync.specs.declared.step.StepReply.TheVariants as reply

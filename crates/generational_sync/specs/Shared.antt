@@ -6,11 +6,9 @@ use Rattle.generational_core.specs.declared.error.BorrowError.{BorrowError}
 use Rattle.generational_core.specs.declared.error.BorrowError.TheVariants as reads
 use Rattle.generational_core.specs.declared.error.Refused.{Refused}
 use Rattle.generational_core.specs.declared.error.Refused.TheVariants as refused
-use Rattle.generational_core.specs.declared.error.StoreError.TheVariants.{
-  OutOfMemory,
-  NumbersExhausted,
-  UnknownOwner,
-}
+use Rattle.generational_core.specs.declared.error.StoreError.TheVariants.{OutOfMemory}
+use Rattle.generational_core.specs.declared.error.StoreError.TheVariants.{NumbersExhausted}
+use Rattle.generational_core.specs.declared.error.StoreError.TheVariants.{UnknownOwner}
 use Rattle.generational_core.specs.declared.steps.StepCall.{StepCall}
 use Rattle.generational_core.specs.State.{State}
 use Rattle.generational_core.specs.Machine.{Action, Answer}

@@ -6,14 +6,14 @@ ghost use Rattle.generational_core.specs.declared.error.StoreError.TheVariants.{
 ghost use Rattle.generational_core.specs.declared.error.Refused.TheVariants as refused;
 ghost use Rattle.generational_core.specs.declared.steps.StepCall.TheVariants as call;
 ghost use Rattle.generational_core.specs.Conditions.{fresh};
-ghost use Rattle.generational_core.specs.Boxes.{pointer_of};
+ghost use Rattle.generational_core.specs.Answers.{pointer_of};
 ghost use Rattle.generational_core.specs.Machine.{knows_reader};
 ghost use Rattle.generational_core.specs.Machine.Action.{Make, Read, ReleaseReader, End};
 ghost use Rattle.generational_core.specs.Machine.Answer.{Flag};
 ghost use Rattle.generational_core.specs.Steps.{Meets};
 ghost use Rattle.generational_core.specs.Answers.{box_answer, read_answer, end_answer};
 ghost use Rattle.generational_core.specs.Answers.{value_behind};
-ghost use Rattle.generational_core.specs.Readiness.{is_ready};
+ghost use Rattle.generational_core.specs.StepCalls.{is_ready};
 ghost use Rattle.generational_sync.specs.Counts.{new_tallies};
 ghost use Rattle.generational_sync.specs.Kinds.{IsCounted};
 ghost use Rattle.generational_sync.specs.Shared.{Does, Replays, Records, Raises};

@@ -4,10 +4,10 @@ ghost use Rattle.std.specs.Prelude.{◌≡◌, ◌<◌, true, IfOk, IfErr, IfSom
 ghost use Rattle.std.specs.Sync.Mutex.{mutex_guard_value};
 ghost use Rattle.generational_core.specs.declared.error.StoreError.TheVariants.{OutOfMemory};
 ghost use Rattle.generational_core.specs.declared.error.Refused.TheVariants as refused;
-ghost use Rattle.generational_core.specs.Boxes.{pointer_of};
+ghost use Rattle.generational_core.specs.Answers.{pointer_of};
 ghost use Rattle.generational_core.specs.Machine.Answer.{Flag};
 ghost use Rattle.generational_core.specs.Answers.{box_answer, read_answer, end_answer};
-ghost use Rattle.generational_core.specs.Readiness.{is_ready};
+ghost use Rattle.generational_core.specs.StepCalls.{is_ready};
 ghost use Rattle.generational_sync.specs.Counts.{new_tallies};
 ghost use Rattle.generational_sync.specs.Kinds.{IsCounted};
 ghost use Rattle.generational_sync.specs.Shared.{Raises, IsBoxOf, IsHistory, MayRefuseRead};

@@ -1,20 +1,23 @@
 use Rattle.std.proofs.Common.{◌<◌, ◌-◌, refl, arith}
-use Rattle.generational_box.specs.declared.owners.OwnerRecord.{OwnerRecord}
-use Rattle.generational_core.specs.Records.{one_less}
-use Rattle.generational_box.proofs.OwnerMaps.{owners_written, owners_absent, owners_hold}
+use Rattle.generational_box.proofs.Common.{one_less, OwnerRecord}
+use Rattle.generational_box.proofs.lists.Lists.{owners_written, owners_absent, owners_hold}
 use Rattle.generational_box.proofs.owners.count_down.Goals as goal
 
 pub returns-in-Some : goal.returns-in-Some
 returns-in-Some c =
-    let after : OwnerRecord = record c.in-Some.found.now { count = c.in-Some.found.now.count - 1 } in
-    owners_written c.args.owners.now (c.get_mut.follows.lender after) c.args.key c.in-Some.found.now after one_less
-    c.in-Some.ensures.value (c.get_mut.follows.holds after) refl
+    let now = c.in-Some.found.now in
+    let after : OwnerRecord = record now { count = now.count - 1 } in
+    owners_written c.args.owners.now c.args.key _ c.in-Some.ensures.value after
+    (c.get_mut.follows.lender after) (c.get_mut.follows.holds after)
+    one_less refl
 
 pub overflow_sub-found : goal.overflow_sub-found
 overflow_sub-found c =
-    let bound = owners_hold (λ h. 0 < h.count) c.args.owners.now c.args.key c.in-Some.found.now c.requires c.in-Some.ensures.value in
+    let bound = owners_hold c.args.owners.now c.args.key _ c.in-Some.ensures.value
+    (λ h. 0 < h.count) c.requires in
     omega (arith, bound)
 
 pub returns-in-None : goal.returns-in-None
 returns-in-None c =
-    owners_absent c.args.owners.now _ c.args.key one_less c.in-None.ensures.value c.get_mut.follows.holds-at-none
+    owners_absent c.args.owners.now _ c.args.key one_less c.in-None.ensures.value
+    c.get_mut.follows.holds-at-none

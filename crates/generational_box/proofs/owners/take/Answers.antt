@@ -1,8 +1,6 @@
-use Rattle.std.proofs.Common.{ap, sym, ◌∙◌}
-use Rattle.std.specs.Prelude.{map as list_map, option_map}
-use Rattle.generational_core.specs.Records.{names_in}
-use Rattle.generational_box.specs.OwnerRecords.{ownership_of, name_of_cell}
-use Rattle.generational_box.proofs.OwnerMaps.{owners_get, owners_remove}
+use Rattle.std.proofs.Common.{ap, refl, map as list_map}
+use Rattle.generational_box.proofs.Common.{name_of_cell}
+use Rattle.generational_box.proofs.lists.Lists.{owners_get, owners_remove}
 use Rattle.generational_box.proofs.owners.take.Goals as goal
 
 pub returns-in-Some-clause-after : goal.returns-in-Some-clause-after
@@ -15,9 +13,9 @@ returns-in-None-clause-after c =
 
 pub returns-in-Some-clause-names : goal.returns-in-Some-clause-names
 returns-in-Some-clause-names c =
-    sym (ap names_in (owners_get c.args.owners.now c.args.key ∙ ap (option_map ownership_of) (sym c.in-Some.ensures.value)))
+    rw (owners_get c.args.owners.now c.args.key, ← c.in-Some.ensures.value) refl
 
 pub returns-in-None-clause-names : goal.returns-in-None-clause-names
 returns-in-None-clause-names c =
-    ap (list_map name_of_cell) c.new.ensures.items
-    ∙ sym (ap names_in (owners_get c.args.owners.now c.args.key ∙ ap (option_map ownership_of) (sym c.in-None.ensures.value)))
+    rw (owners_get c.args.owners.now c.args.key, ← c.in-None.ensures.value)
+    (ap (list_map name_of_cell) c.new.ensures.items)

@@ -1,30 +1,40 @@
-use Rattle.std.proofs.Common.{ap, sym, subst, None, Some, Err, ◌∙◌, ◌+◌, drop, slice_index_or}
-use Rattle.std.specs.Prelude.{map as list_map}
+use Rattle.std.proofs.Common.{◌≡◌, ap, sym, subst, Option, None, Some, Err, ◌∙◌}
 use Rattle.std.specs.Option.{option_or}
+use Rattle.generational_core.specs.declared.error.Refused.TheVariants as refused
+use Rattle.generational_box.proofs.Common.{BorrowMutError, OutOfMemory, Trouble, CellName}
+use Rattle.generational_core.specs.declared.error.Refused.{Refused}
 use Rattle.generational_box.specs.Entry.{FoundBorrowed}
-use Rattle.generational_box.specs.OwnerRecords.{first_borrowed, name_of_cell}
-use Rattle.generational_box.specs.Slotted.{cells_of}
-use Rattle.generational_box.proofs.OwnerScans.{found_first, scan, refusal_seen}
+use Rattle.generational_box.proofs.slots.Slots.{scan}
 use Rattle.generational_box.proofs.parts.first_borrowed.Goals as goal
 use Rattle.generational_box.proofs.parts.first_borrowed.Goals.{in-Some+in-Ok, in-None}
 
+-- what is found first stays so, whatever comes after
+found_first : (e : Refused BorrowMutError) (t u : Option Trouble)
+    → FoundBorrowed t (Err e) → FoundBorrowed (option_or t u) (Err e)
+found_first (refused.Borrow e) None u found = cc
+found_first (refused.Borrow e) (Some t) u found = found
+found_first (refused.Store OutOfMemory) (Some t) u found = found
+found_first (refused.Store e) t u found = absurd found
+
+passed : {t u all : Option Trouble} → t ≡ None → option_or t u ≡ all → u ≡ all
+passed {u = u} none whole = sym (ap (λ t. option_or t u) none) ∙ whole
+
+abbrev none : CellName
+none = record { slot = 0; generation = 0 }
+
 pub returns-in-Err : goal.returns-in-Err
 returns-in-Err g c =
-    let cells = cells_of c.args.slots.now in
-    let rest = first_borrowed cells (list_map name_of_cell (drop (c.loop-name.name-index + 1) c.args.names.now)) in
-    let n = name_of_cell (slice_index_or c.args.names.now c.loop-name.name-index (record { slot = 0; generation = 0 })) in
     subst (λ t. FoundBorrowed t (Err c.in-Err.refused))
-    (ap (λ t. option_or t rest) (sym (refusal_seen c.args.slots.now n (Some c.in-Some.entry.now) c.in-Some.ensures))
-    ∙ (sym (scan cells c.args.names.now c.loop-name.name-index _ c.loop-name-test.true) ∙ c.loop-name.invariant))
-    (found_first _ rest c.in-Err.refused c.in-Err.ensures)
+    (sym (scan c.args.slots.now c.args.names.now c.loop-name.name-index none
+    (Some c.in-Some.entry.now) c.loop-name-test.true c.in-Some.ensures) ∙ c.loop-name.invariant)
+    (found_first c.in-Err.refused _ _ c.in-Err.ensures)
 
 pub loop-name-preserved : goal.loop-name-preserved
 loop-name-preserved g c =
-    let cells = cells_of c.args.slots.now in
-    let rest = first_borrowed cells (list_map name_of_cell (drop (c.loop-name.name-index + 1) c.args.names.now)) in
-    let n = name_of_cell (slice_index_or c.args.names.now c.loop-name.name-index (record { slot = 0; generation = 0 })) in
-    let step = sym (scan cells c.args.names.now c.loop-name.name-index (record { slot = 0; generation = 0 }) c.loop-name-test.true) ∙ c.loop-name.invariant in
+    let step = scan c.args.slots.now c.args.names.now c.loop-name.name-index none in
     elim c.match-entry_at.branch [
-      | in-Some+in-Ok w ↦ ap (λ t. option_or t rest) (sym (refusal_seen c.args.slots.now n (Some w.in-Some.entry.now) w.in-Some.ensures ∙ w.in-Ok.ensures)) ∙ step
-      | in-None w ↦ ap (λ t. option_or t rest) (sym (refusal_seen c.args.slots.now n None w.in-None.ensures)) ∙ step
+      | in-Some+in-Ok w ↦ passed w.in-Ok.ensures
+          (sym (step (Some w.in-Some.entry.now) c.loop-name-test.true w.in-Some.ensures)
+          ∙ c.loop-name.invariant)
+      | in-None w ↦ sym (step None c.loop-name-test.true w.in-None.ensures) ∙ c.loop-name.invariant
     ]

@@ -1,12 +1,9 @@
-use Rattle.generational_core.proofs.Lasting.{ended_read, ended_write}
-use Rattle.generational_core.proofs.Stepping.{meets_ended}
+use Rattle.generational_core.proofs.machine.Stepping.{ended_read, ended_write, meets_ended}
 use Rattle.generational_core.proofs.laws.ended_names_stay_ended.Goals as goal
 
-pub returns-clause-step : goal.returns-clause-step
-returns-clause-step g c = λ S R call answer n m ended. meets_ended S R call answer m n ended
-
-pub returns-clause-read : goal.returns-clause-read
-returns-clause-read g c = ended_read
-
-pub returns-clause-write : goal.returns-clause-write
-returns-clause-write g c = ended_write
+pub returns : goal.returns
+returns g c = record {
+  step = λ S R call answer n m. meets_ended S R call answer m n;
+  read = ended_read;
+  write = ended_write;
+}

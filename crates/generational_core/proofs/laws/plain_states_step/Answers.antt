@@ -1,9 +1,8 @@
-use Rattle.generational_core.proofs.Plain.{plain_act}
-use Rattle.generational_core.proofs.PlainSteps.{plain_meets}
+use Rattle.generational_core.proofs.carrying.Plain.{plain_act, plain_meets}
 use Rattle.generational_core.proofs.laws.plain_states_step.Goals as goal
 
-pub returns-clause-step : goal.returns-clause-step
-returns-clause-step g c = plain_act
-
-pub returns-clause-meets : goal.returns-clause-meets
-returns-clause-meets g c = plain_meets
+pub returns : goal.returns
+returns g c = record {
+  step = plain_act;
+  meets = plain_meets;
+}

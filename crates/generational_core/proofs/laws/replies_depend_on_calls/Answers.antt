@@ -1,18 +1,13 @@
 use Rattle.std.proofs.Common.{◌∙◌, sym}
-use Rattle.generational_core.proofs.Lasting.{fresh_sound}
-use Rattle.generational_core.proofs.NumberedCalls.{fresh_matches, run_answers, owner_matched}
+use Rattle.generational_core.proofs.machine.Soundness.{fresh_sound}
+use Rattle.generational_core.proofs.carrying.NumberedCalls.{fresh_matches, run_answers, owner_matched}
 use Rattle.generational_core.proofs.laws.replies_depend_on_calls.Goals as goal
 
-pub returns-clause-fresh : goal.returns-clause-fresh
-returns-clause-fresh g c = λ number start next calls replies r run.
-    run_answers calls replies _ r _
-    (fresh_matches number start next) (fresh_sound number start next) run
-
-pub returns-clause-run : goal.returns-clause-run
-returns-clause-run g c = run_answers
-
-pub returns-clause-names : goal.returns-clause-names
-returns-clause-names g c = λ s a m. m.names.count ∙ sym m.numbers.count
-
-pub returns-clause-owners : goal.returns-clause-owners
-returns-clause-owners g c = λ s a key m live. owner_matched m key live
+pub returns : goal.returns
+returns g c = record {
+  fresh = λ number start next calls replies r. run_answers calls replies _ r _
+      (fresh_matches number start next) (fresh_sound number start next);
+  run = run_answers;
+  names = λ s a m. m.names.count ∙ sym m.numbers.count;
+  owners = λ s a key m. owner_matched m key;
+}

@@ -1,8 +1,8 @@
-use Rattle.generational_core.proofs.Sessions.{session_bounded, run_bounded}
+use Rattle.generational_core.proofs.sessions.Sessions.{session_bounded, run_kept}
 use Rattle.generational_core.proofs.laws.sessions_are_bounded.Goals as goal
 
-pub returns-clause-step : goal.returns-clause-step
-returns-clause-step g c = session_bounded
-
-pub returns-clause-run : goal.returns-clause-run
-returns-clause-run g c = run_bounded
+pub returns : goal.returns
+returns g c = record {
+  step = session_bounded;
+  run = λ calls replies s r kept run. (run_kept calls replies s r kept run).bounded;
+}

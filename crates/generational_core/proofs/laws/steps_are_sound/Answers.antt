@@ -1,9 +1,9 @@
-use Rattle.generational_core.proofs.Lasting.{fresh_sound}
-use Rattle.generational_core.proofs.Stepping.{meets_sound}
+use Rattle.generational_core.proofs.machine.Soundness.{fresh_sound}
+use Rattle.generational_core.proofs.machine.Stepping.{meets_sound}
 use Rattle.generational_core.proofs.laws.steps_are_sound.Goals as goal
 
-pub returns-clause-fresh : goal.returns-clause-fresh
-returns-clause-fresh g c = fresh_sound
-
-pub returns-clause-step : goal.returns-clause-step
-returns-clause-step g c = meets_sound
+pub returns : goal.returns
+returns g c = record {
+  fresh = fresh_sound;
+  step = meets_sound;
+}

@@ -1,7 +1,8 @@
-use Rattle.generational_core.proofs.SessionCalls.{owner_leaked}
+use Rattle.std.proofs.Common.{refl, inl}
+use Rattle.generational_core.specs.Steps.{no_names}
+use Rattle.generational_core.proofs.sessions.SessionCalls.{held_there, set_there}
 use Rattle.generational_core.proofs.places.leak_owner.Goals as goal
 
 pub returns-in-Some-clause-step : goal.returns-in-Some-clause-step
-returns-in-Some-clause-step g c =
-    owner_leaked (g.S.AnyStorage.state c.args.store.now) c.args.things.now.items _ c.args.place
-    c.in-Some.owner c.in-Some.ensures.there c.in-Some.ensures.taken
+returns-in-Some-clause-step g c = rw (held_there _ _ _ c.in-Some.ensures.there)
+    (_, inl (no_names, tt, refl), refl, refl, set_there _ _ c.args.place _ c.in-Some.ensures.taken)

@@ -1,13 +1,9 @@
 use Rattle.std.proofs.Common.{◌≡◌, List, ap, sym, subst, ◌∙◌, ◌+◌, ◌<◌, ◌≤◌, drop, length}
-use Rattle.std.proofs.Common.{slice_index_or}
-use Rattle.std.specs.Prelude.{map as list_map}
-use Rattle.std.specs.FinMap as map
+use Rattle.std.proofs.Common.{slice_index_or, map as list_map}
 use Rattle.std.proofs.lemmas.List.{at_drop_more, at_drop_all}
-use Rattle.generational_box.specs.declared.owners.CellName.{CellName}
-use Rattle.generational_core.specs.Ending.{close}
-use Rattle.generational_box.specs.OwnerRecords.{name_of_cell}
-use Rattle.generational_box.specs.Slotted.{OnlyValues}
-use Rattle.generational_box.proofs.OwnerEnds.{values_less, close_first, close_none}
+use Rattle.std.specs.FinMap as map
+use Rattle.generational_box.proofs.Common.{CellName, close, name_of_cell, OnlyValues}
+use Rattle.generational_box.proofs.calls.Calls.{values_less, close_first, close_none}
 use Rattle.generational_box.proofs.parts.Parts.end_all.Goals as goal
 
 pub loop-name-preserved : goal.loop-name-preserved
@@ -26,7 +22,7 @@ loop-name-preserved g c =
     c.end_named.ensures ∙ ap (λ names. record S {
       cells = map.remove S.cells (name_of_cell (slice_index_or names i none));
     }) same in (
-      subst OnlyValues (sym ended) (values_less S values n),
+      subst (λ R. OnlyValues R.cells) (sym ended) (values_less S.cells n values),
       ap (λ R. close R rest) ended
           ∙ (sym (close_first S values n rest)
           ∙ (sym (at_drop_more closed boxes i none within)

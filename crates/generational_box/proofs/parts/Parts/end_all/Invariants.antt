@@ -8,6 +8,6 @@ use Rattle.generational_box.proofs.parts.Parts.end_all.Given as goal
 -- the end of what is left leads to the end of all
 abbrev pub invariant-loop-name : goal.invariant-loop-name
 invariant-loop-name g l =
-    OnlyValues l.self
+    OnlyValues l.self.cells
     × (close l.self (list_map name_of_cell (drop l.name-index l.fn.boxes.items))
     ≡ close l.fn.self (list_map name_of_cell l.fn.boxes.items))

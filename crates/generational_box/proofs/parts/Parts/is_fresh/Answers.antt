@@ -1,15 +1,17 @@
 use Rattle.std.proofs.Common.{arith, ap, length, ◌∙◌, sym}
 use Rattle.std.proofs.lemmas.Bool.{eq-eqb, eqb-true, false≢true}
 use Rattle.std.proofs.lemmas.List.{nil_from_length}
-use Rattle.generational_box.proofs.SlotStates.{fresh_of, none_of_fresh}
-use Rattle.generational_box.proofs.OwnerMaps.{owners_empty, owners_none}
+use Rattle.generational_box.proofs.slots.Slots.{fresh_of, none_of_fresh}
+use Rattle.generational_box.proofs.lists.Lists.{owners_empty, owners_none}
 use Rattle.generational_box.proofs.parts.Parts.is_fresh.Goals as goal
 
 pub returns-then-is_empty : goal.returns-then-is_empty
 returns-then-is_empty g c = (
   λ t. fresh_of _ _ _ _ _ c.self.view_is c.self.invariant.0.bounded
-      (omega (arith, eqb-true _ _ (sym c.is_empty.ensures ∙ c.if-is_empty.true), c.self.inside.slots.ok.0))
-      (owners_empty c.self.inside.owners (nil_from_length _ (c.is_empty-then-is_empty.ensures.0 t))),
+      (let none = eqb-true _ _ (sym c.is_empty.ensures ∙ c.if-is_empty.true) in
+      omega (arith, none, c.self.inside.slots.ok.0))
+      (owners_empty c.self.inside.owners (nil_from_length _
+      (c.is_empty-then-is_empty.ensures.0 t))),
   λ f. c.is_empty-then-is_empty.ensures.1
       (ap length (owners_none c.self.inside.owners (ap (λ S. S.owners) (c.self.view_is ∙ f)))),
 )
@@ -18,5 +20,6 @@ pub returns-else-is_empty : goal.returns-else-is_empty
 returns-else-is_empty g c = (
   λ t. absurd (false≢true (sym c.if-is_empty.false ∙ t)),
   λ f. c.is_empty.ensures
-      ∙ eq-eqb _ _ (omega (arith, none_of_fresh _ _ _ _ _ c.self.view_is c.self.invariant.0.begun f, c.self.inside.slots.ok.0)),
+      ∙ eq-eqb _ _ (let none = none_of_fresh _ _ _ _ _ c.self.view_is c.self.invariant.0.begun f in
+      omega (arith, none, c.self.inside.slots.ok.0)),
 )

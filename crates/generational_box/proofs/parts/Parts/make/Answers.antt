@@ -1,91 +1,104 @@
-use Rattle.std.proofs.Common.{arith, ap, length, refl, subst, sym, ◌∙◌}
-use Rattle.std.specs.Prelude.{option_copied}
+use Rattle.std.proofs.Common.{◌≡◌, arith, ap, length, refl, ◌∙◌, option_copied}
 use Rattle.std.specs.FinSet as set
-use Rattle.generational_core.specs.Boxes.{box_of, name_of}
-use Rattle.generational_box.specs.OwnerRecords.{owners_of, AreCounted}
-use Rattle.generational_box.proofs.OwnerMaps.{counted_listed}
-use Rattle.generational_box.proofs.OwnerCalls.{made_step, lacking_step, refused_step}
-use Rattle.generational_box.proofs.SlotMakings.{taken_within, not_left, slotted-back}
-use Rattle.generational_box.proofs.SlotMakings.{same_generation, reuse_step, reuse_kept, push_step}
-use Rattle.generational_box.proofs.SlotMakings.{push_kept, push_refused}
+use Rattle.generational_box.proofs.Common.{Name, owners_of, add_to_list_in}
+use Rattle.generational_box.proofs.slots.Changes.{taken_within, same_generation, new_reused, state_reused}
+use Rattle.generational_box.proofs.slots.Changes.{slotted_reused, none_free, new_pushed, state_pushed}
+use Rattle.generational_box.proofs.slots.Changes.{slotted_pushed}
+use Rattle.generational_box.proofs.calls.OwnerCalls.{made, make_refused, make_lacks}
+use Rattle.generational_box.proofs.lists.Lists.{counted_listed, not_left, put_back}
 use Rattle.generational_box.proofs.parts.Parts.make.Goals as goal
 
 pub put-requires-clause-absent : goal.put-requires-clause-absent
 put-requires-clause-absent g c =
     ap (λ free. set.contains free c.in-Some.slot) c.in-Some.ensures.taken
-    ∙ not_left (owners_of c.self.inside.owners) c.self.inside.number c.self.inside.start c.self.inside.next c.self.inside.live c.self.inside.peak c.self.inside.slots.items _ _ c.self.invariant.0 c.in-Some.slot c.in-Some.ensures.member c.args.value c.args.location
+    ∙ not_left _ _ c.in-Some.ensures.member
 
 pub invariant_of-self : goal.invariant_of-self
 invariant_of-self g c = (
-  slotted-back (owners_of c.self.inside.owners) c.self.inside.number _ c.self.inside.next _ _ _ _ _ c.self.invariant.0 c.in-Some.slot c.in-Some.ensures.member c.args.value c.args.location
-      _ _ (c.put.ensures.added ∙ ap (λ free. set.insert free c.in-Some.slot) c.in-Some.ensures.taken) (c.put.ensures.rooms ∙ c.take.ensures.rooms),
-  subst (AreCounted c.self.inside.next) (sym c.in-Err.ensures.err) c.self.invariant.1,
+  rw (c.put.ensures.added, c.in-Some.ensures.taken, put_back _ _ c.in-Some.ensures.member)
+      (rw (c.put.ensures.rooms, c.take.ensures.rooms) c.self.invariant.0),
+  rw c.in-Err.ensures.err c.self.invariant.1,
 )
 
 pub returns-in-Err-clause-step : goal.returns-in-Err-clause-step
 returns-in-Err-clause-step g c =
-    refused_step (owners_of c.self.inside.owners) _ _ _ _ _ c.self.view_is (option_copied c.args.owner) c.args.value c.args.location
-    c.in-Err.cause _ c.in-Err.ensures.err c.in-Err.ensures.refused
+    make_refused c.self.view_is (option_copied c.args.owner) c.args.value c.args.location
+    c.in-Err.cause _ c.in-Err.ensures.refused (rw c.in-Err.ensures.err refl)
 
 pub refill-requires-clause-within : goal.refill-requires-clause-within
 refill-requires-clause-within g c =
-    omega (
-      arith,
-      taken_within (owners_of c.self.inside.owners) c.self.inside.number c.self.inside.start c.self.inside.next c.self.inside.live c.self.inside.peak c.self.inside.slots.items _ _ c.self.invariant.0 c.in-Some.slot c.in-Some.ensures.member c.args.value c.args.location,
-      c.self.inside.slots.ok.0,
-    )
+    let taken = c.in-Some.ensures in
+    let within = taken_within c.self.invariant.0 c.args.value c.args.location _ taken.member in
+    omega (arith, within, c.self.inside.slots.ok.0)
 
 pub invariant_of-self-in-Some : goal.invariant_of-self-in-Some
-invariant_of-self-in-Some g c = (
-  reuse_kept (owners_of c.self.inside.owners) c.self.inside.number _ c.self.inside.next _ _ _ _ _ c.self.invariant.0 c.in-Some.slot c.in-Some.ensures.member c.args.value c.args.location
-      _ _ _ _ c.refill.ensures.generation c.refill.ensures.filled c.count_one.ensures.live c.count_one.ensures.peak
-      _ _ c.in-Some.ensures.taken c.take.ensures.rooms,
-  subst (AreCounted c.self.inside.next) (sym c.in_default.ensures.ok)
-      (counted_listed c.self.inside.next (owners_of c.self.inside.owners) (option_copied c.args.owner) _ c.self.invariant.1),
-)
+invariant_of-self-in-Some g c =
+    let one = c.count_one.ensures in (
+      rw (c.in-Some.ensures.taken, c.take.ensures.rooms, one.peak, one.live)
+          (rw c.refill.ensures.filled (slotted_reused c.self.invariant.0 c.args.value
+          c.args.location _ c.in-Some.ensures.member _ c.refill.ensures.generation)),
+      rw c.in_default.ensures.ok (counted_listed c.self.invariant.1 (option_copied c.args.owner) _),
+    )
 
 pub returns-in_default-clause-step : goal.returns-in_default-clause-step
 returns-in_default-clause-step g c =
-    made_step (owners_of c.self.inside.owners) _ _ _ _ _ c.self.view_is (option_copied c.args.owner) c.args.value c.args.location
-    c.pointer_at.result _ _ _ _ _ c.in_default.ensures.known
-    (reuse_step _ _ _ _ _ _ _ _ _ c.self.invariant.0 c.in-Some.slot c.in-Some.ensures.member c.args.value c.args.location
-    _ _ _ _ c.refill.ensures.generation c.refill.ensures.filled c.count_one.ensures.live c.count_one.ensures.peak
-    _ c.self.view_is
-    (c.pointer_at.ensures
-    ∙ ap (λ generation. box_of c.self.inside.number (record { slot = c.in-Some.slot; generation = generation }) c.args.location)
-    (same_generation (owners_of c.self.inside.owners) c.self.inside.number c.self.inside.start c.self.inside.next _ _ _ _ _ c.self.invariant.0 c.in-Some.slot c.in-Some.ensures.member c.args.value c.args.location
-    _ _ c.next_generation-generation.ensures c.refill.ensures.generation)))
-    refl c.in_default.ensures.ok (sym (ap name_of c.pointer_at.ensures))
+    let one = c.count_one.ensures in
+    let is = c.next_generation-generation.ensures in
+    let same = same_generation c.self.invariant.0 c.args.value c.args.location _
+    c.in-Some.ensures.member _ _ is c.refill.ensures.generation in
+    let n : Name =
+    record { slot = c.in-Some.slot; generation = c.next_generation-generation.result } in
+    let owners = owners_of c.self.inside.owners in
+    made c.self.view_is (option_copied c.args.owner) c.args.value c.args.location n
+    c.pointer_at.result _ c.in_default.ensures.known
+    (new_reused c.self.invariant.0 c.args.value c.args.location _ c.in-Some.ensures.member _ is
+    owners _ _)
+    c.pointer_at.ensures
+    (rw (c.in_default.ensures.ok, one.peak, one.live, c.refill.ensures.filled, same)
+    (state_reused c.self.invariant.0 c.args.value c.args.location _ c.in-Some.ensures.member _ is
+    owners (add_to_list_in owners (option_copied c.args.owner) n) _ _))
 
 pub returns-in-Err-make_room-clause-step : goal.returns-in-Err-make_room-clause-step
 returns-in-Err-make_room-clause-step g c =
-    let s = rw c.in-None.ensures.none at c.self.invariant.0 in
-    lacking_step (owners_of c.self.inside.owners) _ _ _ _ _ c.self.view_is (option_copied c.args.owner) c.args.value c.args.location
-    _ _ c.lacking-cause.ensures c.make_room.ensures.slots
-    (push_refused _ _ _ _ _ _ _ _ s c.args.value c.args.location _ c.self.view_is c.make_room.ensures.slots)
+    make_lacks c.self.view_is (option_copied c.args.owner) c.args.value c.args.location _ _
+    c.lacking-cause.ensures (none_free c.self.invariant.0 c.args.value c.args.location
+    c.in-None.ensures.none (owners_of c.self.inside.owners) c.self.inside.number c.self.inside.next)
+    (rw c.make_room.ensures.slots refl)
 
 pub returns-in-Err-list_for-clause-step : goal.returns-in-Err-list_for-clause-step
 returns-in-Err-list_for-clause-step g c =
-    rw c.make_room.ensures.slots
-    (refused_step (owners_of c.self.inside.owners) _ _ _ _ _ c.self.view_is (option_copied c.args.owner) c.args.value c.args.location
-    c.in-Err-list_for.cause _ c.in-Err-list_for.ensures.err c.in-Err-list_for.ensures.refused)
+    make_refused c.self.view_is (option_copied c.args.owner) c.args.value c.args.location
+    c.in-Err-list_for.cause _ c.in-Err-list_for.ensures.refused
+    (rw (c.make_room.ensures.slots, c.in-Err-list_for.ensures.err) refl)
 
 pub invariant_of-self-in-None : goal.invariant_of-self-in-None
 invariant_of-self-in-None g c =
-    let s = rw c.in-None.ensures.none at c.self.invariant.0 in (
-      push_kept (owners_of c.self.inside.owners) c.self.inside.number _ c.self.inside.next _ _ _ _ s c.args.value c.args.location
-          _ _ _ (rw c.make_room.ensures.slots at c.push_slot.ensures.pushed) c.count_one-in-None.ensures.live c.count_one-in-None.ensures.peak
-          _ _ (c.make_room.ensures.pool ∙ (c.in-None.ensures.unchanged ∙ c.in-None.ensures.none)) (omega (arith, ap length c.make_room.ensures.slots, c.in-Ok.ensures.grown, c.make_room.new.slots.ok.0)),
-      subst (AreCounted c.self.inside.next) (sym c.in_default-list_for.ensures.ok)
-          (counted_listed c.self.inside.next (owners_of c.self.inside.owners) (option_copied c.args.owner) _ c.self.invariant.1),
+    let one = c.count_one-in-None.ensures in
+    let made = c.make_room.ensures in (
+      rw (made.pool, c.in-None.ensures.unchanged, one.peak, one.live)
+          (rw (c.push_slot.ensures.pushed, made.slots)
+          (slotted_pushed c.self.invariant.0 c.args.value c.args.location c.in-None.ensures.none _
+          (let long = ap length made.slots in
+          omega (arith, long, c.in-Ok.ensures.grown, c.make_room.new.slots.ok.0)))),
+      rw c.in_default-list_for.ensures.ok
+          (counted_listed c.self.invariant.1 (option_copied c.args.owner) _),
     )
 
 pub returns-in_default-list_for-clause-step : goal.returns-in_default-list_for-clause-step
 returns-in_default-list_for-clause-step g c =
-    let s = rw c.in-None.ensures.none at c.self.invariant.0 in
-    made_step (owners_of c.self.inside.owners) _ _ _ _ _ c.self.view_is (option_copied c.args.owner) c.args.value c.args.location
-    c.pointer_at-in-None.result _ _ _ _ _ c.in_default-list_for.ensures.known
-    (push_step _ _ _ _ _ _ _ _ s c.args.value c.args.location
-    _ _ _ (rw c.make_room.ensures.slots at c.push_slot.ensures.pushed) c.count_one-in-None.ensures.live c.count_one-in-None.ensures.peak
-    _ _ c.self.view_is c.pointer_at-in-None.ensures (omega (arith, c.len-slot.ensures, c.make_room.new.slots.ok.0, ap length c.make_room.ensures.slots)))
-    refl c.in_default-list_for.ensures.ok (sym (ap name_of c.pointer_at-in-None.ensures))
+    let one = c.count_one-in-None.ensures in
+    let owners = owners_of c.self.inside.owners in
+    let long = ap length c.make_room.ensures.slots in
+    let last : c.len-slot.result ≡ length c.self.inside.slots.items =
+    omega (arith, c.len-slot.ensures, c.make_room.new.slots.ok.0, long) in
+    made c.self.view_is (option_copied c.args.owner) c.args.value c.args.location
+    (record { slot = c.len-slot.result; generation = c.self.inside.start })
+    c.pointer_at-in-None.result _ c.in_default-list_for.ensures.known
+    (rw last (new_pushed c.self.invariant.0 c.args.value c.args.location c.in-None.ensures.none
+    owners c.self.inside.number c.self.inside.next))
+    c.pointer_at-in-None.ensures
+    (rw (c.in_default-list_for.ensures.ok, one.peak, one.live, c.push_slot.ensures.pushed)
+    (rw (c.make_room.ensures.slots, last) (state_pushed c.self.invariant.0 c.args.value
+    c.args.location c.in-None.ensures.none owners
+    (add_to_list_in owners (option_copied c.args.owner)
+    (record { slot = length c.self.inside.slots.items; generation = c.self.inside.start })) _ _)))

@@ -1,13 +1,11 @@
-use Rattle.std.proofs.Common.{subst, sym}
-use Rattle.generational_box.specs.OwnerRecords.{AreCounted}
-use Rattle.generational_box.proofs.SlotStates.{new_state, slotted_new}
-use Rattle.generational_box.proofs.OwnerMaps.{owners_empty, counted_empty}
+use Rattle.generational_box.proofs.slots.Slots.{new_state, slotted_new}
+use Rattle.generational_box.proofs.lists.Lists.{owners_empty, counted_empty}
 use Rattle.generational_box.proofs.parts.Parts.new_at.Goals as goal
 
 pub invariant_of-result : goal.invariant_of-result
 invariant_of-result g c = (
   slotted_new _ _ c.args.numbers.generation _ c.new-2.ensures.empty c.new.ensures.items,
-  subst (AreCounted c.args.numbers.ticket) (sym (owners_empty c.new-3.result c.new-3.ensures.empty)) (counted_empty c.args.numbers.ticket),
+  rw (owners_empty c.new-3.result c.new-3.ensures.empty) (counted_empty c.args.numbers.ticket),
 )
 
 pub returns : goal.returns

@@ -1,14 +1,16 @@
-use Rattle.std.proofs.Common.{◌<◌, length, arith, vec_capacity}
-use Rattle.generational_box.proofs.PoolLemmas.{pool-pushed, pool-spare}
+use Rattle.std.proofs.Common.{arith}
+use Rattle.std.proofs.lemmas.List.{length-reverse}
+use Rattle.generational_box.proofs.lists.Lists.{pool_put, pool_length, reverse_pushed}
 use Rattle.generational_box.proofs.pool.LastFirstSlotPool.put.Goals as goal
 
 pub push_reserved-requires : goal.push_reserved-requires
 push_reserved-requires c =
-    let room : length c.self.inside.slots.items < vec_capacity c.self.inside.slots =
-    pool-spare _ _ _ c.args.slot c.self.invariant (rw (← c.self.view_is) at c.requires.room) (rw (← c.self.view_is) at c.requires.absent) in
-    omega (arith, c.self.inside.slots.ok.0)
+    let p = pool_put c.self.invariant (rw (← c.self.view_is) at c.requires.room)
+    (rw (← c.self.view_is) at c.requires.absent) in
+    omega (arith, pool_length p, length-reverse c.self.inside.slots.items, c.self.inside.slots.ok.0)
 
 pub invariant_of-self : goal.invariant_of-self
 invariant_of-self c =
-    rw c.push_reserved.ensures.capacity
-    (pool-pushed _ _ _ _ c.args.slot c.push_reserved.ensures.items c.self.invariant (rw (← c.self.view_is) at c.requires.room) (rw (← c.self.view_is) at c.requires.absent))
+    rw (c.push_reserved.ensures.capacity, reverse_pushed _ _ _ c.push_reserved.ensures.items)
+    (pool_put c.self.invariant (rw (← c.self.view_is) at c.requires.room)
+    (rw (← c.self.view_is) at c.requires.absent))

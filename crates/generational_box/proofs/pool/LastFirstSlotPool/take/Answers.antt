@@ -1,15 +1,20 @@
-use Rattle.std.proofs.Common.{ap}
-use Rattle.generational_box.specs.Pools.{Pool}
-use Rattle.generational_box.proofs.PoolLemmas.{pool-popped, popped-member, popped-members}
+use Rattle.std.proofs.Common.{refl, ◌∙◌}
+use Rattle.std.proofs.lemmas.Bool.{eq-eqb}
+use Rattle.generational_box.proofs.lists.Lists.{contains-insert_at, pool_take, members_take}
+use Rattle.generational_box.proofs.lists.Lists.{reverse_pushed}
 use Rattle.generational_box.proofs.pool.LastFirstSlotPool.take.Goals as goal
 
 pub invariant_of-self-2 : goal.invariant_of-self-2
-invariant_of-self-2 c = rw c.pop.ensures.capacity (pool-popped _ _ _ _ c.in_ok-slot.slot c.in_ok-slot.ensures.items c.self.invariant)
+invariant_of-self-2 c =
+    rw c.pop.ensures.capacity
+    (pool_take (rw (reverse_pushed _ _ _ c.in_ok-slot.ensures.items) at c.self.invariant))
 
 pub returns-clause-member : goal.returns-clause-member
 returns-clause-member c =
-    popped-member _ _ c.in_ok-slot.slot c.in_ok-slot.ensures.items (ap (λ (p : Pool). p.slots) c.self.view_is)
+    rw (← c.self.view_is, reverse_pushed _ _ _ c.in_ok-slot.ensures.items)
+    (contains-insert_at _ _ _ ∙ rw (eq-eqb c.in_ok-slot.slot c.in_ok-slot.slot refl) refl)
 
 pub returns-clause-taken : goal.returns-clause-taken
 returns-clause-taken c =
-    popped-members _ _ _ _ c.in_ok-slot.slot c.in_ok-slot.ensures.items c.self.invariant (ap (λ (p : Pool). p.slots) c.self.view_is)
+    rw (← c.self.view_is, reverse_pushed _ _ _ c.in_ok-slot.ensures.items)
+    (members_take (rw (reverse_pushed _ _ _ c.in_ok-slot.ensures.items) at c.self.invariant))

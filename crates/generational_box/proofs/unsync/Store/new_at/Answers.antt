@@ -1,8 +1,5 @@
 use Rattle.std.proofs.Common.{subst, sym}
-use Rattle.generational_core.specs.State.{IsSound}
-use Rattle.generational_core.specs.Conditions.{IsBounded}
-use Rattle.generational_core.proofs.Lasting.{fresh_sound}
-use Rattle.generational_core.proofs.Bounding.{fresh_bounded}
+use Rattle.generational_box.proofs.Common.{IsSound, IsBounded, fresh_sound, fresh_bounded}
 use Rattle.generational_box.proofs.unsync.Store.new_at.Goals as goal
 
 pub invariant_of-result : goal.invariant_of-result

@@ -1,5 +1,4 @@
-use Rattle.generational_core.specs.Machine.Action.{End}
-use Rattle.generational_core.proofs.Bounding.{meets_kept}
+use Rattle.generational_box.proofs.Common.{End, meets_kept}
 use Rattle.generational_box.proofs.unsync.StoreAnyStorage.recycle.Goals as goal
 
 pub invariant_of-self-inside : goal.invariant_of-self-inside

@@ -1,5 +1,4 @@
-use Rattle.generational_core.specs.Machine.Action.{ReleaseOwner}
-use Rattle.generational_core.proofs.Bounding.{meets_kept}
+use Rattle.generational_box.proofs.Common.{ReleaseOwner, meets_kept}
 use Rattle.generational_box.proofs.unsync.StoreAnyStorage.release_owner.Goals as goal
 
 pub invariant_of-self-inside : goal.invariant_of-self-inside

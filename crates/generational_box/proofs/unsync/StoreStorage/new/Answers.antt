@@ -1,6 +1,5 @@
-use Rattle.std.specs.Prelude.{option_copied}
-use Rattle.generational_core.specs.Machine.Action.{Make}
-use Rattle.generational_core.proofs.Bounding.{meets_kept}
+use Rattle.std.proofs.Common.{option_copied}
+use Rattle.generational_box.proofs.Common.{Make, meets_kept}
 use Rattle.generational_box.proofs.unsync.StoreStorage.new.Goals as goal
 
 pub invariant_of-self-inside : goal.invariant_of-self-inside

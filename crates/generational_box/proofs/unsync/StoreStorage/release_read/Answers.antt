@@ -1,5 +1,4 @@
-use Rattle.generational_core.specs.Machine.Action.{ReleaseReader}
-use Rattle.generational_core.proofs.Bounding.{meets_kept}
+use Rattle.generational_box.proofs.Common.{ReleaseReader, meets_kept}
 use Rattle.generational_box.proofs.unsync.StoreStorage.release_read.Goals as goal
 
 pub invariant_of-self-inside : goal.invariant_of-self-inside

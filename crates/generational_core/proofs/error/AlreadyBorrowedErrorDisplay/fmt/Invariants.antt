@@ -6,4 +6,5 @@ use Rattle.generational_core.proofs.error.AlreadyBorrowedErrorDisplay.fmt.Given 
 
 abbrev pub invariant-loop-location : goal.invariant-loop-location
 invariant-loop-location g l =
-    IsPlainFormatter l.initial.f → HasWritten g.W.Write.write_str_gives l.initial.f (flat_map (λ p. 9 ∷ location_text p) (take l.location-index l.location-items)) l.f
+    IsPlainFormatter l.initial.f → HasWritten g.W.Write.write_str_gives l.initial.f
+    (flat_map (λ p. 9 ∷ location_text p) (take l.location-index l.location-items)) l.f

@@ -1,5 +1,5 @@
-use Rattle.generational_core.proofs.NumberedCalls.{new_matches}
-use Rattle.generational_core.proofs.SessionCalls.{new_kept}
+use Rattle.generational_core.proofs.carrying.NumberedCalls.{new_matches}
+use Rattle.generational_core.proofs.sessions.SessionCalls.{new_kept}
 use Rattle.generational_core.proofs.session.Session.new.Goals as goal
 
 pub invariant_of-result : goal.invariant_of-result

@@ -1,0 +1,59 @@
+-- The names of machine and store that most proofs here cite, passed on from one place.
+pub use Rattle.generational_box.specs.Entry.Kept.{Empty, Live}
+pub use Rattle.generational_box.specs.OwnerRecords.{AreCounted, IsCounted, IsRefusal}
+pub use Rattle.generational_box.specs.OwnerRecords.{add_to_list_in, first_borrowed, knows}
+pub use Rattle.generational_box.specs.OwnerRecords.{knows_any, name_of_cell, owners_of}
+pub use Rattle.generational_box.specs.OwnerRecords.{ownership_of}
+pub use Rattle.generational_box.specs.Pools.{IsPool}
+pub use Rattle.generational_box.specs.Slotted.{HasBegun, IsSlotted, OnlyValues, cell_found, cell_in}
+pub use Rattle.generational_box.specs.Slotted.{cell_of, change_entry, entry_in, given_from}
+pub use Rattle.generational_box.specs.Slotted.{given_in, how_many, is_here, is_reusable, is_spent}
+pub use Rattle.generational_box.specs.Slotted.{is_unborrowed, is_value, live_from, names_up}
+pub use Rattle.generational_box.specs.Slotted.{state_of, with_cell}
+unfoldable pub use Rattle.generational_box.specs.Slotted.{cells_of, given_of}
+pub use Rattle.generational_box.specs.declared.owners.CellName.{CellName}
+pub use Rattle.generational_box.specs.declared.owners.OwnerRecord.{OwnerRecord}
+pub use Rattle.generational_core.proofs.machine.Bounding.{IsLast, fresh_bounded, get_lasts, meets_kept}
+pub use Rattle.generational_core.proofs.machine.Bounding.{one_last}
+pub use Rattle.generational_core.proofs.maps.Maps.{by_name, by_number, changed_there}
+pub use Rattle.generational_core.proofs.maps.Maps.{contains-insert_name, get-insert_name, get-keep}
+pub use Rattle.generational_core.proofs.maps.Maps.{get-remove_apart, get-remove_here, insert_there}
+pub use Rattle.generational_core.proofs.maps.Maps.{key_apart, key_here, name_exact, name_here, name_same}
+pub use Rattle.generational_core.proofs.maps.Maps.{name_total}
+pub use Rattle.generational_core.proofs.maps.Maps.{name_test}
+pub use Rattle.generational_core.proofs.machine.Soundness.{fresh_sound}
+pub use Rattle.generational_core.specs.Answers.{WriteGuard, back_answer, end_refused}
+pub use Rattle.generational_core.specs.Borrowing.{Guard, Trouble, fill, leads_to, read_refusal}
+pub use Rattle.generational_core.specs.Borrowing.{write_refusal}
+unfoldable pub use Rattle.generational_core.specs.Borrowing.{reach, read_trouble, write_trouble}
+pub use Rattle.generational_core.specs.Borrowing.Trouble.{BeingRead, Dropped}
+pub use Rattle.generational_core.specs.Boxes.{box_of, name_in, name_of}
+pub use Rattle.generational_core.specs.Cells.{Cell, Content, content_of, is_shared, refill}
+pub use Rattle.generational_core.specs.Cells.Cell.{Value}
+pub use Rattle.generational_core.specs.Cells.Content.{Here, Lent}
+pub use Rattle.generational_core.specs.Conditions.{IsBounded, IsFresh, count_in, count_under, fresh}
+pub use Rattle.generational_core.specs.Conditions.{names_under, one_less, one_listed, one_more}
+pub use Rattle.generational_core.specs.Ending.{cells_after, close, first_hindrance, hindrance_of}
+unfoldable pub use Rattle.generational_core.specs.Ending.{hindrance_to, sweep, take_away}
+pub use Rattle.generational_core.specs.Machine.Action.{CloneOwner, End, Make, NewOwner, Read}
+pub use Rattle.generational_core.specs.Machine.Action.{ReleaseOwner, ReleaseReader, ReleaseWriter}
+pub use Rattle.generational_core.specs.Machine.Action.{Write}
+pub use Rattle.generational_core.specs.Names.{Name, NameMap, among, change_if, name_cmp}
+unfoldable pub use Rattle.generational_core.specs.Names.{change, is_name}
+pub use Rattle.generational_core.specs.Slots.{free, is_free, is_retired, last_generation, last_name}
+pub use Rattle.generational_core.specs.Slots.{retired, slots, slots_of}
+pub use Rattle.generational_core.specs.State.{IsSound, Owners, Ownership, State, content_at}
+pub use Rattle.generational_core.specs.State.{is_named}
+pub use Rattle.generational_core.specs.StepCalls.{is_ready, tells_of_borrow}
+pub use Rattle.generational_core.specs.Steps.{IsNew, Meets, last_ticket, limit_tickets}
+pub use Rattle.generational_core.specs.Steps.{needs_memory, no_names, takes_ticket}
+pub use Rattle.generational_core.specs.declared.borrow.Borrow.{Borrow}
+pub use Rattle.generational_core.specs.declared.boxes.GenerationalBoxId.{GenerationalBoxId}
+pub use Rattle.generational_core.specs.declared.boxes.GenerationalPointer.{GenerationalPointer}
+pub use Rattle.generational_core.specs.declared.error.BorrowMutError.{BorrowMutError}
+pub use Rattle.generational_core.specs.declared.error.Location.{Location}
+pub use Rattle.generational_core.specs.declared.error.StoreError.{StoreError}
+pub use Rattle.generational_core.specs.declared.error.StoreError.TheVariants.{NumbersExhausted}
+pub use Rattle.generational_core.specs.declared.error.StoreError.TheVariants.{OutOfMemory}
+pub use Rattle.generational_core.specs.declared.error.StoreError.TheVariants.{UnknownOwner}
+pub use Rattle.generational_core.specs.declared.steps.StepCall.TheVariants.{ManuallyDrop}

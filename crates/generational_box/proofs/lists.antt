@@ -1,0 +1,2 @@
+-- Lists, free slots and records of owners.
+pub mod Lists

@@ -1,0 +1,6 @@
+-- One state carries another: by other names, without values, and as numbers.
+pub mod CarriedCalls
+pub mod CarriedCells
+pub mod CarriedSession
+pub mod NumberedCalls
+pub mod Plain

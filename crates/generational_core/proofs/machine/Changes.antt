@@ -1,0 +1,457 @@
+-- What a call does to a state: one change of its cells, another table of owners and maybe a ticket,
+-- and what its answer says of that.
+use Rattle.std.proofs.Common.{Bool, true, false, cond, List, [], ◌++◌, Option, subst, arith, ⊎_elim}
+use Rattle.std.proofs.Common.{◌≡◌, ◌≢◌, ℕ, ◌+◌, ◌≤◌, ◌<◌, not, ◌∷◌, None, Some, refl, sym, ap, ◌∙◌}
+use Rattle.std.proofs.lemmas.Bool.{true≢false, or_right, or_left, or_parts, and_parts, and_from}
+use Rattle.std.proofs.lemmas.List.Folds.{list_any-append}
+use Rattle.std.specs.Cmp.{nat_eq_equiv}
+use Rattle.std.specs.List.{list_any, filter, AllByRecursion}
+use Rattle.std.specs.Prelude.{option_map, nat_eq, nat_lt}
+use Rattle.generational_core.specs.Borrowing.{Trouble, Guard, reach, fill, refusal_at, read_trouble}
+use Rattle.generational_core.specs.Borrowing.{write_trouble, write_refusal}
+use Rattle.generational_core.specs.Boxes.{name_of, has_same_id}
+use Rattle.generational_core.specs.Cells.{Content, Cell, content_of, is_shared, refill}
+use Rattle.generational_core.specs.Cells.Cell.{Value, Shared, Ref}
+use Rattle.generational_core.specs.Cells.Content.{Here, Lent}
+use Rattle.generational_core.specs.Conditions.{one_listed, one_less, one_more}
+use Rattle.generational_core.specs.Ending.{close, hindrance_to, hindrance_at, sweep}
+use Rattle.generational_core.specs.Keeping.{Sets}
+use Rattle.generational_core.specs.Machine.{add_to_list, release_owner, knows_reader, remove_reader}
+use Rattle.generational_core.specs.Machine.{act, clone_owner, knows_writer, has_reader, next_borrow}
+use Rattle.generational_core.specs.Machine.{OwnerName, add_cell, is_known, ownership, has_writer}
+use Rattle.generational_core.specs.Machine.{Action, Outcome, cell_at, read_at, write_at, own_name}
+use Rattle.generational_core.specs.Machine.{Answer, Fresh, unless, refer, set_at, point}
+use Rattle.generational_core.specs.Machine.Action.{Make, MakeShared, Refer, NewOwner, CloneOwner}
+use Rattle.generational_core.specs.Machine.Action.{ReleaseOwner, Read, Write, ReleaseReader}
+use Rattle.generational_core.specs.Machine.Action.{ReleaseWriter, SetValue, End, Point}
+use Rattle.generational_core.specs.Machine.Answer.{Made, Owned, Reads, Writes, Done, Flag, Refused}
+use Rattle.generational_core.specs.Names.{change, Name, Names, is_name}
+use Rattle.generational_core.specs.Numbered.{want}
+use Rattle.generational_core.specs.State.{State, Ownership, Owners, IsGiven, IsBoxed, content_at}
+use Rattle.generational_core.specs.State.{tickets_of}
+use Rattle.generational_core.specs.Steps.{IsNew, AreNew}
+use Rattle.generational_core.specs.declared.borrow.Borrow.{Borrow}
+use Rattle.generational_core.specs.declared.boxes.GenerationalPointer.{GenerationalPointer}
+use Rattle.generational_core.specs.declared.error.Location.{Location}
+use Rattle.generational_core.specs.declared.error.StoreError.{StoreError}
+use Rattle.generational_core.specs.declared.error.StoreError.TheVariants.{UnknownOwner}
+use Rattle.std.specs.FinMap as map
+use Rattle.std.specs.FinSet as set
+use Rattle.generational_core.proofs.maps.Maps.{by_name, by_number, get-insert_here, get-insert_apart}
+use Rattle.generational_core.proofs.maps.Maps.{get-remove_here, get-remove_apart, changed_view}
+use Rattle.generational_core.proofs.maps.Maps.{key_cases, name_here, contains-insert_name}
+use Rattle.generational_core.proofs.maps.Maps.{contains-insert_here, get-changed_name}
+use Rattle.generational_core.proofs.machine.Ends.{none≢some, by_cond, target_of}
+
+-- the name behind another was never given, and isn't the other
+pub second_fresh : (given : Names) (m n : Name) → set.contains (set.insert given m) n ≡ false
+    → (set.contains given n ≡ false) × (m ≢ n)
+second_fresh given m n h =
+    let parts =
+    or_parts (is_name n m) (set.contains given n) (sym (contains-insert_name given m n) ∙ h) in
+    (parts.1, λ is. true≢false (sym (name_here n) ∙ (ap (is_name n) (sym is) ∙ parts.0)))
+
+-- the readers but for those with a ticket
+abbrev pub unread : ℕ → List Borrow → List Borrow
+unread t readers = filter (λ r. not (nat_eq r.ticket t)) readers
+
+-- a reader at the end of a list is in it
+pushed_reads : (readers : List Borrow) (b : Borrow)
+    → list_any (λ r. nat_eq r.ticket b.ticket) (readers ++ b ∷ []) ≡ true
+pushed_reads readers b = list_any-append (λ r. nat_eq r.ticket b.ticket) readers (b ∷ [])
+    ∙ or_right _ _ (or_left _ _ (nat_eq_equiv.refl b.ticket))
+
+-- How a content is filled anew: a reader comes, a writer comes, a reader goes, a writer gives the
+-- value back, a value is set.
+pub data Filling (T : Type 0) : Type 0 where
+  Reader : (value : T) (readers : List Borrow) (at : Location) → Filling T
+  Writer : (value : T) (at : Location) → Filling T
+  Leave : (value : T) (readers : List Borrow) (guard : Guard) → Filling T
+  Return : (writer : Borrow) (guard : Guard) (value : T) → Filling T
+  Replace : (old value : T) → Filling T
+
+-- A change of cells: none; a new Value or Ref; a new Shared cell and a Ref to it; another content;
+-- names end; a Ref turns to another cell.
+pub data Change (T : Type 0) : Type 0 where
+  Stay : Change T
+  Birth : (cell : Cell T) → Change T
+  Pair : (value : T) (created : Location) → Change T
+  Fill : (cell : Name) (filling : Filling T) → Change T
+  Close : (names : List Name) → Change T
+  Turn : (ref old new : Name) (created : Location) → Change T
+
+module _ {T : Type 0} where
+  -- the names that a making takes were never given, and are two
+  abbrev pub AreFresh : State T → Action T → Fresh → Type 0
+  AreFresh S (Make o v l) f = set.contains S.given f.first ≡ false
+  AreFresh S (MakeShared o v l) f = (set.contains S.given f.first ≡ false)
+      × (set.contains S.given f.second ≡ false) × (f.first ≢ f.second)
+  AreFresh S (Refer o b) f = set.contains S.given f.first ≡ false
+  AreFresh S _ f = Unit {0}
+
+  -- new names were never given
+  pub new_fresh : (S : State T) (call : Action T) (f : Fresh) → AreNew S call f → AreFresh S call f
+  new_fresh S (Make o v l) f new = new.fresh
+  new_fresh S (MakeShared o v l) f new =
+      let second = second_fresh S.given f.first f.second new.1.fresh in
+      (new.0.fresh, second.0, second.1)
+  new_fresh S (Refer o b) f new = new.fresh
+  new_fresh S _ f new = tt
+
+  -- whether a call may make a cell
+  abbrev pub is_making : Action T → Bool
+  is_making (Make o v l) = true
+  is_making (MakeShared o v l) = true
+  is_making (Refer o b) = true
+  is_making _ = false
+
+  -- ---- the changes of cells
+
+  -- the content before it, and after it
+  abbrev pub old_content : Filling T → Content T
+  old_content (Reader v readers l) = Here v readers
+  old_content (Writer v l) = Here v []
+  old_content (Leave v readers g) = Here v readers
+  old_content (Return w g v) = Lent w
+  old_content (Replace old v) = Here old []
+
+  abbrev pub new_content : State T → Filling T → Content T
+  new_content S (Reader v readers l) = Here v (readers ++ next_borrow S l ∷ [])
+  new_content S (Writer v l) = Lent (next_borrow S l)
+  new_content S (Leave v readers g) = Here v (unread g.ticket readers)
+  new_content S (Return w g v) = Here v []
+  new_content S (Replace old v) = Here v []
+
+  -- what is known where a call fills a content, and which ticket is the next then
+  abbrev pub IsFilling : State T → Action T → ℕ → Name → Filling T → Type 0
+  IsFilling S call next n (Reader v readers l) = next ≡ S.next + 1
+  IsFilling S call next n (Writer v l) = next ≡ S.next + 1
+  IsFilling S call next n (Leave v readers g) = call ≡ ReleaseReader g
+  IsFilling S call next n (Return w g v) =
+      (call ≡ ReleaseWriter g v) × (nat_eq w.ticket g.ticket ≡ true)
+  IsFilling S call next n (Replace old v) = Sets S call n
+
+  -- the state after it, with names for what is made
+  abbrev pub after : State T → Fresh → Change T → State T
+  after S f Stay = S
+  after S f (Birth c) = add_cell S f.first c
+  after S f (Pair v l) =
+      add_cell (add_cell S f.first (Shared (Here v []) l)) f.second (Ref f.first l)
+  after S f (Fill n k) = fill S n (new_content S k)
+  after S f (Close names) = close S names
+  after S f (Turn a old new l) = record S { cells = sweep (map.insert S.cells a (Ref new l)) }
+
+  -- a new cell has no borrows, and is no Shared one; as a Ref it names a Shared cell
+  abbrev pub IsBirth : State T → Cell T → Type 0
+  IsBirth S c = (is_shared (Some c) ≡ false) × (tickets_of (content_of (Some c)) ≡ [])
+      × ((m : Name) (l : Location) → Some c ≡ Some (Ref m l) → is_shared (map.get S.cells m) ≡ true)
+
+  -- what is known where a call makes a change
+  abbrev pub IsLawful : State T → Action T → Fresh → ℕ → Change T → Type 0
+  IsLawful S call f next Stay = Unit {0}
+  IsLawful S call f next (Birth c) = (is_making call ≡ true) × IsBirth S c
+      × (AreNew S call f → IsNew S f.first)
+  IsLawful S call f next (Pair v l) = (is_making call ≡ true) × (AreNew S call f
+      → IsNew S f.first × IsNew (add_cell S f.first (Shared (Here v []) l)) f.second)
+  IsLawful S call f next (Fill n k) =
+      (content_at S n ≡ Some (old_content k)) × IsFilling S call next n k
+  IsLawful S call f next (Close names) = hindrance_to S names ≡ None
+  IsLawful S call f next (Turn a old new l) =
+      (map.get S.cells a ≡ Some (Ref old l)) × (is_shared (map.get S.cells new) ≡ true)
+      × (hindrance_at S.cells (sweep (map.insert S.cells a (Ref new l))) old ≡ None)
+
+  -- ---- what an answer says
+
+  -- a box of the store, at a name that was never given before
+  pub record IsNewBox (S R : State T) (b : GenerationalPointer) : Type 0 where
+    pub number : b.id.store ≡ S.number
+    pub fresh : set.contains S.given (name_of b) ≡ false
+    pub given : IsGiven R (name_of b)
+
+  -- a ticket, which is spent from now on
+  pub record IsNewTicket (S R : State T) (t : ℕ) : Type 0 where
+    pub is : t ≡ S.next
+    pub next : R.next ≡ S.next + 1
+
+  -- what an answer says of the states before and after it
+  abbrev pub Says : State T → Answer T → State T → Type 0
+  Says S (Made b) R = IsNewBox S R b
+  Says S (Reads g) R = IsNewTicket S R g.ticket × (knows_reader R g ≡ true)
+  Says S (Writes g v) R = IsNewTicket S R g.ticket × (knows_writer R g ≡ true)
+  Says S (Owned o) R = R.next ≡ S.next + 1
+  Says S _ R = Unit {0}
+
+  -- the want that an answer tells
+  abbrev pub wants : Answer T → Option StoreError
+  wants (Refused e) = want e
+  wants _ = None
+
+  -- what a call answers is so
+  pub record IsSaid (S : State T) (out : Outcome T) : Type 0 where
+    pub so : Says S out.0 out.1
+    -- the machine itself wants neither memory nor tickets
+    pub able : wants out.0 ≡ None
+
+  -- ---- what a call does
+
+  -- records of owners have names of boxes, and keys that were given
+  abbrev pub AreRecords : State T → ℕ → Owners → Type 0
+  AreRecords S next owners = (k : ℕ) (h : Ownership)
+      → map.get owners k ≡ Some h → AllByRecursion (IsBoxed S) h.names × (k < next)
+
+  -- a call leads to an outcome by one change of cells
+  pub record Leads (S : State T) (call : Action T) (f : Fresh) (out : Outcome T) : Type 0 where
+    pub change : Change T
+    pub owners : Owners
+    pub next : ℕ
+    pub is : out.1 ≡ record (after S f change) { owners = owners; next = next }
+    pub up : S.next ≤ next
+    pub lawful : IsLawful S call f next change
+    pub recorded : AreRecords (after S f change) next (after S f change).owners
+        → AreRecords (after S f change) next owners
+    pub said : AreFresh S call f → IsSaid S out
+
+  -- an answer of which nothing is to be shown
+  plain : {S : State T} {out : Outcome T} → Says S out.0 out.1 → wants out.0 ≡ None → IsSaid S out
+  plain so able = record { so = so; able = able }
+
+  -- an outcome with a change of cells, a table of owners and a next ticket
+  leads : {S : State T} {call : Action T} {f : Fresh} {answer : Answer T} (c : Change T)
+      (owners : Owners) (next : ℕ) → S.next ≤ next → IsLawful S call f next c
+      → (AreRecords (after S f c) next (after S f c).owners → AreRecords (after S f c) next owners)
+      → let out : Outcome T = (answer, record (after S f c) { owners = owners; next = next }) in
+      (AreFresh S call f → IsSaid S out) → Leads S call f out
+  leads c o n u l r s = record
+      { change = c; owners = o; next = n; is = refl; up = u; lawful = l; recorded = r; said = s }
+
+  -- nothing changes
+  still : {S : State T} {call : Action T} {f : Fresh} {answer : Answer T}
+      → IsSaid S (answer, S) → Leads S call f (answer, S)
+  still {S} said = leads Stay _ S.next (omega arith) tt (λ h. h) (λ _. said)
+
+  -- a refusal where a trouble stands, or where an owner isn't known
+  leads_unless : {S : State T} {call : Action T} {f : Fresh} (t : Option Trouble) {x : Outcome T}
+      → (t ≡ None → Leads S call f x) → Leads S call f (unless t S x)
+  leads_unless None h = h refl
+  leads_unless (Some t) h = still (plain tt refl)
+
+  leads_known : {S : State T} {call : Action T} {f : Fresh} (known : Bool) {x : Outcome T}
+      → Leads S call f x → Leads S call f (cond known x (Refused UnknownOwner, S))
+  leads_known true h = h
+  leads_known false h = still (plain tt refl)
+
+  leads_if : {S : State T} {call : Action T} {f : Fresh} (b : Bool) {x y : Outcome T}
+      → (b ≡ true → Leads S call f x) → Leads S call f y → Leads S call f (cond b x y)
+  leads_if true h k = h refl
+  leads_if false h k = k
+
+  -- ---- owners
+
+  -- the record of an owner that the store knows
+  pub held_record : (S : State T) (o : OwnerName) (h : Ownership)
+      → ownership S o ≡ Some h → map.get S.owners o.key ≡ Some h
+  held_record S o h =
+      by_cond (λ x. x ≡ Some h → map.get S.owners o.key ≡ Some h) (nat_eq o.store S.number)
+      (λ _ e. e) (λ _ e. absurd (none≢some _ _ refl e))
+
+  boxed_push : (S : State T) (names : List Name) (n : Name) → AllByRecursion (IsBoxed S) names
+      → IsBoxed S n → AllByRecursion (IsBoxed S) (names ++ n ∷ [])
+  boxed_push S [] n h b = (b, tt)
+  boxed_push S (m ∷ names) n h b = (h.0, boxed_push S names n h.1 b)
+
+  -- a name more in a list, a record put in, and a record forgotten
+  module _ (S : State T) (next : ℕ) (owners : Owners)
+      (all : AreRecords S next owners) (key : ℕ) where
+    records_listed : (n : Name) → IsBoxed S n → AreRecords S next (change owners key (one_listed n))
+    records_listed n boxed k h is = ⊎_elim (λ e. all k h (sym e ∙ is))
+        (λ e. let old = all k e.1 e.2 in let same : one_listed n e.1 ≡ h = cc in
+        subst (λ (x : Ownership). AllByRecursion (IsBoxed S) x.names × (k < next)) same
+        (boxed_push S e.1.names n old.0 boxed, old.1))
+        (changed_view by_number owners key (one_listed n) k)
+
+    records_put : (h : Ownership) → AllByRecursion (IsBoxed S) h.names → key < next
+        → AreRecords S next (map.insert owners key h)
+    records_put h boxed below k x is = ⊎_elim
+        (λ e. let here = get-insert_here by_number owners key h in
+        let there = ap (map.get (map.insert owners key h)) e in let same : h ≡ x = cc in
+        subst (λ (y : Ownership). AllByRecursion (IsBoxed S) y.names × (k < next)) same
+        (boxed, subst (λ j. j < next) (sym e) below))
+        (λ ne. all k x (sym (get-insert_apart by_number owners key h k ne) ∙ is))
+        (key_cases by_number k key)
+
+    records_left : AreRecords S next (map.remove owners key)
+    records_left k x is = ⊎_elim
+        (λ e. absurd (none≢some _ _
+        (ap (map.get (map.remove owners key)) e ∙ get-remove_here by_number owners key) is))
+        (λ ne. all k x (sym (get-remove_apart by_number owners key k ne) ∙ is))
+        (key_cases by_number k key)
+
+  leads_cloned : {S : State T} {f : Fresh} (o : OwnerName) (h : Option Ownership)
+      → ownership S o ≡ h → Leads S (CloneOwner o) f (clone_owner S o h)
+  leads_cloned o None is = still (plain tt refl)
+  leads_cloned {S} o (Some h) is = leads Stay _ (S.next + 1) (omega arith) tt
+      (λ all. let old = all o.key h (held_record S o h is) in
+      records_put S _ S.owners all o.key (one_more h) old.0 old.1) (λ _. plain refl refl)
+
+  leads_released : {S : State T} {f : Fresh} (o : OwnerName) (h : Option Ownership)
+      → ownership S o ≡ h → Leads S (ReleaseOwner o) f (release_owner S o h)
+  leads_released o None is = still (plain tt refl)
+  leads_released {S} o (Some h) is = leads_if (nat_lt 1 h.count)
+      (λ _. leads Stay _ S.next (omega arith) tt
+      (λ all. let old = all o.key h (held_record S o h is) in
+      records_put S _ S.owners all o.key (one_less h) old.0 old.1) (λ _. plain tt refl))
+      (leads_unless (hindrance_to S h.names)
+      (λ free. leads (Close h.names) _ S.next (omega arith) free
+      (λ all. records_left (close S h.names) _ S.owners all o.key) (λ _. plain tt refl)))
+
+  -- ---- makings
+
+  -- the name of a new cell that is no Shared one
+  boxed_here : (S : State T) (n : Name) (c : Cell T)
+      → is_shared (Some c) ≡ false → IsBoxed (add_cell S n c) n
+  boxed_here S n c plain = (
+    contains-insert_here by_name S.given n,
+    ap is_shared (get-insert_here by_name S.cells n c) ∙ plain,
+  )
+
+  -- cells are made, and their box is listed
+  leads_made : {S : State T} {call : Action T} {f : Fresh} (c : Change T) (o : Option OwnerName)
+      (b : GenerationalPointer) → S.next ≤ (after S f c).next
+      → IsLawful S call f (after S f c).next c → b.id.store ≡ S.number
+      → (AreFresh S call f → set.contains S.given (name_of b) ≡ false)
+      → IsBoxed (after S f c) (name_of b)
+      → Leads S call f (Made b, add_to_list (after S f c) o (name_of b))
+  leads_made {S} {f = f} c None b up lawful number fresh boxed =
+      leads c _ (after S f c).next up lawful (λ h. h)
+      (λ new. plain (record { number = number; fresh = fresh new; given = boxed.0 }) refl)
+  leads_made {S} {f = f} c (Some o) b up lawful number fresh boxed =
+      let Q = after S f c in
+      leads c _ Q.next up lawful
+      (λ all. records_listed Q _ Q.owners all o.key (name_of b) boxed)
+      (λ new. plain (record { number = number; fresh = fresh new; given = boxed.0 }) refl)
+
+  leads_referred : {S : State T} {f : Fresh} (o : Option OwnerName) (b : GenerationalPointer)
+      (to : Option Name) (target : Option (Cell T)) → cell_at S to ≡ target
+      → Leads S (Refer o b) f (refer S o b to target f.first)
+  leads_referred {S} {f} o b (Some m) (Some (Shared c l)) is =
+      let leads = λ (k : Name) (j : Location) (e : Some (Ref m l) ≡ Some (Ref k j)).
+      subst (λ x. is_shared (map.get S.cells x) ≡ true) (target_of m k l j e) (ap is_shared is) in
+      leads_made (Birth (Ref m l)) o _ (omega arith) (refl, (refl, refl, leads), λ new. new) refl
+      (λ new. new) (boxed_here S f.first (Ref m l) refl)
+  leads_referred o b to target is = still (plain tt refl)
+
+  -- ---- borrows
+
+  -- a cell with a content has the one that is filled in
+  pub refilled_content : (c old : Content T) (x : Option (Cell T))
+      → content_of x ≡ Some old → content_of (option_map (refill c) x) ≡ Some c
+  refilled_content c old (Some (Value o l)) h = refl
+  refilled_content c old (Some (Shared o l)) h = refl
+  refilled_content c old x h = absurd (none≢some _ _ refl h)
+
+  filled_content : (S : State T) (m : Name) (c old : Content T)
+      → content_at S m ≡ Some old → content_at (fill S m c) m ≡ Some c
+  filled_content S m c old had = ap content_of (get-changed_name S.cells m (refill c) m
+      ∙ ap (λ b. cond b (option_map (refill c) (map.get S.cells m)) (map.get S.cells m))
+      (name_here m))
+      ∙ refilled_content c old (map.get S.cells m) had
+
+  leads_read : {S : State T} {call : Action T} {f : Fresh} (l : Location) (m : Option Name)
+      (c : Option (Content T)) → content_of (cell_at S m) ≡ c → Leads S call f (read_at S l m c)
+  leads_read {S} l (Some m) (Some (Here v readers)) had =
+      let k : Filling T = Reader v readers l in
+      let known = and_from _ _ (nat_eq_equiv.refl S.number)
+      (ap (λ c. has_reader c S.next) (filled_content S m (new_content S k) (Here v readers) had)
+      ∙ pushed_reads readers (next_borrow S l)) in
+      leads (Fill m k) _ (S.next + 1) (omega arith) (had, refl) (λ h. h)
+      (λ _. plain (record { is = refl; next = refl }, known) refl)
+  leads_read l m c had = still (plain tt refl)
+
+  leads_write : {S : State T} {f : Fresh} (b : GenerationalPointer) (l : Location) (m : Option Name)
+      (c : Option (Content T)) → content_of (cell_at S m) ≡ c
+      → refusal_at m b.created_at (λ n. write_refusal (content_at S n)) ≡ None
+      → Leads S (Write b l) f (write_at S l m c)
+  leads_write {S} b l (Some m) (Some (Here v [])) had free =
+      let known = and_from _ _ (nat_eq_equiv.refl S.number) (ap (λ c. has_writer c S.next)
+      (filled_content S m (Lent (next_borrow S l)) (Here v []) had) ∙ nat_eq_equiv.refl S.next) in
+      leads (Fill m (Writer v l)) _ (S.next + 1) (omega arith) (had, refl) (λ h. h)
+      (λ _. plain (record { is = refl; next = refl }, known) refl)
+  leads_write b l (Some m) (Some (Here v (r ∷ readers))) had free =
+      absurd (none≢some _ _ free (ap write_refusal had))
+  leads_write b l m c had free = still (plain tt refl)
+
+  leads_left : {S : State T} {f : Fresh} (g : Guard) (c : Option (Content T))
+      → content_at S g.cell ≡ c
+      → Leads S (ReleaseReader g) f (Flag true, remove_reader S g.cell g.ticket c)
+  leads_left {S} g (Some (Here v readers)) had =
+      leads (Fill g.cell (Leave v readers g)) _ S.next (omega arith) (had, refl) (λ h. h)
+      (λ _. plain tt refl)
+  leads_left g c had = still (plain tt refl)
+
+  leads_returned : {S : State T} {f : Fresh} (g : Guard) (v : T) (c : Option (Content T))
+      → content_at S g.cell ≡ c → has_writer c g.ticket ≡ true
+      → Leads S (ReleaseWriter g v) f (Done, fill S g.cell (Here v []))
+  leads_returned {S} g v (Some (Lent w)) had known = leads (Fill g.cell (Return w g v)) _
+      S.next (omega arith) (had, (refl, known)) (λ h. h) (λ _. plain tt refl)
+  leads_returned g v c had known = absurd (true≢false (sym known))
+
+  leads_set : {S : State T} {f : Fresh} (b : GenerationalPointer) (v : T) (m : Option Name)
+      (c : Option (Content T)) → content_of (cell_at S m) ≡ c → reach S b ≡ m
+      → Leads S (SetValue b v) f (set_at S b v m c)
+  leads_set {S} b v (Some m) (Some (Here old [])) had is =
+      leads (Fill m (Replace old v)) _ S.next (omega arith) (had, is) (λ h. h) (λ _. plain tt refl)
+  leads_set b v None c had is = still (plain tt refl)
+  leads_set b v m c had is = still (plain tt refl)
+
+  -- ---- references
+
+  leads_pointed : {S : State T} {f : Fresh} (a b : GenerationalPointer) (own : Bool)
+      (cell : Option (Cell T)) (to : Option Name) (target : Option (Cell T))
+      → map.get S.cells (name_of a) ≡ cell → cell_at S to ≡ target
+      → Leads S (Point a b) f (point S a b (cond own cell None) to target)
+  leads_pointed a b false cell to target at_a at_b = still (plain tt refl)
+  leads_pointed a b true None to target at_a at_b = still (plain tt refl)
+  leads_pointed {S} a b true (Some (Ref old l)) (Some new) (Some (Shared c k)) at_a at_b =
+      leads_if (is_name old new) (λ _. still (plain tt refl))
+      (leads_unless (hindrance_at S.cells (sweep (map.insert S.cells (name_of a) (Ref new l))) old)
+      (λ free. leads (Turn (name_of a) old new l) _ S.next (omega arith)
+      (at_a, ap is_shared at_b, free) (λ h. h) (λ _. plain tt refl)))
+  leads_pointed a b true (Some _) to target at_a at_b = still (plain tt refl)
+
+  -- what each call leads to
+  pub act_leads : (S : State T) (call : Action T) (f : Fresh) → Leads S call f (act S call f)
+  unfolding write_trouble
+  act_leads S (Make o v l) f = leads_known (is_known S o)
+      (leads_made (Birth (Value (Here v []) l)) o _ (omega arith)
+      (refl, (refl, refl, λ m k e. absurd cc), λ new. new) refl (λ new. new)
+      (boxed_here S f.first _ refl))
+  act_leads S (MakeShared o v l) f = leads_known (is_known S o)
+      (leads_made (Pair v l) o _ (omega arith) (refl, λ new. new) refl (λ new. new.1)
+      (boxed_here (add_cell S f.first (Shared (Here v []) l)) f.second (Ref f.first l) refl))
+  act_leads S (Refer o b) f = leads_known (is_known S o)
+      (leads_unless (read_trouble S b) (λ _. leads_referred o b (reach S b) _ refl))
+  act_leads S NewOwner f = leads Stay _ (S.next + 1) (omega arith) tt
+      (λ all. records_put S _ S.owners all S.next _ tt (omega arith)) (λ _. plain refl refl)
+  act_leads S (CloneOwner o) f = leads_cloned o (ownership S o) refl
+  act_leads S (ReleaseOwner o) f = leads_released o (ownership S o) refl
+  act_leads S (Read b l) f =
+      leads_unless (read_trouble S b) (λ _. leads_read l (reach S b) _ refl)
+  act_leads S (Write b l) f =
+      leads_unless (write_trouble S b) (λ free. leads_write b l (reach S b) _ refl free)
+  act_leads S (ReleaseReader g) f =
+      leads_if (knows_reader S g) (λ _. leads_left g _ refl) (still (plain tt refl))
+  act_leads S (ReleaseWriter g v) f = leads_if (knows_writer S g)
+      (λ known. leads_returned g v _ refl (and_parts _ _ known).1) (still (plain tt refl))
+  act_leads S (SetValue b v) f = leads_set b v (reach S b) _ refl refl
+  act_leads S (End b) f = leads_unless (hindrance_to S (own_name S b))
+      (λ free. leads (Close (own_name S b)) _ S.next (omega arith) free (λ h. h)
+      (λ _. plain tt refl))
+  act_leads S (Point a b) f =
+      leads_if (has_same_id a b) (λ _. still (plain tt refl))
+      (leads_unless (read_trouble S b) (λ _. leads_pointed a b _ _ (reach S b) _ refl refl))
+  act_leads S _ f = still (plain tt refl)
+
+  -- what each call answers is so
+  pub act_says : (S : State T) (call : Action T) (f : Fresh)
+      → AreFresh S call f → IsSaid S (act S call f)
+  act_says S call f new = (act_leads S call f).said new

@@ -1,0 +1,480 @@
+-- Each call takes nothing back, and leads from a sound state to a sound state.
+use Rattle.std.proofs.Common.{◌≡◌, ◌≢◌, ℕ, ◌≤◌, ◌<◌, Bool, true, false, ◌||◌, List, [], ◌∷◌, ◌++◌}
+use Rattle.std.proofs.Common.{Option, None, Some, refl, sym, ap, subst, ◌∙◌, inl, inr, arith}
+use Rattle.std.proofs.Common.{⊎_elim}
+use Rattle.std.proofs.lemmas.Bool.{true≢false, or_cases, or_right, or_left, eqb-true}
+use Rattle.std.proofs.lemmas.Bool.{false_from_ne_true}
+use Rattle.std.proofs.lemmas.List.Folds.{list_any-append}
+use Rattle.std.proofs.lemmas.Map.Keys.{IsDistinct-push}
+use Rattle.std.specs.Cmp.{nat_eq_equiv}
+use Rattle.std.specs.List.{list_any, filter, IsDistinct, AllByRecursion}
+use Rattle.std.specs.Ordering.{nat_cmp}
+use Rattle.std.specs.Prelude.{is_some, nat_eq, ◌⊎◌, option_map, map as list_map}
+use Rattle.generational_core.specs.Cells.{Content, Cell, content_of, is_shared, refill}
+use Rattle.generational_core.specs.Cells.Cell.{Value, Shared, Ref}
+use Rattle.generational_core.specs.Cells.Content.{Here}
+use Rattle.generational_core.specs.Conditions.{fresh, IsNamed, IsEnded}
+use Rattle.generational_core.specs.Machine.{Action, Fresh, Outcome, add_cell, next_borrow}
+use Rattle.generational_core.specs.Names.{Name, NameMap, name_cmp}
+use Rattle.generational_core.specs.State.{State, Ownership, IsSound, IsGiven, IsBoxed, Stands}
+use Rattle.generational_core.specs.State.{tickets_of, tickets_at, Owners, content_at}
+use Rattle.generational_core.specs.Steps.{AreNew}
+use Rattle.generational_core.specs.declared.borrow.Borrow.{Borrow}
+use Rattle.generational_core.specs.declared.error.Location.{Location}
+use Rattle.std.specs.FinMap as map
+use Rattle.std.specs.FinSet as set
+use Rattle.generational_core.proofs.machine.Changes.{Change, Filling, IsFilling, IsLawful, Leads, after}
+use Rattle.generational_core.proofs.machine.Changes.{AreRecords, old_content, new_content, second_fresh}
+use Rattle.generational_core.proofs.machine.Changes.{refilled_content}
+use Rattle.generational_core.proofs.machine.Changes.Change.{Stay, Birth, Pair, Fill, Close, Turn}
+use Rattle.generational_core.proofs.machine.Changes.Filling.{Reader, Writer, Leave}
+use Rattle.generational_core.proofs.machine.Ends.{HasTargets, IsLinked, none≢some, targets_still, target_of}
+use Rattle.generational_core.proofs.machine.Ends.{by_cond, closed_linked, turned_linked, some_live}
+use Rattle.generational_core.proofs.machine.Ends.{IsBorrowed, closed_view, turned_view}
+use Rattle.generational_core.proofs.maps.Maps.{by_name, name_cases, get-insert_here, get-insert_apart}
+use Rattle.generational_core.proofs.maps.Maps.{changed_view, contains-insert_here, contains-insert_old}
+use Rattle.generational_core.proofs.maps.Maps.{named_gives, named_from}
+
+-- ---- lists of tickets
+
+-- the tickets of borrows
+abbrev tickets : List Borrow → List ℕ
+tickets rs = list_map (λ r. r.ticket) rs
+
+tickets-append : (rs ss : List Borrow) → tickets (rs ++ ss) ≡ tickets rs ++ tickets ss
+tickets-append [] ss = refl
+tickets-append (r ∷ rs) ss = ap (λ ts. r.ticket ∷ ts) (tickets-append rs ss)
+
+-- what passes a filter was there, and stands apart still
+in_filter : (p : Borrow → Bool) (q : ℕ → Bool) (rs : List Borrow)
+    → list_any q (tickets (filter p rs)) ≡ true → list_any q (tickets rs) ≡ true
+in_filter p q [] h = h
+in_filter p q (r ∷ rs) h = by_cond (λ ss. list_any q (tickets ss) ≡ true
+    → (q r.ticket || list_any q (tickets rs)) ≡ true) (p r)
+    (λ _ k. ⊎_elim (λ e. or_left _ _ e) (λ e. or_right _ _ (in_filter p q rs e)) (or_cases _ _ k))
+    (λ _ k. or_right _ _ (in_filter p q rs k)) h
+
+none_after : (p : Borrow → Bool) (t : ℕ) (rs : List Borrow)
+    → AllByRecursion (λ y. nat_eq t y ≡ false) (tickets rs)
+    → AllByRecursion (λ y. nat_eq t y ≡ false) (tickets (filter p rs))
+none_after p t [] h = h
+none_after p t (r ∷ rs) h = by_cond (λ ss. AllByRecursion (λ y. nat_eq t y ≡ false) (tickets ss))
+    (p r) (λ _. (h.0, none_after p t rs h.1)) (λ _. none_after p t rs h.1)
+
+apart_filter : (p : Borrow → Bool) (rs : List Borrow)
+    → IsDistinct nat_eq (tickets rs) → IsDistinct nat_eq (tickets (filter p rs))
+unfolding IsDistinct
+apart_filter p [] h = h
+apart_filter p (r ∷ rs) h = by_cond (λ ss. IsDistinct nat_eq (tickets ss)) (p r)
+    (λ _. (none_after p r.ticket rs h.0, apart_filter p rs h.1)) (λ _. apart_filter p rs h.1)
+
+-- one ticket
+just_one : (t u : ℕ) → (nat_eq t u || false) ≡ true → t ≡ u
+just_one t u h = ⊎_elim (eqb-true t u) (λ e. absurd (true≢false (sym e))) (or_cases _ _ h)
+
+module _ {T : Type 0} where
+  -- ---- what each name keeps
+
+  -- What a name has in S and in R, between which a call lies that fills no content but at one name:
+  -- the same; nothing any more, and then it wasn't borrowed; the first cell of that name, without
+  -- borrows; another content; another target.
+  pub data View (S R : State T) (call : Action T) (spot q : Name) : Type 0 where
+    Same : (same : map.get R.cells q ≡ map.get S.cells q) → View S R call spot q
+    Gone : (gone : map.get R.cells q ≡ None)
+        (free : IsSound S → IsBorrowed (map.get S.cells q) → ⊥) → View S R call spot q
+    Born : (new : set.contains S.given q ≡ false) (given : IsGiven R q)
+        (quiet : tickets_at R.cells q ≡ []) → View S R call spot q
+    Filled : (filling : Filling T) (cell : Cell T) (here : q ≡ spot)
+        (lawful : IsFilling S call R.next q filling) (old : map.get S.cells q ≡ Some cell)
+        (new : map.get R.cells q ≡ Some (refill (new_content S filling) cell))
+        (had : content_of (Some cell) ≡ Some (old_content filling)) → View S R call spot q
+    Turned : (from to : Name) (l : Location) (old : map.get S.cells q ≡ Some (Ref from l))
+        (new : map.get R.cells q ≡ Some (Ref to l)) → View S R call spot q
+
+  -- the name at which a change fills a content
+  abbrev pub place : Fresh → Change T → Name
+  place f (Fill n k) = n
+  place f _ = f.first
+
+  -- a cell at a new name
+  born_here : (S : State T) (n q : Name) (c : Cell T) → q ≡ n
+      → tickets_of (content_of (Some c)) ≡ []
+      → IsGiven (add_cell S n c) q × (tickets_at (add_cell S n c).cells q ≡ [])
+  born_here S n q c is quiet = (
+    subst (λ x. IsGiven (add_cell S n c) x) (sym is) (contains-insert_here by_name S.given n),
+    ap (tickets_at (add_cell S n c).cells) is
+        ∙ (ap (λ x. tickets_of (content_of x)) (get-insert_here by_name S.cells n c) ∙ quiet),
+  )
+
+  -- what each change leaves at each name
+  view : (S : State T) (call : Action T) (f : Fresh) (c : Change T) (owners : Owners) (next : ℕ)
+      → AreNew S call f → IsLawful S call f next c → (q : Name)
+      → View S (record (after S f c) { owners = owners; next = next }) call (place f c) q
+  view S call f Stay owners next new law q = Same refl
+  view S call f (Birth c) owners next new law q =
+      let fresh = (law.2 new).fresh in
+      ⊎_elim (λ is. let born = born_here S f.first q c is law.1.1 in
+      Born (ap (set.contains S.given) is ∙ fresh) born.0 born.1)
+      (λ ne. Same (get-insert_apart by_name S.cells f.first c q ne)) (name_cases q f.first)
+  view S call f (Pair v l) owners next new law q =
+      let one = add_cell S f.first (Shared (Here v []) l) in
+      let names = law.1 new in
+      let second = second_fresh S.given f.first f.second names.1.fresh in
+      let other = get-insert_apart by_name one.cells f.second (Ref f.first l) q in
+      ⊎_elim (λ is. let born = born_here one f.second q (Ref f.first l) is refl in
+      Born (ap (set.contains S.given) is ∙ second.0) born.0 born.1)
+      (λ no. ⊎_elim (λ is. let born = born_here S f.first q (Shared (Here v []) l) is refl in
+      Born (ap (set.contains S.given) is ∙ names.0.fresh)
+      (contains-insert_old by_name one.given f.second q born.0)
+      (ap (λ x. tickets_of (content_of x)) (other no) ∙ born.1))
+      (λ ne. Same (other no ∙ get-insert_apart by_name S.cells f.first (Shared (Here v []) l) q ne))
+      (name_cases q f.first))
+      (name_cases q f.second)
+  view S call f (Fill n k) owners next new law q =
+      ⊎_elim Same
+      (λ e. Filled k e.1 e.0 (subst (λ x. IsFilling S call next x k) (sym e.0) law.1) e.2 e.3
+      (sym (ap content_of e.2) ∙ (ap (content_at S) e.0 ∙ law.0)))
+      (changed_view by_name S.cells n (refill (new_content S k)) q)
+  view S call f (Close names) owners next new law q =
+      ⊎_elim Same (λ e. Gone e.0 e.1) (closed_view S names law q)
+  view S call f (Turn a old to l) owners next new law q =
+      ⊎_elim Same (⊎_elim (λ e. Turned old to l e.0 e.1) (λ e. Gone e.0 e.1))
+      (turned_view S a old to l law.0 law.2 q)
+
+  -- no change takes a name back
+  given_still : (S : State T) (f : Fresh) (c : Change T) (q : Name)
+      → IsGiven S q → IsGiven (after S f c) q
+  given_still S f (Birth c) q h = contains-insert_old by_name S.given f.first q h
+  given_still S f (Pair v l) q h =
+      contains-insert_old by_name _ f.second q (contains-insert_old by_name S.given f.first q h)
+  given_still S f _ q h = h
+
+  -- nor another store's number, or a slot's first generation
+  pub same_store : (S : State T) (f : Fresh) (c : Change T)
+      → ((after S f c).number ≡ S.number) × ((after S f c).start ≡ S.start)
+  same_store S f (Birth c) = (refl, refl)
+  same_store S f _ = (refl, refl)
+
+  -- R comes after S by a call: nothing is taken back
+  pub record Follows (S : State T) (call : Action T) (R : State T) : Type 0 where
+    pub number : R.number ≡ S.number
+    pub start : R.start ≡ S.start
+    pub next : S.next ≤ R.next
+    pub given : (q : Name) → IsGiven S q → IsGiven R q
+    pub spot : Name
+    pub view : (q : Name) → View S R call spot q
+
+  pub follows_same : (S : State T) (call : Action T) (n : Name) → Follows S call S
+  follows_same S call n = record {
+    number = refl;
+    start = refl;
+    next = omega arith;
+    given = λ q h. h;
+    spot = n;
+    view = λ q. Same refl;
+  }
+
+  -- what a call leads to comes after it
+  abbrev pub last : {S : State T} {call : Action T} {f : Fresh} {out : Outcome T}
+      → Leads S call f out → State T
+  last {S} {f = f} h = record (after S f h.change) { owners = h.owners; next = h.next }
+
+  pub change_follows : {S : State T} {call : Action T} {f : Fresh} {out : Outcome T}
+      → AreNew S call f → (h : Leads S call f out) → Follows S call (last h)
+  change_follows {S} {call} {f} new h = record {
+    number = (same_store S f h.change).0;
+    start = (same_store S f h.change).1;
+    next = h.up;
+    given = given_still S f h.change;
+    spot = place f h.change;
+    view = view S call f h.change h.owners h.next new h.lawful;
+  }
+
+  pub leads_follows : {S : State T} {call : Action T} {f : Fresh} {out : Outcome T}
+      → AreNew S call f → Leads S call f out → Follows S call out.1
+  leads_follows {S} {call} new h = subst (Follows S call) (sym h.is) (change_follows new h)
+
+  -- what holds of what a name had and has, shown for each way in which that may change
+  pub keep_each : {S R : State T} {call : Action T} (h : Follows S call R) (q : Name)
+      (P : Option (Cell T) → Option (Cell T) → Type 0) → ((x : Option (Cell T)) → P x x)
+      → ((IsSound S → IsBorrowed (map.get S.cells q) → ⊥) → P (map.get S.cells q) None)
+      → (set.contains S.given q ≡ false → IsGiven R q → tickets_at R.cells q ≡ []
+      → P (map.get S.cells q) (map.get R.cells q))
+      → ((k : Filling T) (c : Cell T) → q ≡ h.spot → IsFilling S call R.next q k
+      → content_of (Some c) ≡ Some (old_content k)
+      → content_of (Some (refill (new_content S k) c)) ≡ Some (new_content S k)
+      → P (Some c) (Some (refill (new_content S k) c)))
+      → ((m n : Name) (l : Location) → P (Some (Ref m l)) (Some (Ref n l)))
+      → P (map.get S.cells q) (map.get R.cells q)
+  keep_each {S} {R} {call} h q P same gone born filled turned = at (h.view q)
+    where
+      both : {x y : Option (Cell T)} → map.get S.cells q ≡ x → map.get R.cells q ≡ y
+          → P x y → P (map.get S.cells q) (map.get R.cells q)
+      both {x} {y} e f r = subst (λ c. P c (map.get R.cells q)) (sym e) (subst (P x) (sym f) r)
+
+      at : View S R call h.spot q → P (map.get S.cells q) (map.get R.cells q)
+      at (Same e) = both refl e (same (map.get S.cells q))
+      at (Gone e free) = both refl e (gone free)
+      at (Born new given quiet) = born new given quiet
+      at (Filled k c here lawful old new had) =
+          both old new (filled k c here lawful had (refilled_content _ _ (Some c) had))
+      at (Turned m n l old new) = both old new (turned m n l)
+
+  -- what is live was live, or is new
+  pub live_before : {S R : State T} {call : Action T} (h : Follows S call R) (q : Name)
+      → is_some (map.get R.cells q) ≡ true → (is_some (map.get S.cells q) ≡ true)
+      ⊎ ((set.contains S.given q ≡ false) × IsGiven R q)
+  live_before {S} {R} h q = keep_each h q (λ x y. is_some y ≡ true
+      → (is_some x ≡ true) ⊎ ((set.contains S.given q ≡ false) × IsGiven R q))
+      (λ x live. inl live) (λ free live. absurd (true≢false (sym live)))
+      (λ new given quiet live. inr (new, given)) (λ k c here law had has live. inl refl)
+      (λ m n l live. inl refl)
+
+  -- an ended name has no cell again
+  pub ended_still : {S R : State T} {call : Action T} (h : Follows S call R) (q : Name)
+      → IsEnded S q → map.get R.cells q ≡ None
+  ended_still h q ended = keep_each h q (λ x y. x ≡ None → y ≡ None) (λ x e. e) (λ free e. refl)
+      (λ new given quiet e. absurd (true≢false (sym ended.0 ∙ new)))
+      (λ k c here law had has e. absurd (none≢some _ _ e refl))
+      (λ m n l e. absurd (none≢some _ _ e refl)) ended.1
+
+  -- ---- tickets
+
+  -- The tickets of one content stand apart if those of another did, which were below the next; and
+  -- each of them stood before, or is a next one at one name alone.
+  abbrev Renews : State T → ℕ → Name → Name → Option (Content T) → Option (Content T) → Type 0
+  Renews S next spot q x y = IsDistinct nat_eq (tickets_of x)
+      → ((t : ℕ) → list_any (nat_eq t) (tickets_of x) ≡ true → t < S.next)
+      → IsDistinct nat_eq (tickets_of y) × ((t : ℕ) → list_any (nat_eq t) (tickets_of y) ≡ true
+      → (list_any (nat_eq t) (tickets_of x) ≡ true) ⊎ ((q ≡ spot) × (S.next ≤ t) × (t < next)))
+
+  renewed : (S : State T) (call : Action T) (next : ℕ) (spot q : Name) (k : Filling T) → q ≡ spot
+      → IsFilling S call next q k
+      → Renews S next spot q (Some (old_content k)) (Some (new_content S k))
+  unfolding IsDistinct
+  renewed S call next spot q (Reader v rs l) here law d low =
+      let more = tickets-append rs (next_borrow S l ∷ []) in (
+        subst (IsDistinct nat_eq) (sym more) (IsDistinct-push nat_eq_equiv (tickets rs) S.next d
+            (false_from_ne_true _ (λ h. let lt = low S.next h in omega arith))),
+        λ t h. ⊎_elim inl
+            (λ e. let is = just_one t S.next e in inr (here, omega arith, omega arith))
+            (or_cases _ _ (sym (list_any-append (nat_eq t) (tickets rs) (S.next ∷ []))
+            ∙ (sym (ap (list_any (nat_eq t)) more) ∙ h))),
+      )
+  renewed S call next spot q (Writer v l) here law d low =
+      ((tt, tt), λ t h. let is = just_one t S.next h in inr (here, omega arith, omega arith))
+  renewed S call next spot q (Leave v rs g) here law d low =
+      (apart_filter _ rs d, λ t h. inl (in_filter _ (nat_eq t) rs h))
+  renewed S call next spot q _ here law d low = (tt, λ t h. absurd (true≢false (sym h)))
+
+  -- ---- what Refs name
+
+  -- nothing stands at a name that was never given, also beside another new one
+  pub absent : (S : State T) → IsSound S → (n : Name)
+      → set.contains S.given n ≡ false → map.get S.cells n ≡ None
+  absent S s n new = at (map.get S.cells n) refl
+    where
+      at : (o : Option (Cell T)) → map.get S.cells n ≡ o → o ≡ None
+      at None e = refl
+      at (Some c) e = absurd (true≢false (sym (s.given n (ap is_some e)) ∙ new))
+
+  pub absent_beside : (S : State T) → IsSound S → (m n : Name) (c : Cell T)
+      → set.contains (add_cell S m c).given n ≡ false → map.get (add_cell S m c).cells n ≡ None
+  absent_beside S s m n c new =
+      let apart = second_fresh S.given m n new in
+      get-insert_apart by_name S.cells m c n (λ is. apart.1 (sym is)) ∙ absent S s n apart.0
+
+  -- a cell where none was
+  module _ (cells : NameMap (Cell T)) (n : Name) (c : Cell T) (none : map.get cells n ≡ None) where
+    kept : (q : Name) (x : Cell T) → map.get cells q ≡ Some x
+        → map.get (map.insert cells n c) q ≡ Some x
+    kept q x h = get-insert_apart by_name cells n c q
+        (λ is. none≢some _ _ none (ap (map.get cells) (sym is) ∙ h)) ∙ h
+
+    shared_kept : (q : Name) → is_shared (map.get cells q) ≡ true
+        → is_shared (map.get (map.insert cells n c) q) ≡ true
+    shared_kept q h = ap is_shared (get-insert_apart by_name cells n c q
+        (λ is. true≢false (sym h ∙ ap is_shared (ap (map.get cells) is ∙ none)))) ∙ h
+
+    targets_born : HasTargets cells
+        → ((m : Name) (l : Location) → Some c ≡ Some (Ref m l) → is_shared (map.get cells m) ≡ true)
+        → HasTargets (map.insert cells n c)
+    targets_born t leads = targets_still cells (map.insert cells n c) t shared_kept
+        (λ q m l h. ⊎_elim
+        (λ is. inr (shared_kept m (leads m l (sym (get-insert_here by_name cells n c)
+        ∙ (ap (map.get (map.insert cells n c)) (sym is) ∙ h)))))
+        (λ ne. inl (sym (get-insert_apart by_name cells n c q ne) ∙ h)) (name_cases q n))
+
+    named_apart : (m : Name) → m ≢ n → (is_shared (map.get cells m) ≡ true → IsNamed cells m)
+        → is_shared (map.get (map.insert cells n c) m) ≡ true → IsNamed (map.insert cells n c) m
+    named_apart m ne named h =
+        let it = named (sym (ap is_shared (get-insert_apart by_name cells n c m ne)) ∙ h) in
+        (it.0, it.1, kept it.0 _ it.2)
+
+    named_plain : is_shared (Some c) ≡ false → (m : Name)
+        → (is_shared (map.get cells m) ≡ true → IsNamed cells m)
+        → is_shared (map.get (map.insert cells n c) m) ≡ true → IsNamed (map.insert cells n c) m
+    named_plain plain m named h = ⊎_elim
+        (λ is. absurd (true≢false (sym h
+        ∙ (ap (λ x. is_shared (map.get (map.insert cells n c) x)) is
+        ∙ (ap is_shared (get-insert_here by_name cells n c) ∙ plain)))))
+        (λ ne. named_apart m ne named h) (name_cases m n)
+
+  -- another content leaves Refs and Shared cells
+  refilled_shared : (c : Content T) (x : Cell T)
+      → is_shared (Some (refill c x)) ≡ is_shared (Some x)
+  refilled_shared c (Value old l) = refl
+  refilled_shared c _ = refl
+
+  refilled_ref : (c : Content T) (x : Cell T) (m : Name) (l : Location)
+      → Some (refill c x) ≡ Some (Ref m l) → Some x ≡ Some (Ref m l)
+  refilled_ref c (Ref n k) m l h = h
+  refilled_ref c _ m l h = absurd cc
+
+  -- after each change Refs name Shared cells, and Shared cells are named
+  linked : (S : State T) (call : Action T) (f : Fresh) (next : ℕ) (c : Change T)
+      → IsSound S → AreNew S call f → IsLawful S call f next c → IsLinked (after S f c).cells
+  linked S call f next Stay s new law =
+      record { targets = s.targets; named = λ m h. named_gives S.cells m (s.shared m h) }
+  linked S call f next (Birth c) s new law =
+      let none = absent S s f.first (law.2 new).fresh in
+      record {
+        targets = targets_born S.cells f.first c none s.targets law.1.2;
+        named = λ m. named_plain S.cells f.first c none law.1.0 m
+            (λ k. named_gives S.cells m (s.shared m k));
+      }
+  linked S call f next (Pair v l) s new law =
+      let c : Cell T = Shared (Here v []) l in
+      let one = map.insert S.cells f.first c in
+      let d : Cell T = Ref f.first l in
+      let names = law.1 new in
+      let none = absent S s f.first names.0.fresh in
+      let none_two = absent_beside S s f.first f.second c names.1.fresh in
+      let here = get-insert_here by_name S.cells f.first c in
+      record {
+        targets = targets_born one f.second d none_two
+            (targets_born S.cells f.first c none s.targets (λ m k e. absurd cc))
+            (λ m k e. subst (λ x. is_shared (map.get one x) ≡ true)
+            (target_of f.first m l k e) (ap is_shared here));
+        named = λ m h. ⊎_elim
+            (λ is. (
+              f.second,
+              l,
+              subst (λ x. map.get (map.insert one f.second d) f.second
+                  ≡ Some (Ref x l)) (sym is) (get-insert_here by_name one f.second d),
+            ))
+            (λ ne. named_plain one f.second d none_two refl m
+            (named_apart S.cells f.first c none m ne
+            (λ k. named_gives S.cells m (s.shared m k))) h) (name_cases m f.first);
+      }
+  linked S call f next (Fill n k) s new law =
+      let c = new_content S k in
+      let at = changed_view by_name S.cells n (refill c) in
+      let shared = λ (q : Name). ⊎_elim (λ e. ap is_shared e)
+      (λ e. ap is_shared e.3 ∙ (refilled_shared c e.1 ∙ sym (ap is_shared e.2))) (at q) in
+      record {
+        targets = targets_still S.cells _ s.targets (λ m h. shared m ∙ h) (λ q m l h. inl (⊎_elim
+            (λ e. sym e ∙ h) (λ e. e.2 ∙ refilled_ref c e.1 m l (sym e.3 ∙ h)) (at q)));
+        named = λ m h.
+            let it = named_gives S.cells m (s.shared m (sym (shared m) ∙ h)) in (
+              it.0,
+              it.1,
+              ⊎_elim (λ e. e ∙ it.2) (λ e. e.3
+                  ∙ ap (λ x. option_map (refill c) x) (sym e.2 ∙ it.2)) (at it.0),
+            );
+      }
+  linked S call f next (Close names) s new law = closed_linked S.cells names s.targets
+  linked S call f next (Turn a old to l) s new law =
+      turned_linked S.cells a old to l s.targets law.0 law.1
+
+  -- ---- soundness
+
+  module _ {S R : State T} {call : Action T} (s : IsSound S) (h : Follows S call R) where
+    shared_still : (q : Name)
+        → IsGiven S q → is_shared (map.get S.cells q) ≡ false
+        → is_shared (map.get R.cells q) ≡ false
+    shared_still q given = keep_each h q (λ x y. is_shared x ≡ false → is_shared y ≡ false)
+        (λ x e. e) (λ free e. refl) (λ new is quiet e. absurd (true≢false (sym given ∙ new)))
+        (λ k c here law had has e. refilled_shared _ c ∙ e) (λ m n l e. refl)
+
+    each_boxed : (names : List Name)
+        → AllByRecursion (IsBoxed S) names → AllByRecursion (IsBoxed R) names
+    each_boxed [] all = tt
+    each_boxed (n ∷ names) all =
+        ((h.given n all.0.0, shared_still n all.0.0 all.0.1), each_boxed names all.1)
+
+    -- tickets stand apart, and each stood before, or is new
+    tickets_still : (q : Name) → IsDistinct nat_eq (tickets_at R.cells q) × ((t : ℕ)
+        → Stands R.cells q t → Stands S.cells q t ⊎ ((q ≡ h.spot) × (S.next ≤ t) × (t < R.next)))
+    unfolding IsDistinct
+    tickets_still q =
+        let P = Renews S R.next h.spot q in
+        keep_each h q (λ x y. P (content_of x) (content_of y)) (λ x d low. (d, λ t e. inl e))
+        (λ free d low. (tt, λ t e. absurd (true≢false (sym e))))
+        (λ new given quiet d low. (
+          subst (IsDistinct nat_eq) (sym quiet) tt,
+          λ t e. absurd (true≢false (sym e ∙ ap (list_any (nat_eq t)) quiet)),
+        ))
+        (λ k c here law had has. subst (λ x. P x (content_of (Some (refill (new_content S k) c))))
+        (sym had) (subst (P (Some (old_content k))) (sym has)
+        (renewed S call R.next h.spot q k here law)))
+        (λ m n l d low. (tt, λ t e. absurd (true≢false (sym e)))) (s.apart q) (s.below q)
+
+    follows_sound : IsLinked R.cells → AreRecords R R.next R.owners → IsSound R
+    follows_sound links records = record {
+      given = λ n live. ⊎_elim (λ e. h.given n (s.given n e)) (λ e. e.1) (live_before h n live);
+      owned = λ k x is. (records k x is).0;
+      targets = links.targets;
+      shared = λ m e. named_from R.cells m (links.named m e);
+      below = λ n t e. ⊎_elim (λ e. let b = s.below n t e in let up = h.next in omega arith)
+          (λ e. e.2) ((tickets_still n).1 t e);
+      apart = λ n. (tickets_still n).0;
+      one_cell = λ n m t a b. ⊎_elim
+          (λ e. ⊎_elim (λ k. s.one_cell n m t e k)
+          (λ k. let low = s.below n t e in let high = k.1 in absurd (omega arith))
+          ((tickets_still m).1 t b))
+          (λ e. ⊎_elim (λ k. let low = s.below m t k in let high = e.1 in absurd (omega arith))
+          (λ k. e.0 ∙ sym k.0) ((tickets_still m).1 t b)) ((tickets_still n).1 t a);
+      keys = λ k live. let x = some_live _ live in (records k x.0 x.1).1;
+    }
+
+  same_owners : (S : State T) (f : Fresh) (c : Change T) → (after S f c).owners ≡ S.owners
+  same_owners S f (Birth c) = refl
+  same_owners S f _ = refl
+
+  -- each call, with new names, leads from a sound state to a sound state
+  pub leads_sound : {S : State T} {call : Action T} {f : Fresh} {out : Outcome T}
+      → IsSound S → AreNew S call f → Leads S call f out → IsSound out.1
+  leads_sound {S} {call} {f} s new h =
+      let follows = change_follows new h in
+      subst IsSound (sym h.is) (follows_sound s follows
+      (linked S call f h.next h.change s new h.lawful)
+      (h.recorded (λ k x is.
+      let there = sym (ap (λ o. map.get o k) (same_owners S f h.change)) ∙ is in
+      let low = s.keys k (ap is_some there) in let up = h.up in
+      (each_boxed s follows x.names (s.owned k x there), omega arith))))
+
+  -- ---- facts of sound states
+
+  -- a state in which nothing was made is sound
+  pub fresh_sound : (number start next : ℕ) → IsSound (fresh {T = T} number start next)
+  unfolding IsDistinct
+  fresh_sound number start next =
+      let none = map.get-empty {X = Cell T} name_cmp in
+      let quiet = λ (n : Name). ap (λ c. tickets_of (content_of c)) (none n) in
+      let unknown = map.get-empty {X = Ownership} nat_cmp in
+      record {
+        given = λ n live. absurd (true≢false (sym live ∙ ap is_some (none n)));
+        owned = λ k h is. absurd (none≢some _ h (unknown k) is);
+        targets = λ n m l is. absurd (none≢some _ _ (none n) is);
+        shared = λ m h. absurd (true≢false (sym h ∙ ap is_shared (none m)));
+        below = λ n t h. absurd (true≢false (sym h ∙ ap (list_any (nat_eq t)) (quiet n)));
+        apart = λ n. subst (IsDistinct nat_eq) (sym (quiet n)) tt;
+        one_cell = λ n m t h k. absurd (true≢false (sym h ∙ ap (list_any (nat_eq t)) (quiet n)));
+        keys = λ k live. absurd (true≢false (sym live ∙ ap is_some (unknown k)));
+      }
+
+  -- a Shared cell is live exactly while a live Ref names it
+  pub named_shared : (S : State T)
+      → IsSound S → (m : Name) → IsNamed S.cells m → is_shared (map.get S.cells m) ≡ true
+  named_shared S s m h = s.targets h.0 m h.1 h.2

@@ -1,0 +1,328 @@
+-- What holds of each call of a store, whichever names it takes and whatever memory lacks.
+use Rattle.std.specs.FinMap as map
+use Rattle.std.specs.FinSet as set
+use Rattle.std.proofs.Common.{◌≡◌, ℕ, ◌+◌, ◌≤◌, Bool, true, false, cond, not, List, [], ◌∷◌, Option}
+use Rattle.std.proofs.Common.{None, Some, refl, sym, ap, subst, ◌∙◌, inl, inr, ⊎_elim}
+use Rattle.std.proofs.lemmas.Bool.{true≢false, or_cases, or_right, or_left, and_parts, and_from}
+use Rattle.std.proofs.lemmas.Bool.{eqb-true, not-false}
+use Rattle.std.proofs.lemmas.List.Folds.{list_any-append}
+use Rattle.std.specs.List.{list_any}
+use Rattle.std.specs.Prelude.{is_some, nat_eq, ◌&&◌, ◌⊎◌}
+use Rattle.generational_core.specs.Answers.{value_of, value_at}
+use Rattle.generational_core.specs.Borrowing.{Trouble, Guard, read_trouble, write_trouble, reach}
+use Rattle.generational_core.specs.Borrowing.{write_refusal, leads_to}
+use Rattle.generational_core.specs.Borrowing.Trouble.{Dropped}
+use Rattle.generational_core.specs.Boxes.{name_of}
+use Rattle.generational_core.specs.Cells.{Content, Cell, content_of, location_of, refill}
+use Rattle.generational_core.specs.Cells.Cell.{Value, Shared}
+use Rattle.generational_core.specs.Cells.Content.{Here, Lent}
+use Rattle.generational_core.specs.Conditions.{IsEnded}
+use Rattle.generational_core.specs.Keeping.{location_at, Sets}
+use Rattle.generational_core.specs.Machine.{Action, Answer, Fresh, Outcome, OwnerName, act, unless}
+use Rattle.generational_core.specs.Machine.{refer, cell_at, is_known, knows_reader, knows_writer}
+use Rattle.generational_core.specs.Machine.{has_reader, has_writer}
+use Rattle.generational_core.specs.Machine.Action.{Make, MakeShared, Refer, ReleaseReader}
+use Rattle.generational_core.specs.Machine.Action.{ReleaseWriter}
+use Rattle.generational_core.specs.Machine.Answer.{Made, Reads, Writes, Troubled, Refused}
+use Rattle.generational_core.specs.Names.{Name}
+use Rattle.generational_core.specs.State.{State, IsSound, IsGiven, content_at}
+use Rattle.generational_core.specs.Steps.{AreNew, Takes, Meets, takes_ticket, last_ticket, no_names}
+use Rattle.generational_core.specs.declared.borrow.Borrow.{Borrow}
+use Rattle.generational_core.specs.declared.boxes.GenerationalPointer.{GenerationalPointer}
+use Rattle.generational_core.specs.declared.error.StoreError.TheVariants.{NumbersExhausted}
+use Rattle.generational_core.proofs.machine.Changes.{new_fresh, act_leads, is_making, IsLawful, Change}
+use Rattle.generational_core.proofs.machine.Changes.{after, Filling, IsFilling, Says, act_says, unread}
+use Rattle.generational_core.proofs.machine.Changes.{old_content, new_content}
+use Rattle.generational_core.proofs.machine.Changes.Change.{Birth, Pair}
+use Rattle.generational_core.proofs.machine.Changes.Filling.{Reader, Writer, Leave, Return, Replace}
+use Rattle.generational_core.proofs.machine.Ends.{by_cond, borrowed_live}
+use Rattle.generational_core.proofs.machine.Soundness.{keep_each, leads_sound, Follows, follows_same}
+use Rattle.generational_core.proofs.machine.Soundness.{leads_follows, ended_still, same_store}
+
+-- a reader stays when another ticket goes
+unread_stays : (u t : ℕ) (readers : List Borrow)
+    → nat_eq u t ≡ false → list_any (λ r. nat_eq r.ticket t) readers ≡ true
+    → list_any (λ r. nat_eq r.ticket t) (unread u readers) ≡ true
+unread_stays u t [] other h = h
+unread_stays u t (r ∷ readers) other h = by_cond
+    (λ rs. list_any (λ r. nat_eq r.ticket t) rs ≡ true) (not (nat_eq r.ticket u))
+    (λ e. ⊎_elim (λ k. or_left _ _ k) (λ k. or_right _ _ (unread_stays u t readers other k))
+    (or_cases _ _ h))
+    (λ e. ⊎_elim (λ k. absurd (true≢false (sym k ∙ (ap (λ x. nat_eq x t)
+    (eqb-true r.ticket u (not-false _ e)) ∙ other)))) (λ k. unread_stays u t readers other k)
+    (or_cases _ _ h))
+
+module _ {T : Type 0} where
+  -- ---- the first generation of slots, and names, whichever names a call takes
+
+  -- an outcome with the same first generation, and where it isn't that of a making, the same names
+  pub record Begins (making : Bool) (S : State T) (out : Outcome T) : Type 0 where
+    pub start : out.1.start ≡ S.start
+    pub given : making ≡ false → out.1.given ≡ S.given
+
+  same_given : (S : State T) (call : Action T) (f : Fresh) (next : ℕ) (c : Change T)
+      → IsLawful S call f next c → is_making call ≡ false → (after S f c).given ≡ S.given
+  same_given S call f next (Birth c) law other = absurd (true≢false (sym law.0 ∙ other))
+  same_given S call f next (Pair v l) law other = absurd (true≢false (sym law.0 ∙ other))
+  same_given S call f next _ law other = refl
+
+  -- each call leaves the first generation, and none but a making gives names
+  pub act_start : (S : State T) (call : Action T) (f : Fresh)
+      → Begins (is_making call) S (act S call f)
+  act_start S call f =
+      let h = act_leads S call f in
+      record {
+        start = ap (λ (R : State T). R.start) h.is ∙ (same_store S f h.change).1;
+        given = λ other. ap (λ (R : State T). R.given) h.is
+            ∙ same_given S call f h.next h.change h.lawful other;
+      }
+
+  -- ---- the two cases of a call
+
+  -- whether an answer refuses a call
+  abbrev pub is_refusal : Answer T → Bool
+  is_refusal (Troubled t) = true
+  is_refusal (Refused e) = true
+  is_refusal _ = false
+
+  -- a call is refused, and changes nothing
+  abbrev pub IsRefused : State T → Answer T → State T → Type 0
+  IsRefused S answer R = (is_refusal answer ≡ true) × (R ≡ S)
+
+  -- a call is a step of the machine that takes new names
+  abbrev pub Acts : State T → Action T → Answer T → State T → Type 0
+  Acts S call answer R = (new : Fresh) × AreNew S call new × ((answer, R) ≡ act S call new)
+
+  -- an outcome takes new names, or is a refusal
+  abbrev TakesNew : State T → Action T → Fresh → Outcome T → Type 0
+  TakesNew S call f out = Takes S call out.0 f → AreNew S call f ⊎ IsRefused S out.0 out.1
+
+  takes_referred : (S : State T) (call : Action T) (f : Fresh) (t : Option Trouble)
+      (o : Option OwnerName) (b : GenerationalPointer) (to : Option Name) (target : Option (Cell T))
+      → TakesNew S call f (unless t S (refer S o b to target f.first))
+  takes_referred S call f None o b (Some m) (Some (Shared c l)) = inl
+  takes_referred S call f t o b to target = λ _. inr (refl, refl)
+
+  -- a call takes new names, or is refused
+  pub takes_new : (S : State T) (call : Action T) (f : Fresh) → Takes S call (act S call f).0 f
+      → AreNew S call f ⊎ IsRefused S (act S call f).0 (act S call f).1
+  takes_new S (Make o v l) f =
+      by_cond (TakesNew S (Make o v l) f) (is_known S o) (λ _. inl) (λ _ _. inr (refl, refl))
+  takes_new S (MakeShared o v l) f =
+      by_cond (TakesNew S (MakeShared o v l) f) (is_known S o) (λ _. inl) (λ _ _. inr (refl, refl))
+  takes_new S (Refer o b) f = by_cond (TakesNew S (Refer o b) f) (is_known S o)
+      (λ _. takes_referred S (Refer o b) f (read_trouble S b) o b (reach S b)
+      (cell_at S (reach S b)))
+      (λ _ _. inr (refl, refl))
+  takes_new S _ f = λ _. inl tt
+
+  -- a call is refused and changes nothing, or takes new names and does what the machine does
+  pub meets_cases : (S R : State T) (call : Action T) (answer : Answer T)
+      → Meets S call answer R → IsRefused S answer R ⊎ Acts S call answer R
+  meets_cases S R call answer (inl m) =
+      at (takes_ticket (act S call m.0).0 && nat_eq S.next last_ticket) m.2
+    where
+      at : (b : Bool) → (answer, R) ≡ cond b (Refused NumbersExhausted, S) (act S call m.0)
+          → IsRefused S answer R ⊎ Acts S call answer R
+      at true e = inl (ap (λ (o : Outcome T). is_refusal o.0) e, ap (λ (o : Outcome T). o.1) e)
+      at false e = ⊎_elim (λ new. inr (m.0, new, e))
+          (λ same. inl (subst (λ (o : Outcome T). IsRefused S o.0 o.1) (sym e) same))
+          (takes_new S call m.0 (subst (λ (o : Outcome T). Takes S call o.0 m.0) e m.1))
+  meets_cases S R call answer (inr m) = inl (ap is_refusal m.1, m.2)
+
+  -- a box of an ended name reaches nothing, so it is answered that its value is gone
+  ended_reach : (S : State T) (b : GenerationalPointer) → IsEnded S (name_of b) → reach S b ≡ None
+  unfolding reach
+  ended_reach S b e = by_cond (λ to. to ≡ None) (nat_eq b.id.store S.number)
+      (λ _. ap (λ c. leads_to c (name_of b)) e.1) (λ _. refl)
+
+  pub ended_read : (S : State T) (b : GenerationalPointer)
+      → IsEnded S (name_of b) → read_trouble S b ≡ Some (Dropped b.created_at)
+  unfolding read_trouble
+  ended_read S b e = rw (ended_reach S b e) refl
+
+  pub ended_write : (S : State T) (b : GenerationalPointer)
+      → IsEnded S (name_of b) → write_trouble S b ≡ Some (Dropped b.created_at)
+  unfolding write_trouble
+  ended_write S b e = rw (ended_reach S b e) refl
+
+  says_refused : (S R : State T) (answer : Answer T) → is_refusal answer ≡ true → Says S answer R
+  says_refused S R (Troubled t) h = tt
+  says_refused S R (Refused e) h = tt
+  says_refused S R _ h = absurd (true≢false (sym h))
+
+  -- whether a call gives back the reader, or the writer, with a ticket
+  abbrev pub ends_reader : Action T → ℕ → Bool
+  ends_reader (ReleaseReader g) t = nat_eq g.ticket t
+  ends_reader _ t = false
+
+  abbrev pub ends_writer : Action T → ℕ → Bool
+  ends_writer (ReleaseWriter g v) t = nat_eq g.ticket t
+  ends_writer _ t = false
+
+  -- ---- soundness, and what nothing takes back
+
+  module _ (S R : State T) (call : Action T) (answer : Answer T) where
+    -- each call of a sound store leaves it sound
+    pub meets_sound : IsSound S → Meets S call answer R → IsSound R
+    meets_sound s m =
+        ⊎_elim (λ e. subst IsSound (sym e.1) s)
+        (λ e. subst (λ (o : Outcome T). IsSound o.1) (sym e.2)
+        (leads_sound s e.1 (act_leads S call e.0))) (meets_cases S R call answer m)
+
+    -- nothing is taken back
+    pub meets_follows : Meets S call answer R → Follows S call R
+    meets_follows m =
+        ⊎_elim (λ e. subst (Follows S call) (sym e.1) (follows_same S call no_names.first))
+        (λ e. subst (λ (o : Outcome T). Follows S call o.1) (sym e.2)
+        (leads_follows e.1 (act_leads S call e.0))) (meets_cases S R call answer m)
+
+    pub meets_number : Meets S call answer R → R.number ≡ S.number
+    meets_number m = (meets_follows m).number
+
+    pub meets_start : Meets S call answer R → R.start ≡ S.start
+    meets_start m = (meets_follows m).start
+
+    pub meets_next : Meets S call answer R → S.next ≤ R.next
+    meets_next m = (meets_follows m).next
+
+    pub meets_given : Meets S call answer R → (n : Name) → IsGiven S n → IsGiven R n
+    meets_given m = (meets_follows m).given
+
+    pub meets_ended : Meets S call answer R → (n : Name) → IsEnded S n → IsEnded R n
+    meets_ended m n e = let f = meets_follows m in (f.given n e.0, ended_still f n e)
+
+    -- what an answer says is so
+    pub meets_says : Meets S call answer R → Says S answer R
+    meets_says m =
+        ⊎_elim (λ e. says_refused S R answer e.0) (λ e. subst (λ (o : Outcome T). Says S o.0 o.1)
+        (sym e.2) (act_says S call e.0 (new_fresh S call e.0 e.1)).so)
+        (meets_cases S R call answer m)
+
+    -- ---- values that stay
+
+    -- a live cell was always made where it was made
+    pub meets_location : (m : Name) → IsSound S → Meets S call answer R
+        → is_some (map.get S.cells m) ≡ true → is_some (map.get R.cells m) ≡ true
+        → location_at R m ≡ location_at S m
+    meets_location m s meets before =
+        keep_each (meets_follows meets) m
+        (λ x y. is_some y ≡ true → location_of y ≡ location_of x) (λ x e. refl)
+        (λ free e. absurd (true≢false (sym e)))
+        (λ new given quiet e. absurd (true≢false (sym (s.given m before) ∙ new)))
+        (λ k c here law had has e. refilled _ c) (λ k n l e. refl)
+      where
+        refilled : (c : Content T) (x : Cell T)
+            → location_of (Some (refill c x)) ≡ location_of (Some x)
+        refilled c (Value old l) = refl
+        refilled c _ = refl
+
+    -- a value that no writer has, before or after a call that doesn't set it, is the same
+    pub meets_value : (m : Name) → IsSound S → Meets S call answer R → (Sets S call m → ⊥)
+        → is_some (value_at S m) ≡ true → is_some (value_at R m) ≡ true
+        → value_at R m ≡ value_at S m
+    meets_value m s meets unset before =
+        let value = λ (x : Option (Cell T)). value_of (content_of x) in
+        let is_here = λ (x : Option (Content T)). is_some (value_of x) in
+        keep_each (meets_follows meets) m
+        (λ x y. is_some (value x) ≡ true → is_some (value y) ≡ true → value y ≡ value x)
+        (λ x e i. refl) (λ free e i. absurd (true≢false (sym i)))
+        (λ new given quiet e i. absurd (true≢false (sym (s.given m (live _ before)) ∙ new)))
+        (λ k c here law had has e i. ap value_of has ∙ (filled k law (sym (ap is_here had) ∙ e)
+        (sym (ap is_here has) ∙ i) ∙ sym (ap value_of had)))
+        (λ k n l e i. absurd (true≢false (sym e))) before
+      where
+        live : (c : Option (Cell T)) → is_some (value_of (content_of c)) ≡ true → is_some c ≡ true
+        live None h = h
+        live (Some c) h = refl
+
+        -- what a content that is filled anew has where neither is lent
+        filled : (k : Filling T) → IsFilling S call R.next m k
+            → is_some (value_of (Some (old_content k))) ≡ true
+            → is_some (value_of (Some (new_content S k))) ≡ true
+            → value_of (Some (new_content S k)) ≡ value_of (Some (old_content k))
+        filled (Writer v l) law old new = absurd (true≢false (sym new))
+        filled (Return w g v) law old new = absurd (true≢false (sym old))
+        filled (Replace w v) law old new = absurd (unset law)
+        filled _ law old new = refl
+
+    -- ---- guards
+
+    -- a guard is known still where a test of its content shows a borrow that each filling leaves
+    stays : (g : Guard) (p : Option (Content T) → Bool)
+        → ((c : Option (Content T)) → p c ≡ true → is_some (write_refusal c) ≡ true)
+        → ((k : Filling T) → IsFilling S call R.next g.cell k
+        → p (Some (old_content k)) ≡ true → p (Some (new_content S k)) ≡ true)
+        → IsSound S → Meets S call answer R
+        → (nat_eq g.store S.number && p (content_at S g.cell)) ≡ true
+        → (nat_eq g.store R.number && p (content_at R g.cell)) ≡ true
+    stays g p refused filled s meets known =
+        let f = meets_follows meets in
+        let parts = and_parts (nat_eq g.store S.number) (p (content_at S g.cell)) known in
+        let borrowed = refused _ parts.1 in
+        and_from _ _ (ap (nat_eq g.store) f.number ∙ parts.0) (keep_each f g.cell
+        (λ x y. p (content_of x) ≡ true → p (content_of y) ≡ true) (λ x e. e)
+        (λ free e. absurd (free s borrowed))
+        (λ new given quiet e. absurd
+        (true≢false (sym (s.given g.cell (borrowed_live _ borrowed)) ∙ new)))
+        (λ k c here law had has e. ap p has ∙ filled k law (sym (ap p had) ∙ e))
+        (λ m n l e. absurd (true≢false (sym (refused None e)))) parts.1)
+
+    -- a store knows a guard until it is given back
+    pub reader_stays : IsSound S → Meets S call answer R → (g : Guard)
+        → knows_reader S g ≡ true → ends_reader call g.ticket ≡ false → knows_reader R g ≡ true
+    reader_stays s m g known other =
+        stays g (λ c. has_reader c g.ticket) refused filled s m known
+      where
+        refused : (c : Option (Content T))
+            → has_reader c g.ticket ≡ true → is_some (write_refusal c) ≡ true
+        refused (Some (Here v (r ∷ readers))) h = refl
+        refused (Some (Lent w)) h = refl
+        refused _ h = h
+
+        filled : (k : Filling T) → IsFilling S call R.next g.cell k
+            → has_reader (Some (old_content k)) g.ticket ≡ true
+            → has_reader (Some (new_content S k)) g.ticket ≡ true
+        filled (Reader v readers l) law h =
+            list_any-append (λ r. nat_eq r.ticket g.ticket) readers _ ∙ or_left _ _ h
+        filled (Leave v readers k) law h = unread_stays k.ticket g.ticket readers
+            (sym (ap (λ c. ends_reader c g.ticket) law) ∙ other) h
+        filled _ law h = absurd (true≢false (sym h))
+
+    pub writer_stays : IsSound S → Meets S call answer R → (g : Guard)
+        → knows_writer S g ≡ true → ends_writer call g.ticket ≡ false → knows_writer R g ≡ true
+    writer_stays s m g known other =
+        stays g (λ c. has_writer c g.ticket) refused filled s m known
+      where
+        refused : (c : Option (Content T))
+            → has_writer c g.ticket ≡ true → is_some (write_refusal c) ≡ true
+        refused (Some (Lent w)) h = refl
+        refused _ h = absurd (true≢false (sym h))
+
+        filled : (k : Filling T) → IsFilling S call R.next g.cell k
+            → has_writer (Some (old_content k)) g.ticket ≡ true
+            → has_writer (Some (new_content S k)) g.ticket ≡ true
+        filled (Return w k v) law h = absurd (true≢false (sym h ∙ (ap (λ x. nat_eq x g.ticket)
+            (eqb-true w.ticket k.ticket law.1)
+            ∙ (sym (ap (λ c. ends_writer c g.ticket) law.0) ∙ other))))
+        filled _ law h = absurd (true≢false (sym h))
+
+  -- ---- new boxes and guards
+
+  -- a box that is made is a new one of the store
+  pub made_new : (S R : State T) (call : Action T) (b : GenerationalPointer)
+      → Meets S call (Made b) R
+      → (b.id.store ≡ S.number) × (set.contains S.given (name_of b) ≡ false) × IsGiven R (name_of b)
+  made_new S R call b m =
+      let it = meets_says S R call (Made b) m in (it.number, it.fresh, it.given)
+
+  -- a new reader is known, with the next ticket; so is a new writer
+  pub reads_known : (S R : State T) (call : Action T) (g : Guard) → Meets S call (Reads g) R
+      → (knows_reader R g ≡ true) × (g.ticket ≡ S.next) × (R.next ≡ S.next + 1)
+  reads_known S R call g m = let it = meets_says S R call (Reads g) m in (it.1, it.0.is, it.0.next)
+
+  pub writes_known : (S R : State T) (call : Action T) (g : Guard) (v : T)
+      → Meets S call (Writes g v) R
+      → (knows_writer R g ≡ true) × (g.ticket ≡ S.next) × (R.next ≡ S.next + 1)
+  writes_known S R call g v m =
+      let it = meets_says S R call (Writes g v) m in (it.1, it.0.is, it.0.next)

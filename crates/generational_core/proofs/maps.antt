@@ -1,0 +1,2 @@
+-- Finite maps under names and under keys.
+pub mod Maps

@@ -1,0 +1,362 @@
+-- Finite maps and sets read at a key, how many keys a map has, and when names and ids are the same.
+use Rattle.std.proofs.Common.{◌≡◌, ◌≢◌, ℕ, ◌+◌, ◌≤◌, Bool, true, false, cond, ◌||◌, Option, None}
+use Rattle.std.proofs.Common.{Some, List, [], ◌∷◌, ◌++◌, length, refl, sym, ap, subst, ◌∙◌, inl}
+use Rattle.std.proofs.Common.{inr, ⊎_elim, arith}
+use Rattle.std.specs.Prelude.{◌⊎◌, option_map, is_some, map as list_map, T, ◌&&◌, nat_eq, ◌↔◌}
+use Rattle.std.specs.declared.cmp.Ordering.{Ordering}
+use Rattle.std.specs.declared.cmp.Ordering.TheVariants.{Equal}
+use Rattle.std.specs.Ordering.{nat_cmp, eq_by_cmp, is_eq, is_lt}
+use Rattle.std.specs.Cmp.{IsTotalOrder, nat_cmp_total, Equal-is, tied_itself, eq_by_cmp_equiv}
+use Rattle.std.specs.Cmp.{both_ways}
+use Rattle.std.specs.List.{AllByRecursion, IsDistinct, list_any}
+use Rattle.std.specs.FinMap as map
+use Rattle.std.specs.FinSet as set
+use Rattle.std.proofs.lemmas.Bool.{true≢false, false_from_ne_true, cases_Bool, and_parts, or_left}
+use Rattle.std.proofs.lemmas.Bool.{or_right, or_cases, eqb-true, eq-eqb, and_from}
+use Rattle.std.proofs.lemmas.Cmp.{on_total, then_total}
+use Rattle.std.proofs.lemmas.List.{length-map, length-append}
+use Rattle.std.proofs.lemmas.List.Folds.{list_any-append}
+use Rattle.std.proofs.lemmas.Map.Lookups.{exact_unsigned, exact_pairs}
+use Rattle.std.proofs.lemmas.Map.Made.{length-le_from_is_member}
+use Rattle.generational_core.specs.Names.{Name, Names, NameMap, name_cmp, is_name, change}
+use Rattle.generational_core.specs.Names.{change_if}
+use Rattle.generational_core.specs.Boxes.{has_same_id}
+use Rattle.generational_core.specs.Cells.{Cell, refers_to}
+use Rattle.generational_core.specs.Cells.Cell.{Ref}
+use Rattle.generational_core.specs.Conditions.{IsNamed}
+use Rattle.generational_core.specs.State.{is_named}
+use Rattle.generational_core.specs.declared.boxes.GenerationalBoxId.{GenerationalBoxId}
+use Rattle.generational_core.specs.declared.boxes.GenerationalPointer.{GenerationalPointer}
+use Rattle.generational_core.specs.declared.error.Location.{Location}
+
+-- names that compare alike are one
+pub name_exact : map.IsAntisymmetric name_cmp
+name_exact a b h = ap (λ (p : ℕ × ℕ). record { slot = p.0; generation = p.1 }) (exact_pairs nat_cmp
+    nat_cmp exact_unsigned exact_unsigned (a.slot, a.generation) (b.slot, b.generation) h)
+
+-- names are ordered
+pub name_total : IsTotalOrder name_cmp
+name_total = then_total (on_total (λ (s : Name). s.slot) nat_cmp_total)
+    (on_total (λ (s : Name). s.generation) nat_cmp_total)
+
+-- an order of keys, which tells them apart
+pub record IsKeyOrder {K : Type 0} (R : K → K → Ordering) : Type 0 where
+  pub total : IsTotalOrder R
+  pub exact : map.IsAntisymmetric R
+
+-- the orders of names, and of numbers
+pub by_name : IsKeyOrder name_cmp
+by_name = record { total = name_total; exact = name_exact }
+
+pub by_number : IsKeyOrder nat_cmp
+by_number = record { total = nat_cmp_total; exact = map.nat_cmp-IsAntisymmetric }
+
+-- ---- keys of any kind
+
+module _ {K : Type 0} {R : K → K → Ordering} (o : IsKeyOrder R) where
+  -- keys that compare alike are one
+  pub key_here : (k : K) → eq_by_cmp R k k ≡ true
+  key_here k = ap is_eq (tied_itself o.total k)
+
+  pub key_same : (j k : K) → eq_by_cmp R j k ≡ true → j ≡ k
+  key_same j k h = o.exact j k ((Equal-is (R j k)).0 h)
+
+  pub key_apart : (j k : K) → j ≢ k → eq_by_cmp R j k ≡ false
+  key_apart j k ne = false_from_ne_true _ (λ h. ne (key_same j k h))
+
+  -- two keys are one, or apart
+  pub key_cases : (j k : K) → (j ≡ k) ⊎ (j ≢ k)
+  key_cases j k = ⊎_elim (λ h. inl (key_same j k h)) (λ h. inr (λ e. true≢false
+      (sym (key_here k) ∙ (sym (ap (λ x. eq_by_cmp R x k) e) ∙ h)))) (cases_Bool (eq_by_cmp R j k))
+
+  module _ {X : Type 0} where
+    pub get-insert_here : (m : map.FinMap R X) (k : K) (v : X)
+        → map.get (map.insert m k v) k ≡ Some v
+    get-insert_here m k v = rw (map.get-insert o.total m k v k, key_here k)
+
+    pub get-insert_apart : (m : map.FinMap R X) (k : K) (v : X) (q : K)
+        → q ≢ k → map.get (map.insert m k v) q ≡ map.get m q
+    get-insert_apart m k v q ne = rw (map.get-insert o.total m k v q, key_apart q k ne)
+
+    pub get-remove_here : (m : map.FinMap R X) (k : K) → map.get (map.remove m k) k ≡ None
+    get-remove_here m k = rw (map.get-remove o.total m k k, key_here k)
+
+    pub get-remove_apart : (m : map.FinMap R X) (k q : K)
+        → q ≢ k → map.get (map.remove m k) q ≡ map.get m q
+    get-remove_apart m k q ne = rw (map.get-remove o.total m k q, key_apart q k ne)
+
+    pub get-keep : (m : map.FinMap R X) (p : K → Bool) (q : K)
+        → map.get (map.retain_keys m p) q ≡ cond (p q) (map.get m q) None
+    get-keep m p q = map.get-retain_keys m p q (λ x t. ap p (sym (o.exact q x t)))
+
+    -- a key is kept with what it had, or taken away
+    pub keep_view : (m : map.FinMap R X) (p : K → Bool) (q : K)
+        → ((map.get (map.retain_keys m p) q ≡ map.get m q) × (p q ≡ true))
+        ⊎ ((map.get (map.retain_keys m p) q ≡ None) × (p q ≡ false))
+    keep_view m p q =
+        let at = λ (b : Bool) (h : p q ≡ b).
+        get-keep m p q ∙ ap (λ b. cond b (map.get m q) None) h in
+        ⊎_elim (λ h. inl (at true h, h)) (λ h. inr (at false h, h)) (cases_Bool (p q))
+
+    pub get-changed_here : (m : map.FinMap R X) (k : K) (f : X → X) (x : X)
+        → map.get m k ≡ Some x → map.get (change m k f) k ≡ Some (f x)
+    unfolding change
+    get-changed_here m k f x h =
+        ap (λ o. map.get (change_if m k f o) k) h ∙ get-insert_here m k (f x)
+
+    pub changed_there : (m : map.FinMap R X) (k : K) (f : X → X) (x : X)
+        → map.get m k ≡ Some x → change m k f ≡ map.insert m k (f x)
+    unfolding change
+    changed_there m k f x h = ap (change_if m k f) h
+
+    -- what stands at a key, put there again
+    pub insert_there : (m : map.FinMap R X) (k : K) (x : X) → map.get m k ≡ Some x
+        → map.insert m k x ≡ m
+    insert_there m k x there = map.same_map o.total o.exact _ _ (λ q. ⊎_elim
+        (λ e. subst (λ j. map.get (map.insert m k x) j ≡ map.get m j) (sym e)
+        (get-insert_here m k x ∙ sym there)) (get-insert_apart m k x q) (key_cases q k))
+
+    pub get-changed_none : (m : map.FinMap R X) (k : K) (f : X → X)
+        → map.get m k ≡ None → change m k f ≡ m
+    unfolding change
+    get-changed_none m k f h = ap (change_if m k f) h
+
+    pub get-changed_apart : (m : map.FinMap R X) (k : K) (f : X → X) (q : K)
+        → q ≢ k → map.get (change m k f) q ≡ map.get m q
+    unfolding change
+    get-changed_apart m k f q ne = split (map.get m k)
+      where
+        split : (o : Option X) → map.get (change_if m k f o) q ≡ map.get m q
+        split None = refl
+        split (Some x) = get-insert_apart m k (f x) q ne
+
+    pub get-changed : (m : map.FinMap R X) (k : K) (f : X → X) (q : K) → map.get (change m k f) q
+        ≡ cond (eq_by_cmp R q k) (option_map f (map.get m q)) (map.get m q)
+    get-changed m k f q = ⊎_elim
+        (λ is. subst (λ j. map.get (change m k f) j
+        ≡ cond (eq_by_cmp R j k) (option_map f (map.get m j)) (map.get m j)) (sym is)
+        (rw (key_here k) (here (map.get m k) refl)))
+        (λ ne. rw (key_apart q k ne) (get-changed_apart m k f q ne)) (key_cases q k)
+      where
+        here : (x : Option X) → map.get m k ≡ x
+            → map.get (change m k f) k ≡ option_map f (map.get m k)
+        here None h = ap (λ n. map.get n k) (get-changed_none m k f h) ∙ rw h refl
+        here (Some x) h = get-changed_here m k f x h ∙ rw h refl
+
+    -- the one key that is changed, if anything stands there
+    pub changed_view : (m : map.FinMap R X) (k : K) (f : X → X) (q : K)
+        → (map.get (change m k f) q ≡ map.get m q)
+        ⊎ ((q ≡ k) × (x : X) × (map.get m q ≡ Some x) × (map.get (change m k f) q ≡ Some (f x)))
+    changed_view m k f q = ⊎_elim (λ is. at is (map.get m q) refl)
+        (λ ne. inl (get-changed_apart m k f q ne)) (key_cases q k)
+      where
+        at : q ≡ k → (old : Option X)
+            → map.get m q ≡ old → (map.get (change m k f) q ≡ map.get m q) ⊎ ((q ≡ k)
+            × (x : X) × (map.get m q ≡ Some x) × (map.get (change m k f) q ≡ Some (f x)))
+        at is None h =
+            inl (ap (λ n. map.get n q) (get-changed_none m k f (ap (map.get m) (sym is) ∙ h)))
+        at is (Some x) h = inr (
+          is,
+          x,
+          h,
+          ap (map.get (change m k f)) is
+              ∙ get-changed_here m k f x (ap (map.get m) (sym is) ∙ h),
+        )
+
+  -- what is in a set with one key more
+  pub contains-insert_here : (s : set.FinSet R) (k : K) → set.contains (set.insert s k) k ≡ true
+  contains-insert_here s k = rw (set.contains-insert o.total s k k, key_here k)
+
+  pub contains-insert_old : (s : set.FinSet R) (k q : K)
+      → set.contains s q ≡ true → set.contains (set.insert s k) q ≡ true
+  contains-insert_old s k q h = rw (set.contains-insert o.total s k q) (or_right _ _ h)
+
+  pub contains-insert_apart : (s : set.FinSet R) (k q : K)
+      → q ≢ k → set.contains (set.insert s k) q ≡ set.contains s q
+  contains-insert_apart s k q ne = rw (set.contains-insert o.total s k q, key_apart q k ne)
+
+-- ---- names
+
+-- names that are told to be the same are one
+pub name_here : (n : Name) → is_name n n ≡ true
+unfolding is_name
+name_here n = key_here by_name n
+
+pub name_same : (a b : Name) → is_name a b ≡ true → a ≡ b
+unfolding is_name
+name_same a b h = key_same by_name a b h
+
+pub name_apart : (a b : Name) → a ≢ b → is_name a b ≡ false
+unfolding is_name
+name_apart a b h = key_apart by_name a b h
+
+-- two names are one, or apart
+pub name_cases : (a b : Name) → (a ≡ b) ⊎ (a ≢ b)
+name_cases a b = key_cases by_name a b
+
+-- maps and sets under names, by the test of names
+pub get-insert_name : {X : Type 0} (m : NameMap X) (k : Name) (v : X) (q : Name)
+    → map.get (map.insert m k v) q ≡ cond (is_name q k) (Some v) (map.get m q)
+unfolding is_name
+get-insert_name m k v q = map.get-insert name_total m k v q
+
+pub get-changed_name : {X : Type 0} (m : NameMap X) (k : Name) (f : X → X) (q : Name)
+    → map.get (change m k f) q ≡ cond (is_name q k) (option_map f (map.get m q)) (map.get m q)
+unfolding is_name
+get-changed_name m k f q = get-changed by_name m k f q
+
+pub contains-insert_name : (s : Names) (k q : Name)
+    → set.contains (set.insert s k) q ≡ (is_name q k || set.contains s q)
+unfolding is_name
+contains-insert_name s k q = set.contains-insert name_total s k q
+
+-- ---- how many keys a map has
+
+less_apart : (r : Ordering) → is_lt r ≡ true → is_eq r ≡ false
+less_apart Equal h = cc
+less_apart r h = refl
+
+is_true : (b : Bool) → T b → b ≡ true
+is_true true h = refl
+is_true false h = absurd h
+
+-- the keys of a finite map are distinct
+module _ {K X : Type 0} (R : K → K → Ordering) where
+  below_apart : (x : K) (es : List (K × X)) → map.Entries.below_all R x es ≡ true
+      → AllByRecursion (λ y. eq_by_cmp R x y ≡ false) (list_map (λ (e : K × X). e.0) es)
+  below_apart x [] h = tt
+  below_apart x (e ∷ es) h =
+      let p = and_parts (is_lt (R x e.0)) _ h in (less_apart (R x e.0) p.0, below_apart x es p.1)
+
+  sorted_apart : (es : List (K × X))
+      → map.is_sorted R es ≡ true → IsDistinct (eq_by_cmp R) (list_map (λ (e : K × X). e.0) es)
+  unfolding IsDistinct
+  sorted_apart [] h = tt
+  sorted_apart (e ∷ es) h = let p = and_parts (map.Entries.below_all R e.0 es) _ h in
+      (below_apart e.0 es p.0, sorted_apart es p.1)
+
+  -- the keys of a map are distinct
+  pub keys_apart : (m : map.FinMap R X) → IsDistinct (eq_by_cmp R) (map.keys m)
+  keys_apart m = sorted_apart (map.entries m) (is_true _ (map.entries_sorted m))
+
+  -- and as many as the map says
+  pub len_keys : (m : map.FinMap R X) → map.len m ≡ length (map.keys m)
+  len_keys m = map.len-entries m ∙ sym (length-map (map.entries m) (λ e. e.0))
+
+module _ {K X : Type 0} {R : K → K → Ordering}
+    (o : IsKeyOrder R) where
+  -- what passes is kept
+  pub kept_key : (m : map.FinMap R X) (p : K → Bool) (q : K)
+      → map.contains_key m q ≡ true → p q ≡ true → map.contains_key (map.retain_keys m p) q ≡ true
+  kept_key m p q h t = ap is_some (get-keep o m p q ∙ ap (λ b. cond b (map.get m q) None) t) ∙ h
+
+  -- keys that pass one of three tests are no more than those that pass each
+  pub len_three : (m : map.FinMap R X) (p q r : K → Bool)
+      → ((k : K) → (p k ≡ true) ⊎ ((q k ≡ true) ⊎ (r k ≡ true)))
+      → map.len m ≤ map.len (map.retain_keys m p)
+      + map.len (map.retain_keys m q) + map.len (map.retain_keys m r)
+  len_three m p q r one =
+      let a = map.keys (map.retain_keys m p) in
+      let b = map.keys (map.retain_keys m q) in
+      let c = map.keys (map.retain_keys m r) in
+      let le =
+      length-le_from_is_member
+      (eq_by_cmp_equiv o.total) (map.keys m) ((a ++ b) ++ c) (keys_apart R m)
+      (λ k h. let there : map.contains_key m k ≡ true = map.contains_key-keys m k ∙ h in
+      let at = λ (t : K → Bool) (e : t k ≡ true).
+      sym (map.contains_key-keys (map.retain_keys m t) k) ∙ kept_key m t k there e in
+      rw (list_any-append (eq_by_cmp R k) (a ++ b) c, list_any-append (eq_by_cmp R k) a b)
+      (⊎_elim (λ e. or_left _ _ (or_left _ _ (at p e))) (⊎_elim
+      (λ e. or_left _ _ (or_right _ _ (at q e))) (λ e. or_right _ _ (at r e))) (one k))) in
+      let ab = length-append (a ++ b) c in let bb = length-append a b in
+      let l0 = len_keys R m in let l1 = len_keys R (map.retain_keys m p) in
+      let l2 = len_keys R (map.retain_keys m q) in let l3 = len_keys R (map.retain_keys m r) in
+      omega arith
+
+module _ {K X Y : Type 0} {R : K → K → Ordering} (o : IsKeyOrder R) where
+  -- a map whose keys are another's is no larger
+  pub len_within : (m : map.FinMap R X) (n : map.FinMap R Y)
+      → ((k : K) → map.contains_key m k ≡ true → map.contains_key n k ≡ true)
+      → map.len m ≤ map.len n
+  len_within m n h =
+      let le =
+      length-le_from_is_member (eq_by_cmp_equiv o.total) (map.keys m) (map.keys n) (keys_apart R m)
+      (λ k e. sym (map.contains_key-keys n k) ∙ h k (map.contains_key-keys m k ∙ e)) in
+      let a = len_keys R m in let b = len_keys R n in omega arith
+
+-- two names are the same if both their numbers are
+pub name_test : (a b : Name)
+    → is_name a b ≡ (nat_eq a.slot b.slot && nat_eq a.generation b.generation)
+name_test a b =
+    both_ways _ _
+    (λ h. let e = name_same a b h in
+    and_from _ _ (eq-eqb a.slot b.slot (ap (λ (n : Name). n.slot) e))
+    (eq-eqb a.generation b.generation (ap (λ (n : Name). n.generation) e)))
+    (λ h. let p = and_parts _ _ h in
+    let s = eqb-true a.slot b.slot p.0 in
+    let g = eqb-true a.generation b.generation p.1 in
+    let e : a ≡ b = λ i. record { slot = s i; generation = g i } in
+    ap (λ n. is_name n b) e ∙ name_here b)
+
+-- boxes have the same id exactly where the ids are one
+pub same_ids : (a b : GenerationalPointer) → (has_same_id a b ≡ true) ↔ (a.id ≡ b.id)
+same_ids a b = (
+  λ h.
+      let p = and_parts (nat_eq a.id.store b.id.store) _ h in
+      let q = and_parts (nat_eq a.id.slot b.id.slot) _ p.1 in
+      let store = eqb-true a.id.store b.id.store p.0 in
+      let slot = eqb-true a.id.slot b.id.slot q.0 in
+      let generation = eqb-true a.id.generation b.id.generation q.1 in
+      λ i. record { store = store i; slot = slot i; generation = generation i },
+  λ e.
+      and_from _ _ (eq-eqb a.id.store b.id.store (ap (λ (d : GenerationalBoxId). d.store) e))
+      (and_from _ _ (eq-eqb a.id.slot b.id.slot (ap (λ (d : GenerationalBoxId). d.slot) e))
+      (eq-eqb a.id.generation b.id.generation (ap (λ (d : GenerationalBoxId). d.generation) e))),
+)
+
+pub same_itself : (a : GenerationalPointer) → has_same_id a a ≡ true
+same_itself a = (same_ids a a).1 refl
+
+pub same_onward : (a b c : GenerationalPointer)
+    → has_same_id a b ≡ true → has_same_id b c ≡ true → has_same_id a c ≡ true
+same_onward a b c h k = (same_ids a c).1 ((same_ids a b).0 h ∙ (same_ids b c).0 k)
+
+pub same_turned : (a b : GenerationalPointer) → has_same_id a b ≡ has_same_id b a
+same_turned a b =
+    both_ways _ _
+    (λ h. (same_ids b a).1 (sym ((same_ids a b).0 h)))
+    (λ h. (same_ids a b).1 (sym ((same_ids b a).0 h)))
+
+-- some element of a list passes
+one_passes : {A : Type 0} (p : A → Bool) (xs : List A)
+    → list_any p xs ≡ true → (x : A) × (p x ≡ true)
+one_passes p [] h = absurd (true≢false (sym h))
+one_passes p (x ∷ xs) h = ⊎_elim (λ e. (x, e)) (λ e. one_passes p xs e) (or_cases _ _ h)
+
+-- an element that passes both
+pub passes_both : {A : Type 0} (p q : A → Bool) → ((x : A) → q x ≡ true → p x ≡ true)
+    → (xs : List A) → list_any q xs ≡ true → list_any p xs ≡ true
+passes_both p q f [] h = h
+passes_both p q f (x ∷ xs) h =
+    ⊎_elim (λ e. or_left _ _ (f x e)) (λ e. or_right _ _ (passes_both p q f xs e)) (or_cases _ _ h)
+
+module _ {T : Type 0} where
+  is_ref : (m : Name) (c : Option (Cell T))
+      → refers_to m c ≡ true → (l : Location) × (c ≡ Some (Ref m l))
+  is_ref m (Some (Ref k l)) h = (l, ap (λ n. Some (Ref n l)) (sym (name_same m k h)))
+  is_ref m _ h = absurd (true≢false (sym h))
+
+  -- the test gives a Ref, and a Ref passes it
+  pub named_gives : (cells : NameMap (Cell T)) (m : Name)
+      → is_named cells m ≡ true → IsNamed cells m
+  unfolding is_named
+  named_gives cells m h =
+      let one = one_passes (λ n. refers_to m (map.get cells n)) (map.keys cells) h in
+      let it = is_ref m (map.get cells one.0) one.1 in (one.0, it.0, it.1)
+
+  pub named_from : (cells : NameMap (Cell T)) (m : Name) → IsNamed cells m → is_named cells m ≡ true
+  unfolding is_named
+  named_from cells m h = passes_both (λ n. refers_to m (map.get cells n)) (eq_by_cmp name_cmp h.0)
+      (λ n e. ap (λ k. refers_to m (map.get cells k)) (sym (key_same by_name h.0 n e))
+      ∙ (ap (refers_to m) h.2 ∙ name_here m))
+      (map.keys cells) (sym (map.contains_key-keys cells h.0) ∙ ap is_some h.2)

@@ -1,0 +1,4 @@
+-- What holds of each call of a session, and of runs.
+pub mod OwnerValues
+pub mod SessionCalls
+pub mod Sessions
