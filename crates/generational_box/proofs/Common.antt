@@ -45,6 +45,7 @@ pub use Rattle.generational_core.specs.Slots.{retired, slots, slots_of}
 pub use Rattle.generational_core.specs.State.{IsSound, Owners, Ownership, State, content_at}
 pub use Rattle.generational_core.specs.State.{is_named}
 pub use Rattle.generational_core.specs.StepCalls.{is_ready, tells_of_borrow}
+unfoldable pub use Rattle.generational_core.specs.Steps.{may_lack}
 pub use Rattle.generational_core.specs.Steps.{IsNew, Meets, last_ticket, limit_tickets}
 pub use Rattle.generational_core.specs.Steps.{needs_memory, no_names, takes_ticket}
 pub use Rattle.generational_core.specs.declared.borrow.Borrow.{Borrow}

@@ -70,7 +70,7 @@ module _ {T : Type 0} where
   needs_memory S _ call = false
 
   -- the same of a call; of what kind its answer is doesn't depend on the names that it takes
-  abbrev pub may_lack : State T → Action T → Bool
+  unfoldable pub may_lack : State T → Action T → Bool
   may_lack S call = needs_memory S (answer_to S call) call
 
   -- A call meets the machine if, for some new names, it answers and leaves what the machine does;

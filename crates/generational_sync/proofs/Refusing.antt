@@ -1,5 +1,5 @@
 -- How a call that no borrow hinders is refused.
-use Rattle.generational_core.specs.Steps.{needs_memory, Meets, limit_tickets, last_ticket}
+use Rattle.generational_core.specs.Steps.{may_lack, needs_memory, Meets, limit_tickets, last_ticket}
 use Rattle.std.proofs.Common.{is_some, ◌≡◌, Bool, true, false, cond, not, List, [], ◌∷◌, Option}
 use Rattle.std.proofs.Common.{None, Some, refl, sym, ap, subst, ◌∙◌, inl, inr, Result, Ok, Err}
 use Rattle.std.specs.Prelude.{nat_eq}
@@ -189,6 +189,7 @@ module _ {T : Type 0} where
   pub end_done : {U : Type 0} (S R : State T) (b : GenerationalPointer)
       (r : Result U (Refused BorrowMutError)) → Meets S (End b) (end_answer r) R
       → is_ready S (call.ManuallyDrop b) ≡ true → true ≡ is_err r → ⊥
+  unfolding may_lack
   end_done S R b (Ok u) m ready err = true≢false err
   end_done S R b (Err e) m ready err = at m
     where

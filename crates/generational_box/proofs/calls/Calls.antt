@@ -20,7 +20,7 @@ use Rattle.generational_box.proofs.Common.{cells_after, close, hindrance_to, hin
 use Rattle.generational_box.proofs.Common.{first_hindrance, Read, Write, End, ReleaseReader}
 use Rattle.generational_box.proofs.Common.{ReleaseWriter, Name, NameMap, is_name, among, is_ready}
 use Rattle.generational_box.proofs.Common.{tells_of_borrow, State, content_at, is_named, Meets}
-use Rattle.generational_box.proofs.Common.{limit_tickets, no_names, last_ticket, needs_memory}
+use Rattle.generational_box.proofs.Common.{limit_tickets, may_lack, no_names, last_ticket, needs_memory}
 use Rattle.generational_box.proofs.Common.{takes_ticket, by_name, name_exact, name_total, name_here}
 use Rattle.generational_box.proofs.Common.{name_same, get-keep, changed_there, insert_there, Empty}
 use Rattle.generational_box.proofs.Common.{Live, first_borrowed, cell_of, is_value, OnlyValues}
@@ -74,6 +74,7 @@ module _ {T : Type 0} where
   pub hindered_step : (S : State T) (call : Action T) (e : Refused BorrowMutError)
       (t : Option Trouble) (out : Outcome T) → act S call no_names ≡ unless t S out
       → FoundBorrowed t (Err e) → Meets S call (end_refused e) S
+  unfolding may_lack
   hindered_step S call (refused.Borrow e) t out is found =
       inl (no_names, tt, sym (ap (limit_tickets S) (is ∙ ap (λ o. unless o S out) found)))
   hindered_step S call (refused.Store OutOfMemory) (Some (BeingRead ls)) out is found =
@@ -304,6 +305,7 @@ module _ {T : Type 0} where
       pub read_lacks : (R : State T) → S.next < last_ticket
           → is_some (write_refusal (content_at S (name_of b))) ≡ true → R ≡ S
           → Meets S (Read b l) (refuses OutOfMemory) R
+      unfolding may_lack
       read_lacks R below beside same =
           let lack = ap (λ x. needs_memory S (limit_tickets S x).0 (Read b l)) begins
           ∙ ap (λ (x : Outcome T). needs_memory S x.0 (Read b l)) (within S begun below) in

@@ -9,15 +9,15 @@ use Rattle.generational_box.proofs.Common.{StoreError, OutOfMemory, UnknownOwner
 use Rattle.generational_box.proofs.Common.{end_refused, Trouble, box_of, Value, Here, close, Make}
 use Rattle.generational_box.proofs.Common.{NewOwner, CloneOwner, ReleaseOwner, Name, change}
 use Rattle.generational_box.proofs.Common.{one_more, one_less, names_under, count_in, count_under}
-use Rattle.generational_box.proofs.Common.{free, State, Ownership, Meets, IsNew, no_names}
+use Rattle.generational_box.proofs.Common.{free, State, Ownership, Meets, IsNew, may_lack, no_names}
 use Rattle.generational_box.proofs.Common.{last_ticket, needs_memory, limit_tickets, by_number}
 use Rattle.generational_box.proofs.Common.{changed_there, knows, knows_any, add_to_list_in}
 use Rattle.generational_box.proofs.Common.{first_borrowed, IsRefusal, OnlyValues}
 use Rattle.generational_core.specs.declared.error.Refused.{Refused as Refusing}
-use Rattle.generational_core.specs.Machine.{OwnerName, act, ownership, add_cell, unless, make}
+use Rattle.generational_core.specs.Machine.{OwnerName, Outcome, act, ownership, add_cell, unless, make}
 use Rattle.generational_core.specs.Machine.Answer.{Made, Owned, Done, Refused}
 use Rattle.generational_box.specs.Entry.{FoundBorrowed}
-use Rattle.generational_box.proofs.calls.Calls.{hindered_is, hindered_step}
+use Rattle.generational_box.proofs.calls.Calls.{hindered_is, hindered_step, within}
 
 -- V is the state for which the store's parts stand, and S the state that contracts see
 module _ {T : Type 0} {V S : State T} (view : V ≡ S) where
@@ -34,6 +34,7 @@ module _ {T : Type 0} {V S : State T} (view : V ≡ S) where
   -- is told first
   pub make_refused : (o : Option OwnerName) (v : T) (l : Location) (e : StoreError) (R : State T)
       → IsRefusal V.number V.owners o e → R ≡ V → Meets S (Make o v l) (Refused e) R
+  unfolding may_lack
   make_refused o v l e R is same = rw (same, ← view) (at o e is)
     where
       at : (o : Option OwnerName) (e : StoreError) → IsRefusal V.number V.owners o e
@@ -53,6 +54,7 @@ module _ {T : Type 0} {V S : State T} (view : V ≡ S) where
   pub make_lacks : (o : Option OwnerName) (v : T) (l : Location) (e : StoreError) (R : State T)
       → e ≡ cond (knows_any V.number V.owners o) OutOfMemory UnknownOwner → free V ≡ 0 → R ≡ V
       → Meets S (Make o v l) (Refused e) R
+  unfolding may_lack
   make_lacks None v l e R is none same = rw (same, ← view, is) (inr (rw none refl, refl, refl))
   make_lacks (Some o) v l e R is none same = at (knows V.number V.owners o) refl
     where
@@ -62,6 +64,14 @@ module _ {T : Type 0} {V S : State T} (view : V ≡ S) where
 
   pub new_exhausted : V.next ≡ last_ticket → Meets S NewOwner (Refused NumbersExhausted) S
   new_exhausted last = rw (← view) (inl (no_names, tt, rw (eq-eqb V.next last_ticket last) refl))
+
+  pub new_lacks : (R : State T) → V.next < last_ticket → R ≡ V
+      → Meets S NewOwner (Refused OutOfMemory) R
+  unfolding may_lack
+  new_lacks R below same =
+      let lack = ap (λ (x : Outcome T). needs_memory V x.0 NewOwner)
+      (within V (act V NewOwner no_names) below) in
+      rw (same, ← view) (inr (lack, refl, refl))
 
   pub new_made : (o : OwnerName) (R : State T) → V.next < last_ticket
       → o ≡ record { store = V.number; key = V.next }

@@ -26,7 +26,7 @@ use Rattle.generational_core.specs.Machine.{Fresh, refer}
 use Rattle.generational_core.specs.Machine.Action.{Make, MakeShared, Refer}
 use Rattle.generational_core.specs.Machine.Answer.{Made, Done, Flag, Back, Troubled, Refused}
 use Rattle.generational_core.specs.Steps.{takes_ticket, last_ticket, limit_tickets, needs_memory}
-use Rattle.generational_core.specs.Steps.{Meets, Takes, answer_to, no_names}
+use Rattle.generational_core.specs.Steps.{Meets, Takes, answer_to, may_lack, no_names}
 use Rattle.generational_core.specs.Carrying.{KnowsAnswer, rename_ownership, rename_action}
 use Rattle.generational_core.specs.Carrying.{rename_answer, KnowsCall, rename_guard, shift_owner}
 use Rattle.generational_core.specs.Session.{SessionState, SessionReply, SessionStep, with_owner}
@@ -172,6 +172,7 @@ module _ {T : Type 0} where
 
   never_refused : (S R : State T) (action : Action T) (e : StoreError)
       → AlwaysGoes S (Asks action) → Meets S action (Refused e) R → ⊥
+  unfolding may_lack
   never_refused S R action e h (inl m) = let g : Goes (Refused e) =
       subst Goes (sym (ap (λ (out : Outcome T). out.0) m.2)) (h m.0) in elim g [ ]
   never_refused S R action e h (inr m) =

@@ -224,6 +224,7 @@ module _ {T : Type 0} where
 
   plain_lacks : (S : State T) (call : Action T)
       → may_lack (plain S) (plain_call call) ≡ may_lack S call
+  unfolding may_lack
   plain_lacks S call =
       ap (λ (o : Outcome (Unit {0})). needs_memory (plain S) o.0 (plain_call call))
       (plain_limited S call no_names) ∙ plain_needs S (answer_to S call) call

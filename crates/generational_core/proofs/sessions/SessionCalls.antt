@@ -17,7 +17,7 @@ use Rattle.generational_core.specs.Ending.{hindrance_to}
 use Rattle.generational_core.specs.Machine.{Action, Answer, Fresh, Outcome, OwnerName, act, unless}
 use Rattle.generational_core.specs.Machine.{ownership, release_owner}
 use Rattle.generational_core.specs.Machine.Answer.{Made, Flag, Done, Troubled, Refused as refuses}
-use Rattle.generational_core.specs.Steps.{Meets, limit_tickets, needs_memory, no_names}
+use Rattle.generational_core.specs.Steps.{Meets, limit_tickets, may_lack, needs_memory, no_names}
 use Rattle.generational_core.specs.Conditions.{IsReleased, IsFresh}
 use Rattle.generational_core.specs.Session.{SessionState, Held, SessionReply, Request, Settles, Run}
 use Rattle.generational_core.specs.Session.{SessionStep, at_place, box_in, box_held, owner_held}
@@ -75,6 +75,7 @@ module _ {T : Type 0} where
       → act s.state (action b) new ≡ (Troubled (Trouble.Dropped b.created_at), s.state))
       → o ≡ Some b → Settles s c (with_box o None (λ b. Request.Asks (action b))) x r
       → x ≡ Error (Trouble.Dropped b.created_at)
+  unfolding may_lack
   answers_ended s r c x o action b acts is step =
       let it : Settles s c (Request.Asks (action b)) x r =
       subst (λ o. Settles s c (with_box o None (λ b. Request.Asks (action b))) x r) is step in

@@ -1,6 +1,6 @@
 use Rattle.std.proofs.Common.{arith, ap, refl}
 use Rattle.generational_box.proofs.lists.Lists.{counted_new}
-use Rattle.generational_box.proofs.calls.OwnerCalls.{new_exhausted, new_made}
+use Rattle.generational_box.proofs.calls.OwnerCalls.{new_exhausted, new_lacks, new_made}
 use Rattle.generational_box.proofs.parts.Parts.owner.Goals as goal
 
 pub returns-then-key : goal.returns-then-key
@@ -12,6 +12,9 @@ invariant_of-self-2 g c = (
   rw c.in-Ok.ensures.ok
       (counted_new c.self.invariant.1 _ _ (ap (λ h. h.count) c.new-record.ensures)),
 )
+
+pub returns-in-Err : goal.returns-in-Err
+returns-in-Err g c = new_lacks c.self.view_is _ (omega arith) (rw c.in-Err.ensures.err refl)
 
 pub returns : goal.returns
 returns g c =
