@@ -183,8 +183,6 @@ module _ {T : Type 0} where
   left_one cells values n =
       left_first cells values n [] ∙ left_none (map.remove cells n) (values_less cells n values)
 
-  -- ---- boxes that name no live cell of the store
-
   module _ (S : State T) (b : GenerationalPointer) (gone : own_cell S b.id ≡ None) where
     reaches_none : reach S b ≡ None
     unfolding reach
