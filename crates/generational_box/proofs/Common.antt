@@ -1,9 +1,13 @@
 -- The names of machine and store that most proofs here cite, passed on from one place.
 pub use Rattle.generational_box.specs.Entry.Kept.{Empty, Live}
+pub use Rattle.generational_box.specs.OwnerPlaces.{AreApart, ArePlaced, HasRecord, Keyed, Place}
+pub use Rattle.generational_box.specs.OwnerPlaces.{change_place, change_place_if, entries_of}
+pub use Rattle.generational_box.specs.OwnerPlaces.{is_vacant, record_at, record_in}
+pub use Rattle.generational_box.specs.OwnerPlaces.{with_ownership}
+unfoldable pub use Rattle.generational_box.specs.OwnerPlaces.{owners_of}
 pub use Rattle.generational_box.specs.OwnerRecords.{AreCounted, IsCounted, IsRefusal}
 pub use Rattle.generational_box.specs.OwnerRecords.{add_to_list_in, first_borrowed, knows}
-pub use Rattle.generational_box.specs.OwnerRecords.{knows_any, name_of_cell, owners_of}
-pub use Rattle.generational_box.specs.OwnerRecords.{ownership_of}
+pub use Rattle.generational_box.specs.OwnerRecords.{knows_any, name_of_cell, record_of}
 pub use Rattle.generational_box.specs.Pools.{IsPool}
 pub use Rattle.generational_box.specs.Slotted.{HasBegun, IsSlotted, OnlyValues, cell_found, cell_in}
 pub use Rattle.generational_box.specs.Slotted.{cell_of, change_entry, entry_in, given_from}
@@ -12,13 +16,15 @@ pub use Rattle.generational_box.specs.Slotted.{is_unborrowed, is_value, live_fro
 pub use Rattle.generational_box.specs.Slotted.{state_of, with_cell}
 unfoldable pub use Rattle.generational_box.specs.Slotted.{cells_of, given_of}
 pub use Rattle.generational_box.specs.declared.owners.CellName.{CellName}
-pub use Rattle.generational_box.specs.declared.owners.OwnerRecord.{OwnerRecord}
-pub use Rattle.generational_core.proofs.machine.Bounding.{IsLast, fresh_bounded, get_lasts, meets_kept}
+pub use Rattle.generational_core.proofs.machine.Bounding.{IsLast, fresh_bounded, get_lasts}
+pub use Rattle.generational_core.proofs.machine.Bounding.{meets_kept}
 pub use Rattle.generational_core.proofs.machine.Bounding.{one_last}
 pub use Rattle.generational_core.proofs.maps.Maps.{by_name, by_number, changed_there}
 pub use Rattle.generational_core.proofs.maps.Maps.{contains-insert_name, get-insert_name, get-keep}
-pub use Rattle.generational_core.proofs.maps.Maps.{get-remove_apart, get-remove_here, insert_there}
-pub use Rattle.generational_core.proofs.maps.Maps.{key_apart, key_here, name_exact, name_here, name_same}
+pub use Rattle.generational_core.proofs.maps.Maps.{get-changed_none, get-remove_apart}
+pub use Rattle.generational_core.proofs.maps.Maps.{get-remove_here, insert_there}
+pub use Rattle.generational_core.proofs.maps.Maps.{key_apart, key_here, key_same, name_exact}
+pub use Rattle.generational_core.proofs.maps.Maps.{name_here, name_same}
 pub use Rattle.generational_core.proofs.maps.Maps.{name_total}
 pub use Rattle.generational_core.proofs.maps.Maps.{name_test}
 pub use Rattle.generational_core.proofs.machine.Soundness.{fresh_sound}
@@ -32,7 +38,8 @@ pub use Rattle.generational_core.specs.Cells.{Cell, Content, content_of, is_shar
 pub use Rattle.generational_core.specs.Cells.Cell.{Value}
 pub use Rattle.generational_core.specs.Cells.Content.{Here, Lent}
 pub use Rattle.generational_core.specs.Conditions.{IsBounded, IsFresh, count_in, count_under, fresh}
-pub use Rattle.generational_core.specs.Conditions.{names_under, one_less, one_listed, one_more}
+pub use Rattle.generational_core.specs.Conditions.{names_in, names_under, one_less, one_listed}
+pub use Rattle.generational_core.specs.Conditions.{one_more}
 pub use Rattle.generational_core.specs.Ending.{cells_after, close, first_hindrance, hindrance_of}
 unfoldable pub use Rattle.generational_core.specs.Ending.{hindrance_to, sweep, take_away}
 pub use Rattle.generational_core.specs.Machine.Action.{CloneOwner, End, Make, NewOwner, Read}

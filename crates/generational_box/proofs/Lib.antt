@@ -1,4 +1,5 @@
 pub mod Common
 pub mod calls
 pub mod lists
+pub mod records
 pub mod slots

@@ -1,2 +1,4 @@
--- Lists, free slots and records of owners.
+-- Lists, free slots, and standing borrows.
 pub mod Lists
+pub mod Tables
+pub mod Tickets

@@ -1,23 +1,25 @@
 //! The records that a store keeps of owners.
 
-ghost use Rattle.std.specs.Prelude.{◌≡◌, ℕ, ◌+◌, ◌-◌, ◌<◌, [], true, Some, None, IsSome, IfSome};
-ghost use Rattle.std.specs.Prelude.{IfErr, OnOk, OnErr, option_copied, option_map, map as list_map};
-ghost use Rattle.std.specs.Prelude.{if◌then◌else◌};
+ghost use Rattle.std.specs.Prelude.{◌≡◌, ℕ, ◌<◌, ◌↔◌, [], true};
+ghost use Rattle.std.specs.Prelude.{Some, None, IfSome, IfNone, IsTrue, IfErr, OnOk, OnErr};
+ghost use Rattle.std.specs.Prelude.{option_copied, option_map, is_some, map as list_map};
+ghost use Rattle.std.specs.Prelude.{if◌then◌else◌, vec_len, slice_get, slice_set};
 ghost use Rattle.std.specs.FinMap as map;
-ghost use Rattle.generational_core.specs.Conditions.{one_more};
-ghost use Rattle.generational_box.specs.OwnerRecords.{owners_of, ownership_of, name_of_cell};
-ghost use Rattle.generational_core.specs.Conditions.{one_less, one_listed, count_under};
-ghost use Rattle.generational_core.specs.Conditions.{names_under};
-ghost use Rattle.generational_box.specs.OwnerRecords.{knows, knows_any, add_to_list_in, IsRefusal};
+ghost use Rattle.generational_core.specs.Conditions.{one_more, one_less, one_listed};
+ghost use Rattle.generational_core.specs.Conditions.{names_under, names_in};
+ghost use Rattle.generational_core.specs.Names.{change};
 ghost use Rattle.generational_core.specs.declared.error.StoreError.TheVariants.{OutOfMemory};
 ghost use Rattle.generational_core.specs.declared.error.StoreError.TheVariants.{UnknownOwner};
-ghost use Rattle.generational_core.specs.Names.{change};
+ghost use Rattle.generational_box.specs.OwnerRecords.{name_of_cell, knows, knows_any, record_of};
+ghost use Rattle.generational_box.specs.OwnerRecords.{add_to_list_in, IsRefusal};
+ghost use Rattle.generational_box.specs.OwnerPlaces.{with_ownership, change_place, owners_of};
+ghost use Rattle.generational_box.specs.OwnerPlaces.{record_at, HasRecord};
 
-use generational_core::parts::{key_of, number_of};
+use crate::pool::{LastFirst, SlotPool, make_room};
+use generational_core::parts::{key_of, number_of, place_of};
 use generational_core::{Owner, StoreError};
 use std::alloc::{AllocError, Global};
-use std::cmp::Reverse;
-use std::collections::BTreeMap;
+use std::marker::Model;
 
 /// The name of a cell of the store that keeps it.
 #[derive(Clone, Copy)]
@@ -27,170 +29,419 @@ pub(crate) struct CellName {
 }
 
 /// An owner's record: its boxes in order of insertion, and how many owner values are held.
+/// Contracts see it with its key.
 #[derive(Drop)]
 pub(crate) struct OwnerRecord {
-    pub(crate) boxes: Vec<CellName>,
-    pub(crate) count: u64,
+    key: u64,
+    boxes: Vec<CellName>,
+    count: u64,
+}
+
+impl Model for OwnerRecord {
+    ghost use Rattle.std.specs.Prelude.{map as list_map};
+    ghost use Rattle.generational_box.specs.OwnerPlaces.{Keyed};
+    ghost use Rattle.generational_box.specs.OwnerRecords.{name_of_cell};
+
+    ghost Value = { Keyed };
+
+    ghost view = { λ r. record {
+      key = r.key;
+      ownership = record { names = list_map name_of_cell r.boxes.items; count = r.count };
+    } };
 }
 
 impl OwnerRecord {
     // A record without boxes, for one owner value. Takes no memory.
-    pub(crate) fn new(alloc: Global) -> OwnerRecord
-        ensures { ownership_of result ≡ record { names = []; count = 1 } }
+    fn new(alloc: Global, key: u64) -> OwnerRecord
+        ensures { result ≡ record { key = key; ownership = record { names = []; count = 1 } } }
     {
         OwnerRecord {
+            key,
             boxes: Vec::new(alloc),
             count: 1,
         }
     }
-}
 
-/// The records of a store's owners by their keys. The newest, which is asked for most, comes first:
-/// a look-up asks the keys in order.
-pub(crate) type OwnerRecords = BTreeMap<Reverse<u64>, OwnerRecord>;
+    // The key under which it stands.
+    #[inline(always)]
+    fn key(&self) -> u64
+        ensures { result ≡ self.now.key }
+    {
+        self.key
+    }
 
-// How many owner values a record stands for.
-pub(crate) fn count(owners: &OwnerRecords, key: u64) -> u64
-    ensures { result ≡ count_under (owners_of owners.now) key }
-{
-    match find(owners, key) {
-        Some(found) => found.count,
-        None => 0,
+    // How many owner values it stands for.
+    #[inline(always)]
+    pub(crate) fn count(&self) -> u64
+        ensures { result ≡ self.now.ownership.count }
+    {
+        self.count
+    }
+
+    // Its boxes.
+    pub(crate) fn boxes(&self) -> &[CellName]
+        ensures { list_map name_of_cell result.now ≡ self.now.ownership.names }
+    {
+        self.boxes.as_slice()
+    }
+
+    // Its boxes, which it gives away.
+    fn into_boxes(self) -> Vec<CellName>
+        ensures { list_map name_of_cell result.items ≡ self.ownership.names }
+    {
+        let OwnerRecord {
+            key: _,
+            boxes,
+            count: _,
+        } = self;
+        boxes
+    }
+
+    // Puts a box at the end of the list. Want of memory changes nothing.
+    #[inline(always)]
+    fn list(&mut self, name: CellName) -> Result<(), AllocError>
+        ensures ok { OnOk result (self.new ≡
+            with_ownership (one_listed (name_of_cell name)) self.old) }
+        ensures err { OnErr result (self.new ≡ self.old) }
+    {
+        self.boxes.push(name)?;
+        Ok(())
+    }
+
+    // One owner value more.
+    fn count_up(&mut self)
+        requires { self.old.ownership.count < 18446744073709551615 }
+        ensures { self.new ≡ with_ownership one_more self.old }
+    {
+        self.count += 1;
+    }
+
+    // One owner value less.
+    fn count_down(&mut self)
+        requires { 0 < self.old.ownership.count }
+        ensures { self.new ≡ with_ownership one_less self.old }
+    {
+        self.count -= 1;
     }
 }
 
-// The record under a key.
-pub(crate) fn find(owners: &OwnerRecords, key: u64) -> Option<&OwnerRecord>
-    ensures { option_map ownership_of (option_copied result) ≡ map.get (owners_of owners.now) key }
-{
-    owners.get(&Reverse(key))
+/// The records of a store's owners. Contracts see them as a map by their keys.
+///
+/// Each stands at a place of its own until it is taken away, and an owner carries that place as a
+/// hint. So an owner of this very store is looked up in one step. Only one that another store gave
+/// is searched for at all places: another store of the same number, since the number is asked
+/// first.
+#[derive(Drop)]
+pub(crate) struct OwnerRecords {
+    places: Vec<Option<OwnerRecord>>,
+    // the places without a record
+    vacant: LastFirst,
 }
 
-// Whether the owner, if there is one, is of a store with this number and these records.
-pub(crate) fn is_known(owners: &OwnerRecords, number: u64, owner: &Owner) -> bool
-    ensures { result ≡ knows number (owners_of owners.now) owner.now }
-{
-    number_of(owner) == number && find(owners, key_of(owner)).is_some()
+impl Model for OwnerRecords {
+    ghost use Rattle.std.specs.Coded.{codes};
+    ghost use Rattle.std.specs.FinMap as map;
+    ghost use Rattle.generational_core.specs.State.{Owners};
+    ghost use Rattle.generational_box.specs.OwnerPlaces.{owners_of, ArePlaced};
+    ghost use Rattle.generational_box.specs.Pools.{members_of};
+
+    ghost Value = { Owners };
+
+    ghost coded = { Prim.hlevel (codes, map.code) };
+
+    ghost view = { λ r. owners_of r.places.items };
+
+    ghost invariant = { λ r. ArePlaced (members_of r.vacant) r.vacant.rooms r.places.items };
 }
 
-// Puts a box at the end of the owner's list, if there is an owner. A refusal changes no record.
+impl OwnerRecords {
+    // No records. Takes no memory.
+    pub(crate) fn new(alloc: Global) -> OwnerRecords
+        ensures { result ≡ map.empty }
+    {
+        OwnerRecords {
+            places: Vec::new(alloc),
+            vacant: LastFirst::new(alloc),
+        }
+    }
+
+    // Whether there is no record. Asks all places.
+    pub(crate) fn is_empty(&self) -> bool
+        ensures { IsTrue result ↔ (self.now ≡ map.empty) }
+    {
+        are_vacant(self.places.as_slice())
+    }
+
+    // The owner's record, if it is of a store with this number and these records.
+    #[inline(always)]
+    pub(crate) fn find(&self, number: u64, owner: &Owner) -> Option<&OwnerRecord>
+        ensures { option_map (λ r. r.ownership) (option_copied result) ≡
+            record_of number self.now owner.now }
+    {
+        if number_of(owner) != number {
+            return None;
+        }
+        match find_place(&self.places, owner) {
+            Some(place) => self.places[place].as_ref(),
+            None => None,
+        }
+    }
+
+    // Whether the owner is of a store with this number and these records.
+    pub(crate) fn knows(&self, number: u64, owner: &Owner) -> bool
+        ensures { result ≡ knows number self.now owner.now }
+    {
+        self.find(number, owner).is_some()
+    }
+
+    // Puts a box at the end of the owner's list, if there is an owner. A refusal changes no record.
+    #[inline(always)]
+    pub(crate) fn list_for(
+        &mut self,
+        number: u64,
+        owner: Option<&Owner>,
+        name: CellName,
+    ) -> Result<(), StoreError>
+        ensures known { OnOk result (knows_any number self.old (option_copied owner.entry)
+            ≡ true) }
+        ensures ok { OnOk result (self.new ≡ add_to_list_in self.old
+            (option_copied owner.entry) (name_of_cell name)) }
+        ensures err { OnErr result (self.new ≡ self.old) }
+        ensures refused { IfErr result (λ cause. IsRefusal number self.old
+            (option_copied owner.entry) cause) }
+    {
+        match owner {
+            None => Ok(()),
+            Some(owner) => self.list(number, owner, name),
+        }
+    }
+
+    // The same for an owner.
+    fn list(&mut self, number: u64, owner: &Owner, name: CellName) -> Result<(), StoreError>
+        ensures known { OnOk result (knows number self.old owner.now ≡ true) }
+        ensures ok { OnOk result (self.new ≡ change self.old owner.now.key
+            (one_listed (name_of_cell name))) }
+        ensures err { OnErr result (self.new ≡ self.old) }
+        ensures refused { IfErr result (λ cause. IsRefusal number self.old
+            (Some owner.now) cause) }
+    {
+        if number_of(owner) != number {
+            return Err(StoreError::UnknownOwner);
+        }
+        let place = match find_place(&self.places, owner) {
+            Some(place) => place,
+            None => return Err(StoreError::UnknownOwner),
+        };
+        match list_at(&mut self.places, place, name) {
+            Ok(()) => {}
+            Err(_) => return Err(StoreError::OutOfMemory),
+        }
+        Ok(())
+    }
+
+    // Why a making is refused for which there is no memory: its owner, if it has one, may be
+    // unknown.
+    #[inline(always)]
+    pub(crate) fn lacking(&self, number: u64, owner: Option<&Owner>) -> StoreError
+        ensures { result ≡ (if knows_any number self.now (option_copied owner.entry) then
+            OutOfMemory else UnknownOwner) }
+    {
+        match owner {
+            None => StoreError::OutOfMemory,
+            Some(owner) => self.lacking_for(number, owner),
+        }
+    }
+
+    // The same for an owner.
+    #[cold]
+    #[inline(never)]
+    fn lacking_for(&self, number: u64, owner: &Owner) -> StoreError
+        ensures { result ≡ (if knows number self.now owner.now then OutOfMemory else
+            UnknownOwner) }
+    {
+        if self.knows(number, owner) {
+            StoreError::OutOfMemory
+        } else {
+            StoreError::UnknownOwner
+        }
+    }
+
+    // Adds a record for one owner value under a key that has none. The answer is its place. Want
+    // of memory changes nothing.
+    pub(crate) fn add(&mut self, alloc: Global, key: u64) -> Result<usize, AllocError>
+        requires { map.get self.old key ≡ None }
+        ensures ok { OnOk result (self.new ≡ map.insert self.old key
+            (record { names = []; count = 1 })) }
+        ensures err { OnErr result (self.new ≡ self.old) }
+    {
+        let added = OwnerRecord::new(alloc, key);
+        match self.vacant.take() {
+            Some(place) => {
+                self.places[place] = Some(added);
+                Ok(place)
+            }
+            None => {
+                match make_room(&mut self.places, &mut self.vacant) {
+                    Ok(()) => {}
+                    Err(_) => return Err(AllocError),
+                }
+                let place = self.places.len();
+                self.places.push_reserved(Some(added));
+                Ok(place)
+            }
+        }
+    }
+
+    // Takes the owner's record away: its boxes. Takes no memory.
+    pub(crate) fn take(&mut self, owner: &Owner, alloc: Global) -> Vec<CellName>
+        ensures after { self.new ≡ map.remove self.old owner.now.key }
+        ensures names { list_map name_of_cell result.items ≡ names_under self.old owner.now.key }
+    {
+        match find_place(&self.places, owner) {
+            Some(place) => {
+                let boxes = take_at(&mut self.places, place, alloc);
+                self.vacant.put(place);
+                boxes
+            }
+            None => Vec::new(alloc),
+        }
+    }
+
+    // One owner value more of the owner's record. The answer is the record's place.
+    pub(crate) fn count_up(&mut self, owner: &Owner) -> usize
+        requires { IfSome (map.get self.old owner.now.key)
+            (λ h. h.count < 18446744073709551615) }
+        ensures { self.new ≡ change self.old owner.now.key one_more }
+    {
+        match find_place(&self.places, owner) {
+            Some(place) => {
+                count_up_at(&mut self.places, place);
+                place
+            }
+            None => place_of(owner),
+        }
+    }
+
+    // One owner value less of the owner's record.
+    pub(crate) fn count_down(&mut self, owner: &Owner)
+        requires { IfSome (map.get self.old owner.now.key) (λ h. 0 < h.count) }
+        ensures { self.new ≡ change self.old owner.now.key one_less }
+    {
+        match find_place(&self.places, owner) {
+            Some(place) => count_down_at(&mut self.places, place),
+            None => {}
+        }
+    }
+}
+
+// The place of the owner's record: the one that the owner's hint names, or another.
 #[inline(always)]
-pub(crate) fn list_for(
-    owners: &mut OwnerRecords,
-    number: u64,
-    owner: Option<&Owner>,
-    name: CellName,
-) -> Result<(), StoreError>
-    ensures known { OnOk result (knows_any number (owners_of owners.old) (option_copied owner.entry)
-        ≡ true) }
-    ensures ok { OnOk result (owners_of owners.new ≡ add_to_list_in (owners_of owners.old)
-        (option_copied owner.entry) (name_of_cell name)) }
-    ensures err { OnErr result (owners_of owners.new ≡ owners_of owners.old) }
-    ensures refused { IfErr result (λ cause. IsRefusal number (owners_of owners.old)
-        (option_copied owner.entry) cause) }
+fn find_place(places: &Vec<Option<OwnerRecord>>, owner: &Owner) -> Option<usize>
+    ensures found { IfSome result (λ place.
+        HasRecord owner.now.key (slice_get places.now.items place)) }
+    ensures none { IfNone result ((place : ℕ) →
+        record_at owner.now.key (slice_get places.now.items place) ≡ None) }
 {
-    match owner {
-        None => Ok(()),
-        Some(owner) => list(owners, number, owner, name),
+    let (key, place) = (key_of(owner), place_of(owner));
+    if has_record(places, place, key) {
+        return Some(place);
     }
+    search_place(places, key)
 }
 
-// The same for an owner.
-fn list(
-    owners: &mut OwnerRecords,
-    number: u64,
-    owner: &Owner,
-    name: CellName,
-) -> Result<(), StoreError>
-    ensures known { OnOk result (knows number (owners_of owners.old) owner.now ≡ true) }
-    ensures ok { OnOk result (owners_of owners.new ≡ change (owners_of owners.old) owner.now.key
-        (one_listed (name_of_cell name))) }
-    ensures err { OnErr result (owners_of owners.new ≡ owners_of owners.old) }
-    ensures refused { IfErr result (λ cause. IsRefusal number (owners_of owners.old)
-        (Some owner.now) cause) }
-{
-    if number_of(owner) != number {
-        return Err(StoreError::UnknownOwner);
-    }
-    match owners.get_mut(&Reverse(key_of(owner))) {
-        Some(found) => match found.boxes.push(name) {
-            Ok(()) => Ok(()),
-            Err(_) => Err(StoreError::OutOfMemory),
-        },
-        None => Err(StoreError::UnknownOwner),
-    }
-}
-
-// Why a making is refused for which there is no memory: its owner, if it has one, may be unknown.
-#[inline(always)]
-pub(crate) fn lacking(owners: &OwnerRecords, number: u64, owner: Option<&Owner>) -> StoreError
-    ensures { result ≡ (if knows_any number (owners_of owners.now) (option_copied owner.entry) then
-        OutOfMemory else UnknownOwner) }
-{
-    match owner {
-        None => StoreError::OutOfMemory,
-        Some(owner) => lacking_for(owners, number, owner),
-    }
-}
-
-// The same for an owner.
+// The place of the record under a key. Asks all places.
 #[cold]
 #[inline(never)]
-fn lacking_for(owners: &OwnerRecords, number: u64, owner: &Owner) -> StoreError
-    ensures { result ≡ (if knows number (owners_of owners.now) owner.now then OutOfMemory else
-        UnknownOwner) }
+fn search_place(places: &Vec<Option<OwnerRecord>>, key: u64) -> Option<usize>
+    ensures found { IfSome result (λ place. HasRecord key (slice_get places.now.items place)) }
+    ensures none { IfNone result ((place : ℕ) →
+        record_at key (slice_get places.now.items place) ≡ None) }
 {
-    if is_known(owners, number, owner) {
-        StoreError::OutOfMemory
-    } else {
-        StoreError::UnknownOwner
-    }
-}
-
-// Adds a record under a key. Want of memory changes nothing.
-pub(crate) fn add(owners: &mut OwnerRecords, key: u64, added: OwnerRecord) -> Result<(), AllocError>
-    ensures ok { OnOk result (owners_of owners.new ≡ map.insert (owners_of owners.old) key
-        (ownership_of added)) }
-    ensures err { OnErr result (owners_of owners.new ≡ owners_of owners.old) }
-{
-    match owners.insert(Reverse(key), added) {
-        Ok(_) => Ok(()),
-        Err(_) => Err(AllocError),
-    }
-}
-
-// Takes a record away: its boxes.
-pub(crate) fn take(owners: &mut OwnerRecords, key: u64, alloc: Global) -> Vec<CellName>
-    ensures after { owners_of owners.new ≡ map.remove (owners_of owners.old) key }
-    ensures names { list_map name_of_cell result.items ≡ names_under (owners_of owners.old) key }
-{
-    match owners.remove(&Reverse(key)) {
-        Some(found) => {
-            let OwnerRecord { boxes, count: _ } = found;
-            boxes
+    for place in 0..places.len() {
+        if has_record(places, place, key) {
+            return Some(place);
         }
+    }
+    None
+}
+
+// Whether the record under a key stands at a place.
+#[inline(always)]
+fn has_record(places: &Vec<Option<OwnerRecord>>, place: usize, key: u64) -> bool
+    ensures { result ≡ is_some (record_at key (slice_get places.now.items place)) }
+{
+    match places.get(place) {
+        Some(Some(found)) => key == found.key(),
+        _ => false,
+    }
+}
+
+// Whether no record stands at any place.
+fn are_vacant(places: &[Option<OwnerRecord>]) -> bool
+    ensures { IsTrue result ↔ (owners_of places.now ≡ map.empty) }
+{
+    for place in places {
+        if place.is_some() {
+            return false;
+        }
+    }
+    true
+}
+
+// Puts a box at the end of the list of the record at a place.
+#[inline(always)]
+fn list_at(
+    places: &mut Vec<Option<OwnerRecord>>,
+    place: usize,
+    name: CellName,
+) -> Result<(), AllocError>
+    requires { place < vec_len places.old }
+    ensures ok { OnOk result (places.new.items ≡ change_place places.old.items place
+        (one_listed (name_of_cell name))) }
+    ensures err { OnErr result (places.new.items ≡ places.old.items) }
+{
+    match &mut places[place] {
+        Some(found) => found.list(name),
+        None => Ok(()),
+    }
+}
+
+// Takes the record at a place away: its boxes.
+fn take_at(places: &mut Vec<Option<OwnerRecord>>, place: usize, alloc: Global) -> Vec<CellName>
+    requires { place < vec_len places.old }
+    ensures after { places.new.items ≡ slice_set places.old.items place None }
+    ensures names { (key : ℕ) → HasRecord key (slice_get places.old.items place) →
+        list_map name_of_cell result.items
+        ≡ names_in (record_at key (slice_get places.old.items place)) }
+{
+    match places[place].take() {
+        Some(found) => found.into_boxes(),
         None => Vec::new(alloc),
     }
 }
 
-// One owner value more of a record.
-pub(crate) fn count_up(owners: &mut OwnerRecords, key: u64)
-    requires { IfSome (map.get (owners_of owners.old) key) (λ h. h.count < 18446744073709551615) }
-    ensures { owners_of owners.new ≡ change (owners_of owners.old) key one_more }
+// One owner value more of the record at a place.
+fn count_up_at(places: &mut Vec<Option<OwnerRecord>>, place: usize)
+    requires within { place < vec_len places.old }
+    requires below { IfSome (slice_get places.old.items place)
+        (λ kept. IfSome kept (λ r. r.ownership.count < 18446744073709551615)) }
+    ensures { places.new.items ≡ change_place places.old.items place one_more }
 {
-    match owners.get_mut(&Reverse(key)) {
-        Some(found) => found.count += 1,
+    match &mut places[place] {
+        Some(found) => found.count_up(),
         None => {}
     }
 }
 
-// One owner value less of a record.
-pub(crate) fn count_down(owners: &mut OwnerRecords, key: u64)
-    requires { IfSome (map.get (owners_of owners.old) key) (λ h. 0 < h.count) }
-    ensures { owners_of owners.new ≡ change (owners_of owners.old) key one_less }
+// One owner value less of the record at a place.
+fn count_down_at(places: &mut Vec<Option<OwnerRecord>>, place: usize)
+    requires within { place < vec_len places.old }
+    requires above { IfSome (slice_get places.old.items place)
+        (λ kept. IfSome kept (λ r. 0 < r.ownership.count)) }
+    ensures { places.new.items ≡ change_place places.old.items place one_less }
 {
-    match owners.get_mut(&Reverse(key)) {
-        Some(found) => found.count -= 1,
+    match &mut places[place] {
+        Some(found) => found.count_down(),
         None => {}
     }
 }

@@ -14,6 +14,8 @@ use std::marker::Model;
 pub struct Owner {
     store: u64,
     key: u64,
+    // where the store looks for the record first: a hint, which contracts leave out
+    place: usize,
 }
 
 impl Model for Owner {
@@ -89,15 +91,20 @@ impl Owner {
     /// Spends the owner value and leaves its record as it is: the record's boxes never end by an
     /// owner from then on.
     pub fn leak(self) {
-        let Owner { store: _, key: _ } = self;
+        let Owner {
+            store: _,
+            key: _,
+            place: _,
+        } = self;
     }
 }
 
-/// The owner whose record has this key in the store with this number.
-pub fn owner_at(store: u64, key: u64) -> Owner
+/// The owner whose record has this key in the store with this number. The place is a hint: the
+/// store may look for the record there first, and nothing else depends on it.
+pub fn owner_at(store: u64, key: u64, place: usize) -> Owner
     ensures { result ≡ record { store = store; key = key } }
 {
-    Owner { store, key }
+    Owner { store, key, place }
 }
 
 /// The number of the owner's store.
@@ -112,4 +119,9 @@ pub fn key_of(owner: &Owner) -> u64
     ensures { result ≡ owner.now.key }
 {
     owner.key
+}
+
+/// The place that the owner's maker gave as a hint.
+pub fn place_of(owner: &Owner) -> usize {
+    owner.place
 }

@@ -1,22 +1,25 @@
 -- The calls of owners, and makings, as steps of the machine.
-use Rattle.std.proofs.Common.{◌≡◌, ℕ, ◌+◌, ◌<◌, ◌≤◌, Bool, true, false, cond, List, [], arith}
-use Rattle.std.proofs.Common.{Option, None, Some, Err, refl, sym, ap, subst, ◌∙◌, inl, inr, is_some}
+use Rattle.std.proofs.Common.{◌≡◌, ◌+◌, ◌<◌, ◌≤◌, Bool, true, false, cond, List, [], arith}
+use Rattle.std.proofs.Common.{Option, None, Some, Err, refl, sym, ap, ◌∙◌, inl, inr, is_some}
 use Rattle.std.proofs.Common.{nat_eq}
 use Rattle.std.proofs.lemmas.Bool.{eq-eqb, eqb-true, ne_eqb, lt-ltb, le-ltb, false≢true, true≢false}
 use Rattle.std.specs.FinMap as map
 use Rattle.generational_box.proofs.Common.{GenerationalPointer, BorrowMutError, Location}
 use Rattle.generational_box.proofs.Common.{StoreError, OutOfMemory, UnknownOwner, NumbersExhausted}
-use Rattle.generational_box.proofs.Common.{end_refused, Trouble, box_of, Value, Here, close, Make}
+use Rattle.generational_box.proofs.Common.{end_refused, box_of, Value, Here, close, Make}
 use Rattle.generational_box.proofs.Common.{NewOwner, CloneOwner, ReleaseOwner, Name, change}
-use Rattle.generational_box.proofs.Common.{one_more, one_less, names_under, count_in, count_under}
+use Rattle.generational_box.proofs.Common.{one_more, one_less, names_under}
 use Rattle.generational_box.proofs.Common.{free, State, Ownership, Meets, IsNew, may_lack, no_names}
 use Rattle.generational_box.proofs.Common.{last_ticket, needs_memory, limit_tickets, by_number}
-use Rattle.generational_box.proofs.Common.{changed_there, knows, knows_any, add_to_list_in}
+use Rattle.generational_box.proofs.Common.{changed_there, knows, knows_any, record_of}
+use Rattle.generational_box.proofs.Common.{add_to_list_in}
 use Rattle.generational_box.proofs.Common.{first_borrowed, IsRefusal, OnlyValues}
 use Rattle.generational_core.specs.declared.error.Refused.{Refused as Refusing}
-use Rattle.generational_core.specs.Machine.{OwnerName, Outcome, act, ownership, add_cell, unless, make}
+use Rattle.generational_core.specs.Machine.{OwnerName, Outcome, act, ownership, add_cell, unless}
+use Rattle.generational_core.specs.Machine.{make}
 use Rattle.generational_core.specs.Machine.Answer.{Made, Owned, Done, Refused}
 use Rattle.generational_box.specs.Entry.{FoundBorrowed}
+use Rattle.generational_box.proofs.records.Counts.{record_held}
 use Rattle.generational_box.proofs.calls.Calls.{hindered_is, hindered_step, within}
 
 -- V is the state for which the store's parts stand, and S the state that contracts see
@@ -134,38 +137,36 @@ module _ {T : Type 0} {V S : State T} (view : V ≡ S) where
           )
           (inl (no_names, tt, rw (own, held.2, ne_eqb V.next last_ticket (λ e. omega arith)) refl))
 
-      -- not the last owner value of its record
-      pub release_one : (R : State T) → 1 < count_under V.owners o.key
+    -- the owner's record is h
+    module _ (h : Ownership) (found : Some h ≡ record_of V.number V.owners o) where
+      there : map.get V.owners o.key ≡ Some h
+      there = record_held V.number V.owners o h found
+
+      -- not the last owner value of the record
+      pub release_one : (R : State T) → 1 < h.count
           → R ≡ record V { owners = change V.owners o.key one_less }
           → Meets S (ReleaseOwner o) Done R
       release_one R several after =
-          let more : 1 < held.0.count = subst (λ r. 1 < count_in r) held.2 several in
-          rw (← view, after, changed_there by_number V.owners o.key one_less held.0 held.2)
-          (inl (no_names, tt, rw (own, held.2, lt-ltb 1 held.0.count more) refl))
+          rw (← view, after, changed_there by_number V.owners o.key one_less h there)
+          (inl (no_names, tt, rw (← found, lt-ltb 1 h.count several) refl))
 
-      module _ (values : OnlyValues V.cells) (few : count_under V.owners o.key ≤ 1)
-          (j : ℕ) (there : j ≡ o.key) where
-        abbrev hinders : State T → ℕ → Option Trouble
-        hinders X k = first_borrowed X.cells (names_under X.owners k)
+      module _ (values : OnlyValues V.cells) (few : h.count ≤ 1) where
+        last_is : act V (ReleaseOwner o) no_names ≡ unless (first_borrowed V.cells h.names) V
+            (Done, record (close V h.names) { owners = map.remove V.owners o.key })
+        last_is = rw (← found, le-ltb 1 h.count few, hindered_is V values h.names) refl
 
-        seen : hinders S j ≡ hinders V o.key
-        seen = rw (← view, there) refl
-
-        last_is : act V (ReleaseOwner o) no_names ≡ unless (hinders V o.key) V
-            (Done, record (close V held.0.names) { owners = map.remove V.owners o.key })
-        last_is =
-            let least : held.0.count ≤ 1 = subst (λ r. count_in r ≤ 1) held.2 few in
-            rw (own, held.2, le-ltb 1 held.0.count least, hindered_is V values held.0.names) refl
-
-        pub last_refused : (e : Refusing BorrowMutError) → FoundBorrowed (hinders S j) (Err e)
+        pub last_refused : (e : Refusing BorrowMutError)
+            → FoundBorrowed (first_borrowed V.cells h.names) (Err e)
             → Meets S (ReleaseOwner o) (end_refused e) S
-        last_refused e found =
-            rw (← view) (hindered_step V (ReleaseOwner o) e (hinders V o.key) _ last_is
-            (subst (λ t. FoundBorrowed t (Err e)) seen found))
+        last_refused e is =
+            rw (← view) (hindered_step V (ReleaseOwner o) e (first_borrowed V.cells h.names) _
+            last_is is)
 
-        pub last_done : (M R : State T) (names : List Name) → hinders S j ≡ None
-            → M ≡ record S { owners = map.remove S.owners j } → names ≡ names_under S.owners j
+        pub last_done : (M R : State T) (names : List Name)
+            → first_borrowed V.cells h.names ≡ None
+            → M ≡ record S { owners = map.remove S.owners o.key }
+            → names ≡ names_under S.owners o.key
             → R ≡ close M names → Meets S (ReleaseOwner o) Done R
         last_done M R names unhindered taken are after =
-            rw (after, taken, are, ← view, there)
-            (inl (no_names, tt, rw (last_is, sym seen ∙ unhindered, held.2) refl))
+            rw (after, taken, are, ← view)
+            (inl (no_names, tt, rw (last_is, unhindered, there) refl))

@@ -1,11 +1,10 @@
--- Lists after a write or a push, key counts, lists of free slots, and the records of owners.
+-- Lists after a write or a push, key counts, and lists of free slots.
 use Rattle.std.proofs.Common.{◌≡◌, ◌≢◌, ℕ, zero, suc, ◌+◌, ◌-◌, ◌<◌, Bool, true, false, cond, List}
 use Rattle.std.proofs.Common.{[], ◌∷◌, ◌++◌, length, Option, None, Some, refl, sym, ap, ◌∙◌, arith}
 use Rattle.std.proofs.Common.{⊎_elim, slice_get, slice_set, ◌≤◌, nat_eq, ◌||◌, ◌&&◌, not, reverse}
-use Rattle.std.proofs.Common.{inl, inr, is_some, IfSome, IsSome, subst, Ordering, option_map}
-use Rattle.std.proofs.Common.{map as list_map}
+use Rattle.std.proofs.Common.{inl, inr, is_some}
 use Rattle.std.proofs.Math.Dec.{eqb-suc-zero, eqb-zero-suc, eqb-suc-suc}
-use Rattle.std.specs.Ordering.{nat_cmp, eq_by_cmp, is_eq}
+use Rattle.std.specs.Ordering.{nat_cmp, eq_by_cmp}
 use Rattle.std.specs.Cmp.{nat_cmp_total, nat_eq_equiv}
 use Rattle.std.proofs.lemmas.Bool.{true≢false, cases_eq, cases_lt, eq-eqb, ne_eqb, cases_Bool}
 use Rattle.std.proofs.lemmas.Bool.{eqb-true, false≢true}
@@ -17,16 +16,7 @@ use Rattle.std.specs.FinMap.{nat_cmp-IsAntisymmetric}
 use Rattle.std.specs.FinMap as map
 use Rattle.std.specs.FinSet as set
 use Rattle.generational_box.proofs.Common.{by_number, key_here, key_apart, get-remove_here}
-use Rattle.generational_box.proofs.Common.{get-remove_apart, how_many, IsPool, OwnerRecord, Name}
-use Rattle.generational_box.proofs.Common.{change, change_if, Ownership, Owners, one_more, one_less}
-use Rattle.generational_box.proofs.Common.{one_listed, count_in, count_under, owners_of}
-use Rattle.generational_box.proofs.Common.{ownership_of, add_to_list_in, knows, AreCounted}
-use Rattle.generational_box.proofs.Common.{IsCounted, changed_there, insert_there}
-use Rattle.std.proofs.lemmas.Cmp.{eq_by_cmp_equiv}
-use Rattle.std.specs.BTreeMap.{BTreeMap, get, is_at, WritesThrough}
-use Rattle.std.specs.declared.cmp.Reverse.{Reverse}
-use Rattle.std.specs.Map.{lookup}
-use Rattle.generational_core.specs.Machine.{OwnerName}
+use Rattle.generational_box.proofs.Common.{get-remove_apart, how_many, IsPool}
 
 pub number_test : (a b : ℕ) → eq_by_cmp nat_cmp a b ≡ nat_eq a b
 number_test a b =
@@ -257,192 +247,3 @@ pub pool_empty : (capacity : ℕ) → IsPool [] 0 capacity
 unfolding IsDistinct
 pool_empty capacity =
     record { distinct = tt; below = λ q h. absurd (false≢true h); fits = omega arith }
-
--- the order of the records, and a key in it
-abbrev pub newest_first : Reverse ℕ → Reverse ℕ → Ordering
-newest_first a b = nat_cmp b.0 a.0
-
-abbrev pub under : ℕ → Reverse ℕ
-under k = record { 0 = k }
-
-abbrev Table : Type 0
-Table = BTreeMap (Reverse ℕ) OwnerRecord
-
-abbrev record_seen : Reverse ℕ × OwnerRecord → ℕ × Ownership
-record_seen e = (e.0.0, ownership_of e.1)
-
-find_is : (q : ℕ) (es : List (Reverse ℕ × OwnerRecord))
-    → map.find nat_cmp q (list_map record_seen es)
-    ≡ option_map ownership_of (lookup (is_at (newest_first (under q))) es)
-find_is q [] = refl
-find_is q (e ∷ es) =
-    at (is_eq (nat_cmp q e.0.0)) (find_is q es)
-    ∙ ap (λ b. option_map ownership_of
-    (cond b (Some e.1) (lookup (is_at (newest_first (under q))) es)))
-    ((eq_by_cmp_equiv nat_cmp_total).symm q e.0.0)
-  where
-    at : (b : Bool) → map.find nat_cmp q (list_map record_seen es)
-        ≡ option_map ownership_of (lookup (is_at (newest_first (under q))) es)
-        → cond b (Some (ownership_of e.1)) (map.find nat_cmp q (list_map record_seen es))
-        ≡ option_map ownership_of (cond b (Some e.1) (lookup (is_at (newest_first (under q))) es))
-    at true rest = refl
-    at false rest = rest
-
--- what the machine's map has under a key
-pub owners_get : (m : Table) (q : ℕ)
-    → map.get (owners_of m) q ≡ option_map ownership_of (get newest_first m (under q))
-owners_get m q =
-    map.get-from_entries nat_cmp_total (list_map record_seen m.entries) q
-    ∙ find_is q m.entries
-
--- n is m with v at a key
-abbrev IsUpdated : Table → Table → ℕ → Option OwnerRecord → Type 0
-IsUpdated m n k v = (q : Reverse ℕ)
-    → get newest_first n q ≡ cond (is_at (newest_first (under k)) q) v (get newest_first m q)
-
-updated : (m n : Table) (k : ℕ) (v : Option OwnerRecord) → IsUpdated m n k v → (q : ℕ)
-    → map.get (owners_of n) q
-    ≡ cond (eq_by_cmp nat_cmp q k) (option_map ownership_of v) (map.get (owners_of m) q)
-updated m n k v updates q =
-    owners_get n q
-    ∙ ap (option_map ownership_of) (updates (under q))
-    ∙ at (eq_by_cmp nat_cmp q k)
-  where
-    at : (b : Bool) → option_map ownership_of (cond b v (get newest_first m (under q)))
-        ≡ cond b (option_map ownership_of v) (map.get (owners_of m) q)
-    at true = refl
-    at false = sym (owners_get m q)
-
-pub owners_insert : (m n : Table) (k : ℕ) (r : OwnerRecord) → IsUpdated m n k (Some r)
-    → owners_of n ≡ map.insert (owners_of m) k (ownership_of r)
-owners_insert m n k r updates =
-    map.same_map nat_cmp_total map.nat_cmp-IsAntisymmetric _ _ (λ q.
-    updated m n k (Some r) updates q
-    ∙ sym (map.get-insert nat_cmp_total (owners_of m) k (ownership_of r) q))
-
-pub owners_remove : (m n : Table) (k : ℕ) → IsUpdated m n k None
-    → owners_of n ≡ map.remove (owners_of m) k
-owners_remove m n k updates =
-    map.same_map nat_cmp_total map.nat_cmp-IsAntisymmetric _ _ (λ q. updated m n k None updates q
-    ∙ sym (map.get-remove nat_cmp_total (owners_of m) k q))
-
-module _ (m : Table) (k : ℕ) (r : OwnerRecord) (there : Some r ≡ get newest_first m (under k)) where
-  owners_there : map.get (owners_of m) k ≡ Some (ownership_of r)
-  owners_there = owners_get m k ∙ ap (option_map ownership_of) (sym there)
-
-  -- what holds of the machine's record holds of it
-  pub owners_hold : (P : Ownership → Type 0) → IfSome (map.get (owners_of m) k) P
-      → P (ownership_of r)
-  owners_hold P holds = subst (λ o. IfSome o P) owners_there holds
-
-  -- it is written through what `get_mut` lent
-  module _ (s : OwnerRecord) (n : Table)
-      (through : WritesThrough newest_first (newest_first (under k)) m s n) where
-    written : owners_of n ≡ map.insert (owners_of m) k (ownership_of s)
-    written = owners_insert m n k s (through.3 (subst IsSome there refl)).0
-
-    pub owners_written : (f : Ownership → Ownership) → ownership_of s ≡ f (ownership_of r)
-        → owners_of n ≡ change (owners_of m) k f
-    owners_written f is =
-        written ∙ ap (map.insert (owners_of m) k) is
-        ∙ sym (changed_there by_number (owners_of m) k f (ownership_of r) owners_there)
-
-    pub owners_kept : ownership_of s ≡ ownership_of r → owners_of n ≡ owners_of m
-    owners_kept is =
-        written ∙ ap (map.insert (owners_of m) k) is
-        ∙ insert_there by_number (owners_of m) k (ownership_of r) owners_there
-
--- nothing is changed where there is no record
-pub owners_absent : (m n : Table) (k : ℕ) (f : Ownership → Ownership)
-    → None ≡ get newest_first m (under k) → n ≡ m → owners_of n ≡ change (owners_of m) k f
-unfolding change
-owners_absent m n k f absent same =
-    ap owners_of same ∙ sym (ap (change_if (owners_of m) k f)
-    (owners_get m k ∙ ap (option_map ownership_of) (sym absent)))
-
-pub owners_empty : (m : Table) → m.entries ≡ [] → owners_of m ≡ map.empty
-owners_empty m none = ap (λ es. map.from_entries (list_map record_seen es)) none
-
-pub owners_none : (m : Table) → owners_of m ≡ map.empty → m.entries ≡ []
-owners_none m nobody = at m.entries refl
-  where
-    at : (es : List (Reverse ℕ × OwnerRecord)) → m.entries ≡ es → m.entries ≡ []
-    at [] is = is
-    at (e ∷ es) is =
-        let first : map.get (owners_of m) e.0.0 ≡ Some (ownership_of e.1) =
-        owners_get m e.0.0 ∙ rw (is, key_here by_number e.0.0) refl in
-        absurd (none-some (ownership_of e.1)
-        (sym (map.get-empty nat_cmp e.0.0) ∙ (ap (λ o. map.get o e.0.0) (sym nobody) ∙ first)))
-
-pub counted_empty : (next : ℕ) → AreCounted next map.empty
-counted_empty next = record { each = λ k. rw (map.get-empty nat_cmp k) tt }
-
-module _ {next : ℕ} {owners : Owners} (counted : AreCounted next owners) where
-  pub counted_more : AreCounted (next + 1) owners
-  counted_more = record { each = λ k. more (map.get owners k) (counted.each k) }
-    where
-      more : (o : Option Ownership) → IsCounted next o → IsCounted (next + 1) o
-      more None c = tt
-      more (Some h) c = (c.0, omega (arith, c.1))
-
-  counted_update : (after : Owners) (k : ℕ) (v : Option Ownership)
-      → ((q : ℕ) → map.get after q ≡ cond (eq_by_cmp nat_cmp q k) v (map.get owners q))
-      → IsCounted next v → AreCounted next after
-  counted_update after k v updates one =
-      record { each = λ q. subst (IsCounted next) (sym (updates q)) (at q (eq_by_cmp nat_cmp q k)) }
-    where
-      at : (q : ℕ) (b : Bool) → IsCounted next (cond b v (map.get owners q))
-      at q true = one
-      at q false = counted.each q
-
-  pub counted_insert : (k : ℕ) (h : Ownership) → IsCounted next (Some h)
-      → AreCounted next (map.insert owners k h)
-  counted_insert k h one = counted_update _ k (Some h) (map.get-insert nat_cmp_total owners k h) one
-
-  pub counted_remove : (k : ℕ) → AreCounted next (map.remove owners k)
-  counted_remove k = counted_update _ k None (map.get-remove nat_cmp_total owners k) tt
-
-  counted_changed : (k : ℕ) (f : Ownership → Ownership)
-      → ((h : Ownership) → map.get owners k ≡ Some h → IsCounted next (Some h)
-      → IsCounted next (Some (f h)))
-      → AreCounted next (change owners k f)
-  unfolding change
-  counted_changed k f keeps = at (map.get owners k) refl
-    where
-      at : (o : Option Ownership) → map.get owners k ≡ o → AreCounted next (change_if owners k f o)
-      at None is = counted
-      at (Some h) is =
-          counted_insert k (f h) (keeps h is (subst (IsCounted next) is (counted.each k)))
-
-  pub counted_down : (k : ℕ) → 1 < count_under owners k → AreCounted next (change owners k one_less)
-  counted_down k several = counted_changed k one_less (λ h is c.
-      let more : 1 < h.count = subst (λ r. 1 < count_in r) is several in
-      (omega (arith, more), omega (arith, c.1)))
-
-  -- the records after a listing are as counted
-  pub counted_listed : (o : Option OwnerName) (n : Name)
-      → AreCounted next (add_to_list_in owners o n)
-  counted_listed None n = counted
-  counted_listed (Some o) n = counted_changed o.key (one_listed n) (λ h is c. c)
-
-module _ {next : ℕ} {owners : Owners} (counted : AreCounted next owners) where
-  pub counted_new : (k : ℕ) (h : Ownership) → h.count ≡ 1
-      → AreCounted (next + 1) (map.insert owners k h)
-  counted_new k h one =
-      counted_insert (counted_more counted) k h (omega (arith, one), omega (arith, one))
-
-  pub counted_up : (k : ℕ) → AreCounted (next + 1) (change owners k one_more)
-  counted_up k = counted_changed (counted_more counted) k one_more (λ h is c.
-      let old : IsCounted next (Some h) = subst (IsCounted next) is (counted.each k) in
-      (omega arith, omega (arith, old.1)))
-
--- an owner of this store is known exactly where its record is
-pub known_there : (m : Table) (number : ℕ) (o : OwnerName) (j : ℕ) (r : Option OwnerRecord)
-    → o.store ≡ number → j ≡ o.key → r ≡ get newest_first m (under j)
-    → knows number (owners_of m) o ≡ is_some r
-known_there m number o j r own key there =
-    rw (eq-eqb o.store number own, ← key, owners_get m j, ← there) (at r)
-  where
-    at : (r : Option OwnerRecord) → is_some (option_map ownership_of r) ≡ is_some r
-    at None = refl
-    at (Some r) = refl

@@ -1,22 +1,25 @@
-use Rattle.std.proofs.Common.{arith, ap, refl}
-use Rattle.generational_box.proofs.lists.Lists.{counted_new}
+use Rattle.std.proofs.Common.{arith, refl}
+use Rattle.generational_box.proofs.records.Counts.{counted_absent, counted_new}
 use Rattle.generational_box.proofs.calls.OwnerCalls.{new_exhausted, new_lacks, new_made}
 use Rattle.generational_box.proofs.parts.Parts.owner.Goals as goal
 
 pub returns-then-key : goal.returns-then-key
 returns-then-key g c = new_exhausted c.self.view_is (omega arith)
 
-pub invariant_of-self-2 : goal.invariant_of-self-2
-invariant_of-self-2 g c = (
+pub add-requires : goal.add-requires
+add-requires g c = counted_absent c.self.invariant.1
+
+pub invariant_of-self : goal.invariant_of-self
+invariant_of-self g c = (
   c.self.invariant.0,
-  rw c.in-Ok.ensures.ok
-      (counted_new c.self.invariant.1 _ _ (ap (λ h. h.count) c.new-record.ensures)),
+  rw c.in-Ok.ensures.ok (counted_new c.self.invariant.1 _ refl),
+  c.self.invariant.2,
 )
+
+pub returns-in-Ok : goal.returns-in-Ok
+returns-in-Ok g c =
+    new_made c.self.view_is c.owner_at.result _ (omega arith) c.owner_at.ensures
+    (rw c.in-Ok.ensures.ok refl)
 
 pub returns-in-Err : goal.returns-in-Err
 returns-in-Err g c = new_lacks c.self.view_is _ (omega arith) (rw c.in-Err.ensures.err refl)
-
-pub returns : goal.returns
-returns g c =
-    new_made c.self.view_is c.owner_at.result _ (omega arith) c.owner_at.ensures
-    (rw (c.in-Ok.ensures.ok, c.new-record.ensures) refl)

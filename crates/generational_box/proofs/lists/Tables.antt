@@ -1,0 +1,59 @@
+-- What a call leaves of the invariant of the table of standing borrows.
+use Rattle.std.proofs.Common.{◌≡◌, ℕ, ◌<◌, Bool, true, false, cond, List, [], length, slice_set}
+use Rattle.std.proofs.Common.{sym, ap, ◌∙◌, arith, inl, inr, nat_eq}
+use Rattle.std.specs.Ordering.{nat_cmp}
+use Rattle.std.specs.Cmp.{nat_cmp_total}
+use Rattle.std.specs.FinSet as set
+use Rattle.std.proofs.lemmas.Bool.{cases_eq, false≢true, ne_eqb}
+use Rattle.std.proofs.lemmas.List.{length-set}
+use Rattle.generational_core.specs.declared.borrow.Borrow.{Borrow}
+use Rattle.generational_box.specs.Table.{IsTable}
+use Rattle.generational_box.proofs.lists.Lists.{contains-insert_at, contains-remove_at}
+use Rattle.generational_box.proofs.lists.Lists.{contains_own}
+
+-- an empty set has nothing to take out
+pub remove_none : (s : set.FinSet nat_cmp) (i : ℕ) → s ≡ set.empty → set.remove s i ≡ s
+remove_none s i none = set.same_set nat_cmp_total set.nat_cmp-IsAntisymmetric _ _ (λ k.
+    contains-remove_at s i k
+    ∙ sym (contains_own s i (ap (λ e. set.contains e i) none ∙ set.contains-empty nat_cmp i) k))
+
+pub table_empty : (capacity : ℕ) → IsTable [] set.empty 0 capacity
+table_empty capacity = record {
+  within = λ i member. absurd (false≢true (sym (set.contains-empty nat_cmp i) ∙ member));
+  roomy = omega arith;
+  fits = omega arith;
+}
+
+module _ {lists : List (List Borrow)} {free : set.FinSet nat_cmp} {rooms capacity : ℕ}
+    (t : IsTable lists free rooms capacity) (i : ℕ) where
+  -- an index that was given back is in use again
+  pub table_opened : (list : List Borrow)
+      → IsTable (slice_set lists i list) (set.remove free i) rooms capacity
+  table_opened list = record {
+    within = within;
+    roomy = let long = length-set lists i list in omega (arith, t.roomy);
+    fits = t.fits;
+  }
+    where
+      left : (b : Bool) (k : ℕ) → cond b false (set.contains free k) ≡ true
+          → set.contains free k ≡ true
+      left true k h = absurd (false≢true h)
+      left false k h = h
+
+      within : (k : ℕ) → set.contains (set.remove free i) k ≡ true
+          → k < length (slice_set lists i list)
+      within k member =
+          let long = length-set lists i list in
+          let low = t.within k (left (nat_eq k i) k (sym (contains-remove_at free i k) ∙ member)) in
+          omega arith
+
+  -- an index is given back
+  pub table_closed : i < length lists → IsTable lists (set.insert free i) rooms capacity
+  table_closed low = record { within = within; roomy = t.roomy; fits = t.fits }
+    where
+      within : (k : ℕ) → set.contains (set.insert free i) k ≡ true → k < length lists
+      within k member = elim (cases_eq k i) [
+        | inl e ↦ rw e low
+        | inr ne ↦ t.within k
+            (rw (contains-insert_at free i k, ne_eqb k i ne) at member)
+      ]

@@ -1,0 +1,3 @@
+-- The records of owners.
+pub mod Counts
+pub mod Places

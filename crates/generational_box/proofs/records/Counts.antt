@@ -1,0 +1,95 @@
+-- How many owner values the records stand for, and below which key they stand.
+use Rattle.std.proofs.Common.{◌≡◌, ℕ, ◌+◌, ◌<◌, Bool, true, false, cond, Option, None, Some, refl}
+use Rattle.std.proofs.Common.{sym, arith, subst, nat_eq}
+use Rattle.std.proofs.lemmas.Option.{none-some}
+use Rattle.generational_box.proofs.Common.{record_of}
+use Rattle.std.specs.Ordering.{nat_cmp, eq_by_cmp}
+use Rattle.std.specs.Cmp.{nat_cmp_total}
+use Rattle.std.specs.FinMap as map
+use Rattle.generational_box.proofs.Common.{by_number, key_same, AreCounted, IsCounted, change}
+use Rattle.generational_box.proofs.Common.{change_if, Ownership, Owners, one_more, one_less, Name}
+use Rattle.generational_box.proofs.Common.{one_listed, count_in, count_under, add_to_list_in}
+use Rattle.generational_core.specs.Machine.{OwnerName}
+
+pub counted_empty : (next : ℕ) → AreCounted next map.empty
+counted_empty next = record { each = λ k. rw (map.get-empty nat_cmp k) tt }
+
+module _ {next : ℕ} {owners : Owners} (counted : AreCounted next owners) where
+  pub counted_more : AreCounted (next + 1) owners
+  counted_more = record { each = λ k. more k (map.get owners k) (counted.each k) }
+    where
+      more : (k : ℕ) (o : Option Ownership) → IsCounted next k o → IsCounted (next + 1) k o
+      more k None c = tt
+      more k (Some h) c = (c.0, omega (arith, c.1), omega (arith, c.2))
+
+  -- the next key has no record
+  pub counted_absent : map.get owners next ≡ None
+  counted_absent = at (map.get owners next) (counted.each next)
+    where
+      at : (o : Option Ownership) → IsCounted next next o → o ≡ None
+      at None c = refl
+      at (Some h) c = absurd (omega (arith, c.2))
+
+  counted_update : (after : Owners) (k : ℕ) (v : Option Ownership)
+      → ((q : ℕ) → map.get after q ≡ cond (eq_by_cmp nat_cmp q k) v (map.get owners q))
+      → IsCounted next k v → AreCounted next after
+  counted_update after k v updates one = record {
+    each = λ q.
+        subst (IsCounted next q) (sym (updates q)) (at q (eq_by_cmp nat_cmp q k) refl);
+  }
+    where
+      at : (q : ℕ) (b : Bool) → eq_by_cmp nat_cmp q k ≡ b
+          → IsCounted next q (cond b v (map.get owners q))
+      at q true same = subst (λ j. IsCounted next j v) (sym (key_same by_number q k same)) one
+      at q false other = counted.each q
+
+  pub counted_insert : (k : ℕ) (h : Ownership) → IsCounted next k (Some h)
+      → AreCounted next (map.insert owners k h)
+  counted_insert k h one = counted_update _ k (Some h) (map.get-insert nat_cmp_total owners k h) one
+
+  pub counted_remove : (k : ℕ) → AreCounted next (map.remove owners k)
+  counted_remove k = counted_update _ k None (map.get-remove nat_cmp_total owners k) tt
+
+  counted_changed : (k : ℕ) (f : Ownership → Ownership)
+      → ((h : Ownership) → map.get owners k ≡ Some h → IsCounted next k (Some h)
+      → IsCounted next k (Some (f h)))
+      → AreCounted next (change owners k f)
+  unfolding change
+  counted_changed k f keeps = at (map.get owners k) refl
+    where
+      at : (o : Option Ownership) → map.get owners k ≡ o → AreCounted next (change_if owners k f o)
+      at None is = counted
+      at (Some h) is =
+          counted_insert k (f h) (keeps h is (subst (IsCounted next k) is (counted.each k)))
+
+  pub counted_down : (k : ℕ) → 1 < count_under owners k → AreCounted next (change owners k one_less)
+  counted_down k several = counted_changed k one_less (λ h is c.
+      let more : 1 < h.count = subst (λ r. 1 < count_in r) is several in
+      (omega (arith, more), omega (arith, c.1), c.2))
+
+  -- the records after a listing are as counted
+  pub counted_listed : (o : Option OwnerName) (n : Name)
+      → AreCounted next (add_to_list_in owners o n)
+  counted_listed None n = counted
+  counted_listed (Some o) n = counted_changed o.key (one_listed n) (λ h is c. c)
+
+module _ {next : ℕ} {owners : Owners} (counted : AreCounted next owners) where
+  pub counted_new : (h : Ownership) → h.count ≡ 1
+      → AreCounted (next + 1) (map.insert owners next h)
+  counted_new h one =
+      counted_insert (counted_more counted) next h
+      (omega (arith, one), omega (arith, one), omega arith)
+
+  pub counted_up : (k : ℕ) → AreCounted (next + 1) (change owners k one_more)
+  counted_up k = counted_changed (counted_more counted) k one_more (λ h is c.
+      let old : IsCounted next k (Some h) = subst (IsCounted next k) is (counted.each k) in
+      (omega arith, omega (arith, old.1), omega (arith, old.2)))
+
+-- what is found of an owner is what stands under its key
+pub record_held : (number : ℕ) (owners : Owners) (o : OwnerName) (h : Ownership)
+    → Some h ≡ record_of number owners o → map.get owners o.key ≡ Some h
+record_held number owners o h is = at (nat_eq o.store number) (sym is)
+  where
+    at : (b : Bool) → cond b (map.get owners o.key) None ≡ Some h → map.get owners o.key ≡ Some h
+    at true is = is
+    at false is = absurd (none-some h is)
