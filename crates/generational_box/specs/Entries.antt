@@ -84,9 +84,9 @@ pub record AreIndexed {T : Type 0} (t : Table) (es : List (StorageEntry T)) : Ty
   pub lent : (k : ℕ) → IsIndexed (slice_get es k)
   pub apart : (j k : ℕ) → index_in (slice_get es j) ≢ no_index
       → index_in (slice_get es j) ≡ index_in (slice_get es k) → j ≡ k
-  -- the indexes of slots and the free ones are all that there are, no more than there are slots
+  -- the indexes of slots and the free ones are all that there are, one more than slots at most
   pub counted : set.len t.free + how_many has_index es ≡ length t.lists
-  pub few : length t.lists ≤ length es
+  pub few : length t.lists ≤ length es + 1
 
 -- there is room for this many slots, but for no index beyond the last
 pub record AreRoomy (room count capacity made borrowed : ℕ) : Type 0 where
@@ -94,7 +94,7 @@ pub record AreRoomy (room count capacity made borrowed : ℕ) : Type 0 where
   pub entries : room ≤ capacity
   pub created : room ≤ made
   pub borrows : room ≤ borrowed
-  pub indexes : room < no_index
+  pub indexes : room + 1 < no_index
 
 module _ {T : Type 0} where
   -- the borrows that stand at a slot's cell as readers

@@ -1,5 +1,5 @@
 -- The table of all standing borrows of a store.
-use Rattle.std.specs.Prelude.{◌≡◌, ◌<◌, ◌≤◌, ℕ, ◌⊎◌, true, nat_eq, if◌then◌else◌}
+use Rattle.std.specs.Prelude.{◌≡◌, ◌<◌, ◌≤◌, ℕ, ◌⊎◌, Bool, true, false, nat_eq, if◌then◌else◌}
 use Rattle.std.specs.Prelude.{List, [], ◌∷◌, ◌++◌, length, slice_index_or, slice_set}
 use Rattle.std.specs.Ordering.{nat_cmp}
 use Rattle.std.specs.FinSet as set
@@ -26,10 +26,16 @@ IsVacant t index =
     ((set.contains t.free index ≡ true) × (index < length t.lists))
     ⊎ ((t.free ≡ set.empty) × (index ≡ length t.lists))
 
--- an index that was given back has a list, there is room for each index among the free ones, and
--- the buffer has room for all lists
-pub record IsTable (lists : List (List Borrow)) (free : set.FinSet nat_cmp) (rooms capacity : ℕ)
+-- the free indexes with 0, if that is one
+abbrev pub free_with : Bool → set.FinSet nat_cmp → set.FinSet nat_cmp
+free_with true free = set.insert free 0
+free_with false free = free
+
+-- the lists from index 1 on: an index that was given back has one, there is room for each index
+-- among the free ones, and the buffer has room for all lists
+pub record IsTable (rest : List (List Borrow)) (free : set.FinSet nat_cmp) (rooms capacity : ℕ)
     : Type 0 where
-  pub within : (index : ℕ) → set.contains free index ≡ true → index < length lists
-  pub roomy : length lists ≤ rooms
+  pub within : (index : ℕ) → set.contains free index ≡ true → index ≤ length rest
+  pub beside : set.contains free 0 ≡ false
+  pub roomy : 0 < length rest → length rest < rooms
   pub fits : rooms ≤ capacity

@@ -51,6 +51,15 @@ impl Borrows {
         }
     }
 
+    // No borrow. Takes no memory.
+    pub(crate) fn none(alloc: Global) -> Borrows
+        ensures { result ≡ [] }
+    {
+        Borrows {
+            kept: KeptBorrows::Many(VecDeque::new(alloc)),
+        }
+    }
+
     #[inline(always)]
     pub(crate) fn is_empty(&self) -> bool
         ensures { IsTrue result ↔ (self.now ≡ []) }

@@ -384,10 +384,10 @@ fn release_among(borrows: &mut BorrowTable, alloc: Global, index: &mut u32, tick
 
 // The next larger number of slots for which room is made.
 fn more_room(room: usize) -> Result<usize, StoreError>
-    ensures more { IfOk result (λ more. (room < more) × (more < no_index)) }
+    ensures more { IfOk result (λ more. (room < more) × (more + 1 < no_index)) }
     ensures cause { IfErr result (λ error. error ≡ OutOfMemory) }
 {
-    let most = NO_INDEX as usize - 1;
+    let most = NO_INDEX as usize - 2;
     if room >= most {
         return Err(StoreError::OutOfMemory);
     }

@@ -17,38 +17,50 @@ use std::marker::Model;
 
 /// The standing borrows of a store: at each index those of one cell. An index that was given back
 /// is used again.
+///
+/// Index 0 stands in place: a borrow that is released before the next begins never touches the
+/// others.
 #[derive(Drop)]
 pub(crate) struct BorrowTable {
-    lists: Vec<Borrows>,
-    // the indexes that were given back
+    // the borrows at index 0, and whether it may be used
+    first: Borrows,
+    is_vacant: bool,
+    // the borrows at the indexes from 1 on
+    rest: Vec<Borrows>,
+    // of these the indexes that were given back
     free: LastFirst,
 }
 
 impl Model for BorrowTable {
     ghost use Rattle.std.specs.Coded.{codes};
     ghost use Rattle.std.specs.FinMap as map;
-    ghost use Rattle.std.specs.Prelude.{vec_capacity};
+    ghost use Rattle.std.specs.Prelude.{◌∷◌, vec_capacity};
     ghost use Rattle.generational_box.specs.Pools.{members_of};
-    ghost use Rattle.generational_box.specs.Table.{Table, IsTable};
+    ghost use Rattle.generational_box.specs.Table.{Table, IsTable, free_with};
 
     ghost Value = { Table };
 
     ghost coded = { Prim.hlevel (codes, map.code) };
 
-    ghost view = { λ t.
-        record { lists = t.lists.items; free = members_of t.free; rooms = t.free.rooms } };
+    ghost view = { λ t. record {
+      lists = t.first ∷ t.rest.items;
+      free = free_with t.is_vacant (members_of t.free);
+      rooms = t.free.rooms;
+    } };
 
     ghost invariant = { λ t.
-        IsTable t.lists.items (members_of t.free) t.free.rooms (vec_capacity t.lists) };
+        IsTable t.rest.items (members_of t.free) t.free.rooms (vec_capacity t.rest) };
 }
 
 impl BorrowTable {
-    // No list, and room for none. Takes no memory.
+    // Index 0 alone, which is free. Takes no memory.
     pub(crate) fn new(alloc: Global) -> BorrowTable
-        ensures { result ≡ record { lists = []; free = set.empty; rooms = 0 } }
+        ensures { result ≡ record { lists = [] ∷ []; free = set.insert set.empty 0; rooms = 0 } }
     {
         BorrowTable {
-            lists: Vec::new(alloc),
+            first: Borrows::none(alloc),
+            is_vacant: true,
+            rest: Vec::new(alloc),
             free: LastFirst::new(alloc),
         }
     }
@@ -62,8 +74,8 @@ impl BorrowTable {
         ensures ok { OnOk result (room ≤ self.new.rooms) }
         ensures cause { IfErr result (λ error. error ≡ OutOfMemory) }
     {
-        if self.lists.capacity() < room {
-            reserve_room(&mut self.lists, room)?;
+        if self.rest.capacity() < room {
+            reserve_room(&mut self.rest, room)?;
         }
         self.free.grow(room)
     }
@@ -78,34 +90,57 @@ impl BorrowTable {
         ensures free { self.new.free ≡ set.remove self.old.free result }
         ensures rooms { self.new.rooms ≡ self.old.rooms }
     {
-        match self.free.take() {
-            Some(index) => {
-                self.lists[index] = Borrows::new(borrow);
-                index as u32
-            }
-            None => self.open_last(borrow),
+        if self.is_vacant {
+            self.first = Borrows::new(borrow);
+            self.is_vacant = false;
+            return 0;
         }
+        self.open_beside(borrow)
     }
 
-    // Begins a list after the last one.
+    // Begins a list where index 0 is in use.
     #[cold]
     #[inline(never)]
-    fn open_last(&mut self, borrow: Borrow) -> u32
-        requires room { length self.old.lists < self.old.rooms }
+    fn open_beside(&mut self, borrow: Borrow) -> u32
+        requires used { set.contains self.old.free 0 ≡ false }
+        requires room { self.old.free ≡ set.empty → length self.old.lists < self.old.rooms }
         requires small { length self.old.lists < 4294967295 }
-        ensures last { result ≡ length self.old.lists }
-        ensures lists { self.new.lists ≡ self.old.lists ++ (borrow ∷ []) ∷ [] }
-        ensures free { self.new.free ≡ self.old.free }
+        ensures vacant { IsVacant self.old result }
+        ensures lists { self.new.lists ≡ put_list self.old.lists result (borrow ∷ []) }
+        ensures free { self.new.free ≡ set.remove self.old.free result }
         ensures rooms { self.new.rooms ≡ self.old.rooms }
     {
-        let index = self.lists.len();
-        self.lists.push_reserved(Borrows::new(borrow));
-        index as u32
+        match self.free.take() {
+            Some(index) => {
+                self.rest[index - 1] = Borrows::new(borrow);
+                index as u32
+            }
+            None => {
+                self.rest.push_reserved(Borrows::new(borrow));
+                self.rest.len() as u32
+            }
+        }
     }
 
     // Gives an index back. What stands there is forgotten.
     #[inline(always)]
     pub(crate) fn close(&mut self, index: u32)
+        requires within { index < length self.old.lists }
+        requires used { set.contains self.old.free index ≡ false }
+        ensures { self.new ≡ record self.old { free = set.insert self.old.free index } }
+    {
+        if index == 0 {
+            self.is_vacant = true;
+            return;
+        }
+        self.close_beside(index);
+    }
+
+    // Gives an index back that isn't 0.
+    #[cold]
+    #[inline(never)]
+    fn close_beside(&mut self, index: u32)
+        requires beside { 0 < index }
         requires within { index < length self.old.lists }
         requires used { set.contains self.old.free index ≡ false }
         ensures { self.new ≡ record self.old { free = set.insert self.old.free index } }
@@ -119,7 +154,10 @@ impl BorrowTable {
         requires { index < length self.now.lists }
         ensures { result.now ≡ list_at self.now.lists index }
     {
-        &self.lists[index as usize]
+        if index == 0 {
+            return &self.first;
+        }
+        &self.rest[index as usize - 1]
     }
 
     // Adds a borrow at the end of a list. Want of memory changes nothing.
@@ -137,11 +175,13 @@ impl BorrowTable {
         }) }
         ensures err { OnErr result (self.new ≡ self.old) }
     {
-        self.lists[index as usize].push(alloc, borrow)
+        if index == 0 {
+            return self.first.push(alloc, borrow);
+        }
+        self.rest[index as usize - 1].push(alloc, borrow)
     }
 
     // Takes the ticket's own borrow out of a list. The answer is whether there was one.
-    #[inline(always)]
     pub(crate) fn remove(&mut self, alloc: Global, index: u32, ticket: u64) -> bool
         requires { index < length self.old.lists }
         ensures known { result ≡ list_any (λ b. nat_eq b.ticket ticket)
@@ -151,7 +191,10 @@ impl BorrowTable {
               (filter (λ b. not (nat_eq b.ticket ticket)) (list_at self.old.lists index));
         } }
     {
-        self.lists[index as usize].remove(alloc, ticket)
+        if index == 0 {
+            return self.first.remove(alloc, ticket);
+        }
+        self.rest[index as usize - 1].remove(alloc, ticket)
     }
 }
 

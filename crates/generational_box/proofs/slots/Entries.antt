@@ -1,7 +1,7 @@
 -- The slots of a store with the table of their borrows: what a slot that is written, and a table
 -- that changes at one index, leave of the others.
 use Rattle.std.proofs.Common.{◌≡◌, ◌≢◌, ℕ, zero, suc, ◌+◌, ◌-◌, ◌<◌, ◌≤◌, Bool, true, false, cond}
-use Rattle.std.proofs.Common.{List, [], ◌∷◌, ◌++◌, length, Option, None, Some, refl, sym, ap}
+use Rattle.std.proofs.Common.{not, List, [], ◌∷◌, ◌++◌, length, Option, None, Some, refl, sym, ap}
 use Rattle.std.proofs.Common.{◌∙◌, arith, IfSome, OnOk, OnErr, Result, Ok, Err, is_none, is_some}
 use Rattle.std.proofs.Common.{subst, inl, inr, ◌⊎◌, slice_get, slice_set, nat_eq, length-append}
 use Rattle.std.proofs.Common.{◌&&◌}
@@ -130,6 +130,7 @@ module _ {T : Type 0} where
         → (index_of e.content ≢ no_index → (k : ℕ) → k ≢ i
         → index_in (slice_get es k) ≢ index_of e.content)
         → set.len t'.free + how_many has_index es' ≡ length t'.lists → length t'.lists ≤ length es'
+        + 1
         → AreIndexed t' es'
     indexed {t} {t'} s others here lent alone counted few =
         record {
@@ -317,7 +318,7 @@ pub record IsKept {T : Type 0} (t : Table) (es : List (StorageEntry T)) (ls : Li
   pub slots : entries_of t.lists es ls ≡ now.slots
   pub indexed : AreIndexed t es
   pub made : length ls ≡ length es
-  pub small : length es < no_index
+  pub small : length es + 1 < no_index
 
 pub kept : {T : Type 0} {t : Table} {es : List (StorageEntry T)} {ls : List Location}
     {now : EntryList T} {room entries created : ℕ}
@@ -538,7 +539,7 @@ module _ {T : Type 0} {t : Table} {es : List (StorageEntry T)} {ls : List Locati
           → LentHasIndex e'.content
           → set.len t'.free + bit (has_index e') + length t.lists
           ≡ set.len t.free + bit (has_index e) + length t'.lists
-          → length t'.lists ≤ length es → AreIndexed t' (slice_set es i e')
+          → length t'.lists ≤ length es + 1 → AreIndexed t' (slice_set es i e')
       step_indexed e' here lent counts few =
           let w = set_written es i e' e there in
           let count = rw there at (w.count has_index) in
@@ -608,7 +609,7 @@ module _ {T : Type 0} {t : Table} {es : List (StorageEntry T)} {ls : List Locati
             let counted = s.indexed.counted in let less = fewer in
             step_indexed (opened o) open_below open_alone e' (λ some. (at, opened_used o)) lent
             (rw (has, has_none) (omega arith))
-            (opened_few o (length es) few (λ z. omega arith))
+            (opened_few o (length es + 1) few (λ z. omega arith))
 
     module _ (x : ℕ) (is : index_of e.content ≡ x) (some : x ≢ no_index) where
       pub used_x : IsUsed t x
@@ -732,12 +733,16 @@ room_for_one ls {now} {room} view v left =
 -- ---- slots without borrows
 
 pub indexed_none : {T : Type 0} {t : Table} {es : List (StorageEntry T)} → es ≡ []
-    → t ≡ record { lists = []; free = set.empty; rooms = 0 } → AreIndexed t es
+    → t ≡ record { lists = [] ∷ []; free = set.insert set.empty 0; rooms = 0 } → AreIndexed t es
 indexed_none none is = rw (none, is) (record {
   used = λ k some. absurd (some refl);
   lent = λ k. tt;
   apart = λ j k some same. absurd (some refl);
-  counted = rw (set.len-empty nat_cmp) refl;
+  counted = rw (
+    set.len-insert nat_cmp_total set.empty 0,
+    set.contains-empty nat_cmp 0,
+    set.len-empty nat_cmp,
+  ) refl;
   few = omega arith;
 })
 

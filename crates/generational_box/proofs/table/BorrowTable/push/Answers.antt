@@ -1,11 +1,20 @@
-use Rattle.std.proofs.Common.{[]}
+use Rattle.std.proofs.Common.{[], ◌-◌, arith}
+use Rattle.generational_box.proofs.lists.Tables.{list_behind}
 use Rattle.std.proofs.lemmas.List.{get_or_read_under}
 use Rattle.generational_box.proofs.table.BorrowTable.push.Goals as goal
 
 pub push-requires : goal.push-requires
-push-requires c =
-    let lists = c.self.inside.lists in
-    let ascends = rw (← c.self.view_is) at c.requires.ascends in
-    let within = rw (← c.self.view_is, ← lists.ok.0) at c.requires.within in
-    rw (get_or_read_under lists.items c.args.index lists.len c.index_mut.result.now []
-    c.index_mut.ensures.value within lists.ok.0) ascends
+push-requires c = rw (← c.self.view_is, c.if-index-eq0.true) at c.requires.ascends
+
+pub push-requires-2 : goal.push-requires-2
+push-requires-2 c =
+    let rest = c.self.inside.rest in
+    let ascends = rw (
+      ← c.self.view_is,
+      list_behind c.self.inside.first rest.items c.args.index
+          c.if-index-eq0.false,
+    ) at c.requires.ascends in
+    let within = rw (← c.self.view_is) at c.requires.within in
+    rw (get_or_read_under rest.items (c.args.index - 1) rest.len c.index_mut.result.now []
+    c.index_mut.ensures.value (omega (arith, within, rest.ok.0, c.if-index-eq0.false)) rest.ok.0)
+    ascends
