@@ -1,4 +1,2 @@
--- Lists, free slots, and standing borrows.
+-- Lists and free slots.
 pub mod Lists
-pub mod Tables
-pub mod Tickets

@@ -13,13 +13,11 @@
 //! `docs/machine.md` at the repository's root.
 #![tactic(auto)]
 
-mod borrows;
-mod entries;
 mod entry;
 mod owners;
 mod parts;
 mod pool;
-mod table;
+mod readers;
 mod unsync;
 
 pub use crate::parts::Numbers;

@@ -1,7 +1,7 @@
 //! Free slots.
 
-ghost use Rattle.std.specs.Prelude.{◌≡◌, ℕ, ◌<◌, ◌≤◌, ◌∷◌, true, false, IfSome, IfNone, IfErr};
-ghost use Rattle.std.specs.Prelude.{OnOk, max, vec_len, vec_capacity, slice_get, drop};
+ghost use Rattle.std.specs.Prelude.{◌≡◌, ℕ, ◌+◌, ◌<◌, ◌≤◌, ◌∷◌, true, false, IfSome, IfNone, IfErr};
+ghost use Rattle.std.specs.Prelude.{OnOk, OnErr, vec_len, vec_capacity, slice_get, drop};
 ghost use Rattle.std.specs.Ordering.{nat_cmp};
 ghost use Rattle.std.specs.FinSet as set;
 ghost use Rattle.generational_core.specs.declared.error.StoreError.TheVariants.{OutOfMemory};
@@ -16,7 +16,7 @@ pub trait SlotPool: Drop {
     /// The free slots.
     ghost members: { Self → set.FinSet nat_cmp };
 
-    /// For how many slots there is room: for as many at least as `grow` made room for.
+    /// For how many slots there is room: as many as `grow` answered Ok.
     ghost rooms: { Self → ℕ };
 
     /// A pool without slots and without room. Takes no memory.
@@ -24,12 +24,11 @@ pub trait SlotPool: Drop {
         ensures empty { members result ≡ set.empty }
         ensures rooms { rooms result ≡ 0 };
 
-    /// Makes room for this many slots in all. The only refusal is `OutOfMemory`, which takes no
-    /// slot out.
-    fn grow(&mut self, room: usize) -> Result<(), StoreError>
+    /// Makes room for one more slot. The only refusal is `OutOfMemory`, and it changes nothing.
+    fn grow(&mut self) -> Result<(), StoreError>
         ensures same { members self.new ≡ members self.old }
-        ensures rooms { rooms self.old ≤ rooms self.new }
-        ensures ok { OnOk result (room ≤ rooms self.new) }
+        ensures ok { OnOk result (rooms self.new ≡ rooms self.old + 1) }
+        ensures err { OnErr result (rooms self.new ≡ rooms self.old) }
         ensures cause { IfErr result (λ error. error ≡ OutOfMemory) };
 
     /// Takes a slot out: None exactly where there is none. Takes no memory.
@@ -92,20 +91,11 @@ impl SlotPool for LastFirst {
     }
 
     #[inline(always)]
-    fn grow(&mut self, room: usize) -> Result<(), StoreError>
-        ensures slots { self.new.slots ≡ self.old.slots }
-        ensures same { members_of self.new ≡ members_of self.old }
-        ensures rooms { self.old.rooms ≤ self.new.rooms }
-        ensures ok { OnOk result (room ≤ self.new.rooms) }
-        ensures most { self.new.rooms ≤ max self.old.rooms room }
-        ensures cause { IfErr result (λ error. error ≡ OutOfMemory) }
-    {
-        if self.room < room {
-            if self.slots.capacity() < room {
-                reserve_room(&mut self.slots, room)?;
-            }
-            self.room = room;
+    fn grow(&mut self) -> Result<(), StoreError> {
+        if self.room == self.slots.capacity() {
+            reserve_more(&mut self.slots)?;
         }
+        self.room += 1;
         Ok(())
     }
 
@@ -145,17 +135,17 @@ impl SlotPool for LastFirst {
     }
 }
 
-// Makes the buffer large enough for this many slots in all. Want of memory changes no slot.
+// Makes the buffer larger. Want of memory changes no slot.
 #[cold]
 #[inline(never)]
-fn reserve_room(slots: &mut Vec<usize>, room: usize) -> Result<(), StoreError>
-    requires { vec_len slots.old ≤ room }
+fn reserve_more(slots: &mut Vec<usize>) -> Result<(), StoreError>
     ensures slots { slots.new.items ≡ slots.old.items }
     ensures capacity { vec_capacity slots.old ≤ vec_capacity slots.new }
-    ensures ok { OnOk result (room ≤ vec_capacity slots.new) }
+    ensures ok { OnOk result (vec_capacity slots.old < vec_capacity slots.new) }
     ensures cause { IfErr result (λ error. error ≡ OutOfMemory) }
 {
-    if slots.reserve(room - slots.len()).is_err() {
+    let spare = slots.capacity() - slots.len();
+    if slots.reserve(spare + 1).is_err() {
         return Err(StoreError::OutOfMemory);
     }
     Ok(())
@@ -176,7 +166,7 @@ pub(crate) fn make_room<T, P: SlotPool>(slots: &mut Vec<T>, pool: &mut P) -> Res
         if slots.len() < pool.room() {
             return Ok(());
         }
-        return pool.grow(slots.len() + 1);
+        return pool.grow();
     }
     grow(slots, pool)
 }
@@ -196,7 +186,7 @@ fn grow<T, P: SlotPool>(slots: &mut Vec<T>, pool: &mut P) -> Result<(), StoreErr
         return Err(StoreError::OutOfMemory);
     }
     if pool.room() == slots.len() {
-        pool.grow(slots.len() + 1)?;
+        pool.grow()?;
     }
     Ok(())
 }
