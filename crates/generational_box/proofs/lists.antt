@@ -1,2 +1,4 @@
--- Lists and free slots.
+-- Lists, free slots, and standing borrows.
 pub mod Lists
+pub mod Tables
+pub mod Tickets

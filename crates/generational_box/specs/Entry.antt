@@ -1,4 +1,4 @@
--- What a slot's representation means.
+-- A slot as contracts see it: its generation, and its live cell.
 use Rattle.std.specs.Prelude.{◌≡◌, ℕ, Bool, true, false, ◌&&◌, not, nat_eq, if◌then◌else◌, List, []}
 use Rattle.std.specs.Prelude.{◌∷◌, ◌++◌, Option, Some, None, Result, Ok, Err, map as list_map}
 use Rattle.std.specs.List.{filter}
@@ -8,8 +8,6 @@ use Rattle.generational_core.specs.declared.error.StoreError.TheVariants.{OutOfM
 use Rattle.generational_core.specs.declared.error.Refused.{Refused}
 use Rattle.generational_core.specs.declared.error.Refused.TheVariants as refused
 use Rattle.generational_core.specs.declared.borrow.Borrow.{Borrow}
-use Rattle.generational_box.specs.declared.entry.StorageEntryData.{StorageEntryData}
-use Rattle.generational_box.specs.declared.entry.StorageEntryData.TheVariants as slot
 use Rattle.generational_core.specs.Cells.{Content}
 use Rattle.generational_core.specs.Cells.Content.{Here, Lent}
 use Rattle.generational_core.specs.Borrowing.{Trouble}
@@ -28,11 +26,6 @@ pub record Entry (T : Type 0) : Type 0 where
   pub kept : Kept T
 
 module _ {T : Type 0} where
-  abbrev pub kept_data : Location → StorageEntryData T → Kept T
-  kept_data l slot.Empty = Empty
-  kept_data l (slot.Data v readers) = Live (Here v readers) l
-  kept_data l (slot.Lent w) = Live (Lent w) l
-
   abbrev pub content_in : Kept T → Option (Content T)
   content_in Empty = None
   content_in (Live c l) = Some c

@@ -13,11 +13,13 @@
 //! `docs/machine.md` at the repository's root.
 #![tactic(auto)]
 
+mod borrows;
+mod entries;
 mod entry;
 mod owners;
 mod parts;
 mod pool;
-mod readers;
+mod table;
 mod unsync;
 
 pub use crate::parts::Numbers;

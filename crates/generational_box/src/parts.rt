@@ -1,8 +1,9 @@
 //! The parts of a sequential store.
 
 ghost use Rattle.std.specs.Prelude.{◌≡◌, ℕ, ◌+◌, ◌-◌, ◌^◌, ◌<◌, ◌≤◌, ◌∷◌, ◌++◌, [], true, max};
-ghost use Rattle.std.specs.Prelude.{length, is_some, vec_len, vec_capacity, slice_get, slice_set};
-ghost use Rattle.std.specs.Prelude.{option_copied, Some, None, IsSome, IfSome, IfOk, IfErr, OnOk};
+ghost use Rattle.std.specs.Prelude.{length, is_some, is_none, option_copied, option_map, Some};
+ghost use Rattle.std.specs.Prelude.{None};
+ghost use Rattle.std.specs.Prelude.{IsSome, IfOk, IfErr, OnOk};
 ghost use Rattle.std.specs.Prelude.{OnErr, IsTrue, is_ok, ◌↔◌, map as list_map};
 ghost use Rattle.std.specs.FinMap as map;
 ghost use Rattle.generational_core.specs.declared.error.Refused.TheVariants as refused;
@@ -12,36 +13,32 @@ ghost use Rattle.generational_core.specs.Cells.Content.{Here};
 ghost use Rattle.generational_core.specs.Boxes.{name_in};
 ghost use Rattle.generational_core.specs.Conditions.{fresh, IsFresh};
 ghost use Rattle.generational_core.specs.Borrowing.{fill};
-ghost use Rattle.generational_core.specs.State.{content_at};
-ghost use Rattle.generational_core.specs.Borrowing.{write_refusal};
+ghost use Rattle.generational_core.specs.State.{IsSound, content_at};
+ghost use Rattle.generational_core.specs.Borrowing.{read_refusal, write_refusal};
+ghost use Rattle.generational_core.specs.Borrowing.Trouble.{BeingWritten};
 ghost use Rattle.generational_core.specs.Machine.{remove_reader};
 ghost use Rattle.generational_core.specs.Machine.{read_at, write_at, has_reader, has_writer};
 ghost use Rattle.generational_core.specs.Machine.Action.{Make, NewOwner, CloneOwner, ReleaseOwner};
 ghost use Rattle.generational_core.specs.Machine.Action.{Read, Write, ReleaseReader, ReleaseWriter};
 ghost use Rattle.generational_core.specs.Machine.Action.{End};
 ghost use Rattle.generational_core.specs.Machine.Answer.{Flag};
-ghost use Rattle.generational_core.specs.Slots.{last_generation};
 ghost use Rattle.generational_core.specs.Steps.{Meets, last_ticket};
 ghost use Rattle.generational_core.specs.Ending.{close};
 ghost use Rattle.generational_core.specs.Conditions.{names_under};
 ghost use Rattle.generational_box.specs.OwnerRecords.{first_borrowed, name_of_cell};
-ghost use Rattle.generational_box.specs.Entry.{FoundBorrowed, content_in, is_live, valid_at};
-ghost use Rattle.generational_box.specs.Entry.{has_no_borrow, with_reader, without_reader_in};
-ghost use Rattle.generational_box.specs.Entry.{lend_to};
-ghost use Rattle.generational_box.specs.Entry.{with_value};
+ghost use Rattle.generational_box.specs.Entry.{FoundBorrowed, value_for};
 ghost use Rattle.generational_core.specs.Answers.{make_answer, owner_answer, release_answer};
 ghost use Rattle.generational_core.specs.Answers.{read_answer, write_answer, back_answer};
 ghost use Rattle.generational_core.specs.Answers.{end_answer, value_behind};
 ghost use Rattle.generational_core.specs.StepCalls.{is_ready};
 ghost use Rattle.generational_core.specs.Slots.{slots, free, retired};
-ghost use Rattle.generational_box.specs.Entry.Kept.{Empty, Live};
-ghost use Rattle.generational_box.specs.Slotted.{cells_of, change_entry, entry_in, cell_found};
+ghost use Rattle.generational_box.specs.Slotted.{cells_of};
 ghost use Rattle.generational_box.specs.Slotted.{is_here, is_unborrowed, OnlyValues};
 ghost use Rattle.generational_core.specs.Machine.{own_cell};
 
-use crate::entry::StorageEntry;
+use crate::entries::Entries;
 use crate::owners::{CellName, OwnerRecords};
-use crate::pool::{SlotPool, make_room};
+use crate::pool::SlotPool;
 use generational_core::parts::{
     Borrow, id_at, id_read, into_reader, into_writer, key_of, owner_at, pointer_at, reader_at,
     writer_at,
@@ -68,12 +65,13 @@ pub(crate) struct Parts<T, P: SlotPool> {
     // how many cells are live, and the most that were live at once
     live: usize,
     peak: usize,
-    slots: Vec<StorageEntry<T>>,
+    slots: Entries<T>,
     pool: P,
     owners: OwnerRecords,
 }
 
 impl<T, P: SlotPool> Model for Parts<T, P> {
+    ghost use Rattle.std.specs.Prelude.{◌≤◌, length};
     ghost use Rattle.std.specs.Coded.{codes};
     ghost use Rattle.std.specs.FinMap as map;
     ghost use Rattle.generational_core.specs.State.{State};
@@ -85,10 +83,11 @@ impl<T, P: SlotPool> Model for Parts<T, P> {
     ghost coded = { Prim.hlevel (codes, map.code) };
 
     ghost view = { λ s.
-        state_of s.owners s.number s.start s.next s.peak s.slots.items };
+        state_of s.owners s.number s.start s.next s.peak s.slots.slots };
 
     ghost invariant = { λ s. IsSlotted (P.members s.pool) (P.rooms s.pool) s.start s.live s.peak
-        s.slots.items × AreCounted s.next s.owners };
+        s.slots.slots × AreCounted s.next s.owners
+        × (length s.slots.slots ≤ s.slots.rooms) };
 }
 
 /// Where a store's numbers begin.
@@ -113,7 +112,7 @@ impl<T, P: SlotPool> Parts<T, P> {
             next: numbers.ticket,
             live: 0,
             peak: 0,
-            slots: Vec::new(alloc),
+            slots: Entries::new(alloc),
             pool: P::new(alloc),
             owners: OwnerRecords::new(alloc),
         }
@@ -121,17 +120,50 @@ impl<T, P: SlotPool> Parts<T, P> {
 }
 
 impl<T: Drop, P: SlotPool> Parts<T, P> {
-    // The slot whose live cell has this id.
+    // Whether a cell with this id is live.
     #[inline(always)]
-    fn entry(&self, id: GenerationalBoxId) -> Option<&StorageEntry<T>>
-        ensures cell { own_cell self.now id ≡ cell_found (option_copied result) }
-        ensures live { IfSome result (λ entry. is_live entry.now.kept ≡ true) }
+    fn is_live(&self, id: GenerationalBoxId) -> bool
+        ensures cell { result ≡ is_some (own_cell self.now id) }
         ensures values { OnlyValues self.now.cells }
     {
-        if id.store != self.number {
-            return None;
-        }
-        entry_at(self.slots.as_slice(), id.slot, id.generation)
+        id.store == self.number && self.slots.valid(id.slot, id.generation)
+    }
+
+    // The writer that stands in the way of a read of a live cell.
+    #[inline(always)]
+    fn borrow_error(&self, id: GenerationalBoxId) -> Option<AlreadyBorrowedMutError>
+        requires { IsSome (own_cell self.now id) }
+        ensures { option_map (λ writer. BeingWritten writer.borrowed_mut_at) result
+            ≡ read_refusal (content_at self.now (name_in id)) }
+    {
+        self.slots.borrow_error(id.slot)
+    }
+
+    // Whether no borrow stands at a live cell.
+    #[inline(always)]
+    fn is_unborrowed(&self, id: GenerationalBoxId) -> bool
+        requires { IsSome (own_cell self.now id) }
+        ensures { result ≡ is_none (write_refusal (content_at self.now (name_in id))) }
+    {
+        self.slots.is_unborrowed(id.slot)
+    }
+
+    // The borrows that stand in the way of a write or an end of a live cell.
+    #[inline(always)]
+    fn borrow_mut_error(&self, id: GenerationalBoxId) -> BorrowMutResult<()>
+        requires { IsSome (own_cell self.now id) }
+        ensures { FoundBorrowed (write_refusal (content_at self.now (name_in id))) result }
+    {
+        self.slots.borrow_mut_error(id.slot)
+    }
+
+    // The value of a live cell, where the reader stands.
+    #[inline(always)]
+    fn open_cell(&self, id: GenerationalBoxId, ticket: u64) -> Option<&T>
+        requires { IsSome (own_cell self.now id) }
+        ensures { option_copied result ≡ value_for ticket (content_at self.now (name_in id)) }
+    {
+        self.slots.open(id.slot, ticket)
     }
 
     // Begins a read of a live cell that isn't lent. Want of memory changes nothing.
@@ -139,6 +171,7 @@ impl<T: Drop, P: SlotPool> Parts<T, P> {
     fn begin_read(&mut self, id: GenerationalBoxId, location: Location) -> Result<u64, AllocError>
         requires here { is_here (own_cell self.old id) ≡ true }
         requires numbers { self.old.next < last_ticket }
+        requires sound { IsSound self.old }
         ensures ticket { IfOk result (λ ticket. ticket ≡ self.old.next) }
         ensures ok { OnOk result (self.new ≡
             (read_at self.old location (Some (name_in id)) (content_at self.old (name_in id))).1) }
@@ -148,7 +181,7 @@ impl<T: Drop, P: SlotPool> Parts<T, P> {
     {
         let ticket = self.next;
         let borrow = Borrow { ticket, location };
-        match add_reader(&mut self.slots, self.alloc, id.slot, borrow) {
+        match self.slots.begin_read(id.slot, borrow) {
             Ok(()) => {
                 self.next = ticket + 1;
                 Ok(ticket)
@@ -165,7 +198,7 @@ impl<T: Drop, P: SlotPool> Parts<T, P> {
         ensures after { self.new ≡ remove_reader self.old (name_in id) ticket
             (content_at self.old (name_in id)) }
     {
-        remove_reader(&mut self.slots, id.slot, ticket)
+        self.slots.release_read(id.slot, ticket)
     }
 
     // Lends the value of a cell without borrows to a writer.
@@ -179,7 +212,7 @@ impl<T: Drop, P: SlotPool> Parts<T, P> {
     {
         let ticket = self.next;
         self.next = ticket + 1;
-        lend_value(&mut self.slots, id.slot, Borrow { ticket, location })
+        self.slots.begin_write(id.slot, Borrow { ticket, location })
     }
 
     // Puts a writer's value back into a live cell, or hands it back where the writer doesn't
@@ -192,7 +225,7 @@ impl<T: Drop, P: SlotPool> Parts<T, P> {
         ensures ok { OnOk result (self.new ≡ fill self.old (name_in id) (Here value [])) }
         ensures err { IfErr result (λ back. (back ≡ value) × (self.new ≡ self.old)) }
     {
-        put_value_back(&mut self.slots, id.slot, ticket, value)
+        self.slots.release_write(id.slot, ticket, value)
     }
 
     // Ends a live cell. Its slot is free from then on, unless its generation is the last.
@@ -201,7 +234,7 @@ impl<T: Drop, P: SlotPool> Parts<T, P> {
         requires { IsSome (own_cell self.old id) }
         ensures { self.new ≡ record self.old { cells = map.remove self.old.cells (name_in id) } }
     {
-        end_cell(&mut self.slots, id.slot);
+        self.slots.end(id.slot);
         self.live -= 1;
         if id.generation < u64::MAX {
             self.pool.put(id.slot);
@@ -236,175 +269,82 @@ impl<T: Drop, P: SlotPool> Parts<T, P> {
             { cells = map.remove self.old.cells (name_of_cell name) } }
     {
         let id = id_at(self.number, name.slot, name.generation);
-        match self.entry(id) {
-            Some(_) => self.end(id),
-            None => {}
+        if self.is_live(id) {
+            self.end(id);
         }
     }
 }
 
 // What hinders the end of these cells, at the first of them that is hindered.
-fn first_borrowed<T>(
-    slots: &[StorageEntry<T>],
-    names: &[CellName],
-    alloc: Global,
-) -> BorrowMutResult<()>
-    ensures { FoundBorrowed (first_borrowed (cells_of slots.now) (list_map name_of_cell names.now))
-        result }
+fn first_borrowed<T>(slots: &Entries<T>, names: &[CellName]) -> BorrowMutResult<()>
+    ensures { FoundBorrowed
+        (first_borrowed (cells_of slots.now.slots) (list_map name_of_cell names.now)) result }
 {
     for name in names {
-        match entry_at(slots, name.slot, name.generation) {
-            Some(entry) => match entry.borrow_mut_error(alloc) {
+        if slots.valid(name.slot, name.generation) {
+            match slots.borrow_mut_error(name.slot) {
                 Ok(()) => {}
                 Err(refused) => return Err(refused),
-            },
-            None => {}
+            }
         }
     }
     Ok(())
 }
 
-// The slot, if its live cell has this generation.
+// Makes room for one more slot, and for its number among the free ones. Want of memory changes no
+// slot.
 #[inline(always)]
-fn entry_at<T>(slots: &[StorageEntry<T>], slot: usize, generation: u64) -> Option<&StorageEntry<T>>
-    ensures { option_copied result ≡ entry_in generation (slice_get slots.now slot) }
+fn make_room<T: Drop, P: SlotPool>(slots: &mut Entries<T>, pool: &mut P) -> Result<(), StoreError>
+    requires pool { length slots.old.slots ≤ P.rooms pool.old }
+    requires slots { length slots.old.slots ≤ slots.old.rooms }
+    ensures slots { slots.new.slots ≡ slots.old.slots }
+    ensures filled { length slots.new.slots ≤ slots.new.rooms }
+    ensures pool { P.members pool.new ≡ P.members pool.old }
+    ensures rooms { P.rooms pool.old ≤ P.rooms pool.new }
+    ensures ok { OnOk result (length slots.new.slots < slots.new.rooms) }
+    ensures grown { OnOk result (length slots.new.slots < P.rooms pool.new) }
+    ensures numbers { OnOk result (length slots.new.slots < 18446744073709551615) }
 {
-    match slots.get(slot) {
-        Some(entry) if entry.valid(generation) => Some(entry),
-        _ => None,
+    if slots.len() < slots.room() {
+        if slots.len() < pool.room() {
+            return Ok(());
+        }
+        return pool.grow();
     }
+    grow(slots, pool)
 }
 
-// Adds a reader to the cell of a slot. Want of memory changes nothing.
-#[inline(always)]
-fn add_reader<T>(
-    slots: &mut Vec<StorageEntry<T>>,
-    alloc: Global,
-    slot: usize,
-    borrow: Borrow,
-) -> Result<(), AllocError>
-    requires { slot < vec_len slots.old }
-    ensures ok { OnOk result (slots.new.items ≡ change_entry slots.old.items slot
-        (λ entry. record entry { kept = with_reader borrow entry.kept })) }
-    ensures err { OnErr result (slots.new.items ≡ slots.old.items) }
-    ensures beside { OnErr result (IfSome (slice_get slots.old.items slot)
-        (λ entry. is_some (write_refusal (content_in entry.kept)) ≡ true)) }
+// The same where there is no room.
+#[cold]
+#[inline(never)]
+fn grow<T: Drop, P: SlotPool>(slots: &mut Entries<T>, pool: &mut P) -> Result<(), StoreError>
+    requires pool { length slots.old.slots ≤ P.rooms pool.old }
+    requires slots { length slots.old.slots ≤ slots.old.rooms }
+    ensures slots { slots.new.slots ≡ slots.old.slots }
+    ensures filled { length slots.new.slots ≤ slots.new.rooms }
+    ensures pool { P.members pool.new ≡ P.members pool.old }
+    ensures rooms { P.rooms pool.old ≤ P.rooms pool.new }
+    ensures ok { OnOk result (length slots.new.slots < slots.new.rooms) }
+    ensures grown { OnOk result (length slots.new.slots < P.rooms pool.new) }
+    ensures numbers { OnOk result (length slots.new.slots < 18446744073709551615) }
 {
-    slots[slot].borrow(alloc, borrow)
+    slots.grow()?;
+    if pool.room() == slots.len() {
+        pool.grow()?;
+    }
+    Ok(())
 }
 
-// Takes a reader away from the cell of a slot. The answer is whether it stood.
-#[inline(always)]
-fn remove_reader<T>(slots: &mut Vec<StorageEntry<T>>, slot: usize, ticket: u64) -> bool
-    requires { slot < vec_len slots.old }
-    ensures known { IfSome (slice_get slots.old.items slot)
-        (λ entry. result ≡ has_reader (content_in entry.kept) ticket) }
-    ensures after { slots.new.items ≡ change_entry slots.old.items slot
-        (λ entry. record entry { kept = without_reader_in ticket entry.kept }) }
-{
-    slots[slot].drop_borrow(ticket)
-}
-
-// Lends the value of the cell of a slot, which has no borrows, to a writer.
-#[inline(always)]
-fn lend_value<T: Drop>(slots: &mut Vec<StorageEntry<T>>, slot: usize, writer: Borrow) -> T
-    requires within { slot < vec_len slots.old }
-    requires free { IfSome (slice_get slots.old.items slot)
-        (λ entry. has_no_borrow (content_in entry.kept) ≡ true) }
-    ensures value { IfSome (slice_get slots.old.items slot)
-        (λ entry. content_in entry.kept ≡ Some (Here result [])) }
-    ensures after { slots.new.items ≡ change_entry slots.old.items slot
-        (λ entry. record entry { kept = lend_to writer entry.kept }) }
-{
-    slots[slot].lend(writer)
-}
-
-// Puts a writer's value back into the cell of a slot, or hands it back where the writer doesn't
-// stand, which changes nothing.
-#[inline(always)]
-fn put_value_back<T: Drop>(
-    slots: &mut Vec<StorageEntry<T>>,
-    slot: usize,
-    ticket: u64,
-    value: T,
-) -> Result<(), T>
-    requires { slot < vec_len slots.old }
-    ensures known { IfSome (slice_get slots.old.items slot)
-        (λ entry. IsTrue (is_ok result) ↔ (has_writer (content_in entry.kept) ticket ≡ true)) }
-    ensures ok { OnOk result (slots.new.items ≡ change_entry slots.old.items slot
-        (λ entry. record entry { kept = with_value value entry.kept })) }
-    ensures err { IfErr result (λ back. (back ≡ value) × (slots.new.items ≡ slots.old.items)) }
-{
-    slots[slot].put_back(ticket, value)
-}
-
-// Ends the cell of a slot.
-#[inline(always)]
-fn end_cell<T: Drop>(slots: &mut Vec<StorageEntry<T>>, slot: usize)
-    requires { slot < vec_len slots.old }
-    ensures { slots.new.items ≡ change_entry slots.old.items slot
-        (λ entry. record entry { kept = Empty }) }
-{
-    slots[slot].end();
-}
-
-// The generation of a slot's next cell.
-#[inline(always)]
-fn next_generation<T>(slots: &Vec<StorageEntry<T>>, slot: usize) -> u64
-    requires within { slot < vec_len slots.now }
-    requires below { IfSome (slice_get slots.now.items slot)
-        (λ entry. entry.generation < last_generation) }
-    ensures { IfSome (slice_get slots.now.items slot) (λ entry. result ≡ entry.generation + 1) }
-{
-    slots[slot].generation() + 1
-}
-
-// Puts a cell into a slot that has none, under the next generation, which is answered.
-#[inline(always)]
-fn refill<T: Drop>(
-    slots: &mut Vec<StorageEntry<T>>,
-    slot: usize,
-    value: T,
-    location: Location,
-) -> u64
-    requires within { slot < vec_len slots.old }
-    requires below { IfSome (slice_get slots.old.items slot)
-        (λ entry. entry.generation < last_generation) }
-    ensures generation { IfSome (slice_get slots.old.items slot)
-        (λ entry. result ≡ entry.generation + 1) }
-    ensures filled { slots.new.items ≡ slice_set slots.old.items slot
-        (record { generation = result; kept = Live (Here value []) location }) }
-{
-    slots[slot].refill(value, location)
-}
-
-// Adds a slot with a cell. There is room for it.
-#[inline(always)]
-fn push_slot<T: Drop>(
-    slots: &mut Vec<StorageEntry<T>>,
-    generation: u64,
-    value: T,
-    location: Location,
-) -> usize
-    requires { vec_len slots.old < vec_capacity slots.old }
-    ensures slot { result ≡ length slots.old.items }
-    ensures pushed { slots.new.items ≡ slots.old.items ++
-        (record { generation = generation; kept = Live (Here value []) location }) ∷ [] }
-{
-    let slot = slots.len();
-    slots.push_reserved(StorageEntry::new(generation, value, location));
-    slot
-}
-
-// One more cell is live.
+// One more cell is live, where fewer are than were at once, or than can be counted.
 #[inline(always)]
 fn count_one(live: &mut usize, peak: &mut usize)
-    requires { live.old < 18446744073709551615 }
+    requires { live.old < max peak.old 18446744073709551615 }
     ensures live { live.new ≡ live.old + 1 }
     ensures peak { peak.new ≡ max peak.old live.new }
 {
+    let most = *peak;
     *live += 1;
-    if *peak < *live {
+    if most < *live {
         *peak = *live;
     }
 }
@@ -422,7 +362,7 @@ impl<T: Drop, P: SlotPool> Parts<T, P> {
     pub(crate) fn is_fresh(&self) -> bool
         ensures { IsTrue result ↔ IsFresh self.now }
     {
-        self.slots.is_empty() && self.owners.is_empty()
+        self.slots.len() == 0 && self.owners.is_empty()
     }
 
     // How many slots were ever made.
@@ -509,7 +449,7 @@ impl<T: Drop, P: SlotPool> Parts<T, P> {
                 return Ok(());
             }
             Some(record) => {
-                match first_borrowed(self.slots.as_slice(), record.boxes(), self.alloc) {
+                match first_borrowed(&self.slots, record.boxes()) {
                     Ok(()) => {}
                     Err(refused) => return Err((owner, refused)),
                 }
@@ -527,14 +467,12 @@ impl<T: Drop, P: SlotPool> Parts<T, P> {
     {
         match call {
             StepCall::Leak(_) | StepCall::ReleaseRead(_) => true,
-            StepCall::Read(pointer, _) => match self.entry(pointer.id) {
-                Some(entry) => entry.borrow_error().is_none(),
-                None => true,
-            },
-            StepCall::ManuallyDrop(pointer) => match self.entry(pointer.id) {
-                Some(entry) => entry.is_unborrowed(),
-                None => true,
-            },
+            StepCall::Read(pointer, _) => {
+                !self.is_live(pointer.id) || self.borrow_error(pointer.id).is_none()
+            }
+            StepCall::ManuallyDrop(pointer) => {
+                !self.is_live(pointer.id) || self.is_unborrowed(pointer.id)
+            }
         }
     }
 
@@ -543,12 +481,12 @@ impl<T: Drop, P: SlotPool> Parts<T, P> {
     pub(crate) fn recycle(&mut self, pointer: GenerationalPointer) -> BorrowMutResult<()>
         ensures { Meets self.old (End pointer) (end_answer result) self.new }
     {
-        match self.entry(pointer.id) {
-            Some(entry) => match entry.borrow_mut_error(self.alloc) {
-                Ok(()) => {}
-                Err(refused) => return Err(refused),
-            },
-            None => return Ok(()),
+        if !self.is_live(pointer.id) {
+            return Ok(());
+        }
+        match self.borrow_mut_error(pointer.id) {
+            Ok(()) => {}
+            Err(refused) => return Err(refused),
         }
         self.end(pointer.id);
         Ok(())
@@ -568,13 +506,13 @@ impl<T: Drop, P: SlotPool> Parts<T, P> {
     {
         match self.pool.take() {
             Some(slot) => {
-                let generation = next_generation(&self.slots, slot);
+                let generation = self.slots.generation(slot) + 1;
                 let name = CellName { slot, generation };
                 if let Err(cause) = self.owners.list_for(self.number, owner, name) {
                     self.pool.put(slot);
                     return Err(Refusal { value, cause });
                 }
-                refill(&mut self.slots, slot, value, location);
+                self.slots.refill(slot, value, location);
                 count_one(&mut self.live, &mut self.peak);
                 Ok(pointer_at(self.number, slot, generation, location))
             }
@@ -591,7 +529,7 @@ impl<T: Drop, P: SlotPool> Parts<T, P> {
                 if let Err(cause) = self.owners.list_for(self.number, owner, name) {
                     return Err(Refusal { value, cause });
                 }
-                push_slot(&mut self.slots, generation, value, location);
+                self.slots.push(generation, value, location);
                 count_one(&mut self.live, &mut self.peak);
                 Ok(pointer_at(self.number, slot, generation, location))
             }
@@ -605,15 +543,16 @@ impl<T: Drop, P: SlotPool> Parts<T, P> {
         pointer: GenerationalPointer,
         location: Location,
     ) -> BorrowResult<GenerationalRef<T>>
+        requires sound { IsSound self.old }
         ensures { Meets self.old (Read pointer location) (read_answer result) self.new }
     {
         let id = pointer.id;
-        match self.entry(id) {
-            Some(entry) => match entry.borrow_error() {
-                None => {}
-                Some(writer) => return Err(lent(writer)),
-            },
-            None => return Err(dropped(pointer)),
+        if !self.is_live(id) {
+            return Err(dropped(pointer));
+        }
+        match self.borrow_error(id) {
+            None => {}
+            Some(writer) => return Err(lent(writer)),
         }
         if self.next == u64::MAX {
             return Err(Refused::Store(StoreError::NumbersExhausted));
@@ -634,12 +573,12 @@ impl<T: Drop, P: SlotPool> Parts<T, P> {
         ensures { Meets self.old (Write pointer location) (write_answer result) self.new }
     {
         let id = pointer.id;
-        match self.entry(id) {
-            Some(entry) => match entry.borrow_mut_error(self.alloc) {
-                Ok(()) => {}
-                Err(refused) => return Err(refused),
-            },
-            None => return Err(dropped_mut(pointer)),
+        if !self.is_live(id) {
+            return Err(dropped_mut(pointer));
+        }
+        match self.borrow_mut_error(id) {
+            Ok(()) => {}
+            Err(refused) => return Err(refused),
         }
         if self.next == u64::MAX {
             return Err(Refused::Store(StoreError::NumbersExhausted));
@@ -656,10 +595,10 @@ impl<T: Drop, P: SlotPool> Parts<T, P> {
             self.new }
     {
         let (id, ticket, value) = into_writer(guard);
-        match self.entry(id) {
-            Some(_) => self.end_write(id, ticket, value),
-            None => Err(value),
+        if self.is_live(id) {
+            return self.end_write(id, ticket, value);
         }
+        Err(value)
     }
 
     // The value that a reader's guard opens.
@@ -667,7 +606,11 @@ impl<T: Drop, P: SlotPool> Parts<T, P> {
     pub(crate) fn open(&self, guard: &GenerationalRef<T>) -> Option<&T>
         ensures { option_copied result ≡ value_behind self.now guard.now }
     {
-        self.entry(id_read(guard))?.open(guard.ticket())
+        let id = id_read(guard);
+        if self.is_live(id) {
+            return self.open_cell(id, guard.ticket());
+        }
+        None
     }
 
     // Ends a read.
@@ -676,10 +619,7 @@ impl<T: Drop, P: SlotPool> Parts<T, P> {
         ensures { Meets self.old (ReleaseReader guard) (Flag result) self.new }
     {
         let (id, ticket) = into_reader(guard);
-        match self.entry(id) {
-            Some(_) => self.end_read(id, ticket),
-            None => false,
-        }
+        self.is_live(id) && self.end_read(id, ticket)
     }
 }
 

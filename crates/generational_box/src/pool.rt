@@ -1,7 +1,7 @@
 //! Free slots.
 
 ghost use Rattle.std.specs.Prelude.{◌≡◌, ℕ, ◌+◌, ◌<◌, ◌≤◌, ◌∷◌, true, false, IfSome, IfNone, IfErr};
-ghost use Rattle.std.specs.Prelude.{OnOk, OnErr, vec_len, vec_capacity, slice_get, drop};
+ghost use Rattle.std.specs.Prelude.{OnOk, OnErr, max, vec_len, vec_capacity, slice_get, drop};
 ghost use Rattle.std.specs.Ordering.{nat_cmp};
 ghost use Rattle.std.specs.FinSet as set;
 ghost use Rattle.generational_core.specs.declared.error.StoreError.TheVariants.{OutOfMemory};
@@ -75,6 +75,24 @@ impl Model for LastFirst {
     ghost invariant = { λ p. IsPool (reverse p.slots.items) p.room (vec_capacity p.slots) };
 }
 
+impl LastFirst {
+    // Makes room for this many slots in all. The only refusal is want of memory, which takes no
+    // slot out.
+    pub(crate) fn reserve(&mut self, alloc: Global, room: usize) -> Result<(), StoreError>
+        ensures slots { self.new.slots ≡ self.old.slots }
+        ensures rooms { self.old.rooms ≤ self.new.rooms }
+        ensures ok { OnOk result (room ≤ self.new.rooms) }
+        ensures most { self.new.rooms ≤ max self.old.rooms room }
+        ensures cause { IfErr result (λ error. error ≡ OutOfMemory) }
+    {
+        if self.room < room {
+            reserve_room(&mut self.slots, alloc, room)?;
+            self.room = room;
+        }
+        Ok(())
+    }
+}
+
 impl SlotPool for LastFirst {
     ghost use Rattle.std.specs.FinSet as set;
     ghost use Rattle.generational_box.specs.Pools.{members_of};
@@ -133,6 +151,34 @@ impl SlotPool for LastFirst {
     fn free(&self) -> usize {
         self.slots.len()
     }
+}
+
+// Makes a buffer large enough for this many in all. Want of memory changes nothing in it.
+pub(crate) fn reserve_room<X: Drop>(
+    items: &mut Vec<X>,
+    alloc: Global,
+    room: usize,
+) -> Result<(), StoreError>
+    ensures items { items.new.items ≡ items.old.items }
+    ensures ok { OnOk result (room ≤ vec_capacity items.new) }
+    ensures capacity { vec_capacity items.old ≤ vec_capacity items.new }
+    ensures cause { IfErr result (λ error. error ≡ OutOfMemory) }
+{
+    if room <= items.capacity() {
+        return Ok(());
+    }
+    // a buffer where nothing stands isn't copied
+    if items.is_empty() {
+        match Vec::with_capacity(alloc, room) {
+            Ok(larger) => *items = larger,
+            Err(_) => return Err(StoreError::OutOfMemory),
+        }
+        return Ok(());
+    }
+    if items.reserve(room - items.len()).is_err() {
+        return Err(StoreError::OutOfMemory);
+    }
+    Ok(())
 }
 
 // Makes the buffer larger. Want of memory changes no slot.

@@ -86,7 +86,7 @@ fn slots(rt: HostRuntime) -> Result<(), Fail> {
     let mut store: UnsyncStorage<u32> = Store::new(rt.alloc(), 7);
     let mut gauge = Gauge::new(&rt)?;
     leaked(&rt, &mut store, &mut gauge)?;
-    gauge.assert_grew(&rt, 8_000);
+    gauge.assert_grew(&rt, 10_000);
     Ok(())
 }
 

@@ -23,8 +23,8 @@ use Rattle.generational_box.proofs.Common.{tells_of_borrow, State, content_at, i
 use Rattle.generational_box.proofs.Common.{limit_tickets, may_lack, no_names, last_ticket}
 use Rattle.generational_box.proofs.Common.{needs_memory}
 use Rattle.generational_box.proofs.Common.{takes_ticket, by_name, name_exact, name_total, name_here}
-use Rattle.generational_box.proofs.Common.{name_same, get-keep, changed_there, insert_there, Empty}
-use Rattle.generational_box.proofs.Common.{Live, first_borrowed, cell_of, is_value, OnlyValues}
+use Rattle.generational_box.proofs.Common.{name_same, get-keep, changed_there, insert_there}
+use Rattle.generational_box.proofs.Common.{first_borrowed, is_value, OnlyValues}
 use Rattle.generational_core.specs.declared.error.Refused.{Refused}
 use Rattle.generational_core.specs.declared.steps.StepCall.TheVariants.{Read as Reading}
 use Rattle.generational_core.specs.Machine.{Action, Outcome, act, read_at, write_at, own_cell}
@@ -32,7 +32,7 @@ use Rattle.generational_core.specs.Machine.{own_name, next_guard, has_reader, ha
 use Rattle.generational_core.specs.Machine.{remove_reader, unless}
 use Rattle.generational_core.specs.Machine.Answer.{Reads, Writes, Flag, Back, Done, Troubled}
 use Rattle.generational_core.specs.Machine.Answer.{Refused as refuses}
-use Rattle.generational_box.specs.Entry.{FoundBorrowed, Kept, content_in, is_live}
+use Rattle.generational_box.specs.Entry.{FoundBorrowed}
 
 -- a list without the ticket stays as it is
 nothing_left : (t : ℕ) (rs : List Borrow) → list_any (λ r. nat_eq r.ticket t) rs ≡ false
@@ -54,6 +54,10 @@ pub none_map : {A B : Type 0} (f : A → B) (o : Option A) (none : Bool)
 none_map f None true e = refl
 none_map f (Some x) false e = refl
 none_map f _ _ e = absurd cc
+
+pub none_from : {A : Type 0} (o : Option A) → false ≡ is_some o → o ≡ None
+none_from None h = refl
+none_from (Some x) h = absurd (false≢true h)
 
 or_none : (t : Option Trouble) → option_or t None ≡ t
 or_none None = refl
@@ -184,6 +188,8 @@ module _ {T : Type 0} where
   left_one cells values n =
       left_first cells values n [] ∙ left_none (map.remove cells n) (values_less cells n values)
 
+  -- ---- boxes that name no live cell of the store
+
   module _ (S : State T) (b : GenerationalPointer) (gone : own_cell S b.id ≡ None) where
     reaches_none : reach S b ≡ None
     unfolding reach
@@ -231,36 +237,40 @@ module _ {T : Type 0} where
 
   -- ---- the slot of a live cell
 
-  -- a live cell of the store, by what its slot keeps
-  pub record IsAt (S : State T) (id : GenerationalBoxId) (k : Kept T) : Type 0 where
+  -- a live cell of the store
+  pub record IsAt (S : State T) (id : GenerationalBoxId) : Type 0 where
     pub store : id.store ≡ S.number
     pub content : Content T
     pub created : Location
-    pub kept : k ≡ Live content created
     pub cell : map.get S.cells (name_in id) ≡ Some (Value content created)
 
-  pub is_at : {S : State T} {id : GenerationalBoxId} (k : Kept T)
-      → own_cell S id ≡ cell_of k → is_live k ≡ true → IsAt S id k
-  is_at Empty cell live = absurd (false≢true live)
-  is_at {S} {id} (Live c l) cell live = at (nat_eq id.store S.number) refl cell
+  pub is_at : {S : State T} {id : GenerationalBoxId}
+      → OnlyValues S.cells → true ≡ is_some (own_cell S id) → IsAt S id
+  is_at {S} {id} values live =
+      at (nat_eq id.store S.number) refl (map.get S.cells (name_in id)) refl live
+      (values (name_in id))
     where
-      at : (b : Bool) → nat_eq id.store S.number ≡ b
-          → cond b (map.get S.cells (name_in id)) None ≡ Some (Value c l) → IsAt S id (Live c l)
-      at true own e =
-          record { store = eqb-true _ _ own; content = c; created = l; kept = refl; cell = e }
-      at false own e = cc
+      at : (own : Bool) → nat_eq id.store S.number ≡ own
+          → (o : Option (Cell T)) → map.get S.cells (name_in id) ≡ o
+          → true ≡ is_some (cond own o None) → is_value o ≡ true → IsAt S id
+      at true own (Some (Value c l)) is live value =
+          record { store = eqb-true _ _ own; content = c; created = l; cell = is }
+      at true own None is live value = absurd (true≢false live)
+      at true own (Some _) is live value = absurd (false≢true value)
+      at false own o is live value = absurd (true≢false live)
 
-  module _ {S : State T} (b : GenerationalPointer) {k : Kept T} (o : IsAt S b.id k) where
-    content_is : content_at S (name_of b) ≡ content_in k
-    content_is = rw (o.cell, o.kept) refl
+  -- an id of no live cell
+  module _ {S : State T} (b : GenerationalPointer) (o : IsAt S b.id) where
+    there : content_at S (name_of b) ≡ Some o.content
+    there = rw o.cell refl
 
-    reading : read_trouble S b ≡ read_refusal (content_in k)
+    reading : read_trouble S b ≡ read_refusal (content_at S (name_of b))
     unfolding reach read_trouble
-    reading = rw (eq-eqb b.id.store S.number o.store, o.cell, o.cell, o.kept) refl
+    reading = rw (eq-eqb b.id.store S.number o.store, o.cell, o.cell) refl
 
-    writing : write_trouble S b ≡ write_refusal (content_in k)
+    writing : write_trouble S b ≡ write_refusal (content_at S (name_of b))
     unfolding reach write_trouble
-    writing = rw (eq-eqb b.id.store S.number o.store, o.cell, o.cell, o.kept) refl
+    writing = rw (eq-eqb b.id.store S.number o.store, o.cell, o.cell) refl
 
     reaches : reach S b ≡ Some (name_of b)
     unfolding reach
@@ -270,17 +280,16 @@ module _ {T : Type 0} where
         → record { store = b.id.store; cell = name_of b; ticket = t } ≡ next_guard S (name_of b)
     next_is t next = λ i. record { store = o.store i; cell = name_of b; ticket = next i }
 
-    pub read_lent : (l : Location) (t : Trouble) → Some t ≡ read_refusal (content_in k)
+    pub read_lent : (l : Location) (t : Trouble) → Some t ≡ read_refusal (content_at S (name_of b))
         → Meets S (Read b l) (Troubled t) S
     read_lent l t lent = inl (no_names, tt, rw (reading, ← lent) refl)
 
-    module _ (l : Location) (free : None ≡ read_refusal (content_in k)) where
-      here : (v : T) × (rs : List Borrow) × (content_in k ≡ Some (Here v rs))
-      here =
-          at o.content (ap content_in o.kept) (free ∙ ap (λ k. read_refusal (content_in k)) o.kept)
+    module _ (l : Location) (free : None ≡ read_refusal (content_at S (name_of b))) where
+      here : (v : T) × (rs : List Borrow) × (content_at S (name_of b) ≡ Some (Here v rs))
+      here = at o.content there (free ∙ ap read_refusal there)
         where
-          at : (c : Content T) → content_in k ≡ Some c → None ≡ read_refusal (Some c)
-              → (v : T) × (rs : List Borrow) × (content_in k ≡ Some (Here v rs))
+          at : (c : Content T) → content_at S (name_of b) ≡ Some c → None ≡ read_refusal (Some c)
+              → (v : T) × (rs : List Borrow) × (content_at S (name_of b) ≡ Some (Here v rs))
           at (Here v rs) is free = (v, rs, is)
           at (Lent w) is free = absurd cc
 
@@ -288,7 +297,7 @@ module _ {T : Type 0} where
       begun = read_at S l (Some (name_of b)) (Some (Here here.0 here.1))
 
       begins : act S (Read b l) no_names ≡ begun
-      begins = rw (reading, ← free, reaches, content_is, here.2) refl
+      begins = rw (reading, ← free, reaches, here.2) refl
 
       pub read_exhausted : S.next ≡ last_ticket → Meets S (Read b l) (refuses NumbersExhausted) S
       read_exhausted last = inl (no_names, tt, rw (begins, eq-eqb S.next last_ticket last) refl)
@@ -298,7 +307,7 @@ module _ {T : Type 0} where
           → R ≡ (read_at S l (Some (name_of b)) (content_at S (name_of b))).1
           → Meets S (Read b l) (Reads g) R
       read_begins R g t below is next after =
-          rw (is ∙ next_is t next, after, content_is, here.2)
+          rw (is ∙ next_is t next, after, here.2)
           (inl (no_names, tt, rw begins (sym (within S begun below))))
 
       pub read_lacks : (R : State T) → S.next < last_ticket
@@ -322,25 +331,26 @@ module _ {T : Type 0} where
     write_tells (Lent w) = refl
 
     pub read_ready : (l : Location)
-        → is_none (read_refusal (content_in k)) ≡ is_ready S (Reading b l)
-    read_ready l = rw (reading, o.kept) (read_tells o.content)
+        → is_none (read_refusal (content_at S (name_of b))) ≡ is_ready S (Reading b l)
+    read_ready l = rw (reading, there) (read_tells o.content)
 
     module _ (values : OnlyValues S.cells) where
-      hinders : hindrance_to S (own_name S b) ≡ write_refusal (content_in k)
+      hinders : hindrance_to S (own_name S b) ≡ write_refusal (content_at S (name_of b))
       hinders =
           rw (eq-eqb b.id.store S.number o.store)
-          (hindered_is S values (name_of b ∷ []) ∙ or_none _ ∙ ap write_refusal content_is)
+          (hindered_is S values (name_of b ∷ []) ∙ or_none _)
 
-      pub end_ready : is_none (write_refusal (content_in k)) ≡ is_ready S (ManuallyDrop b)
-      end_ready = rw (hinders, o.kept) (write_tells o.content)
+      pub end_ready : is_none (write_refusal (content_at S (name_of b))) ≡ is_ready S (ManuallyDrop
+          b)
+      end_ready = rw (hinders, there) (write_tells o.content)
 
       pub end_refusal : (e : Refused BorrowMutError)
-          → FoundBorrowed (write_refusal (content_in k)) (Err e)
+          → FoundBorrowed (write_refusal (content_at S (name_of b))) (Err e)
           → Meets S (End b) (end_refused e) S
       end_refusal e found =
           hindered_step S (End b) e _ (Done, close S (own_name S b)) (rw hinders refl) found
 
-      pub end_done : (R : State T) → write_refusal (content_in k) ≡ None
+      pub end_done : (R : State T) → write_refusal (content_at S (name_of b)) ≡ None
           → R ≡ record S { cells = map.remove S.cells (name_of b) } → Meets S (End b) Done R
       end_done R free after =
           let one = left_one S.cells values (name_of b) in
@@ -348,19 +358,19 @@ module _ {T : Type 0} where
 
     module _ (l : Location) where
       pub write_hindered : (e : Refused BorrowMutError)
-          → FoundBorrowed (write_refusal (content_in k)) (Err e)
+          → FoundBorrowed (write_refusal (content_at S (name_of b))) (Err e)
           → Meets S (Write b l) (end_refused e) S
       write_hindered e found =
           hindered_step S (Write b l) e _
           (write_at S l (reach S b) (content_of (cell_at S (reach S b)))) (rw writing refl) found
 
-      module _ (free : write_refusal (content_in k) ≡ None) where
-        alone : (v : T) × (content_in k ≡ Some (Here v []))
-        alone = at o.content (ap content_in o.kept)
-            (sym free ∙ ap (λ k. write_refusal (content_in k)) o.kept)
+      module _ (free : write_refusal (content_at S (name_of b)) ≡ None) where
+        alone : (v : T) × (content_at S (name_of b) ≡ Some (Here v []))
+        alone = at o.content there (sym free ∙ ap write_refusal there)
           where
-            at : (c : Content T) → content_in k ≡ Some c → None ≡ write_refusal (Some c)
-                → (v : T) × (content_in k ≡ Some (Here v []))
+            at : (c : Content T) → content_at S (name_of b) ≡ Some c
+                → None ≡ write_refusal (Some c)
+                → (v : T) × (content_at S (name_of b) ≡ Some (Here v []))
             at (Here v []) is free = (v, is)
             at (Here v (r ∷ rs)) is free = absurd cc
             at (Lent w) is free = absurd cc
@@ -369,7 +379,7 @@ module _ {T : Type 0} where
         written = write_at S l (Some (name_of b)) (Some (Here alone.0 []))
 
         writes : act S (Write b l) no_names ≡ written
-        writes = rw (writing, free, reaches, content_is, alone.1) refl
+        writes = rw (writing, free, reaches, alone.1) refl
 
         pub write_exhausted : S.next ≡ last_ticket
             → Meets S (Write b l) (refuses NumbersExhausted) S
@@ -380,11 +390,10 @@ module _ {T : Type 0} where
             → g.value ≡ v → content_at S (name_of b) ≡ Some (Here v [])
             → R ≡ (write_at S l (Some (name_of b)) (content_at S (name_of b))).1
             → Meets S (Write b l) (Writes g.guard g.value) R
-        write_begins R g t v below guard next value there after =
-            let e : Some (Here v []) ≡ Some (Here alone.0 []) =
-            sym there ∙ (content_is ∙ alone.1) in
+        write_begins R g t v below guard next value is after =
+            let e : Some (Here v []) ≡ Some (Here alone.0 []) = sym is ∙ alone.1 in
             let same : v ≡ alone.0 = cc in
-            rw (guard ∙ next_is t next, value, after, there, same)
+            rw (guard ∙ next_is t next, value, after, is, same)
             (inl (no_names, tt, rw writes (sym (within S written below))))
 
   pub filled_own : (S : State T) (n : Name) (c : Content T) (l : Location)
@@ -420,7 +429,7 @@ module _ {T : Type 0} where
     back_gone g v same value gone =
         inl (no_names, tt, rw (same, value, gone_unknown S id (λ c. has_writer c t) refl gone) refl)
 
-    module _ {k : Kept T} (o : IsAt S id k) where
+    module _ (o : IsAt S id) where
       unread : has_reader (content_at S (name_in id)) t ≡ false
           → remove_reader S (name_in id) t (content_at S (name_in id)) ≡ S
       unread h = ap (λ x. remove_reader S (name_in id) t (content_of x)) o.cell

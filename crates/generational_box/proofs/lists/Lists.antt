@@ -160,7 +160,7 @@ module _ (pool : set.FinSet nat_cmp) (i : ℕ) (member : set.contains pool i ≡
       ∙ sym (contains_own pool i member k)))
 
 -- a slot that is put in and taken out again leaves the set as it was
-remove-insert_new : (s : set.FinSet nat_cmp) (i : ℕ)
+pub remove-insert_new : (s : set.FinSet nat_cmp) (i : ℕ)
     → set.contains s i ≡ false → set.remove (set.insert s i) i ≡ s
 remove-insert_new s i absent = set.same_set nat_cmp_total nat_cmp-IsAntisymmetric _ _ (λ k.
     contains-remove_at (set.insert s i) i k

@@ -2,9 +2,10 @@
 use Rattle.std.proofs.Common.{◌≡◌, ℕ, ◌+◌, ◌-◌, ◌<◌, ◌≤◌, Bool, true, false, cond, ◌&&◌, ◌||◌, List}
 use Rattle.std.proofs.Common.{[], ◌∷◌, ◌++◌, length, Option, None, Some, Result, Ok, Err, IfSome}
 use Rattle.std.proofs.Common.{refl, sym, ap, ◌∙◌, arith, slice_get, slice_set, leb, length-append}
-use Rattle.std.proofs.Common.{is_some, not, nat_eq, nat_lt, max, OnOk, IfErr}
+use Rattle.std.proofs.Common.{is_some, not, nat_eq, nat_lt, max, OnOk, IfErr, map as list_map}
 use Rattle.std.specs.Ordering.{nat_cmp}
-use Rattle.std.specs.Cmp.{nat_cmp_total}
+use Rattle.std.specs.Cmp.{nat_cmp_total, nat_eq_equiv}
+use Rattle.std.specs.List.{list_any}
 use Rattle.std.proofs.lemmas.Bool.{false≢true, eqb-true, eq-eqb, lt-ltb, le-ltb, ltb-true}
 use Rattle.std.proofs.lemmas.Bool.{and_parts}
 use Rattle.std.proofs.lemmas.Bool.Decides.{nat_tests}
@@ -19,14 +20,18 @@ use Rattle.generational_box.proofs.Common.{by_name, name_total, name_exact, get-
 use Rattle.generational_box.proofs.Common.{contains-insert_name, changed_there, name_test, Empty}
 use Rattle.generational_box.proofs.Common.{Live, cell_of, cells_of, given_of, state_of, cell_in}
 use Rattle.generational_box.proofs.Common.{given_in, is_spent, is_reusable, HasBegun, IsSlotted}
-use Rattle.generational_box.proofs.Common.{change_entry, is_here, is_unborrowed}
+use Rattle.generational_box.proofs.Common.{change_entry, is_here, is_unborrowed, IsSound, Borrow}
+use Rattle.generational_core.specs.State.{tickets_of}
+use Rattle.generational_box.specs.Borrows.{AreBelow}
+use Rattle.generational_box.specs.Entries.{EntryList, borrows_in}
+use Rattle.generational_box.specs.Slotted.{change_entry_if}
 use Rattle.generational_core.specs.Machine.{own_cell, add_cell, read_at, write_at, remove_reader}
 use Rattle.generational_box.specs.Entry.{Entry, Kept, is_live, with_content, content_in, one_read}
 use Rattle.generational_box.specs.Entry.{less_read, has_no_borrow}
 use Rattle.generational_box.proofs.calls.Calls.{filled_own}
 use Rattle.generational_box.proofs.lists.Lists.{IsWritten, set_written, push_written, bit, passes}
 use Rattle.generational_box.proofs.lists.Lists.{cond_same, contains_own, contains-insert_at}
-use Rattle.generational_box.proofs.lists.Lists.{contains-remove_at}
+use Rattle.generational_box.proofs.lists.Lists.{contains-remove_at, not_left, put_back}
 use Rattle.generational_box.proofs.slots.Slots.{get_cells, get_given, len_cells, free_are}
 use Rattle.generational_box.proofs.slots.Slots.{new_first}
 use Rattle.generational_box.proofs.slots.Slots.{new_next}
@@ -132,6 +137,45 @@ module _ {T : Type 0} {slots after : List (Entry T)} {i : ℕ} {t : Entry T}
       since k true = begun
       since k false = s.begun k
 
+-- ---- the room of the slots
+
+module _ {T : Type 0} (slots : List (Entry T)) {rooms : ℕ} where
+  -- a slot that is written takes no room
+  pub written_fits : (i : ℕ) (e : Entry T) → length slots ≤ rooms
+      → length (slice_set slots i e) ≤ rooms
+  written_fits i e fits = let same = length-set slots i e in omega arith
+
+  pub changed_fits : (i : ℕ) (g : Entry T → Entry T) → length slots ≤ rooms
+      → length (change_entry slots i g) ≤ rooms
+  changed_fits i g fits = at (slice_get slots i)
+    where
+      at : (o : Option (Entry T)) → length (change_entry_if slots i g o) ≤ rooms
+      at None = fits
+      at (Some e) = written_fits i (g e) fits
+
+  -- a slot more takes room for one
+  pub pushed_fits : (e : Entry T) → length slots < rooms → length (slots ++ e ∷ []) ≤ rooms
+  pushed_fits e room = let more = length-append slots (e ∷ []) in omega arith
+
+-- a refusal that changes nothing changes no slot
+pub same_slots : {T : Type 0} (v : T) (after before : EntryList T) (r : Result (Unit {0}) T)
+    → IfErr r (λ back. (back ≡ v) × (after ≡ before))
+    → IfErr r (λ back. (back ≡ v) × (after.slots ≡ before.slots))
+same_slots v after before (Ok u) err = tt
+same_slots v after before (Err back) err = (err.0, ap (λ e. e.slots) err.1)
+
+-- the generation after a slot's last one
+pub next_told : {T : Type 0} (g : ℕ) (o : Option (Entry T)) → IfSome o (λ e. g ≡ e.generation)
+    → IfSome o (λ e. g + 1 ≡ e.generation + 1)
+next_told g None is = tt
+next_told g (Some e) is = ap (λ n. n + 1) is
+
+any_ticket : (t : ℕ) (readers : List Borrow)
+    → list_any (nat_eq t) (list_map (λ r. r.ticket) readers)
+    ≡ list_any (λ r. nat_eq r.ticket t) readers
+any_ticket t [] = refl
+any_ticket t (r ∷ readers) = λ i. nat_eq_equiv.symm t r.ticket i || any_ticket t readers i
+
 -- ---- the slot of a live cell
 
 -- its entry, in the state for which the slots stand
@@ -204,6 +248,19 @@ module _ {T : Type 0} {S : State T} {owners : Owners} {number start next peak : 
       → IfSome (slice_get slots id.slot) (λ e. P (says (content_in e.kept)))
       → P (says (content_at S (name_in id)))
   seen says P h = rw content_seen (rw f.there at h)
+
+  -- the tickets of the readers that stand there are below the next one
+  pub readers_below : IsSound S
+      → IfSome (slice_get slots id.slot) (λ e. AreBelow next (borrows_in e.kept))
+  readers_below sound = rw f.there (at f.content content_seen)
+    where
+      at : (c : Content T) → content_at S (name_in id) ≡ Some c
+          → AreBelow next (borrows_in (Live c f.created))
+      at (Here v readers) is t stands =
+          let below = sound.below (name_in id) t
+          (ap (λ o. list_any (nat_eq t) (tickets_of o)) is ∙ (any_ticket t readers ∙ stands)) in
+          let same = ap (λ (X : State T). X.next) f.view in omega arith
+      at (Lent w) is t stands = absurd (false≢true stands)
 
   alone : (g : ℕ) → nat_eq g id.generation ≡ false → cell_in (slice_get slots id.slot) g ≡ None
   alone g e = rw (f.there, e) refl
@@ -350,6 +407,15 @@ module _ {T : Type 0} {S : State T} {owners : Owners} {number start next peak : 
         at (Ok u) ok = rw (ok, ← f.view) (state_changed (λ c. Here v []) next)
         at (Err back) ok = tt
 
+    pub back_fits : {rooms : ℕ} → IfErr r (λ back. (back ≡ v) × (after ≡ slots))
+        → length slots ≤ rooms → length after ≤ rooms
+    back_fits {rooms} err fits = at r ok err
+      where
+        at : (r : Result (Unit {0}) T) → OnOk r (after ≡ changed (λ c. Here v []))
+            → IfErr r (λ back. (back ≡ v) × (after ≡ slots)) → length after ≤ rooms
+        at (Ok u) ok err = rw ok (changed_fits slots id.slot _ fits)
+        at (Err back) ok err = rw err.1 fits
+
     pub slotted_back : {free : set.FinSet nat_cmp} {rooms live : ℕ}
         → IfErr r (λ back. (back ≡ v) × (after ≡ slots))
         → IsSlotted free rooms start live peak slots → IsSlotted free rooms start live peak after
@@ -408,6 +474,21 @@ module _ {T : Type 0} {pool : set.FinSet nat_cmp} {rooms start live peak : ℕ}
 
     pub taken_within : i < length slots
     taken_within = slice_get_within slots i free_entry.0 free_entry.1
+
+    -- a free slot is none of the live ones
+    pub live_below : live < peak
+    live_below =
+        let less : set.len (set.remove pool i) ≡ set.len pool - 1 =
+        set.len-remove nat_cmp_total pool i ∙ rw member refl in
+        let more : set.len (set.insert (set.remove pool i) i) ≡ set.len (set.remove pool i) + 1 =
+        set.len-insert nat_cmp_total (set.remove pool i) i ∙ rw (not_left pool i member) refl in
+        let same = ap set.len (put_back pool i member) in let few = s.few in omega arith
+
+    pub taken_empty : IfSome (slice_get slots i) (λ e. e.kept ≡ Empty)
+    taken_empty = rw free_entry.1 free_entry.3
+
+    pub taken_below : IfSome (slice_get slots i) (λ e. e.generation < last_generation)
+    taken_below = rw free_entry.1 free_entry.4
 
     -- the generation that is told before is the one that is given
     module _ (g : ℕ) (is : IfSome (slice_get slots i) (λ e. g ≡ e.generation + 1)) where

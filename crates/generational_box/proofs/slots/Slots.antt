@@ -3,14 +3,15 @@
 use Rattle.std.proofs.Common.{◌≡◌, ℕ, zero, suc, ◌+◌, ◌-◌, ◌<◌, ◌≤◌, Bool, true, false, cond, ◌&&◌}
 use Rattle.std.proofs.Common.{◌||◌, leb, ltb, List, [], ◌∷◌, length, Option, None, Some, refl, sym}
 use Rattle.std.proofs.Common.{ap, ◌∙◌, arith, inl, inr, slice_get, drop, slice_index_or, is_some}
-use Rattle.std.proofs.Common.{not, nat_eq, nat_lt, option_map, map as list_map}
+use Rattle.std.proofs.Common.{not, nat_eq, nat_lt, option_map, IfSome, map as list_map}
 use Rattle.std.proofs.Math.Bool.{or-false}
 use Rattle.std.specs.Prelude.{unwrap_or}
 use Rattle.std.specs.Ordering.{nat_cmp, eq_by_cmp}
 use Rattle.std.specs.Cmp.{nat_eq_equiv}
 use Rattle.std.specs.List.{list_any}
 use Rattle.std.specs.Option.{option_or}
-use Rattle.std.proofs.lemmas.Bool.{true≢false, eq-eqb, ne_eqb, leb-true, le-leb, and_from}
+use Rattle.std.proofs.lemmas.Bool.{true≢false, false≢true, eq-eqb, ne_eqb, leb-true, le-leb}
+use Rattle.std.proofs.lemmas.Bool.{and_from}
 use Rattle.std.proofs.lemmas.Bool.{and_parts}
 use Rattle.std.proofs.lemmas.Bool.Decides.{nat_tests}
 use Rattle.std.proofs.lemmas.List.Folds.{list_any-append}
@@ -29,7 +30,7 @@ use Rattle.generational_box.proofs.Common.{cells_of, given_from, given_of, state
 use Rattle.generational_box.proofs.Common.{given_in, is_spent, HasBegun, IsSlotted, is_value}
 use Rattle.generational_box.proofs.Common.{OnlyValues, entry_in, cell_found}
 use Rattle.generational_core.specs.Machine.{own_cell}
-use Rattle.generational_box.specs.Entry.{Entry, Kept, is_live, content_in}
+use Rattle.generational_box.specs.Entry.{Entry, Kept, is_live, content_in, valid_at}
 use Rattle.generational_box.proofs.lists.Lists.{cond_same, bit, passes, count_all, len_passing}
 
 module _ {T : Type 0} where
@@ -343,26 +344,38 @@ module _ {T : Type 0} where
       at true (Live c l) = refl
       at false k = refl
 
-  pub own_found : {S : State T} (owners : Owners) (number start next peak : ℕ)
+  entry_live : (g : ℕ) (o : Option (Entry T)) → is_some (cell_in o g) ≡ is_some (entry_in g o)
+  entry_live g None = refl
+  entry_live g (Some e) =
+      rw (nat_eq_equiv.symm g e.generation) (at (nat_eq e.generation g) e.kept)
+    where
+      at : (b : Bool) (k : Kept T)
+          → is_some (cond b (cell_of k) None) ≡ is_some (cond (b && is_live k) (Some e) None)
+      at true Empty = refl
+      at true (Live c l) = refl
+      at false k = refl
+
+  -- an id of this store is live in the state where its slot says so
+  pub own_live : {S : State T} (owners : Owners) (number start next peak : ℕ)
       (slots : List (Entry T)) (id : GenerationalBoxId)
       → state_of owners number start next peak slots ≡ S → id.store ≡ number
-      → own_cell S id ≡ cell_found (entry_in id.generation (slice_get slots id.slot))
-  own_found owners number start next peak slots id view own =
-      rw (← view, eq-eqb id.store number own)
-      (get_cells slots (name_in id) ∙ sym (entry_cell id.generation (slice_get slots id.slot)))
+      → is_some (own_cell S id) ≡ is_some (entry_in id.generation (slice_get slots id.slot))
+  own_live owners number start next peak slots id view own =
+      rw (← view, eq-eqb id.store number own) (ap is_some (get_cells slots (name_in id))
+      ∙ entry_live id.generation (slice_get slots id.slot))
 
   -- what stands in the way of an end of a slot's cell
   abbrev pub refusal_at : Option (Entry T) → Option Trouble
   refusal_at None = None
   refusal_at (Some e) = write_refusal (content_in e.kept)
 
-  refusal_seen : (slots : List (Entry T)) (n : Name) (o : Option (Entry T))
-      → o ≡ entry_in n.generation (slice_get slots n.slot)
-      → write_refusal (content_of (map.get (cells_of slots) n)) ≡ refusal_at o
-  refusal_seen slots n o is =
+  refusal_seen : (slots : List (Entry T)) (n : Name)
+      → write_refusal (content_of (map.get (cells_of slots) n))
+      ≡ refusal_at (entry_in n.generation (slice_get slots n.slot))
+  refusal_seen slots n =
       ap (λ x. write_refusal (content_of x))
       (get_cells slots n ∙ sym (entry_cell n.generation (slice_get slots n.slot)))
-      ∙ (ap (λ e. write_refusal (content_of (cell_found e))) (sym is) ∙ at o)
+      ∙ at (entry_in n.generation (slice_get slots n.slot))
     where
       kept : (k : Kept T) → write_refusal (content_of (cell_of k)) ≡ write_refusal (content_in k)
       kept Empty = refl
@@ -372,19 +385,36 @@ module _ {T : Type 0} where
       at None = refl
       at (Some e) = kept e.kept
 
+  -- where the slot's cell has the generation, what the slot says of it
+  pub refusal_valid : (g : ℕ) (o : Option (Entry T)) (P : Option Trouble → Type 0)
+      → true ≡ is_some (entry_in g o) → IfSome o (λ e. P (write_refusal (content_in e.kept)))
+      → P (refusal_at (entry_in g o))
+  refusal_valid g None P valid says = absurd (true≢false valid)
+  refusal_valid g (Some e) P valid says = at (valid_at g e) valid
+    where
+      at : (b : Bool) → true ≡ is_some (cond b (Some e) None)
+          → P (refusal_at (cond b (Some e) None))
+      at true h = says
+      at false h = absurd (true≢false h)
+
+  -- and where it hasn't, nothing
+  pub refusal_none : (o : Option (Entry T)) → false ≡ is_some o → refusal_at o ≡ None
+  refusal_none None h = refl
+  refusal_none (Some e) h = absurd (false≢true h)
+
   abbrev left : List (Entry T) → List CellName → Option Trouble
   left slots names = first_borrowed (cells_of slots) (list_map name_of_cell names)
 
   -- what hinders an end of the names from the i-th on: the i-th one's borrows, or what comes after
   pub scan : (slots : List (Entry T)) (names : List CellName) (i : ℕ) (d : CellName)
-      (o : Option (Entry T)) → i < length names
-      → o ≡ entry_in (slice_index_or names i d).generation
-      (slice_get slots (slice_index_or names i d).slot)
-      → left slots (drop i names) ≡ option_or (refusal_at o) (left slots (drop (i + 1) names))
-  scan slots names i d o within is =
+      → i < length names
+      → left slots (drop i names)
+      ≡ option_or (refusal_at (entry_in (slice_index_or names i d).generation
+      (slice_get slots (slice_index_or names i d).slot))) (left slots (drop (i + 1) names))
+  scan slots names i d within =
       ap (left slots) (drop_more names i d within)
       ∙ ap (λ t. option_or t (left slots (drop (i + 1) names)))
-      (refusal_seen slots (name_of_cell (slice_index_or names i d)) o is)
+      (refusal_seen slots (name_of_cell (slice_index_or names i d)))
 
 module _ {T : Type 0} where
   pub new_state : (owners : Owners) (number start next : ℕ) (slots : List (Entry T))

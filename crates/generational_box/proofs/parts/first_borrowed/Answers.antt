@@ -4,9 +4,9 @@ use Rattle.generational_core.specs.declared.error.Refused.TheVariants as refused
 use Rattle.generational_box.proofs.Common.{BorrowMutError, OutOfMemory, Trouble, CellName}
 use Rattle.generational_core.specs.declared.error.Refused.{Refused}
 use Rattle.generational_box.specs.Entry.{FoundBorrowed}
-use Rattle.generational_box.proofs.slots.Slots.{scan}
+use Rattle.generational_box.proofs.slots.Slots.{scan, refusal_valid, refusal_none}
 use Rattle.generational_box.proofs.parts.first_borrowed.Goals as goal
-use Rattle.generational_box.proofs.parts.first_borrowed.Goals.{in-Some+in-Ok, in-None}
+use Rattle.generational_box.proofs.parts.first_borrowed.Goals.{then-valid+in-Ok, else-valid}
 
 -- what is found first stays so, whatever comes after
 found_first : (e : Refused BorrowMutError) (t u : Option Trouble)
@@ -25,16 +25,18 @@ none = record { slot = 0; generation = 0 }
 pub returns-in-Err : goal.returns-in-Err
 returns-in-Err g c =
     subst (λ t. FoundBorrowed t (Err c.in-Err.refused))
-    (sym (scan c.args.slots.now c.args.names.now c.loop-name.name-index none
-    (Some c.in-Some.entry.now) c.loop-name-test.true c.in-Some.ensures) ∙ c.loop-name.invariant)
-    (found_first c.in-Err.refused _ _ c.in-Err.ensures)
+    (sym (scan c.args.slots.now.slots c.args.names.now c.loop-name.name-index none
+    c.loop-name-test.true) ∙ c.loop-name.invariant)
+    (found_first c.in-Err.refused _ _ (refusal_valid _ _ (λ t. FoundBorrowed t (Err
+    c.in-Err.refused))
+    c.if-valid.ensures c.in-Err.ensures))
 
 pub loop-name-preserved : goal.loop-name-preserved
 loop-name-preserved g c =
-    let step = scan c.args.slots.now c.args.names.now c.loop-name.name-index none in
-    elim c.match-entry_at.branch [
-      | in-Some+in-Ok w ↦ passed w.in-Ok.ensures
-          (sym (step (Some w.in-Some.entry.now) c.loop-name-test.true w.in-Some.ensures)
-          ∙ c.loop-name.invariant)
-      | in-None w ↦ sym (step None c.loop-name-test.true w.in-None.ensures) ∙ c.loop-name.invariant
+    let whole = sym (scan c.args.slots.now.slots c.args.names.now c.loop-name.name-index none
+    c.loop-name-test.true) ∙ c.loop-name.invariant in
+    elim c.if-valid.branch [
+      | then-valid+in-Ok w ↦ passed (refusal_valid _ _ (λ t. t ≡ None) w.if-valid.ensures
+          w.in-Ok.ensures) whole
+      | else-valid w ↦ passed (refusal_none _ w.if-valid.ensures) whole
     ]

@@ -17,6 +17,7 @@ pub invariant_of-self : goal.invariant_of-self
 invariant_of-self g c = (
   c.self.invariant.0,
   rw c.count_up-place.ensures (counted_up c.self.invariant.1 c.args.owner.now.key),
+  c.self.invariant.2,
 )
 
 pub returns : goal.returns

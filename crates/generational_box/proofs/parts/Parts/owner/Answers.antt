@@ -13,6 +13,7 @@ pub invariant_of-self : goal.invariant_of-self
 invariant_of-self g c = (
   c.self.invariant.0,
   rw c.in-Ok.ensures.ok (counted_new c.self.invariant.1 _ refl),
+  c.self.invariant.2,
 )
 
 pub returns-in-Ok : goal.returns-in-Ok

@@ -22,6 +22,7 @@ invariant_of-self g c = (
   rw c.count_down.ensures (counted_down c.self.invariant.1 c.args.owner.key
       (rw (record_held _ _ c.args.owner _ c.in-Some.ensures)
       (omega (arith, c.count.ensures, c.if-count-gt1.true)))),
+  c.self.invariant.2,
 )
 
 pub returns-in-Some-clause-step : goal.returns-in-Some-clause-step
@@ -32,17 +33,17 @@ returns-in-Some-clause-step g c =
 pub returns-in-Err-clause-step : goal.returns-in-Err-clause-step
 returns-in-Err-clause-step g c =
     last_refused c.self.view_is c.args.owner _ c.in-Some.ensures
-    (values_all c.self.inside.slots.items)
+    (values_all c.self.inside.slots.slots)
     (omega (arith, c.count.ensures, c.if-count-gt1.false))
     c.in-Err.refused (subst (λ t. FoundBorrowed t (Err c.in-Err.refused))
-    (λ i. first_borrowed (cells_of (c.as_slice.ensures.value i)) (c.boxes.ensures i))
+    (λ i. first_borrowed (cells_of c.self.inside.slots.slots) (c.boxes.ensures i))
     c.in-Err.ensures)
 
 pub returns-clause-step : goal.returns-clause-step
 returns-clause-step g c =
     let taken = c.take_boxes-boxes.ensures in
     last_done c.self.view_is c.args.owner _ c.in-Some.ensures
-    (values_all c.self.inside.slots.items)
+    (values_all c.self.inside.slots.slots)
     (omega (arith, c.count.ensures, c.if-count-gt1.false)) _ _ _
-    (rw (← c.as_slice.ensures.value, ← c.boxes.ensures) c.in-Ok.ensures)
+    (rw (← c.boxes.ensures) c.in-Ok.ensures)
     taken.after taken.names c.end_all.ensures

@@ -1,13 +1,13 @@
-use Rattle.generational_box.proofs.calls.Calls.{is_at, put_back, back_gone}
+use Rattle.generational_box.proofs.calls.Calls.{is_at, none_from, put_back, back_gone}
 use Rattle.generational_box.proofs.parts.Parts.release_write.Goals as goal
 
-pub returns-in-Some : goal.returns-in-Some
-returns-in-Some g c =
+pub returns-then-is_live : goal.returns-then-is_live
+returns-then-is_live g c =
     let back = c.into_writer-ticket.ensures in
-    put_back _ _ _ (is_at _ c.in-Some.ensures.cell c.in-Some.ensures.live) _ c.args.guard _ _
+    put_back _ _ _ (is_at c.is_live.ensures.values c.if-is_live.ensures.cell) _ c.args.guard _ _
     back.guard back.value c.end_write.ensures.known c.end_write.ensures.ok c.end_write.ensures.err
 
-pub returns-in-None : goal.returns-in-None
-returns-in-None g c =
+pub returns : goal.returns
+returns g c =
     let back = c.into_writer-ticket.ensures in
-    back_gone _ _ _ c.args.guard _ back.guard back.value c.in-None.ensures.cell
+    back_gone _ _ _ c.args.guard _ back.guard back.value (none_from _ c.if-is_live.ensures.cell)

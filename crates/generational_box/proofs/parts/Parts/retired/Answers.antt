@@ -5,14 +5,14 @@ use Rattle.generational_box.proofs.parts.Parts.retired.Goals as goal
 pub overflow_sub-result : goal.overflow_sub-result
 overflow_sub-result g c =
     let all = all_seen c.self.invariant.0 _ _ _ c.self.view_is in
-    omega (arith, c.len.ensures, c.self.inside.slots.ok.0)
+    omega (arith, c.len.ensures)
 
 pub overflow_sub-result-2 : goal.overflow_sub-result-2
 overflow_sub-result-2 g c =
     let all = all_seen c.self.invariant.0 _ _ _ c.self.view_is in
-    omega (arith, c.len.ensures, c.free.ensures, c.self.inside.slots.ok.0)
+    omega (arith, c.len.ensures, c.free.ensures)
 
 pub returns : goal.returns
 returns g c =
     let all = all_seen c.self.invariant.0 _ _ _ c.self.view_is in
-    omega (arith, c.len.ensures, c.free.ensures, c.self.inside.slots.ok.0)
+    omega (arith, c.len.ensures, c.free.ensures)

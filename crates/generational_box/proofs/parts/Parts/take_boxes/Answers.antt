@@ -6,7 +6,8 @@ pub invariant_of-self : goal.invariant_of-self
 invariant_of-self g c = (
   c.self.invariant.0,
   rw c.take.ensures.after (counted_remove c.self.invariant.1 c.args.owner.now.key),
+  c.self.invariant.2,
 )
 
 pub returns-clause-values : goal.returns-clause-values
-returns-clause-values g c = values_all c.self.inside.slots.items
+returns-clause-values g c = values_all c.self.inside.slots.slots

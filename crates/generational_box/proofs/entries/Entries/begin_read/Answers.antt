@@ -1,0 +1,197 @@
+use Rattle.std.proofs.Common.{arith, refl, sym, ◌≡◌, subst, ap, ◌∙◌, [], ◌∷◌}
+use Rattle.std.proofs.lemmas.List.{length-set}
+use Rattle.generational_box.specs.Entries.{borrows_in}
+use Rattle.generational_box.proofs.slots.Entries.{kept, many, says, free_value, used_at, read_slot}
+use Rattle.generational_box.proofs.slots.Entries.{room_left, small_left, open_lists, open_indexed}
+use Rattle.generational_box.proofs.slots.Entries.{none_some}
+use Rattle.generational_box.proofs.slots.Entries.{Opens}
+use Rattle.generational_box.proofs.slots.Entries.{list_lists, join_room, join_indexed, join_lists}
+use Rattle.generational_box.proofs.slots.Entries.{join_list}
+use Rattle.generational_box.proofs.slots.Entries.{view_changed, roomy_still, opened_list, hears}
+use Rattle.generational_box.proofs.slots.Entries.{location, ok_then}
+use Rattle.generational_box.proofs.slots.Entries.{err_then, read_beside, reader_kept, not_empty}
+use Rattle.generational_box.specs.Entries.{kept_data, index_of, EntryList}
+use Rattle.generational_box.specs.Table.{list_at}
+use Rattle.generational_box.specs.Borrows.{AreBelow}
+use Rattle.std.proofs.lemmas.List.{get_or-set_same}
+use Rattle.generational_box.proofs.entries.Entries.begin_read.Goals as goal
+
+pub index_mut-requires : goal.index_mut-requires
+index_mut-requires g c =
+    let same = many (kept c.self.view_is c.self.invariant) in
+    omega (arith, c.requires.within, c.self.inside.entries.ok.0)
+
+pub open-requires-clause-room : goal.open-requires-clause-room
+open-requires-clause-room g c =
+    let s = kept c.self.view_is c.self.invariant in
+    let there = read_slot s c.requires.within _ c.self.inside.entries.ok.0
+    c.index_mut.ensures.value in
+    room_left s c.args.slot _ there (rw (c.in-Data.is, c.if-index.true) refl)
+    (let r = c.self.invariant.2 in let a = r.filled in let b = r.borrows in omega arith)
+
+pub open-requires-clause-small : goal.open-requires-clause-small
+open-requires-clause-small g c =
+    let s = kept c.self.view_is c.self.invariant in
+    let there = read_slot s c.requires.within _ c.self.inside.entries.ok.0
+    c.index_mut.ensures.value in
+    small_left s c.args.slot _ there (rw (c.in-Data.is, c.if-index.true) refl)
+
+pub invariant_of-self : goal.invariant_of-self
+invariant_of-self g c =
+    let s = kept c.self.view_is c.self.invariant in
+    let there = read_slot s c.requires.within _ c.self.inside.entries.ok.0
+    c.index_mut.ensures.value in
+    let o : Opens c.self.inside.borrows c.open.new.self c.open.result (c.args.borrow ∷ []) =
+    record {
+      vacant = c.open.ensures.vacant;
+      some = none_some _ [];
+      lists = c.open.ensures.lists;
+      free = c.open.ensures.free;
+    } in (
+      open_indexed s c.args.slot _ there (rw (c.in-Data.is, c.if-index.true) refl) o _ refl tt,
+      c.self.invariant.1 ∙ sym (length-set c.self.inside.entries.items c.args.slot _),
+      roomy_still c.self.invariant.2 (length-set c.self.inside.entries.items c.args.slot _)
+          c.open.ensures.rooms,
+    )
+
+pub returns-then-index-clause-ok : goal.returns-then-index-clause-ok
+returns-then-index-clause-ok g c =
+    let s = kept c.self.view_is c.self.invariant in
+    let there = read_slot s c.requires.within _ c.self.inside.entries.ok.0
+    c.index_mut.ensures.value in
+    let o : Opens c.self.inside.borrows c.open.new.self c.open.result (c.args.borrow ∷ []) =
+    record {
+      vacant = c.open.ensures.vacant;
+      some = none_some _ [];
+      lists = c.open.ensures.lists;
+      free = c.open.ensures.free;
+    } in
+    view_changed s c.args.slot _ there _ _ _ (open_lists s c.args.slot _ there
+    (rw (c.in-Data.is, c.if-index.true) refl) o)
+    (λ l. rw (
+      c.in-Data.is,
+      opened_list o,
+      free_value s c.args.slot _ there _ _ c.in-Data.is c.if-index.true,
+    ) refl)
+
+pub join-requires-clause-used : goal.join-requires-clause-used
+join-requires-clause-used g c =
+    let s = kept c.self.view_is c.self.invariant in
+    let there = read_slot s c.requires.within _ c.self.inside.entries.ok.0
+    c.index_mut.ensures.value in
+    rw c.if-index-eq0.true at
+    (used_at s c.args.slot _ there _ _ c.in-Data.is c.if-index.false).used
+
+pub join-requires-clause-room : goal.join-requires-clause-room
+join-requires-clause-room g c =
+    let s = kept c.self.view_is c.self.invariant in
+    let there = read_slot s c.requires.within _ c.self.inside.entries.ok.0
+    c.index_mut.ensures.value in
+    join_room s c.args.slot _ there (rw (c.in-Data.is, c.if-index-eq0.true) refl)
+    (let r = c.self.invariant.2 in let a = r.filled in let b = r.borrows in omega arith)
+
+pub join-requires-clause-ascends : goal.join-requires-clause-ascends
+join-requires-clause-ascends g c =
+    let s = kept c.self.view_is c.self.invariant in
+    let there = read_slot s c.requires.within _ c.self.inside.entries.ok.0
+    c.index_mut.ensures.value in
+    rw c.if-index-eq0.true at
+    (subst (λ d. AreBelow c.args.borrow.ticket (borrows_in (kept_data
+    (list_at c.self.inside.borrows.lists (index_of d)) (location s c.args.slot _ there).0 d)))
+    c.in-Data.is
+    (hears s c.args.slot _ there (λ e. AreBelow c.args.borrow.ticket (borrows_in e.kept))
+    c.requires.ascends))
+
+pub returns-in_err-index-in-Data-clause-beside : goal.returns-in_err-index-in-Data-clause-beside
+returns-in_err-index-in-Data-clause-beside g c =
+    let s = kept c.self.view_is c.self.invariant in
+    let there = read_slot s c.requires.within _ c.self.inside.entries.ok.0
+    c.index_mut.ensures.value in
+    err_then c.from_residual.result (says s c.args.slot _ there _ (λ l. rw c.in-Data.is
+    (read_beside s c.args.slot _ there _ _ c.in-Data.is c.if-index.false)))
+
+pub invariant_of-self-then-index-eq0 : goal.invariant_of-self-then-index-eq0
+invariant_of-self-then-index-eq0 g c =
+    let s = kept c.self.view_is c.self.invariant in
+    let there = read_slot s c.requires.within _ c.self.inside.entries.ok.0
+    c.index_mut.ensures.value in
+    let j = c.in_ok-index-in-Data.ensures.ok in (
+      join_indexed s c.args.slot _ there (rw (c.in-Data.is, c.if-index-eq0.true) refl) j
+          (not_empty _ _) _ refl tt,
+      c.self.invariant.1 ∙ sym (length-set c.self.inside.entries.items c.args.slot _),
+      roomy_still c.self.invariant.2 (length-set c.self.inside.entries.items c.args.slot _) j.rooms,
+    )
+
+pub returns-then-index-eq0-clause-ok : goal.returns-then-index-eq0-clause-ok
+returns-then-index-eq0-clause-ok g c =
+    let s = kept c.self.view_is c.self.invariant in
+    let there = read_slot s c.requires.within _ c.self.inside.entries.ok.0
+    c.index_mut.ensures.value in
+    let own : index_of c.index_mut.result.now.content ≡ 0 =
+    rw (c.in-Data.is, c.if-index-eq0.true) refl in
+    let j = c.in_ok-index-in-Data.ensures.ok in
+    view_changed s c.args.slot _ there _ _ _
+    (join_lists s c.args.slot _ there own j (not_empty _ _))
+    (λ l. rw (
+      c.in-Data.is,
+      c.if-index-eq0.true,
+      join_list s c.args.slot _ there own j (not_empty _ _),
+    ) refl)
+
+pub push-requires-clause-within : goal.push-requires-clause-within
+push-requires-clause-within g c =
+    let s = kept c.self.view_is c.self.invariant in
+    let there = read_slot s c.requires.within _ c.self.inside.entries.ok.0
+    c.index_mut.ensures.value in
+    (used_at s c.args.slot _ there _ _ c.in-Data.is c.if-index.false).within
+
+pub push-requires-clause-ascends : goal.push-requires-clause-ascends
+push-requires-clause-ascends g c =
+    let s = kept c.self.view_is c.self.invariant in
+    let there = read_slot s c.requires.within _ c.self.inside.entries.ok.0
+    c.index_mut.ensures.value in
+    subst (λ d. AreBelow c.args.borrow.ticket (borrows_in (kept_data
+    (list_at c.self.inside.borrows.lists (index_of d)) (location s c.args.slot _ there).0 d)))
+    c.in-Data.is
+    (hears s c.args.slot _ there (λ e. AreBelow c.args.borrow.ticket (borrows_in e.kept))
+    c.requires.ascends)
+
+pub returns-else-index-eq0-clause-ok : goal.returns-else-index-eq0-clause-ok
+returns-else-index-eq0-clause-ok g c =
+    let s = kept c.self.view_is c.self.invariant in
+    let there = read_slot s c.requires.within _ c.self.inside.entries.ok.0
+    c.index_mut.ensures.value in
+    let u = used_at s c.args.slot _ there _ _ c.in-Data.is c.if-index.false in
+    ok_then c.push.result (λ now. view_changed s c.args.slot _ there _ _ _
+    (list_lists s c.args.slot _ there _ (rw c.in-Data.is refl) c.if-index.false _ (not_empty _ _)
+    now)
+    (λ l. rw (
+      c.in-Data.is,
+      now,
+      get_or-set_same c.self.inside.borrows.lists c.in-Data.index _ []
+          u.within,
+    ) refl))
+    c.push.ensures.ok
+
+pub returns-else-index-eq0-clause-beside : goal.returns-else-index-eq0-clause-beside
+returns-else-index-eq0-clause-beside g c =
+    let s = kept c.self.view_is c.self.invariant in
+    let there = read_slot s c.requires.within _ c.self.inside.entries.ok.0
+    c.index_mut.ensures.value in
+    err_then c.push.result (says s c.args.slot _ there _ (λ l. rw c.in-Data.is
+    (read_beside s c.args.slot _ there _ _ c.in-Data.is c.if-index.false)))
+
+pub returns-in_default : goal.returns-in_default
+returns-in_default g c =
+    let s = kept c.self.view_is c.self.invariant in
+    let there = read_slot s c.requires.within _ c.self.inside.entries.ok.0
+    c.index_mut.ensures.value in
+    record {
+      ok = view_changed s c.args.slot _ there _ _ _ (λ k other. refl) (λ l. ap (λ kept. record {
+        generation = c.index_mut.result.now.generation;
+        kept = kept;
+      }) (reader_kept c.args.borrow _ l c.index_mut.result.now.content c.in_default.not-Data));
+      err = tt;
+      beside = tt;
+      rooms = ap (λ (x : EntryList _). x.rooms) c.self.view_is;
+    }

@@ -1,0 +1,58 @@
+-- The value, where the reader stands.
+use Rattle.std.proofs.Common.{arith, refl, ◌≡◌, ℕ, List, [], ◌∷◌, None}
+use Rattle.generational_core.specs.declared.borrow.Borrow.{Borrow}
+use Rattle.generational_core.specs.declared.error.Location.{Location}
+use Rattle.generational_box.specs.declared.entry.StorageEntryData.{StorageEntryData}
+use Rattle.generational_box.specs.declared.entry.StorageEntryData.TheVariants as slot
+use Rattle.generational_box.specs.Entries.{kept_data}
+use Rattle.generational_box.specs.Entry.{content_in, value_for}
+use Rattle.generational_box.proofs.slots.Entries.{kept, many, says, used_at, free_value, read_slot}
+use Rattle.generational_box.proofs.entries.Entries.open.Goals.{else-index-via-then-index+else-contains}
+use Rattle.generational_box.proofs.entries.Entries.open.Goals.{else-index-via-else-index}
+use Rattle.generational_box.proofs.entries.Entries.open.Goals as goal
+
+no_value : {T : Type 0} (ticket : ℕ) (bs : List Borrow) (l : Location) (d : StorageEntryData T)
+    → ((x : ℕ) (v : T) → d ≡ slot.Data x v → ⊥)
+    → None ≡ value_for ticket (content_in (kept_data bs l d))
+no_value ticket bs l slot.Empty none = refl
+no_value ticket bs l (slot.Data x v) none = absurd (none x v refl)
+no_value ticket [] l (slot.Lent x) none = refl
+no_value ticket (b ∷ bs) l (slot.Lent x) none = refl
+
+pub index-requires : goal.index-requires
+index-requires g c =
+    let same = many (kept c.self.view_is c.self.invariant) in
+    omega (arith, c.requires, c.self.inside.entries.ok.0)
+
+pub contains-requires : goal.contains-requires
+contains-requires g c =
+    let s = kept c.self.view_is c.self.invariant in
+    let there = read_slot s c.requires _ c.self.inside.entries.ok.0 c.index.ensures in
+    (used_at s c.args.slot _ there _ _ c.in-Data.is c.if-index.true).within
+
+pub returns-then-contains : goal.returns-then-contains
+returns-then-contains g c =
+    let s = kept c.self.view_is c.self.invariant in
+    let there = read_slot s c.requires _ c.self.inside.entries.ok.0 c.index.ensures in
+    says s c.args.slot _ there _
+    (λ l. rw (c.in-Data.is, ← c.if-contains.ensures) refl)
+
+pub returns-else-index : goal.returns-else-index
+returns-else-index g c =
+    let s = kept c.self.view_is c.self.invariant in
+    let there = read_slot s c.requires _ c.self.inside.entries.ok.0 c.index.ensures in
+    elim c.else-index.branch [
+      | else-index-via-then-index+else-contains w ↦ says s c.args.slot _ there _
+          (λ l. rw (c.in-Data.is, ← w.if-contains.ensures) refl)
+      | else-index-via-else-index w ↦ says s c.args.slot _ there _ (λ l. rw (
+        c.in-Data.is,
+        free_value s c.args.slot _ there _ _ c.in-Data.is w.if-index.false,
+      ) refl)
+    ]
+
+pub returns-in_default : goal.returns-in_default
+returns-in_default g c =
+    let s = kept c.self.view_is c.self.invariant in
+    let there = read_slot s c.requires _ c.self.inside.entries.ok.0 c.index.ensures in
+    says s c.args.slot _ there _
+    (λ l. no_value c.args.ticket _ l c.index.result.now.content c.in_default.not-Data)
