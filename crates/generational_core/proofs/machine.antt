@@ -1,6 +1,7 @@
 -- What holds of each call of the machine.
 pub mod Bounding
 pub mod Changes
+pub mod Closing
 pub mod Ends
 pub mod Releasing
 pub mod Soundness

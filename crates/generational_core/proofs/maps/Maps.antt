@@ -89,6 +89,22 @@ module _ {K : Type 0} {R : K → K → Ordering} (o : IsKeyOrder R) where
         → map.get (map.retain_keys m p) q ≡ cond (p q) (map.get m q) None
     get-keep m p q = map.get-retain_keys m p q (λ x t. ap p (sym (o.exact q x t)))
 
+    -- keys are removed in either order
+    pub remove_each : (m : map.FinMap R X) (j k : K)
+        → map.remove (map.remove m j) k ≡ map.remove (map.remove m k) j
+    remove_each m j k = map.same_map o.total o.exact _ _ (λ q.
+        map.get-remove o.total (map.remove m j) k q
+        ∙ (rw (map.get-remove o.total m j q)
+        (either (eq_by_cmp R q j) (eq_by_cmp R q k) (map.get m q))
+        ∙ sym (map.get-remove o.total (map.remove m k) j q
+        ∙ ap (cond (eq_by_cmp R q j) None) (map.get-remove o.total m k q))))
+      where
+        either : (a b : Bool) (x : Option X)
+            → cond b None (cond a None x) ≡ cond a None (cond b None x)
+        either true true x = refl
+        either true false x = refl
+        either false b x = refl
+
     -- a key is kept with what it had, or taken away
     pub keep_view : (m : map.FinMap R X) (p : K → Bool) (q : K)
         → ((map.get (map.retain_keys m p) q ≡ map.get m q) × (p q ≡ true))
@@ -341,7 +357,8 @@ passes_both p q f (x ∷ xs) h =
     ⊎_elim (λ e. or_left _ _ (f x e)) (λ e. or_right _ _ (passes_both p q f xs e)) (or_cases _ _ h)
 
 module _ {T : Type 0} where
-  is_ref : (m : Name) (c : Option (Cell T))
+  -- what passes the test of a Ref is one
+  pub is_ref : (m : Name) (c : Option (Cell T))
       → refers_to m c ≡ true → (l : Location) × (c ≡ Some (Ref m l))
   is_ref m (Some (Ref k l)) h = (l, ap (λ n. Some (Ref n l)) (sym (name_same m k h)))
   is_ref m _ h = absurd (true≢false (sym h))

@@ -1,0 +1,276 @@
+-- Names that end one after the other, and Refs that turn: what is left, and what hinders it.
+use Rattle.std.specs.FinMap as map
+use Rattle.std.proofs.Common.{Bool, ◌≡◌, ◌≢◌, true, false, cond, not, ◌||◌, List, [], ◌∷◌, Option}
+use Rattle.std.proofs.Common.{None, Some, refl, sym, ap, subst, ◌∙◌, ⊎_elim}
+use Rattle.std.proofs.lemmas.Bool.{true≢false, or_cases}
+use Rattle.std.specs.Cmp.{both_ways}
+use Rattle.generational_core.specs.Cells.{Cell, is_shared, refers_to}
+use Rattle.generational_core.specs.Cells.Cell.{Value, Shared, Ref}
+use Rattle.generational_core.specs.Ending.{sweep, take_away, cells_after}
+use Rattle.generational_core.specs.Names.{Name, NameMap, among, is_name}
+use Rattle.generational_core.specs.State.{is_named}
+use Rattle.generational_core.proofs.maps.Maps.{by_name, name_total, name_exact, name_here, name_same}
+use Rattle.generational_core.proofs.maps.Maps.{name_cases, name_apart, get-keep, get-insert_here}
+use Rattle.generational_core.proofs.maps.Maps.{get-insert_apart, get-remove_here, get-remove_apart}
+use Rattle.generational_core.proofs.maps.Maps.{remove_each, is_ref, named_gives, named_from}
+use Rattle.generational_core.proofs.machine.Ends.{by_cond, swept_view, without_view, IsLinked}
+
+-- what stands in a list of one name
+just_one : (n q : Name) → among (n ∷ []) q ≡ true → q ≡ n
+just_one n q h =
+    ⊎_elim (λ e. name_same q n e) (λ e. absurd (true≢false (sym e))) (or_cases _ _ h)
+
+module _ {T : Type 0} where
+  -- ---- what is left at a name
+
+  abbrev without : Option (Cell T) → Bool → Option (Cell T)  -- where its name ends, or doesn't
+  without cell there = cond (is_shared cell || not there) cell None
+
+  abbrev swept : Option (Cell T) → Bool → Option (Cell T)  -- where a Ref names it, or none does
+  swept cell named = cond (not (is_shared cell) || named) cell None
+
+  get-without : (cells : NameMap (Cell T)) (names : List Name) (q : Name)
+      → map.get (take_away cells names) q ≡ without (map.get cells q) (among names q)
+  unfolding take_away
+  get-without cells names q = get-keep by_name cells _ q
+
+  get-swept : (cells : NameMap (Cell T)) (q : Name)
+      → map.get (sweep cells) q ≡ swept (map.get cells q) (is_named cells q)
+  unfolding sweep
+  get-swept cells q = get-keep by_name cells _ q
+
+  -- cells that are the same at each name
+  same_cells : (a b : NameMap (Cell T)) → ((q : Name) → map.get a q ≡ map.get b q) → a ≡ b
+  same_cells a b same = map.same_map name_total name_exact a b same
+
+  -- ---- which names Refs name
+
+  -- what a Ref names is named where each such Ref is one still
+  pub named_still : (a b : NameMap (Cell T)) (m : Name)
+      → ((k : Name) → refers_to m (map.get a k) ≡ true → refers_to m (map.get b k) ≡ true)
+      → is_named a m ≡ true → is_named b m ≡ true
+  named_still a b m still h =
+      let it = named_gives a m h in
+      let there = still it.0 (ap (refers_to m) it.2 ∙ name_here m) in
+      let ref = is_ref m (map.get b it.0) there in named_from b m (it.0, ref.0, ref.1)
+
+  -- whether a name is named depends on the Refs to it alone
+  pub named_same : (a b : NameMap (Cell T)) (m : Name)
+      → ((k : Name) → refers_to m (map.get a k) ≡ refers_to m (map.get b k))
+      → is_named a m ≡ is_named b m
+  named_same a b m same = both_ways _ _ (named_still a b m (λ k h. sym (same k) ∙ h))
+      (named_still b a m (λ k h. same k ∙ h))
+
+  swept_refers : (m : Name) (cell : Option (Cell T)) (named : Bool)
+      → refers_to m (swept cell named) ≡ refers_to m cell
+  swept_refers m (Some (Shared c l)) true = refl
+  swept_refers m (Some (Shared c l)) false = refl
+  swept_refers m None true = refl
+  swept_refers m None false = refl
+  swept_refers m (Some (Value c l)) named = refl
+  swept_refers m (Some (Ref k l)) named = refl
+
+  -- a sweep leaves Refs alone
+  pub sweep_names : (cells : NameMap (Cell T)) (m : Name)
+      → is_named (sweep cells) m ≡ is_named cells m
+  sweep_names cells m = named_same (sweep cells) cells m (λ k.
+      ap (refers_to m) (get-swept cells k) ∙ swept_refers m (map.get cells k) (is_named cells k))
+
+  -- so does another cell at a name, where neither it nor the old one is a Ref to m, or both are
+  pub insert_names : (cells : NameMap (Cell T)) (n : Name) (c : Cell T) (m : Name)
+      → refers_to m (map.get cells n) ≡ refers_to m (Some c)
+      → is_named (map.insert cells n c) m ≡ is_named cells m
+  insert_names cells n c m same = named_same (map.insert cells n c) cells m (λ k. ⊎_elim
+      (λ is. ap (λ x. refers_to m (map.get (map.insert cells n c) x)) is
+      ∙ (ap (refers_to m) (get-insert_here by_name cells n c)
+      ∙ (sym same ∙ ap (λ x. refers_to m (map.get cells x)) (sym is))))
+      (λ ne. ap (refers_to m) (get-insert_apart by_name cells n c k ne)) (name_cases k n))
+
+  -- and the end of a cell that is no Ref to m
+  pub remove_names : (cells : NameMap (Cell T)) (n m : Name)
+      → refers_to m (map.get cells n) ≡ false
+      → is_named (map.remove cells n) m ≡ is_named cells m
+  remove_names cells n m other = named_same (map.remove cells n) cells m (λ k. ⊎_elim
+      (λ is. ap (λ x. refers_to m (map.get (map.remove cells n) x)) is
+      ∙ (ap (refers_to m) (get-remove_here by_name cells n)
+      ∙ (sym other ∙ ap (λ x. refers_to m (map.get cells x)) (sym is))))
+      (λ ne. ap (refers_to m) (get-remove_apart by_name cells n k ne)) (name_cases k n))
+
+  -- ---- names end one after the other
+
+  -- names are taken away one after the other
+  pub away_each : (cells : NameMap (Cell T)) (n : Name) (names : List Name)
+      → take_away cells (n ∷ names) ≡ take_away (take_away cells (n ∷ [])) names
+  away_each cells n names = same_cells _ _ (λ q.
+      get-without cells (n ∷ names) q
+      ∙ (sym (twice (map.get cells q) (is_name q n) (among names q))
+      ∙ sym (get-without (take_away cells (n ∷ [])) names q
+      ∙ ap (λ x. without x (among names q)) (get-without cells (n ∷ []) q))))
+    where
+      twice : (cell : Option (Cell T)) (a b : Bool)
+          → without (without cell (a || false)) b ≡ without cell (a || b)
+      twice None true true = refl
+      twice None true false = refl
+      twice None false true = refl
+      twice None false false = refl
+      twice (Some (Shared c l)) a b = refl
+      twice (Some (Value c l)) true true = refl
+      twice (Some (Value c l)) true false = refl
+      twice (Some (Value c l)) false b = refl
+      twice (Some (Ref m l)) true true = refl
+      twice (Some (Ref m l)) true false = refl
+      twice (Some (Ref m l)) false b = refl
+
+  -- a sweep between changes nothing in the end
+  sweep_between : (cells : NameMap (Cell T)) (names : List Name)
+      → sweep (take_away (sweep cells) names) ≡ sweep (take_away cells names)
+  sweep_between cells names = same_cells _ _ (λ q.
+      let named = is_named (take_away cells names) q in
+      get-swept (take_away (sweep cells) names) q
+      ∙ (rw (names_same q, get-without (sweep cells) names q, get-swept cells q)
+      (between (map.get cells q) (is_named cells q) (among names q) named (fewer q))
+      ∙ sym (get-swept (take_away cells names) q
+      ∙ ap (λ x. swept x named) (get-without cells names q))))
+    where
+      refers_same : (m : Name) (cell : Option (Cell T)) (named there : Bool)
+          → refers_to m (without (swept cell named) there) ≡ refers_to m (without cell there)
+      refers_same m None true there = refl
+      refers_same m None false there = refl
+      refers_same m (Some (Shared c l)) true there = refl
+      refers_same m (Some (Shared c l)) false true = refl
+      refers_same m (Some (Shared c l)) false false = refl
+      refers_same m (Some (Value c l)) named there = refl
+      refers_same m (Some (Ref k l)) named there = refl
+
+      names_same : (q : Name)
+          → is_named (take_away (sweep cells) names) q ≡ is_named (take_away cells names) q
+      names_same q = named_same _ _ q (λ k. rw (
+        get-without (sweep cells) names k,
+        get-swept cells k,
+        get-without cells names k,
+      ) (refers_same q (map.get cells k) (is_named cells k) (among names k)))
+
+      fewer : (q : Name) → is_named (take_away cells names) q ≡ true → is_named cells q ≡ true
+      fewer q = named_still (take_away cells names) cells q (λ k h. ⊎_elim
+          (λ e. ap (refers_to q) (sym e) ∙ h)
+          (λ e. absurd (true≢false (sym h ∙ ap (refers_to q) e.0))) (without_view cells names k))
+
+      between : (cell : Option (Cell T)) (before there after : Bool)
+          → (after ≡ true → before ≡ true)
+          → swept (without (swept cell before) there) after ≡ swept (without cell there) after
+      between None true there after h = refl
+      between None false there after h = refl
+      between (Some (Value c l)) before there after h = refl
+      between (Some (Ref m l)) before there after h = refl
+      between (Some (Shared c l)) true there after h = refl
+      between (Some (Shared c l)) false there true h = absurd (true≢false (sym (h refl)))
+      between (Some (Shared c l)) false true false h = refl
+      between (Some (Shared c l)) false false false h = refl
+
+  -- what is left where names end is what is left where they end one after the other
+  pub close_each : (cells : NameMap (Cell T)) (n : Name) (names : List Name)
+      → cells_after cells (n ∷ names) ≡ cells_after (cells_after cells (n ∷ [])) names
+  close_each cells n names =
+      ap sweep (away_each cells n names) ∙ sym (sweep_between (take_away cells (n ∷ [])) names)
+
+  -- ---- one name
+
+  -- a name without a cell, and one of a Shared cell, take nothing away
+  pub away_nothing : (cells : NameMap (Cell T)) (names : List Name)
+      → ((q : Name) → among names q ≡ true → is_shared (map.get cells q) ≡ false
+      → map.get cells q ≡ None)
+      → take_away cells names ≡ cells
+  away_nothing cells names nothing = same_cells _ _ (λ q. ⊎_elim (λ e. e)
+      (λ e. e.0 ∙ sym (nothing q e.2 e.1)) (without_view cells names q))
+
+  pub away_shared : (cells : NameMap (Cell T)) (n : Name)
+      → is_shared (map.get cells n) ≡ true → take_away cells (n ∷ []) ≡ cells
+  away_shared cells n shared = away_nothing cells (n ∷ []) (λ q there plain. absurd (true≢false
+      (sym shared ∙ (ap (λ x. is_shared (map.get cells x)) (sym (just_one n q there)) ∙ plain))))
+
+  pub away_absent : (cells : NameMap (Cell T)) (n : Name)
+      → map.get cells n ≡ None → take_away cells (n ∷ []) ≡ cells
+  away_absent cells n none = away_nothing cells (n ∷ []) (λ q there plain.
+      ap (map.get cells) (just_one n q there) ∙ none)
+
+  -- any other cell goes
+  pub away_one : (cells : NameMap (Cell T)) (n : Name)
+      → is_shared (map.get cells n) ≡ false → take_away cells (n ∷ []) ≡ map.remove cells n
+  away_one cells n plain = same_cells _ _ (λ q. ⊎_elim
+      (λ is. subst (λ x. map.get (take_away cells (n ∷ [])) x ≡ map.get (map.remove cells n) x)
+      (sym is) (get-without cells (n ∷ []) n
+      ∙ rw (plain, name_here n) (sym (get-remove_here by_name cells n))))
+      (λ ne. ⊎_elim (λ e. e) (λ e. absurd (ne (just_one n q e.2))) (without_view cells (n ∷ []) q)
+      ∙ sym (get-remove_apart by_name cells n q ne))
+      (name_cases q n))
+
+  -- ---- a sweep of cells where each Shared cell is named, or each but one
+
+  pub sweep_all : (cells : NameMap (Cell T))
+      → ((q : Name) → is_shared (map.get cells q) ≡ true → is_named cells q ≡ true)
+      → sweep cells ≡ cells
+  sweep_all cells named = same_cells _ _ (λ q. ⊎_elim (λ e. e.0)
+      (λ e. absurd (true≢false (sym (named q e.1) ∙ e.2))) (swept_view cells q))
+
+  pub sweep_but : (cells : NameMap (Cell T)) (m : Name)
+      → is_shared (map.get cells m) ≡ true
+      → ((q : Name) → q ≢ m → is_shared (map.get cells q) ≡ true → is_named cells q ≡ true)
+      → sweep cells ≡ cond (is_named cells m) cells (map.remove cells m)
+  sweep_but cells m shared others = by_cond (λ x. sweep cells ≡ x) (is_named cells m)
+      (λ named. sweep_all cells (λ q h. ⊎_elim (λ is. ap (is_named cells) is ∙ named)
+      (λ ne. others q ne h) (name_cases q m)))
+      (λ unnamed. same_cells _ _ (λ q. ⊎_elim
+      (λ is. subst (λ x. map.get (sweep cells) x ≡ map.get (map.remove cells m) x) (sym is)
+      (get-swept cells m ∙ rw (shared, unnamed) (sym (get-remove_here by_name cells m))))
+      (λ ne. ⊎_elim (λ e. e.0) (λ e. absurd (true≢false (sym (others q ne e.1) ∙ e.2)))
+      (swept_view cells q) ∙ sym (get-remove_apart by_name cells m q ne)) (name_cases q m)))
+
+  -- ---- the end of one name, of cells that are linked
+
+  -- nothing is left out of linked cells
+  pub sweep_linked : (cells : NameMap (Cell T)) → IsLinked cells → sweep cells ≡ cells
+  sweep_linked cells linked = sweep_all cells (λ q h. named_from cells q (linked.named q h))
+
+  pub close_nothing : (cells : NameMap (Cell T)) → IsLinked cells → cells_after cells [] ≡ cells
+  close_nothing cells linked =
+      ap sweep (away_nothing cells [] (λ q there. absurd (true≢false (sym there))))
+      ∙ sweep_linked cells linked
+
+  -- a Shared cell that the cell at n doesn't name is named without it
+  named_without : (cells : NameMap (Cell T)) (n q : Name) → IsLinked cells
+      → refers_to q (map.get cells n) ≡ false
+      → is_shared (map.get (map.remove cells n) q) ≡ true → is_named (map.remove cells n) q ≡ true
+  named_without cells n q linked other h = ⊎_elim
+      (λ is. absurd (true≢false (sym h ∙ (ap (λ x. is_shared (map.get (map.remove cells n) x)) is
+      ∙ ap is_shared (get-remove_here by_name cells n)))))
+      (λ ne. remove_names cells n q other ∙ named_from cells q
+      (linked.named q (sym (ap is_shared (get-remove_apart by_name cells n q ne)) ∙ h)))
+      (name_cases q n)
+
+  -- what is left where the name of a cell ends: a Ref's target goes with the last Ref to it
+  abbrev pub left_of_end : NameMap (Cell T) → Name → Option (Cell T) → NameMap (Cell T)
+  left_of_end cells n (Some (Value c l)) = map.remove cells n
+  left_of_end cells n (Some (Ref m l)) =
+      let rest = map.remove cells n in
+      cond (is_named rest m) rest (map.remove (map.remove cells m) n)
+  left_of_end cells n _ = cells
+
+  pub close_one : (cells : NameMap (Cell T)) (n : Name) → IsLinked cells
+      → (cell : Option (Cell T)) → map.get cells n ≡ cell
+      → cells_after cells (n ∷ []) ≡ left_of_end cells n cell
+  close_one cells n linked None at =
+      ap sweep (away_absent cells n at) ∙ sweep_linked cells linked
+  close_one cells n linked (Some (Shared c l)) at =
+      ap sweep (away_shared cells n (ap is_shared at)) ∙ sweep_linked cells linked
+  close_one cells n linked (Some (Value c l)) at =
+      ap sweep (away_one cells n (ap is_shared at)) ∙ sweep_all (map.remove cells n)
+      (λ q h. named_without cells n q linked (ap (refers_to q) at) h)
+  close_one cells n linked (Some (Ref m l)) at =
+      let rest = map.remove cells n in
+      let target = linked.targets n m l at in
+      let apart = λ (is : m ≡ n). true≢false
+      (sym target ∙ (ap (λ x. is_shared (map.get cells x)) is ∙ ap is_shared at)) in
+      ap sweep (away_one cells n (ap is_shared at))
+      ∙ (sweep_but rest m (ap is_shared (get-remove_apart by_name cells n m apart) ∙ target)
+      (λ q ne h. named_without cells n q linked (ap (refers_to q) at ∙ name_apart q m ne) h)
+      ∙ ap (cond (is_named rest m) rest) (remove_each by_name cells n m))
