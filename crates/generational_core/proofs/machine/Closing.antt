@@ -2,18 +2,24 @@
 use Rattle.std.specs.FinMap as map
 use Rattle.std.proofs.Common.{Bool, ◌≡◌, ◌≢◌, true, false, cond, not, ◌||◌, List, [], ◌∷◌, Option}
 use Rattle.std.proofs.Common.{None, Some, refl, sym, ap, subst, ◌∙◌, ⊎_elim}
-use Rattle.std.proofs.lemmas.Bool.{true≢false, or_cases}
+use Rattle.std.proofs.lemmas.Bool.{true≢false, or_cases, or_left, or_right}
 use Rattle.std.specs.Cmp.{both_ways}
-use Rattle.generational_core.specs.Cells.{Cell, is_shared, refers_to}
+use Rattle.std.specs.Option.{option_or}
+use Rattle.std.specs.Prelude.{is_some}
+use Rattle.generational_core.specs.Borrowing.{Trouble, write_refusal}
+use Rattle.generational_core.specs.Cells.{Cell, content_of, is_shared, refers_to}
 use Rattle.generational_core.specs.Cells.Cell.{Value, Shared, Ref}
-use Rattle.generational_core.specs.Ending.{sweep, take_away, cells_after}
+use Rattle.generational_core.specs.Ending.{sweep, take_away, cells_after, hindrance_at}
+use Rattle.generational_core.specs.Ending.{hindrance_of, first_hindrance, hindrance_to}
 use Rattle.generational_core.specs.Names.{Name, NameMap, among, is_name}
-use Rattle.generational_core.specs.State.{is_named}
-use Rattle.generational_core.proofs.maps.Maps.{by_name, name_total, name_exact, name_here, name_same}
-use Rattle.generational_core.proofs.maps.Maps.{name_cases, name_apart, get-keep, get-insert_here}
-use Rattle.generational_core.proofs.maps.Maps.{get-insert_apart, get-remove_here, get-remove_apart}
-use Rattle.generational_core.proofs.maps.Maps.{remove_each, is_ref, named_gives, named_from}
+use Rattle.generational_core.specs.State.{State, is_named}
+use Rattle.generational_core.proofs.maps.Maps.{by_name, name_total, name_exact, name_here}
+use Rattle.generational_core.proofs.maps.Maps.{name_same, name_cases, name_apart, get-keep}
+use Rattle.generational_core.proofs.maps.Maps.{get-insert_here, get-insert_apart, get-remove_here}
+use Rattle.generational_core.proofs.maps.Maps.{get-remove_apart, remove_each, is_ref, named_gives}
+use Rattle.generational_core.proofs.maps.Maps.{named_from}
 use Rattle.generational_core.proofs.machine.Ends.{by_cond, swept_view, without_view, IsLinked}
+use Rattle.generational_core.proofs.machine.Releasing.{box_ends}
 
 -- what stands in a list of one name
 just_one : (n q : Name) → among (n ∷ []) q ≡ true → q ≡ n
@@ -274,3 +280,85 @@ module _ {T : Type 0} where
       ∙ (sweep_but rest m (ap is_shared (get-remove_apart by_name cells n m apart) ∙ target)
       (λ q ne h. named_without cells n q linked (ap (refers_to q) at ∙ name_apart q m ne) h)
       ∙ ap (cond (is_named rest m) rest) (remove_each by_name cells n m))
+
+  -- ---- what hinders the end of names
+
+  -- a Shared cell that is left where some Ref names it hinders nothing, and else by its borrows
+  hindered_unnamed : (cells left : NameMap (Cell T)) (m : Name) (named : Bool)
+      → is_shared (map.get cells m) ≡ true
+      → map.get left m ≡ cond named (map.get cells m) None
+      → hindrance_at cells left m ≡ cond named None (write_refusal (content_of (map.get cells m)))
+  hindered_unnamed cells left m true shared at = rw (at, live (map.get cells m) shared) refl
+    where
+      live : (cell : Option (Cell T)) → is_shared cell ≡ true → is_some cell ≡ true
+      live None h = h
+      live (Some c) h = refl
+  hindered_unnamed cells left m false shared at = rw at refl
+
+  -- what hinders the end of a cell, where a test tells what is named afterwards
+  abbrev pub borrowed_end : NameMap (Cell T) → (Name → Bool) → Option (Cell T) → Option Trouble
+  borrowed_end cells named (Some (Value c l)) = write_refusal (Some c)
+  borrowed_end cells named (Some (Ref m l)) =
+      cond (named m) None (write_refusal (content_of (map.get cells m)))
+  borrowed_end cells named _ = None
+
+  -- and the end of the cells of these names, at the first of them that is hindered
+  abbrev pub first_borrowed_end : NameMap (Cell T) → (Name → Bool) → List Name → Option Trouble
+  first_borrowed_end cells named [] = None
+  first_borrowed_end cells named (n ∷ names) =
+      option_or (borrowed_end cells named (map.get cells n)) (first_borrowed_end cells named names)
+
+  module _ (cells : NameMap (Cell T)) (names : List Name) (linked : IsLinked cells) where
+    -- each of the names is hindered by the borrows of what goes with it
+    pub end_hindered : (n : Name) → among names n ≡ true
+        → (cell : Option (Cell T)) → map.get cells n ≡ cell
+        → hindrance_of cells (cells_after cells names) (map.get cells n) n
+        ≡ borrowed_end cells (is_named (take_away cells names)) cell
+    end_hindered n there cell at = rw at (by cell at)
+      where
+        by : (cell : Option (Cell T)) → map.get cells n ≡ cell
+            → hindrance_of cells (cells_after cells names) cell n
+            ≡ borrowed_end cells (is_named (take_away cells names)) cell
+        by None at = refl
+        by (Some (Shared c l)) at = refl
+        by (Some (Value c l)) at = rw (box_ends cells names n (ap is_shared at) there, at) refl
+        by (Some (Ref m l)) at =
+            let rest = take_away cells names in
+            let shared = linked.targets n m l at in
+            hindered_unnamed cells (sweep rest) m (is_named rest m) shared
+            (get-swept rest m ∙ rw (get-without cells names m, shared, shared) refl)
+
+    -- so the first hindrance is that of each name by itself
+    pub first_hindered : first_hindrance cells (cells_after cells names) names
+        ≡ first_borrowed_end cells (is_named (take_away cells names)) names
+    first_hindered = of_some names (λ n h. h)
+      where
+        of_some : (some : List Name) → ((n : Name) → among some n ≡ true → among names n ≡ true)
+            → first_hindrance cells (cells_after cells names) some
+            ≡ first_borrowed_end cells (is_named (take_away cells names)) some
+        of_some [] within = refl
+        of_some (n ∷ some) within = rw (
+          end_hindered n (within n (or_left _ _ (name_here n))) (map.get cells n) refl,
+          of_some some (λ q h. within q (or_right _ _ h)),
+        ) refl
+
+  -- what hinders the end of one name
+  pub one_hindered : (S : State T) (n : Name) → IsLinked S.cells
+      → (cell : Option (Cell T)) → map.get S.cells n ≡ cell
+      → hindrance_to S (n ∷ []) ≡ borrowed_end S.cells (is_named (map.remove S.cells n)) cell
+  unfolding hindrance_to
+  one_hindered S n linked cell at =
+      first_hindered S.cells (n ∷ []) linked
+      ∙ (alone _ ∙ (rw at (by cell at)))
+    where
+      alone : (t : Option Trouble) → option_or t None ≡ t
+      alone None = refl
+      alone (Some t) = refl
+
+      by : (cell : Option (Cell T)) → map.get S.cells n ≡ cell
+          → borrowed_end S.cells (is_named (take_away S.cells (n ∷ []))) cell
+          ≡ borrowed_end S.cells (is_named (map.remove S.cells n)) cell
+      by (Some (Ref m l)) at = rw (away_one S.cells n (ap is_shared at)) refl
+      by (Some (Value c l)) at = refl
+      by (Some (Shared c l)) at = refl
+      by None at = refl
