@@ -13,6 +13,7 @@ use Rattle.generational_core.specs.Ending.{sweep, take_away, cells_after, hindra
 use Rattle.generational_core.specs.Ending.{hindrance_of, first_hindrance, hindrance_to}
 use Rattle.generational_core.specs.Names.{Name, NameMap, among, is_name}
 use Rattle.generational_core.specs.State.{State, is_named}
+use Rattle.generational_core.specs.declared.error.Location.{Location}
 use Rattle.generational_core.proofs.maps.Maps.{by_name, name_total, name_exact, name_here}
 use Rattle.generational_core.proofs.maps.Maps.{name_same, name_cases, name_apart, get-keep}
 use Rattle.generational_core.proofs.maps.Maps.{get-insert_here, get-insert_apart, get-remove_here}
@@ -362,3 +363,65 @@ module _ {T : Type 0} where
       by (Some (Value c l)) at = refl
       by (Some (Shared c l)) at = refl
       by None at = refl
+
+  -- ---- a Ref that turns to another cell
+
+  module _ (cells : NameMap (Cell T)) (a old new : Name) (l : Location)
+      (linked : IsLinked cells) (at : map.get cells a ≡ Some (Ref old l)) where
+    abbrev turned : NameMap (Cell T)
+    turned = map.insert cells a (Ref new l)
+
+    apart : (k : Name) → k ≢ a → map.get (map.insert cells a (Ref new l)) k ≡ map.get cells k
+    apart k ne = get-insert_apart by_name cells a (Ref new l) k ne
+
+    -- Shared cells aren't at the Ref's name
+    not_there : (q : Name) → is_shared (map.get cells q) ≡ true → q ≢ a
+    not_there q h is =
+        true≢false (sym h ∙ (ap (λ x. is_shared (map.get cells x)) is ∙ ap is_shared at))
+
+    turned_other : (q : Name) → is_shared (map.get turned q) ≡ true
+        → is_shared (map.get cells q) ≡ true
+    turned_other q h = ⊎_elim
+        (λ is. absurd (true≢false (sym h ∙ (ap (λ x. is_shared (map.get turned x)) is
+        ∙ ap is_shared (get-insert_here by_name cells a (Ref new l))))))
+        (λ ne. ap is_shared (sym (apart q ne)) ∙ h) (name_cases q a)
+
+    -- all but the old target are named still
+    turned_named : (q : Name)
+        → q ≢ old → is_shared (map.get turned q) ≡ true → is_named turned q ≡ true
+    turned_named q ne h = named_still cells turned q
+        (λ k h. ⊎_elim
+        (λ is. absurd (true≢false (sym h ∙ (ap (λ x. refers_to q (map.get cells x)) is
+        ∙ (ap (refers_to q) at ∙ name_apart q old ne)))))
+        (λ ne. ap (refers_to q) (apart k ne) ∙ h) (name_cases k a))
+        (named_from cells q (linked.named q (turned_other q h)))
+
+    module _ (other : is_name old new ≡ false) where
+      -- the old target is named if another Ref names it
+      turn_names : is_named (map.insert cells a (Ref new l)) old
+          ≡ is_named (map.remove cells a) old
+      turn_names = named_same turned (map.remove cells a) old (λ k. ⊎_elim
+          (λ is. subst
+          (λ x. refers_to old (map.get turned x) ≡ refers_to old (map.get (map.remove cells a) x))
+          (sym is) (rw (get-insert_here by_name cells a (Ref new l), get-remove_here by_name cells a)
+          other))
+          (λ ne. ap (refers_to old) (apart k ne ∙ sym (get-remove_apart by_name cells a k ne)))
+          (name_cases k a))
+
+      -- it goes if none does
+      pub turn_sweep : sweep (map.insert cells a (Ref new l))
+          ≡ cond (is_named (map.remove cells a) old) (map.insert cells a (Ref new l))
+          (map.remove (map.insert cells a (Ref new l)) old)
+      turn_sweep =
+          let shared = linked.targets a old l at in
+          sweep_but turned old (ap is_shared (apart old (not_there old shared)) ∙ shared) turned_named
+          ∙ ap (λ b. cond b turned (map.remove turned old)) turn_names
+
+      -- and its borrows hinder that
+      pub turn_hindered : hindrance_at cells (sweep (map.insert cells a (Ref new l))) old
+          ≡ cond (is_named (map.remove cells a) old) None
+          (write_refusal (content_of (map.get cells old)))
+      turn_hindered =
+          let shared = linked.targets a old l at in
+          hindered_unnamed cells (sweep turned) old (is_named (map.remove cells a) old) shared
+          (get-swept turned old ∙ rw (turn_names, apart old (not_there old shared), shared) refl)
