@@ -36,6 +36,7 @@ module _ {T : Type 0} where
   abbrev swept : Option (Cell T) → Bool → Option (Cell T)  -- where a Ref names it, or none does
   swept cell named = cond (not (is_shared cell) || named) cell None
 
+  -- what stands at a name where names are taken away, and after a sweep
   get-without : (cells : NameMap (Cell T)) (names : List Name) (q : Name)
       → map.get (take_away cells names) q ≡ without (map.get cells q) (among names q)
   unfolding take_away
@@ -68,6 +69,7 @@ module _ {T : Type 0} where
   named_same a b m same = both_ways _ _ (named_still a b m (λ k h. sym (same k) ∙ h))
       (named_still b a m (λ k h. same k ∙ h))
 
+  -- a Ref is swept under no test, and nothing else is one
   swept_refers : (m : Name) (cell : Option (Cell T)) (named : Bool)
       → refers_to m (swept cell named) ≡ refers_to m cell
   swept_refers m (Some (Shared c l)) true = refl
@@ -190,11 +192,13 @@ module _ {T : Type 0} where
   away_nothing cells names nothing = same_cells _ _ (λ q. ⊎_elim (λ e. e)
       (λ e. e.0 ∙ sym (nothing q e.2 e.1)) (without_view cells names q))
 
+  -- so a Shared cell stays where its name alone ends
   pub away_shared : (cells : NameMap (Cell T)) (n : Name)
       → is_shared (map.get cells n) ≡ true → take_away cells (n ∷ []) ≡ cells
   away_shared cells n shared = away_nothing cells (n ∷ []) (λ q there plain. absurd (true≢false
       (sym shared ∙ (ap (λ x. is_shared (map.get cells x)) (sym (just_one n q there)) ∙ plain))))
 
+  -- and where none stands, nothing goes
   pub away_absent : (cells : NameMap (Cell T)) (n : Name)
       → map.get cells n ≡ None → take_away cells (n ∷ []) ≡ cells
   away_absent cells n none = away_nothing cells (n ∷ []) (λ q there plain.
@@ -213,12 +217,14 @@ module _ {T : Type 0} where
 
   -- ---- a sweep of cells where each Shared cell is named, or each but one
 
+  -- where each is named, none goes
   pub sweep_all : (cells : NameMap (Cell T))
       → ((q : Name) → is_shared (map.get cells q) ≡ true → is_named cells q ≡ true)
       → sweep cells ≡ cells
   sweep_all cells named = same_cells _ _ (λ q. ⊎_elim (λ e. e.0)
       (λ e. absurd (true≢false (sym (named q e.1) ∙ e.2))) (swept_view cells q))
 
+  -- where each but m is named, m alone may go
   pub sweep_but : (cells : NameMap (Cell T)) (m : Name)
       → is_shared (map.get cells m) ≡ true
       → ((q : Name) → q ≢ m → is_shared (map.get cells q) ≡ true → is_named cells q ≡ true)
@@ -238,6 +244,7 @@ module _ {T : Type 0} where
   pub sweep_linked : (cells : NameMap (Cell T)) → IsLinked cells → sweep cells ≡ cells
   sweep_linked cells linked = sweep_all cells (λ q h. named_from cells q (linked.named q h))
 
+  -- nor where no names end
   pub close_nothing : (cells : NameMap (Cell T)) → IsLinked cells → cells_after cells [] ≡ cells
   close_nothing cells linked =
       ap sweep (away_nothing cells [] (λ q there. absurd (true≢false (sym there))))
@@ -262,6 +269,7 @@ module _ {T : Type 0} where
       cond (is_named rest m) rest (map.remove (map.remove cells m) n)
   left_of_end cells n _ = cells
 
+  -- it is what is left of the cells
   pub close_one : (cells : NameMap (Cell T)) (n : Name) → IsLinked cells
       → (cell : Option (Cell T)) → map.get cells n ≡ cell
       → cells_after cells (n ∷ []) ≡ left_of_end cells n cell
@@ -371,6 +379,7 @@ module _ {T : Type 0} where
     abbrev turned : NameMap (Cell T)
     turned = map.insert cells a (Ref new l)
 
+    -- every other name has what it had
     apart : (k : Name) → k ≢ a → map.get (map.insert cells a (Ref new l)) k ≡ map.get cells k
     apart k ne = get-insert_apart by_name cells a (Ref new l) k ne
 
@@ -379,6 +388,7 @@ module _ {T : Type 0} where
     not_there q h is =
         true≢false (sym h ∙ (ap (λ x. is_shared (map.get cells x)) is ∙ ap is_shared at))
 
+    -- what is Shared afterwards was Shared before
     turned_other : (q : Name) → is_shared (map.get turned q) ≡ true
         → is_shared (map.get cells q) ≡ true
     turned_other q h = ⊎_elim
@@ -400,11 +410,12 @@ module _ {T : Type 0} where
       -- the old target is named if another Ref names it
       turn_names : is_named (map.insert cells a (Ref new l)) old
           ≡ is_named (map.remove cells a) old
-      turn_names = named_same turned (map.remove cells a) old (λ k. ⊎_elim
-          (λ is. subst
-          (λ x. refers_to old (map.get turned x) ≡ refers_to old (map.get (map.remove cells a) x))
-          (sym is) (rw (get-insert_here by_name cells a (Ref new l), get-remove_here by_name cells a)
-          other))
+      turn_names =
+          let rest = map.remove cells a in
+          named_same turned rest old (λ k. ⊎_elim
+          (λ is. subst (λ x. refers_to old (map.get turned x) ≡ refers_to old (map.get rest x))
+          (sym is) (ap (refers_to old) (get-insert_here by_name cells a (Ref new l))
+          ∙ (other ∙ ap (refers_to old) (sym (get-remove_here by_name cells a)))))
           (λ ne. ap (refers_to old) (apart k ne ∙ sym (get-remove_apart by_name cells a k ne)))
           (name_cases k a))
 
@@ -414,7 +425,8 @@ module _ {T : Type 0} where
           (map.remove (map.insert cells a (Ref new l)) old)
       turn_sweep =
           let shared = linked.targets a old l at in
-          sweep_but turned old (ap is_shared (apart old (not_there old shared)) ∙ shared) turned_named
+          let still = ap is_shared (apart old (not_there old shared)) ∙ shared in
+          sweep_but turned old still turned_named
           ∙ ap (λ b. cond b turned (map.remove turned old)) turn_names
 
       -- and its borrows hinder that

@@ -1,5 +1,5 @@
 -- Each call takes nothing back, and leads from a sound state to a sound state.
-use Rattle.std.proofs.Common.{◌≡◌, ◌≢◌, ℕ, ◌≤◌, ◌<◌, Bool, true, false, ◌||◌, List, [], ◌∷◌, ◌++◌}
+use Rattle.std.proofs.Common.{◌≡◌, ℕ, ◌≤◌, ◌<◌, Bool, true, false, ◌||◌, List, [], ◌∷◌, ◌++◌}
 use Rattle.std.proofs.Common.{Option, None, Some, refl, sym, ap, subst, ◌∙◌, inl, inr, arith}
 use Rattle.std.proofs.Common.{⊎_elim}
 use Rattle.std.proofs.lemmas.Bool.{true≢false, or_cases, or_right, or_left, eqb-true}
@@ -9,13 +9,13 @@ use Rattle.std.proofs.lemmas.Map.Keys.{IsDistinct-push}
 use Rattle.std.specs.Cmp.{nat_eq_equiv}
 use Rattle.std.specs.List.{list_any, filter, IsDistinct, AllByRecursion}
 use Rattle.std.specs.Ordering.{nat_cmp}
-use Rattle.std.specs.Prelude.{is_some, nat_eq, ◌⊎◌, option_map, map as list_map}
+use Rattle.std.specs.Prelude.{is_some, nat_eq, ◌⊎◌, map as list_map}
 use Rattle.generational_core.specs.Cells.{Content, Cell, content_of, is_shared, refill}
-use Rattle.generational_core.specs.Cells.Cell.{Value, Shared, Ref}
+use Rattle.generational_core.specs.Cells.Cell.{Shared, Ref}
 use Rattle.generational_core.specs.Cells.Content.{Here}
 use Rattle.generational_core.specs.Conditions.{fresh, IsNamed, IsEnded}
 use Rattle.generational_core.specs.Machine.{Action, Fresh, Outcome, add_cell, next_borrow}
-use Rattle.generational_core.specs.Names.{Name, NameMap, name_cmp}
+use Rattle.generational_core.specs.Names.{Name, name_cmp}
 use Rattle.generational_core.specs.State.{State, Ownership, IsSound, IsGiven, IsBoxed, Stands}
 use Rattle.generational_core.specs.State.{tickets_of, tickets_at, Owners, content_at}
 use Rattle.generational_core.specs.Steps.{AreNew}
@@ -28,12 +28,14 @@ use Rattle.generational_core.proofs.machine.Changes.{AreRecords, old_content, ne
 use Rattle.generational_core.proofs.machine.Changes.{refilled_content}
 use Rattle.generational_core.proofs.machine.Changes.Change.{Stay, Birth, Pair, Fill, Close, Turn}
 use Rattle.generational_core.proofs.machine.Changes.Filling.{Reader, Writer, Leave}
-use Rattle.generational_core.proofs.machine.Ends.{HasTargets, IsLinked, none≢some, targets_still, target_of}
+use Rattle.generational_core.proofs.machine.Ends.{IsLinked, none≢some}
 use Rattle.generational_core.proofs.machine.Ends.{by_cond, closed_linked, turned_linked, some_live}
 use Rattle.generational_core.proofs.machine.Ends.{IsBorrowed, closed_view, turned_view}
+use Rattle.generational_core.proofs.machine.Linking.{sound_linked, born_linked, pair_linked}
+use Rattle.generational_core.proofs.machine.Linking.{refilled_linked, refilled_shared}
 use Rattle.generational_core.proofs.maps.Maps.{by_name, name_cases, get-insert_here, get-insert_apart}
 use Rattle.generational_core.proofs.maps.Maps.{changed_view, contains-insert_here, contains-insert_old}
-use Rattle.generational_core.proofs.maps.Maps.{named_gives, named_from}
+use Rattle.generational_core.proofs.maps.Maps.{named_from}
 
 -- ---- lists of tickets
 
@@ -284,105 +286,20 @@ module _ {T : Type 0} where
       let apart = second_fresh S.given m n new in
       get-insert_apart by_name S.cells m c n (λ is. apart.1 (sym is)) ∙ absent S s n apart.0
 
-  -- a cell where none was
-  module _ (cells : NameMap (Cell T)) (n : Name) (c : Cell T) (none : map.get cells n ≡ None) where
-    kept : (q : Name) (x : Cell T) → map.get cells q ≡ Some x
-        → map.get (map.insert cells n c) q ≡ Some x
-    kept q x h = get-insert_apart by_name cells n c q
-        (λ is. none≢some _ _ none (ap (map.get cells) (sym is) ∙ h)) ∙ h
-
-    shared_kept : (q : Name) → is_shared (map.get cells q) ≡ true
-        → is_shared (map.get (map.insert cells n c) q) ≡ true
-    shared_kept q h = ap is_shared (get-insert_apart by_name cells n c q
-        (λ is. true≢false (sym h ∙ ap is_shared (ap (map.get cells) is ∙ none)))) ∙ h
-
-    targets_born : HasTargets cells
-        → ((m : Name) (l : Location) → Some c ≡ Some (Ref m l) → is_shared (map.get cells m) ≡ true)
-        → HasTargets (map.insert cells n c)
-    targets_born t leads = targets_still cells (map.insert cells n c) t shared_kept
-        (λ q m l h. ⊎_elim
-        (λ is. inr (shared_kept m (leads m l (sym (get-insert_here by_name cells n c)
-        ∙ (ap (map.get (map.insert cells n c)) (sym is) ∙ h)))))
-        (λ ne. inl (sym (get-insert_apart by_name cells n c q ne) ∙ h)) (name_cases q n))
-
-    named_apart : (m : Name) → m ≢ n → (is_shared (map.get cells m) ≡ true → IsNamed cells m)
-        → is_shared (map.get (map.insert cells n c) m) ≡ true → IsNamed (map.insert cells n c) m
-    named_apart m ne named h =
-        let it = named (sym (ap is_shared (get-insert_apart by_name cells n c m ne)) ∙ h) in
-        (it.0, it.1, kept it.0 _ it.2)
-
-    named_plain : is_shared (Some c) ≡ false → (m : Name)
-        → (is_shared (map.get cells m) ≡ true → IsNamed cells m)
-        → is_shared (map.get (map.insert cells n c) m) ≡ true → IsNamed (map.insert cells n c) m
-    named_plain plain m named h = ⊎_elim
-        (λ is. absurd (true≢false (sym h
-        ∙ (ap (λ x. is_shared (map.get (map.insert cells n c) x)) is
-        ∙ (ap is_shared (get-insert_here by_name cells n c) ∙ plain)))))
-        (λ ne. named_apart m ne named h) (name_cases m n)
-
-  -- another content leaves Refs and Shared cells
-  refilled_shared : (c : Content T) (x : Cell T)
-      → is_shared (Some (refill c x)) ≡ is_shared (Some x)
-  refilled_shared c (Value old l) = refl
-  refilled_shared c _ = refl
-
-  refilled_ref : (c : Content T) (x : Cell T) (m : Name) (l : Location)
-      → Some (refill c x) ≡ Some (Ref m l) → Some x ≡ Some (Ref m l)
-  refilled_ref c (Ref n k) m l h = h
-  refilled_ref c _ m l h = absurd cc
-
   -- after each change Refs name Shared cells, and Shared cells are named
   linked : (S : State T) (call : Action T) (f : Fresh) (next : ℕ) (c : Change T)
       → IsSound S → AreNew S call f → IsLawful S call f next c → IsLinked (after S f c).cells
-  linked S call f next Stay s new law =
-      record { targets = s.targets; named = λ m h. named_gives S.cells m (s.shared m h) }
+  linked S call f next Stay s new law = sound_linked S s
   linked S call f next (Birth c) s new law =
       let none = absent S s f.first (law.2 new).fresh in
-      record {
-        targets = targets_born S.cells f.first c none s.targets law.1.2;
-        named = λ m. named_plain S.cells f.first c none law.1.0 m
-            (λ k. named_gives S.cells m (s.shared m k));
-      }
+      born_linked S.cells f.first c (sound_linked S s) none law.1.0 law.1.2
   linked S call f next (Pair v l) s new law =
-      let c : Cell T = Shared (Here v []) l in
-      let one = map.insert S.cells f.first c in
-      let d : Cell T = Ref f.first l in
       let names = law.1 new in
-      let none = absent S s f.first names.0.fresh in
-      let none_two = absent_beside S s f.first f.second c names.1.fresh in
-      let here = get-insert_here by_name S.cells f.first c in
-      record {
-        targets = targets_born one f.second d none_two
-            (targets_born S.cells f.first c none s.targets (λ m k e. absurd cc))
-            (λ m k e. subst (λ x. is_shared (map.get one x) ≡ true)
-            (target_of f.first m l k e) (ap is_shared here));
-        named = λ m h. ⊎_elim
-            (λ is. (
-              f.second,
-              l,
-              subst (λ x. map.get (map.insert one f.second d) f.second
-                  ≡ Some (Ref x l)) (sym is) (get-insert_here by_name one f.second d),
-            ))
-            (λ ne. named_plain one f.second d none_two refl m
-            (named_apart S.cells f.first c none m ne
-            (λ k. named_gives S.cells m (s.shared m k))) h) (name_cases m f.first);
-      }
+      let apart = second_fresh S.given f.first f.second names.1.fresh in
+      pair_linked S.cells f.first f.second (Here v []) l l (sound_linked S s) apart.1
+      (absent S s f.first names.0.fresh) (absent S s f.second apart.0)
   linked S call f next (Fill n k) s new law =
-      let c = new_content S k in
-      let at = changed_view by_name S.cells n (refill c) in
-      let shared = λ (q : Name). ⊎_elim (λ e. ap is_shared e)
-      (λ e. ap is_shared e.3 ∙ (refilled_shared c e.1 ∙ sym (ap is_shared e.2))) (at q) in
-      record {
-        targets = targets_still S.cells _ s.targets (λ m h. shared m ∙ h) (λ q m l h. inl (⊎_elim
-            (λ e. sym e ∙ h) (λ e. e.2 ∙ refilled_ref c e.1 m l (sym e.3 ∙ h)) (at q)));
-        named = λ m h.
-            let it = named_gives S.cells m (s.shared m (sym (shared m) ∙ h)) in (
-              it.0,
-              it.1,
-              ⊎_elim (λ e. e ∙ it.2) (λ e. e.3
-                  ∙ ap (λ x. option_map (refill c) x) (sym e.2 ∙ it.2)) (at it.0),
-            );
-      }
+      refilled_linked S.cells n (new_content S k) (sound_linked S s)
   linked S call f next (Close names) s new law = closed_linked S.cells names s.targets
   linked S call f next (Turn a old to l) s new law =
       turned_linked S.cells a old to l s.targets law.0 law.1

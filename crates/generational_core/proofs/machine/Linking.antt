@@ -1,0 +1,142 @@
+-- Cells that are linked stay so: where cells come, and where contents change.
+use Rattle.std.specs.FinMap as map
+use Rattle.std.proofs.Common.{◌≡◌, ◌≢◌, true, false, None, Some, refl, sym, ap, subst, ◌∙◌}
+use Rattle.std.proofs.Common.{inl, inr, ⊎_elim}
+use Rattle.std.proofs.lemmas.Bool.{true≢false}
+use Rattle.std.specs.Prelude.{List, option_map}
+use Rattle.generational_core.specs.Cells.{Content, Cell, is_shared, refill}
+use Rattle.generational_core.specs.Cells.Cell.{Value, Shared, Ref}
+use Rattle.generational_core.specs.Conditions.{IsNamed}
+use Rattle.generational_core.specs.Ending.{cells_after}
+use Rattle.generational_core.specs.Names.{Name, NameMap, change}
+use Rattle.generational_core.specs.State.{State, IsSound}
+use Rattle.generational_core.specs.declared.error.Location.{Location}
+use Rattle.generational_core.proofs.machine.Ends.{HasTargets, IsLinked, none≢some, targets_still}
+use Rattle.generational_core.proofs.machine.Ends.{target_of, closed_linked}
+use Rattle.generational_core.proofs.maps.Maps.{by_name, name_cases, get-insert_here}
+use Rattle.generational_core.proofs.maps.Maps.{get-insert_apart, changed_view, named_gives}
+
+module _ {T : Type 0} where
+  -- the cells of a sound state are linked
+  pub sound_linked : (S : State T) → IsSound S → IsLinked S.cells
+  sound_linked S s =
+      record { targets = s.targets; named = λ m h. named_gives S.cells m (s.shared m h) }
+
+  -- and those that are left of linked ones where names end
+  pub closing_linked : (cells : NameMap (Cell T)) (names : List Name)
+      → IsLinked cells → IsLinked (cells_after cells names)
+  closing_linked cells names linked = closed_linked cells names linked.targets
+
+  -- a cell where none was
+  module _ (cells : NameMap (Cell T)) (n : Name) (c : Cell T) (none : map.get cells n ≡ None) where
+    kept : (q : Name) (x : Cell T) → map.get cells q ≡ Some x
+        → map.get (map.insert cells n c) q ≡ Some x
+    kept q x h = get-insert_apart by_name cells n c q
+        (λ is. none≢some _ _ none (ap (map.get cells) (sym is) ∙ h)) ∙ h
+
+    shared_kept : (q : Name) → is_shared (map.get cells q) ≡ true
+        → is_shared (map.get (map.insert cells n c) q) ≡ true
+    shared_kept q h = ap is_shared (get-insert_apart by_name cells n c q
+        (λ is. true≢false (sym h ∙ ap is_shared (ap (map.get cells) is ∙ none)))) ∙ h
+
+    targets_born : HasTargets cells
+        → ((m : Name) (l : Location) → Some c ≡ Some (Ref m l) → is_shared (map.get cells m) ≡ true)
+        → HasTargets (map.insert cells n c)
+    targets_born t leads = targets_still cells (map.insert cells n c) t shared_kept
+        (λ q m l h. ⊎_elim
+        (λ is. inr (shared_kept m (leads m l (sym (get-insert_here by_name cells n c)
+        ∙ (ap (map.get (map.insert cells n c)) (sym is) ∙ h)))))
+        (λ ne. inl (sym (get-insert_apart by_name cells n c q ne) ∙ h)) (name_cases q n))
+
+    named_apart : (m : Name) → m ≢ n → (is_shared (map.get cells m) ≡ true → IsNamed cells m)
+        → is_shared (map.get (map.insert cells n c) m) ≡ true → IsNamed (map.insert cells n c) m
+    named_apart m ne named h =
+        let it = named (sym (ap is_shared (get-insert_apart by_name cells n c m ne)) ∙ h) in
+        (it.0, it.1, kept it.0 _ it.2)
+
+    named_plain : is_shared (Some c) ≡ false → (m : Name)
+        → (is_shared (map.get cells m) ≡ true → IsNamed cells m)
+        → is_shared (map.get (map.insert cells n c) m) ≡ true → IsNamed (map.insert cells n c) m
+    named_plain plain m named h = ⊎_elim
+        (λ is. absurd (true≢false (sym h
+        ∙ (ap (λ x. is_shared (map.get (map.insert cells n c) x)) is
+        ∙ (ap is_shared (get-insert_here by_name cells n c) ∙ plain)))))
+        (λ ne. named_apart m ne named h) (name_cases m n)
+
+  -- a cell that isn't Shared, with a Shared cell to name if it is a Ref
+  pub born_linked : (cells : NameMap (Cell T)) (n : Name) (c : Cell T)
+      → IsLinked cells → map.get cells n ≡ None → is_shared (Some c) ≡ false
+      → ((m : Name) (l : Location) → Some c ≡ Some (Ref m l) → is_shared (map.get cells m) ≡ true)
+      → IsLinked (map.insert cells n c)
+  born_linked cells n c linked none plain leads = record {
+    targets = targets_born cells n c none linked.targets leads;
+    named = λ m. named_plain cells n c none plain m (linked.named m);
+  }
+
+  -- so a Value may come at any time
+  pub value_linked : (cells : NameMap (Cell T)) (n : Name) (c : Content T) (l : Location)
+      → IsLinked cells → map.get cells n ≡ None → IsLinked (map.insert cells n (Value c l))
+  value_linked cells n c l linked none =
+      born_linked cells n (Value c l) linked none refl (λ m k e. absurd cc)
+
+  -- and a Ref to a Shared cell
+  pub ref_linked : (cells : NameMap (Cell T)) (n m : Name) (l : Location)
+      → IsLinked cells → map.get cells n ≡ None → is_shared (map.get cells m) ≡ true
+      → IsLinked (map.insert cells n (Ref m l))
+  ref_linked cells n m l linked none shared = born_linked cells n (Ref m l) linked none refl
+      (λ q k e. subst (λ x. is_shared (map.get cells x) ≡ true) (target_of m q l k e) shared)
+
+  -- a Shared cell and a Ref to it
+  pub pair_linked : (cells : NameMap (Cell T)) (m n : Name) (c : Content T) (l j : Location)
+      → IsLinked cells → m ≢ n → map.get cells m ≡ None → map.get cells n ≡ None
+      → IsLinked (map.insert (map.insert cells m (Shared c l)) n (Ref m j))
+  pair_linked cells m n c l j linked apart none_first none_second =
+      let one = map.insert cells m (Shared c l) in
+      let none = get-insert_apart by_name cells m (Shared c l) n (λ is. apart (sym is))
+      ∙ none_second in
+      let here = get-insert_here by_name cells m (Shared c l) in
+      record {
+        targets = targets_born one n (Ref m j) none
+            (targets_born cells m (Shared c l) none_first linked.targets (λ q k e. absurd cc))
+            (λ q k e. subst (λ x. is_shared (map.get one x) ≡ true) (target_of m q j k e)
+            (ap is_shared here));
+        named = λ q h. ⊎_elim
+            (λ is. (
+              n,
+              j,
+              subst (λ x. map.get (map.insert one n (Ref m j)) n ≡ Some (Ref x j))
+                  (sym is) (get-insert_here by_name one n (Ref m j)),
+            ))
+            (λ ne. named_plain one n (Ref m j) none refl q
+            (named_apart cells m (Shared c l) none_first q ne (linked.named q)) h) (name_cases q m);
+      }
+
+  -- another content leaves Refs and Shared cells
+  pub refilled_shared : (c : Content T) (x : Cell T)
+      → is_shared (Some (refill c x)) ≡ is_shared (Some x)
+  refilled_shared c (Value old l) = refl
+  refilled_shared c _ = refl
+
+  refilled_ref : (c : Content T) (x : Cell T) (m : Name) (l : Location)
+      → Some (refill c x) ≡ Some (Ref m l) → Some x ≡ Some (Ref m l)
+  refilled_ref c (Ref n k) m l h = h
+  refilled_ref c _ m l h = absurd cc
+
+  -- so cells stay linked where a content changes
+  pub refilled_linked : (cells : NameMap (Cell T)) (n : Name) (c : Content T)
+      → IsLinked cells → IsLinked (change cells n (refill c))
+  refilled_linked cells n c linked =
+      let at = changed_view by_name cells n (refill c) in
+      let shared = λ (q : Name). ⊎_elim (λ e. ap is_shared e)
+      (λ e. ap is_shared e.3 ∙ (refilled_shared c e.1 ∙ sym (ap is_shared e.2))) (at q) in
+      record {
+        targets = targets_still cells _ linked.targets (λ m h. shared m ∙ h) (λ q m l h. inl (⊎_elim
+            (λ e. sym e ∙ h) (λ e. e.2 ∙ refilled_ref c e.1 m l (sym e.3 ∙ h)) (at q)));
+        named = λ m h.
+            let it = linked.named m (sym (shared m) ∙ h) in (
+              it.0,
+              it.1,
+              ⊎_elim (λ e. e ∙ it.2) (λ e. e.3
+                  ∙ ap (λ x. option_map (refill c) x) (sym e.2 ∙ it.2)) (at it.0),
+            );
+      }
