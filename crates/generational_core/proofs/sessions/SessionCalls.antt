@@ -90,6 +90,9 @@ module _ {T : Type 0} where
 
   pub tells_ends : (s r : SessionState T) (c : Call T) (x : SessionReply T)
       → SessionStep s c x r → TellsEnds s c x
+  tells_ends s r (call.LeakReference p) x step b borrows ended =
+      answers_ended s r (call.LeakReference p) x (box_in s p) (λ b. Action.Refer None b) b
+      (λ new. rw (ended_read s.state b ended, unless) refl) borrows step
   tells_ends s r (call.TryRead p l) x step b borrows ended =
       answers_ended s r (call.TryRead p l) x (box_in s p) (λ b. Action.Read b l) b
       (λ new. rw (ended_read s.state b ended, unless) refl) borrows step
@@ -212,6 +215,7 @@ module _ {T : Type 0} where
 
   borrows_kept : (s r : SessionState T) (c : Call T) (x : SessionReply T) → SessionStep s c x r
       → (k : Call T) (b : GenerationalPointer) → Borrows s k b → Borrows r k b
+  borrows_kept s r c x step (call.LeakReference a) b is = box_in_kept s r c x step a b is
   borrows_kept s r c x step (call.TryRead a l) b is = box_in_kept s r c x step a b is
   borrows_kept s r c x step (call.TryWrite a l) b is = box_in_kept s r c x step a b is
   borrows_kept s r c x step k b is = absurd is

@@ -12,14 +12,15 @@ use Rattle.std.proofs.lemmas.Bool.{false_from_ne_true}
 use Rattle.std.proofs.lemmas.List.Sums.{sum_by-cons, sum_by_push}
 use Rattle.generational_core.specs.declared.borrow.Borrow.{Borrow}
 use Rattle.generational_core.specs.declared.boxes.GenerationalPointer.{GenerationalPointer}
+use Rattle.generational_core.specs.declared.error.Location.{Location}
 use Rattle.generational_core.specs.declared.calls.Call.{Call}
 use Rattle.generational_core.specs.declared.calls.Call.TheVariants as call
 use Rattle.generational_core.specs.Names.{Name}
 use Rattle.generational_core.specs.Boxes.{name_of}
-use Rattle.generational_core.specs.Cells.{Content}
+use Rattle.generational_core.specs.Cells.{Content, Cell, is_shared}
 use Rattle.generational_core.specs.State.{State, Ownership, IsSound, tickets_of, content_at}
 use Rattle.generational_core.specs.Conditions.{count_in, count_under, IsBounded, IsEnded, fresh}
-use Rattle.generational_core.specs.Borrowing.{Guard}
+use Rattle.generational_core.specs.Borrowing.{Guard, reach}
 use Rattle.generational_core.specs.Machine.{Action, Answer, OwnerName, is_known, has_reader}
 use Rattle.generational_core.specs.Machine.{has_writer, knows_reader, knows_writer}
 use Rattle.generational_core.specs.Machine.Answer.{Made, Owned, Reads, Writes, Done}
@@ -33,7 +34,7 @@ use Rattle.generational_core.specs.SoundSession.{IsSoundSession, IsOwn, AreOne, 
 use Rattle.generational_core.specs.Answers.{value_at}
 use Rattle.generational_core.specs.Keeping.{AskedSets, IsUndisturbed, Undisturbed}
 use Rattle.generational_core.proofs.machine.Bounding.{meets_bounded, fresh_bounded}
-use Rattle.generational_core.proofs.machine.Soundness.{fresh_sound}
+use Rattle.generational_core.proofs.machine.Soundness.{fresh_sound, ref_reaches}
 use Rattle.generational_core.proofs.sessions.OwnerValues.{owners_in, takes, meets_counts}
 use Rattle.generational_core.proofs.machine.Stepping.{meets_sound, meets_ended, meets_number, meets_given}
 use Rattle.generational_core.proofs.machine.Stepping.{made_new, reads_known, writes_known, reader_stays}
@@ -454,6 +455,15 @@ module _ {T : Type 0} where
           let counted = kept.counted o.key in
           absurd (omega arith)
       recorded (Some h) e = refl
+
+  -- a box that a place holds, and whose cell is a Ref, reaches a live Shared cell
+  pub held_reaches : (s : SessionState T) (p : ℕ) (b : GenerationalPointer) (m : Name)
+      (l : Location) → IsSoundSession s → at_place s.table p ≡ Boxed b
+      → map.get s.state.cells (name_of b) ≡ Some (Cell.Ref m l)
+      → (reach s.state b ≡ Some m) × (is_shared (map.get s.state.cells m) ≡ true)
+  unfolding IsOwn
+  held_reaches s p b m l kept is =
+      ref_reaches s.state b m l kept.sound (subst (IsOwn s.state) is (kept.own p)).0
 
   -- a session of a fresh store, in which nothing was called
   pub fresh_kept : (number start next : ℕ)
