@@ -48,7 +48,7 @@ module _ {T : Type 0} where
   end_refused (refused.Borrow e) = Troubled (trouble_of e)
   end_refused (refused.Store e) = refuses e
 
-  -- what a making, a read and an end answer
+  -- what a making of a value answers
   abbrev pub make_answer : Result GenerationalPointer (Refusal T) → Answer T
   make_answer (Ok b) = Made b
   make_answer (Err r) = refuses r.cause
@@ -57,6 +57,16 @@ module _ {T : Type 0} where
   box_answer (Ok b) = Made (pointer_of b)
   box_answer (Err r) = refuses r.cause
 
+  -- what a making of a reference answers
+  abbrev pub reference_answer : Result GenerationalPointer (Refused BorrowError) → Answer T
+  reference_answer (Ok b) = Made b
+  reference_answer (Err e) = read_refused e
+
+  abbrev pub reference_box_answer : Result (GenerationalBox T) (Refused BorrowError) → Answer T
+  reference_box_answer (Ok b) = Made (pointer_of b)
+  reference_box_answer (Err e) = read_refused e
+
+  -- what a read, and what a write answers
   abbrev pub read_answer : Result Guard (Refused BorrowError) → Answer T
   read_answer (Ok g) = Reads g
   read_answer (Err e) = read_refused e
@@ -70,6 +80,7 @@ module _ {T : Type 0} where
   back_answer (Ok u) = Done
   back_answer (Err v) = Back v
 
+  -- what an end, and what a change of a reference answers
   abbrev pub end_answer : {U : Type 0} → Result U (Refused BorrowMutError) → Answer T
   end_answer (Ok u) = Done
   end_answer (Err e) = end_refused e

@@ -1,13 +1,16 @@
 -- What a session's places and replies are in the machine.
-use Rattle.std.specs.Prelude.{◌≡◌, List, Some, map as list_map}
+use Rattle.std.specs.Prelude.{◌≡◌, List, Some, Result, Ok, Err, map as list_map}
+use Rattle.generational_core.specs.declared.boxes.GenerationalBox.{GenerationalBox}
 use Rattle.generational_core.specs.declared.places.Thing.{Thing}
 use Rattle.generational_core.specs.declared.places.Thing.TheVariants as thing
 use Rattle.generational_core.specs.declared.calls.Reply.{Reply}
 use Rattle.generational_core.specs.declared.calls.Reply.TheVariants as reply
+use Rattle.generational_core.specs.declared.error.BorrowError.{BorrowError}
 use Rattle.generational_core.specs.declared.error.BorrowMutError.{BorrowMutError}
+use Rattle.generational_core.specs.declared.error.Refusal.{Refusal}
 use Rattle.generational_core.specs.declared.error.Refused.{Refused}
 use Rattle.generational_core.specs.declared.error.Refused.TheVariants as refused
-use Rattle.generational_core.specs.Answers.{pointer_of, trouble_of}
+use Rattle.generational_core.specs.Answers.{pointer_of, read_trouble_of, trouble_of}
 use Rattle.generational_core.specs.declared.calls.Call.{Call}
 use Rattle.generational_core.specs.State.{State}
 use Rattle.generational_core.specs.Machine.{Answer}
@@ -53,6 +56,16 @@ module _ {T : Type 0} where
   abbrev pub as_refusal : Refused BorrowMutError → SessionReply T
   as_refusal (refused.Borrow e) = Error (trouble_of e)
   as_refusal (refused.Store e) = Lacking e
+
+  -- the same of a refused read, and of a refused making of a reference
+  abbrev pub as_read_refusal : Refused BorrowError → SessionReply T
+  as_read_refusal (refused.Borrow e) = Error (read_trouble_of e)
+  as_read_refusal (refused.Store e) = Lacking e
+
+  -- the reply to a making of a value, and what it gives
+  abbrev pub as_making : Result (GenerationalBox T) (Refusal T) → SessionReply T × Held T
+  as_making (Ok b) = (ABox (pointer_of b), Boxed (pointer_of b))
+  as_making (Err r) = (HandedBack r.value r.cause, Nothing)
 
   -- the session of a store's state and its places
   abbrev pub session_in : State T → List (Thing T) → SessionState T

@@ -14,13 +14,14 @@ use Rattle.generational_core.specs.Session.Held.{Boxed, Owning}
 use Rattle.generational_core.specs.Session.SessionReply.{ABox, IsDone, Error}
 
 module _ {T : Type 0} where
-  -- a call is a read or a write of this box
+  -- a call is a read or a write of this box, or makes a reference from it by no owner
   abbrev pub Borrows : SessionState T → Call T → GenerationalPointer → Type 0
+  Borrows s (call.LeakReference b) box = box_in s b ≡ Some box
   Borrows s (call.TryRead b l) box = box_in s b ≡ Some box
   Borrows s (call.TryWrite b l) box = box_in s b ≡ Some box
   Borrows s _ box = ⊥
 
-  -- a read or a write of a box whose name has ended is answered so, with the box's own location
+  -- such a call of a box whose name has ended is answered so, with the box's own location
   abbrev pub TellsEnds : SessionState T → Call T → SessionReply T → Type 0
   TellsEnds s c x = (b : GenerationalPointer)
       → Borrows s c b → IsEnded s.state (name_of b) → x ≡ Error (Dropped b.created_at)
@@ -64,7 +65,7 @@ module _ {T : Type 0} where
       KeepsPromises s c x run.0 × AllKeepPromises run.0 calls replies r run.2
   AllKeepPromises s _ _ r run = ⊥
 
-  -- In a run, a read or a write of a box whose name had ended before the run is answered so.
+  -- In a run, such a call of a box whose name had ended before the run is answered so.
   abbrev pub AllTellEnds : SessionState T → List (Call T) → List (SessionReply T) → Type 0
   AllTellEnds s calls replies = (i : ℕ) (c : Call T) (b : GenerationalPointer)
       → slice_get calls i ≡ Some c → Borrows s c b → IsEnded s.state (name_of b)

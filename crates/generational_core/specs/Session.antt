@@ -15,9 +15,9 @@ use Rattle.generational_core.specs.Boxes.{has_same_id}
 use Rattle.generational_core.specs.State.{State}
 use Rattle.generational_core.specs.Borrowing.{Trouble, Guard}
 use Rattle.generational_core.specs.Machine.{Action, Answer, OwnerName, Outcome, act}
-use Rattle.generational_core.specs.Machine.Action.{Make, NewOwner, CloneOwner, ReleaseOwner, Read}
-use Rattle.generational_core.specs.Machine.Action.{LeakOwner, Write, End, ReleaseReader}
-use Rattle.generational_core.specs.Machine.Action.{ReleaseWriter}
+use Rattle.generational_core.specs.Machine.Action.{Make, MakeShared, Refer, NewOwner, CloneOwner}
+use Rattle.generational_core.specs.Machine.Action.{ReleaseOwner, LeakOwner, Read, Write}
+use Rattle.generational_core.specs.Machine.Action.{ReleaseReader, ReleaseWriter, End, Point}
 use Rattle.generational_core.specs.Machine.Answer.{Made, Owned, Reads, Writes, Done, Flag, Troubled}
 use Rattle.generational_core.specs.Machine.Answer.{Refused}
 use Rattle.generational_core.specs.Steps.{Meets, no_names}
@@ -108,8 +108,14 @@ module _ {T : Type 0} where
   -- what each call asks of the machine
   abbrev pub ask : SessionState T → Call T → Request T
   ask s (call.Leak v l) = Asks (Make None v l)
+  ask s (call.LeakRc v l) = Asks (MakeShared None v l)
+  ask s (call.LeakReference b) = with_box (box_in s b) None (λ b. Asks (Refer None b))
   ask s (call.Insert p v l) =
       with_owner (owner_in s p) (Some v) (λ o. Asks (Make (Some o) v l))
+  ask s (call.InsertRc p v l) =
+      with_owner (owner_in s p) (Some v) (λ o. Asks (MakeShared (Some o) v l))
+  ask s (call.InsertReference p b) = with_owner (owner_in s p) None
+      (λ o. with_box (box_in s b) None (λ b. Asks (Refer (Some o) b)))
   ask s call.Owner = Asks NewOwner
   ask s (call.CloneOwner p) = with_owner (owner_in s p) None (λ o. Asks (CloneOwner o))
   ask s (call.ReleaseOwner p) = with_owner (owner_in s p) None (λ o. Asks (ReleaseOwner o))
@@ -119,6 +125,8 @@ module _ {T : Type 0} where
   ask s (call.Replace p v) = replace p (at_place s.table p) v
   ask s (call.Release p) = release (at_place s.table p)
   ask s (call.ManuallyDrop b) = with_box (box_in s b) None (λ b. Asks (End b))
+  ask s (call.PointTo a b) =
+      with_box (box_in s a) None (λ a. with_box (box_in s b) None (λ b. Asks (Point a b)))
   ask s (call.PtrEq a b) =
       with_box (box_in s a) None (λ a. tell (box_in s b) (λ b. Yes (has_same_id a b)))
   ask s (call.Id b) = tell (box_in s b) (λ b. TheId b.id)
@@ -128,7 +136,9 @@ module _ {T : Type 0} where
   -- a refusal of the store, with the value where one was handed in
   abbrev pub refusal : Call T → StoreError → SessionReply T
   refusal (call.Leak v l) e = HandedBack v e
+  refusal (call.LeakRc v l) e = HandedBack v e
   refusal (call.Insert p v l) e = HandedBack v e
+  refusal (call.InsertRc p v l) e = HandedBack v e
   refusal _ e = Lacking e
 
   abbrev pub is_release : Call T → Bool

@@ -177,10 +177,11 @@ impl<T> GenerationalBox<T> {
 impl<T> GenerationalBox<T> {
     ghost use Rattle.std.specs.Prelude.{◌≡◌, IfErr, None};
     ghost use Rattle.generational_core.specs.Answers.{pointer_of};
-    ghost use Rattle.generational_core.specs.Machine.Action.{Make, Read, Write, End};
+    ghost use Rattle.generational_core.specs.Machine.Action.{Make, MakeShared, Refer, Read, Write};
+    ghost use Rattle.generational_core.specs.Machine.Action.{End, Point};
     ghost use Rattle.generational_core.specs.Steps.{Meets};
     ghost use Rattle.generational_core.specs.Answers.{box_answer, read_answer, write_answer};
-    ghost use Rattle.generational_core.specs.Answers.{end_answer};
+    ghost use Rattle.generational_core.specs.Answers.{reference_box_answer, end_answer};
 
     /// Makes a box of a value, which lives until it is ended by hand. Its id was never given
     /// before.
@@ -199,6 +200,89 @@ impl<T> GenerationalBox<T> {
     {
         let raw = store.new(value, location, None)?;
         Ok(box_at(raw))
+    }
+
+    /// Makes a shared value, and a first reference to it. The reference's box is given, and its id
+    /// was never given before.
+    ///
+    /// The value lives exactly as long as there is a live reference to it, of which the given box
+    /// is the first. Each reference lives until it is ended by hand or by an owner.
+    ///
+    /// Refused by `OutOfMemory`, only where fewer than two slots are free: the value comes back,
+    /// and the store stays as it was. With two slots free the call takes no memory. However many
+    /// boxes there are, it takes the same time.
+    ///
+    /// Upstream's `leak_rc`.
+    #[inline(always)]
+    pub fn leak_rc<S: Storage<T>>(
+        store: &mut S,
+        value: T,
+        location: Location,
+    ) -> Result<GenerationalBox<T>, Refusal<T>>
+        ensures step { Meets (S.state store.old) (MakeShared None value location)
+            (box_answer result) (S.state store.new) }
+        ensures back { IfErr result (λ refusal. refusal.value ≡ value) }
+    {
+        let raw = store.new_rc(value, location, None)?;
+        Ok(box_at(raw))
+    }
+
+    /// Makes one reference more to the shared value that the box reaches. It lives until it is
+    /// ended by hand, and keeps the value alive. Its id was never given before.
+    ///
+    /// The reference names the shared value itself and takes that value's location. So a reference
+    /// of a reference is no longer a way, and it lives on when the one that it came from ends.
+    ///
+    /// Refused, in this order: `Dropped` with the box's own creation location, where its cell has
+    /// ended or is of another store; `AlreadyBorrowedMut` with the writer's location; `Dropped`
+    /// with the box's own creation location, where its value isn't shared; `OutOfMemory`, only
+    /// where no slot is free. A refused call leaves the store as it was. With a slot free the call
+    /// takes no memory. However many boxes there are, it takes the same time.
+    ///
+    /// Upstream's `leak_reference`.
+    #[inline(always)]
+    pub fn leak_reference<S: Storage<T>>(self, store: &mut S) -> BorrowResult<GenerationalBox<T>>
+        ensures { Meets (S.state store.old) (Refer None (pointer_of self))
+            (reference_box_answer result) (S.state store.new) }
+    {
+        let raw = store.new_reference(self.raw, None)?;
+        Ok(box_at(raw))
+    }
+
+    /// Lets the box, which is a reference, lead to the shared value that another box reaches. The
+    /// value that it led to before ends if no live reference to it is left. The box keeps its id
+    /// and its location.
+    ///
+    /// Answered in this order:
+    /// 1. Ok, where both boxes have one id, even of a cell that has ended: nothing changes.
+    /// 2. `Dropped` with the other box's own creation location, where its cell has ended or is of
+    ///    another store; `AlreadyBorrowedMut` with the writer's location, where its value is
+    ///    written.
+    /// 3. `Dropped` with this box's own creation location, where its cell has ended or is of
+    ///    another store.
+    /// 4. `Dropped` with the location at which the other box's value was made, where this box is no
+    ///    reference or that value isn't shared.
+    /// 5. Ok, where this box leads to that value already: nothing changes.
+    /// 6. `AlreadyBorrowedMut` with the writer's location, or `AlreadyBorrowed` with the readers'
+    ///    locations in the order in which they began, where the value that this box led to would
+    ///    end and is borrowed; `OutOfMemory` in place of `AlreadyBorrowed` if that list finds no
+    ///    memory.
+    /// 7. Ok: this box leads to the other value from then on.
+    ///
+    /// A refused call leaves the store as it was. Nothing else takes memory. However many boxes
+    /// there are, the call takes the same time, but for a list of locations.
+    ///
+    /// Upstream's `point_to`.
+    #[inline(always)]
+    pub fn point_to<S: Storage<T>>(
+        self,
+        store: &mut S,
+        other: GenerationalBox<T>,
+    ) -> BorrowMutResult<()>
+        ensures { Meets (S.state store.old) (Point (pointer_of self) (pointer_of other))
+            (end_answer result) (S.state store.new) }
+    {
+        store.change_reference(self.raw, other.raw)
     }
 
     /// Begins a read of the value, asked for at a location. The guard must be released; the value
@@ -241,13 +325,13 @@ impl<T> GenerationalBox<T> {
     }
 
     /// Ends the box's cell, and the value with it: every box of this id is `Dropped` from then on,
-    /// and no box ever has the id again. A box whose cell has ended or is of another store is Ok
-    /// and changes nothing.
+    /// and no box ever has the id again. A shared value ends only with its last reference. A box
+    /// whose cell has ended or is of another store is Ok and changes nothing.
     ///
-    /// Refused, and nothing ends, where the value is borrowed: `AlreadyBorrowedMut` with the
-    /// writer's location, or `AlreadyBorrowed` with the readers' locations in the order in which
-    /// they began, in whose place `OutOfMemory` is answered if that list finds no memory. Nothing
-    /// else takes memory.
+    /// Refused, and nothing ends, where the value would end and is borrowed: `AlreadyBorrowedMut`
+    /// with the writer's location, or `AlreadyBorrowed` with the readers' locations in the order in
+    /// which they began, in whose place `OutOfMemory` is answered if that list finds no memory.
+    /// Nothing else takes memory.
     #[inline(always)]
     pub fn manually_drop<S: Storage<T>>(self, store: &mut S) -> BorrowMutResult<()>
         ensures { Meets (S.state store.old) (End (pointer_of self)) (end_answer result)

@@ -17,8 +17,18 @@ pub enum BoxAt<T> {
 pub enum Call<T> {
     /// Makes a box of the value.
     Leak(T, Location),
+    /// Makes a shared value, and a box that is its first reference.
+    LeakRc(T, Location),
+    /// Makes one reference more to the shared value that the box reaches.
+    LeakReference(BoxAt<T>),
     /// Makes a box of the value, which ends with the owner of this place.
     Insert(usize, T, Location),
+    /// Makes a shared value, and a box that is its first reference and ends with the owner of this
+    /// place.
+    InsertRc(usize, T, Location),
+    /// Makes one reference more to the shared value that the box reaches, which ends with the owner
+    /// of this place.
+    InsertReference(usize, BoxAt<T>),
     /// Makes an owner.
     Owner,
     /// Makes another owner value of the record of this place's owner.
@@ -37,6 +47,8 @@ pub enum Call<T> {
     Release(usize),
     /// Ends the box's cell.
     ManuallyDrop(BoxAt<T>),
+    /// Lets the first box, which is a reference, lead to the shared value that the second reaches.
+    PointTo(BoxAt<T>, BoxAt<T>),
     /// Asks whether two boxes have one id.
     PtrEq(BoxAt<T>, BoxAt<T>),
     /// Asks for the box's id.

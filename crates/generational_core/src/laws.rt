@@ -7,12 +7,14 @@ ghost use Rattle.std.specs.FinMap as map;
 ghost use Rattle.std.specs.FinSet as set;
 ghost use Rattle.generational_core.specs.declared.boxes.GenerationalPointer.{GenerationalPointer};
 ghost use Rattle.generational_core.specs.Names.{Name, Names, name_cmp, among};
+ghost use Rattle.generational_core.specs.declared.error.Location.{Location};
 ghost use Rattle.generational_core.specs.Cells.{is_shared};
+ghost use Rattle.generational_core.specs.Cells.Cell.{Ref};
 ghost use Rattle.generational_core.specs.State.{State, Ownership, IsSound};
 ghost use Rattle.generational_core.specs.Conditions.{IsLive, IsEnded, IsNamed};
 ghost use Rattle.generational_core.specs.Conditions.{fresh};
 ghost use Rattle.generational_core.specs.Boxes.{name_of, has_same_id};
-ghost use Rattle.generational_core.specs.Borrowing.{read_trouble, write_trouble};
+ghost use Rattle.generational_core.specs.Borrowing.{reach, read_trouble, write_trouble};
 ghost use Rattle.generational_core.specs.Borrowing.Trouble.{Dropped};
 ghost use Rattle.generational_core.specs.Machine.{Action, Answer, Fresh, OwnerName, act, ownership};
 ghost use Rattle.generational_core.specs.Machine.{is_known};
@@ -27,7 +29,7 @@ ghost use Rattle.generational_core.specs.declared.calls.Call.{Call};
 ghost use Rattle.generational_core.specs.declared.calls.Call.TheVariants as call;
 ghost use Rattle.generational_core.specs.Session.{SessionState, SessionReply, SessionStep, Run};
 ghost use Rattle.generational_core.specs.Session.{at_place};
-ghost use Rattle.generational_core.specs.Session.Held.{Owning};
+ghost use Rattle.generational_core.specs.Session.Held.{Boxed, Owning};
 ghost use Rattle.generational_core.specs.Session.SessionReply.{IsDone};
 ghost use Rattle.generational_core.specs.SoundSession.{IsSoundSession};
 ghost use Rattle.generational_core.specs.Keeping.{Sets, IsUnwritten, IsUndisturbed, Undisturbed};
@@ -64,12 +66,22 @@ pub fn ended_names_stay_ended<T>()
         IsEnded S (name_of b) → write_trouble S b ≡ Some (Dropped b.created_at) }
 {}
 
-/// In a sound state, a shared value is live exactly while a live Ref names it.
+/// In a sound state, a shared value is live exactly while a live Ref names it, and a box whose cell
+/// is a Ref reaches a live shared value. So it is in every session, for each box that a place holds.
 pub fn shared_values_live_by_references<T>()
     ensures named { (S : State T) (m : Name) →
         IsSound S → is_shared (map.get S.cells m) ≡ true → IsNamed S.cells m }
     ensures live { (S : State T) (m : Name) →
         IsSound S → IsNamed S.cells m → is_shared (map.get S.cells m) ≡ true }
+    ensures reaches { (S : State T) (b : GenerationalPointer) (m : Name) (l : Location) →
+        IsSound S → b.id.store ≡ S.number → map.get S.cells (name_of b) ≡ Some (Ref m l) →
+        (reach S b ≡ Some m) × (is_shared (map.get S.cells m) ≡ true) }
+    ensures session { (s : SessionState T) (m : Name) → IsSoundSession s →
+        (is_shared (map.get s.state.cells m) ≡ true) ↔ IsNamed s.state.cells m }
+    ensures held { (s : SessionState T) (p : ℕ) (b : GenerationalPointer) (m : Name)
+        (l : Location) → IsSoundSession s → at_place s.table p ≡ Boxed b →
+        map.get s.state.cells (name_of b) ≡ Some (Ref m l) →
+        (reach s.state b ≡ Some m) × (is_shared (map.get s.state.cells m) ≡ true) }
 {}
 
 /// The last release of an owner ends all boxes of its list, and then the shared values that no

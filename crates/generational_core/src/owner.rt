@@ -3,7 +3,7 @@
 ghost use Rattle.std.specs.Prelude.{◌≡◌, Some, IfErr};
 
 use crate::boxes::{GenerationalBox, box_at};
-use crate::error::{BorrowMutError, Location, Refusal, Refused, StoreError};
+use crate::error::{BorrowMutError, BorrowResult, Location, Refusal, Refused, StoreError};
 use crate::storage::{AnyStorage, Storage};
 use std::marker::Model;
 
@@ -27,9 +27,11 @@ impl Model for Owner {
 }
 
 impl Owner {
-    ghost use Rattle.generational_core.specs.Machine.Action.{Make, CloneOwner, ReleaseOwner};
+    ghost use Rattle.generational_core.specs.Machine.Action.{Make, MakeShared, Refer, CloneOwner};
+    ghost use Rattle.generational_core.specs.Machine.Action.{ReleaseOwner};
     ghost use Rattle.generational_core.specs.Steps.{Meets};
     ghost use Rattle.generational_core.specs.Answers.{box_answer, owner_answer, release_answer};
+    ghost use Rattle.generational_core.specs.Answers.{pointer_of, reference_box_answer};
 
     /// Makes a box of a value, which ends when the last owner value of this record is released.
     /// Its id was never given before, and it stands at the end of the record's list.
@@ -54,6 +56,62 @@ impl Owner {
         Ok(box_at(raw))
     }
 
+    /// Makes a shared value, and a first reference to it, whose box is given. The reference ends
+    /// when the last owner value of this record is released. Its id was never given before, and it
+    /// stands at the end of the record's list.
+    ///
+    /// The value lives exactly as long as there is a live reference to it, of which the given box
+    /// is the first. So it may outlive the owner.
+    ///
+    /// Refused, in this order: `UnknownOwner`, where the store has no record of the owner;
+    /// `OutOfMemory`, where room for two slots or in the list was refused. The value comes back
+    /// then, and the store stays as it was. However many boxes there are, the call takes the same
+    /// time.
+    ///
+    /// Upstream's `insert_rc_with_caller`: its `insert_rc` takes the caller's location.
+    #[inline(always)]
+    pub fn insert_rc<T, S: Storage<T>>(
+        &self,
+        store: &mut S,
+        value: T,
+        location: Location,
+    ) -> Result<GenerationalBox<T>, Refusal<T>>
+        ensures step { Meets (S.state store.old) (MakeShared (Some self.now) value location)
+            (box_answer result) (S.state store.new) }
+        ensures back { IfErr result (λ refusal. refusal.value ≡ value) }
+    {
+        let raw = store.new_rc(value, location, Some(self))?;
+        Ok(box_at(raw))
+    }
+
+    /// Makes one reference more to the shared value that a box reaches. It ends when the last owner
+    /// value of this record is released, and keeps the value alive until then. Its id was never
+    /// given before, and it stands at the end of the record's list.
+    ///
+    /// The reference names the shared value itself and takes that value's location. So a reference
+    /// of a reference is no longer a way, and it lives on when the one that it came from ends.
+    ///
+    /// Refused, in this order: `UnknownOwner`, where the store has no record of the owner;
+    /// `Dropped` with the box's own creation location, where its cell has ended or is of another
+    /// store; `AlreadyBorrowedMut` with the writer's location; `Dropped` with the box's own
+    /// creation location, where its value isn't shared; `OutOfMemory`, where room for a slot or in
+    /// the list was refused. A refused call leaves the store as it was. However many boxes there
+    /// are, the call takes the same time.
+    ///
+    /// Upstream's `insert_reference`.
+    #[inline(always)]
+    pub fn insert_reference<T, S: Storage<T>>(
+        &self,
+        store: &mut S,
+        other: GenerationalBox<T>,
+    ) -> BorrowResult<GenerationalBox<T>>
+        ensures { Meets (S.state store.old) (Refer (Some self.now) (pointer_of other))
+            (reference_box_answer result) (S.state store.new) }
+    {
+        let raw = store.new_reference(other.pointer(), Some(self))?;
+        Ok(box_at(raw))
+    }
+
     /// Another owner value of the same record: its boxes live until both are released.
     ///
     /// Refused, in this order: `UnknownOwner`, where the store has no record of the owner;
@@ -67,14 +125,14 @@ impl Owner {
         store.clone_owner(self)
     }
 
-    /// Spends the owner value. With the last one of its record all live boxes of the list end, or
-    /// nothing does.
+    /// Spends the owner value. With the last one of its record all live boxes of the list end, and
+    /// with them each shared value of which no reference is left, or nothing does.
     ///
     /// Refused, in this order: `UnknownOwner`, where the store has no record of the owner; the
-    /// answer of a write at the first box of the list, in order of insertion, that would end and is
-    /// borrowed: `AlreadyBorrowedMut`, or `AlreadyBorrowed`, in whose place `OutOfMemory` is
-    /// answered if its list finds no memory. The owner comes back then, and the store stays as it
-    /// was.
+    /// answer of a write at the first box of the list, in order of insertion, that reaches a value
+    /// which would end and is borrowed: `AlreadyBorrowedMut`, or `AlreadyBorrowed`, in whose place
+    /// `OutOfMemory` is answered if its list finds no memory. The owner comes back then, and the
+    /// store stays as it was.
     ///
     /// Upstream's owners end their boxes by their Drop.
     pub fn release<T, S: AnyStorage<T>>(

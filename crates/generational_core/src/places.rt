@@ -9,11 +9,12 @@ ghost use Rattle.generational_core.specs.Answers.{pointer_of};
 ghost use Rattle.generational_core.specs.Session.{Held, box_in, at_place, owner_held, release_held};
 ghost use Rattle.generational_core.specs.Session.Held.{Nothing};
 ghost use Rattle.generational_core.specs.Places.{as_held, as_reply, as_refusal, session_in};
+ghost use Rattle.generational_core.specs.Places.{as_read_refusal, as_making};
 ghost use Rattle.generational_core.specs.Places.{exchange, Gives};
 
 use crate::boxes::GenerationalBox;
 use crate::calls::{BoxAt, Call, Reply};
-use crate::error::{BorrowMutError, Location, Refusal, Refused};
+use crate::error::{BorrowError, BorrowMutError, Location, Refusal, Refused};
 use crate::owner::Owner;
 use crate::references::{GenerationalRef, GenerationalRefMut};
 use crate::storage::Storage;
@@ -42,8 +43,16 @@ pub(crate) fn answer<T: Drop, S: Storage<T>>(
 {
     match call {
         Call::Leak(value, location) => leak(store, value, location),
+        Call::LeakRc(value, location) => leak_rc(store, value, location),
+        Call::LeakReference(at) => leak_reference(store, things.as_slice(), at),
         Call::Insert(place, value, location) => {
             insert(store, things.as_slice(), place, value, location)
+        }
+        Call::InsertRc(place, value, location) => {
+            insert_rc(store, things.as_slice(), place, value, location)
+        }
+        Call::InsertReference(place, at) => {
+            insert_reference(store, things.as_slice(), place, at)
         }
         Call::Owner => owner(store),
         Call::CloneOwner(place) => clone_owner(store, things.as_slice(), place),
@@ -54,6 +63,7 @@ pub(crate) fn answer<T: Drop, S: Storage<T>>(
         Call::Replace(place, value) => replace(store, things, place, value),
         Call::Release(place) => release(store, things, place),
         Call::ManuallyDrop(at) => manually_drop(store, things.as_slice(), at),
+        Call::PointTo(from, to) => point_to(store, things.as_slice(), from, to),
         Call::PtrEq(one, other) => (ptr_eq(store, things.as_slice(), one, other), Thing::Nothing),
         Call::Id(at) => (id(store, things.as_slice(), at), Thing::Nothing),
         Call::RawPtr(at) => (raw_ptr(store, things.as_slice(), at), Thing::Nothing),
@@ -91,9 +101,45 @@ fn leak<T, S: Storage<T>>(store: &mut S, value: T, location: Location) -> (Reply
         (as_reply result.0) (as_held result.1)
         (record { state = S.state store.new; table = table }) }
 {
-    match GenerationalBox::leak(store, value, location) {
+    made(GenerationalBox::leak(store, value, location))
+}
+
+// Makes a shared value and its first reference, whatever the places hold.
+fn leak_rc<T, S: Storage<T>>(store: &mut S, value: T, location: Location) -> (Reply<T>, Thing<T>)
+    ensures { (table : List (Held T)) →
+        Gives (record { state = S.state store.old; table = table }) (call.LeakRc value location)
+        (as_reply result.0) (as_held result.1)
+        (record { state = S.state store.new; table = table }) }
+{
+    made(GenerationalBox::leak_rc(store, value, location))
+}
+
+// The reply to a making of a value, and what it gives.
+fn made<T>(making: Result<GenerationalBox<T>, Refusal<T>>) -> (Reply<T>, Thing<T>)
+    ensures reply { as_reply result.0 ≡ (as_making making).0 }
+    ensures thing { as_held result.1 ≡ (as_making making).1 }
+{
+    match making {
         Ok(made) => (Reply::Box(made), Thing::Box(made)),
         Err(Refusal { value, cause }) => (Reply::Back(value, cause), Thing::Nothing),
+    }
+}
+
+// Makes a reference to the shared value that a box reaches.
+fn leak_reference<T, S: Storage<T>>(
+    store: &mut S,
+    things: &[Thing<T>],
+    at: BoxAt<T>,
+) -> (Reply<T>, Thing<T>)
+    ensures { Gives (session_in (S.state store.old) things.now) (call.LeakReference at)
+        (as_reply result.0) (as_held result.1) (session_in (S.state store.new) things.now) }
+{
+    let Some(shared) = resolve(store, things, at) else {
+        return (Reply::NoSuch(None), Thing::Nothing);
+    };
+    match shared.leak_reference(store) {
+        Ok(reference) => (Reply::Box(reference), Thing::Box(reference)),
+        Err(refused) => (read_refusal(refused), Thing::Nothing),
     }
 }
 
@@ -121,9 +167,45 @@ fn insert<T, S: Storage<T>>(
     let Some(owner) = owner_at(things, place) else {
         return (Reply::NoSuch(Some(value)), Thing::Nothing);
     };
-    match owner.insert(store, value, location) {
+    made(owner.insert(store, value, location))
+}
+
+// Makes a shared value by the owner at a place, and its first reference.
+fn insert_rc<T, S: Storage<T>>(
+    store: &mut S,
+    things: &[Thing<T>],
+    place: usize,
+    value: T,
+    location: Location,
+) -> (Reply<T>, Thing<T>)
+    ensures { Gives (session_in (S.state store.old) things.now) (call.InsertRc place value location)
+        (as_reply result.0) (as_held result.1) (session_in (S.state store.new) things.now) }
+{
+    let Some(owner) = owner_at(things, place) else {
+        return (Reply::NoSuch(Some(value)), Thing::Nothing);
+    };
+    made(owner.insert_rc(store, value, location))
+}
+
+// Makes a reference to the shared value that a box reaches, by the owner at a place.
+fn insert_reference<T, S: Storage<T>>(
+    store: &mut S,
+    things: &[Thing<T>],
+    place: usize,
+    at: BoxAt<T>,
+) -> (Reply<T>, Thing<T>)
+    ensures { Gives (session_in (S.state store.old) things.now) (call.InsertReference place at)
+        (as_reply result.0) (as_held result.1) (session_in (S.state store.new) things.now) }
+{
+    let Some(owner) = owner_at(things, place) else {
+        return (Reply::NoSuch(None), Thing::Nothing);
+    };
+    let Some(shared) = resolve(store, things, at) else {
+        return (Reply::NoSuch(None), Thing::Nothing);
+    };
+    match owner.insert_reference(store, shared) {
         Ok(listed) => (Reply::Box(listed), Thing::Box(listed)),
-        Err(Refusal { value, cause }) => (Reply::Back(value, cause), Thing::Nothing),
+        Err(refused) => (read_refusal(refused), Thing::Nothing),
     }
 }
 
@@ -247,6 +329,16 @@ fn refusal<T>(refused: Refused<BorrowMutError>) -> Reply<T>
     }
 }
 
+// The reply to a refused read, and to a refused making of a reference.
+fn read_refusal<T>(refused: Refused<BorrowError>) -> Reply<T>
+    ensures { as_reply result ≡ as_read_refusal refused }
+{
+    match refused {
+        Refused::Borrow(error) => Reply::Error(BorrowMutError::from(error)),
+        Refused::Store(cause) => Reply::Store(cause),
+    }
+}
+
 // Begins a read.
 fn try_read<T, S: Storage<T>>(
     store: &mut S,
@@ -262,8 +354,7 @@ fn try_read<T, S: Storage<T>>(
     };
     match from.try_read(store, location) {
         Ok(guard) => (Reply::Reader, Thing::Reader(guard)),
-        Err(Refused::Borrow(error)) => (Reply::Error(BorrowMutError::from(error)), Thing::Nothing),
-        Err(Refused::Store(cause)) => (Reply::Store(cause), Thing::Nothing),
+        Err(refused) => (read_refusal(refused), Thing::Nothing),
     }
 }
 
@@ -329,6 +420,28 @@ fn manually_drop<T, S: Storage<T>>(
         return (Reply::NoSuch(None), Thing::Nothing);
     };
     match from.manually_drop(store) {
+        Ok(()) => (Reply::Done, Thing::Nothing),
+        Err(refused) => (refusal(refused), Thing::Nothing),
+    }
+}
+
+// Lets a reference lead to the shared value that another box reaches.
+fn point_to<T, S: Storage<T>>(
+    store: &mut S,
+    things: &[Thing<T>],
+    from: BoxAt<T>,
+    to: BoxAt<T>,
+) -> (Reply<T>, Thing<T>)
+    ensures { Gives (session_in (S.state store.old) things.now) (call.PointTo from to)
+        (as_reply result.0) (as_held result.1) (session_in (S.state store.new) things.now) }
+{
+    let Some(from) = resolve(store, things, from) else {
+        return (Reply::NoSuch(None), Thing::Nothing);
+    };
+    let Some(to) = resolve(store, things, to) else {
+        return (Reply::NoSuch(None), Thing::Nothing);
+    };
+    match from.point_to(store, to) {
         Ok(()) => (Reply::Done, Thing::Nothing),
         Err(refused) => (refusal(refused), Thing::Nothing),
     }

@@ -6,13 +6,13 @@ ghost use Rattle.generational_core.specs.Conditions.{IsFresh};
 ghost use Rattle.generational_core.specs.Slots.{slots, free, retired};
 ghost use Rattle.generational_core.specs.Machine.Action.{Make, NewOwner, CloneOwner, ReleaseOwner};
 ghost use Rattle.generational_core.specs.Machine.Action.{Read, Write, ReleaseReader, ReleaseWriter};
-ghost use Rattle.generational_core.specs.Machine.Action.{End};
+ghost use Rattle.generational_core.specs.Machine.Action.{End, MakeShared, Refer, Point};
 ghost use Rattle.generational_core.specs.Machine.Answer.{Flag};
 ghost use Rattle.generational_core.specs.Steps.{Meets, last_ticket};
 ghost use Rattle.generational_core.specs.StepCalls.{is_ready};
 ghost use Rattle.generational_core.specs.Answers.{make_answer, owner_answer, release_answer};
 ghost use Rattle.generational_core.specs.Answers.{read_answer, write_answer, back_answer};
-ghost use Rattle.generational_core.specs.Answers.{end_answer, value_behind};
+ghost use Rattle.generational_core.specs.Answers.{reference_answer, end_answer, value_behind};
 
 use crate::boxes::GenerationalPointer;
 use crate::error::{
@@ -91,26 +91,29 @@ pub trait AnyStorage<T> {
         ensures { Meets (state self.old) (CloneOwner owner.now) (owner_answer result)
             (state self.new) };
 
-    /// Spends an owner value. With the last one of its record all live boxes of the list end, or
-    /// nothing does.
+    /// Spends an owner value. With the last one of its record all live boxes of the list end, and
+    /// with them each shared value of which no reference is left, or nothing does.
     ///
     /// Refused, in this order: `UnknownOwner`, where the store has no record of the owner; the
-    /// answer of a write at the first box of the list, in order of insertion, that would end and is
-    /// borrowed, in whose place `OutOfMemory` is answered if its list of locations finds no memory.
-    /// The owner comes back then, and nothing changes.
+    /// answer of a write at the first box of the list, in order of insertion, that reaches a value
+    /// which would end and is borrowed, in whose place `OutOfMemory` is answered if its list of
+    /// locations finds no memory. A borrowed value that keeps a reference hinders nothing. The
+    /// owner comes back then, and nothing changes.
     fn release_owner(&mut self, owner: Owner) -> Result<(), (Owner, Refused<BorrowMutError>)>
         ensures step { Meets (state self.old) (ReleaseOwner owner) (release_answer result)
             (state self.new) }
         ensures back { IfErr result (λ refusal. refusal.0 ≡ owner) };
 
     /// Ends the cell that the pointer names, and its slot is free from then on; a slot whose cell
-    /// ends at the last generation is retired instead. A pointer that names no live cell of this
-    /// store is Ok and changes nothing.
+    /// ends at the last generation is retired instead. With the last reference to a shared value
+    /// that value ends too, and its slot likewise. A pointer that names no live cell of this store
+    /// is Ok and changes nothing.
     ///
     /// Refused, in this order, where the value would end and is borrowed: `AlreadyBorrowedMut`
     /// with the writer's location, or `AlreadyBorrowed` with the readers' locations in order, in
-    /// whose place `OutOfMemory` is answered if that list finds no memory. A refused call changes
-    /// nothing, and nothing else takes memory.
+    /// whose place `OutOfMemory` is answered if that list finds no memory. So a borrow of a shared
+    /// value hinders the end of its last reference alone. A refused call changes nothing, and
+    /// nothing else takes memory.
     fn recycle(&mut self, pointer: GenerationalPointer) -> BorrowMutResult<()>
         ensures { Meets (state self.old) (End pointer) (end_answer result) (state self.new) };
 
@@ -139,7 +142,70 @@ pub trait Storage<T>: AnyStorage<T> {
             (make_answer result) (Self.state self.new) }
         ensures back { IfErr result (λ refusal. refusal.value ≡ value) };
 
-    /// Begins a read.
+    /// Makes a shared value, and a first reference to it, each under a name that was never given
+    /// before. The reference's pointer is given, and with an owner it stands at the end of the
+    /// owner's list. The value takes a slot, and the reference takes another. A shared value lives
+    /// as long as there is a live reference to it.
+    ///
+    /// Refused, in this order: `UnknownOwner`, where the store has no record of the owner;
+    /// `OutOfMemory`, only where fewer than two slots are free or the owner's list has no room. The
+    /// value comes back, and nothing changes.
+    fn new_rc(
+        &mut self,
+        value: T,
+        location: Location,
+        owner: Option<&Owner>,
+    ) -> Result<GenerationalPointer, Refusal<T>>
+        ensures step { Meets (Self.state self.old)
+            (MakeShared (option_copied owner.entry) value location) (make_answer result)
+            (Self.state self.new) }
+        ensures back { IfErr result (λ refusal. refusal.value ≡ value) };
+
+    /// Makes a reference to the shared value that a pointer reaches, under a name that was never
+    /// given before, with the value's location. It names the value itself, never another reference.
+    /// With an owner it stands at the end of the owner's list.
+    ///
+    /// Refused, in this order: `UnknownOwner`, where the store has no record of the owner;
+    /// `Dropped` with the pointer's own location, where it reaches no value; `AlreadyBorrowedMut`
+    /// with the writer's location; `Dropped` with the pointer's own location, where it reaches a
+    /// value that isn't shared; `OutOfMemory`, only where no slot is free or the owner's list has
+    /// no room. A refused call changes nothing.
+    fn new_reference(
+        &mut self,
+        inner: GenerationalPointer,
+        owner: Option<&Owner>,
+    ) -> BorrowResult<GenerationalPointer>
+        ensures { Meets (Self.state self.old) (Refer (option_copied owner.entry) inner)
+            (reference_answer result) (Self.state self.new) };
+
+    /// Lets a reference lead to the shared value that another pointer reaches. The value that it
+    /// led to before ends if no live reference to it is left. The reference keeps its name and its
+    /// location.
+    ///
+    /// Answered in this order:
+    /// 1. Ok, where both pointers have one id, even of a cell that has ended: nothing changes.
+    /// 2. `Dropped` with the other's own location, where that reaches no value;
+    ///    `AlreadyBorrowedMut` with the writer's location, where the value it reaches is written.
+    /// 3. `Dropped` with the pointer's own location, where it names no live cell of this store.
+    /// 4. `Dropped` with the location of the value that the other reaches, where the pointer is no
+    ///    reference's or that value isn't shared.
+    /// 5. Ok, where the reference leads to that value already: nothing changes.
+    /// 6. `AlreadyBorrowedMut` with the writer's location, or `AlreadyBorrowed` with the readers'
+    ///    locations in order, where the value that it led to would end and is borrowed;
+    ///    `OutOfMemory` in place of `AlreadyBorrowed` if that list finds no memory.
+    /// 7. Ok: the reference leads to the other value from then on.
+    ///
+    /// A refused call changes nothing, and nothing else takes memory.
+    fn change_reference(
+        &mut self,
+        pointer: GenerationalPointer,
+        other: GenerationalPointer,
+    ) -> BorrowMutResult<()>
+        ensures { Meets (Self.state self.old) (Point pointer other) (end_answer result)
+            (Self.state self.new) };
+
+    /// Begins a read of the value that a pointer reaches: its own, or the shared value to which a
+    /// reference leads.
     ///
     /// Refused, in this order: `Dropped` with the pointer's own location, where it reaches no
     /// value; `AlreadyBorrowedMut` with the writer's location; `NumbersExhausted`, where no ticket
@@ -156,7 +222,8 @@ pub trait Storage<T>: AnyStorage<T> {
     fn open(&self, guard: &GenerationalRef<T>) -> Option<&T>
         ensures { option_copied result ≡ value_behind (Self.state self.now) guard.now };
 
-    /// Begins a write, which takes the value out of the cell and into the guard.
+    /// Begins a write of the value that a pointer reaches: its own, or the shared value to which a
+    /// reference leads. The value goes out of its cell and into the guard.
     ///
     /// Refused, in this order: `Dropped` with the pointer's own location, where it reaches no
     /// value; `AlreadyBorrowedMut` with the writer's location; `AlreadyBorrowed` with the readers'

@@ -185,8 +185,15 @@ module _ {T : Type 0} {f : Name → Name} {d : ℕ} {Knows : Name → Type 0} {s
   -- each call comes to the same
   pub asked_alike : (x : Call T) → Alike (ask s x) (ask a x)
   asked_alike (call.Leak v l) = both_ask (Action.Make None v l) tt
+  asked_alike (call.LeakRc v l) = both_ask (Action.MakeShared None v l) tt
+  asked_alike (call.LeakReference b) =
+      with_box_alike b None _ _ (λ b k. both_ask (Action.Refer None b) k)
   asked_alike (call.Insert p v l) =
       with_owner_alike p (Some v) _ _ (λ o. both_ask (Action.Make (Some o) v l) tt)
+  asked_alike (call.InsertRc p v l) =
+      with_owner_alike p (Some v) _ _ (λ o. both_ask (Action.MakeShared (Some o) v l) tt)
+  asked_alike (call.InsertReference p b) = with_owner_alike p None _ _
+      (λ o. with_box_alike b None _ _ (λ b k. both_ask (Action.Refer (Some o) b) k))
   asked_alike call.Owner = both_ask NewOwner tt
   asked_alike (call.CloneOwner p) = with_owner_alike p None _ _ (λ o. both_ask (CloneOwner o) tt)
   asked_alike (call.ReleaseOwner p) =
@@ -198,6 +205,8 @@ module _ {T : Type 0} {f : Name → Name} {d : ℕ} {Knows : Name → Type 0} {s
       place_alike (λ h. replace p h v) (λ h. replace p h v) (replaced_alike p v) p
   asked_alike (call.Release p) = place_alike release release released_alike p
   asked_alike (call.ManuallyDrop b) = with_box_alike b None _ _ (λ b k. both_ask (Action.End b) k)
+  asked_alike (call.PointTo a b) = with_box_alike a None _ _
+      (λ a h. with_box_alike b None _ _ (λ b k. both_ask (Action.Point a b) (h, k)))
   asked_alike (call.PtrEq b e) = with_box_alike b None _ _ (λ b k. with_box_alike e None _ _
       (λ e h. both_tell _ _ (ap Yes (same_box_moved f d c.state.apart store b e k h)) refl))
   asked_alike (call.Id b) = with_box_alike b None _ _ (λ b k. both_tell _ _ refl refl)

@@ -203,7 +203,9 @@ module _ {T : Type 0} where
   -- the refusal that a reply tells is that of the answer
   refusal_told : (c : Call T) (e : StoreError) → refusal_in (refusal c e) ≡ want e
   refusal_told (call.Leak v l) e = refl
+  refusal_told (call.LeakRc v l) e = refl
   refusal_told (call.Insert p v l) e = refl
+  refusal_told (call.InsertRc p v l) e = refl
   refusal_told _ e = refl
 
   tell : (c : Call T) (answer : Answer T) → refusal_in (reply_of c answer) ≡ wants answer

@@ -3,13 +3,15 @@ use Rattle.std.proofs.Common.{◌≡◌, ℕ, ◌≤◌, ◌<◌, Bool, true, fa
 use Rattle.std.proofs.Common.{Option, None, Some, refl, sym, ap, subst, ◌∙◌, inl, inr, arith}
 use Rattle.std.proofs.Common.{⊎_elim}
 use Rattle.std.proofs.lemmas.Bool.{true≢false, or_cases, or_right, or_left, eqb-true}
-use Rattle.std.proofs.lemmas.Bool.{false_from_ne_true}
+use Rattle.std.proofs.lemmas.Bool.{false_from_ne_true, eq-eqb}
 use Rattle.std.proofs.lemmas.List.Folds.{list_any-append}
 use Rattle.std.proofs.lemmas.Map.Keys.{IsDistinct-push}
 use Rattle.std.specs.Cmp.{nat_eq_equiv}
 use Rattle.std.specs.List.{list_any, filter, IsDistinct, AllByRecursion}
 use Rattle.std.specs.Ordering.{nat_cmp}
 use Rattle.std.specs.Prelude.{is_some, nat_eq, ◌⊎◌, map as list_map}
+use Rattle.generational_core.specs.Borrowing.{reach}
+use Rattle.generational_core.specs.Boxes.{name_of}
 use Rattle.generational_core.specs.Cells.{Content, Cell, content_of, is_shared, refill}
 use Rattle.generational_core.specs.Cells.Cell.{Shared, Ref}
 use Rattle.generational_core.specs.Cells.Content.{Here}
@@ -20,6 +22,7 @@ use Rattle.generational_core.specs.State.{State, Ownership, IsSound, IsGiven, Is
 use Rattle.generational_core.specs.State.{tickets_of, tickets_at, Owners, content_at}
 use Rattle.generational_core.specs.Steps.{AreNew}
 use Rattle.generational_core.specs.declared.borrow.Borrow.{Borrow}
+use Rattle.generational_core.specs.declared.boxes.GenerationalPointer.{GenerationalPointer}
 use Rattle.generational_core.specs.declared.error.Location.{Location}
 use Rattle.std.specs.FinMap as map
 use Rattle.std.specs.FinSet as set
@@ -395,3 +398,11 @@ module _ {T : Type 0} where
   pub named_shared : (S : State T)
       → IsSound S → (m : Name) → IsNamed S.cells m → is_shared (map.get S.cells m) ≡ true
   named_shared S s m h = s.targets h.0 m h.1 h.2
+
+  -- a box whose cell is a Ref reaches a live Shared cell
+  pub ref_reaches : (S : State T) (b : GenerationalPointer) (m : Name) (l : Location) → IsSound S
+      → b.id.store ≡ S.number → map.get S.cells (name_of b) ≡ Some (Ref m l)
+      → (reach S b ≡ Some m) × (is_shared (map.get S.cells m) ≡ true)
+  unfolding reach
+  ref_reaches S b m l s own is =
+      (rw (eq-eqb b.id.store S.number own, is) refl, s.targets (name_of b) m l is)

@@ -10,7 +10,9 @@ use Rattle.std.specs.FinMap as map
 use Rattle.generational_core.specs.declared.error.StoreError.TheVariants.{UnknownOwner, OutOfMemory}
 use Rattle.generational_core.specs.declared.error.StoreError.TheVariants.{NumbersExhausted}
 use Rattle.generational_core.specs.declared.error.Location.{Location}
-use Rattle.generational_core.specs.Names.{Name}
+use Rattle.generational_core.specs.declared.boxes.GenerationalPointer.{GenerationalPointer}
+use Rattle.generational_core.specs.Names.{Name, is_name}
+use Rattle.generational_core.specs.Boxes.{name_of, has_same_id}
 use Rattle.generational_core.specs.Cells.{Content, content_of, Cell}
 use Rattle.generational_core.specs.State.{State, Ownership, IsSound, content_at}
 use Rattle.generational_core.specs.Conditions.{count_in, one_less, count_under, one_listed}
@@ -20,9 +22,10 @@ use Rattle.generational_core.specs.Ending.{close, hindrance_to}
 use Rattle.generational_core.specs.Machine.{Action, Answer, Fresh, Outcome, OwnerName, act, unless}
 use Rattle.generational_core.specs.Machine.{add_cell, add_to_list, cell_at, is_known, read_at}
 use Rattle.generational_core.specs.Machine.{ownership, clone_owner, release_owner, set_ownership}
-use Rattle.generational_core.specs.Machine.{own_name, write_at, remove_reader}
-use Rattle.generational_core.specs.Machine.Answer.{Owned, Reads, Writes, Done, Flag, Back, Troubled}
-use Rattle.generational_core.specs.Machine.Answer.{Refused}
+use Rattle.generational_core.specs.Machine.{own_name, own_cell, write_at, remove_reader, refer}
+use Rattle.generational_core.specs.Machine.{set_at, turn, point}
+use Rattle.generational_core.specs.Machine.Answer.{Made, Owned, Reads, Writes, Done, Old, Flag}
+use Rattle.generational_core.specs.Machine.Answer.{Back, Troubled, Refused}
 use Rattle.generational_core.specs.Steps.{Meets}
 use Rattle.generational_core.specs.Session.{Held, gives}
 use Rattle.generational_core.specs.SoundSession.{holds_owner}
@@ -52,16 +55,6 @@ module _ {T : Type 0} where
   abbrev pub owners_in : ℕ → Held T → ℕ
   owners_in key x = cond (holds_owner key x) 1 0
 
-  -- sessions ask no other call
-  abbrev pub IsAsked : Action T → Type 0
-  IsAsked (Action.MakeShared o v l) = ⊥
-  IsAsked (Action.Refer o b) = ⊥
-  IsAsked (Action.SetValue b v) = ⊥
-  IsAsked (Action.Point a b) = ⊥
-  IsAsked (Action.CanRead b) = ⊥
-  IsAsked (Action.CanWrite b) = ⊥
-  IsAsked _ = Unit {0}
-
   -- The records count what a call gives, and no more is taken off than it takes. An owner that is
   -- given is of the store.
   pub record Counts (S : State T) (call : Action T) (out : Outcome T) : Type 0 where
@@ -74,6 +67,14 @@ module _ {T : Type 0} where
   abbrev gives_owner : Answer T → Bool
   gives_owner (Owned o) = true
   gives_owner _ = false
+
+  -- a name more in a list changes no count
+  listed_counts : (S : State T) (o : Option OwnerName) (n : Name) (key : ℕ)
+      → count_under (add_to_list S o n).owners key ≡ count_under S.owners key
+  listed_counts S None n key = refl
+  listed_counts S (Some o) n key =
+      ⊎_elim (ap count_in) (λ e. ap count_in e.3 ∙ sym (ap count_in e.2))
+      (changed_view by_number S.owners o.key (one_listed n) key)
 
   module _ {S : State T} {call : Action T} where
     quiet : (R : State T) (answer : Answer T) → gives_owner answer ≡ false → ((key : ℕ)
@@ -106,18 +107,41 @@ module _ {T : Type 0} where
         quiet _ (Writes _ v) refl (λ key. omega arith)
     counts_write l m c = same Done refl
 
+    -- a making changes no count
+    counts_made : (made : State T) (o : Option OwnerName) (n : Name) (b : GenerationalPointer)
+        → made.owners ≡ S.owners → Counts S call (Made b, add_to_list made o n)
+    counts_made made o n b owners = quiet (add_to_list made o n) (Made b) refl
+        (λ key. let e = listed_counts made o n key in
+        let o = ap (λ owners. count_under owners key) owners in omega arith)
+
+    counts_refer : (o : Option OwnerName) (b : GenerationalPointer) (m : Option Name)
+        (c : Option (Cell T)) (n : Name) → Counts S call (refer S o b m c n)
+    counts_refer o b (Some m) (Some (Cell.Shared c l)) n =
+        counts_made (add_cell S n (Cell.Ref m l)) o n _ refl
+    counts_refer o b m c n = same (Troubled (Trouble.Dropped b.created_at)) refl
+
+    counts_set : (b : GenerationalPointer) (v : T) (m : Option Name) (c : Option (Content T))
+        → Counts S call (set_at S b v m c)
+    counts_set b v None c = same (Troubled (Trouble.Dropped b.created_at)) refl
+    counts_set b v (Some m) (Some (Content.Here old [])) =
+        quiet _ (Old old) refl (λ key. omega arith)
+    counts_set b v (Some m) c = same (Back v) refl
+
+    counts_turn : (a old new : Name) (l : Location) → Counts S call (turn S a old new l)
+    counts_turn a old new l = counts_if (is_name old new) (same Done refl)
+        (counts_unless _ (quiet _ Done refl (λ key. omega arith)))
+
+    counts_point : (a b : GenerationalPointer) (c : Option (Cell T)) (m : Option Name)
+        (d : Option (Cell T)) → Counts S call (point S a b c m d)
+    counts_point a b None m d = same (Troubled (Trouble.Dropped a.created_at)) refl
+    counts_point a b (Some (Cell.Ref old l)) (Some new) (Some (Cell.Shared c k)) =
+        counts_turn (name_of a) old new l
+    counts_point a b (Some c) m d = same (Troubled _) refl
+
     counts_unread : (n : Name) (t : ℕ) (c : Option (Content T))
         → Counts S call (Flag true, remove_reader S n t c)
     counts_unread n t (Some (Content.Here v _)) = quiet _ (Flag true) refl (λ key. omega arith)
     counts_unread n t c = same (Flag true) refl
-
-  -- a name more in a list changes no count
-  listed_counts : (S : State T) (o : Option OwnerName) (n : Name) (key : ℕ)
-      → count_under (add_to_list S o n).owners key ≡ count_under S.owners key
-  listed_counts S None n key = refl
-  listed_counts S (Some o) n key =
-      ⊎_elim (ap count_in) (λ e. ap count_in e.3 ∙ sym (ap count_in e.2))
-      (changed_view by_number S.owners o.key (one_listed n) key)
 
   -- nothing stands under the next key
   none_next : (S : State T) → IsSound S → count_under S.owners S.next ≡ 0
@@ -191,33 +215,42 @@ module _ {T : Type 0} where
           record_counts S left (Action.ReleaseOwner o) Done o.key (λ p e. cc) (λ key. omega arith)
           (get-remove_apart by_number S.owners o.key) (omega arith))
 
-  act_counts : (S : State T) (call : Action T) (f : Fresh) → IsSound S → IsAsked call
+  act_counts : (S : State T) (call : Action T) (f : Fresh) → IsSound S
       → Counts S call (act S call f)
-  act_counts S (Action.Make o v l) f sound asked =
-      let made = add_cell S f.first (Cell.Value (Content.Here v []) l) in
-      counts_if (is_known S o) (quiet (add_to_list made o f.first) _ refl
-      (λ key. let e = listed_counts made o f.first key in omega arith)) (same _ refl)
-  act_counts S Action.NewOwner f sound asked = counts_new S f sound
-  act_counts S (Action.CloneOwner o) f sound asked = counts_cloned S o (ownership S o) refl
-  act_counts S (Action.ReleaseOwner o) f sound asked = counts_released S o (ownership S o) refl
-  act_counts S (Action.LeakOwner o) f sound asked = same Done refl
-  act_counts S (Action.Read b l) f sound asked = counts_unless (read_trouble S b)
+  act_counts S (Action.Make o v l) f sound =
+      counts_if (is_known S o) (counts_made _ o f.first _ refl) (same _ refl)
+  act_counts S (Action.MakeShared o v l) f sound =
+      counts_if (is_known S o) (counts_made _ o f.second _ refl) (same _ refl)
+  act_counts S (Action.Refer o b) f sound = counts_if (is_known S o)
+      (counts_unless (read_trouble S b)
+      (counts_refer o b (reach S b) (cell_at S (reach S b)) f.first)) (same _ refl)
+  act_counts S Action.NewOwner f sound = counts_new S f sound
+  act_counts S (Action.CloneOwner o) f sound = counts_cloned S o (ownership S o) refl
+  act_counts S (Action.ReleaseOwner o) f sound = counts_released S o (ownership S o) refl
+  act_counts S (Action.LeakOwner o) f sound = same Done refl
+  act_counts S (Action.Read b l) f sound = counts_unless (read_trouble S b)
       (counts_read l (reach S b) (content_of (cell_at S (reach S b))))
-  act_counts S (Action.Write b l) f sound asked = counts_unless (write_trouble S b)
+  act_counts S (Action.Write b l) f sound = counts_unless (write_trouble S b)
       (counts_write l (reach S b) (content_of (cell_at S (reach S b))))
-  act_counts S (Action.ReleaseReader g) f sound asked = counts_if _
+  act_counts S (Action.ReleaseReader g) f sound = counts_if _
       (counts_unread g.cell g.ticket (content_at S g.cell)) (same (Flag false) refl)
-  act_counts S (Action.ReleaseWriter g v) f sound asked =
+  act_counts S (Action.ReleaseWriter g v) f sound =
       counts_if _ (quiet _ Done refl (λ key. omega arith)) (same (Back v) refl)
-  act_counts S (Action.End b) f sound asked = counts_unless (hindrance_to S (own_name S b))
+  act_counts S (Action.End b) f sound = counts_unless (hindrance_to S (own_name S b))
       (quiet (close S (own_name S b)) Done refl (λ key. omega arith))
-  act_counts S _ f sound asked = absurd asked
+  act_counts S (Action.SetValue b v) f sound =
+      counts_set b v (reach S b) (content_of (cell_at S (reach S b)))
+  act_counts S (Action.Point a b) f sound = counts_if (has_same_id a b) (same Done refl)
+      (counts_unless (read_trouble S b)
+      (counts_point a b (own_cell S a.id) (reach S b) (cell_at S (reach S b))))
+  act_counts S (Action.CanRead b) f sound = same (Flag _) refl
+  act_counts S (Action.CanWrite b) f sound = same (Flag _) refl
 
   -- so does each call of a store, whichever names it takes and whatever memory lacks
   pub meets_counts : (S R : State T) (call : Action T) (answer : Answer T) → IsSound S
-      → IsAsked call → Meets S call answer R → Counts S call (answer, R)
-  meets_counts S R call answer sound asked (inl m) = subst (Counts S call) (sym m.2)
-      (counts_if _ (same (Refused NumbersExhausted) refl) (act_counts S call m.0 sound asked))
-  meets_counts S R call answer sound asked (inr m) =
+      → Meets S call answer R → Counts S call (answer, R)
+  meets_counts S R call answer sound (inl m) = subst (Counts S call) (sym m.2)
+      (counts_if _ (same (Refused NumbersExhausted) refl) (act_counts S call m.0 sound))
+  meets_counts S R call answer sound (inr m) =
       subst (λ (a : Answer T). Counts S call (a, R)) (sym m.1) (quiet R (Refused OutOfMemory) refl
       (λ key. let e = ap (λ (Q : State T). count_under Q.owners key) m.2 in omega arith))

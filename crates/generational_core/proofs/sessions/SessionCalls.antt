@@ -90,6 +90,9 @@ module _ {T : Type 0} where
 
   pub tells_ends : (s r : SessionState T) (c : Call T) (x : SessionReply T)
       → SessionStep s c x r → TellsEnds s c x
+  tells_ends s r (call.LeakReference p) x step b borrows ended =
+      answers_ended s r (call.LeakReference p) x (box_in s p) (λ b. Action.Refer None b) b
+      (λ new. rw (ended_read s.state b ended, unless) refl) borrows step
   tells_ends s r (call.TryRead p l) x step b borrows ended =
       answers_ended s r (call.TryRead p l) x (box_in s p) (λ b. Action.Read b l) b
       (λ new. rw (ended_read s.state b ended, unless) refl) borrows step
@@ -102,7 +105,9 @@ module _ {T : Type 0} where
   made_by : (answer : Answer T) (c : Call T) (b : GenerationalPointer)
       → reply_of c answer ≡ ABox b → answer ≡ Made b
   made_by (refuses e) (call.Leak v l) b h = cc
+  made_by (refuses e) (call.LeakRc v l) b h = cc
   made_by (refuses e) (call.Insert p v l) b h = cc
+  made_by (refuses e) (call.InsertRc p v l) b h = cc
   made_by (Flag f) (call.Release p) b h = cc
   made_by answer c b h = cc
 
@@ -112,7 +117,7 @@ module _ {T : Type 0} where
   session_new s r c x step b is = at (ask s c) (comes_to s c) step
     where
       at : (q : Request T) → ComesTo s c q → Settles s c q x r → IsNewBox s.state r.state b
-      at q (asks action asked empties) step =
+      at q (asks action empties) step =
           let made = made_by step.0 c b (sym (reply_is s r c x action step.0 step refl) ∙ is) in
           let after = ap (λ (out : SessionReply T × SessionState T). out.1.state) step.3 in
           subst (λ (S : State T). IsNewBox s.state S b) (sym after)
@@ -175,7 +180,7 @@ module _ {T : Type 0} where
   keep_boxes s r c x step p b is = at (ask s c) (comes_to s c) step
     where
       at : (q : Request T) → ComesTo s c q → Settles s c q x r → at_place r.table p ≡ Boxed b
-      at q (asks action asked empties) step =
+      at q (asks action empties) step =
           let it = empties step.0 in
           ap (λ (out : SessionReply T × SessionState T). at_place out.1.table p) step.3
           ∙ held_before (spend c step.0 s.table) (gives step.0) p b
@@ -210,6 +215,7 @@ module _ {T : Type 0} where
 
   borrows_kept : (s r : SessionState T) (c : Call T) (x : SessionReply T) → SessionStep s c x r
       → (k : Call T) (b : GenerationalPointer) → Borrows s k b → Borrows r k b
+  borrows_kept s r c x step (call.LeakReference a) b is = box_in_kept s r c x step a b is
   borrows_kept s r c x step (call.TryRead a l) b is = box_in_kept s r c x step a b is
   borrows_kept s r c x step (call.TryWrite a l) b is = box_in_kept s r c x step a b is
   borrows_kept s r c x step k b is = absurd is

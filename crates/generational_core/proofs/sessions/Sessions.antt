@@ -12,14 +12,15 @@ use Rattle.std.proofs.lemmas.Bool.{false_from_ne_true}
 use Rattle.std.proofs.lemmas.List.Sums.{sum_by-cons, sum_by_push}
 use Rattle.generational_core.specs.declared.borrow.Borrow.{Borrow}
 use Rattle.generational_core.specs.declared.boxes.GenerationalPointer.{GenerationalPointer}
+use Rattle.generational_core.specs.declared.error.Location.{Location}
 use Rattle.generational_core.specs.declared.calls.Call.{Call}
 use Rattle.generational_core.specs.declared.calls.Call.TheVariants as call
 use Rattle.generational_core.specs.Names.{Name}
 use Rattle.generational_core.specs.Boxes.{name_of}
-use Rattle.generational_core.specs.Cells.{Content}
+use Rattle.generational_core.specs.Cells.{Content, Cell, is_shared}
 use Rattle.generational_core.specs.State.{State, Ownership, IsSound, tickets_of, content_at}
 use Rattle.generational_core.specs.Conditions.{count_in, count_under, IsBounded, IsEnded, fresh}
-use Rattle.generational_core.specs.Borrowing.{Guard}
+use Rattle.generational_core.specs.Borrowing.{Guard, reach}
 use Rattle.generational_core.specs.Machine.{Action, Answer, OwnerName, is_known, has_reader}
 use Rattle.generational_core.specs.Machine.{has_writer, knows_reader, knows_writer}
 use Rattle.generational_core.specs.Machine.Answer.{Made, Owned, Reads, Writes, Done}
@@ -33,8 +34,8 @@ use Rattle.generational_core.specs.SoundSession.{IsSoundSession, IsOwn, AreOne, 
 use Rattle.generational_core.specs.Answers.{value_at}
 use Rattle.generational_core.specs.Keeping.{AskedSets, IsUndisturbed, Undisturbed}
 use Rattle.generational_core.proofs.machine.Bounding.{meets_bounded, fresh_bounded}
-use Rattle.generational_core.proofs.machine.Soundness.{fresh_sound}
-use Rattle.generational_core.proofs.sessions.OwnerValues.{IsAsked, owners_in, takes, meets_counts}
+use Rattle.generational_core.proofs.machine.Soundness.{fresh_sound, ref_reaches}
+use Rattle.generational_core.proofs.sessions.OwnerValues.{owners_in, takes, meets_counts}
 use Rattle.generational_core.proofs.machine.Stepping.{meets_sound, meets_ended, meets_number, meets_given}
 use Rattle.generational_core.proofs.machine.Stepping.{made_new, reads_known, writes_known, reader_stays}
 use Rattle.generational_core.proofs.machine.Stepping.{writer_stays, ends_reader, ends_writer, meets_value}
@@ -218,13 +219,13 @@ module _ {T : Type 0} where
 
   -- what is left, where a call of the machine takes a thing from a place that holds it
   module _ (s : SessionState T) (action : Action T) (R : State T) (p : ℕ)
-      (kept : IsSoundSession s) (asked : IsAsked action) where
+      (kept : IsSoundSession s) where
     -- what is given is the store's own
     given_own : (a : Answer T) → Meets s.state action a R → IsOwn R (gives a)
     unfolding IsOwn
     given_own (Made b) m = let it = made_new s.state R action b m in
         (it.0 ∙ sym (meets_number s.state R action (Made b) m), it.2)
-    given_own (Owned o) m = (meets_counts s.state R action (Owned o) kept.sound asked m).own o refl
+    given_own (Owned o) m = (meets_counts s.state R action (Owned o) kept.sound m).own o refl
         ∙ sym (meets_number s.state R action (Owned o) m)
     given_own (Reads g) m = (reads_known s.state R action g m).0
     given_own (Writes g v) m = (writes_known s.state R action g v m).0
@@ -272,7 +273,7 @@ module _ {T : Type 0} where
           let emptied = count_changed key s.table p Nothing in
           let takes = ap (owners_in key) there in
           let before = kept.counted key in
-          let by = (meets_counts s.state R action answer kept.sound asked meets).counted key in
+          let by = (meets_counts s.state R action answer kept.sound meets).counted key in
           omega arith
 
       left_kept : IsSoundSession left
@@ -307,7 +308,7 @@ module _ {T : Type 0} where
         → ComesTo s c (Request.Tells x)
     swaps : (p : ℕ) (g : Guard) (v old : T) → at_place s.table p ≡ Writing g old
         → ComesTo s c (Request.Swaps p g v old)
-    asks : (action : Action T) → IsAsked action
+    asks : (action : Action T)
         → ((answer : Answer T) → Empties s c action answer) → ComesTo s c (Request.Asks action)
 
   comes_box : {s : SessionState T} {c : Call T} (o : Option GenerationalPointer) (back : Option T)
@@ -328,8 +329,8 @@ module _ {T : Type 0} where
 
   comes_release : (s : SessionState T) (p : ℕ) (x : Held T) → at_place s.table p ≡ x
       → ComesTo s (call.Release p) (release x)
-  comes_release s p (Reading g) is = asks (Action.ReleaseReader g) tt (λ answer. (p, refl, is))
-  comes_release s p (Writing g v) is = asks (Action.ReleaseWriter g v) tt (λ answer. (p, refl, is))
+  comes_release s p (Reading g) is = asks (Action.ReleaseReader g) (λ answer. (p, refl, is))
+  comes_release s p (Writing g v) is = asks (Action.ReleaseWriter g v) (λ answer. (p, refl, is))
   comes_release s p x is = tells _ (λ b e. cc)
 
   comes_replace : (s : SessionState T) (p : ℕ) (v : T) (x : Held T) → at_place s.table p ≡ x
@@ -339,29 +340,38 @@ module _ {T : Type 0} where
 
   -- what each call comes to
   pub comes_to : (s : SessionState T) (c : Call T) → ComesTo s c (ask s c)
-  comes_to s (call.Leak v l) = asks (Action.Make None v l) tt (λ a. beyond s.table)
+  comes_to s (call.Leak v l) = asks (Action.Make None v l) (λ a. beyond s.table)
+  comes_to s (call.LeakRc v l) = asks (Action.MakeShared None v l) (λ a. beyond s.table)
+  comes_to s (call.LeakReference b) =
+      comes_box (box_in s b) None _ (λ b. asks (Action.Refer None b) (λ a. beyond s.table))
   comes_to s (call.Insert p v l) =
-      comes_owner p (Some v) _ (λ o is. asks (Action.Make (Some o) v l) tt (λ a. beyond s.table))
-  comes_to s call.Owner = asks Action.NewOwner tt (λ a. beyond s.table)
+      comes_owner p (Some v) _ (λ o is. asks (Action.Make (Some o) v l) (λ a. beyond s.table))
+  comes_to s (call.InsertRc p v l) =
+      comes_owner p (Some v) _ (λ o is. asks (Action.MakeShared (Some o) v l) (λ a. beyond s.table))
+  comes_to s (call.InsertReference p b) = comes_owner p None _ (λ o is.
+      comes_box (box_in s b) None _ (λ b. asks (Action.Refer (Some o) b) (λ a. beyond s.table)))
+  comes_to s call.Owner = asks Action.NewOwner (λ a. beyond s.table)
   comes_to s (call.CloneOwner p) =
-      comes_owner p None _ (λ o is. asks (Action.CloneOwner o) tt (λ a. beyond s.table))
+      comes_owner p None _ (λ o is. asks (Action.CloneOwner o) (λ a. beyond s.table))
   comes_to s (call.ReleaseOwner p) =
-      comes_owner p None _ (λ o is. asks (Action.ReleaseOwner o) tt (released o is))
+      comes_owner p None _ (λ o is. asks (Action.ReleaseOwner o) (released o is))
     where
       released : (o : OwnerName) → at_place s.table p ≡ Owning o → (answer : Answer T)
           → Empties s (call.ReleaseOwner p) (Action.ReleaseOwner o) answer
       released o is Done = (p, refl, is)
       released o is answer = beyond s.table
   comes_to s (call.LeakOwner p) =
-      comes_owner p None _ (λ o is. asks (Action.LeakOwner o) tt (λ answer. (p, refl, is)))
+      comes_owner p None _ (λ o is. asks (Action.LeakOwner o) (λ answer. (p, refl, is)))
   comes_to s (call.TryRead b l) =
-      comes_box (box_in s b) None _ (λ b. asks (Action.Read b l) tt (λ a. beyond s.table))
+      comes_box (box_in s b) None _ (λ b. asks (Action.Read b l) (λ a. beyond s.table))
   comes_to s (call.TryWrite b l) =
-      comes_box (box_in s b) None _ (λ b. asks (Action.Write b l) tt (λ a. beyond s.table))
+      comes_box (box_in s b) None _ (λ b. asks (Action.Write b l) (λ a. beyond s.table))
   comes_to s (call.Replace p v) = comes_replace s p v (at_place s.table p) refl
   comes_to s (call.Release p) = comes_release s p (at_place s.table p) refl
   comes_to s (call.ManuallyDrop b) =
-      comes_box (box_in s b) None _ (λ b. asks (Action.End b) tt (λ a. beyond s.table))
+      comes_box (box_in s b) None _ (λ b. asks (Action.End b) (λ a. beyond s.table))
+  comes_to s (call.PointTo a b) = comes_box (box_in s a) None _ (λ x.
+      comes_box (box_in s b) None _ (λ y. asks (Action.Point x y) (λ a. beyond s.table)))
   comes_to s (call.PtrEq a b) = comes_box (box_in s a) None _
       (λ x. comes_box (box_in s b) None _ (λ y. tells _ (λ b e. cc)))
   comes_to s (call.Id b) = comes_box (box_in s b) None _ (λ b. tells _ (λ b e. cc))
@@ -374,12 +384,12 @@ module _ {T : Type 0} where
     session_kept kept step = at (ask s c) (comes_to s c) step
       where
         at : (q : Request T) → ComesTo s c q → Settles s c q x r → IsSoundSession r
-        at q (asks action asked spends) step =
+        at q (asks action spends) step =
             let it = spends step.0 in
             subst (λ (o : SessionReply T × SessionState T). IsSoundSession o.1) (sym step.3)
             (subst (λ table. IsSoundSession (add_place (record { state = step.1; table = table })
             (gives step.0))) (sym it.1)
-            (kept_after s action step.1 it.0 kept asked step.0 step.2 it.2))
+            (kept_after s action step.1 it.0 kept step.0 step.2 it.2))
         at q (tells y no_box) step = subst IsSoundSession (sym step.1) (kept_told s kept)
         at q (swaps p g v old there) step = subst IsSoundSession
             (sym step.1) (kept_told (swap s p g v) (kept_swapped s p g v old kept there))
@@ -445,6 +455,15 @@ module _ {T : Type 0} where
           let counted = kept.counted o.key in
           absurd (omega arith)
       recorded (Some h) e = refl
+
+  -- a box that a place holds, and whose cell is a Ref, reaches a live Shared cell
+  pub held_reaches : (s : SessionState T) (p : ℕ) (b : GenerationalPointer) (m : Name)
+      (l : Location) → IsSoundSession s → at_place s.table p ≡ Boxed b
+      → map.get s.state.cells (name_of b) ≡ Some (Cell.Ref m l)
+      → (reach s.state b ≡ Some m) × (is_shared (map.get s.state.cells m) ≡ true)
+  unfolding IsOwn
+  held_reaches s p b m l kept is =
+      ref_reaches s.state b m l kept.sound (subst (IsOwn s.state) is (kept.own p)).0
 
   -- a session of a fresh store, in which nothing was called
   pub fresh_kept : (number start next : ℕ)
