@@ -69,6 +69,15 @@ module _ {T : Type 0} where
   abbrev pub IsNamed : NameMap (Cell T) → Name → Type 0
   IsNamed cells m = (n : Name) × (l : Location) × (map.get cells n ≡ Some (Ref m l))
 
+  -- each Ref names a Shared cell, and each Shared cell is named
+  abbrev pub HasTargets : NameMap (Cell T) → Type 0
+  HasTargets cells = (n m : Name) (l : Location)
+      → map.get cells n ≡ Some (Ref m l) → is_shared (map.get cells m) ≡ true
+
+  pub record IsLinked (cells : NameMap (Cell T)) : Type 0 where
+    pub targets : HasTargets cells
+    pub named : (m : Name) → is_shared (map.get cells m) ≡ true → IsNamed cells m
+
   -- a slot is made only where none is free
   pub record IsBounded (S : State T) : Type 0 where
     pub few : slots S ≤ S.peak + retired S

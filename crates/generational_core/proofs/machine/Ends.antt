@@ -8,7 +8,7 @@ use Rattle.std.specs.Prelude.{is_some, ◌⊎◌}
 use Rattle.generational_core.specs.Borrowing.{Trouble, write_refusal}
 use Rattle.generational_core.specs.Cells.{Cell, content_of, is_shared}
 use Rattle.generational_core.specs.Cells.Cell.{Value, Shared, Ref}
-use Rattle.generational_core.specs.Conditions.{IsNamed}
+pub use Rattle.generational_core.specs.Conditions.{HasTargets, IsLinked}
 use Rattle.generational_core.specs.Ending.{sweep, take_away, cells_after, hindrance_at}
 use Rattle.generational_core.specs.Ending.{hindrance_of, first_hindrance, hindrance_to}
 use Rattle.generational_core.specs.Names.{Name, among, NameMap}
@@ -64,15 +64,6 @@ module _ {T : Type 0} where
   pub target_of : (m k : Name) (l j : Location)
       → ◌≡◌ {A = Option (Cell T)} (Some (Ref m l)) (Some (Ref k j)) → m ≡ k
   target_of m k l j e = cc
-
-  -- each Ref names a Shared cell, and each Shared cell is named
-  abbrev pub HasTargets : NameMap (Cell T) → Type 0
-  HasTargets cells = (n m : Name) (l : Location)
-      → map.get cells n ≡ Some (Ref m l) → is_shared (map.get cells m) ≡ true
-
-  pub record IsLinked (cells : NameMap (Cell T)) : Type 0 where
-    pub targets : HasTargets cells
-    pub named : (m : Name) → is_shared (map.get cells m) ≡ true → IsNamed cells m
 
   -- where Shared cells stay, and each Ref was there or names a Shared cell
   pub targets_still : (old new : NameMap (Cell T)) → HasTargets old
