@@ -102,7 +102,8 @@ impl fmt::Debug for GenerationalPointer {
 
 /// A box: a name that is copied freely, for any element type.
 ///
-/// A box owns nothing and keeps nothing alive. It is Send where `T` is.
+/// A box owns nothing and keeps nothing alive: a shared value is kept alive by the cells of its
+/// references, and not by the boxes that name them. It is Send where `T` is.
 pub struct GenerationalBox<T> {
     pub(crate) raw: GenerationalPointer,
     marker: PhantomData<T>,
@@ -166,7 +167,8 @@ impl<T> GenerationalBox<T> {
         self.raw == other.raw
     }
 
-    /// The location at which the box's cell was made. Looks at no store, and takes no memory.
+    /// The location at which the box's cell was made; a reference takes that of the shared value
+    /// from which it was made. Looks at no store, and takes no memory.
     pub fn created_at(&self) -> Location
         ensures { result ≡ (pointer_of self.now).created_at }
     {
@@ -209,8 +211,8 @@ impl<T> GenerationalBox<T> {
     /// is the first. Each reference lives until it is ended by hand or by an owner.
     ///
     /// Refused by `OutOfMemory`, only where fewer than two slots are free: the value comes back,
-    /// and the store stays as it was. With two slots free the call takes no memory. However many
-    /// boxes there are, it takes the same time.
+    /// and the store stays as it was. With two slots free the call takes no memory. It is O(1), but
+    /// for finding room.
     ///
     /// Upstream's `leak_rc`.
     #[inline(always)]
@@ -230,14 +232,14 @@ impl<T> GenerationalBox<T> {
     /// Makes one reference more to the shared value that the box reaches. It lives until it is
     /// ended by hand, and keeps the value alive. Its id was never given before.
     ///
-    /// The reference names the shared value itself and takes that value's location. So a reference
-    /// of a reference is no longer a way, and it lives on when the one that it came from ends.
+    /// The reference names the shared value itself and takes that value's location. So chains of
+    /// references are flat, and the new one lives on when the one that it came from ends.
     ///
     /// Refused, in this order: `Dropped` with the box's own creation location, where its cell has
     /// ended or is of another store; `AlreadyBorrowedMut` with the writer's location; `Dropped`
     /// with the box's own creation location, where its value isn't shared; `OutOfMemory`, only
     /// where no slot is free. A refused call leaves the store as it was. With a slot free the call
-    /// takes no memory. However many boxes there are, it takes the same time.
+    /// takes no memory. It is O(1), but for finding room.
     ///
     /// Upstream's `leak_reference`.
     #[inline(always)]
@@ -269,8 +271,8 @@ impl<T> GenerationalBox<T> {
     ///    memory.
     /// 7. Ok: this box leads to the other value from then on.
     ///
-    /// A refused call leaves the store as it was. Nothing else takes memory. However many boxes
-    /// there are, the call takes the same time, but for a list of locations.
+    /// A refused call leaves the store as it was. Nothing else takes memory. The call is O(1), but
+    /// for the list of locations.
     ///
     /// Upstream's `point_to`.
     #[inline(always)]

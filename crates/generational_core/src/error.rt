@@ -184,7 +184,7 @@ impl fmt::Display for AlreadyBorrowedError {
 
 impl Error for AlreadyBorrowedError {}
 
-/// Why a read was refused.
+/// Why a read or a making of a reference was refused.
 #[derive(Clone, Debug, PartialEq, Drop)]
 pub enum BorrowError {
     /// The value is gone.
@@ -300,8 +300,8 @@ pub struct Refusal<T> {
     pub cause: StoreError,
 }
 
-/// What a read answers.
+/// What a read or a making of a reference answers.
 pub type BorrowResult<T> = Result<T, Refused<BorrowError>>;
 
-/// What a write or an end answers.
+/// What a write, an end or a new target of a reference answers.
 pub type BorrowMutResult<T> = Result<T, Refused<BorrowMutError>>;

@@ -67,7 +67,7 @@ pub fn ended_names_stay_ended<T>()
 {}
 
 /// In a sound state, a shared value is live exactly while a live Ref names it, and a box whose cell
-/// is a Ref reaches a live shared value. So it is in every session, for each box that a place holds.
+/// is a Ref reaches a live shared value. So it is in every session, for all boxes of its places.
 pub fn shared_values_live_by_references<T>()
     ensures named { (S : State T) (m : Name) →
         IsSound S → is_shared (map.get S.cells m) ≡ true → IsNamed S.cells m }

@@ -65,8 +65,7 @@ impl Owner {
     ///
     /// Refused, in this order: `UnknownOwner`, where the store has no record of the owner;
     /// `OutOfMemory`, where room for two slots or in the list was refused. The value comes back
-    /// then, and the store stays as it was. However many boxes there are, the call takes the same
-    /// time.
+    /// then, and the store stays as it was. The call is O(1), but for finding room.
     ///
     /// Upstream's `insert_rc_with_caller`: its `insert_rc` takes the caller's location.
     #[inline(always)]
@@ -88,15 +87,15 @@ impl Owner {
     /// value of this record is released, and keeps the value alive until then. Its id was never
     /// given before, and it stands at the end of the record's list.
     ///
-    /// The reference names the shared value itself and takes that value's location. So a reference
-    /// of a reference is no longer a way, and it lives on when the one that it came from ends.
+    /// The reference names the shared value itself and takes that value's location. So chains of
+    /// references are flat, and the new one lives on when the one that it came from ends.
     ///
     /// Refused, in this order: `UnknownOwner`, where the store has no record of the owner;
     /// `Dropped` with the box's own creation location, where its cell has ended or is of another
     /// store; `AlreadyBorrowedMut` with the writer's location; `Dropped` with the box's own
     /// creation location, where its value isn't shared; `OutOfMemory`, where room for a slot or in
-    /// the list was refused. A refused call leaves the store as it was. However many boxes there
-    /// are, the call takes the same time.
+    /// the list was refused. A refused call leaves the store as it was. The call is O(1), but for
+    /// finding room.
     ///
     /// Upstream's `insert_reference`.
     #[inline(always)]
