@@ -8,23 +8,28 @@
 //! leading zeros. B is a line that gave a box, G one that gave a guard, O one that gave an owner,
 //! and N one that gave a guard or an owner.
 //!
-//! | line              | its reply                                           |
-//! |-------------------|-----------------------------------------------------|
-//! | `leak VALUE`      | `box SLOT@GENERATION`                               |
-//! | `owner`           | `owner`                                             |
-//! | `insert O VALUE`  | `box SLOT@GENERATION`, of a box that O's owner ends |
-//! | `clone O`         | `owner`, of the same boxes                          |
-//! | `leak_owner O`    | `ok`, and O's owner is spent, its boxes stay        |
-//! | `try_read B`      | `reader`                                            |
-//! | `try_write B`     | `writer`                                            |
-//! | `replace G VALUE` | `old ` and the value that G's writer had            |
-//! | `show G`          | `value ` and the value that G's guard lends         |
-//! | `release N`       | `ok`, and N's guard or owner is spent               |
-//! | `end B`           | `ok`, and the value of B's box is gone              |
-//! | `ptr_eq B B`      | `true` or `false`: whether both boxes have one id   |
-//! | `id B`            | `SLOT@GENERATION`                                   |
-//! | `created_at B`    | the location of the line that made the value        |
-//! | `stats`           | `slots S free F retired R peak P`, in numbers       |
+//! | line                   | its reply                                                      |
+//! |------------------------|----------------------------------------------------------------|
+//! | `leak VALUE`           | `box SLOT@GENERATION`                                          |
+//! | `leak_rc VALUE`        | the same, of a first reference to a shared value               |
+//! | `leak_reference B`     | the same, of one reference more to B's shared value            |
+//! | `owner`                | `owner`                                                        |
+//! | `insert O VALUE`       | `box SLOT@GENERATION`, of a box that O's owner ends            |
+//! | `insert_rc O VALUE`    | the same, of a first reference to a shared value               |
+//! | `insert_reference O B` | the same, of one reference more to B's shared value            |
+//! | `clone O`              | `owner`, of the same boxes                                     |
+//! | `leak_owner O`         | `ok`, and O's owner is spent, its boxes stay                   |
+//! | `try_read B`           | `reader`                                                       |
+//! | `try_write B`          | `writer`                                                       |
+//! | `replace G VALUE`      | `old ` and the value that G's writer had                       |
+//! | `show G`               | `value ` and the value that G's guard lends                    |
+//! | `release N`            | `ok`, and N's guard or owner is spent                          |
+//! | `end B`                | `ok`, and B's box reaches nothing any more                     |
+//! | `point_to B B`         | `ok`, and the first B's box leads to the second's shared value |
+//! | `ptr_eq B B`           | `true` or `false`: whether both boxes have one id              |
+//! | `id B`                 | `SLOT@GENERATION`                                              |
+//! | `created_at B`         | the location of the line that made the value                   |
+//! | `stats`                | `slots S free F retired R peak P`, in numbers                  |
 //!
 //! Any other line, such as one that is not UTF-8, is answered `bad line`, and a number of a line
 //! that gave no such thing `no such`. A borrow that the store denies is answered `error: ` and its

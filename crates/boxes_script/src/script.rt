@@ -13,8 +13,12 @@ use std::io::Write;
 #[derive(Clone, Copy)]
 enum Command<'a> {
     Leak(&'a str),
+    LeakRc(&'a str),
+    LeakReference(u32),
     Owner,
     Insert(u32, &'a str),
+    InsertRc(u32, &'a str),
+    InsertReference(u32, u32),
     Clone(u32),
     LeakOwner(u32),
     TryRead(u32),
@@ -23,6 +27,7 @@ enum Command<'a> {
     Show(u32),
     Release(u32),
     End(u32),
+    PointTo(u32, u32),
     PtrEq(u32, u32),
     Id(u32),
     CreatedAt(u32),
@@ -164,8 +169,16 @@ impl<S: Storage<String>> Script<S> {
     fn request(&self, command: Command<'_>, location: Location) -> Result<Request, AllocError> {
         Ok(Request::Call(match command {
             Command::Leak(value) => Call::Leak(self.value(value)?, location),
+            Command::LeakRc(value) => Call::LeakRc(self.value(value)?, location),
+            Command::LeakReference(line) => Call::LeakReference(self.box_at(line)),
             Command::Insert(line, value) => {
                 Call::Insert(self.place(line), self.value(value)?, location)
+            }
+            Command::InsertRc(line, value) => {
+                Call::InsertRc(self.place(line), self.value(value)?, location)
+            }
+            Command::InsertReference(owner, line) => {
+                Call::InsertReference(self.place(owner), self.box_at(line))
             }
             Command::Owner => Call::Owner,
             Command::Clone(line) => Call::CloneOwner(self.place(line)),
@@ -176,6 +189,7 @@ impl<S: Storage<String>> Script<S> {
             Command::Show(line) => return Ok(Request::View(self.place(line))),
             Command::Release(line) => self.release(line),
             Command::End(line) => Call::ManuallyDrop(self.box_at(line)),
+            Command::PointTo(from, to) => Call::PointTo(self.box_at(from), self.box_at(to)),
             Command::PtrEq(one, other) => Call::PtrEq(self.box_at(one), self.box_at(other)),
             Command::Id(line) => Call::Id(self.box_at(line)),
             Command::CreatedAt(line) => Call::CreatedAt(self.box_at(line)),
@@ -271,25 +285,43 @@ fn parse_word(word: &str) -> Option<Command<'_>> {
 fn parse_words<'a>(word: &str, rest: &'a str) -> Option<Command<'a>> {
     match word {
         "leak" => Some(Command::Leak(rest)),
-        "insert" => {
+        "leak_rc" => Some(Command::LeakRc(rest)),
+        "insert" | "insert_rc" | "replace" => {
             let (line, value) = line_and_value(rest)?;
-            Some(Command::Insert(line, value))
+            of_value(word, line, value)
         }
-        "replace" => {
-            let (line, value) = line_and_value(rest)?;
-            Some(Command::Replace(line, value))
-        }
-        "ptr_eq" => {
-            let (one, other) = rest.split_once(' ')?;
-            Some(Command::PtrEq(line_number(one)?, line_number(other)?))
+        "insert_reference" | "point_to" | "ptr_eq" => {
+            let (one, other) = two_lines(rest)?;
+            of_lines(word, one, other)
         }
         _ => of_line(word, line_number(rest)?),
+    }
+}
+
+// The command of a word, the number of a line and a value.
+fn of_value<'a>(word: &str, line: u32, value: &'a str) -> Option<Command<'a>> {
+    match word {
+        "insert" => Some(Command::Insert(line, value)),
+        "insert_rc" => Some(Command::InsertRc(line, value)),
+        "replace" => Some(Command::Replace(line, value)),
+        _ => None,
+    }
+}
+
+// The command of a word and the numbers of two lines.
+fn of_lines<'a>(word: &str, one: u32, other: u32) -> Option<Command<'a>> {
+    match word {
+        "insert_reference" => Some(Command::InsertReference(one, other)),
+        "point_to" => Some(Command::PointTo(one, other)),
+        "ptr_eq" => Some(Command::PtrEq(one, other)),
+        _ => None,
     }
 }
 
 // The command of a word and the number of a line.
 fn of_line<'a>(word: &str, line: u32) -> Option<Command<'a>> {
     match word {
+        "leak_reference" => Some(Command::LeakReference(line)),
         "clone" => Some(Command::Clone(line)),
         "leak_owner" => Some(Command::LeakOwner(line)),
         "try_read" => Some(Command::TryRead(line)),
@@ -307,6 +339,12 @@ fn of_line<'a>(word: &str, line: u32) -> Option<Command<'a>> {
 fn line_and_value(rest: &str) -> Option<(u32, &str)> {
     let (line, value) = rest.split_once(' ')?;
     Some((line_number(line)?, value))
+}
+
+// The numbers of two lines.
+fn two_lines(rest: &str) -> Option<(u32, u32)> {
+    let (one, other) = rest.split_once(' ')?;
+    Some((line_number(one)?, line_number(other)?))
 }
 
 /// Writes the reply to a call, as a script does.
