@@ -5,6 +5,7 @@ use crate::expected::{
     begin_write, end, insert, leak, made, made_later, new_owner, recycle, release, written,
 };
 use crate::sessions::call;
+use crate::sharing::{insert_rc, insert_reference, leak_rc, leak_reference, point};
 use generational_box::{
     BoxAt, Call, GenerationalRefMut, Numbers, Owner, Session, Storage, Store, UnsyncStorage,
 };
@@ -119,7 +120,49 @@ fn a_replaced_value(rt: HostRuntime) {
     writes(&rt, rt.alloc(), &mut store);
 }
 
-// What is live, what is read and what is leaked by its owner goes with the store.
+fn shares<S: Storage<Counted>>(rt: &impl Abort, alloc: Global, store: &mut S) {
+    let value = counted(rt, alloc);
+    let owner = new_owner(rt, store);
+    let first = insert_rc(rt, store, &owner, another(rt, &value), made());
+    let second = leak_reference(rt, store, first);
+    insert_reference(rt, store, &owner, second);
+    assert_count(rt, &value, 2);
+    end(rt, store, first);
+    assert_count(rt, &value, 2);
+    release(rt, store, owner);
+    assert_count(rt, &value, 2);
+    end(rt, store, second);
+    assert_count(rt, &value, 1);
+}
+
+// It is let go once, with the last reference to it.
+#[test]
+fn a_shared_value(rt: HostRuntime) {
+    let mut store: UnsyncStorage<Counted> = Store::new(rt.alloc(), 7);
+    shares(&rt, rt.alloc(), &mut store);
+}
+
+fn turns<S: Storage<Counted>>(rt: &impl Abort, alloc: Global, store: &mut S) {
+    let old = counted(rt, alloc);
+    let new = counted(rt, alloc);
+    let reference = leak_rc(rt, store, another(rt, &old), made());
+    let other = leak_rc(rt, store, another(rt, &new), made_later());
+    point(rt, store, reference, other);
+    assert_count(rt, &old, 1);
+    end(rt, store, other);
+    assert_count(rt, &new, 2);
+    end(rt, store, reference);
+    assert_count(rt, &new, 1);
+}
+
+// A reference that is pointed elsewhere lets the value go to which it was the last.
+#[test]
+fn a_value_that_was_pointed_away_from(rt: HostRuntime) {
+    let mut store: UnsyncStorage<Counted> = Store::new(rt.alloc(), 7);
+    turns(&rt, rt.alloc(), &mut store);
+}
+
+// What is live, what is shared and what is leaked by its owner goes with the store.
 #[test]
 fn values_of_a_store(rt: HostRuntime) {
     let alloc = rt.alloc();
@@ -130,7 +173,9 @@ fn values_of_a_store(rt: HostRuntime) {
         let owner = new_owner(&rt, &mut store);
         insert(&rt, &mut store, &owner, another(&rt, &value), made());
         owner.leak();
-        assert_count(&rt, &value, 3);
+        let shared = leak_rc(&rt, &mut store, another(&rt, &value), made());
+        leak_reference(&rt, &mut store, shared);
+        assert_count(&rt, &value, 4);
     }
     assert_count(&rt, &value, 1);
 }

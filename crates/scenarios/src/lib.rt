@@ -19,11 +19,15 @@ mod example;
 #[cfg(test)]
 mod expected;
 #[cfg(test)]
+mod freed;
+#[cfg(test)]
 mod growth;
 #[cfg(test)]
 mod ids;
 #[cfg(test)]
 mod lists;
+#[cfg(test)]
+mod living;
 #[cfg(test)]
 mod memory;
 #[cfg(test)]
@@ -37,13 +41,23 @@ mod owners;
 #[cfg(test)]
 mod plenty;
 #[cfg(test)]
+mod pointing;
+#[cfg(test)]
 mod reading;
 #[cfg(test)]
+mod references;
+#[cfg(test)]
 mod runs;
+#[cfg(test)]
+mod scarcity;
 #[cfg(test)]
 mod scripts;
 #[cfg(test)]
 mod sessions;
+#[cfg(test)]
+mod shared;
+#[cfg(test)]
+mod sharing;
 #[cfg(test)]
 mod strangers;
 #[cfg(test)]
@@ -52,6 +66,8 @@ mod streams;
 mod tables;
 #[cfg(test)]
 mod texts;
+#[cfg(test)]
+mod turning;
 #[cfg(test)]
 mod values;
 #[cfg(test)]

@@ -32,7 +32,7 @@ fn leak_or_again<S: Storage<u32>>(
 }
 
 /// Begins a read beside another, the second time at the latest.
-fn begin_or_again<S: Storage<u32>>(
+pub(crate) fn begin_or_again<S: Storage<u32>>(
     rt: &impl Abort,
     store: &mut S,
     asked: GenerationalBox<u32>,
@@ -45,7 +45,7 @@ fn begin_or_again<S: Storage<u32>>(
 }
 
 /// Makes an owner, the second time at the latest. Want of memory leaves the store as it was.
-fn owner_or_again<S: AnyStorage<u32>>(rt: &impl Abort, store: &mut S) -> Owner {
+pub(crate) fn owner_or_again<S: AnyStorage<u32>>(rt: &impl Abort, store: &mut S) -> Owner {
     let before = (store.is_fresh(), counts_of(store));
     match store.owner() {
         Ok(given) => given,
@@ -103,7 +103,11 @@ fn assert_kept_by<S: AnyStorage<u32>>(
 }
 
 /// The refusal of an end with these readers.
-fn readers(rt: &impl Abort, alloc: Global, began: &[Location]) -> Refused<BorrowMutError> {
+pub(crate) fn readers(
+    rt: &impl Abort,
+    alloc: Global,
+    began: &[Location],
+) -> Refused<BorrowMutError> {
     let began = match began.to_vec(alloc) {
         Ok(began) => began,
         Err(_) => began.to_vec(alloc).expect(rt, "memory"),

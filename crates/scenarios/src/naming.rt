@@ -80,8 +80,11 @@ impl<S: Storage<String>> Strangers<S> {
         let place = place(name);
         Ok(match word {
             "leak" => Call::Leak(String::from_str(self.alloc, rest)?, location),
+            "leak_rc" => Call::LeakRc(String::from_str(self.alloc, rest)?, location),
             "owner" => Call::Owner,
             "insert" => Call::Insert(place, String::from_str(self.alloc, value)?, location),
+            "insert_rc" => Call::InsertRc(place, String::from_str(self.alloc, value)?, location),
+            "insert_reference" => Call::InsertReference(place, self.named(value)),
             "replace" => Call::Replace(place, String::from_str(self.alloc, value)?),
             "clone" => Call::CloneOwner(place),
             "leak_owner" => Call::LeakOwner(place),
@@ -102,7 +105,9 @@ impl<S: Storage<String>> Strangers<S> {
         match word {
             "try_read" => Call::TryRead(asked, location),
             "try_write" => Call::TryWrite(asked, location),
+            "leak_reference" => Call::LeakReference(asked),
             "end" => Call::ManuallyDrop(asked),
+            "point_to" => Call::PointTo(asked, self.named(other)),
             "id" => Call::Id(asked),
             "slot" => Call::RawPtr(asked),
             "created_at" => Call::CreatedAt(asked),

@@ -5,6 +5,7 @@ use crate::expected::{
     written,
 };
 use crate::sessions::call;
+use crate::sharing::{insert_rc, insert_reference, leak_rc, leak_reference, point};
 use generational_box::{BoxAt, Call, Reply, Session, Storage, Store, UnsyncStorage};
 use std::alloc::{AllocError, Global};
 use std::process::Abort;
@@ -36,6 +37,28 @@ fn slots_and_owners(rt: HostRuntime) {
     owners_of_a_store(&rt, &mut store);
 }
 
+fn shared_values_of_a_store<S: Storage<u32>>(rt: &impl Abort, store: &mut S) {
+    let owner = new_owner(rt, store);
+    let first = insert_rc(rt, store, &owner, 0, made());
+    for value in 1..2_000 {
+        let listed = insert_rc(rt, store, &owner, value, made_later());
+        let other = insert_reference(rt, store, &owner, listed);
+        assert_reads(rt, store, other, value);
+        let leaked = leak_rc(rt, store, value, made());
+        let reference = leak_reference(rt, store, leaked);
+        point(rt, store, reference, first);
+        assert_reads(rt, store, reference, 0);
+    }
+    release(rt, store, owner);
+    assert_unread(rt, store, first, dropped(made()));
+}
+
+#[test]
+fn shared_values_and_references(rt: HostRuntime) {
+    let mut store: UnsyncStorage<u32> = Store::new(rt.alloc(), 7);
+    shared_values_of_a_store(&rt, &mut store);
+}
+
 /// Makes boxes by the owner at place 0.
 fn inserts<S: Storage<u32>>(rt: &impl Abort, session: &mut Session<u32, S>, count: u32) {
     for value in 0..count {
@@ -49,6 +72,24 @@ fn leaks<S: Storage<u32>>(rt: &impl Abort, session: &mut Session<u32, S>, count:
     for value in 0..count {
         let reply = call(rt, session, Call::Leak(value, made()));
         assert!(rt; matches!(&reply, Reply::Box(_)), "at {value}");
+    }
+}
+
+/// Asserts that a call gives a box.
+fn assert_boxed<S: Storage<u32>>(rt: &impl Abort, session: &mut Session<u32, S>, asked: Call<u32>) {
+    let reply = call(rt, session, asked);
+    assert!(rt; matches!(&reply, Reply::Box(_)));
+}
+
+/// Shares values with the owner at place 0, and with nobody. The first value has place 1.
+fn shares<S: Storage<u32>>(rt: &impl Abort, session: &mut Session<u32, S>, count: u32) {
+    for value in 0..count {
+        assert_boxed(rt, session, Call::InsertRc(0, value, made()));
+        assert_boxed(rt, session, Call::InsertReference(0, BoxAt::Place(1)));
+        assert_boxed(rt, session, Call::LeakRc(value, made()));
+        assert_boxed(rt, session, Call::LeakReference(BoxAt::Place(1)));
+        let reply = call(rt, session, Call::PointTo(BoxAt::Place(3), BoxAt::Place(1)));
+        assert!(rt; matches!(&reply, Reply::Done), "at {value}");
     }
 }
 
@@ -113,5 +154,23 @@ fn places_and_readers(rt: HostRuntime) {
     let store: UnsyncStorage<u32> = Store::new(rt.alloc(), 7);
     let mut session = Session::new(rt.alloc(), store);
     calls_of_a_session(&rt, rt.alloc(), &mut session);
+    let _store = session.finish();
+}
+
+fn shared_values_of_a_session<S: Storage<u32>>(rt: &impl Abort, session: &mut Session<u32, S>) {
+    let reply = call(rt, session, Call::Owner);
+    assert!(rt; matches!(&reply, Reply::Owner));
+    shares(rt, session, 2_000);
+    reads(rt, session, 100);
+    let reply = call(rt, session, Call::ReleaseOwner(0));
+    assert!(rt; matches!(&reply, Reply::Done));
+}
+
+// Two thousand shared values of an owner, as many of nobody, and six thousand references.
+#[test]
+fn places_and_references(rt: HostRuntime) {
+    let store: UnsyncStorage<u32> = Store::new(rt.alloc(), 7);
+    let mut session = Session::new(rt.alloc(), store);
+    shared_values_of_a_session(&rt, &mut session);
     let _store = session.finish();
 }

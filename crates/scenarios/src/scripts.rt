@@ -240,6 +240,67 @@ fn lines_are_named_and_not_places(rt: HostRuntime) {
     );
 }
 
+#[test]
+fn values_are_shared(rt: HostRuntime) {
+    assert_replies(
+        &rt,
+        rt.alloc(),
+        &[
+            ("owner", "owner"),
+            ("insert_rc 1 hello world", "box 1@1"),
+            ("leak_reference 2", "box 2@1"),
+            ("insert_reference 1 3", "box 3@1"),
+            ("leak_rc  b", "box 5@1"),
+            ("point_to 4 5", "ok"),
+            ("try_read 4", "reader"),
+            ("show 7", "value  b"),
+            ("release 1", "ok"),
+            ("try_read 2", "dropped: script:2:1"),
+            ("try_read 3", "reader"),
+            ("show 11", "value hello world"),
+            ("show 7", "value  b"),
+            ("end 3", "read:\tscript:11:1"),
+            ("created_at 3", "script:2:1"),
+            ("stats", "slots 6 free 2 retired 0 peak 6"),
+        ],
+    );
+}
+
+#[test]
+fn lines_about_shared_values_that_are_bad(rt: HostRuntime) {
+    assert_replies(
+        &rt,
+        rt.alloc(),
+        &[
+            ("leak_rc", "bad line"),
+            ("leak_rc ", "box 1@1"),
+            ("owner", "owner"),
+            ("insert_rc 3", "bad line"),
+            ("insert_rc a b", "bad line"),
+            ("insert_rc 3 ", "box 3@1"),
+            ("insert_rc 2 b", "no such"),
+            ("insert_reference 3", "bad line"),
+            ("insert_reference 3 ", "bad line"),
+            ("insert_reference 3 2 2", "bad line"),
+            ("insert_reference 2 3", "no such"),
+            ("insert_reference 3 3", "no such"),
+            ("leak_reference", "bad line"),
+            ("leak_reference ", "bad line"),
+            ("leak_reference 02", "bad line"),
+            ("leak_reference 3", "no such"),
+            ("leak_reference 2 2", "bad line"),
+            ("point_to 2", "bad line"),
+            ("point_to 2 ", "bad line"),
+            ("point_to 2 6 6", "bad line"),
+            ("point_to 2 +6", "bad line"),
+            ("point_to 2 3", "no such"),
+            ("point_to 99 2", "no such"),
+            ("leak_rcx", "bad line"),
+            ("point_to 2 6", "ok"),
+        ],
+    );
+}
+
 // What the tests' own dialect adds is no command of the program.
 #[test]
 fn lines_of_the_dialect_are_bad(rt: HostRuntime) {

@@ -1,8 +1,13 @@
 //! Boxes, guards and owners of one store that are handed to another.
 
 use crate::expected::{
-    assert_kept, assert_opens, assert_released, assert_shows, assert_stays, assert_unread, begin,
-    borrowed, counts_of, dropped, end, insert, leak, made, made_later, new_owner, read, release,
+    assert_kept, assert_opens, assert_reads, assert_released, assert_shows, assert_stays,
+    assert_unread, begin, borrowed, counts_of, dropped, end, insert, leak, made, made_later,
+    new_owner, read, release,
+};
+use crate::sharing::{
+    assert_not_listed, assert_unshared, assert_unturned, gone, insert_rc, leak_rc, leak_reference,
+    point,
 };
 use generational_box::{
     AnyStorage, GenerationalBox, Owner, Refused, Storage, Store, StoreError, UnsyncStorage,
@@ -131,4 +136,71 @@ fn an_owner_of_another_store_is_unknown(rt: HostRuntime) {
     let mut seven: UnsyncStorage<u32> = Store::new(rt.alloc(), 7);
     let mut eight: UnsyncStorage<u32> = Store::new(rt.alloc(), 8);
     owners_of_two(&rt, &mut seven, &mut eight);
+}
+
+fn references_of_two<S: Storage<u32>>(rt: &impl Abort, seven: &mut S, eight: &mut S) {
+    let owner = new_owner(rt, seven);
+    let own = insert_rc(rt, seven, &owner, 70, made());
+    let foreign = leak_rc(rt, eight, 80, made_later());
+    let before = counts_of(seven);
+    assert_unshared(rt, seven, foreign, dropped(made_later()));
+    assert_not_listed(rt, seven, &owner, foreign, dropped(made_later()));
+    assert_unturned(rt, seven, own, foreign, gone(made_later()));
+    assert_unturned(rt, seven, foreign, own, gone(made_later()));
+    point(rt, seven, foreign, foreign);
+    assert_eq!(rt; counts_of(seven), before);
+    assert_reads(rt, seven, own, 70);
+    release(rt, seven, owner);
+    assert_eq!(rt; seven.free(), 2);
+}
+
+// A box of another store gives no reference, is led to by none, and leads nowhere: its own location
+// is told.
+#[test]
+fn boxes_of_another_store_are_not_shared(rt: HostRuntime) {
+    let mut seven: UnsyncStorage<u32> = Store::new(rt.alloc(), 7);
+    let mut eight: UnsyncStorage<u32> = Store::new(rt.alloc(), 8);
+    references_of_two(&rt, &mut seven, &mut eight);
+}
+
+/// Asserts that a store makes no shared value by an owner, and hands the value back.
+fn assert_not_shared<S: Storage<u32>>(rt: &impl Abort, store: &mut S, owner: &Owner) {
+    match owner.insert_rc(store, 9, made()) {
+        Ok(_) => assert!(rt; false, "the box was made"),
+        Err(refusal) => {
+            assert_eq!(rt;
+                (refusal.value, refusal.cause),
+                (9, StoreError::UnknownOwner)
+            );
+        }
+    }
+}
+
+fn sharing_owners_of_two<S: Storage<u32>>(rt: &impl Abort, seven: &mut S, eight: &mut S) {
+    let own = new_owner(rt, seven);
+    let shared = insert_rc(rt, seven, &own, 1, made());
+    let owner = new_owner(rt, eight);
+    let foreign = insert_rc(rt, eight, &owner, 8, made_later());
+    let before = counts_of(seven);
+
+    assert_not_shared(rt, seven, &owner);
+    let unknown = Refused::Store(StoreError::UnknownOwner);
+    assert_not_listed(rt, seven, &owner, shared, unknown);
+    let unknown = Refused::Store(StoreError::UnknownOwner);
+    assert_not_listed(rt, seven, &owner, foreign, unknown);
+    assert_eq!(rt; counts_of(seven), before);
+
+    let other = leak_reference(rt, eight, foreign);
+    release(rt, eight, owner);
+    assert_reads(rt, eight, other, 8);
+    release(rt, seven, own);
+    assert_eq!(rt; (seven.slots(), seven.free()), (2, 2));
+}
+
+// An owner of another store shares nothing, which is told before anything about the box.
+#[test]
+fn an_owner_of_another_store_shares_nothing(rt: HostRuntime) {
+    let mut seven: UnsyncStorage<u32> = Store::new(rt.alloc(), 7);
+    let mut eight: UnsyncStorage<u32> = Store::new(rt.alloc(), 8);
+    sharing_owners_of_two(&rt, &mut seven, &mut eight);
 }

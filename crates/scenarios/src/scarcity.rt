@@ -1,0 +1,235 @@
+//! Want of memory where values are shared. Each test passes whichever one allocation is refused,
+//! and what may lack memory is tried a second time.
+
+use crate::expected::{
+    assert_reads, assert_released, assert_unread, begin, counts_of, dropped, end, leak, made,
+    made_later, release,
+};
+use crate::memory::{begin_or_again, owner_or_again, readers};
+use crate::sharing::{insert_rc, insert_reference, leak_rc, leak_reference, point};
+use generational_box::{
+    BoxAt, Call, GenerationalBox, Location, Owner, Refused, Reply, Session, Storage, Store,
+    StoreError, UnsyncStorage,
+};
+use std::alloc::Global;
+use std::process::Abort;
+
+/// Makes a shared value, the second time at the latest. A making that lacks memory hands the value
+/// back and changes no count, and an own value is made after it.
+fn leak_rc_or_again<S: Storage<u32>>(
+    rt: &impl Abort,
+    store: &mut S,
+    value: u32,
+) -> GenerationalBox<u32> {
+    let before = counts_of(store);
+    match GenerationalBox::leak_rc(store, value, made()) {
+        Ok(given) => given,
+        Err(refusal) => {
+            assert_eq!(rt;
+                (refusal.value, refusal.cause),
+                (value, StoreError::OutOfMemory)
+            );
+            assert_eq!(rt; counts_of(store), before);
+            leak(rt, store, value, made());
+            leak_rc(rt, store, value, made())
+        }
+    }
+}
+
+/// Makes a reference, the second time at the latest. One that lacks memory changes no count.
+fn leak_reference_or_again<S: Storage<u32>>(
+    rt: &impl Abort,
+    store: &mut S,
+    shared: GenerationalBox<u32>,
+) -> GenerationalBox<u32> {
+    let before = counts_of(store);
+    match shared.leak_reference(store) {
+        Err(Refused::Store(StoreError::OutOfMemory)) => {
+            assert_eq!(rt; counts_of(store), before);
+            leak_reference(rt, store, shared)
+        }
+        answer => answer.expect(rt, "a box"),
+    }
+}
+
+/// Makes a shared value by an owner, the second time at the latest. A making that lacks memory
+/// hands the value back, and changes no count.
+fn insert_rc_or_again<S: Storage<u32>>(
+    rt: &impl Abort,
+    store: &mut S,
+    owner: &Owner,
+    value: u32,
+) -> GenerationalBox<u32> {
+    let before = counts_of(store);
+    match owner.insert_rc(store, value, made()) {
+        Ok(given) => given,
+        Err(refusal) => {
+            assert_eq!(rt;
+                (refusal.value, refusal.cause),
+                (value, StoreError::OutOfMemory)
+            );
+            assert_eq!(rt; counts_of(store), before);
+            insert_rc(rt, store, owner, value, made())
+        }
+    }
+}
+
+/// Makes a reference by an owner, the second time at the latest. One that lacks memory changes no
+/// count.
+fn insert_reference_or_again<S: Storage<u32>>(
+    rt: &impl Abort,
+    store: &mut S,
+    owner: &Owner,
+    shared: GenerationalBox<u32>,
+) -> GenerationalBox<u32> {
+    let before = counts_of(store);
+    match owner.insert_reference(store, shared) {
+        Err(Refused::Store(StoreError::OutOfMemory)) => {
+            assert_eq!(rt; counts_of(store), before);
+            insert_reference(rt, store, owner, shared)
+        }
+        answer => answer.expect(rt, "a box"),
+    }
+}
+
+/// Asserts that a box isn't pointed at another while these readers stand.
+fn assert_held<S: Storage<u32>>(
+    rt: &impl Abort,
+    alloc: Global,
+    store: &mut S,
+    [from, to]: [GenerationalBox<u32>; 2],
+    began: &[Location],
+) {
+    let refusal = match from.point_to(store, to) {
+        Err(Refused::Store(StoreError::OutOfMemory)) => from.point_to(store, to),
+        answer => answer,
+    };
+    assert_eq!(rt; refusal, Err(readers(rt, alloc, began)));
+}
+
+fn shared_values<S: Storage<u32>>(rt: &impl Abort, store: &mut S) {
+    for value in 0..9 {
+        let shared = leak_rc_or_again(rt, store, value);
+        assert_reads(rt, store, shared, value);
+        end(rt, store, shared);
+        assert_unread(rt, store, shared, dropped(made()));
+        leak_rc(rt, store, value, made());
+    }
+}
+
+// Only a making with fewer than two slots free may lack memory.
+#[test]
+fn for_two_new_slots(rt: HostRuntime) {
+    let mut store: UnsyncStorage<u32> = Store::new(rt.alloc(), 7);
+    shared_values(&rt, &mut store);
+}
+
+fn values_beside_one_free_slot<S: Storage<u32>>(rt: &impl Abort, store: &mut S) {
+    let mut earlier = leak_rc_or_again(rt, store, 0);
+    for value in 1..9 {
+        let kept = leak_reference_or_again(rt, store, earlier);
+        end(rt, store, earlier);
+        earlier = leak_rc_or_again(rt, store, value);
+        assert_reads(rt, store, earlier, value);
+        assert_reads(rt, store, kept, value - 1);
+    }
+}
+
+// A making that finds one slot free leaves it free where it lacks memory for the other.
+#[test]
+fn for_one_new_slot_beside_a_free_one(rt: HostRuntime) {
+    let mut store: UnsyncStorage<u32> = Store::new(rt.alloc(), 7);
+    values_beside_one_free_slot(&rt, &mut store);
+}
+
+fn references<S: Storage<u32>>(rt: &impl Abort, store: &mut S) {
+    let shared = leak_rc_or_again(rt, store, 5);
+    for _ in 0..9 {
+        let reference = leak_reference_or_again(rt, store, shared);
+        assert_reads(rt, store, reference, 5);
+        end(rt, store, reference);
+        leak_reference(rt, store, shared);
+    }
+}
+
+// A reference lacks memory only where no slot is free.
+#[test]
+fn for_a_reference(rt: HostRuntime) {
+    let mut store: UnsyncStorage<u32> = Store::new(rt.alloc(), 7);
+    references(&rt, &mut store);
+}
+
+fn names_of_an_owner<S: Storage<u32>>(rt: &impl Abort, store: &mut S) {
+    let owner = owner_or_again(rt, store);
+    for value in 0..9 {
+        let shared = insert_rc_or_again(rt, store, &owner, value);
+        let reference = insert_reference_or_again(rt, store, &owner, shared);
+        end(rt, store, shared);
+        assert_reads(rt, store, reference, value);
+    }
+    release(rt, store, owner);
+    assert_eq!(rt; (store.slots(), store.free()), (19, 19));
+}
+
+// An owner's makings may lack memory for slots and for the owner's list. What is refused leaves no
+// name in the list.
+#[test]
+fn for_the_references_of_an_owner(rt: HostRuntime) {
+    let mut store: UnsyncStorage<u32> = Store::new(rt.alloc(), 7);
+    names_of_an_owner(&rt, &mut store);
+}
+
+fn readers_of_the_old_value<S: Storage<u32>>(rt: &impl Abort, alloc: Global, store: &mut S) {
+    let reference = leak_rc_or_again(rt, store, 5);
+    let other = leak_rc_or_again(rt, store, 6);
+    let first = begin(rt, store, reference, made());
+    let second = begin_or_again(rt, store, reference, made_later());
+    let began = [made(), made_later()];
+    assert_held(rt, alloc, store, [reference, other], &began);
+    assert_reads(rt, store, reference, 5);
+    assert_released(rt, store, first, true);
+    assert_released(rt, store, second, true);
+    point(rt, store, reference, other);
+    assert_reads(rt, store, reference, 6);
+}
+
+// To point a reference elsewhere takes memory only to tell of readers, and what lacks it leaves the
+// reference where it was.
+#[test]
+fn for_the_readers_of_an_old_value(rt: HostRuntime) {
+    let mut store: UnsyncStorage<u32> = Store::new(rt.alloc(), 7);
+    readers_of_the_old_value(&rt, rt.alloc(), &mut store);
+}
+
+/// Makes a shared value by a call. Where memory lacks, the call or its value comes back.
+fn assert_shared<S: Storage<u32>>(rt: &impl Abort, session: &mut Session<u32, S>) {
+    match session.call(Call::LeakRc(6, made())) {
+        Ok(Reply::Box(_) | Reply::Back(6, StoreError::OutOfMemory)) | Err(Call::LeakRc(6, _)) => {}
+        _ => assert!(rt; false, "another reply"),
+    }
+}
+
+/// Makes a reference by a call. Where memory lacks, the call comes back, or is refused.
+fn assert_referred<S: Storage<u32>>(rt: &impl Abort, session: &mut Session<u32, S>) {
+    match session.call(Call::LeakReference(BoxAt::Place(0))) {
+        Ok(Reply::Box(_) | Reply::NoSuch(None)) | Err(Call::LeakReference(BoxAt::Place(0))) => {}
+        Ok(Reply::Store(StoreError::OutOfMemory)) => {}
+        _ => assert!(rt; false, "another reply"),
+    }
+}
+
+fn calls<S: Storage<u32>>(rt: &impl Abort, session: &mut Session<u32, S>) {
+    for _ in 0..9 {
+        assert_shared(rt, session);
+        assert_referred(rt, session);
+    }
+}
+
+// A session hands back what finds no place, and answers what finds no slot.
+#[test]
+fn for_the_calls_of_a_session(rt: HostRuntime) {
+    let store: UnsyncStorage<u32> = Store::new(rt.alloc(), 7);
+    let mut session = Session::new(rt.alloc(), store);
+    calls(&rt, &mut session);
+    session.finish();
+}
