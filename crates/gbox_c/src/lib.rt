@@ -5,15 +5,15 @@
 //! store that does the same work. Each workload has an export for `u64` and one for `String`; they
 //! are described in `docs/PERFORMANCE.md` at the repository's root.
 //!
-//! An export answers 1 where memory was refused, and 0 for a workload that isn't there yet.
+//! An export answers 1 where memory was refused.
 #![tactic(auto)]
 
 #[cfg(test)]
 mod tests;
 
-ghost use Rattle.std.specs.Prelude.{◌≡◌};
-
-use gbox_workloads::{answer, churn, insert_and_read, own_and_release, read_often, write_often};
+use gbox_workloads::{
+    answer, churn, insert_and_read, own_and_release, point_often, read_often, write_often,
+};
 use generational_box::UnsyncStorage;
 use std::alloc::Global;
 
@@ -89,16 +89,14 @@ pub extern "C" fn gbox_w5_text(alloc: Global, n: u64, seed: u64) -> u64 {
 
 /// w6 over numbers: references to shared values are pointed at others.
 #[unsafe(no_mangle)]
-pub extern "C" fn gbox_w6_u64(_alloc: Global, _n: u64, _seed: u64) -> u64
-    ensures { result ≡ 0 }
-{
-    0
+pub extern "C" fn gbox_w6_u64(alloc: Global, n: u64, seed: u64) -> u64 {
+    let mut store = UnsyncStorage::<u64>::new(alloc, 1);
+    answer(point_often(alloc, &mut store, n, seed))
 }
 
 /// w6 over texts.
 #[unsafe(no_mangle)]
-pub extern "C" fn gbox_w6_text(_alloc: Global, _n: u64, _seed: u64) -> u64
-    ensures { result ≡ 0 }
-{
-    0
+pub extern "C" fn gbox_w6_text(alloc: Global, n: u64, seed: u64) -> u64 {
+    let mut store = UnsyncStorage::<String>::new(alloc, 1);
+    answer(point_often(alloc, &mut store, n, seed))
 }

@@ -1,7 +1,7 @@
 //! The checksums that generational-box 0.7.10 and slotmap answer for the same workloads.
 use crate::{
     gbox_w1_text, gbox_w1_u64, gbox_w2_text, gbox_w2_u64, gbox_w3_text, gbox_w3_u64, gbox_w4_text,
-    gbox_w4_u64, gbox_w5_text, gbox_w5_u64,
+    gbox_w4_u64, gbox_w5_text, gbox_w5_u64, gbox_w6_text, gbox_w6_u64,
 };
 
 const N: u64 = 100;
@@ -15,6 +15,7 @@ fn numbers_are_those_of_other_stores(rt: HostRuntime) {
     assert_eq!(rt; gbox_w3_u64(rt.alloc(), N, SEED), 15359907562907620789);
     assert_eq!(rt; gbox_w4_u64(rt.alloc(), N, SEED), 5500413255359575958);
     assert_eq!(rt; gbox_w5_u64(rt.alloc(), N, SEED), 10333524125461845444);
+    assert_eq!(rt; gbox_w6_u64(rt.alloc(), N, SEED), 7709241425685336969);
 }
 
 #[test]
@@ -24,11 +25,19 @@ fn texts_are_those_of_other_stores(rt: HostRuntime) {
     assert_eq!(rt; gbox_w3_text(rt.alloc(), N, SEED), 16915553880381381486);
     assert_eq!(rt; gbox_w4_text(rt.alloc(), N, SEED), 13250621175994697878);
     assert_eq!(rt; gbox_w5_text(rt.alloc(), N, SEED), 8511890446508880851);
+    assert_eq!(rt; gbox_w6_text(rt.alloc(), N, SEED), 1682454262685737210);
 }
 
 #[test]
 fn too_many_values_are_refused(rt: HostRuntime) {
     assert_eq!(rt; gbox_w1_u64(rt.alloc(), 1 << 32, SEED), 1);
+}
+
+// More values, whose slots grow while they are made.
+#[test]
+fn references_are_pointed_elsewhere(rt: HostRuntime) {
+    assert_eq!(rt; gbox_w6_u64(rt.alloc(), 1000, SEED), 12730090599284133121);
+    assert_eq!(rt; gbox_w6_text(rt.alloc(), 1000, SEED), 5587250987163723611);
 }
 
 #[test]

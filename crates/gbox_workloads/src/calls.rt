@@ -86,6 +86,37 @@ pub(crate) fn end<E: Element, S: Storage<E>>(
     Ok(())
 }
 
+/// A shared value, and the box of its first reference.
+#[inline(always)]
+pub(crate) fn make_shared<E: Element, S: Storage<E>>(
+    store: &mut S,
+    value: E,
+) -> Result<GenerationalBox<E>, Stopped> {
+    let made = GenerationalBox::leak_rc(store, value, here())?;
+    Ok(made)
+}
+
+/// One reference more to a box's shared value.
+#[inline(always)]
+pub(crate) fn refer<E: Element, S: Storage<E>>(
+    store: &mut S,
+    shared: GenerationalBox<E>,
+) -> Result<GenerationalBox<E>, Stopped> {
+    let made = shared.leak_reference(store)?;
+    Ok(made)
+}
+
+/// Lets a reference lead to the shared value of another box.
+#[inline(always)]
+pub(crate) fn point<E: Element, S: Storage<E>>(
+    store: &mut S,
+    from: GenerationalBox<E>,
+    to: GenerationalBox<E>,
+) -> Result<(), Stopped> {
+    from.point_to(store, to)?;
+    Ok(())
+}
+
 /// An owner without boxes.
 #[inline(always)]
 pub(crate) fn new_owner<E: Element, S: Storage<E>>(store: &mut S) -> Result<Owner, Stopped> {

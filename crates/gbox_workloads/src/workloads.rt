@@ -1,8 +1,11 @@
 //! The workloads, each over an empty store.
 
-ghost use Rattle.std.specs.Prelude.{◌+◌, ◌<◌, ◌≡◌, ◌≤◌, IfOk, length, vec_capacity, vec_len};
+ghost use Rattle.std.specs.Prelude.{◌+◌, ◌*◌, ◌<◌, ◌≡◌, ◌≤◌, IfOk, OnOk, length, vec_capacity};
+ghost use Rattle.std.specs.Prelude.{vec_len};
 
-use crate::calls::{Stopped, end, insert, make, new_owner, read, release, write};
+use crate::calls::{
+    Stopped, end, insert, make, make_shared, new_owner, point, read, refer, release, write,
+};
 use crate::element::Element;
 use crate::random::Random;
 use generational_box::{GenerationalBox, Owner, Storage};
@@ -16,6 +19,9 @@ const FACTOR: u64 = 0x100_0000_01b3;
 
 // How many values an owner makes.
 const VALUES: usize = 100;
+
+// How many references a shared value has at first.
+const REFERENCES: usize = 10;
 
 /// The number that a workload answers: its checksum, or 1 where it couldn't go on.
 pub fn answer(outcome: Result<u64, Stopped>) -> u64 {
@@ -118,6 +124,23 @@ pub fn own_and_release<E: Element, S: Storage<E>>(
     Ok(checksum)
 }
 
+/// w6: n / 10 shared values are made, with ten references each; as many times as there are
+/// references, one is pointed at the value of another and read; each is ended.
+#[inline(always)]
+pub fn point_often<E: Element, S: Storage<E>>(
+    alloc: Global,
+    store: &mut S,
+    n: u64,
+    seed: u64,
+) -> Result<u64, Stopped> {
+    let n = count(n)?;
+    let mut random = Random::new(seed);
+    let keys = share_many(alloc, store, &mut random, n / REFERENCES)?;
+    let checksum = point_some(store, &mut random, &keys)?;
+    end_each(store, &keys)?;
+    Ok(checksum)
+}
+
 // How many values there are to be. For more than so many no memory would be found.
 fn count(n: u64) -> Result<usize, Stopped>
     ensures { IfOk result (λ count. count < 4294967296) }
@@ -150,6 +173,44 @@ fn make_many<E: Element, S: Storage<E>>(
         keys.push_reserved(make(store, value)?);
     }
     Ok(keys)
+}
+
+// References to shared values, in the order of making.
+#[inline(always)]
+fn share_many<E: Element, S: Storage<E>>(
+    alloc: Global,
+    store: &mut S,
+    random: &mut Random,
+    values: usize,
+) -> Result<Vec<GenerationalBox<E>>, Stopped>
+    requires { 10 * values < 4294967296 }
+    ensures { IfOk result (λ keys. vec_len keys ≡ 10 * values) }
+{
+    let mut keys = Vec::with_capacity(alloc, REFERENCES * values)?;
+    for _made in 0..values {
+        let value = E::of_word(alloc, random.word())?;
+        share(store, &mut keys, value)?;
+    }
+    Ok(keys)
+}
+
+// Makes a shared value with its references, at the end of the keys.
+#[inline(always)]
+fn share<E: Element, S: Storage<E>>(
+    store: &mut S,
+    keys: &mut Vec<GenerationalBox<E>>,
+    value: E,
+) -> Result<(), Stopped>
+    requires room { vec_len keys.old + 10 ≤ vec_capacity keys.old }
+    ensures more { OnOk result (vec_len keys.new ≡ vec_len keys.old + 10) }
+    ensures capacity { vec_capacity keys.new ≡ vec_capacity keys.old }
+{
+    let first = make_shared(store, value)?;
+    keys.push_reserved(first);
+    for _referred in 1..REFERENCES {
+        keys.push_reserved(refer(store, first)?);
+    }
+    Ok(())
 }
 
 // Puts the keys into an order that is drawn.
@@ -190,6 +251,26 @@ fn read_some<E: Element, S: Storage<E>>(
     for _read in 0..keys.len() {
         let key = keys[random.below(keys.len())];
         checksum = mix(checksum, read(store, key)?);
+    }
+    Ok(checksum)
+}
+
+// Points references that are drawn at the values of others, as many as there are keys, and reads
+// each.
+#[inline(always)]
+fn point_some<E: Element, S: Storage<E>>(
+    store: &mut S,
+    random: &mut Random,
+    keys: &[GenerationalBox<E>],
+) -> Result<u64, Stopped>
+    requires { length keys.now < 4294967296 }
+{
+    let mut checksum = START;
+    for _pointed in 0..keys.len() {
+        let from = keys[random.below(keys.len())];
+        let to = keys[random.below(keys.len())];
+        point(store, from, to)?;
+        checksum = mix(checksum, read(store, from)?);
     }
     Ok(checksum)
 }

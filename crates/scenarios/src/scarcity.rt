@@ -2,8 +2,8 @@
 //! and what may lack memory is tried a second time.
 
 use crate::expected::{
-    assert_reads, assert_released, assert_unread, begin, counts_of, dropped, end, leak, made,
-    made_later, release,
+    assert_opens, assert_reads, assert_released, assert_unread, begin, counts_of, dropped, end,
+    leak, made, made_later, release,
 };
 use crate::memory::{begin_or_again, owner_or_again, readers};
 use crate::sharing::{insert_rc, insert_reference, leak_rc, leak_reference, point};
@@ -186,7 +186,7 @@ fn readers_of_the_old_value<S: Storage<u32>>(rt: &impl Abort, alloc: Global, sto
     let second = begin_or_again(rt, store, reference, made_later());
     let began = [made(), made_later()];
     assert_held(rt, alloc, store, [reference, other], &began);
-    assert_reads(rt, store, reference, 5);
+    assert_opens(rt, store, &first, Some(5));
     assert_released(rt, store, first, true);
     assert_released(rt, store, second, true);
     point(rt, store, reference, other);
