@@ -7,6 +7,7 @@
 
 use crate::expected::{insert, leak, made, new_owner};
 use crate::sessions::call;
+use crate::sharing::{leak_rc, leak_reference};
 use generational_box::{BoxAt, Call, Owner, Session, Storage, Store, UnsyncStorage};
 use std::fs;
 use std::process::Abort;
@@ -86,6 +87,37 @@ fn slots(rt: HostRuntime) -> Result<(), Fail> {
     let mut store: UnsyncStorage<u32> = Store::new(rt.alloc(), 7);
     let mut gauge = Gauge::new(&rt)?;
     leaked(&rt, &mut store, &mut gauge)?;
+    gauge.assert_grew(&rt, 10_000);
+    Ok(())
+}
+
+/// Makes a shared value and a hundred references to it.
+fn share<S: Storage<u32>>(rt: &impl Abort, store: &mut S) {
+    let shared = leak_rc(rt, store, 0, made());
+    for _ in 1..100 {
+        leak_reference(rt, store, shared);
+    }
+}
+
+/// Makes shared values and references, and looks how the memory grows.
+fn shared<R: Files + AllocGlobal + Abort, S: Storage<u32>>(
+    rt: &R,
+    store: &mut S,
+    gauge: &mut Gauge,
+) -> Result<(), Fail> {
+    for _ in 0..1_000 {
+        share(rt, store);
+        gauge.look(rt)?;
+    }
+    Ok(())
+}
+
+// A hundred thousand references and a thousand shared values.
+#[test]
+fn references(rt: HostRuntime) -> Result<(), Fail> {
+    let mut store: UnsyncStorage<u32> = Store::new(rt.alloc(), 7);
+    let mut gauge = Gauge::new(&rt)?;
+    shared(&rt, &mut store, &mut gauge)?;
     gauge.assert_grew(&rt, 10_000);
     Ok(())
 }
