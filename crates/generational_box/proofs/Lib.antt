@@ -2,4 +2,4 @@ pub mod Common
 pub mod calls
 pub mod lists
 pub mod records
-pub mod slots
+pub mod states

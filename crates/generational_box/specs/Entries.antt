@@ -1,5 +1,5 @@
 -- The slots of a store with the table of their borrows, and what holds of the two.
-use Rattle.std.specs.Prelude.{◌≡◌, ◌≢◌, ◌≤◌, ◌<◌, ◌+◌, ℕ, List, [], ◌∷◌, Bool, true, false, not}
+use Rattle.std.specs.Prelude.{◌≡◌, ◌≢◌, ◌≤◌, ◌<◌, ◌+◌, ℕ, List, [], ◌∷◌, Bool, not}
 use Rattle.std.specs.Prelude.{nat_eq, length, slice_get, Option, None, Some}
 use Rattle.std.specs.FinSet as set
 use Rattle.generational_core.specs.declared.borrow.Borrow.{Borrow}
@@ -8,8 +8,12 @@ use Rattle.generational_core.specs.Cells.Content.{Here, Lent}
 use Rattle.generational_box.specs.declared.entry.StorageEntry.{StorageEntry}
 use Rattle.generational_box.specs.declared.entry.StorageEntryData.{StorageEntryData}
 use Rattle.generational_box.specs.declared.entry.StorageEntryData.TheVariants as slot
+use Rattle.generational_box.specs.declared.entry.Kind.TheVariants as kind
+use Rattle.generational_box.specs.declared.entry.Kind.{Kind}
+use Rattle.generational_box.specs.declared.entry.EntryDetails.{EntryDetails}
+use Rattle.generational_core.specs.Names.{Name}
 use Rattle.generational_box.specs.Entry.{Entry, Kept}
-use Rattle.generational_box.specs.Entry.Kept.{Empty, Live}
+use Rattle.generational_box.specs.Entry.Kept.{Empty, Live, Refers}
 use Rattle.generational_box.specs.Slotted.{how_many}
 use Rattle.generational_box.specs.Table.{Table, list_at, no_index, IsUsed}
 
@@ -21,33 +25,59 @@ pub record EntryList (T : Type 0) : Type 0 where
 module _ {T : Type 0} where
   -- where the borrows of a slot's cell stand in the table
   abbrev pub index_of : StorageEntryData T → ℕ
-  index_of slot.Empty = no_index
-  index_of (slot.Data i v) = i
-  index_of (slot.Lent i) = i
+  index_of (slot.Data k i v) = i
+  index_of (slot.Lent k i) = i
+  index_of _ = no_index
 
-  -- whether a slot has a live cell
-  abbrev pub has_cell : StorageEntryData T → Bool
-  has_cell slot.Empty = false
-  has_cell _ = true
+  -- whose the value is, also one that is lent
+  abbrev pub kind_of : StorageEntryData T → Option Kind
+  kind_of (slot.Data k i v) = Some k
+  kind_of (slot.Lent k i) = Some k
+  kind_of _ = None
+
+  -- the value, unless it's lent
+  abbrev pub value_in : StorageEntryData T → Option T
+  value_in (slot.Data k i v) = Some v
+  value_in _ = None
+
+  -- what a reference names
+  abbrev pub target_of : StorageEntryData T → Option Name
+  target_of (slot.Reference s g) = Some (record { slot = s; generation = g })
+  target_of _ = None
+
+  -- what a box of this name reaches where its cell is such
+  abbrev pub lead_of : StorageEntryData T → Name → Option Name
+  lead_of (slot.Data kind.Value i v) n = Some n
+  lead_of (slot.Lent kind.Value i) n = Some n
+  lead_of (slot.Reference s g) n = Some (record { slot = s; generation = g })
+  lead_of _ n = None
+
+  -- a cell without borrows
+  abbrev pub IsUnborrowed : StorageEntryData T → Type 0
+  IsUnborrowed (slot.Data k i v) = i ≡ no_index
+  IsUnborrowed (slot.Reference s g) = Unit {0}
+  IsUnborrowed _ = ⊥
 
   -- what a slot has whose cell has these borrows
   abbrev pub kept_data : List Borrow → Location → StorageEntryData T → Kept T
   kept_data bs l slot.Empty = Empty
-  kept_data bs l (slot.Data i v) = Live (Here v bs) l
-  kept_data (w ∷ bs) l (slot.Lent i) = Live (Lent w) l
-  kept_data [] l (slot.Lent i) = Empty
+  kept_data bs l (slot.Data k i v) = Live k (Here v bs) l
+  kept_data (w ∷ bs) l (slot.Lent k i) = Live k (Lent w) l
+  kept_data [] l (slot.Lent k i) = Empty
+  kept_data bs l (slot.Reference s g) = Refers (record { slot = s; generation = g }) l
 
-  abbrev pub entry_of : List (List Borrow) → StorageEntry T → Location → Entry T
-  entry_of lists e l =
+  abbrev pub entry_of : List (List Borrow) → StorageEntry T → EntryDetails → Entry T
+  entry_of lists e d =
       record {
         generation = e.generation;
-        kept = kept_data (list_at lists (index_of e.content)) l e.content;
+        kept = kept_data (list_at lists (index_of e.content)) d.created_at e.content;
+        references = d.references;
       }
 
-  -- the slots, each with its borrows and the location where its cell was made
-  unfoldable pub entries_of : List (List Borrow) → List (StorageEntry T) → List Location → List
-      (Entry T)
-  entries_of lists (e ∷ es) (l ∷ ls) = entry_of lists e l ∷ entries_of lists es ls
+  -- the slots, each with its borrows and its details
+  unfoldable pub entries_of : List (List Borrow) → List (StorageEntry T) → List EntryDetails
+      → List (Entry T)
+  entries_of lists (e ∷ es) (d ∷ ds) = entry_of lists e d ∷ entries_of lists es ds
   entries_of lists _ _ = []
 
   -- the index of a slot, if there is one
@@ -60,7 +90,7 @@ module _ {T : Type 0} where
 
   -- a lent cell has an index
   abbrev pub LentHasIndex : StorageEntryData T → Type 0
-  LentHasIndex (slot.Lent i) = i ≢ no_index
+  LentHasIndex (slot.Lent k i) = i ≢ no_index
   LentHasIndex _ = Unit {0}
 
   abbrev pub IsIndexed : Option (StorageEntry T) → Type 0
@@ -79,15 +109,9 @@ pub record AreIndexed {T : Type 0} (t : Table) (es : List (StorageEntry T)) : Ty
   pub few : length t.lists ≤ length es + 1
 
 -- there is room for this many slots, but for no index beyond the last
-pub record AreRoomy (room count capacity made borrowed : ℕ) : Type 0 where
+pub record AreRoomy (room count capacity detailed borrowed : ℕ) : Type 0 where
   pub filled : count ≤ room
   pub entries : room ≤ capacity
-  pub created : room ≤ made
+  pub details : room ≤ detailed
   pub borrows : room ≤ borrowed
   pub indexes : room + 1 < no_index
-
-module _ {T : Type 0} where
-  -- the borrows that stand at a slot's cell as readers
-  abbrev pub borrows_in : Kept T → List Borrow
-  borrows_in (Live (Here v readers) l) = readers
-  borrows_in _ = []

@@ -8,31 +8,66 @@ use Rattle.generational_core.specs.declared.error.StoreError.TheVariants.{OutOfM
 use Rattle.generational_core.specs.declared.error.Refused.{Refused}
 use Rattle.generational_core.specs.declared.error.Refused.TheVariants as refused
 use Rattle.generational_core.specs.declared.borrow.Borrow.{Borrow}
-use Rattle.generational_core.specs.Cells.{Content}
+use Rattle.generational_box.specs.declared.entry.CellName.{CellName}
+use Rattle.generational_box.specs.declared.entry.Kind.{Kind}
+use Rattle.generational_box.specs.declared.entry.Kind.TheVariants as kind
+use Rattle.generational_core.specs.Names.{Name}
+use Rattle.generational_core.specs.Cells.{Content, Cell}
+use Rattle.generational_core.specs.Cells.Cell.{Value, Shared, Ref}
 use Rattle.generational_core.specs.Cells.Content.{Here, Lent}
 use Rattle.generational_core.specs.Borrowing.{Trouble}
 use Rattle.generational_core.specs.Borrowing.Trouble.{BeingRead}
 use Rattle.generational_core.specs.Machine.{has_reader}
 use Rattle.generational_core.specs.Answers.{trouble_of, value_of}
 
--- What a slot has: nothing, or a live value with its borrows and the location where it was made.
+abbrev pub name_of_cell : CellName → Name
+name_of_cell n = record { slot = n.slot; generation = n.generation }
+
+-- What a slot has: nothing; a live value with its borrows, a box's own or a shared one; or a
+-- reference. The location is where the cell was made.
 pub data Kept (T : Type 0) : Type 0 where
   Empty : Kept T
-  Live : (content : Content T) (created : Location) → Kept T
+  Live : (kind : Kind) (content : Content T) (created : Location) → Kept T
+  Refers : (target : Name) (created : Location) → Kept T
 
--- A slot: the generation of its last cell, and that cell while it is live.
+-- A slot: the generation of its last cell, that cell while it is live, and how many references
+-- name it.
 pub record Entry (T : Type 0) : Type 0 where
   pub generation : ℕ
   pub kept : Kept T
+  pub references : ℕ
 
 module _ {T : Type 0} where
+  -- the machine's cell
+  abbrev pub cell_of : Kept T → Option (Cell T)
+  cell_of Empty = None
+  cell_of (Live kind.Value c l) = Some (Value c l)
+  cell_of (Live kind.Shared c l) = Some (Shared c l)
+  cell_of (Refers m l) = Some (Ref m l)
+
+  -- whose value a cell is
+  abbrev pub kind_in : Option (Cell T) → Option Kind
+  kind_in (Some (Value c l)) = Some kind.Value
+  kind_in (Some (Shared c l)) = Some kind.Shared
+  kind_in _ = None
+
+  -- what a cell names, if it is a Ref
+  abbrev pub target_in : Option (Cell T) → Option Name
+  target_in (Some (Ref m l)) = Some m
+  target_in _ = None
+
   abbrev pub content_in : Kept T → Option (Content T)
-  content_in Empty = None
-  content_in (Live c l) = Some c
+  content_in (Live k c l) = Some c
+  content_in _ = None
+
+  -- the readers of a content
+  abbrev pub readers_of : Option (Content T) → List Borrow
+  readers_of (Some (Here v readers)) = readers
+  readers_of _ = []
 
   abbrev pub is_live : Kept T → Bool
   is_live Empty = false
-  is_live (Live c l) = true
+  is_live _ = true
 
   -- whether the slot has a live cell, and that cell this generation
   abbrev pub valid_at : ℕ → Entry T → Bool
@@ -40,8 +75,13 @@ module _ {T : Type 0} where
 
   -- another content of a live cell
   abbrev pub with_content : (Content T → Content T) → Kept T → Kept T
-  with_content f Empty = Empty
-  with_content f (Live c l) = Live (f c) l
+  with_content f (Live k c l) = Live k (f c) l
+  with_content f kept = kept
+
+  -- a reference that names another cell
+  abbrev pub referring : Name → Kept T → Kept T
+  referring m (Refers old l) = Refers m l
+  referring m kept = kept
 
   -- a reader at the end of the list
   abbrev pub one_read : Borrow → Content T → Content T

@@ -1,18 +1,31 @@
--- The state for which a vector of slots stands, and what holds of every such vector.
+-- The state for which a list of slots stands, and what holds of every such list.
 use Rattle.std.specs.Prelude.{◌≡◌, ℕ, ◌+◌, ◌-◌, ◌≤◌, suc, zero, Bool, true, false, ◌&&◌, nat_eq}
 use Rattle.std.specs.Prelude.{nat_le, nat_lt, not, if◌then◌else◌, length, List, [], ◌∷◌, ◌++◌}
-use Rattle.std.specs.Prelude.{Option, None, Some, slice_get, slice_set}
+use Rattle.std.specs.Prelude.{Option, None, Some, IfSome, IsTrue, Result, is_ok, slice_get}
+use Rattle.std.specs.Prelude.{slice_set}
+use Rattle.std.specs.List.{count_by}
+use Rattle.std.specs.Option.{option_or}
 use Rattle.std.specs.Ordering.{nat_cmp}
 use Rattle.std.specs.FinMap as map
 use Rattle.std.specs.FinSet as set
 use Rattle.generational_core.specs.Names.{Name, NameMap, Names}
-use Rattle.generational_core.specs.Cells.{Cell}
-use Rattle.generational_core.specs.Cells.Content.{Here}
-use Rattle.generational_core.specs.Cells.Cell.{Value}
+use Rattle.generational_core.specs.Borrowing.{Trouble, write_refusal}
+use Rattle.generational_core.specs.Cells.{Cell, content_of, is_shared, refers_to}
+use Rattle.generational_core.specs.Cells.Cell.{Value, Ref}
 use Rattle.generational_core.specs.State.{State, Owners}
-use Rattle.generational_box.specs.Entry.{Entry, Kept, is_live, valid_at, has_no_borrow}
-use Rattle.generational_box.specs.Entry.Kept.{Empty, Live}
+use Rattle.generational_core.specs.Machine.{add_cell, Outcome}
+use Rattle.generational_core.specs.Machine.Answer.{Done, Troubled}
+use Rattle.generational_core.specs.declared.error.BorrowMutError.{BorrowMutError}
+use Rattle.generational_core.specs.declared.error.Refused.{Refused}
 use Rattle.generational_core.specs.Slots.{last_generation}
+use Rattle.generational_core.specs.Steps.{IsNew}
+use Rattle.generational_box.specs.Entry.{Entry, FoundBorrowed, cell_of, is_live}
+
+-- The slots of a store: the state for which they stand, without owners and numbers, and how many
+-- cells more take no memory.
+pub record Slotted (T : Type 0) : Type 0 where
+  pub state : State T
+  pub spare : ℕ
 
 -- count names of a slot, upwards from a generation
 abbrev pub names_up : ℕ → ℕ → ℕ → List Name
@@ -26,10 +39,6 @@ how_many p [] = 0
 how_many p (x ∷ xs) = (if p x then 1 else 0) + how_many p xs
 
 module _ {T : Type 0} where
-  abbrev pub cell_of : Kept T → Option (Cell T)
-  cell_of Empty = None
-  cell_of (Live c l) = Some (Value c l)
-
   abbrev pub with_cell : Name → Option (Cell T) → List (Name × Cell T) → List (Name × Cell T)
   with_cell n None rest = rest
   with_cell n (Some c) rest = (n, c) ∷ rest
@@ -56,18 +65,23 @@ module _ {T : Type 0} where
   unfoldable pub given_of : ℕ → List (Entry T) → Names
   given_of start slots = set.from_list (given_from start 0 slots)
 
-  -- the state for which a store's owners, numbers and slots stand
-  abbrev pub state_of : Owners → ℕ → ℕ → ℕ → ℕ → List (Entry T) → State T
-  state_of owners number start next peak slots =
+  -- the state for which slots stand
+  abbrev pub state_of : ℕ → ℕ → List (Entry T) → State T
+  state_of start peak slots =
       record {
-        number = number;
+        number = 0;
         cells = cells_of slots;
         given = given_of start slots;
-        owners = owners;
-        next = next;
+        owners = map.empty;
+        next = 0;
         peak = peak;
         start = start;
       }
+
+  -- the state with a store's number, owners and next ticket
+  abbrev pub with_records : State T → ℕ → Owners → ℕ → State T
+  with_records S number owners next =
+      record S { number = number; owners = owners; next = next }
 
   -- what stands at a generation of a slot
   abbrev pub cell_in : Option (Entry T) → ℕ → Option (Cell T)
@@ -109,6 +123,21 @@ module _ {T : Type 0} where
     pub few : live + set.len free ≤ peak
     pub bounded : peak ≤ length slots
 
+  -- how many references of the slots name a cell
+  abbrev pub refers : Name → Entry T → Bool
+  refers m e = refers_to m (cell_of e.kept)
+
+  -- a shared cell's count is right but for some
+  abbrev pub IsReferred : List (Entry T) → (Name → ℕ) → ℕ → Option (Entry T) → Type 0
+  IsReferred slots less k None = Unit {0}
+  IsReferred slots less k (Some e) =
+      let m : Name = record { slot = k; generation = e.generation } in
+      is_shared (cell_of e.kept) ≡ true → e.references + less m ≡ how_many (refers m) slots
+
+  -- so many references that name a shared cell aren't counted there
+  pub record AreReferred (less : Name → ℕ) (slots : List (Entry T)) : Type 0 where
+    pub each : (k : ℕ) → IsReferred slots less k (slice_get slots k)
+
   -- the slots with the i-th one changed by f, if there is one
   abbrev pub change_entry_if : List (Entry T) → ℕ → (Entry T → Entry T)
       → Option (Entry T) → List (Entry T)
@@ -118,31 +147,72 @@ module _ {T : Type 0} where
   abbrev pub change_entry : List (Entry T) → ℕ → (Entry T → Entry T) → List (Entry T)
   change_entry slots i f = change_entry_if slots i f (slice_get slots i)
 
-  -- the slot, if its live cell has this generation
-  abbrev pub entry_in : ℕ → Option (Entry T) → Option (Entry T)
-  entry_in g None = None
-  entry_in g (Some e) = if valid_at g e then Some e else None
+  -- what stands at a name
+  abbrev pub cell_at : List (Entry T) → Name → Option (Cell T)
+  cell_at slots n = cell_in (slice_get slots n.slot) n.generation
 
-  abbrev pub cell_found : Option (Entry T) → Option (Cell T)
-  cell_found None = None
-  cell_found (Some e) = cell_of e.kept
+  -- the slots in which a name's slot counts one reference more, and one less
+  abbrev pub count_more : List (Entry T) → Option Name → List (Entry T)
+  count_more slots None = slots
+  count_more slots (Some m) =
+      change_entry slots m.slot (λ e. record e { references = e.references + 1 })
 
-  -- whether a cell is a Value that isn't lent
-  abbrev pub is_here : Option (Cell T) → Bool
-  is_here (Some (Value (Here v readers) l)) = true
-  is_here _ = false
+  abbrev pub count_less : List (Entry T) → Option Name → List (Entry T)
+  count_less slots None = slots
+  count_less slots (Some m) =
+      change_entry slots m.slot (λ e. record e { references = e.references - 1 })
 
-  -- whether a cell is a Value without borrows
-  abbrev pub is_unborrowed : Option (Cell T) → Bool
-  is_unborrowed (Some (Value c l)) = has_no_borrow (Some c)
-  is_unborrowed _ = false
+  -- a target that is live, and shared
+  abbrev pub shared_target : List (Entry T) → Option Name → Option Name
+  shared_target slots None = None
+  shared_target slots (Some m) = if is_shared (cell_at slots m) then Some m else None
 
-  -- whether a cell is no other than a Value
-  abbrev pub is_value : Option (Cell T) → Bool
-  is_value None = true
-  is_value (Some (Value c l)) = true
-  is_value (Some _) = false
+  -- whether a name's slot counts another number of references
+  abbrev pub has_more_in : ℕ → Option (Entry T) → Bool
+  has_more_in last None = false
+  has_more_in last (Some e) = not (nat_eq e.references last)
 
-  -- the cells are Values
-  abbrev pub OnlyValues : NameMap (Cell T) → Type 0
-  OnlyValues cells = (n : Name) → is_value (map.get cells n) ≡ true
+  abbrev pub has_more : List (Entry T) → ℕ → Name → Bool
+  has_more slots last m = has_more_in last (slice_get slots m.slot)
+
+  -- The value that goes where a name ends: its own, or its target, unless that is named still.
+  abbrev pub doomed_by : (Name → Bool) → Option (Cell T) → Name → Option Name
+  doomed_by named (Some (Value c l)) n = Some n
+  doomed_by named (Some (Ref m l)) n = if named m then None else Some m
+  doomed_by named _ n = None
+
+  -- how many of some names are of references to a cell
+  abbrev pub refers_among : List (Entry T) → List Name → Name → ℕ
+  refers_among slots names m = count_by (λ n. refers_to m (cell_at slots n)) names
+
+  -- the slots from the i-th on, each with as many references more as is told by its cell's name
+  abbrev pub with_more : (Name → ℕ) → ℕ → List (Entry T) → List (Entry T)
+  with_more more i [] = []
+  with_more more i (e ∷ slots) =
+      record e { references = e.references + more (record { slot = i; generation = e.generation }) }
+      ∷ with_more more (i + 1) slots
+
+  -- what hinders the end of these names, at the first of them that is hindered: a borrow of the
+  -- value that goes, where a test tells what is named afterwards
+  abbrev pub refusal_of : NameMap (Cell T) → Option Name → Option Trouble
+  refusal_of cells None = None
+  refusal_of cells (Some m) = write_refusal (content_of (map.get cells m))
+
+  abbrev pub first_refusal : NameMap (Cell T) → (Name → Bool) → List Name → Option Trouble
+  first_refusal cells named [] = None
+  first_refusal cells named (n ∷ names) =
+      option_or (refusal_of cells (doomed_by named (map.get cells n) n))
+      (first_refusal cells named names)
+
+  -- a cell more, under a new name, for which there was room or memory
+  pub record IsMade (s r : Slotted T) (cell : Option (Cell T)) (n : Name) : Type 0 where
+    pub fits : IsNew s.state n
+    pub added : IfSome cell (λ c. r.state ≡ add_cell s.state n c)
+    pub room : s.spare ≤ r.spare + 1
+
+-- a call that lets a reference name another value does and answers what the machine does
+abbrev pub Turns : {T : Type 0} → State T → State T → Result (Unit {0}) (Refused BorrowMutError)
+    → Outcome T → Type 0
+Turns S R result (Done, after) = (IsTrue (is_ok result)) × (R ≡ after)
+Turns S R result (Troubled t, after) = FoundBorrowed (Some t) result × (R ≡ S)
+Turns S R result _ = ⊥

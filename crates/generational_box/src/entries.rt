@@ -1,6 +1,6 @@
 //! The slots of a store, and the borrows that stand at their cells.
 
-ghost use Rattle.std.specs.Prelude.{◌≡◌, ◌≢◌, ◌+◌, ◌<◌, ◌≤◌, ◌∷◌, ◌++◌, [], true, Some, Err};
+ghost use Rattle.std.specs.Prelude.{◌≡◌, ◌≢◌, ◌+◌, ◌-◌, ◌<◌, ◌≤◌, ◌∷◌, ◌++◌, [], true, Some, Err};
 ghost use Rattle.std.specs.Prelude.{IsTrue};
 ghost use Rattle.std.specs.Prelude.{◌↔◌, IfSome, IfErr, OnOk, OnErr, is_some, is_none, is_ok};
 ghost use Rattle.std.specs.Prelude.{length};
@@ -13,20 +13,25 @@ ghost use Rattle.generational_core.specs.Slots.{last_generation};
 ghost use Rattle.generational_core.specs.declared.error.Refused.TheVariants as refused;
 ghost use Rattle.generational_core.specs.declared.error.BorrowMutError.TheVariants as writes;
 ghost use Rattle.generational_core.specs.declared.error.StoreError.TheVariants.{OutOfMemory};
+ghost use Rattle.generational_box.specs.declared.entry.StorageEntryData.TheVariants as content;
 ghost use Rattle.generational_box.specs.Borrows.{AreBelow};
-ghost use Rattle.generational_box.specs.Entries.{borrows_in};
 ghost use Rattle.generational_box.specs.Table.{no_index, IsUsed, Releases};
 ghost use Rattle.generational_box.specs.Table.{list_at};
 ghost use Rattle.std.specs.List.{list_any, filter};
 ghost use Rattle.std.specs.Prelude.{nat_eq, not, IfOk};
-ghost use Rattle.generational_box.specs.Entry.Kept.{Empty, Live};
+ghost use Rattle.generational_box.specs.Entry.Kept.{Empty};
+ghost use Rattle.generational_box.specs.Entry.{cell_of, kind_in, name_of_cell, readers_of};
+ghost use Rattle.generational_box.specs.Entry.{referring, target_in};
+ghost use Rattle.generational_box.specs.Entries.{IsUnborrowed, kept_data};
+ghost use Rattle.generational_core.specs.Borrowing.{leads_to};
+ghost use Rattle.generational_core.specs.Cells.{content_of, location_of};
 ghost use Rattle.generational_box.specs.Entry.{content_in, has_no_borrow, with_reader, value_for};
 ghost use Rattle.generational_box.specs.Entry.{without_reader_in, lend_to, with_value};
 ghost use Rattle.generational_box.specs.Entry.{FoundBorrowed, FoundReaders};
-ghost use Rattle.generational_box.specs.Slotted.{change_entry, entry_in};
+ghost use Rattle.generational_box.specs.Slotted.{cell_at, change_entry};
 
 use crate::borrows::Borrows;
-use crate::entry::{NO_INDEX, StorageEntry, StorageEntryData};
+use crate::entry::{CellName, EntryDetails, Kind, NO_INDEX, StorageEntry, StorageEntryData};
 use crate::pool::reserve_room;
 use crate::table::BorrowTable;
 use generational_core::parts::Borrow;
@@ -41,14 +46,13 @@ use std::mem;
 /// The slots of a store. Contracts see each as its generation and its cell with the borrows that
 /// stand there, and for how many slots there is room.
 ///
-/// What every call asks for stands together in `entries`; where a cell was made stands apart, and
-/// so do borrows, in a table that stays as small as the most that stood at once.
+/// What every call asks for stands together in `entries`; what is seldom asked of a cell stands
+/// apart, and so do borrows, in a table that stays as small as the most that stood at once.
 #[derive(Drop)]
 pub(crate) struct Entries<T> {
     alloc: Global,
     entries: Vec<StorageEntry<T>>,
-    // where each slot's last cell was made
-    created: Vec<Location>,
+    details: Vec<EntryDetails>,
     borrows: BorrowTable,
     // for how many slots there is room in each of these
     room: usize,
@@ -61,14 +65,14 @@ impl<T> Model for Entries<T> {
     ghost Value = { EntryList T };
 
     ghost view = { λ e. record {
-      slots = entries_of e.borrows.lists e.entries.items e.created.items;
+      slots = entries_of e.borrows.lists e.entries.items e.details.items;
       rooms = e.room;
     } };
 
     ghost invariant = { λ e. AreIndexed e.borrows e.entries.items
-        × (length e.created.items ≡ length e.entries.items)
+        × (length e.details.items ≡ length e.entries.items)
         × AreRoomy e.room (length e.entries.items) (vec_capacity e.entries)
-        (vec_capacity e.created) e.borrows.rooms };
+        (vec_capacity e.details) e.borrows.rooms };
 }
 
 impl<T> Entries<T> {
@@ -79,7 +83,7 @@ impl<T> Entries<T> {
         Entries {
             alloc,
             entries: Vec::new(alloc),
-            created: Vec::new(alloc),
+            details: Vec::new(alloc),
             borrows: BorrowTable::new(alloc),
             room: 0,
         }
@@ -116,21 +120,67 @@ impl<T> Entries<T> {
     {
         let room = more_room(self.room)?;
         reserve_room(&mut self.entries, self.alloc, room)?;
-        reserve_room(&mut self.created, self.alloc, room)?;
+        reserve_room(&mut self.details, self.alloc, room)?;
         self.borrows.grow(room)?;
         self.room = room;
         Ok(())
     }
 
-    // Whether the slot has a live cell, and that cell this generation.
+    // What a box of this name reaches.
     #[inline(always)]
-    pub(crate) fn valid(&self, slot: usize, generation: u64) -> bool
-        ensures { result ≡ is_some (entry_in generation (slice_get self.now.slots slot)) }
+    pub(crate) fn reach(&self, name: CellName) -> Option<CellName>
+        ensures { option_map name_of_cell result ≡ leads_to
+            (cell_at self.now.slots (name_of_cell name)) (name_of_cell name) }
     {
-        match self.entries.get(slot) {
-            Some(entry) => entry.valid(generation),
-            None => false,
+        match self.entries.get(name.slot) {
+            Some(entry) => entry.reach(name),
+            None => None,
         }
+    }
+
+    // Whose the value of this name is, also one that is lent.
+    #[inline(always)]
+    pub(crate) fn kind(&self, name: CellName) -> Option<Kind>
+        ensures { result ≡ kind_in (cell_at self.now.slots (name_of_cell name)) }
+    {
+        match self.entries.get(name.slot) {
+            Some(entry) => entry.kind(name.generation),
+            None => None,
+        }
+    }
+
+    // What the reference of this name names.
+    #[inline(always)]
+    pub(crate) fn target(&self, name: CellName) -> Option<CellName>
+        ensures { option_map name_of_cell result
+            ≡ target_in (cell_at self.now.slots (name_of_cell name)) }
+    {
+        match self.entries.get(name.slot) {
+            Some(entry) => entry.target(name.generation),
+            None => None,
+        }
+    }
+
+    // Where the slot's cell was made, and how many references name it.
+    #[inline(always)]
+    pub(crate) fn details(&self, slot: usize) -> EntryDetails
+        requires { slot < length self.now.slots }
+        ensures references { IfSome (slice_get self.now.slots slot)
+            (λ e. result.references ≡ e.references) }
+        ensures created { IfSome (slice_get self.now.slots slot)
+            (λ e. IfSome (location_of (cell_of e.kept)) (λ l. result.created_at ≡ l)) }
+    {
+        self.details[slot]
+    }
+
+    // A reference to a slot's cell.
+    pub(crate) fn reference_to(&self, slot: usize) -> StorageEntryData<T>
+        requires { slot < length self.now.slots }
+        ensures { IfSome (slice_get self.now.slots slot)
+            (λ e. result ≡ content.Reference slot e.generation) }
+    {
+        let generation = self.entries[slot].generation;
+        StorageEntryData::Reference(slot as u32, generation)
     }
 
     // The generation of the slot's last cell.
@@ -150,11 +200,11 @@ impl<T> Entries<T> {
             (λ x. BeingWritten x.borrowed_mut_at) result ≡ read_refusal (content_in e.kept)) }
     {
         match &self.entries[slot].content {
-            StorageEntryData::Data(_, _) | StorageEntryData::Empty => None,
-            StorageEntryData::Lent(index) => {
+            StorageEntryData::Lent(_, index) => {
                 let writer = self.borrows.first(*index);
                 Some(AlreadyBorrowedMutError::new(writer.location))
             }
+            _ => None,
         }
     }
 
@@ -166,9 +216,9 @@ impl<T> Entries<T> {
             (λ e. result ≡ is_none (write_refusal (content_in e.kept))) }
     {
         match &self.entries[slot].content {
-            StorageEntryData::Data(index, _) => *index == NO_INDEX,
-            StorageEntryData::Empty => true,
-            StorageEntryData::Lent(_) => false,
+            StorageEntryData::Data(_, index, _) => *index == NO_INDEX,
+            StorageEntryData::Lent(_, _) => false,
+            _ => true,
         }
     }
 
@@ -180,14 +230,14 @@ impl<T> Entries<T> {
             (λ e. FoundBorrowed (write_refusal (content_in e.kept)) result) }
     {
         match &self.entries[slot].content {
-            StorageEntryData::Data(index, _) => {
+            StorageEntryData::Data(_, index, _) => {
                 if *index == NO_INDEX {
                     return Ok(());
                 }
                 Err(readers_error(&self.borrows, *index, self.alloc))
             }
-            StorageEntryData::Empty => Ok(()),
-            StorageEntryData::Lent(index) => Err(writer_error(self.borrows.first(*index))),
+            StorageEntryData::Lent(_, index) => Err(writer_error(self.borrows.first(*index))),
+            _ => Ok(()),
         }
     }
 
@@ -199,7 +249,7 @@ impl<T> Entries<T> {
             (λ e. option_copied result ≡ value_for ticket (content_in e.kept)) }
     {
         match &self.entries[slot].content {
-            StorageEntryData::Data(index, value) => {
+            StorageEntryData::Data(_, index, value) => {
                 if *index != NO_INDEX && self.borrows.contains(*index, ticket) {
                     return Some(value);
                 }
@@ -217,7 +267,7 @@ impl<T: Drop> Entries<T> {
     pub(crate) fn begin_read(&mut self, slot: usize, borrow: Borrow) -> Result<(), AllocError>
         requires within { slot < length self.old.slots }
         requires ascends { IfSome (slice_get self.old.slots slot)
-            (λ e. AreBelow borrow.ticket (borrows_in e.kept)) }
+            (λ e. AreBelow borrow.ticket (readers_of (content_in e.kept))) }
         ensures ok { OnOk result (self.new.slots ≡ change_entry self.old.slots slot
             (λ e. record e { kept = with_reader borrow e.kept })) }
         ensures err { OnErr result (self.new ≡ self.old) }
@@ -226,7 +276,7 @@ impl<T: Drop> Entries<T> {
         ensures rooms { self.new.rooms ≡ self.old.rooms }
     {
         match &mut self.entries[slot].content {
-            StorageEntryData::Data(index, _) => {
+            StorageEntryData::Data(_, index, _) => {
                 if *index == NO_INDEX {
                     *index = self.borrows.open(borrow);
                     return Ok(());
@@ -252,7 +302,7 @@ impl<T: Drop> Entries<T> {
         ensures rooms { self.new.rooms ≡ self.old.rooms }
     {
         match &mut self.entries[slot].content {
-            StorageEntryData::Data(index, _) => {
+            StorageEntryData::Data(_, index, _) => {
                 if *index == NO_INDEX {
                     return false;
                 }
@@ -275,9 +325,12 @@ impl<T: Drop> Entries<T> {
         ensures rooms { self.new.rooms ≡ self.old.rooms }
     {
         let index = self.borrows.open(writer);
-        let lent = StorageEntryData::Lent(index);
-        match mem::replace(&mut self.entries[slot].content, lent) {
-            StorageEntryData::Data(_, value) => value,
+        let content = &mut self.entries[slot].content;
+        match mem::replace(content, StorageEntryData::Empty) {
+            StorageEntryData::Data(kind, _, value) => {
+                *content = StorageEntryData::Lent(kind, index);
+                value
+            }
             _ => unreachable!(),
         }
     }
@@ -295,9 +348,9 @@ impl<T: Drop> Entries<T> {
         ensures rooms { self.new.rooms ≡ self.old.rooms }
     {
         match &self.entries[slot].content {
-            StorageEntryData::Lent(index) if self.borrows.is_first(*index, ticket) => {
-                let index = *index;
-                self.entries[slot].content = StorageEntryData::Data(NO_INDEX, value);
+            StorageEntryData::Lent(kind, index) if self.borrows.is_first(*index, ticket) => {
+                let (kind, index) = (*kind, *index);
+                self.entries[slot].content = StorageEntryData::Data(kind, NO_INDEX, value);
                 self.borrows.close(index);
                 Ok(())
             }
@@ -320,37 +373,97 @@ impl<T: Drop> Entries<T> {
         }
     }
 
-    // Puts a cell into a slot that has none, under the next generation, which is answered.
+    // Puts a cell without borrows into a slot that has none, under the next generation, which is
+    // answered. Nothing refers to it.
     #[inline(always)]
-    pub(crate) fn refill(&mut self, slot: usize, value: T, location: Location) -> u64
+    pub(crate) fn refill(
+        &mut self,
+        slot: usize,
+        content: StorageEntryData<T>,
+        created_at: Location,
+    ) -> u64
         requires within { slot < length self.old.slots }
         requires below { IfSome (slice_get self.old.slots slot)
             (λ e. e.generation < last_generation) }
         requires empty { IfSome (slice_get self.old.slots slot) (λ e. e.kept ≡ Empty) }
+        requires unborrowed { IsUnborrowed content }
         ensures generation { IfSome (slice_get self.old.slots slot)
             (λ e. result ≡ e.generation + 1) }
-        ensures filled { self.new.slots ≡ slice_set self.old.slots slot
-            (record { generation = result; kept = Live (Here value []) location }) }
+        ensures filled { self.new.slots ≡ slice_set self.old.slots slot (record
+            { generation = result; kept = kept_data [] created_at content; references = 0 }) }
         ensures rooms { self.new.rooms ≡ self.old.rooms }
     {
-        self.created[slot] = location;
-        self.entries[slot].refill(value)
+        self.details[slot] = EntryDetails {
+            created_at,
+            references: 0,
+        };
+        self.entries[slot].refill(content)
     }
 
-    // Adds a slot with a cell. There is room for it.
+    // Adds a slot with a cell without borrows, to which nothing refers. There is room for it.
     #[inline(always)]
-    pub(crate) fn push(&mut self, generation: u64, value: T, location: Location)
-        requires { length self.old.slots < self.old.rooms }
-        ensures pushed { self.new.slots ≡ self.old.slots ++
-            (record { generation = generation; kept = Live (Here value []) location }) ∷ [] }
+    pub(crate) fn push(
+        &mut self,
+        generation: u64,
+        content: StorageEntryData<T>,
+        created_at: Location,
+    )
+        requires room { length self.old.slots < self.old.rooms }
+        requires unborrowed { IsUnborrowed content }
+        ensures pushed { self.new.slots ≡ self.old.slots ++ (record
+            { generation = generation; kept = kept_data [] created_at content; references = 0 })
+            ∷ [] }
         ensures rooms { self.new.rooms ≡ self.old.rooms }
+        ensures few { length self.old.slots < no_index }
     {
-        let content = StorageEntryData::Data(NO_INDEX, value);
         self.entries.push_reserved(StorageEntry {
             generation,
             content,
         });
-        self.created.push_reserved(location);
+        self.details.push_reserved(EntryDetails {
+            created_at,
+            references: 0,
+        });
+    }
+
+    // Lets the slot's reference name another cell.
+    pub(crate) fn redirect(&mut self, slot: usize, target: usize)
+        requires within { slot < length self.old.slots }
+        requires target { target < length self.old.slots }
+        requires refers { IfSome (slice_get self.old.slots slot)
+            (λ e. is_some (target_in (cell_of e.kept)) ≡ true) }
+        ensures slots { IfSome (slice_get self.old.slots target)
+            (λ t. self.new.slots ≡ change_entry self.old.slots slot (λ e. record e {
+              kept = referring (record { slot = target; generation = t.generation }) e.kept;
+            })) }
+        ensures rooms { self.new.rooms ≡ self.old.rooms }
+    {
+        self.entries[slot].content = self.reference_to(target);
+    }
+
+    // One reference more names the slot's cell.
+    #[inline(always)]
+    pub(crate) fn count_up(&mut self, slot: usize)
+        requires within { slot < length self.old.slots }
+        requires few { IfSome (slice_get self.old.slots slot)
+            (λ e. e.references < length self.old.slots) }
+        ensures slots { self.new.slots ≡ change_entry self.old.slots slot
+            (λ e. record e { references = e.references + 1 }) }
+        ensures rooms { self.new.rooms ≡ self.old.rooms }
+    {
+        self.details[slot].references += 1;
+    }
+
+    // One less does.
+    #[inline(always)]
+    pub(crate) fn count_down(&mut self, slot: usize)
+        requires within { slot < length self.old.slots }
+        requires some { IfSome (slice_get self.old.slots slot) (λ e. 0 < e.references) }
+        ensures slots { self.new.slots ≡ change_entry self.old.slots slot
+            (λ e. record e { references = e.references - 1 }) }
+        ensures rooms { self.new.rooms ≡ self.old.rooms }
+    {
+        self.details[slot].references -= 1;
     }
 }
 

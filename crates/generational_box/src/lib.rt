@@ -16,9 +16,11 @@
 mod borrows;
 mod entries;
 mod entry;
+mod hindrance;
 mod owners;
 mod parts;
 mod pool;
+mod slots;
 mod table;
 mod unsync;
 

@@ -10,23 +10,18 @@ ghost use Rattle.generational_core.specs.Conditions.{names_under, names_in};
 ghost use Rattle.generational_core.specs.Names.{change};
 ghost use Rattle.generational_core.specs.declared.error.StoreError.TheVariants.{OutOfMemory};
 ghost use Rattle.generational_core.specs.declared.error.StoreError.TheVariants.{UnknownOwner};
-ghost use Rattle.generational_box.specs.OwnerRecords.{name_of_cell, knows, knows_any, record_of};
-ghost use Rattle.generational_box.specs.OwnerRecords.{add_to_list_in, IsRefusal};
+ghost use Rattle.generational_box.specs.Entry.{name_of_cell};
+ghost use Rattle.generational_box.specs.OwnerRecords.{knows, knows_any, record_of, relist_in};
+ghost use Rattle.generational_box.specs.OwnerRecords.{add_to_list_in, IsRefusal, one_relisted};
 ghost use Rattle.generational_box.specs.OwnerPlaces.{with_ownership, change_place, owners_of};
 ghost use Rattle.generational_box.specs.OwnerPlaces.{record_at, HasRecord};
 
+use crate::entry::CellName;
 use crate::pool::{LastFirst, SlotPool, make_room};
 use generational_core::parts::{key_of, number_of, place_of};
 use generational_core::{Owner, StoreError};
 use std::alloc::{AllocError, Global};
 use std::marker::Model;
-
-/// The name of a cell of the store that keeps it.
-#[derive(Clone, Copy)]
-pub(crate) struct CellName {
-    pub(crate) slot: usize,
-    pub(crate) generation: u64,
-}
 
 /// An owner's record: its boxes in order of insertion, and how many owner values are held.
 /// Contracts see it with its key.
@@ -40,7 +35,7 @@ pub(crate) struct OwnerRecord {
 impl Model for OwnerRecord {
     ghost use Rattle.std.specs.Prelude.{map as list_map};
     ghost use Rattle.generational_box.specs.OwnerPlaces.{Keyed};
-    ghost use Rattle.generational_box.specs.OwnerRecords.{name_of_cell};
+    ghost use Rattle.generational_box.specs.Entry.{name_of_cell};
 
     ghost Value = { Keyed };
 
@@ -106,6 +101,16 @@ impl OwnerRecord {
     {
         self.boxes.push(name)?;
         Ok(())
+    }
+
+    // Puts another box in the place of the last one.
+    fn relist(&mut self, name: CellName)
+        ensures { self.new ≡ with_ownership (one_relisted (name_of_cell name)) self.old }
+    {
+        let count = self.boxes.len();
+        if count > 0 {
+            self.boxes[count - 1] = name;
+        }
     }
 
     // One owner value more.
@@ -194,6 +199,17 @@ impl OwnerRecords {
         self.find(number, owner).is_some()
     }
 
+    // The same of an owner, if there is one.
+    #[inline(always)]
+    pub(crate) fn knows_any(&self, number: u64, owner: Option<&Owner>) -> bool
+        ensures { result ≡ knows_any number self.now (option_copied owner.entry) }
+    {
+        match owner {
+            None => true,
+            Some(owner) => self.knows(number, owner),
+        }
+    }
+
     // Puts a box at the end of the owner's list, if there is an owner. A refusal changes no record.
     #[inline(always)]
     pub(crate) fn list_for(
@@ -237,6 +253,24 @@ impl OwnerRecords {
             Err(_) => return Err(StoreError::OutOfMemory),
         }
         Ok(())
+    }
+
+    // Puts another box in the place of the last one of the owner's list, if there is an owner.
+    pub(crate) fn relist_for(&mut self, owner: Option<&Owner>, name: CellName)
+        ensures { self.new ≡ relist_in self.old (option_copied owner.entry) (name_of_cell name) }
+    {
+        if let Some(owner) = owner {
+            self.relist(owner, name);
+        }
+    }
+
+    // The same for an owner.
+    fn relist(&mut self, owner: &Owner, name: CellName)
+        ensures { self.new ≡ change self.old owner.now.key (one_relisted (name_of_cell name)) }
+    {
+        if let Some(place) = find_place(&self.places, owner) {
+            relist_at(&mut self.places, place, name);
+        }
     }
 
     // Why a making is refused for which there is no memory: its owner, if it has one, may be
@@ -403,6 +437,18 @@ fn list_at(
     match &mut places[place] {
         Some(found) => found.list(name),
         None => Ok(()),
+    }
+}
+
+// Puts another box in the place of the last one of the record at a place.
+fn relist_at(places: &mut Vec<Option<OwnerRecord>>, place: usize, name: CellName)
+    requires { place < vec_len places.old }
+    ensures { places.new.items
+        ≡ change_place places.old.items place (one_relisted (name_of_cell name)) }
+{
+    match &mut places[place] {
+        Some(found) => found.relist(name),
+        None => {}
     }
 }
 

@@ -1,44 +1,37 @@
 //! The parts of a sequential store.
 
-ghost use Rattle.std.specs.Prelude.{◌≡◌, ℕ, ◌+◌, ◌-◌, ◌^◌, ◌<◌, ◌≤◌, ◌∷◌, ◌++◌, [], true, max};
-ghost use Rattle.std.specs.Prelude.{length, is_some, is_none, option_copied, option_map, Some};
-ghost use Rattle.std.specs.Prelude.{None};
-ghost use Rattle.std.specs.Prelude.{IsSome, IfOk, IfErr, OnOk};
-ghost use Rattle.std.specs.Prelude.{OnErr, IsTrue, is_ok, ◌↔◌, map as list_map};
+ghost use Rattle.std.specs.Prelude.{◌≡◌, ℕ, ◌+◌, ◌-◌, ◌≤◌, true, None, is_some, option_copied};
+ghost use Rattle.std.specs.Prelude.{option_map, Option, Some, IfOk, IfErr, IfSome, IsTrue, ◌↔◌};
+ghost use Rattle.std.specs.Prelude.{◌<◌, []};
 ghost use Rattle.std.specs.FinMap as map;
 ghost use Rattle.generational_core.specs.declared.error.Refused.TheVariants as refused;
 ghost use Rattle.generational_core.specs.declared.error.BorrowError.TheVariants as reads;
 ghost use Rattle.generational_core.specs.declared.error.BorrowMutError.TheVariants as writes;
-ghost use Rattle.generational_core.specs.Cells.Content.{Here};
-ghost use Rattle.generational_core.specs.Boxes.{name_in};
-ghost use Rattle.generational_core.specs.Conditions.{fresh, IsFresh};
-ghost use Rattle.generational_core.specs.Borrowing.{fill};
-ghost use Rattle.generational_core.specs.State.{IsSound, content_at};
-ghost use Rattle.generational_core.specs.Borrowing.{read_refusal, write_refusal};
-ghost use Rattle.generational_core.specs.Borrowing.Trouble.{BeingWritten};
-ghost use Rattle.generational_core.specs.Machine.{remove_reader};
-ghost use Rattle.generational_core.specs.Machine.{read_at, write_at, has_reader, has_writer};
-ghost use Rattle.generational_core.specs.Machine.Action.{Make, NewOwner, CloneOwner, ReleaseOwner};
-ghost use Rattle.generational_core.specs.Machine.Action.{Read, Write, ReleaseReader, ReleaseWriter};
-ghost use Rattle.generational_core.specs.Machine.Action.{End};
-ghost use Rattle.generational_core.specs.Machine.Answer.{Flag};
-ghost use Rattle.generational_core.specs.Steps.{Meets, last_ticket};
-ghost use Rattle.generational_core.specs.Ending.{close};
-ghost use Rattle.generational_core.specs.Conditions.{names_under};
-ghost use Rattle.generational_box.specs.OwnerRecords.{first_borrowed, name_of_cell};
-ghost use Rattle.generational_box.specs.Entry.{FoundBorrowed, value_for};
 ghost use Rattle.generational_core.specs.Answers.{make_answer, owner_answer, release_answer};
 ghost use Rattle.generational_core.specs.Answers.{read_answer, write_answer, back_answer};
-ghost use Rattle.generational_core.specs.Answers.{end_answer, value_behind};
-ghost use Rattle.generational_core.specs.StepCalls.{is_ready};
+ghost use Rattle.generational_core.specs.Answers.{end_answer, reference_answer, read_refused};
+ghost use Rattle.generational_core.specs.Answers.{value_behind};
+ghost use Rattle.generational_core.specs.Borrowing.{reach, read_trouble};
+ghost use Rattle.generational_core.specs.Boxes.{box_of, id_of, name_in};
+ghost use Rattle.generational_core.specs.Cells.{content_of, is_shared};
+ghost use Rattle.generational_core.specs.Conditions.{fresh, HasTargets, IsFresh};
+ghost use Rattle.generational_core.specs.Machine.{is_known, own_cell, OwnerName};
+ghost use Rattle.generational_core.specs.Machine.Action.{Make, MakeShared, Refer, NewOwner};
+ghost use Rattle.generational_core.specs.Machine.Action.{CloneOwner, ReleaseOwner, Read, Write};
+ghost use Rattle.generational_core.specs.Machine.Action.{ReleaseReader, ReleaseWriter, End, Point};
+ghost use Rattle.generational_core.specs.Machine.Answer.{Flag};
 ghost use Rattle.generational_core.specs.Slots.{slots, free, retired};
-ghost use Rattle.generational_box.specs.Slotted.{cells_of};
-ghost use Rattle.generational_box.specs.Slotted.{is_here, is_unborrowed, OnlyValues};
-ghost use Rattle.generational_core.specs.Machine.{own_cell};
+ghost use Rattle.generational_core.specs.State.{IsSound};
+ghost use Rattle.generational_core.specs.StepCalls.{is_ready};
+ghost use Rattle.generational_core.specs.Steps.{Meets, last_ticket};
+ghost use Rattle.generational_box.specs.Entry.{cell_of, name_of_cell, target_in};
+ghost use Rattle.generational_box.specs.Entries.{IsUnborrowed, kept_data, target_of};
+ghost use Rattle.generational_box.specs.Slotted.{IsMade};
 
-use crate::entries::Entries;
-use crate::owners::{CellName, OwnerRecords};
+use crate::entry::{CellName, Kind, NO_INDEX, StorageEntryData};
+use crate::owners::OwnerRecords;
 use crate::pool::SlotPool;
+use crate::slots::Slots;
 use generational_core::parts::{
     Borrow, id_at, id_read, into_reader, into_writer, key_of, owner_at, pointer_at, reader_at,
     writer_at,
@@ -48,8 +41,14 @@ use generational_core::{
     GenerationalBoxId, GenerationalPointer, GenerationalRef, GenerationalRefMut, Location, Owner,
     Refusal, Refused, StepCall, StoreError, ValueDroppedError,
 };
-use std::alloc::{AllocError, Global};
+use std::alloc::Global;
 use std::marker::Model;
+
+// Stands in an owner's list for a name that isn't known yet.
+const NOBODY: CellName = CellName {
+    slot: 0,
+    generation: 0,
+};
 
 // The parts of a store. Contracts see them as the state of the abstract machine. `P` chooses which
 // free slot is taken. That each call is a step of the machine is promised here; that the state is
@@ -58,36 +57,26 @@ use std::marker::Model;
 pub(crate) struct Parts<T, P: SlotPool> {
     alloc: Global,
     number: u64,
-    // the first generation of a slot
-    start: u64,
     // the next ticket
     next: u64,
-    // how many cells are live, and the most that were live at once
-    live: usize,
-    peak: usize,
-    slots: Entries<T>,
-    pool: P,
+    slots: Slots<T, P>,
     owners: OwnerRecords,
 }
 
 impl<T, P: SlotPool> Model for Parts<T, P> {
-    ghost use Rattle.std.specs.Prelude.{◌≤◌, length};
     ghost use Rattle.std.specs.Coded.{codes};
     ghost use Rattle.std.specs.FinMap as map;
     ghost use Rattle.generational_core.specs.State.{State};
-    ghost use Rattle.generational_box.specs.Slotted.{state_of, IsSlotted};
+    ghost use Rattle.generational_box.specs.Slotted.{with_records};
     ghost use Rattle.generational_box.specs.OwnerRecords.{AreCounted};
 
     ghost Value = { State T };
 
     ghost coded = { Prim.hlevel (codes, map.code) };
 
-    ghost view = { λ s.
-        state_of s.owners s.number s.start s.next s.peak s.slots.slots };
+    ghost view = { λ s. with_records s.slots.state s.number s.owners s.next };
 
-    ghost invariant = { λ s. IsSlotted (P.members s.pool) (P.rooms s.pool) s.start s.live s.peak
-        s.slots.slots × AreCounted s.next s.owners
-        × (length s.slots.slots ≤ s.slots.rooms) };
+    ghost invariant = { λ s. AreCounted s.next s.owners };
 }
 
 /// Where a store's numbers begin.
@@ -108,244 +97,86 @@ impl<T, P: SlotPool> Parts<T, P> {
         Parts {
             alloc,
             number,
-            start: numbers.generation,
             next: numbers.ticket,
-            live: 0,
-            peak: 0,
-            slots: Entries::new(alloc),
-            pool: P::new(alloc),
+            slots: Slots::new(alloc, numbers.generation),
             owners: OwnerRecords::new(alloc),
         }
     }
 }
 
 impl<T: Drop, P: SlotPool> Parts<T, P> {
-    // Whether a cell with this id is live.
+    // What the box reaches.
     #[inline(always)]
-    fn is_live(&self, id: GenerationalBoxId) -> bool
-        ensures cell { result ≡ is_some (own_cell self.now id) }
-        ensures values { OnlyValues self.now.cells }
+    fn reach(&self, pointer: GenerationalPointer) -> Option<CellName>
+        ensures { option_map name_of_cell result ≡ reach self.now pointer }
     {
-        id.store == self.number && self.slots.valid(id.slot, id.generation)
-    }
-
-    // The writer that stands in the way of a read of a live cell.
-    #[inline(always)]
-    fn borrow_error(&self, id: GenerationalBoxId) -> Option<AlreadyBorrowedMutError>
-        requires { IsSome (own_cell self.now id) }
-        ensures { option_map (λ writer. BeingWritten writer.borrowed_mut_at) result
-            ≡ read_refusal (content_at self.now (name_in id)) }
-    {
-        self.slots.borrow_error(id.slot)
-    }
-
-    // Whether no borrow stands at a live cell.
-    #[inline(always)]
-    fn is_unborrowed(&self, id: GenerationalBoxId) -> bool
-        requires { IsSome (own_cell self.now id) }
-        ensures { result ≡ is_none (write_refusal (content_at self.now (name_in id))) }
-    {
-        self.slots.is_unborrowed(id.slot)
-    }
-
-    // The borrows that stand in the way of a write or an end of a live cell.
-    #[inline(always)]
-    fn borrow_mut_error(&self, id: GenerationalBoxId) -> BorrowMutResult<()>
-        requires { IsSome (own_cell self.now id) }
-        ensures { FoundBorrowed (write_refusal (content_at self.now (name_in id))) result }
-    {
-        self.slots.borrow_mut_error(id.slot)
-    }
-
-    // The value of a live cell, where the reader stands.
-    #[inline(always)]
-    fn open_cell(&self, id: GenerationalBoxId, ticket: u64) -> Option<&T>
-        requires { IsSome (own_cell self.now id) }
-        ensures { option_copied result ≡ value_for ticket (content_at self.now (name_in id)) }
-    {
-        self.slots.open(id.slot, ticket)
-    }
-
-    // Begins a read of a live cell that isn't lent. Want of memory changes nothing.
-    #[inline(always)]
-    fn begin_read(&mut self, id: GenerationalBoxId, location: Location) -> Result<u64, AllocError>
-        requires here { is_here (own_cell self.old id) ≡ true }
-        requires numbers { self.old.next < last_ticket }
-        requires sound { IsSound self.old }
-        ensures ticket { IfOk result (λ ticket. ticket ≡ self.old.next) }
-        ensures ok { OnOk result (self.new ≡
-            (read_at self.old location (Some (name_in id)) (content_at self.old (name_in id))).1) }
-        ensures err { OnErr result (self.new ≡ self.old) }
-        ensures beside { OnErr result
-            (is_some (write_refusal (content_at self.old (name_in id))) ≡ true) }
-    {
-        let ticket = self.next;
-        let borrow = Borrow { ticket, location };
-        match self.slots.begin_read(id.slot, borrow) {
-            Ok(()) => {
-                self.next = ticket + 1;
-                Ok(ticket)
-            }
-            Err(error) => Err(error),
+        if pointer.id.store == self.number {
+            self.slots.reach(cell_name(pointer.id))
+        } else {
+            None
         }
     }
 
-    // Takes a reader away from a live cell. The answer is whether it stood.
+    // The shared value that the box reaches, unless a writer has it.
+    fn shared_by(&self, inner: GenerationalPointer) -> BorrowResult<CellName>
+        requires { IsSound self.now }
+        ensures ok { IfOk result (λ m. (reach self.now inner ≡ Some (name_of_cell m))
+            × (read_trouble self.now inner ≡ None)
+            × (is_shared (map.get self.now.cells (name_of_cell m)) ≡ true)) }
+        ensures err { IfErr result (λ e. (o : Option OwnerName) → is_known self.now o ≡ true →
+            Meets self.now (Refer o inner) (read_refused e) self.now) }
+    {
+        let Some(name) = self.reach(inner) else {
+            return Err(dropped(inner));
+        };
+        if let Some(writer) = self.slots.borrow_error(name) {
+            return Err(lent(writer));
+        }
+        if self.is_shared(name) {
+            return Ok(name);
+        }
+        Err(dropped(inner))
+    }
+
+    // Whether the cell of this name is a shared value, also one that is lent.
+    fn is_shared(&self, name: CellName) -> bool
+        ensures { result ≡ is_shared (map.get self.now.cells (name_of_cell name)) }
+    {
+        matches!(self.slots.kind(name), Some(Kind::Shared))
+    }
+
+    // The id of a cell of this store, and the box of a new one.
     #[inline(always)]
-    fn end_read(&mut self, id: GenerationalBoxId, ticket: u64) -> bool
-        requires { IsSome (own_cell self.old id) }
-        ensures known { result ≡ has_reader (content_at self.old (name_in id)) ticket }
-        ensures after { self.new ≡ remove_reader self.old (name_in id) ticket
-            (content_at self.old (name_in id)) }
+    fn id_of(&self, name: CellName) -> GenerationalBoxId
+        ensures { result ≡ id_of self.now.number (name_of_cell name) }
     {
-        self.slots.release_read(id.slot, ticket)
+        id_at(self.number, name.slot, name.generation)
     }
 
-    // Lends the value of a cell without borrows to a writer.
     #[inline(always)]
-    fn begin_write(&mut self, id: GenerationalBoxId, location: Location) -> T
-        requires free { is_unborrowed (own_cell self.old id) ≡ true }
-        requires numbers { self.old.next < last_ticket }
-        ensures value { content_at self.old (name_in id) ≡ Some (Here result []) }
-        ensures after { self.new ≡ (write_at self.old location (Some (name_in id))
-            (content_at self.old (name_in id))).1 }
+    fn pointer_to(&self, name: CellName, created_at: Location) -> GenerationalPointer
+        ensures { result ≡ box_of self.now.number (name_of_cell name) created_at }
     {
-        let ticket = self.next;
-        self.next = ticket + 1;
-        self.slots.begin_write(id.slot, Borrow { ticket, location })
+        pointer_at(self.number, name.slot, name.generation, created_at)
     }
 
-    // Puts a writer's value back into a live cell, or hands it back where the writer doesn't
-    // stand, which changes nothing.
+    // What the box's reference names, if its cell is one.
+    fn target(&self, pointer: GenerationalPointer) -> Option<CellName>
+        ensures { option_map name_of_cell result ≡ target_in (own_cell self.now pointer.id) }
+    {
+        if pointer.id.store == self.number {
+            self.slots.target(cell_name(pointer.id))
+        } else {
+            None
+        }
+    }
+
+    // Whether a value has this id, also one that is lent.
     #[inline(always)]
-    fn end_write(&mut self, id: GenerationalBoxId, ticket: u64, value: T) -> Result<(), T>
-        requires { IsSome (own_cell self.old id) }
-        ensures known { IsTrue (is_ok result) ↔
-            (has_writer (content_at self.old (name_in id)) ticket ≡ true) }
-        ensures ok { OnOk result (self.new ≡ fill self.old (name_in id) (Here value [])) }
-        ensures err { IfErr result (λ back. (back ≡ value) × (self.new ≡ self.old)) }
+    fn holds(&self, id: GenerationalBoxId) -> bool
+        ensures { result ≡ is_some (content_of (own_cell self.now id)) }
     {
-        self.slots.release_write(id.slot, ticket, value)
-    }
-
-    // Ends a live cell. Its slot is free from then on, unless its generation is the last.
-    #[inline(always)]
-    fn end(&mut self, id: GenerationalBoxId)
-        requires { IsSome (own_cell self.old id) }
-        ensures { self.new ≡ record self.old { cells = map.remove self.old.cells (name_in id) } }
-    {
-        self.slots.end(id.slot);
-        self.live -= 1;
-        if id.generation < u64::MAX {
-            self.pool.put(id.slot);
-        }
-    }
-
-    // Takes the owner's record away: its boxes.
-    fn take_boxes(&mut self, owner: &Owner) -> Vec<CellName>
-        ensures names { list_map name_of_cell result.items
-            ≡ names_under self.old.owners owner.now.key }
-        ensures after { self.new ≡ record self.old
-            { owners = map.remove self.old.owners owner.now.key } }
-        ensures values { OnlyValues self.new.cells }
-    {
-        self.owners.take(owner, self.alloc)
-    }
-
-    // Ends the live cells among these, from the first to the last: so their slots go to the pool
-    // in the order of the list.
-    fn end_all(&mut self, boxes: Vec<CellName>)
-        requires { OnlyValues self.old.cells }
-        ensures { self.new ≡ close self.old (list_map name_of_cell boxes.items) }
-    {
-        for name in boxes.as_slice() {
-            self.end_named(*name);
-        }
-    }
-
-    // Ends a cell, if it is live.
-    fn end_named(&mut self, name: CellName)
-        ensures { self.new ≡ record self.old
-            { cells = map.remove self.old.cells (name_of_cell name) } }
-    {
-        let id = id_at(self.number, name.slot, name.generation);
-        if self.is_live(id) {
-            self.end(id);
-        }
-    }
-}
-
-// What hinders the end of these cells, at the first of them that is hindered.
-fn first_borrowed<T>(slots: &Entries<T>, names: &[CellName]) -> BorrowMutResult<()>
-    ensures { FoundBorrowed
-        (first_borrowed (cells_of slots.now.slots) (list_map name_of_cell names.now)) result }
-{
-    for name in names {
-        if slots.valid(name.slot, name.generation) {
-            match slots.borrow_mut_error(name.slot) {
-                Ok(()) => {}
-                Err(refused) => return Err(refused),
-            }
-        }
-    }
-    Ok(())
-}
-
-// Makes room for one more slot, and for its number among the free ones. Want of memory changes no
-// slot.
-#[inline(always)]
-fn make_room<T: Drop, P: SlotPool>(slots: &mut Entries<T>, pool: &mut P) -> Result<(), StoreError>
-    requires pool { length slots.old.slots ≤ P.rooms pool.old }
-    requires slots { length slots.old.slots ≤ slots.old.rooms }
-    ensures slots { slots.new.slots ≡ slots.old.slots }
-    ensures filled { length slots.new.slots ≤ slots.new.rooms }
-    ensures pool { P.members pool.new ≡ P.members pool.old }
-    ensures rooms { P.rooms pool.old ≤ P.rooms pool.new }
-    ensures ok { OnOk result (length slots.new.slots < slots.new.rooms) }
-    ensures grown { OnOk result (length slots.new.slots < P.rooms pool.new) }
-    ensures numbers { OnOk result (length slots.new.slots < 18446744073709551615) }
-{
-    if slots.len() < slots.room() {
-        if slots.len() < pool.room() {
-            return Ok(());
-        }
-        return pool.grow();
-    }
-    grow(slots, pool)
-}
-
-// The same where there is no room.
-#[cold]
-#[inline(never)]
-fn grow<T: Drop, P: SlotPool>(slots: &mut Entries<T>, pool: &mut P) -> Result<(), StoreError>
-    requires pool { length slots.old.slots ≤ P.rooms pool.old }
-    requires slots { length slots.old.slots ≤ slots.old.rooms }
-    ensures slots { slots.new.slots ≡ slots.old.slots }
-    ensures filled { length slots.new.slots ≤ slots.new.rooms }
-    ensures pool { P.members pool.new ≡ P.members pool.old }
-    ensures rooms { P.rooms pool.old ≤ P.rooms pool.new }
-    ensures ok { OnOk result (length slots.new.slots < slots.new.rooms) }
-    ensures grown { OnOk result (length slots.new.slots < P.rooms pool.new) }
-    ensures numbers { OnOk result (length slots.new.slots < 18446744073709551615) }
-{
-    slots.grow()?;
-    if pool.room() == slots.len() {
-        pool.grow()?;
-    }
-    Ok(())
-}
-
-// One more cell is live, where fewer are than were at once, or than can be counted.
-#[inline(always)]
-fn count_one(live: &mut usize, peak: &mut usize)
-    requires { live.old < max peak.old 18446744073709551615 }
-    ensures live { live.new ≡ live.old + 1 }
-    ensures peak { peak.new ≡ max peak.old live.new }
-{
-    let most = *peak;
-    *live += 1;
-    if most < *live {
-        *peak = *live;
+        id.store == self.number && self.slots.kind(cell_name(id)).is_some()
     }
 }
 
@@ -362,7 +193,7 @@ impl<T: Drop, P: SlotPool> Parts<T, P> {
     pub(crate) fn is_fresh(&self) -> bool
         ensures { IsTrue result ↔ IsFresh self.now }
     {
-        self.slots.len() == 0 && self.owners.is_empty()
+        self.slots.is_fresh() && self.owners.is_empty()
     }
 
     // How many slots were ever made.
@@ -370,28 +201,28 @@ impl<T: Drop, P: SlotPool> Parts<T, P> {
         ensures count { result ≡ slots self.now }
         ensures bounded { slots self.now ≤ self.now.peak + retired self.now }
     {
-        self.slots.len()
+        self.slots.slots()
     }
 
     // How many slots are free.
     pub(crate) fn free(&self) -> usize
         ensures { result ≡ free self.now }
     {
-        self.pool.free()
+        self.slots.free()
     }
 
     // How many slots are never used again.
     pub(crate) fn retired(&self) -> usize
         ensures { result ≡ retired self.now }
     {
-        self.slots.len() - self.live - self.pool.free()
+        self.slots.retired()
     }
 
     // The most cells that were live at once.
     pub(crate) fn peak_live(&self) -> usize
         ensures { result ≡ self.now.peak }
     {
-        self.peak
+        self.slots.peak_live()
     }
 
     // How many tickets are left.
@@ -438,6 +269,7 @@ impl<T: Drop, P: SlotPool> Parts<T, P> {
         &mut self,
         owner: Owner,
     ) -> Result<(), (Owner, Refused<BorrowMutError>)>
+        requires sound { IsSound self.old }
         ensures step { Meets self.old (ReleaseOwner owner) (release_answer result) self.new }
         ensures back { IfErr result (λ refusal. refusal.0 ≡ owner) }
     {
@@ -448,30 +280,29 @@ impl<T: Drop, P: SlotPool> Parts<T, P> {
                 owner.leak();
                 return Ok(());
             }
-            Some(record) => {
-                match first_borrowed(&self.slots, record.boxes()) {
-                    Ok(()) => {}
-                    Err(refused) => return Err((owner, refused)),
-                }
-            }
+            Some(record) => match self.slots.end_all(record.boxes()) {
+                Ok(()) => {}
+                Err(refused) => return Err((owner, refused)),
+            },
         }
-        let boxes = self.take_boxes(&owner);
-        self.end_all(boxes);
+        self.owners.take(&owner, self.alloc);
         owner.leak();
         Ok(())
     }
 
     // Whether the call meets no borrow.
     pub(crate) fn ready(&self, call: &StepCall) -> bool
+        requires { IsSound self.now }
         ensures { result ≡ is_ready self.now call.now }
     {
         match call {
             StepCall::Leak(_) | StepCall::ReleaseRead(_) => true,
-            StepCall::Read(pointer, _) => {
-                !self.is_live(pointer.id) || self.borrow_error(pointer.id).is_none()
-            }
+            StepCall::Read(pointer, _) => match self.reach(*pointer) {
+                Some(name) => self.slots.borrow_error(name).is_none(),
+                None => true,
+            },
             StepCall::ManuallyDrop(pointer) => {
-                !self.is_live(pointer.id) || self.is_unborrowed(pointer.id)
+                pointer.id.store != self.number || self.slots.may_end(cell_name(pointer.id))
             }
         }
     }
@@ -479,17 +310,13 @@ impl<T: Drop, P: SlotPool> Parts<T, P> {
     // Ends the cell that the pointer names.
     #[inline(always)]
     pub(crate) fn recycle(&mut self, pointer: GenerationalPointer) -> BorrowMutResult<()>
+        requires { IsSound self.old }
         ensures { Meets self.old (End pointer) (end_answer result) self.new }
     {
-        if !self.is_live(pointer.id) {
+        if pointer.id.store != self.number {
             return Ok(());
         }
-        match self.borrow_mut_error(pointer.id) {
-            Ok(()) => {}
-            Err(refused) => return Err(refused),
-        }
-        self.end(pointer.id);
-        Ok(())
+        self.slots.end(cell_name(pointer.id))
     }
 
     // Makes a cell of a value, at the end of the owner's list.
@@ -500,40 +327,108 @@ impl<T: Drop, P: SlotPool> Parts<T, P> {
         location: Location,
         owner: Option<&Owner>,
     ) -> Result<GenerationalPointer, Refusal<T>>
+        requires sound { IsSound self.old }
         ensures step { Meets self.old (Make (option_copied owner.entry) value location)
             (make_answer result) self.new }
         ensures back { IfErr result (λ refusal. refusal.value ≡ value) }
     {
-        match self.pool.take() {
-            Some(slot) => {
-                let generation = self.slots.generation(slot) + 1;
-                let name = CellName { slot, generation };
-                if let Err(cause) = self.owners.list_for(self.number, owner, name) {
-                    self.pool.put(slot);
-                    return Err(Refusal { value, cause });
-                }
-                self.slots.refill(slot, value, location);
-                count_one(&mut self.live, &mut self.peak);
-                Ok(pointer_at(self.number, slot, generation, location))
-            }
-            None => {
-                match make_room(&mut self.slots, &mut self.pool) {
-                    Ok(()) => {}
-                    Err(_) => {
-                        let cause = self.owners.lacking(self.number, owner);
-                        return Err(Refusal { value, cause });
-                    }
-                }
-                let (slot, generation) = (self.slots.len(), self.start);
-                let name = CellName { slot, generation };
-                if let Err(cause) = self.owners.list_for(self.number, owner, name) {
-                    return Err(Refusal { value, cause });
-                }
-                self.slots.push(generation, value, location);
-                count_one(&mut self.live, &mut self.peak);
-                Ok(pointer_at(self.number, slot, generation, location))
-            }
+        let content = StorageEntryData::Data(Kind::Value, NO_INDEX, value);
+        match self
+            .slots
+            .make(content, location, &mut self.owners, self.number, owner)
+        {
+            Ok(name) => Ok(self.pointer_to(name, location)),
+            Err((content, cause)) => Err(Refusal {
+                value: content.into_value(),
+                cause,
+            }),
         }
+    }
+
+    // Makes a shared value and a reference to it, at the end of the owner's list. Room for both is
+    // made first, and a place in the list.
+    pub(crate) fn make_shared(
+        &mut self,
+        value: T,
+        location: Location,
+        owner: Option<&Owner>,
+    ) -> Result<GenerationalPointer, Refusal<T>>
+        requires sound { IsSound self.old }
+        ensures step { Meets self.old (MakeShared (option_copied owner.entry) value location)
+            (make_answer result) self.new }
+        ensures back { IfErr result (λ refusal. refusal.value ≡ value) }
+    {
+        if self.slots.reserve_two().is_err() {
+            let cause = self.owners.lacking(self.number, owner);
+            return Err(Refusal { value, cause });
+        }
+        if let Err(cause) = self.owners.list_for(self.number, owner, NOBODY) {
+            return Err(Refusal { value, cause });
+        }
+        let content = StorageEntryData::Data(Kind::Shared, NO_INDEX, value);
+        let shared = make_alone(&mut self.slots, &mut self.owners, content, location);
+        let content = self.slots.reference_to(shared);
+        let reference = make_alone(&mut self.slots, &mut self.owners, content, location);
+        self.owners.relist_for(owner, reference);
+        Ok(self.pointer_to(reference, location))
+    }
+
+    // Makes a reference to the shared value that the box reaches, at the end of the owner's list.
+    pub(crate) fn make_reference(
+        &mut self,
+        inner: GenerationalPointer,
+        owner: Option<&Owner>,
+    ) -> BorrowResult<GenerationalPointer>
+        requires sound { IsSound self.old }
+        ensures step { Meets self.old (Refer (option_copied owner.entry) inner)
+            (reference_answer result) self.new }
+    {
+        if !self.owners.knows_any(self.number, owner) {
+            return Err(Refused::Store(StoreError::UnknownOwner));
+        }
+        let shared = match self.shared_by(inner) {
+            Ok(shared) => shared,
+            Err(refused) => return Err(refused),
+        };
+        let created_at = self.slots.created_at(shared);
+        let content = self.slots.reference_to(shared);
+        match self
+            .slots
+            .make(content, created_at, &mut self.owners, self.number, owner)
+        {
+            Ok(name) => Ok(self.pointer_to(name, created_at)),
+            Err((_, cause)) => Err(Refused::Store(cause)),
+        }
+    }
+
+    // Lets the pointer's reference name the shared value that the other one reaches.
+    pub(crate) fn change_reference(
+        &mut self,
+        pointer: GenerationalPointer,
+        other: GenerationalPointer,
+    ) -> BorrowMutResult<()>
+        requires { IsSound self.old }
+        ensures { Meets self.old (Point pointer other) (end_answer result) self.new }
+    {
+        if pointer == other {
+            return Ok(());
+        }
+        let Some(new) = self.reach(other) else {
+            return Err(dropped_mut(other));
+        };
+        if let Some(writer) = self.slots.borrow_error(new) {
+            return Err(lent_mut(writer));
+        }
+        let Some(old) = self.target(pointer) else {
+            if !self.holds(pointer.id) {
+                return Err(dropped_mut(pointer));
+            }
+            return Err(dropped_at(self.slots.created_at(new)));
+        };
+        if !self.is_shared(new) {
+            return Err(dropped_at(self.slots.created_at(new)));
+        }
+        self.slots.turn(cell_name(pointer.id), old, new)
     }
 
     // Begins a read.
@@ -546,19 +441,22 @@ impl<T: Drop, P: SlotPool> Parts<T, P> {
         requires sound { IsSound self.old }
         ensures { Meets self.old (Read pointer location) (read_answer result) self.new }
     {
-        let id = pointer.id;
-        if !self.is_live(id) {
+        let Some(name) = self.reach(pointer) else {
             return Err(dropped(pointer));
-        }
-        match self.borrow_error(id) {
+        };
+        match self.slots.borrow_error(name) {
             None => {}
             Some(writer) => return Err(lent(writer)),
         }
-        if self.next == u64::MAX {
+        let ticket = self.next;
+        if ticket == u64::MAX {
             return Err(Refused::Store(StoreError::NumbersExhausted));
         }
-        match self.begin_read(id, location) {
-            Ok(ticket) => Ok(reader_at(id, ticket)),
+        match self.slots.begin_read(name, Borrow { ticket, location }) {
+            Ok(()) => {
+                self.next = ticket + 1;
+                Ok(reader_at(self.id_of(name), ticket))
+            }
             Err(_) => Err(Refused::Store(StoreError::OutOfMemory)),
         }
     }
@@ -570,22 +468,23 @@ impl<T: Drop, P: SlotPool> Parts<T, P> {
         pointer: GenerationalPointer,
         location: Location,
     ) -> BorrowMutResult<GenerationalRefMut<T>>
+        requires sound { IsSound self.old }
         ensures { Meets self.old (Write pointer location) (write_answer result) self.new }
     {
-        let id = pointer.id;
-        if !self.is_live(id) {
+        let Some(name) = self.reach(pointer) else {
             return Err(dropped_mut(pointer));
-        }
-        match self.borrow_mut_error(id) {
+        };
+        match self.slots.borrow_mut_error(name) {
             Ok(()) => {}
             Err(refused) => return Err(refused),
         }
-        if self.next == u64::MAX {
+        let ticket = self.next;
+        if ticket == u64::MAX {
             return Err(Refused::Store(StoreError::NumbersExhausted));
         }
-        let ticket = self.next;
-        let value = self.begin_write(id, location);
-        Ok(writer_at(id, ticket, value))
+        let value = self.slots.begin_write(name, Borrow { ticket, location });
+        self.next = ticket + 1;
+        Ok(writer_at(self.id_of(name), ticket, value))
     }
 
     // Ends a write, and puts the guard's value back.
@@ -595,8 +494,8 @@ impl<T: Drop, P: SlotPool> Parts<T, P> {
             self.new }
     {
         let (id, ticket, value) = into_writer(guard);
-        if self.is_live(id) {
-            return self.end_write(id, ticket, value);
+        if self.holds(id) {
+            return self.slots.release_write(cell_name(id), ticket, value);
         }
         Err(value)
     }
@@ -607,8 +506,8 @@ impl<T: Drop, P: SlotPool> Parts<T, P> {
         ensures { option_copied result ≡ value_behind self.now guard.now }
     {
         let id = id_read(guard);
-        if self.is_live(id) {
-            return self.open_cell(id, guard.ticket());
+        if self.holds(id) {
+            return self.slots.open(cell_name(id), guard.ticket());
         }
         None
     }
@@ -619,7 +518,40 @@ impl<T: Drop, P: SlotPool> Parts<T, P> {
         ensures { Meets self.old (ReleaseReader guard) (Flag result) self.new }
     {
         let (id, ticket) = into_reader(guard);
-        self.is_live(id) && self.end_read(id, ticket)
+        self.holds(id) && self.slots.release_read(cell_name(id), ticket)
+    }
+}
+
+// Makes a cell outside all lists, for which there is room.
+fn make_alone<T: Drop, P: SlotPool>(
+    slots: &mut Slots<T, P>,
+    owners: &mut OwnerRecords,
+    content: StorageEntryData<T>,
+    created_at: Location,
+) -> CellName
+    requires room { 0 < slots.old.spare }
+    requires unborrowed { IsUnborrowed content }
+    requires target { IfSome (target_of content)
+        (λ m. is_shared (map.get slots.old.state.cells m) ≡ true) }
+    requires linked { HasTargets slots.old.state.cells }
+    ensures made { IsMade slots.old slots.new (cell_of (kept_data [] created_at content))
+        (name_of_cell result) }
+    ensures unlisted { owners.new ≡ owners.old }
+{
+    match slots.make(content, created_at, owners, 0, None) {
+        Ok(name) => name,
+        Err(_) => unreachable!(),
+    }
+}
+
+// The name in an id.
+#[inline(always)]
+fn cell_name(id: GenerationalBoxId) -> CellName
+    ensures { name_of_cell result ≡ name_in id }
+{
+    CellName {
+        slot: id.slot,
+        generation: id.generation,
     }
 }
 
@@ -643,4 +575,18 @@ fn dropped_mut(pointer: GenerationalPointer) -> Refused<BorrowMutError>
         (writes.Dropped (record { created_at = pointer.created_at })) }
 {
     Refused::Borrow(BorrowMutError::Dropped(ValueDroppedError::new(pointer.created_at)))
+}
+
+// The same where the value was made at a location.
+fn dropped_at(created_at: Location) -> Refused<BorrowMutError>
+    ensures { result ≡ refused.Borrow (writes.Dropped (record { created_at = created_at })) }
+{
+    Refused::Borrow(BorrowMutError::Dropped(ValueDroppedError::new(created_at)))
+}
+
+// The answer to a call that meets the writer of a value.
+fn lent_mut(writer: AlreadyBorrowedMutError) -> Refused<BorrowMutError>
+    ensures { result ≡ refused.Borrow (writes.AlreadyBorrowedMut writer) }
+{
+    Refused::Borrow(BorrowMutError::AlreadyBorrowedMut(writer))
 }

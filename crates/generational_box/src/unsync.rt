@@ -150,6 +150,31 @@ impl<T: Drop, P: SlotPool> Storage<T> for Store<T, P> {
         self.parts.make(value, location, owner)
     }
 
+    fn new_rc(
+        &mut self,
+        value: T,
+        location: Location,
+        owner: Option<&Owner>,
+    ) -> Result<GenerationalPointer, Refusal<T>> {
+        self.parts.make_shared(value, location, owner)
+    }
+
+    fn new_reference(
+        &mut self,
+        inner: GenerationalPointer,
+        owner: Option<&Owner>,
+    ) -> BorrowResult<GenerationalPointer> {
+        self.parts.make_reference(inner, owner)
+    }
+
+    fn change_reference(
+        &mut self,
+        pointer: GenerationalPointer,
+        other: GenerationalPointer,
+    ) -> BorrowMutResult<()> {
+        self.parts.change_reference(pointer, other)
+    }
+
     #[inline(always)]
     fn try_read(
         &mut self,

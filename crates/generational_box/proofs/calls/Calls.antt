@@ -1,38 +1,34 @@
--- The calls of a store whose cells are Values, as steps of the machine.
-use Rattle.std.proofs.Common.{◌≡◌, ℕ, ◌<◌, Bool, true, false, cond, ◌&&◌, ◌||◌, List, [], ◌∷◌}
+-- The calls on the cells of a store, as steps of the machine.
+use Rattle.std.proofs.Common.{◌≡◌, ℕ, ◌+◌, ◌<◌, Bool, true, false, cond, ◌&&◌, ◌||◌, List, [], ◌∷◌}
 use Rattle.std.proofs.Common.{arith, Option, None, Some, Result, Ok, Err, IsTrue, refl, sym, ap}
-use Rattle.std.proofs.Common.{◌∙◌, inl, inr, is_some, is_none, is_ok, not, nat_eq, option_map}
-use Rattle.std.proofs.Common.{IfErr, OnOk}
+use Rattle.std.proofs.Common.{◌∙◌, inl, inr, is_some, is_ok, not, nat_eq, subst, IfSome, ◌↔◌, ◌≢◌}
+use Rattle.std.proofs.Common.{IfErr, OnOk, IsSome, map as list_map}
 use Rattle.std.specs.List.{list_any, filter}
-use Rattle.std.specs.Option.{option_or}
-use Rattle.std.proofs.lemmas.Bool.{true≢false, false≢true, eq-eqb, eqb-true, ne_eqb}
-use Rattle.std.proofs.lemmas.Bool.{false_from_ne_true, or_left, or_right}
+use Rattle.std.proofs.lemmas.Bool.{true≢false, false≢true, eq-eqb, ne_eqb, false_from_ne_true}
+use Rattle.std.specs.Cmp.{nat_eq_equiv}
 use Rattle.std.specs.FinMap as map
 use Rattle.generational_core.specs.declared.error.Refused.TheVariants as refused
+use Rattle.generational_core.specs.declared.error.Refused.{Refused}
+use Rattle.generational_core.specs.Machine.{Action, Outcome, act, read_at, write_at, own_cell}
+use Rattle.generational_core.specs.Machine.{next_guard, has_reader, has_writer, cell_at, unless}
+use Rattle.generational_core.specs.Machine.Answer.{Reads, Writes, Flag, Back, Troubled}
+use Rattle.generational_core.specs.Machine.Answer.{Refused as refuses}
+use Rattle.generational_core.specs.Boxes.{id_of}
+use Rattle.generational_core.specs.State.{tickets_of}
+use Rattle.generational_box.specs.Borrows.{AreBelow}
+use Rattle.generational_box.specs.Entry.{FoundBorrowed, less_read, one_read, readers_of}
 use Rattle.generational_box.proofs.Common.{Borrow, GenerationalBoxId, GenerationalPointer}
 use Rattle.generational_box.proofs.Common.{BorrowMutError, Location, OutOfMemory, NumbersExhausted}
-use Rattle.generational_box.proofs.Common.{ManuallyDrop, end_refused, back_answer, WriteGuard}
+use Rattle.generational_box.proofs.Common.{end_refused, back_answer, WriteGuard, IsSound, Owners}
 use Rattle.generational_box.proofs.Common.{Trouble, Guard, reach, leads_to, read_trouble, fill}
 use Rattle.generational_box.proofs.Common.{write_trouble, read_refusal, write_refusal, Dropped}
 use Rattle.generational_box.proofs.Common.{BeingRead, name_of, name_in, Content, Cell, content_of}
-use Rattle.generational_box.proofs.Common.{refill, is_shared, Value, Here, Lent, sweep, take_away}
-use Rattle.generational_box.proofs.Common.{cells_after, close, hindrance_to, hindrance_of}
-use Rattle.generational_box.proofs.Common.{first_hindrance, Read, Write, End, ReleaseReader}
-use Rattle.generational_box.proofs.Common.{ReleaseWriter, Name, NameMap, is_name, among, is_ready}
-use Rattle.generational_box.proofs.Common.{tells_of_borrow, State, content_at, is_named, Meets}
-use Rattle.generational_box.proofs.Common.{limit_tickets, may_lack, no_names, last_ticket}
-use Rattle.generational_box.proofs.Common.{needs_memory}
-use Rattle.generational_box.proofs.Common.{takes_ticket, by_name, name_exact, name_total, name_here}
-use Rattle.generational_box.proofs.Common.{name_same, get-keep, changed_there, insert_there}
-use Rattle.generational_box.proofs.Common.{first_borrowed, is_value, OnlyValues}
-use Rattle.generational_core.specs.declared.error.Refused.{Refused}
-use Rattle.generational_core.specs.declared.steps.StepCall.TheVariants.{Read as Reading}
-use Rattle.generational_core.specs.Machine.{Action, Outcome, act, read_at, write_at, own_cell}
-use Rattle.generational_core.specs.Machine.{own_name, next_guard, has_reader, has_writer, cell_at}
-use Rattle.generational_core.specs.Machine.{remove_reader, unless}
-use Rattle.generational_core.specs.Machine.Answer.{Reads, Writes, Flag, Back, Done, Troubled}
-use Rattle.generational_core.specs.Machine.Answer.{Refused as refuses}
-use Rattle.generational_box.specs.Entry.{FoundBorrowed}
+use Rattle.generational_box.proofs.Common.{refill, is_shared, Value, Shared, Ref, Here, Lent, Read}
+use Rattle.generational_box.proofs.Common.{Write, ReleaseReader, ReleaseWriter, Name, State}
+use Rattle.generational_box.proofs.Common.{content_at, Meets, limit_tickets, may_lack, no_names}
+use Rattle.generational_box.proofs.Common.{last_ticket, needs_memory, takes_ticket, by_name, change}
+use Rattle.generational_box.proofs.Common.{changed_there, insert_there, has_no_borrow, with_records}
+use Rattle.generational_box.proofs.Common.{IsFresh}
 
 -- a list without the ticket stays as it is
 nothing_left : (t : ℕ) (rs : List Borrow) → list_any (λ r. nat_eq r.ticket t) rs ≡ false
@@ -48,26 +44,12 @@ nothing_left t (r ∷ rs) h = at (nat_eq r.ticket t) h (nothing_left t rs)
     at true h rest = absurd (true≢false h)
     at false h rest = ap (λ xs. r ∷ xs) (rest h)
 
--- nothing is found of what isn't there
-pub none_map : {A B : Type 0} (f : A → B) (o : Option A) (none : Bool)
-    → is_some o ≡ not none → none ≡ is_none (option_map f o)
-none_map f None true e = refl
-none_map f (Some x) false e = refl
-none_map f _ _ e = absurd cc
-
-pub none_from : {A : Type 0} (o : Option A) → false ≡ is_some o → o ≡ None
-none_from None h = refl
-none_from (Some x) h = absurd (false≢true h)
-
-or_none : (t : Option Trouble) → option_or t None ≡ t
-or_none None = refl
-or_none (Some t) = refl
+-- the guard of a ticket at the cell of an id
+abbrev guard_at : GenerationalBoxId → ℕ → Guard
+guard_at id t = record { store = id.store; cell = name_in id; ticket = t }
 
 module _ {T : Type 0} where
-  pub next_of : {R S : State T} → R ≡ S → R.next ≡ S.next
-  next_of e = ap (λ (X : State T). X.next) e
-
-  -- a call that gives a ticket, where one is left, and where none is
+  -- a call that gives a ticket, where one is left
   pub within : (S : State T) (out : Outcome T) → S.next < last_ticket → limit_tickets S out ≡ out
   within S out below = rw (ne_eqb S.next last_ticket (λ e. omega arith)) (at (takes_ticket out.0))
     where
@@ -86,380 +68,335 @@ module _ {T : Type 0} where
       inr (ap (λ x. needs_memory S (limit_tickets S x).0 call) is, refl, refl)
   hindered_step S call (refused.Store e) t out is found = absurd found
 
-  unshared : (o : Option (Cell T)) → is_value o ≡ true → is_shared o ≡ false
-  unshared None h = refl
-  unshared (Some (Value c l)) h = refl
-  unshared (Some _) h = absurd (false≢true h)
-
-  -- where all cells are Values, just the names' own cells go
-  left_get : (cells : NameMap (Cell T)) → OnlyValues cells → (names : List Name) (q : Name)
-      → map.get (cells_after cells names) q ≡ cond (not (among names q)) (map.get cells q) None
-  unfolding sweep take_away
-  left_get cells values names q =
-      get-keep by_name (take_away cells names) _ q
-      ∙ rw (
-        get-keep by_name cells (λ n. is_shared (map.get cells n) || not (among names n)) q,
-        unshared (map.get cells q) (values q),
-      ) (at (not (among names q)))
+  -- the content that stands at a name, put there again, changes nothing
+  filled_own : (S : State T) (n : Name) (c : Content T) → content_at S n ≡ Some c → fill S n c ≡ S
+  filled_own S n c is = λ i. record S { cells = at (map.get S.cells n) refl is i }
     where
-      at : (b : Bool) → cond (not (is_shared (cond b (map.get cells q) None))
-          || is_named (take_away cells names) q) (cond b (map.get cells q) None) None
-          ≡ cond b (map.get cells q) None
-      at true = rw (unshared (map.get cells q) (values q)) refl
-      at false = refl
+      same : (x : Cell T) → content_of (Some x) ≡ Some c → refill c x ≡ x
+      same (Value d l) is = let one : c ≡ d = cc in rw one refl
+      same (Shared d l) is = let one : c ≡ d = cc in rw one refl
+      same (Ref m l) is = refl
 
-  pub values_less : (cells : NameMap (Cell T)) (n : Name)
-      → OnlyValues cells → OnlyValues (map.remove cells n)
-  unfolding is_name
-  values_less cells n values q = rw (map.get-remove name_total cells n q) (at (is_name q n))
-    where
-      at : (b : Bool) → is_value (cond b None (map.get cells q)) ≡ true
-      at true = refl
-      at false = values q
+      at : (o : Option (Cell T)) → map.get S.cells n ≡ o → content_of o ≡ Some c
+          → change S.cells n (refill c) ≡ S.cells
+      at None there is = absurd cc
+      at (Some x) there is =
+          changed_there by_name S.cells n (refill c) x there
+          ∙ (ap (map.insert S.cells n) (same x is) ∙ insert_there by_name S.cells n x there)
 
-  module _ (cells : NameMap (Cell T)) (values : OnlyValues cells) where
-    -- the first of the names, ended by itself
-    left_first : (n : Name) (names : List Name)
-        → cells_after cells (n ∷ names) ≡ cells_after (map.remove cells n) names
-    unfolding is_name
-    left_first n names =
-        map.same_map name_total name_exact _ _ (λ q.
-        left_get cells values (n ∷ names) q
-        ∙ (at q (is_name q n) (among names q)
-        ∙ (ap (λ o. cond (not (among names q)) o None) (sym (map.get-remove name_total cells n q))
-        ∙ sym (left_get (map.remove cells n) (values_less cells n values) names q))))
-      where
-        at : (q : Name) (a b : Bool) → cond (not (a || b)) (map.get cells q) None
-            ≡ cond (not b) (cond a None (map.get cells q)) None
-        at q true true = refl
-        at q true false = refl
-        at q false b = refl
+  -- a Shared cell has a content
+  shared_content : (o : Option (Cell T)) → is_shared o ≡ true → is_some (content_of o) ≡ true
+  shared_content (Some (Shared c l)) h = refl
+  shared_content None h = absurd (false≢true h)
+  shared_content (Some (Value c l)) h = absurd (false≢true h)
+  shared_content (Some (Ref m l)) h = absurd (false≢true h)
 
-    pub left_none : cells_after cells [] ≡ cells
-    left_none = map.same_map name_total name_exact _ _ (λ q. left_get cells values [] q)
+  -- a content that is there
+  the_content : (o : Option (Content T)) → is_some o ≡ true → (c : Content T) × (o ≡ Some c)
+  the_content None h = absurd (false≢true h)
+  the_content (Some c) h = (c, refl)
 
-  removed_none : (cells : NameMap (Cell T)) (n : Name) → map.get cells n ≡ None
-      → map.remove cells n ≡ cells
-  unfolding is_name
-  removed_none cells n none =
-      map.same_map name_total name_exact _ _ (λ q.
-      map.get-remove name_total cells n q ∙ at q (is_name q n) refl)
-    where
-      at : (q : Name) (b : Bool) → is_name q n ≡ b → cond b None (map.get cells q) ≡ map.get cells q
-      at q true e = sym (ap (map.get cells) (name_same q n e) ∙ none)
-      at q false e = refl
+  -- what stands in no slot and has no owner is a fresh state's
+  pub fresh_with : (X : State T) {S : State T} {number next : ℕ} {owners : Owners}
+      → with_records X number owners next ≡ S
+      → (IsFresh (with_records X 0 map.empty 0) × (owners ≡ map.empty)) ↔ IsFresh S
+  fresh_with X {number = number} {next = next} {owners = owners} view = (
+    λ f. rw (← view, f.1) (ap (λ Z. with_records Z number map.empty next) f.0),
+    λ f.
+        let is : IsFresh (with_records X number owners next) = subst IsFresh (sym view) f in
+        (ap (λ Z. with_records Z 0 map.empty 0) is, ap (λ (Z : State T). Z.owners) is),
+  )
 
-  -- a name of this store that isn't found is live nowhere
-  pub removed_gone : (S : State T) (id : GenerationalBoxId) → id.store ≡ S.number
-      → own_cell S id ≡ None → S ≡ record S { cells = map.remove S.cells (name_in id) }
-  removed_gone S id own gone = λ i. record S {
-    cells = sym (removed_none S.cells (name_in id)
-        (rw (eq-eqb id.store S.number own) at gone)) i;
-  }
+  -- ---- what boxes reach
 
-  pub close_first : (S : State T) → OnlyValues S.cells → (n : Name) (names : List Name)
-      → close S (n ∷ names) ≡ close (record S { cells = map.remove S.cells n }) names
-  close_first S values n names =
-      ap (λ cells. record S { cells = cells }) (left_first S.cells values n names)
-
-  pub close_none : (S : State T) → OnlyValues S.cells → S ≡ close S []
-  close_none S values = ap (λ cells. record S { cells = cells }) (sym (left_none S.cells values))
-
-  pub hindered_is : (S : State T) → OnlyValues S.cells → (names : List Name)
-      → hindrance_to S names ≡ first_borrowed S.cells names
-  unfolding hindrance_to
-  hindered_is S values names = at names (λ n h. h)
-    where
-      one : (n : Name) (o : Option (Cell T)) → map.get S.cells n ≡ o → among names n ≡ true
-          → hindrance_of S.cells (cells_after S.cells names) o n ≡ write_refusal (content_of o)
-      one n None is there = refl
-      one n (Some (Value c l)) is there = rw (left_get S.cells values names n, there, is) refl
-      one n (Some _) is there = absurd (false≢true (sym (ap is_value is) ∙ values n))
-
-      at : (rest : List Name) → ((n : Name) → among rest n ≡ true → among names n ≡ true)
-          → first_hindrance S.cells (cells_after S.cells names) rest ≡ first_borrowed S.cells rest
-      at [] inside = refl
-      at (n ∷ rest) inside =
-          (λ i. option_or (one n (map.get S.cells n) refl (inside n (or_left _ _ (name_here n))) i)
-          (at rest (λ q h. inside q (or_right _ _ h)) i))
-
-  left_one : (cells : NameMap (Cell T)) → OnlyValues cells → (n : Name)
-      → cells_after cells (n ∷ []) ≡ map.remove cells n
-  left_one cells values n =
-      left_first cells values n [] ∙ left_none (map.remove cells n) (values_less cells n values)
-
-  -- ---- boxes that name no live cell of the store
-
-  module _ (S : State T) (b : GenerationalPointer) (gone : own_cell S b.id ≡ None) where
-    reaches_none : reach S b ≡ None
-    unfolding reach
-    reaches_none = at (nat_eq b.id.store S.number) gone
-      where
-        at : (own : Bool) → cond own (map.get S.cells (name_of b)) None ≡ None
-            → cond own (leads_to (map.get S.cells (name_of b)) (name_of b)) None ≡ None
-        at true e = rw e refl
-        at false e = refl
-
-    pub read_gone : (l : Location) → Meets S (Read b l) (Troubled (Dropped b.created_at)) S
-    unfolding read_trouble
-    read_gone l = inl (no_names, tt, rw reaches_none refl)
-
-    pub write_gone : (l : Location) → Meets S (Write b l) (Troubled (Dropped b.created_at)) S
-    unfolding write_trouble
-    write_gone l = inl (no_names, tt, rw reaches_none refl)
-
-    pub read_ready_gone : (l : Location) → true ≡ is_ready S (Reading b l)
-    unfolding read_trouble
-    read_ready_gone l = rw reaches_none refl
-
-    module _ (values : OnlyValues S.cells) where
-      unhindered : hindrance_to S (own_name S b) ≡ None
-      unhindered = hindered_is S values (own_name S b) ∙ at (nat_eq b.id.store S.number) gone
-        where
-          at : (own : Bool) → cond own (map.get S.cells (name_of b)) None ≡ None
-              → first_borrowed S.cells (cond own (name_of b ∷ []) []) ≡ None
-          at true e = rw e refl
-          at false e = refl
-
-      stays : cells_after S.cells (own_name S b) ≡ S.cells
-      stays = at (nat_eq b.id.store S.number) gone
-        where
-          at : (own : Bool) → cond own (map.get S.cells (name_of b)) None ≡ None
-              → cells_after S.cells (cond own (name_of b ∷ []) []) ≡ S.cells
-          at true e = left_one S.cells values (name_of b) ∙ removed_none S.cells (name_of b) e
-          at false e = left_none S.cells values
-
-      pub end_gone : Meets S (End b) Done S
-      end_gone = inl (no_names, tt, rw unhindered (λ i. (Done, record S { cells = sym stays i })))
-
-      pub end_ready_gone : true ≡ is_ready S (ManuallyDrop b)
-      end_ready_gone = rw unhindered refl
-
-  -- ---- the slot of a live cell
-
-  -- a live cell of the store
-  pub record IsAt (S : State T) (id : GenerationalBoxId) : Type 0 where
-    pub store : id.store ≡ S.number
+  -- a box reaches a name, at which a content stands
+  pub record Reaches (V : State T) (b : GenerationalPointer) (m : Name) : Type 0 where
+    pub to : reach V b ≡ Some m
     pub content : Content T
-    pub created : Location
-    pub cell : map.get S.cells (name_in id) ≡ Some (Value content created)
+    pub has : content_at V m ≡ Some content
 
-  pub is_at : {S : State T} {id : GenerationalBoxId}
-      → OnlyValues S.cells → true ≡ is_some (own_cell S id) → IsAt S id
-  is_at {S} {id} values live =
-      at (nat_eq id.store S.number) refl (map.get S.cells (name_in id)) refl live
-      (values (name_in id))
+  -- in a sound state, what is reached has a content
+  pub reaches : {V S : State T} {b : GenerationalPointer} {m : Name} → V ≡ S → IsSound S
+      → Some m ≡ reach S b → Reaches V b m
+  unfolding reach
+  reaches {V} {S} {b} {m} view sound to =
+      let found = the_content _ (at (nat_eq b.id.store S.number) (map.get S.cells (name_of b)) refl
+      to) in
+      rw view (record { to = sym to; content = found.0; has = found.1 })
     where
-      at : (own : Bool) → nat_eq id.store S.number ≡ own
-          → (o : Option (Cell T)) → map.get S.cells (name_in id) ≡ o
-          → true ≡ is_some (cond own o None) → is_value o ≡ true → IsAt S id
-      at true own (Some (Value c l)) is live value =
-          record { store = eqb-true _ _ own; content = c; created = l; cell = is }
-      at true own None is live value = absurd (true≢false live)
-      at true own (Some _) is live value = absurd (false≢true value)
-      at false own o is live value = absurd (true≢false live)
+      at : (own : Bool) (o : Option (Cell T)) → map.get S.cells (name_of b) ≡ o
+          → Some m ≡ cond own (leads_to o (name_of b)) None → is_some (content_at S m) ≡ true
+      at true (Some (Value c l)) is to =
+          let same : m ≡ name_of b = cc in rw (same, is) refl
+      at true (Some (Ref n l)) is to =
+          let same : n ≡ m = cc in
+          shared_content _ (subst (λ x. is_shared (map.get S.cells x) ≡ true) same
+          (sound.targets (name_of b) n l is))
+      at true None is to = absurd cc
+      at true (Some (Shared c l)) is to = absurd cc
+      at false o is to = absurd cc
 
-  -- an id of no live cell
-  module _ {S : State T} (b : GenerationalPointer) (o : IsAt S b.id) where
-    there : content_at S (name_of b) ≡ Some o.content
-    there = rw o.cell refl
+  -- so something stands there
+  pub has_content : {V : State T} {b : GenerationalPointer} {m : Name} → Reaches V b m
+      → IsSome (content_at V m)
+  has_content o = ap is_some o.has
 
-    reading : read_trouble S b ≡ read_refusal (content_at S (name_of b))
-    unfolding reach read_trouble
-    reading = rw (eq-eqb b.id.store S.number o.store, o.cell, o.cell) refl
+  -- where a box's own cell leads is what it reaches, unless it is another store's
+  pub reach_own : (X : State T) {S : State T} {number next : ℕ} {owners : Owners}
+      → with_records X number owners next ≡ S → (b : GenerationalPointer) (n : Name)
+      → n ≡ name_of b → b.id.store ≡ number → leads_to (map.get X.cells n) n ≡ reach S b
+  unfolding reach
+  reach_own X {number = number} view b n at own =
+      rw (← view, at, eq-eqb b.id.store number own) refl
 
-    writing : write_trouble S b ≡ write_refusal (content_at S (name_of b))
-    unfolding reach write_trouble
-    writing = rw (eq-eqb b.id.store S.number o.store, o.cell, o.cell) refl
+  -- a box of another store reaches nothing
+  pub reach_strange : {V S : State T} → V ≡ S → (b : GenerationalPointer)
+      → b.id.store ≢ V.number → None ≡ reach S b
+  unfolding reach
+  reach_strange {V} view b strange = rw (← view, ne_eqb b.id.store V.number strange) refl
 
-    reaches : reach S b ≡ Some (name_of b)
-    unfolding reach
-    reaches = rw (eq-eqb b.id.store S.number o.store, o.cell) refl
+  -- ---- calls of boxes
 
-    next_is : (t : ℕ) → t ≡ S.next
-        → record { store = b.id.store; cell = name_of b; ticket = t } ≡ next_guard S (name_of b)
-    next_is t next = λ i. record { store = o.store i; cell = name_of b; ticket = next i }
+  module _ {S : State T} (b : GenerationalPointer) (l : Location) where
+    -- a box that reaches nothing
+    pub read_gone : None ≡ reach S b → Meets S (Read b l) (Troubled (Dropped b.created_at)) S
+    unfolding read_trouble
+    read_gone none = inl (no_names, tt, rw (← none) refl)
 
-    pub read_lent : (l : Location) (t : Trouble) → Some t ≡ read_refusal (content_at S (name_of b))
-        → Meets S (Read b l) (Troubled t) S
-    read_lent l t lent = inl (no_names, tt, rw (reading, ← lent) refl)
+    -- the same
+    pub write_gone : None ≡ reach S b → Meets S (Write b l) (Troubled (Dropped b.created_at)) S
+    unfolding write_trouble
+    write_gone none = inl (no_names, tt, rw (← none) refl)
 
-    module _ (l : Location) (free : None ≡ read_refusal (content_at S (name_of b))) where
-      here : (v : T) × (rs : List Borrow) × (content_at S (name_of b) ≡ Some (Here v rs))
-      here = at o.content there (free ∙ ap read_refusal there)
+    module _ (X : State T) {number next : ℕ} {owners : Owners} {m : Name}
+        (view : with_records X number owners next ≡ S)
+        (o : Reaches (with_records X number owners next) b m) where
+      abbrev V : State T
+      V = with_records X number owners next
+
+      -- what stands in the way of a read is the content's own refusal, and so of a write
+      reading : read_trouble V b ≡ read_refusal (content_at V m)
+      unfolding read_trouble
+      reading = rw o.to refl
+
+      writing : write_trouble V b ≡ write_refusal (content_at V m)
+      unfolding write_trouble
+      writing = rw o.to refl
+
+      -- the guard of the next ticket
+      next_is : (id : GenerationalBoxId) → id ≡ id_of number m
+          → record { store = id.store; cell = name_in id; ticket = next } ≡ next_guard V m
+      next_is id is = ap (λ x. record { store = x.store; cell = name_in x; ticket = next }) is
+
+      -- a writer stands in the way of a read
+      pub read_lent : (t : Trouble) → Some t ≡ read_refusal (content_at V m)
+          → Meets S (Read b l) (Troubled t) S
+      read_lent t lent = rw (← view) (inl (no_names, tt, rw (reading, ← lent) refl))
+
+      -- the readers' tickets are below the next one
+      pub readers_below : IsSound S → AreBelow next (readers_of (content_at V m))
+      readers_below sound = at (content_at V m) refl
         where
-          at : (c : Content T) → content_at S (name_of b) ≡ Some c → None ≡ read_refusal (Some c)
-              → (v : T) × (rs : List Borrow) × (content_at S (name_of b) ≡ Some (Here v rs))
-          at (Here v rs) is free = (v, rs, is)
-          at (Lent w) is free = absurd cc
+          any_ticket : (t : ℕ) (rs : List Borrow)
+              → list_any (nat_eq t) (list_map (λ r. r.ticket) rs)
+              ≡ list_any (λ r. nat_eq r.ticket t) rs
+          any_ticket t [] = refl
+          any_ticket t (r ∷ rs) = λ i. nat_eq_equiv.symm t r.ticket i || any_ticket t rs i
 
-      abbrev begun : Outcome T
-      begun = read_at S l (Some (name_of b)) (Some (Here here.0 here.1))
+          at : (c : Option (Content T)) → content_at V m ≡ c → AreBelow next (readers_of c)
+          at None is t stands = absurd (false≢true stands)
+          at (Some (Lent w)) is t stands = absurd (false≢true stands)
+          at (Some (Here v rs)) is t stands =
+              (subst IsSound (sym view) sound).below m t
+              (ap (λ c. list_any (nat_eq t) (tickets_of c)) is ∙ (any_ticket t rs ∙ stands))
 
-      begins : act S (Read b l) no_names ≡ begun
-      begins = rw (reading, ← free, reaches, here.2) refl
-
-      pub read_exhausted : S.next ≡ last_ticket → Meets S (Read b l) (refuses NumbersExhausted) S
-      read_exhausted last = inl (no_names, tt, rw (begins, eq-eqb S.next last_ticket last) refl)
-
-      pub read_begins : (R : State T) (g : Guard) (t : ℕ) → S.next < last_ticket
-          → g ≡ record { store = b.id.store; cell = name_of b; ticket = t } → t ≡ S.next
-          → R ≡ (read_at S l (Some (name_of b)) (content_at S (name_of b))).1
-          → Meets S (Read b l) (Reads g) R
-      read_begins R g t below is next after =
-          rw (is ∙ next_is t next, after, here.2)
-          (inl (no_names, tt, rw begins (sym (within S begun below))))
-
-      pub read_lacks : (R : State T) → S.next < last_ticket
-          → is_some (write_refusal (content_at S (name_of b))) ≡ true → R ≡ S
-          → Meets S (Read b l) (refuses OutOfMemory) R
-      unfolding may_lack
-      read_lacks R below beside same =
-          let lack = ap (λ x. needs_memory S (limit_tickets S x).0 (Read b l)) begins
-          ∙ ap (λ (x : Outcome T). needs_memory S x.0 (Read b l)) (within S begun below) in
-          inr (lack ∙ rw reaches beside, refl, same)
-
-    read_tells : (c : Content T)
-        → is_none (read_refusal (Some c)) ≡ not (tells_of_borrow (read_refusal (Some c)))
-    read_tells (Here v readers) = refl
-    read_tells (Lent w) = refl
-
-    write_tells : (c : Content T)
-        → is_none (write_refusal (Some c)) ≡ not (tells_of_borrow (write_refusal (Some c)))
-    write_tells (Here v []) = refl
-    write_tells (Here v (r ∷ readers)) = refl
-    write_tells (Lent w) = refl
-
-    pub read_ready : (l : Location)
-        → is_none (read_refusal (content_at S (name_of b))) ≡ is_ready S (Reading b l)
-    read_ready l = rw (reading, there) (read_tells o.content)
-
-    module _ (values : OnlyValues S.cells) where
-      hinders : hindrance_to S (own_name S b) ≡ write_refusal (content_at S (name_of b))
-      hinders =
-          rw (eq-eqb b.id.store S.number o.store)
-          (hindered_is S values (name_of b ∷ []) ∙ or_none _)
-
-      pub end_ready : is_none (write_refusal (content_at S (name_of b))) ≡ is_ready S (ManuallyDrop
-          b)
-      end_ready = rw (hinders, there) (write_tells o.content)
-
-      pub end_refusal : (e : Refused BorrowMutError)
-          → FoundBorrowed (write_refusal (content_at S (name_of b))) (Err e)
-          → Meets S (End b) (end_refused e) S
-      end_refusal e found =
-          hindered_step S (End b) e _ (Done, close S (own_name S b)) (rw hinders refl) found
-
-      pub end_done : (R : State T) → write_refusal (content_at S (name_of b)) ≡ None
-          → R ≡ record S { cells = map.remove S.cells (name_of b) } → Meets S (End b) Done R
-      end_done R free after =
-          let one = left_one S.cells values (name_of b) in
-          rw after (inl (no_names, tt, rw (hinders, free, eq-eqb _ _ o.store) (rw one refl)))
-
-    module _ (l : Location) where
-      pub write_hindered : (e : Refused BorrowMutError)
-          → FoundBorrowed (write_refusal (content_at S (name_of b))) (Err e)
-          → Meets S (Write b l) (end_refused e) S
-      write_hindered e found =
-          hindered_step S (Write b l) e _
-          (write_at S l (reach S b) (content_of (cell_at S (reach S b)))) (rw writing refl) found
-
-      module _ (free : write_refusal (content_at S (name_of b)) ≡ None) where
-        alone : (v : T) × (content_at S (name_of b) ≡ Some (Here v []))
-        alone = at o.content there (sym free ∙ ap write_refusal there)
+      module _ (free : None ≡ read_refusal (content_at V m)) where
+        -- the value is there, with its readers
+        here : (v : T) × (rs : List Borrow) × (content_at V m ≡ Some (Here v rs))
+        here = at o.content o.has (free ∙ ap read_refusal o.has)
           where
-            at : (c : Content T) → content_at S (name_of b) ≡ Some c
-                → None ≡ write_refusal (Some c)
-                → (v : T) × (content_at S (name_of b) ≡ Some (Here v []))
+            at : (c : Content T) → content_at V m ≡ Some c → None ≡ read_refusal (Some c)
+                → (v : T) × (rs : List Borrow) × (content_at V m ≡ Some (Here v rs))
+            at (Here v rs) is free = (v, rs, is)
+            at (Lent w) is free = absurd cc
+
+        abbrev begun : Outcome T
+        begun = read_at V l (Some m) (Some (Here here.0 here.1))
+
+        -- so the read begins, if a ticket is left
+        begins : act V (Read b l) no_names ≡ begun
+        begins = rw (reading, ← free, o.to, here.2) refl
+
+        -- none is left
+        pub read_exhausted : next ≡ last_ticket → Meets S (Read b l) (refuses NumbersExhausted) S
+        read_exhausted last =
+            rw (← view) (inl (no_names, tt, rw (begins, eq-eqb next last_ticket last) refl))
+
+        -- one is, and the reader stands at the end of the list
+        pub read_begins : (Y : State T) (id : GenerationalBoxId) (g : Guard) → next < last_ticket
+            → IfSome (content_at X m)
+            (λ c. Y ≡ fill X m (one_read (record { ticket = next; location = l }) c))
+            → id ≡ id_of number m → g ≡ guard_at id next
+            → Meets S (Read b l) (Reads g) (with_records Y number owners (next + 1))
+        read_begins Y id g below after own is =
+            rw (← view, is ∙ next_is id own, rw here.2 at after)
+            (inl (no_names, tt, rw begins (sym (within V begun below))))
+
+        -- there is no memory for a reader beside another
+        pub read_lacks : (Y : State T) → next < last_ticket → Y ≡ X
+            → is_some (write_refusal (content_at V m)) ≡ true
+            → Meets S (Read b l) (refuses OutOfMemory) (with_records Y number owners next)
+        unfolding may_lack
+        read_lacks Y below same beside =
+            let lack = ap (λ x. needs_memory V (limit_tickets V x).0 (Read b l)) begins
+            ∙ ap (λ (x : Outcome T). needs_memory V x.0 (Read b l)) (within V begun below) in
+            rw (← view, same) (inr (lack ∙ rw o.to beside, refl, refl))
+
+      -- borrows stand in the way of a write
+      pub write_hindered : (e : Refused BorrowMutError)
+          → FoundBorrowed (write_refusal (content_at V m)) (Err e)
+          → Meets S (Write b l) (end_refused e) S
+      write_hindered e found = rw (← view) (hindered_step V (Write b l) e _
+          (write_at V l (reach V b) (content_of (cell_at V (reach V b)))) (rw writing refl) found)
+
+      module _ (free : write_refusal (content_at V m) ≡ None) where
+        -- the value is there, without borrows
+        alone : (v : T) × (content_at V m ≡ Some (Here v []))
+        alone = at o.content o.has (sym free ∙ ap write_refusal o.has)
+          where
+            at : (c : Content T) → content_at V m ≡ Some c → None ≡ write_refusal (Some c)
+                → (v : T) × (content_at V m ≡ Some (Here v []))
             at (Here v []) is free = (v, is)
             at (Here v (r ∷ rs)) is free = absurd cc
             at (Lent w) is free = absurd cc
 
+        -- so no borrow stands there
+        pub unborrowed : has_no_borrow (content_at V m) ≡ true
+        unborrowed = ap has_no_borrow alone.1
+
         abbrev written : Outcome T
-        written = write_at S l (Some (name_of b)) (Some (Here alone.0 []))
+        written = write_at V l (Some m) (Some (Here alone.0 []))
 
-        writes : act S (Write b l) no_names ≡ written
-        writes = rw (writing, free, reaches, alone.1) refl
+        -- and the write begins, if a ticket is left
+        writes : act V (Write b l) no_names ≡ written
+        writes = rw (writing, free, o.to, alone.1) refl
 
-        pub write_exhausted : S.next ≡ last_ticket
-            → Meets S (Write b l) (refuses NumbersExhausted) S
-        write_exhausted last = inl (no_names, tt, rw (writes, eq-eqb S.next last_ticket last) refl)
+        -- none is left
+        pub write_exhausted : next ≡ last_ticket → Meets S (Write b l) (refuses NumbersExhausted) S
+        write_exhausted last =
+            rw (← view) (inl (no_names, tt, rw (writes, eq-eqb next last_ticket last) refl))
 
-        pub write_begins : (R : State T) (g : WriteGuard T) (t : ℕ) (v : T) → S.next < last_ticket
-            → g.guard ≡ record { store = b.id.store; cell = name_of b; ticket = t } → t ≡ S.next
-            → g.value ≡ v → content_at S (name_of b) ≡ Some (Here v [])
-            → R ≡ (write_at S l (Some (name_of b)) (content_at S (name_of b))).1
-            → Meets S (Write b l) (Writes g.guard g.value) R
-        write_begins R g t v below guard next value is after =
+        -- one is, and the value is lent
+        pub write_begins : (Y : State T) (id : GenerationalBoxId) (g : WriteGuard T) (v : T)
+            → next < last_ticket → content_at X m ≡ Some (Here v [])
+            → Y ≡ fill X m (Lent (record { ticket = next; location = l })) → id ≡ id_of number m
+            → g.guard ≡ guard_at id next → g.value ≡ v
+            → Meets S (Write b l) (Writes g.guard g.value) (with_records Y number owners (next + 1))
+        write_begins Y id g v below is after own guard value =
             let e : Some (Here v []) ≡ Some (Here alone.0 []) = sym is ∙ alone.1 in
             let same : v ≡ alone.0 = cc in
-            rw (guard ∙ next_is t next, value, after, is, same)
-            (inl (no_names, tt, rw writes (sym (within S written below))))
+            rw (← view, guard ∙ next_is id own, value, after, same)
+            (inl (no_names, tt, rw writes (sym (within V written below))))
 
-  pub filled_own : (S : State T) (n : Name) (c : Content T) (l : Location)
-      → map.get S.cells n ≡ Some (Value c l) → fill S n c ≡ S
-  filled_own S n c l is = λ i. record S {
-    cells =
-        (changed_there by_name S.cells n (refill c) (Value c l) is
-        ∙ insert_there by_name S.cells n (Value c l) is) i;
-  }
+  -- ---- calls of guards
 
-  -- a guard whose cell isn't live in this store
-  gone_unknown : (S : State T) (id : GenerationalBoxId) (has : Option (Content T) → Bool)
-      → has None ≡ false → own_cell S id ≡ None
+  -- a guard of another store, or at whose cell no content stands, isn't known
+  guard_unknown : (S : State T) (id : GenerationalBoxId) (has : Option (Content T) → Bool)
+      → has None ≡ false → false ≡ is_some (content_of (own_cell S id))
       → (nat_eq id.store S.number && has (content_at S (name_in id))) ≡ false
-  gone_unknown S id has none gone = at (nat_eq id.store S.number) gone
+  guard_unknown S id has none gone =
+      at (nat_eq id.store S.number) (map.get S.cells (name_in id)) gone
     where
-      at : (own : Bool) → cond own (map.get S.cells (name_in id)) None ≡ None
-          → (own && has (content_of (map.get S.cells (name_in id)))) ≡ false
-      at true e = rw e none
-      at false e = refl
+      absent : (c : Option (Content T)) → false ≡ is_some c → has c ≡ false
+      absent None h = none
+      absent (Some c) h = absurd (false≢true h)
 
-  module _ (S : State T) (id : GenerationalBoxId) (t : ℕ) where
-    abbrev guard : Guard
-    guard = record { store = id.store; cell = name_in id; ticket = t }
+      at : (own : Bool) (o : Option (Cell T)) → false ≡ is_some (content_of (cond own o None))
+          → (own && has (content_of o)) ≡ false
+      at true o h = absent (content_of o) h
+      at false o h = refl
 
-    pub release_gone : (g : Guard) → g ≡ guard → own_cell S id ≡ None
-        → Meets S (ReleaseReader g) (Flag false) S
-    release_gone g same gone =
-        inl (no_names, tt, rw (same, gone_unknown S id (λ c. has_reader c t) refl gone) refl)
+  -- a content stands at the guard's cell
+  guard_own : (S : State T) (id : GenerationalBoxId)
+      → true ≡ is_some (content_of (own_cell S id))
+      → (nat_eq id.store S.number ≡ true) × (is_some (content_at S (name_in id)) ≡ true)
+  guard_own S id held = at (nat_eq id.store S.number) (map.get S.cells (name_in id)) held
+    where
+      at : (own : Bool) (o : Option (Cell T)) → true ≡ is_some (content_of (cond own o None))
+          → (own ≡ true) × (is_some (content_of o) ≡ true)
+      at true o h = (refl, sym h)
+      at false o h = absurd (true≢false h)
 
-    pub back_gone : (g : WriteGuard T) (v : T) → g.guard ≡ guard → g.value ≡ v
-        → own_cell S id ≡ None → Meets S (ReleaseWriter g.guard g.value) (Back v) S
-    back_gone g v same value gone =
-        inl (no_names, tt, rw (same, value, gone_unknown S id (λ c. has_writer c t) refl gone) refl)
+  module _ {S : State T} (id : GenerationalBoxId) (t : ℕ) where
+    module _ (g : Guard) (same : g ≡ guard_at id t)
+        (gone : false ≡ is_some (content_of (own_cell S id))) where
+      -- a reader's guard that isn't known
+      pub release_gone : Meets S (ReleaseReader g) (Flag false) S
+      release_gone = inl (
+        no_names,
+        tt,
+        rw (same, guard_unknown S id (λ c. has_reader c t) refl gone) refl,
+      )
 
-    module _ (o : IsAt S id) where
-      unread : has_reader (content_at S (name_in id)) t ≡ false
-          → remove_reader S (name_in id) t (content_at S (name_in id)) ≡ S
-      unread h = ap (λ x. remove_reader S (name_in id) t (content_of x)) o.cell
-          ∙ at o.content o.cell (sym (ap (λ x. has_reader (content_of x) t) o.cell) ∙ h)
-        where
-          at : (c : Content T) → map.get S.cells (name_in id) ≡ Some (Value c o.created)
-              → has_reader (Some c) t ≡ false → remove_reader S (name_in id) t (Some c) ≡ S
-          at (Lent w) is h = refl
-          at (Here v rs) is h =
-              rw (nothing_left t rs h) (filled_own S (name_in id) (Here v rs) o.created is)
+      -- a writer's guard that isn't known
+      pub back_gone : (w v : T) → w ≡ v → Meets S (ReleaseWriter g w) (Back v) S
+      back_gone w v value = inl (
+        no_names,
+        tt,
+        rw (same, value, guard_unknown S id (λ c. has_writer c t) refl gone) refl,
+      )
+
+    module _ (X : State T) {number next : ℕ} {owners : Owners}
+        (view : with_records X number owners next ≡ S) (n : Name) (at : n ≡ name_in id)
+        (held : true ≡ is_some (content_of (own_cell S id))) where
+      abbrev now : State T
+      now = with_records X number owners next
+
+      -- the guard is this store's, and a content stands at its cell
+      is_own : (nat_eq id.store number ≡ true) × (is_some (content_at now (name_in id)) ≡ true)
+      is_own = guard_own now id (held ∙ ap (λ R. is_some (content_of (own_cell R id))) (sym view))
 
       -- the answer is whether the reader stood
-      pub released : (R : State T) (g : Guard) (known : Bool) → g ≡ guard
-          → known ≡ has_reader (content_at S (name_in id)) t
-          → R ≡ remove_reader S (name_in id) t (content_at S (name_in id))
-          → Meets S (ReleaseReader g) (Flag known) R
-      released R g true same is after =
-          inl (no_names, tt, rw (same, eq-eqb id.store S.number o.store, ← is, after) refl)
-      released R g false same is after =
-          rw (same, after) (inl (no_names, tt, rw (eq-eqb _ _ o.store, ← is, unread (sym is)) refl))
+      pub released : (Y : State T) (g : Guard) (known : Bool) → g ≡ guard_at id t
+          → known ≡ has_reader (content_at X n) t
+          → IfSome (content_at X n) (λ c. Y ≡ fill X n (less_read t c))
+          → Meets S (ReleaseReader g) (Flag known) (with_records Y number owners next)
+      released Y g known same is after =
+          let c = the_content _ is_own.1 in
+          rw (← view, same, rw (at, c.1) at after) (by c.0 c.1 known (rw (at, c.1) at is))
+        where
+          -- a reader that didn't stand leaves all as it was
+          stays : (c : Content T) → content_at X (name_in id) ≡ Some c
+              → has_reader (Some c) t ≡ false → less_read t c ≡ c
+              → Meets now (ReleaseReader (guard_at id t)) (Flag false)
+              (with_records (fill X (name_in id) (less_read t c)) number owners next)
+          stays c there lost same = subst
+              (λ Z. Meets now (ReleaseReader (guard_at id t)) (Flag false)
+              (with_records Z number owners next))
+              (sym (ap (fill X (name_in id)) same ∙ filled_own X (name_in id) c there))
+              (inl (no_names, tt, rw (is_own.0, there, lost) refl))
 
-      pub put_back : (R : State T) (g : WriteGuard T) (v : T) (r : Result (Unit {0}) T)
-          → g.guard ≡ guard → g.value ≡ v
-          → (IsTrue (is_ok r) → has_writer (content_at S (name_in id)) t ≡ true)
-          × (has_writer (content_at S (name_in id)) t ≡ true → IsTrue (is_ok r))
-          → OnOk r (R ≡ fill S (name_in id) (Here v [])) → IfErr r (λ back. (back ≡ v) × (R ≡ S))
-          → Meets S (ReleaseWriter g.guard g.value) (back_answer r) R
-      put_back R g v (Ok u) same value known ok err =
-          rw (same, value, ok)
-          (inl (no_names, tt, rw (eq-eqb _ _ o.store, known.0 refl) refl))
-      put_back R g v (Err back) same value known ok err =
-          let lost = false_from_ne_true _ (λ h. false≢true (known.1 h)) in
-          rw (same, value, err.0, err.1) (inl (no_names, tt, rw (eq-eqb _ _ o.store, lost) refl))
+          by : (c : Content T) → content_at X (name_in id) ≡ Some c → (known : Bool)
+              → known ≡ has_reader (Some c) t
+              → Meets now (ReleaseReader (guard_at id t)) (Flag known)
+              (with_records (fill X (name_in id) (less_read t c)) number owners next)
+          by (Here v rs) there true is = inl (no_names, tt, rw (is_own.0, there, ← is) refl)
+          by (Here v rs) there false is =
+              stays (Here v rs) there (sym is) (ap (Here v) (nothing_left t rs (sym is)))
+          by (Lent w) there true is = absurd (true≢false is)
+          by (Lent w) there false is = stays (Lent w) there refl refl
+
+      -- the value comes back where the writer didn't stand
+      pub put_back : (Y : State T) (g : Guard) (w v : T) (r : Result (Unit {0}) T)
+          → g ≡ guard_at id t → w ≡ v
+          → (IsTrue (is_ok r) → has_writer (content_at X n) t ≡ true)
+          × (has_writer (content_at X n) t ≡ true → IsTrue (is_ok r))
+          → OnOk r (Y ≡ fill X n (Here v [])) → IfErr r (λ back. (back ≡ v) × (Y ≡ X))
+          → Meets S (ReleaseWriter g w) (back_answer r) (with_records Y number owners next)
+      put_back Y g w v (Ok u) same value known ok err =
+          let knew : has_writer (content_at now (name_in id)) t ≡ true = rw at at (known.0 refl) in
+          rw (← view, same, value, ok, at) (inl (no_names, tt, rw (is_own.0, knew) refl))
+      put_back Y g w v (Err back) same value known ok err =
+          let lost : has_writer (content_at now (name_in id)) t ≡ false =
+          false_from_ne_true _ (λ h. false≢true (known.1 (rw at h))) in
+          rw (← view, same, value, err.0, err.1) (inl (no_names, tt, rw (is_own.0, lost) refl))

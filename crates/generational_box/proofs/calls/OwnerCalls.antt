@@ -1,73 +1,29 @@
--- The calls of owners, and makings, as steps of the machine.
-use Rattle.std.proofs.Common.{◌≡◌, ◌+◌, ◌<◌, ◌≤◌, Bool, true, false, cond, List, [], arith}
+-- The calls of owners, as steps of the machine.
+use Rattle.std.proofs.Common.{◌≡◌, ℕ, ◌+◌, ◌<◌, ◌≤◌, Bool, true, false, cond, List, [], arith}
 use Rattle.std.proofs.Common.{Option, None, Some, Err, refl, sym, ap, ◌∙◌, inl, inr, is_some}
-use Rattle.std.proofs.Common.{nat_eq}
+use Rattle.std.proofs.Common.{nat_eq, subst}
 use Rattle.std.proofs.lemmas.Bool.{eq-eqb, eqb-true, ne_eqb, lt-ltb, le-ltb, false≢true, true≢false}
 use Rattle.std.specs.FinMap as map
-use Rattle.generational_box.proofs.Common.{GenerationalPointer, BorrowMutError, Location}
-use Rattle.generational_box.proofs.Common.{StoreError, OutOfMemory, UnknownOwner, NumbersExhausted}
-use Rattle.generational_box.proofs.Common.{end_refused, box_of, Value, Here, close, Make}
-use Rattle.generational_box.proofs.Common.{NewOwner, CloneOwner, ReleaseOwner, Name, change}
-use Rattle.generational_box.proofs.Common.{one_more, one_less, names_under}
-use Rattle.generational_box.proofs.Common.{free, State, Ownership, Meets, IsNew, may_lack, no_names}
-use Rattle.generational_box.proofs.Common.{last_ticket, needs_memory, limit_tickets, by_number}
-use Rattle.generational_box.proofs.Common.{changed_there, knows, knows_any, record_of}
-use Rattle.generational_box.proofs.Common.{add_to_list_in}
-use Rattle.generational_box.proofs.Common.{first_borrowed, IsRefusal, OnlyValues}
 use Rattle.generational_core.specs.declared.error.Refused.{Refused as Refusing}
-use Rattle.generational_core.specs.Machine.{OwnerName, Outcome, act, ownership, add_cell, unless}
-use Rattle.generational_core.specs.Machine.{make}
-use Rattle.generational_core.specs.Machine.Answer.{Made, Owned, Done, Refused}
+use Rattle.generational_core.specs.Machine.{OwnerName, Outcome, act, ownership, unless}
+use Rattle.generational_core.specs.Machine.Answer.{Owned, Done, Refused}
 use Rattle.generational_box.specs.Entry.{FoundBorrowed}
+use Rattle.generational_box.proofs.Common.{BorrowMutError, OutOfMemory, UnknownOwner}
+use Rattle.generational_box.proofs.Common.{NumbersExhausted, end_refused, close, NewOwner}
+use Rattle.generational_box.proofs.Common.{CloneOwner, ReleaseOwner, Name, Owners, change, one_more}
+use Rattle.generational_box.proofs.Common.{one_less, State, Ownership, Meets, may_lack, no_names}
+use Rattle.generational_box.proofs.Common.{last_ticket, needs_memory, by_number, changed_there}
+use Rattle.generational_box.proofs.Common.{knows, record_of, hindrance_to, with_records}
 use Rattle.generational_box.proofs.records.Counts.{record_held}
-use Rattle.generational_box.proofs.calls.Calls.{hindered_is, hindered_step, within}
+use Rattle.generational_box.proofs.calls.Calls.{hindered_step, within}
 
 -- V is the state for which the store's parts stand, and S the state that contracts see
 module _ {T : Type 0} {V S : State T} (view : V ≡ S) where
-  pub made : (o : Option OwnerName) (v : T) (l : Location) (n : Name) (b : GenerationalPointer)
-      (R : State T) → knows_any V.number V.owners o ≡ true → IsNew V n → b ≡ box_of V.number n l
-      → R ≡ record (add_cell V n (Value (Here v []) l)) { owners = add_to_list_in V.owners o n }
-      → Meets S (Make o v l) (Made b) R
-  made None v l n b R known new is after =
-      rw (← view, is, after) (inl (record { first = n; second = n }, new, refl))
-  made (Some o) v l n b R known new is after =
-      rw (← view, is, after) (inl (record { first = n; second = n }, new, rw known refl))
-
-  -- no memory for a slot, where none is free, or for the owner's list; an owner that isn't known
-  -- is told first
-  pub make_refused : (o : Option OwnerName) (v : T) (l : Location) (e : StoreError) (R : State T)
-      → IsRefusal V.number V.owners o e → R ≡ V → Meets S (Make o v l) (Refused e) R
-  unfolding may_lack
-  make_refused o v l e R is same = rw (same, ← view) (at o e is)
-    where
-      at : (o : Option OwnerName) (e : StoreError) → IsRefusal V.number V.owners o e
-          → Meets V (Make o v l) (Refused e) V
-      at None UnknownOwner is = absurd (true≢false is)
-      at (Some o) UnknownOwner is = inl (no_names, tt, rw is refl)
-      at None OutOfMemory is = absurd (false≢true is.0)
-      at (Some o) OutOfMemory is =
-          inr (
-            ap (λ k. needs_memory V (limit_tickets V (cond k (make V (Some o) no_names.first
-                (Value (Here v []) l) l) (Refused UnknownOwner, V))).0 (Make (Some o) v l)) is.1,
-            refl,
-            refl,
-          )
-      at o NumbersExhausted is = absurd is
-
-  pub make_lacks : (o : Option OwnerName) (v : T) (l : Location) (e : StoreError) (R : State T)
-      → e ≡ cond (knows_any V.number V.owners o) OutOfMemory UnknownOwner → free V ≡ 0 → R ≡ V
-      → Meets S (Make o v l) (Refused e) R
-  unfolding may_lack
-  make_lacks None v l e R is none same = rw (same, ← view, is) (inr (rw none refl, refl, refl))
-  make_lacks (Some o) v l e R is none same = at (knows V.number V.owners o) refl
-    where
-      at : (b : Bool) → knows V.number V.owners o ≡ b → Meets S (Make (Some o) v l) (Refused e) R
-      at true known = rw (is, known) (make_refused (Some o) v l OutOfMemory R (refl, known) same)
-      at false unknown = rw (is, unknown) (make_refused (Some o) v l UnknownOwner R unknown same)
-
+  -- no ticket is left for an owner
   pub new_exhausted : V.next ≡ last_ticket → Meets S NewOwner (Refused NumbersExhausted) S
   new_exhausted last = rw (← view) (inl (no_names, tt, rw (eq-eqb V.next last_ticket last) refl))
 
+  -- there is no memory for its record
   pub new_lacks : (R : State T) → V.next < last_ticket → R ≡ V
       → Meets S NewOwner (Refused OutOfMemory) R
   unfolding may_lack
@@ -76,6 +32,7 @@ module _ {T : Type 0} {V S : State T} (view : V ≡ S) where
       (within V (act V NewOwner no_names) below) in
       rw (same, ← view) (inr (lack, refl, refl))
 
+  -- an owner of a new record
   pub new_made : (o : OwnerName) (R : State T) → V.next < last_ticket
       → o ≡ record { store = V.number; key = V.next }
       → R ≡ record V {
@@ -88,6 +45,7 @@ module _ {T : Type 0} {V S : State T} (view : V ≡ S) where
       (inl (no_names, tt, rw (ne_eqb V.next last_ticket (λ e. omega arith)) refl))
 
   module _ (o : OwnerName) where
+    -- no record stands for an owner that isn't known
     lost : knows V.number V.owners o ≡ false → ownership V o ≡ None
     lost unknown = at (ownership V o) unknown
       where
@@ -95,15 +53,18 @@ module _ {T : Type 0} {V S : State T} (view : V ≡ S) where
         at None h = refl
         at (Some h) e = absurd (true≢false e)
 
+    -- so it has no other owner value
     pub clone_unknown : knows V.number V.owners o ≡ false
         → Meets S (CloneOwner o) (Refused UnknownOwner) S
     clone_unknown unknown = rw (← view) (inl (no_names, tt, rw (lost unknown) refl))
 
+    -- and can't be released
     pub release_unknown : knows V.number V.owners o ≡ false
         → Meets S (ReleaseOwner o) (Refused UnknownOwner) S
     release_unknown unknown = rw (← view) (inl (no_names, tt, rw (lost unknown) refl))
 
     module _ (known : knows V.number V.owners o ≡ true) where
+      -- the record of an owner that is known
       held : (h : Ownership) × (o.store ≡ V.number) × (map.get V.owners o.key ≡ Some h)
       held = at (nat_eq o.store V.number) refl (map.get V.owners o.key) refl known
         where
@@ -115,15 +76,18 @@ module _ {T : Type 0} {V S : State T} (view : V ≡ S) where
           at true own None is k = absurd (false≢true k)
           at false own r is k = absurd (false≢true k)
 
+      -- the owner is this store's
       own : nat_eq o.store V.number ≡ true
       own = eq-eqb o.store V.number held.1
 
+      -- no ticket is left for another owner value
       pub clone_exhausted : V.next ≡ last_ticket
           → Meets S (CloneOwner o) (Refused NumbersExhausted) S
       clone_exhausted last =
           rw (← view)
           (inl (no_names, tt, rw (own, held.2, eq-eqb V.next last_ticket last) refl))
 
+      -- another owner value
       pub clone_made : (r : OwnerName) (R : State T) → V.next < last_ticket
           → r ≡ record { store = V.number; key = o.key }
           → R ≡ record V { owners = change V.owners o.key one_more; next = V.next + 1 }
@@ -139,6 +103,7 @@ module _ {T : Type 0} {V S : State T} (view : V ≡ S) where
 
     -- the owner's record is h
     module _ (h : Ownership) (found : Some h ≡ record_of V.number V.owners o) where
+      -- it stands under the owner's key
       there : map.get V.owners o.key ≡ Some h
       there = record_held V.number V.owners o h found
 
@@ -150,23 +115,31 @@ module _ {T : Type 0} {V S : State T} (view : V ≡ S) where
           rw (← view, after, changed_there by_number V.owners o.key one_less h there)
           (inl (no_names, tt, rw (← found, lt-ltb 1 h.count several) refl))
 
-      module _ (values : OnlyValues V.cells) (few : h.count ≤ 1) where
-        last_is : act V (ReleaseOwner o) no_names ≡ unless (first_borrowed V.cells h.names) V
-            (Done, record (close V h.names) { owners = map.remove V.owners o.key })
-        last_is = rw (← found, le-ltb 1 h.count few, hindered_is V values h.names) refl
+module _ {T : Type 0} (X : State T) {S : State T} {number next : ℕ} {owners : Owners}
+    (view : with_records X number owners next ≡ S) (o : OwnerName) (h : Ownership)
+    (found : Some h ≡ record_of number owners o) (few : h.count ≤ 1) (names : List Name)
+    (are : names ≡ h.names) where
+  abbrev V : State T
+  V = with_records X number owners next
 
-        pub last_refused : (e : Refusing BorrowMutError)
-            → FoundBorrowed (first_borrowed V.cells h.names) (Err e)
-            → Meets S (ReleaseOwner o) (end_refused e) S
-        last_refused e is =
-            rw (← view) (hindered_step V (ReleaseOwner o) e (first_borrowed V.cells h.names) _
-            last_is is)
+  -- with the last owner value all boxes of the list end, or none
+  last_is : act V (ReleaseOwner o) no_names ≡ unless (hindrance_to V h.names) V
+      (Done, record (close V h.names) { owners = map.remove owners o.key })
+  last_is = rw (← found, le-ltb 1 h.count few) refl
 
-        pub last_done : (M R : State T) (names : List Name)
-            → first_borrowed V.cells h.names ≡ None
-            → M ≡ record S { owners = map.remove S.owners o.key }
-            → names ≡ names_under S.owners o.key
-            → R ≡ close M names → Meets S (ReleaseOwner o) Done R
-        last_done M R names unhindered taken are after =
-            rw (after, taken, are, ← view)
-            (inl (no_names, tt, rw (last_is, unhindered, there) refl))
+  -- a borrow stands in the way
+  pub last_refused : (Y : State T) (e : Refusing BorrowMutError) → Y ≡ X
+      → FoundBorrowed (hindrance_to X names) (Err e)
+      → Meets S (ReleaseOwner o) (end_refused e) (with_records Y number owners next)
+  unfolding hindrance_to
+  last_refused Y e same is =
+      rw (← view, same) (hindered_step V (ReleaseOwner o) e (hindrance_to V h.names) _ last_is
+      (subst (λ ns. FoundBorrowed (hindrance_to X ns) (Err e)) are is))
+
+  -- none does
+  pub last_done : (Y : State T) (after : Owners) → hindrance_to X names ≡ None
+      → Y ≡ close X names → after ≡ map.remove owners o.key
+      → Meets S (ReleaseOwner o) Done (with_records Y number after next)
+  unfolding hindrance_to
+  last_done Y after free closed taken =
+      rw (← view, closed, taken, are) (inl (no_names, tt, rw (last_is, rw are at free) refl))

@@ -81,6 +81,36 @@ module _ {A : Type 0} where
   count_all [] = refl
   count_all (x ∷ xs) = let e = count_all xs in omega arith
 
+  -- what passes is counted, and what is counted stands somewhere
+  pub many_some : (p : A → Bool) (xs : List A) (k : ℕ) (x : A)
+      → slice_get xs k ≡ Some x → p x ≡ true → 0 < how_many p xs
+  many_some p [] k x at passed = absurd (none-some x at)
+  many_some p (y ∷ ys) zero x at passed =
+      let one : p y ≡ true = ap (passes p) at ∙ passed in rw one (omega arith)
+  many_some p (y ∷ ys) (suc k) x at passed =
+      let rest = many_some p ys k x at passed in omega arith
+
+  pub some_of_many : (p : A → Bool) (xs : List A) → 0 < how_many p xs
+      → (k : ℕ) × (x : A) × (slice_get xs k ≡ Some x) × (p x ≡ true)
+  some_of_many p [] many = absurd (omega arith)
+  some_of_many p (y ∷ ys) many = by (p y) refl (λ h. some_of_many p ys h) many
+    where
+      by : (b : Bool) → p y ≡ b → (0 < how_many p ys
+          → (k : ℕ) × (x : A) × (slice_get ys k ≡ Some x) × (p x ≡ true))
+          → 0 < bit b + how_many p ys
+          → (k : ℕ) × (x : A) × (slice_get (y ∷ ys) k ≡ Some x) × (p x ≡ true)
+      by true passed rest h = (0, y, refl, passed)
+      by false e rest h = let it = rest (omega arith) in (suc it.0, it.1, it.2, it.3)
+
+  -- no more pass than there are
+  pub many_within : (p : A → Bool) (xs : List A) → how_many p xs ≤ length xs
+  many_within p [] = omega arith
+  many_within p (x ∷ xs) = by (p x) (many_within p xs)
+    where
+      by : (b : Bool) → how_many p xs ≤ length xs → bit b + how_many p xs ≤ suc (length xs)
+      by true rest = omega arith
+      by false rest = omega arith
+
 len_step : {X : Type 0} (m : map.FinMap nat_cmp X) (i n : ℕ) (b : Bool) → map.contains_key m i ≡ b
     → map.len (map.remove m i) ≡ n → map.len m ≡ bit b + n
 len_step m i n false here rest =

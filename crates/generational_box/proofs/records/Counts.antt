@@ -1,15 +1,28 @@
--- How many owner values the records stand for, and below which key they stand.
+-- How many owner values the records stand for, below which key they stand, and what is put on their
+-- lists.
 use Rattle.std.proofs.Common.{◌≡◌, ℕ, ◌+◌, ◌<◌, Bool, true, false, cond, Option, None, Some, refl}
-use Rattle.std.proofs.Common.{sym, arith, subst, nat_eq}
+use Rattle.std.proofs.Common.{sym, arith, subst, nat_eq, List, [], ◌∷◌, ◌++◌, ◌-◌, ◌∙◌, length}
+use Rattle.std.proofs.Common.{option_map, slice_set}
+use Rattle.std.proofs.lemmas.List.{length-append}
+use Rattle.std.proofs.Math.Seq.{set-append_seam}
+use Rattle.std.specs.List.{IsDistinct}
+use Rattle.std.proofs.lemmas.Map.Keys.{IsDistinct-push}
 use Rattle.std.proofs.lemmas.Option.{none-some}
-use Rattle.generational_box.proofs.Common.{record_of}
+use Rattle.generational_box.proofs.Common.{record_of, by_number, key_same, AreCounted, IsCounted}
+use Rattle.generational_box.proofs.Common.{change, change_if, Ownership, Owners, one_more, one_less}
+use Rattle.generational_box.proofs.Common.{Name, one_listed, count_in, count_under, add_to_list_in}
+use Rattle.generational_box.proofs.Common.{among, get-changed, is_name, name_total, names_in}
+use Rattle.generational_box.proofs.Common.{names_under, one_relisted, relist_in}
 use Rattle.std.specs.Ordering.{nat_cmp, eq_by_cmp}
-use Rattle.std.specs.Cmp.{nat_cmp_total}
+use Rattle.std.specs.Cmp.{nat_cmp_total, IsEquivalence}
+use Rattle.std.proofs.lemmas.Cmp.{eq_by_cmp_equiv}
 use Rattle.std.specs.FinMap as map
-use Rattle.generational_box.proofs.Common.{by_number, key_same, AreCounted, IsCounted, change}
-use Rattle.generational_box.proofs.Common.{change_if, Ownership, Owners, one_more, one_less, Name}
-use Rattle.generational_box.proofs.Common.{one_listed, count_in, count_under, add_to_list_in}
 use Rattle.generational_core.specs.Machine.{OwnerName}
+
+-- names are compared for equality
+name_equal : IsEquivalence is_name
+unfolding is_name
+name_equal = eq_by_cmp_equiv name_total
 
 pub counted_empty : (next : ℕ) → AreCounted next map.empty
 counted_empty next = record { each = λ k. rw (map.get-empty nat_cmp k) tt }
@@ -20,7 +33,7 @@ module _ {next : ℕ} {owners : Owners} (counted : AreCounted next owners) where
     where
       more : (k : ℕ) (o : Option Ownership) → IsCounted next k o → IsCounted (next + 1) k o
       more k None c = tt
-      more k (Some h) c = (c.0, omega (arith, c.1), omega (arith, c.2))
+      more k (Some h) c = (c.0, omega (arith, c.1), omega (arith, c.2), c.3)
 
   -- the next key has no record
   pub counted_absent : map.get owners next ≡ None
@@ -65,25 +78,30 @@ module _ {next : ℕ} {owners : Owners} (counted : AreCounted next owners) where
   pub counted_down : (k : ℕ) → 1 < count_under owners k → AreCounted next (change owners k one_less)
   counted_down k several = counted_changed k one_less (λ h is c.
       let more : 1 < h.count = subst (λ r. 1 < count_in r) is several in
-      (omega (arith, more), omega (arith, c.1), c.2))
+      (omega (arith, more), omega (arith, c.1), c.2, c.3))
 
-  -- the records after a listing are as counted
+  -- the records after the listing of a new name are as counted
   pub counted_listed : (o : Option OwnerName) (n : Name)
+      → ((k : ℕ) → among (names_under owners k) n ≡ false)
       → AreCounted next (add_to_list_in owners o n)
-  counted_listed None n = counted
-  counted_listed (Some o) n = counted_changed o.key (one_listed n) (λ h is c. c)
+  counted_listed None n apart = counted
+  counted_listed (Some o) n apart = counted_changed o.key (one_listed n) (λ h is c.
+      let new : among h.names n ≡ false =
+      subst (λ r. among (names_in r) n ≡ false) is (apart o.key) in
+      (c.0, c.1, c.2, IsDistinct-push name_equal h.names n c.3 new))
 
 module _ {next : ℕ} {owners : Owners} (counted : AreCounted next owners) where
-  pub counted_new : (h : Ownership) → h.count ≡ 1
+  pub counted_new : (h : Ownership) → h.count ≡ 1 → h.names ≡ []
       → AreCounted (next + 1) (map.insert owners next h)
-  counted_new h one =
+  unfolding IsDistinct
+  counted_new h one none =
       counted_insert (counted_more counted) next h
-      (omega (arith, one), omega (arith, one), omega arith)
+      (omega (arith, one), omega (arith, one), omega arith, rw none tt)
 
   pub counted_up : (k : ℕ) → AreCounted (next + 1) (change owners k one_more)
   counted_up k = counted_changed (counted_more counted) k one_more (λ h is c.
       let old : IsCounted next k (Some h) = subst (IsCounted next k) is (counted.each k) in
-      (omega arith, omega (arith, old.1), omega (arith, old.2)))
+      (omega arith, omega (arith, old.1), omega (arith, old.2), old.3))
 
 -- what is found of an owner is what stands under its key
 pub record_held : (number : ℕ) (owners : Owners) (o : OwnerName) (h : Ownership)
@@ -93,3 +111,33 @@ record_held number owners o h is = at (nat_eq o.store number) (sym is)
     at : (b : Bool) → cond b (map.get owners o.key) None ≡ Some h → map.get owners o.key ≡ Some h
     at true is = is
     at false is = absurd (none-some h is)
+
+-- two changes at a key are one
+changed_twice : (owners : Owners) (k : ℕ) (f h : Ownership → Ownership)
+    → change (change owners k f) k h ≡ change owners k (λ x. h (f x))
+changed_twice owners k f h = map.same_map by_number.total by_number.exact _ _ (λ q.
+    get-changed by_number (change owners k f) k h q
+    ∙ rw (get-changed by_number owners k f q, get-changed by_number owners k (λ x. h (f x)) q)
+    (at (eq_by_cmp nat_cmp q k) (map.get owners q)))
+  where
+    at : (b : Bool) (o : Option Ownership)
+        → cond b (option_map h (cond b (option_map f o) o)) (cond b (option_map f o) o)
+        ≡ cond b (option_map (λ x. h (f x)) o) o
+    at true None = refl
+    at true (Some x) = refl
+    at false o = refl
+
+-- a name that was listed gives way to another
+pub relisted : (owners : Owners) (o : Option OwnerName) (m n : Name)
+    → relist_in (add_to_list_in owners o m) o n ≡ add_to_list_in owners o n
+relisted owners None m n = refl
+relisted owners (Some o) m n =
+    changed_twice owners o.key (one_listed m) (one_relisted n)
+    ∙ (λ i. change owners o.key (λ h. record h { names = last h.names i }))
+  where
+    last : (ns : List Name)
+        → slice_set (ns ++ m ∷ []) (length (ns ++ m ∷ []) - 1) n ≡ ns ++ n ∷ []
+    last ns =
+        let long = length-append ns (m ∷ []) in
+        let at : length (ns ++ m ∷ []) - 1 ≡ length ns = omega arith in
+        rw at (set-append_seam ns m [] n)

@@ -1,15 +1,17 @@
 use Rattle.std.proofs.Common.{arith, refl, sym, ◌≡◌, subst, ap, ◌∙◌, [], ◌∷◌}
 use Rattle.std.proofs.lemmas.List.{length-set}
-use Rattle.generational_box.specs.Entries.{borrows_in}
-use Rattle.generational_box.proofs.slots.Entries.{kept, many, says, free_value, used_at, read_slot}
-use Rattle.generational_box.proofs.slots.Entries.{room_left, small_left, open_lists, open_indexed}
-use Rattle.generational_box.proofs.slots.Entries.{none_some}
-use Rattle.generational_box.proofs.slots.Entries.{Opens}
-use Rattle.generational_box.proofs.slots.Entries.{list_lists, join_room, join_indexed, join_lists}
-use Rattle.generational_box.proofs.slots.Entries.{join_list}
-use Rattle.generational_box.proofs.slots.Entries.{view_changed, roomy_still, opened_list, hears}
-use Rattle.generational_box.proofs.slots.Entries.{location, ok_then}
-use Rattle.generational_box.proofs.slots.Entries.{err_then, read_beside, reader_kept, not_empty}
+use Rattle.generational_box.specs.Entry.{content_in, readers_of}
+use Rattle.generational_box.proofs.states.Entries.{kept, many, says, free_value, used_at, read_slot}
+use Rattle.generational_box.proofs.states.Entries.{room_left, small_left, open_lists, open_indexed}
+use Rattle.generational_box.proofs.lists.TableChanges.{none_some}
+use Rattle.generational_box.proofs.lists.TableChanges.{Opens}
+use Rattle.generational_box.proofs.states.Entries.{list_lists, join_room, join_indexed, join_lists}
+use Rattle.generational_box.proofs.states.Entries.{join_list}
+use Rattle.generational_box.proofs.lists.TableChanges.{opened_list}
+use Rattle.generational_box.proofs.states.Entries.{view_changed, roomy_still, hears}
+use Rattle.generational_box.proofs.states.Entries.{location, ok_then}
+use Rattle.generational_box.proofs.lists.TableChanges.{not_empty}
+use Rattle.generational_box.proofs.states.Entries.{err_then, read_beside, reader_kept}
 use Rattle.generational_box.specs.Entries.{kept_data, index_of, EntryList}
 use Rattle.generational_box.specs.Table.{list_at}
 use Rattle.generational_box.specs.Borrows.{AreBelow}
@@ -71,7 +73,7 @@ returns-then-index-clause-ok g c =
     (λ l. rw (
       c.in-Data.is,
       opened_list o,
-      free_value s c.args.slot _ there _ _ c.in-Data.is c.if-index.true,
+      free_value s c.args.slot _ there _ _ _ c.in-Data.is c.if-index.true,
     ) refl)
 
 pub join-requires-clause-used : goal.join-requires-clause-used
@@ -80,7 +82,7 @@ join-requires-clause-used g c =
     let there = read_slot s c.requires.within _ c.self.inside.entries.ok.0
     c.index_mut.ensures.value in
     rw c.if-index-eq0.true at
-    (used_at s c.args.slot _ there _ _ c.in-Data.is c.if-index.false).used
+    (used_at s c.args.slot _ there _ _ _ c.in-Data.is c.if-index.false).used
 
 pub join-requires-clause-room : goal.join-requires-clause-room
 join-requires-clause-room g c =
@@ -96,11 +98,12 @@ join-requires-clause-ascends g c =
     let there = read_slot s c.requires.within _ c.self.inside.entries.ok.0
     c.index_mut.ensures.value in
     rw c.if-index-eq0.true at
-    (subst (λ d. AreBelow c.args.borrow.ticket (borrows_in (kept_data
-    (list_at c.self.inside.borrows.lists (index_of d)) (location s c.args.slot _ there).0 d)))
+    (subst (λ d. AreBelow c.args.borrow.ticket (readers_of (content_in (kept_data
+    (list_at c.self.inside.borrows.lists (index_of d))
+    (location s c.args.slot _ there).0.created_at d))))
     c.in-Data.is
-    (hears s c.args.slot _ there (λ e. AreBelow c.args.borrow.ticket (borrows_in e.kept))
-    c.requires.ascends))
+    (hears s c.args.slot _ there
+    (λ e. AreBelow c.args.borrow.ticket (readers_of (content_in e.kept))) c.requires.ascends))
 
 pub returns-in_err-index-in-Data-clause-beside : goal.returns-in_err-index-in-Data-clause-beside
 returns-in_err-index-in-Data-clause-beside g c =
@@ -108,7 +111,7 @@ returns-in_err-index-in-Data-clause-beside g c =
     let there = read_slot s c.requires.within _ c.self.inside.entries.ok.0
     c.index_mut.ensures.value in
     err_then c.from_residual.result (says s c.args.slot _ there _ (λ l. rw c.in-Data.is
-    (read_beside s c.args.slot _ there _ _ c.in-Data.is c.if-index.false)))
+    (read_beside s c.args.slot _ there _ _ _ c.in-Data.is c.if-index.false)))
 
 pub invariant_of-self-then-index-eq0 : goal.invariant_of-self-then-index-eq0
 invariant_of-self-then-index-eq0 g c =
@@ -143,25 +146,26 @@ push-requires-clause-within g c =
     let s = kept c.self.view_is c.self.invariant in
     let there = read_slot s c.requires.within _ c.self.inside.entries.ok.0
     c.index_mut.ensures.value in
-    (used_at s c.args.slot _ there _ _ c.in-Data.is c.if-index.false).within
+    (used_at s c.args.slot _ there _ _ _ c.in-Data.is c.if-index.false).within
 
 pub push-requires-clause-ascends : goal.push-requires-clause-ascends
 push-requires-clause-ascends g c =
     let s = kept c.self.view_is c.self.invariant in
     let there = read_slot s c.requires.within _ c.self.inside.entries.ok.0
     c.index_mut.ensures.value in
-    subst (λ d. AreBelow c.args.borrow.ticket (borrows_in (kept_data
-    (list_at c.self.inside.borrows.lists (index_of d)) (location s c.args.slot _ there).0 d)))
+    subst (λ d. AreBelow c.args.borrow.ticket (readers_of (content_in (kept_data
+    (list_at c.self.inside.borrows.lists (index_of d))
+    (location s c.args.slot _ there).0.created_at d))))
     c.in-Data.is
-    (hears s c.args.slot _ there (λ e. AreBelow c.args.borrow.ticket (borrows_in e.kept))
-    c.requires.ascends)
+    (hears s c.args.slot _ there
+    (λ e. AreBelow c.args.borrow.ticket (readers_of (content_in e.kept))) c.requires.ascends)
 
 pub returns-else-index-eq0-clause-ok : goal.returns-else-index-eq0-clause-ok
 returns-else-index-eq0-clause-ok g c =
     let s = kept c.self.view_is c.self.invariant in
     let there = read_slot s c.requires.within _ c.self.inside.entries.ok.0
     c.index_mut.ensures.value in
-    let u = used_at s c.args.slot _ there _ _ c.in-Data.is c.if-index.false in
+    let u = used_at s c.args.slot _ there _ _ _ c.in-Data.is c.if-index.false in
     ok_then c.push.result (λ now. view_changed s c.args.slot _ there _ _ _
     (list_lists s c.args.slot _ there _ (rw c.in-Data.is refl) c.if-index.false _ (not_empty _ _)
     now)
@@ -179,7 +183,7 @@ returns-else-index-eq0-clause-beside g c =
     let there = read_slot s c.requires.within _ c.self.inside.entries.ok.0
     c.index_mut.ensures.value in
     err_then c.push.result (says s c.args.slot _ there _ (λ l. rw c.in-Data.is
-    (read_beside s c.args.slot _ there _ _ c.in-Data.is c.if-index.false)))
+    (read_beside s c.args.slot _ there _ _ _ c.in-Data.is c.if-index.false)))
 
 pub returns-in_default : goal.returns-in_default
 returns-in_default g c =
@@ -190,7 +194,8 @@ returns-in_default g c =
       ok = view_changed s c.args.slot _ there _ _ _ (λ k other. refl) (λ l. ap (λ kept. record {
         generation = c.index_mut.result.now.generation;
         kept = kept;
-      }) (reader_kept c.args.borrow _ l c.index_mut.result.now.content c.in_default.not-Data));
+        references = l.references;
+      }) (reader_kept c.args.borrow _ l.created_at c.index_mut.result.now.content c.in_default.not-Data));
       err = tt;
       beside = tt;
       rooms = ap (λ (x : EntryList _). x.rooms) c.self.view_is;

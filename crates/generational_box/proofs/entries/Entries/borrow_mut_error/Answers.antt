@@ -12,13 +12,14 @@ use Rattle.generational_core.specs.declared.error.StoreError.TheVariants.{OutOfM
 use Rattle.generational_core.specs.declared.error.StoreError.TheVariants.{NumbersExhausted}
 use Rattle.generational_core.specs.declared.error.StoreError.TheVariants.{UnknownOwner}
 use Rattle.generational_core.specs.declared.error.Location.{Location}
+use Rattle.generational_box.specs.declared.entry.Kind.{Kind}
 use Rattle.generational_box.specs.declared.entry.StorageEntryData.{StorageEntryData}
 use Rattle.generational_box.specs.declared.entry.StorageEntryData.TheVariants as slot
 use Rattle.generational_box.specs.Entries.{index_of, kept_data}
 use Rattle.generational_box.specs.Entry.{FoundBorrowed, FoundReaders, content_in}
 use Rattle.generational_box.specs.Table.{list_at}
-use Rattle.generational_box.proofs.slots.Entries.{kept, many, says, free_value, writer_of, used_at}
-use Rattle.generational_box.proofs.slots.Entries.{read_slot}
+use Rattle.generational_box.proofs.states.Entries.{kept, many, says, free_value, writer_of, used_at}
+use Rattle.generational_box.proofs.states.Entries.{no_content, read_slot}
 use Rattle.generational_box.proofs.entries.Entries.borrow_mut_error.Goals as goal
 
 module _ {T : Type 0} (lists : List (List Borrow)) (d : StorageEntryData T) (l : Location) where
@@ -28,10 +29,10 @@ module _ {T : Type 0} (lists : List (List Borrow)) (d : StorageEntryData T) (l :
 
 module _ {T : Type 0} (lists : List (List Borrow)) (d : StorageEntryData T) (l : Location) where
   -- readers stand in the way, and so does a writer
-  found_readers : (x : ℕ) (v : T) → d ≡ slot.Data x v
+  found_readers : (kd : Kind) (x : ℕ) (v : T) → d ≡ slot.Data kd x v
       → (r : Refused BorrowMutError) → list_at lists x ≢ [] → FoundReaders (list_at lists x) r
       → FoundBorrowed (trouble lists d l) (Err r)
-  found_readers x v is r some found =
+  found_readers kd x v is r some found =
       subst (λ d. FoundBorrowed (trouble lists d l) (Err r)) (sym is)
       (at (list_at lists x) r some found)
     where
@@ -43,12 +44,12 @@ module _ {T : Type 0} (lists : List (List Borrow)) (d : StorageEntryData T) (l :
       at (b ∷ bs) (refused.Store NumbersExhausted) some found = absurd found
       at (b ∷ bs) (refused.Store UnknownOwner) some found = absurd found
 
-  found_writer : (x : ℕ) → d ≡ slot.Lent x
+  found_writer : (kd : Kind) (x : ℕ) → d ≡ slot.Lent kd x
       → (w : Borrow) (rest : List Borrow) → list_at lists x ≡ w ∷ rest
       → (r : Refused BorrowMutError) → r ≡ refused.Borrow
       (writes.AlreadyBorrowedMut (record { borrowed_mut_at = w.location }))
       → FoundBorrowed (trouble lists d l) (Err r)
-  found_writer x is w rest there r found = rw (found, is, there) refl
+  found_writer kd x is w rest there r found = rw (found, is, there) refl
 
 pub index-requires : goal.index-requires
 index-requires g c =
@@ -61,44 +62,45 @@ returns-then-index g c =
     let there = read_slot s c.requires _ c.self.inside.entries.ok.0 c.index.ensures in
     says s c.args.slot _ there _ (λ l. rw (
       c.in-Data.is,
-      free_value s c.args.slot _ there _ _ c.in-Data.is c.if-index.true,
+      free_value s c.args.slot _ there _ _ _ c.in-Data.is c.if-index.true,
     ) refl)
 
 pub readers_error-requires : goal.readers_error-requires
 readers_error-requires g c =
     let s = kept c.self.view_is c.self.invariant in
     let there = read_slot s c.requires _ c.self.inside.entries.ok.0 c.index.ensures in
-    (used_at s c.args.slot _ there _ _ c.in-Data.is c.if-index.false).within
+    (used_at s c.args.slot _ there _ _ _ c.in-Data.is c.if-index.false).within
 
 pub first-requires : goal.first-requires
 first-requires g c =
     let s = kept c.self.view_is c.self.invariant in
     let there = read_slot s c.requires _ c.self.inside.entries.ok.0 c.index.ensures in
-    (writer_of s c.args.slot _ there _ c.in-Lent.is).3
+    (writer_of s c.args.slot _ there _ _ c.in-Lent.is).3
 
 pub returns-else-index : goal.returns-else-index
 returns-else-index g c =
     let s = kept c.self.view_is c.self.invariant in
     let there = read_slot s c.requires _ c.self.inside.entries.ok.0 c.index.ensures in
-    let u = used_at s c.args.slot _ there _ _ c.in-Data.is c.if-index.false in
+    let u = used_at s c.args.slot _ there _ _ _ c.in-Data.is c.if-index.false in
     says s c.args.slot _ there _ (λ l. found_readers c.self.inside.borrows.lists
-    c.index.result.now.content l _ _ c.in-Data.is c.readers_error.result u.some
+    c.index.result.now.content l.created_at _ _ _ c.in-Data.is c.readers_error.result u.some
     c.readers_error.ensures)
 
-pub returns-in-Empty : goal.returns-in-Empty
-returns-in-Empty g c =
+pub returns-in_default : goal.returns-in_default
+returns-in_default g c =
     let s = kept c.self.view_is c.self.invariant in
     let there = read_slot s c.requires _ c.self.inside.entries.ok.0 c.index.ensures in
-    says s c.args.slot _ there _ (λ l. rw c.in-Empty.is refl)
+    says s c.args.slot _ there _ (λ l. rw (no_content _ l.created_at c.index.result.now.content
+    c.in_default.not-Data c.in_default.not-Lent) refl)
 
 pub returns-in-Lent : goal.returns-in-Lent
 returns-in-Lent g c =
     let s = kept c.self.view_is c.self.invariant in
     let there = read_slot s c.requires _ c.self.inside.entries.ok.0 c.index.ensures in
-    let w = writer_of s c.args.slot _ there _ c.in-Lent.is in
+    let w = writer_of s c.args.slot _ there _ _ c.in-Lent.is in
     let found : Some c.first.result ≡ Some w.0 =
     sym c.first.ensures ∙ ap (λ bs. slice_get bs 0) w.2 in
     let same : c.first.result ≡ w.0 = cc found in
     says s c.args.slot _ there _ (λ l. found_writer c.self.inside.borrows.lists
-    c.index.result.now.content l _ c.in-Lent.is w.0 w.1 w.2 c.writer_error.result
+    c.index.result.now.content l.created_at _ _ c.in-Lent.is w.0 w.1 w.2 c.writer_error.result
     (rw same at c.writer_error.ensures))

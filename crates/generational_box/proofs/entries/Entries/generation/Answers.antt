@@ -1,6 +1,6 @@
 use Rattle.std.proofs.Common.{arith, refl, ◌≡◌}
 use Rattle.std.proofs.lemmas.Option.{slice_get_read}
-use Rattle.generational_box.proofs.slots.Entries.{kept, many, says}
+use Rattle.generational_box.proofs.states.Entries.{kept, many, says}
 use Rattle.generational_box.proofs.entries.Entries.generation.Goals as goal
 
 pub index-requires : goal.index-requires

@@ -1,7 +1,8 @@
 use Rattle.std.proofs.Common.{arith, refl, ◌≡◌, is_none, true, false}
 use Rattle.generational_core.specs.Borrowing.{write_refusal}
 use Rattle.generational_box.specs.Entry.{content_in}
-use Rattle.generational_box.proofs.slots.Entries.{kept, many, says, free_test, writer_of, read_slot}
+use Rattle.generational_box.proofs.states.Entries.{kept, many, no_content, says, free_test}
+use Rattle.generational_box.proofs.states.Entries.{writer_of, read_slot}
 use Rattle.std.proofs.Common.{nat_eq}
 use Rattle.generational_box.proofs.entries.Entries.is_unborrowed.Goals as goal
 
@@ -16,19 +17,20 @@ returns-in-Data g c =
     let there = read_slot s c.requires _ c.self.inside.entries.ok.0 c.index.ensures in
     says s c.args.slot _ there
     (λ e. nat_eq c.in-Data.index 4294967295 ≡ is_none (write_refusal (content_in e.kept)))
-    (λ l. rw c.in-Data.is (free_test s c.args.slot _ there _ _ c.in-Data.is))
+    (λ l. rw c.in-Data.is (free_test s c.args.slot _ there _ _ _ c.in-Data.is))
 
-pub returns-in-Empty : goal.returns-in-Empty
-returns-in-Empty g c =
+pub returns-in_default : goal.returns-in_default
+returns-in_default g c =
     let s = kept c.self.view_is c.self.invariant in
     let there = read_slot s c.requires _ c.self.inside.entries.ok.0 c.index.ensures in
     says s c.args.slot _ there (λ e. true ≡ is_none (write_refusal (content_in e.kept)))
-    (λ l. rw c.in-Empty.is refl)
+    (λ l. rw (no_content _ l.created_at c.index.result.now.content c.in_default.not-Data
+    c.in_default.not-Lent) refl)
 
 pub returns-in-Lent : goal.returns-in-Lent
 returns-in-Lent g c =
     let s = kept c.self.view_is c.self.invariant in
     let there = read_slot s c.requires _ c.self.inside.entries.ok.0 c.index.ensures in
-    let w = writer_of s c.args.slot _ there _ c.in-Lent.is in
+    let w = writer_of s c.args.slot _ there _ _ c.in-Lent.is in
     says s c.args.slot _ there (λ e. false ≡ is_none (write_refusal (content_in e.kept)))
     (λ l. rw (c.in-Lent.is, w.2) refl)

@@ -1,5 +1,5 @@
 use Rattle.std.proofs.Common.{arith}
-use Rattle.generational_box.proofs.slots.Entries.{kept, many}
+use Rattle.generational_box.proofs.states.Entries.{kept, many}
 use Rattle.generational_box.proofs.entries.Entries.len.Goals as goal
 
 pub returns : goal.returns

@@ -2,22 +2,25 @@
 use Rattle.std.proofs.Common.{arith, refl, ◌≡◌, ℕ, List, [], ◌∷◌, None}
 use Rattle.generational_core.specs.declared.borrow.Borrow.{Borrow}
 use Rattle.generational_core.specs.declared.error.Location.{Location}
+use Rattle.generational_box.specs.declared.entry.Kind.{Kind}
 use Rattle.generational_box.specs.declared.entry.StorageEntryData.{StorageEntryData}
 use Rattle.generational_box.specs.declared.entry.StorageEntryData.TheVariants as slot
 use Rattle.generational_box.specs.Entries.{kept_data}
 use Rattle.generational_box.specs.Entry.{content_in, value_for}
-use Rattle.generational_box.proofs.slots.Entries.{kept, many, says, used_at, free_value, read_slot}
+use Rattle.generational_box.proofs.states.Entries.{kept, many, says, used_at, free_value, read_slot}
+use Rattle.generational_box.proofs.entries.Entries.open.Goals.{}
 use Rattle.generational_box.proofs.entries.Entries.open.Goals.{else-index-via-then-index+else-contains}
 use Rattle.generational_box.proofs.entries.Entries.open.Goals.{else-index-via-else-index}
 use Rattle.generational_box.proofs.entries.Entries.open.Goals as goal
 
 no_value : {T : Type 0} (ticket : ℕ) (bs : List Borrow) (l : Location) (d : StorageEntryData T)
-    → ((x : ℕ) (v : T) → d ≡ slot.Data x v → ⊥)
+    → ((kd : Kind) (x : ℕ) (v : T) → d ≡ slot.Data kd x v → ⊥)
     → None ≡ value_for ticket (content_in (kept_data bs l d))
 no_value ticket bs l slot.Empty none = refl
-no_value ticket bs l (slot.Data x v) none = absurd (none x v refl)
-no_value ticket [] l (slot.Lent x) none = refl
-no_value ticket (b ∷ bs) l (slot.Lent x) none = refl
+no_value ticket bs l (slot.Reference m n) none = refl
+no_value ticket bs l (slot.Data kd x v) none = absurd (none kd x v refl)
+no_value ticket [] l (slot.Lent kd x) none = refl
+no_value ticket (b ∷ bs) l (slot.Lent kd x) none = refl
 
 pub index-requires : goal.index-requires
 index-requires g c =
@@ -28,7 +31,7 @@ pub contains-requires : goal.contains-requires
 contains-requires g c =
     let s = kept c.self.view_is c.self.invariant in
     let there = read_slot s c.requires _ c.self.inside.entries.ok.0 c.index.ensures in
-    (used_at s c.args.slot _ there _ _ c.in-Data.is c.if-index.true).within
+    (used_at s c.args.slot _ there _ _ _ c.in-Data.is c.if-index.true).within
 
 pub returns-then-contains : goal.returns-then-contains
 returns-then-contains g c =
@@ -46,7 +49,7 @@ returns-else-index g c =
           (λ l. rw (c.in-Data.is, ← w.if-contains.ensures) refl)
       | else-index-via-else-index w ↦ says s c.args.slot _ there _ (λ l. rw (
         c.in-Data.is,
-        free_value s c.args.slot _ there _ _ c.in-Data.is w.if-index.false,
+        free_value s c.args.slot _ there _ _ _ c.in-Data.is w.if-index.false,
       ) refl)
     ]
 
@@ -55,4 +58,4 @@ returns-in_default g c =
     let s = kept c.self.view_is c.self.invariant in
     let there = read_slot s c.requires _ c.self.inside.entries.ok.0 c.index.ensures in
     says s c.args.slot _ there _
-    (λ l. no_value c.args.ticket _ l c.index.result.now.content c.in_default.not-Data)
+    (λ l. no_value c.args.ticket _ l.created_at c.index.result.now.content c.in_default.not-Data)

@@ -3,14 +3,15 @@ use Rattle.std.proofs.Common.{arith, refl, ap, ◌≡◌, ◌∙◌, ◌<◌, �
 use Rattle.std.proofs.lemmas.List.{length-set}
 use Rattle.generational_core.specs.Slots.{last_generation}
 use Rattle.generational_box.proofs.lists.Lists.{set_written}
-use Rattle.generational_box.proofs.slots.Entries.{kept, many, says, hears, read_slot, empty_slot}
-use Rattle.generational_box.proofs.slots.Entries.{indexed_free, slots_set, free_entry}
+use Rattle.generational_box.proofs.states.Entries.{kept, many, says, hears, read_slot, empty_slot}
+use Rattle.generational_box.proofs.states.Entries.{indexed_free, slots_set, free_entry}
+use Rattle.generational_box.proofs.states.Entries.{unborrowed_lent, unborrowed_none}
 use Rattle.generational_box.proofs.entries.Entries.refill.Goals as goal
 
 pub index_mut-requires : goal.index_mut-requires
 index_mut-requires g c =
     let same = many (kept c.self.view_is c.self.invariant) in
-    omega (arith, c.requires.within, c.self.invariant.1, c.self.inside.created.ok.0)
+    omega (arith, c.requires.within, c.self.invariant.1, c.self.inside.details.ok.0)
 
 pub index_mut-requires-2 : goal.index_mut-requires-2
 index_mut-requires-2 g c =
@@ -30,12 +31,18 @@ invariant_of-self g c =
     let there = read_slot s c.requires.within _ c.self.inside.entries.ok.0
     c.index_mut-2.ensures.value in
     let long = length-set c.self.inside.entries.items c.args.slot c.refill.new.self in
-    let made = length-set c.self.inside.created.items c.args.slot c.args.location in
+    let made = length-set c.self.inside.details.items c.args.slot (record {
+      created_at = c.args.created_at;
+      references = 0;
+    }) in
     let room = c.self.invariant.2 in (
       indexed_free (set_written c.self.inside.entries.items c.args.slot c.refill.new.self _ there)
           c.self.invariant.0 (omega arith)
           (rw (there, empty_slot s c.args.slot _ there c.requires.empty) refl)
-          (rw c.refill.ensures.filled refl) (rw c.refill.ensures.filled tt),
+          (rw c.refill.ensures.filled
+          (unborrowed_none c.args.content c.requires.unborrowed))
+          (rw c.refill.ensures.filled
+          (unborrowed_lent c.args.content c.requires.unborrowed)),
       omega (arith, c.self.invariant.1),
       rw long room,
     )
@@ -52,6 +59,6 @@ pub returns-clause-filled : goal.returns-clause-filled
 returns-clause-filled g c =
     let s = kept c.self.view_is c.self.invariant in
     rw c.refill.ensures.filled
-    (slots_set s c.args.slot _ c.args.location c.requires.within
+    (slots_set s c.args.slot _ _ c.requires.within
     ∙ ap (slice_set c.args.self.now.slots c.args.slot)
-    (free_entry s c.refill.result c.args.value c.args.location))
+    (free_entry s c.refill.result c.args.content _ c.requires.unborrowed))

@@ -2,18 +2,19 @@ use Rattle.std.proofs.Common.{arith, refl, sym, ◌≡◌, ap, ◌∙◌, true, 
 use Rattle.std.proofs.lemmas.List.{length-set}
 use Rattle.generational_core.specs.Machine.{has_writer}
 use Rattle.generational_box.specs.Entry.{content_in}
-use Rattle.generational_box.proofs.slots.Entries.{kept, many, says, read_slot}
-use Rattle.generational_box.proofs.slots.Entries.{view_changed, roomy_still}
-use Rattle.generational_box.proofs.slots.Entries.{lent_here}
+use Rattle.generational_box.proofs.states.Entries.{kept, many, says, read_slot}
+use Rattle.generational_box.proofs.states.Entries.{view_changed, roomy_still}
+use Rattle.generational_box.proofs.states.Entries.{lent_here}
 use Rattle.generational_box.specs.Entries.{kept_data, index_of}
 use Rattle.generational_box.specs.Table.{list_at}
-use Rattle.generational_box.proofs.slots.Entries.{one_slot, used_x}
-use Rattle.generational_box.proofs.slots.Entries.{close_indexed, close_lists, writer_of, no_writer}
+use Rattle.generational_box.proofs.states.Entries.{one_slot, used_x}
+use Rattle.generational_box.proofs.states.Entries.{close_indexed, close_lists, writer_of, no_writer}
 use Rattle.std.proofs.lemmas.Bool.{false≢true}
 use Rattle.generational_box.specs.Borrows.{is_first_of}
 use Rattle.generational_core.specs.declared.error.Location.{Location}
-use Rattle.generational_box.proofs.slots.Entries.{closed_none}
+use Rattle.generational_box.proofs.states.Entries.{closed_none}
 use Rattle.generational_box.proofs.entries.Entries.release_write.Goals as goal
+use Rattle.generational_box.proofs.entries.Entries.release_write.Goals.{}
 use Rattle.generational_box.proofs.entries.Entries.release_write.Goals.{in_default-via-in-Lent+else-is_first}
 use Rattle.generational_box.proofs.entries.Entries.release_write.Goals.{in_default-via-in_default}
 
@@ -31,7 +32,7 @@ pub is_first-requires : goal.is_first-requires
 is_first-requires g c =
     let s = kept c.self.view_is c.self.invariant in
     let found = read_slot s c.requires _ c.self.inside.entries.ok.0 c.index.ensures in
-    (writer_of s c.args.slot _ found _ c.in-Lent.is).3
+    (writer_of s c.args.slot _ found _ _ c.in-Lent.is).3
 
 pub close-requires-clause-used : goal.close-requires-clause-used
 close-requires-clause-used g c =
@@ -39,7 +40,7 @@ close-requires-clause-used g c =
     let found = read_slot s c.requires _ c.self.inside.entries.ok.0 c.index.ensures in
     let there = read_slot s c.requires _ c.self.inside.entries.ok.0 c.index_mut.ensures.value in
     let is = ap (λ e. e.content) (one_slot s c.args.slot there found) ∙ c.in-Lent.is in
-    let w = writer_of s c.args.slot _ there _ is in
+    let w = writer_of s c.args.slot _ there _ _ is in
     (used_x s c.args.slot _ there _ (rw is refl) (rw is at (lent_here s c.args.slot _ there))).used
 
 pub invariant_of-self : goal.invariant_of-self
@@ -48,7 +49,7 @@ invariant_of-self g c =
     let found = read_slot s c.requires _ c.self.inside.entries.ok.0 c.index.ensures in
     let there = read_slot s c.requires _ c.self.inside.entries.ok.0 c.index_mut.ensures.value in
     let is = ap (λ e. e.content) (one_slot s c.args.slot there found) ∙ c.in-Lent.is in
-    let w = writer_of s c.args.slot _ there _ is in (
+    let w = writer_of s c.args.slot _ there _ _ is in (
       close_indexed s c.args.slot _ there _ (rw is refl) (rw is at (lent_here s c.args.slot _
           there))
           c.close.ensures _ refl tt,
@@ -63,7 +64,7 @@ returns-in-Lent-clause-known g c =
     let found = read_slot s c.requires _ c.self.inside.entries.ok.0 c.index.ensures in
     let there = read_slot s c.requires _ c.self.inside.entries.ok.0 c.index_mut.ensures.value in
     let is = ap (λ e. e.content) (one_slot s c.args.slot there found) ∙ c.in-Lent.is in
-    let w = writer_of s c.args.slot _ there _ is in
+    let w = writer_of s c.args.slot _ there _ _ is in
     let first : nat_eq w.0.ticket c.args.ticket ≡ true =
     sym (ap (is_first_of c.args.ticket) w.2)
     ∙ (sym c.is_first.ensures ∙ c.if-is_first.true) in
@@ -75,7 +76,7 @@ returns-in-Lent-clause-ok g c =
     let found = read_slot s c.requires _ c.self.inside.entries.ok.0 c.index.ensures in
     let there = read_slot s c.requires _ c.self.inside.entries.ok.0 c.index_mut.ensures.value in
     let is = ap (λ e. e.content) (one_slot s c.args.slot there found) ∙ c.in-Lent.is in
-    let w = writer_of s c.args.slot _ there _ is in
+    let w = writer_of s c.args.slot _ there _ _ is in
     view_changed s c.args.slot _ there _ _ _
     (close_lists s c.args.slot _ there _ (rw is refl) (rw is at (lent_here s c.args.slot _ there))
     c.close.ensures)
@@ -90,11 +91,11 @@ returns-in_default-clause-known g c =
     (list_at c.self.inside.borrows.lists (index_of now)) l now)) c.args.ticket ≡ false =
     λ l. elim c.in_default.branch [
       | in_default-via-in-Lent+else-is_first w ↦
-          let wr = writer_of s c.args.slot _ found _ w.in-Lent.is in
+          let wr = writer_of s c.args.slot _ found _ _ w.in-Lent.is in
           let other : nat_eq wr.0.ticket c.args.ticket ≡ false =
           sym (ap (is_first_of c.args.ticket) wr.2)
           ∙ (sym w.is_first.ensures ∙ w.if-is_first.false) in
           rw (w.in-Lent.is, wr.2) other
       | in_default-via-in_default w ↦ no_writer c.args.ticket _ l now w.in_default.not-Lent
     ] in
-    says s c.args.slot _ found _ (λ l. (λ f. absurd (false≢true f), λ h. sym (no l) ∙ h))
+    says s c.args.slot _ found _ (λ l. (λ f. absurd (false≢true f), λ h. sym (no l.created_at) ∙ h))

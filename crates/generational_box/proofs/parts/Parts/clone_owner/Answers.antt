@@ -14,11 +14,8 @@ returns-then-self g c =
     (sym c.knows.ensures ∙ c.if-not-knows.false) (omega arith)
 
 pub invariant_of-self : goal.invariant_of-self
-invariant_of-self g c = (
-  c.self.invariant.0,
-  rw c.count_up-place.ensures (counted_up c.self.invariant.1 c.args.owner.now.key),
-  c.self.invariant.2,
-)
+invariant_of-self g c =
+    rw c.count_up-place.ensures (counted_up c.self.invariant c.args.owner.now.key)
 
 pub returns : goal.returns
 returns g c =

@@ -1,20 +1,14 @@
 use Rattle.std.proofs.Common.{arith, refl}
-use Rattle.generational_box.proofs.records.Counts.{counted_absent, counted_new}
+use Rattle.generational_box.proofs.records.Counts.{counted_new}
 use Rattle.generational_box.proofs.calls.OwnerCalls.{new_exhausted, new_lacks, new_made}
 use Rattle.generational_box.proofs.parts.Parts.owner.Goals as goal
 
 pub returns-then-key : goal.returns-then-key
 returns-then-key g c = new_exhausted c.self.view_is (omega arith)
 
-pub add-requires : goal.add-requires
-add-requires g c = counted_absent c.self.invariant.1
-
 pub invariant_of-self : goal.invariant_of-self
-invariant_of-self g c = (
-  c.self.invariant.0,
-  rw c.in-Ok.ensures.ok (counted_new c.self.invariant.1 _ refl),
-  c.self.invariant.2,
-)
+invariant_of-self g c =
+    rw c.in-Ok.ensures.ok (counted_new c.self.invariant _ refl refl)
 
 pub returns-in-Ok : goal.returns-in-Ok
 returns-in-Ok g c =

@@ -1,34 +1,38 @@
-use Rattle.std.proofs.Common.{sym, ap, ◌∙◌, is_none, not}
+use Rattle.std.proofs.Common.{sym, ap, ◌∙◌, not}
+use Rattle.std.proofs.lemmas.Bool.{ne_eqb}
 use Rattle.generational_box.proofs.Common.{is_ready}
-use Rattle.generational_box.proofs.calls.Calls.{is_at, none_from, none_map, read_ready}
-use Rattle.generational_box.proofs.calls.Calls.{read_ready_gone, end_ready, end_ready_gone}
+use Rattle.generational_box.proofs.calls.Calls.{reaches, has_content}
+use Rattle.generational_box.proofs.calls.EndCalls.{are_linked, read_ready, read_ready_gone}
+use Rattle.generational_box.proofs.calls.EndCalls.{end_ready, end_ready_strange}
 use Rattle.generational_box.proofs.parts.Parts.ready.Goals as goal
 
-pub returns-then-not-is_live : goal.returns-then-not-is_live
-returns-then-not-is_live g c =
-    ap not c.if-not-is_live.true
-    ∙ read_ready_gone _ c.in-Read.pointer (none_from _ c.if-not-is_live.ensures.cell)
-    c.in-Read.field-1
+pub borrow_error-requires : goal.borrow_error-requires
+borrow_error-requires g c = has_content (reaches c.self.view_is c.requires c.in-Some.ensures)
+
+pub may_end-requires : goal.may_end-requires
+may_end-requires g c = are_linked c.self.inside.slots.state c.self.view_is c.requires
+
+pub returns-in-Some : goal.returns-in-Some
+returns-in-Some g c =
+    read_ready c.self.view_is c.in-Read.pointer c.in-Read.field-1 _ _ _
+    (reaches c.self.view_is c.requires c.in-Some.ensures) c.is_none.ensures
+    c.borrow_error.ensures
     ∙ ap (is_ready _) (sym c.in-Read.is)
 
-pub returns-else-not-is_live : goal.returns-else-not-is_live
-returns-else-not-is_live g c =
-    let live = c.if-not-is_live.ensures in
-    none_map _ c.borrow_error.result c.is_none.result c.is_none.ensures
-    ∙ ap is_none c.borrow_error.ensures
-    ∙ read_ready c.in-Read.pointer (is_at live.values live.cell) c.in-Read.field-1
+pub returns-in-None : goal.returns-in-None
+returns-in-None g c =
+    read_ready_gone c.self.view_is c.in-Read.pointer c.in-Read.field-1 c.in-None.ensures
     ∙ ap (is_ready _) (sym c.in-Read.is)
 
-pub returns-then-not-is_live-2 : goal.returns-then-not-is_live-2
-returns-then-not-is_live-2 g c =
-    let live = c.if-not-is_live-2.ensures in
-    ap not c.if-not-is_live-2.true
-    ∙ end_ready_gone _ c.in-ManuallyDrop.pointer (none_from _ live.cell) live.values
-    ∙ ap (is_ready _) (sym c.in-ManuallyDrop.is)
+pub returns-then-pointer-self : goal.returns-then-pointer-self
+returns-then-pointer-self g c =
+    let strange = c.if-pointer-self.true in
+    ap not (ne_eqb c.in-ManuallyDrop.pointer.id.store c.self.inside.number strange)
+    ∙ (end_ready_strange c.self.view_is c.in-ManuallyDrop.pointer strange
+    ∙ ap (is_ready _) (sym c.in-ManuallyDrop.is))
 
-pub returns-else-not-is_live-2 : goal.returns-else-not-is_live-2
-returns-else-not-is_live-2 g c =
-    let live = c.if-not-is_live-2.ensures in
-    c.is_unborrowed.ensures
-    ∙ end_ready c.in-ManuallyDrop.pointer (is_at live.values live.cell) live.values
+pub returns-else-pointer-self : goal.returns-else-pointer-self
+returns-else-pointer-self g c =
+    end_ready c.self.inside.slots.state c.self.view_is c.in-ManuallyDrop.pointer _ _
+    c.cell_name.ensures c.if-pointer-self.false c.may_end.ensures
     ∙ ap (is_ready _) (sym c.in-ManuallyDrop.is)

@@ -1,19 +1,16 @@
-use Rattle.generational_box.proofs.calls.Calls.{is_at, none_from, end_gone, end_refusal, end_done}
+use Rattle.generational_box.proofs.calls.EndCalls.{are_linked, end_strange, end_own}
 use Rattle.generational_box.proofs.parts.Parts.recycle.Goals as goal
 
-pub returns-then-not-is_live : goal.returns-then-not-is_live
-returns-then-not-is_live g c =
-    end_gone _ c.args.pointer (none_from _ c.if-not-is_live.ensures.cell)
-    c.is_live.ensures.values
+pub returns-then-pointer-self : goal.returns-then-pointer-self
+returns-then-pointer-self g c =
+    end_strange c.self.inside.slots.state c.self.view_is c.requires c.args.pointer
+    c.if-pointer-self.true
 
-pub returns-in-Err : goal.returns-in-Err
-returns-in-Err g c =
-    let live = c.is_live.ensures in
-    end_refusal c.args.pointer (is_at live.values c.if-not-is_live.ensures.cell)
-    live.values c.in-Err.refused c.in-Err.ensures
+pub end-requires : goal.end-requires
+end-requires g c = are_linked c.self.inside.slots.state c.self.view_is c.requires
 
 pub returns : goal.returns
 returns g c =
-    let live = c.is_live.ensures in
-    end_done c.args.pointer (is_at live.values c.if-not-is_live.ensures.cell)
-    live.values _ c.in-Ok.ensures c.end.ensures
+    end_own c.self.inside.slots.state c.self.view_is c.requires c.args.pointer _ _ _
+    c.cell_name.ensures c.if-pointer-self.false c.end.ensures.found c.end.ensures.ok
+    c.end.ensures.err

@@ -1,49 +1,41 @@
-use Rattle.std.proofs.Common.{ap, arith, Err, refl, sym, is_some, subst}
-use Rattle.generational_box.proofs.Common.{cells_of, first_borrowed}
-use Rattle.generational_box.specs.Entry.{FoundBorrowed}
-use Rattle.generational_box.proofs.records.Counts.{counted_down, record_held}
+use Rattle.std.proofs.Common.{ap, arith, refl, sym, is_some}
+use Rattle.generational_box.proofs.records.Counts.{counted_down, counted_remove, record_held}
+use Rattle.generational_box.proofs.calls.EndCalls.{are_linked}
 use Rattle.generational_box.proofs.calls.OwnerCalls.{release_unknown, release_one, last_refused}
 use Rattle.generational_box.proofs.calls.OwnerCalls.{last_done}
-use Rattle.generational_box.proofs.slots.Slots.{values_all}
 use Rattle.generational_box.proofs.parts.Parts.release_owner.Goals as goal
 
 pub returns-in-None-clause-step : goal.returns-in-None-clause-step
 returns-in-None-clause-step g c =
     release_unknown c.self.view_is c.args.owner (ap is_some (sym c.in-None.ensures))
 
-pub count_down-requires : goal.count_down-requires
-count_down-requires g c =
-    rw (record_held _ _ c.args.owner _ c.in-Some.ensures)
-    (omega (arith, c.count.ensures, c.if-count-gt1.true))
-
 pub invariant_of-self : goal.invariant_of-self
-invariant_of-self g c = (
-  c.self.invariant.0,
-  rw c.count_down.ensures (counted_down c.self.invariant.1 c.args.owner.key
-      (rw (record_held _ _ c.args.owner _ c.in-Some.ensures)
-      (omega (arith, c.count.ensures, c.if-count-gt1.true)))),
-  c.self.invariant.2,
-)
+invariant_of-self g c =
+    rw c.count_down.ensures (counted_down c.self.invariant c.args.owner.key
+    (rw (record_held _ _ c.args.owner _ c.in-Some.ensures)
+    (omega (arith, c.count.ensures, c.if-count-gt1.true))))
 
 pub returns-in-Some-clause-step : goal.returns-in-Some-clause-step
 returns-in-Some-clause-step g c =
     release_one c.self.view_is c.args.owner _ c.in-Some.ensures _
     (omega (arith, c.count.ensures, c.if-count-gt1.true)) (rw c.count_down.ensures refl)
 
+pub end_all-requires-clause-linked : goal.end_all-requires-clause-linked
+end_all-requires-clause-linked g c =
+    are_linked c.self.inside.slots.state c.self.view_is c.requires.sound
+
 pub returns-in-Err-clause-step : goal.returns-in-Err-clause-step
 returns-in-Err-clause-step g c =
-    last_refused c.self.view_is c.args.owner _ c.in-Some.ensures
-    (values_all c.self.inside.slots.slots)
-    (omega (arith, c.count.ensures, c.if-count-gt1.false))
-    c.in-Err.refused (subst (λ t. FoundBorrowed t (Err c.in-Err.refused))
-    (λ i. first_borrowed (cells_of c.self.inside.slots.slots) (c.boxes.ensures i))
-    c.in-Err.ensures)
+    last_refused c.self.inside.slots.state c.self.view_is c.args.owner _ c.in-Some.ensures
+    (omega (arith, c.count.ensures, c.if-count-gt1.false)) _ c.boxes.ensures _
+    c.in-Err.refused c.in-Err.ensures.err c.in-Err.ensures.found
+
+pub invariant_of-self-2 : goal.invariant_of-self-2
+invariant_of-self-2 g c =
+    rw c.take.ensures.after (counted_remove c.self.invariant c.args.owner.key)
 
 pub returns-clause-step : goal.returns-clause-step
 returns-clause-step g c =
-    let taken = c.take_boxes-boxes.ensures in
-    last_done c.self.view_is c.args.owner _ c.in-Some.ensures
-    (values_all c.self.inside.slots.slots)
-    (omega (arith, c.count.ensures, c.if-count-gt1.false)) _ _ _
-    (rw (← c.boxes.ensures) c.in-Ok.ensures)
-    taken.after taken.names c.end_all.ensures
+    last_done c.self.inside.slots.state c.self.view_is c.args.owner _ c.in-Some.ensures
+    (omega (arith, c.count.ensures, c.if-count-gt1.false)) _ c.boxes.ensures _ _
+    c.in-Ok.ensures.found c.in-Ok.ensures.ok c.take.ensures.after

@@ -1,13 +1,14 @@
-use Rattle.generational_box.proofs.calls.Calls.{is_at, none_from, put_back, back_gone}
+use Rattle.generational_box.proofs.calls.Calls.{put_back, back_gone}
 use Rattle.generational_box.proofs.parts.Parts.release_write.Goals as goal
 
-pub returns-then-is_live : goal.returns-then-is_live
-returns-then-is_live g c =
-    let back = c.into_writer-ticket.ensures in
-    put_back _ _ _ (is_at c.is_live.ensures.values c.if-is_live.ensures.cell) _ c.args.guard _ _
-    back.guard back.value c.end_write.ensures.known c.end_write.ensures.ok c.end_write.ensures.err
+pub returns-then-holds : goal.returns-then-holds
+returns-then-holds g c =
+    let is = c.into_writer-ticket.ensures in
+    let released = c.release_write.ensures in
+    put_back _ _ c.self.inside.slots.state c.self.view_is _ c.cell_name.ensures
+    c.if-holds.ensures _ _ _ _ _ is.guard is.value released.known released.ok released.err
 
 pub returns : goal.returns
 returns g c =
-    let back = c.into_writer-ticket.ensures in
-    back_gone _ _ _ c.args.guard _ back.guard back.value (none_from _ c.if-is_live.ensures.cell)
+    let is = c.into_writer-ticket.ensures in
+    back_gone _ _ _ is.guard c.if-holds.ensures _ _ is.value

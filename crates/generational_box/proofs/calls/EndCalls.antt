@@ -1,0 +1,142 @@
+-- The ends of names, and which calls no borrow hinders, as steps of the machine.
+use Rattle.std.proofs.Common.{◌≡◌, ◌≢◌, ℕ, Bool, true, false, cond, List, [], ◌∷◌, not, Option}
+use Rattle.std.proofs.Common.{None, Some, Result, Ok, Err, refl, sym, ap, ◌∙◌, inl, subst, is_some}
+use Rattle.std.proofs.Common.{is_none, OnOk, OnErr}
+use Rattle.std.proofs.lemmas.Bool.{eq-eqb, ne_eqb}
+use Rattle.std.specs.FinMap as map
+use Rattle.std.specs.Option.{option_or, option_map}
+use Rattle.generational_core.specs.declared.error.Refused.{Refused}
+use Rattle.generational_core.specs.declared.steps.StepCall.TheVariants.{Read as Reading}
+use Rattle.generational_core.specs.Answers.{end_answer}
+use Rattle.generational_core.specs.Ending.{hindrance_at}
+use Rattle.generational_core.specs.Machine.Answer.{Done}
+use Rattle.generational_box.specs.Entry.{FoundBorrowed}
+use Rattle.generational_box.proofs.Common.{BorrowMutError, Cell, Content, End, GenerationalPointer}
+use Rattle.generational_box.proofs.Common.{Here, IsLinked, IsSound, Lent, Location, ManuallyDrop}
+use Rattle.generational_box.proofs.Common.{Meets, Name, NameMap, Owners, Ref, Shared, State}
+use Rattle.generational_box.proofs.Common.{Trouble, Value, cells_after, close, close_nothing}
+use Rattle.generational_box.proofs.Common.{content_at, content_of, first_hindrance, hindrance_of}
+use Rattle.generational_box.proofs.Common.{hindrance_to, is_ready, name_of, no_names, reach}
+use Rattle.generational_box.proofs.Common.{read_refusal, read_trouble, sound_linked}
+use Rattle.generational_box.proofs.Common.{tells_of_borrow, with_records, write_refusal}
+use Rattle.generational_box.proofs.calls.Calls.{Reaches, hindered_step}
+
+-- a trouble that isn't a dropped value's tells of a borrow
+abbrev Tells : Option Trouble → Type 0
+Tells t = is_none t ≡ not (tells_of_borrow t)
+
+-- nothing is found of what isn't there
+none_map : {A B : Type 0} (f : A → B) (o : Option A) (none : Bool)
+    → is_some o ≡ not none → none ≡ is_none (option_map f o)
+none_map f None true e = refl
+none_map f (Some x) false e = refl
+none_map f _ _ e = absurd cc
+
+module _ {T : Type 0} where
+  module _ (X : State T) {S : State T} {number next : ℕ} {owners : Owners}
+      (view : with_records X number owners next ≡ S) (sound : IsSound S) where
+    -- the cells of a sound state are linked
+    pub are_linked : IsLinked X.cells
+    are_linked =
+        sound_linked (with_records X number owners next) (subst IsSound (sym view) sound)
+
+    module _ (b : GenerationalPointer) where
+      abbrev state : State T
+      state = with_records X number owners next
+
+      -- where a box is another store's, no name ends
+      pub end_strange : b.id.store ≢ number → Meets S (End b) Done S
+      unfolding hindrance_to
+      end_strange strange =
+          let closed : close state [] ≡ state =
+          ap (λ cells. record state { cells = cells }) (close_nothing X.cells are_linked) in
+          rw (← view) (inl (
+            no_names,
+            tt,
+            rw (ne_eqb b.id.store number strange) (ap (λ R. (Done, R)) (sym closed)),
+          ))
+
+      -- where it is this store's, its name ends unless a borrow stands in the way
+      pub end_own : (n : Name) (Y : State T) (r : Result (Unit {0}) (Refused BorrowMutError))
+          → n ≡ name_of b → b.id.store ≡ number → FoundBorrowed (hindrance_to X (n ∷ [])) r
+          → OnOk r (Y ≡ close X (n ∷ [])) → OnErr r (Y ≡ X)
+          → Meets S (End b) (end_answer r) (with_records Y number owners next)
+      unfolding hindrance_to
+      end_own n Y (Ok u) at own found ok err = rw (← view, ok, at)
+          (inl (no_names, tt, rw (eq-eqb b.id.store number own, rw at at found) refl))
+      end_own n Y (Err e) at own found ok err = rw (← view, err)
+          (hindered_step state (End b) e (hindrance_to X (n ∷ [])) (Done, close state (n ∷ []))
+          (rw (at, eq-eqb b.id.store number own) refl) found)
+
+  -- ---- which calls no borrow hinders
+
+  -- what stands in the way of a read
+  read_tells : (c : Option (Content T)) → Tells (read_refusal c)
+  read_tells None = refl
+  read_tells (Some (Here v rs)) = refl
+  read_tells (Some (Lent w)) = refl
+
+  -- what stands in the way of a write
+  write_tells : (c : Option (Content T)) → Tells (write_refusal c)
+  write_tells None = refl
+  write_tells (Some (Here v [])) = refl
+  write_tells (Some (Here v (r ∷ rs))) = refl
+  write_tells (Some (Lent w)) = refl
+
+  -- so does what hinders the end of names
+  module _ (cells left : NameMap (Cell T)) where
+    -- what hinders the end of a cell
+    spot_tells : (n : Name) → Tells (hindrance_at cells left n)
+    spot_tells n = by (is_some (map.get left n))
+      where
+        by : (b : Bool) → Tells (cond (not b) (write_refusal (content_of (map.get cells n))) None)
+        by true = refl
+        by false = write_tells (content_of (map.get cells n))
+
+    first_tells : (names : List Name) → Tells (first_hindrance cells left names)
+    first_tells [] = refl
+    first_tells (n ∷ rest) = either _ _ (one n (map.get cells n)) (first_tells rest)
+      where
+        one : (n : Name) (o : Option (Cell T)) → Tells (hindrance_of cells left o n)
+        one n None = refl
+        one n (Some (Value c l)) = spot_tells n
+        one n (Some (Shared c l)) = refl
+        one n (Some (Ref m l)) = spot_tells m
+
+        either : (a b : Option Trouble) → Tells a → Tells b → Tells (option_or a b)
+        either None b h k = k
+        either (Some t) b h k = h
+
+  -- and of names of a store
+  end_tells : (S : State T) (names : List Name) → Tells (hindrance_to S names)
+  unfolding hindrance_to
+  end_tells S names = first_tells S.cells (cells_after S.cells names) names
+
+  module _ {V S : State T} (view : V ≡ S) (b : GenerationalPointer) where
+    -- a read meets no borrow where no writer has what is reached
+    pub read_ready : {A : Type 0} {m : Name} (l : Location) (f : A → Trouble) (o : Option A)
+        (none : Bool) → Reaches V b m → is_some o ≡ not none
+        → option_map f o ≡ read_refusal (content_at V m) → none ≡ is_ready S (Reading b l)
+    unfolding read_trouble
+    read_ready {m = m} l f o none reached is refusal =
+        rw (← view, reached.to)
+        (none_map f o none is ∙ (ap is_none refusal ∙ read_tells (content_at V m)))
+
+    -- nor where nothing is reached
+    pub read_ready_gone : (l : Location) → None ≡ reach S b → true ≡ is_ready S (Reading b l)
+    unfolding read_trouble
+    read_ready_gone l none = rw (← none) refl
+
+    -- an end of another store's box meets none
+    pub end_ready_strange : b.id.store ≢ V.number → true ≡ is_ready S (ManuallyDrop b)
+    unfolding hindrance_to
+    end_ready_strange strange = rw (← view, ne_eqb b.id.store V.number strange) refl
+
+  -- an end meets none where nothing hinders it
+  pub end_ready : (X : State T) {S : State T} {number next : ℕ} {owners : Owners}
+      → with_records X number owners next ≡ S → (b : GenerationalPointer) (n : Name) (free : Bool)
+      → n ≡ name_of b → b.id.store ≡ number → free ≡ is_none (hindrance_to X (n ∷ []))
+      → free ≡ is_ready S (ManuallyDrop b)
+  unfolding hindrance_to
+  end_ready X {number = number} view b n free at own is =
+      rw (← view, eq-eqb b.id.store number own, ← at) (is ∙ end_tells X (n ∷ []))

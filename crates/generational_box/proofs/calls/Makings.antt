@@ -1,0 +1,388 @@
+-- The makings of cells, as steps of the machine.
+use Rattle.std.proofs.Common.{◌≡◌, ◌≢◌, IfSome, is_some, is_err, OnErr, ⊎_elim, Result, Err, Ok, ℕ}
+use Rattle.std.proofs.Common.{◌<◌, ◌⊎◌, Bool, true, false, cond, ◌||◌, List, [], ◌∷◌, Option, None}
+use Rattle.std.proofs.Common.{Some, IsSome, refl, sym, ap, ◌∙◌, inl, inr, subst}
+use Rattle.std.proofs.lemmas.Bool.{eq-eqb, lt-ltb, false≢true, true≢false}
+use Rattle.std.specs.FinMap as map
+use Rattle.std.specs.FinSet as set
+use Rattle.std.specs.List.{AllByRecursion}
+use Rattle.generational_core.specs.Borrowing.{read_refusal}
+use Rattle.generational_core.specs.Machine.{Action, OwnerName, act, add_cell, add_to_list, is_known}
+use Rattle.generational_core.specs.Machine.{make, refer, Fresh}
+use Rattle.generational_box.proofs.Common.{MakeShared, Refer, HasTargets, by_name}
+use Rattle.generational_box.proofs.Common.{contains-insert_name, get-insert_apart, get-insert_here}
+use Rattle.generational_box.proofs.Common.{name_cases, relist_in, cell_of, content_at, location_of}
+use Rattle.generational_box.proofs.Common.{AreCounted, Cell, Dropped, GenerationalPointer, Here}
+use Rattle.generational_box.proofs.Common.{IsListed, IsMade, IsNew, IsRefusal, IsRefused, IsSound}
+use Rattle.generational_box.proofs.Common.{Location, Make, Meets, Name, NumbersExhausted}
+use Rattle.generational_box.proofs.Common.{OutOfMemory, Ownership, Owners, Ref, Shared, Slotted}
+use Rattle.generational_box.proofs.Common.{State, StoreError, Trouble, UnknownOwner, Value}
+use Rattle.generational_box.proofs.Common.{add_to_list_in, among, box_of, free, is_shared}
+use Rattle.generational_box.proofs.Common.{knows_any, limit_tickets, may_lack, name_apart, names_in}
+use Rattle.generational_box.proofs.Common.{names_under, needs_memory, no_names, reach, read_trouble}
+use Rattle.generational_box.proofs.Common.{with_records}
+use Rattle.generational_core.specs.Machine.Answer.{Made, Refused, Troubled}
+use Rattle.generational_core.specs.State.{IsBoxed}
+use Rattle.generational_box.specs.declared.entry.StorageEntryData.{StorageEntryData}
+use Rattle.generational_box.specs.declared.entry.StorageEntryData.TheVariants as slot
+use Rattle.generational_box.specs.Entries.{kept_data, target_of}
+use Rattle.generational_box.proofs.calls.Calls.{Reaches}
+use Rattle.generational_box.proofs.records.Counts.{counted_listed, relisted}
+
+-- none of two tests passes
+second_false : (a b : Bool) → (a || b) ≡ false → b ≡ false
+second_false true b h = absurd (true≢false h)
+second_false false b h = h
+
+-- what holds of a refusal holds where there is one
+pub of_refusal : {A E P : Type 0} (r : Result A E) → true ≡ is_err r → OnErr r P → P
+of_refusal (Ok x) is h = absurd (true≢false is)
+of_refusal (Err e) is h = h
+
+module _ {T : Type 0} where
+  -- no owner's list has a name that was never given
+  unlisted : (V : State T) → IsSound V → (n : Name) → set.contains V.given n ≡ false → (k : ℕ)
+      → among (names_under V.owners k) n ≡ false
+  unlisted V sound n fresh k = at (map.get V.owners k) refl
+    where
+      all : (ns : List Name) → AllByRecursion (IsBoxed V) ns → among ns n ≡ false
+      all [] boxed = refl
+      all (m ∷ ns) boxed = rw (
+        name_apart n m (λ is. true≢false (sym boxed.0.0 ∙ (ap (set.contains V.given) (sym is)
+            ∙ fresh))),
+        all ns boxed.1,
+      ) refl
+
+      at : (o : Option Ownership) → map.get V.owners k ≡ o → among (names_in o) n ≡ false
+      at None is = refl
+      at (Some h) is = all h.names (sound.owned k h is)
+
+  -- a name that is new to the slots of a store is new to the store
+  new_name : (X : State T) {number next : ℕ} {owners : Owners} (n : Name) → IsNew X n
+      → IsNew (with_records X number owners next) n
+  new_name X n new = record { fresh = new.fresh; fits = new.fits }
+
+  -- where a making may lack memory
+  value_lacks : (V : State T) (b : GenerationalPointer) (v : T) (l : Location)
+      (o : Option OwnerName) {P : Type 0} → IsSome o ⊎ ((free V ≡ 0) × P)
+      → needs_memory V (Made b) (Make o v l) ≡ true
+  value_lacks V b v l None (inl some) = absurd (false≢true some)
+  value_lacks V b v l None (inr none) = eq-eqb (free V) 0 none.0
+  value_lacks V b v l (Some o) why = refl
+
+  -- the same of a reference
+  reference_lacks : (V : State T) (b inner : GenerationalPointer)
+      (o : Option OwnerName) {P : Type 0} → IsSome o ⊎ ((free V ≡ 0) × P)
+      → needs_memory V (Made b) (Refer o inner) ≡ true
+  reference_lacks V b inner None (inl some) = absurd (false≢true some)
+  reference_lacks V b inner None (inr none) = eq-eqb (free V) 0 none.0
+  reference_lacks V b inner (Some o) why = refl
+
+  -- and of a shared value with its reference
+  pair_lacks : (V : State T) (b : GenerationalPointer) (v : T) (l : Location)
+      (o : Option OwnerName) → IsSome o ⊎ (free V < 2)
+      → needs_memory V (Made b) (MakeShared o v l) ≡ true
+  pair_lacks V b v l None (inl some) = absurd (false≢true some)
+  pair_lacks V b v l None (inr few) = lt-ltb (free V) 2 few
+  pair_lacks V b v l (Some o) why = refl
+
+  -- ---- references that are refused
+
+  module _ {S : State T} (b : GenerationalPointer) (o : Option OwnerName)
+      (known : is_known S o ≡ true) where
+    -- a box that reaches nothing
+    pub refer_gone : None ≡ reach S b → Meets S (Refer o b) (Troubled (Dropped b.created_at)) S
+    unfolding read_trouble
+    refer_gone none = inl (no_names, tt, rw (known, ← none) refl)
+
+    module _ {V : State T} (view : V ≡ S) {m : Name} (r : Reaches V b m) where
+      knew : is_known V o ≡ true
+      knew = ap (λ R. is_known R o) view ∙ known
+
+      -- a writer has what is reached
+      pub refer_lent : (t : Trouble) → Some t ≡ read_refusal (content_at V m)
+          → Meets S (Refer o b) (Troubled t) S
+      unfolding read_trouble
+      refer_lent t lent = rw (← view) (inl (no_names, tt, rw (knew, r.to, ← lent) refl))
+
+      -- what is reached isn't shared
+      pub refer_plain : None ≡ read_refusal (content_at V m)
+          → false ≡ is_shared (map.get S.cells m)
+          → Meets S (Refer o b) (Troubled (Dropped b.created_at)) S
+      unfolding read_trouble
+      refer_plain free other =
+          let plain = ap (λ (R : State T). is_shared (map.get R.cells m)) view ∙ sym other in
+          rw (← view) (inl (
+            no_names,
+            tt,
+            rw (knew, r.to, ← free)
+                (sym (ap (limit_tickets V) (at (map.get V.cells m) plain))),
+          ))
+        where
+          at : (cell : Option (Cell T)) → is_shared cell ≡ false
+              → refer V o b (Some m) cell no_names.first ≡ (Troubled (Dropped b.created_at), V)
+          at (Some (Shared c l)) plain = absurd (true≢false plain)
+          at (Some (Value c l)) plain = refl
+          at (Some (Ref n l)) plain = refl
+          at None plain = refl
+
+  -- a shared value that a box reaches, and that isn't lent
+  abbrev ReachesShared : State T → GenerationalPointer → Name → Type 0
+  ReachesShared S b m =
+      (reach S b ≡ Some m) × (read_trouble S b ≡ None) × (is_shared (map.get S.cells m) ≡ true)
+
+  -- a shared value is reached in the state that contracts see
+  pub reaches_shared : {V S : State T} {b : GenerationalPointer} {m : Name} → V ≡ S
+      → Reaches V b m → None ≡ read_refusal (content_at V m)
+      → true ≡ is_shared (map.get S.cells m)
+      → ReachesShared S b m
+  unfolding read_trouble
+  reaches_shared {b = b} {m = m} view r free shared = (
+    subst (λ R. reach R b ≡ Some m) view r.to,
+    subst (λ R. read_trouble R b ≡ None) view (rw r.to (sym free)),
+    sym shared,
+  )
+
+  -- to it a reference is made
+  refers : (V : State T) (b : GenerationalPointer) (m : Name) (l : Location)
+      (o : Option OwnerName) (f : Fresh)
+      → ReachesShared V b m → location_of (map.get V.cells m) ≡ Some l
+      → act V (Refer o b) f
+      ≡ cond (is_known V o) (make V o f.first (Ref m l) l) (Refused UnknownOwner, V)
+  refers V b m l o f r at = rw (r.1, r.0)
+      (ap (λ x. cond (is_known V o) x (Refused UnknownOwner, V)) (by (map.get V.cells m) r.2 at))
+    where
+      by : (cell : Option (Cell T)) → is_shared cell ≡ true → location_of cell ≡ Some l
+          → refer V o b (Some m) cell f.first ≡ make V o f.first (Ref m l) l
+      by (Some (Shared c k)) shared at = let same : k ≡ l = cc in rw same refl
+      by (Some (Value c k)) shared at = absurd (false≢true shared)
+      by (Some (Ref n k)) shared at = absurd (false≢true shared)
+      by None shared at = absurd (false≢true shared)
+
+  module _ (s : Slotted T) {S : State T} {number next : ℕ} {owners : Owners}
+      (view : with_records s.state number owners next ≡ S) (o : Option OwnerName) where
+    abbrev V : State T
+    V = with_records s.state number owners next
+
+    -- an owner is known to the machine if the records know it
+    known : knows_any number owners o ≡ is_known V o
+    known = at o
+      where
+        at : (o : Option OwnerName) → knows_any number owners o ≡ is_known V o
+        at None = refl
+        at (Some o) = refl
+
+    -- what is reached in the state that contracts see is reached in the store's own
+    shared_here : (b : GenerationalPointer) (m : Name) → ReachesShared S b m → ReachesShared V b m
+    shared_here b m = subst (λ R. ReachesShared R b m) (sym view)
+
+    -- the records after a making are as counted
+    pub made_counted : AreCounted next owners → IsSound S → (n : Name) (after : Owners)
+        → set.contains s.state.given n ≡ false → after ≡ add_to_list_in owners o n
+        → AreCounted next after
+    made_counted counted sound n after fresh is =
+        rw is (counted_listed counted o n (unlisted V (subst IsSound (sym view) sound) n fresh))
+
+    -- what a making leaves that gives a box of one cell more, which may stand beside others
+    boxed : (X : State T) (n : Name) (c : Cell T)
+        → with_records (add_cell X n c) number (add_to_list_in owners o n) next
+        ≡ add_to_list (add_cell (with_records X number owners next) n c) o n
+    boxed X n c = at o
+      where
+        at : (o : Option OwnerName)
+            → with_records (add_cell X n c) number (add_to_list_in owners o n) next
+            ≡ add_to_list (add_cell (with_records X number owners next) n c) o n
+        at None = refl
+        at (Some o) = refl
+
+    -- a value of a box's own
+    pub value_made : (v : T) (l : Location) (r : Slotted T) (after : Owners) (n : Name)
+        (b : GenerationalPointer) → IsMade s r (Some (Value (Here v []) l)) n
+        → IsListed number owners after o n → b ≡ box_of number n l
+        → Meets S (Make o v l) (Made b) (with_records r.state number after next)
+    value_made v l r after n b made listed is =
+        rw (← view, is, made.added, listed.1) (inl (
+          record { first = n; second = n },
+          new_name s.state n made.fits,
+          rw (sym known ∙ listed.0)
+              (λ i. (Made (box_of number n l), boxed s.state n (Value (Here v []) l) i)),
+        ))
+
+    -- a reference to a shared value
+    pub reference_made : (inner : GenerationalPointer) (l : Location) (r : Slotted T)
+        (after : Owners) (m n : Name) (b : GenerationalPointer) (d : StorageEntryData T)
+        → ReachesShared S inner m
+        → location_of (map.get V.cells m) ≡ Some l → d ≡ slot.Reference m.slot m.generation
+        → IsMade s r (cell_of (kept_data [] l d)) n
+        → IsListed number owners after o n → b ≡ box_of number n l
+        → Meets S (Refer o inner) (Made b) (with_records r.state number after next)
+    reference_made inner l r after m n b d reached at content made listed is =
+        let added = subst (λ x. IsMade s r (cell_of (kept_data [] l x)) n) content made in
+        rw (← view, is, added.added, listed.1) (inl (
+          record { first = n; second = n },
+          new_name s.state n added.fits,
+          rw (
+            refers V inner m l o (record { first = n; second = n }) (shared_here inner m reached)
+                at,
+            sym known ∙ listed.0,
+          )
+              (λ i. (Made (box_of number n l), boxed s.state n (Ref m l) i)),
+        ))
+
+    -- ---- a shared value, and then a reference to it
+
+    module _ (q r : Slotted T) (same : q.state ≡ s.state) (v : T) (l : Location) (m : Name)
+        (first : IsMade q r (Some (Shared (Here v []) l)) m) where
+      abbrev cell : Cell T
+      cell = Shared (Here v []) l
+
+      -- the shared value is added
+      added : r.state ≡ add_cell s.state m cell
+      added = first.added ∙ ap (λ X. add_cell X m cell) same
+
+      -- the shared value stands
+      stands : map.get r.state.cells m ≡ Some cell
+      stands = ap (λ (X : State T). map.get X.cells m) added
+          ∙ get-insert_here by_name s.state.cells m cell
+
+      -- so its name is live
+      pub pair_some : IsSome (map.get r.state.cells m)
+      pair_some = ap is_some stands
+
+      -- and a reference to it names a shared value
+      pub pair_target : (d : StorageEntryData T) → d ≡ slot.Reference m.slot m.generation
+          → IfSome (target_of d) (λ k. is_shared (map.get r.state.cells k) ≡ true)
+      pair_target d is = rw is (ap is_shared stands)
+
+      -- each Ref still names a Shared cell
+      pub pair_targets : IsSound S → HasTargets r.state.cells
+      pair_targets sound n k j at = ⊎_elim
+          (λ e. absurd (refers_shared (sym stands ∙ (ap (map.get r.state.cells) (sym e) ∙ at))))
+          (λ ne. ⊎_elim (λ e. ap (λ x. is_shared (map.get r.state.cells x)) e ∙ ap is_shared stands)
+          (λ apart. ap is_shared (others k apart) ∙ old.targets n k j (sym (others n ne) ∙ at))
+          (name_cases k m)) (name_cases n m)
+        where
+          old : IsSound V
+          old = subst IsSound (sym view) sound
+
+          refers_shared : Some cell ≡ Some (Ref k j) → ⊥
+          refers_shared e = cc
+
+          others : (x : Name) → x ≢ m → map.get r.state.cells x ≡ map.get s.state.cells x
+          others x apart = ap (λ (X : State T). map.get X.cells x) added
+              ∙ get-insert_apart by_name s.state.cells m cell x apart
+
+      -- an owner's list had another name until then
+      module _ (t : Slotted T) (d : StorageEntryData T) (n h : Name)
+          (listed alone beside after : Owners) (refers_to : d ≡ slot.Reference m.slot m.generation)
+          (second : IsMade r t (cell_of (kept_data [] l d)) n)
+          (placed : listed ≡ add_to_list_in owners o h) (one : alone ≡ listed)
+          (two : beside ≡ alone) (mended : after ≡ relist_in beside o n) where
+        -- the records have the reference's name on the owner's list
+        records : after ≡ add_to_list_in owners o n
+        records =
+            mended ∙ (ap (λ x. relist_in x o n) (two ∙ (one ∙ placed)) ∙ relisted owners o h n)
+
+        -- the reference's name is new to the store as it was
+        pub pair_counted : AreCounted next owners → IsSound S → AreCounted next after
+        pair_counted counted sound = made_counted counted sound n after
+            (second_false _ _ (sym (contains-insert_name s.state.given m n)
+            ∙ (ap (λ (X : State T). set.contains X.given n) (sym added) ∙ second.fits.fresh)))
+            records
+
+        -- a shared value with a reference to it
+        pub shared_made : (b : GenerationalPointer) → knows_any number owners o ≡ true
+            → b ≡ box_of number n l
+            → Meets S (MakeShared o v l) (Made b) (with_records t.state number after next)
+        shared_made b knew is =
+            let shared : State T = add_cell s.state m cell in
+            let new : IsNew shared n = subst (λ X. IsNew X n) added second.fits in
+            let made = subst (λ x. IsMade r t (cell_of (kept_data [] l x)) n) refers_to second in
+            rw (← view, is, made.added, added, records) (inl (
+              record { first = m; second = n },
+              (
+                new_name s.state m (subst (λ X. IsNew X m) same first.fits),
+                new_name shared n new,
+              ),
+              rw (sym known ∙ knew)
+                  (λ i. (Made (box_of number n l), boxed shared n (Ref m l) i)),
+            ))
+
+    -- ---- refusals
+
+    -- why a making is refused that may lack memory
+    abbrev Refuses : Bool → StoreError → Type 0
+    Refuses lacks UnknownOwner = knows_any number owners o ≡ false
+    Refuses lacks OutOfMemory = (knows_any number owners o ≡ true) × (lacks ≡ true)
+    Refuses lacks NumbersExhausted = ⊥
+
+    -- the machine refuses so
+    refused : (call : Action T) (b : GenerationalPointer) (R : State T)
+        → act V call no_names ≡ cond (is_known V o) (Made b, R) (Refused UnknownOwner, V)
+        → (e : StoreError) → Refuses (needs_memory V (Made b) call) e → Meets V call (Refused e) V
+    unfolding may_lack
+    refused call b R acts UnknownOwner is = inl (no_names, tt, rw (acts, sym known ∙ is) refl)
+    refused call b R acts OutOfMemory is =
+        let made = ap (λ x. needs_memory V (limit_tickets V x).0 call)
+        (acts ∙ ap (λ k. cond k (Made b, R) (Refused UnknownOwner, V)) (sym known ∙ is.0)) in
+        inr (made ∙ is.1, refl, refl)
+    refused call b R acts NumbersExhausted is = absurd is
+
+    -- so does the making of one cell
+    refuses : (lacks : Bool) → (IsSome o ⊎ ((free s.state ≡ 0) × (s.spare ≡ 0)) → lacks ≡ true)
+        → (e : StoreError) → IsRefused s number owners o e → Refuses lacks e
+    refuses lacks why UnknownOwner is = is
+    refuses lacks why OutOfMemory is = (is.0, why is.1)
+    refuses lacks why NumbersExhausted is = is
+
+    -- a making of one cell, where there is no memory for it or for an owner's list
+    pub value_refused : (v : T) (l : Location) (e : StoreError) (Y : State T) (after : Owners)
+        → IsRefused s number owners o e → (Y ≡ s.state) × (after ≡ owners)
+        → Meets S (Make o v l) (Refused e) (with_records Y number after next)
+    value_refused v l e Y after is same =
+        rw (← view, same.0, same.1) (refused (Make o v l) _ _ refl e
+        (refuses _ (value_lacks V (box_of number no_names.first l) v l o) e is))
+
+    -- the same of a reference
+    pub reference_refused : (inner : GenerationalPointer) (m : Name) (l : Location)
+        (e : StoreError) (Y : State T) (after : Owners)
+        → ReachesShared S inner m → location_of (map.get V.cells m) ≡ Some l
+        → IsRefused s number owners o e → (Y ≡ s.state) × (after ≡ owners)
+        → Meets S (Refer o inner) (Refused e) (with_records Y number after next)
+    reference_refused inner m l e Y after reached at is same =
+        rw (← view, same.0, same.1) (refused (Refer o inner) _ _
+        (refers V inner m l o no_names (shared_here inner m reached) at) e
+        (refuses _ (reference_lacks V (box_of number no_names.first l) inner o) e is))
+
+    -- an owner that isn't known
+    pub refer_unknown : (inner : GenerationalPointer) → false ≡ knows_any number owners o
+        → Meets S (Refer o inner) (Refused UnknownOwner) S
+    refer_unknown inner unknown =
+        rw (← view) (inl (no_names, tt, rw (sym known ∙ sym unknown) refl))
+
+    -- a making of a shared value, where there is no memory for its two cells or for an owner's list
+    pub shared_lacks : (v : T) (l : Location) (e : StoreError) (Y : State T)
+        → e ≡ cond (knows_any number owners o) OutOfMemory UnknownOwner → free s.state < 2
+        → Y ≡ s.state
+        → Meets S (MakeShared o v l) (Refused e) (with_records Y number owners next)
+    shared_lacks v l e Y is few same =
+        rw (← view, same, is) (by (knows_any number owners o) refl)
+      where
+        by : (k : Bool) → knows_any number owners o ≡ k
+            → Meets V (MakeShared o v l) (Refused (cond k OutOfMemory UnknownOwner)) V
+        by true knew = refused (MakeShared o v l) _ _ refl OutOfMemory
+            (knew, pair_lacks V (box_of number no_names.second l) v l o (inr few))
+        by false unknown = refused (MakeShared o v l) _ _ refl UnknownOwner unknown
+
+    -- an owner that isn't known, or no memory for its list
+    pub shared_refused : (v : T) (l : Location) (e : StoreError) (Y : State T) (after : Owners)
+        → IsRefusal number owners o e → Y ≡ s.state → after ≡ owners
+        → Meets S (MakeShared o v l) (Refused e) (with_records Y number after next)
+    shared_refused v l e Y after is same unchanged =
+        rw (← view, same, unchanged) (refused (MakeShared o v l) _ _ refl e (by e is))
+      where
+        by : (e : StoreError) → IsRefusal number owners o e
+            → Refuses (needs_memory V (Made (box_of number no_names.second l)) (MakeShared o v l)) e
+        by UnknownOwner is = is
+        by OutOfMemory is = (is.1, pair_lacks V (box_of number no_names.second l) v l o (inl is.0))
+        by NumbersExhausted is = is

@@ -1,0 +1,56 @@
+use Rattle.std.proofs.Common.{◌≡◌, ◌∙◌, ap, is_some, true}
+use Rattle.generational_box.specs.Borrows.{AreBelow}
+use Rattle.generational_box.specs.Entry.{one_read, readers_of}
+use Rattle.generational_box.proofs.Common.{name_of_cell, state_of, write_refusal}
+use Rattle.generational_box.proofs.states.Entries.{ok_then, err_from}
+use Rattle.generational_box.proofs.states.Changes.{either, filled_in, heard_in, held_in}
+use Rattle.generational_box.proofs.states.Changes.{held_within, referred_changed, seen_in}
+use Rattle.generational_box.proofs.states.Changes.{slotted_changed, state_is}
+use Rattle.generational_box.proofs.slots.Slots.begin_read.Goals as goal
+
+pub begin_read-requires-clause-within : goal.begin_read-requires-clause-within
+begin_read-requires-clause-within g c =
+    held_within (held_in (state_is c.self.view_is) (name_of_cell c.args.name) c.requires.there)
+
+pub begin_read-requires-clause-ascends : goal.begin_read-requires-clause-ascends
+begin_read-requires-clause-ascends g c =
+    let view = state_is c.self.view_is in
+    let n = name_of_cell c.args.name in
+    heard_in view n (held_in view n c.requires.there) readers_of (AreBelow c.args.borrow.ticket)
+    c.requires.ascends
+
+pub invariant_of-self : goal.invariant_of-self
+invariant_of-self g c =
+    let f = held_in (state_is c.self.view_is) (name_of_cell c.args.name) c.requires.there in
+    let inv = c.self.invariant in
+    let read = c.begin_read.ensures in (
+      either c.begin_read.result read.ok read.err
+          (λ e. rw e (slotted_changed f (one_read c.args.borrow) inv.0))
+          (λ e. rw (ap (λ x. x.slots) e) inv.0),
+      rw read.rooms inv.1,
+      either c.begin_read.result read.ok read.err
+          (λ e. rw e (referred_changed f (one_read c.args.borrow) inv.2))
+          (λ e. rw (ap (λ x. x.slots) e) inv.2),
+    )
+
+pub returns-clause-ok : goal.returns-clause-ok
+returns-clause-ok g c =
+    let view = state_is c.self.view_is in
+    let n = name_of_cell c.args.name in
+    let f = held_in view n c.requires.there in
+    ok_then c.begin_read.result (λ e. rw e (filled_in view n f (one_read c.args.borrow)))
+    c.begin_read.ensures.ok
+
+pub returns-clause-err : goal.returns-clause-err
+returns-clause-err g c =
+    err_from c.begin_read.result
+    (λ e. ap (λ x. state_of c.self.inside.start c.self.inside.peak x.slots) e
+    ∙ state_is c.self.view_is) c.begin_read.ensures.err
+
+pub returns-clause-beside : goal.returns-clause-beside
+returns-clause-beside g c =
+    let view = state_is c.self.view_is in
+    let n = name_of_cell c.args.name in
+    let f = held_in view n c.requires.there in
+    err_from c.begin_read.result (λ h. seen_in view n f (λ o. is_some (write_refusal o))
+    (λ b. b ≡ true) h) c.begin_read.ensures.beside

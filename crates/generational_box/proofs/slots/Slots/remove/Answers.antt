@@ -1,0 +1,152 @@
+-- A cell that goes.
+use Rattle.std.proofs.Common.{arith, ap, sym, ◌≡◌, ◌∙◌, is_some, subst}
+use Rattle.std.specs.FinMap as map
+use Rattle.generational_box.specs.Entry.{target_in}
+use Rattle.generational_box.proofs.Common.{AreReferred, cell_at, count_less, name_of_cell}
+use Rattle.generational_box.proofs.Common.{refers_to}
+use Rattle.generational_box.proofs.Common.{State, shared_target}
+use Rattle.generational_box.proofs.lists.Lists.{bit}
+use Rattle.generational_box.proofs.states.Changes.{found, found_within}
+use Rattle.generational_box.proofs.states.Changes.{not_pooled, slotted_freed, slotted_retired}
+use Rattle.generational_box.proofs.states.Changes.{some_live, state_ended, state_is}
+use Rattle.generational_box.proofs.states.Counting.{less_length, less_slotted, less_state}
+use Rattle.generational_box.proofs.states.Counting.{referred_ended, referred_forgotten, target_some}
+use Rattle.generational_box.proofs.states.States.{get_cells}
+use Rattle.generational_box.proofs.slots.Slots.remove.Goals as goal
+
+pub forget-requires : goal.forget-requires
+forget-requires g c =
+    record {
+      some = rw c.target-target.ensures
+          (target_some c.self.inside.entries.slots c.self.invariant.2 (name_of_cell c.args.name));
+    }
+
+pub end-requires : goal.end-requires
+end-requires g c =
+    let inv = c.self.invariant in
+    let n = name_of_cell c.args.name in
+    let slots = c.self.inside.entries.slots in
+    let o = shared_target slots (target_in (cell_at slots n)) in
+    let same = less_state slots o c.self.inside.start c.self.inside.peak
+    ∙ state_is c.self.view_is in
+    let f = found (count_less slots o) n (ap (λ S. is_some (map.get S.cells n)) same ∙ c.requires)
+    in
+    let after = c.forget.ensures.slots
+    ∙ ap (λ t. count_less slots (shared_target slots t)) c.target-target.ensures in
+    rw after (found_within f)
+
+pub overflow_sub-self : goal.overflow_sub-self
+overflow_sub-self g c =
+    let inv = c.self.invariant in
+    let n = name_of_cell c.args.name in
+    let slots = c.self.inside.entries.slots in
+    let o = shared_target slots (target_in (cell_at slots n)) in
+    let same = less_state slots o c.self.inside.start c.self.inside.peak
+    ∙ state_is c.self.view_is in
+    let f = found (count_less slots o) n (ap (λ S. is_some (map.get S.cells n)) same ∙ c.requires)
+    in
+    some_live f (less_slotted slots o inv.0)
+
+pub put-requires-clause-room : goal.put-requires-clause-room
+put-requires-clause-room g c =
+    let inv = c.self.invariant in
+    let n = name_of_cell c.args.name in
+    let slots = c.self.inside.entries.slots in
+    let o = shared_target slots (target_in (cell_at slots n)) in
+    let same = less_state slots o c.self.inside.start c.self.inside.peak
+    ∙ state_is c.self.view_is in
+    let f = found (count_less slots o) n (ap (λ S. is_some (map.get S.cells n)) same ∙ c.requires)
+    in
+    let within = found_within f in let long = less_length slots o in
+    let room = inv.0.roomy in omega arith
+
+pub put-requires-clause-absent : goal.put-requires-clause-absent
+put-requires-clause-absent g c =
+    let inv = c.self.invariant in
+    let n = name_of_cell c.args.name in
+    let slots = c.self.inside.entries.slots in
+    let o = shared_target slots (target_in (cell_at slots n)) in
+    let same = less_state slots o c.self.inside.start c.self.inside.peak
+    ∙ state_is c.self.view_is in
+    let f = found (count_less slots o) n (ap (λ S. is_some (map.get S.cells n)) same ∙ c.requires)
+    in
+    not_pooled f (less_slotted slots o inv.0)
+
+pub invariant_of-self : goal.invariant_of-self
+invariant_of-self g c =
+    let inv = c.self.invariant in
+    let n = name_of_cell c.args.name in
+    let slots = c.self.inside.entries.slots in
+    let o = shared_target slots (target_in (cell_at slots n)) in
+    let same = less_state slots o c.self.inside.start c.self.inside.peak
+    ∙ state_is c.self.view_is in
+    let f = found (count_less slots o) n (ap (λ S. is_some (map.get S.cells n)) same ∙ c.requires)
+    in
+    let after = c.forget.ensures.slots
+    ∙ ap (λ t. count_less slots (shared_target slots t)) c.target-target.ensures in
+    let own : cell_at (count_less slots o) n ≡ cell_at slots n =
+    sym (get_cells (count_less slots o) n) ∙ (ap (λ S. map.get S.cells n)
+    (less_state slots o c.self.inside.start c.self.inside.peak) ∙ get_cells slots n) in
+    let r = subst (λ x. AreReferred (λ q. bit (refers_to q x)) (count_less slots o)) (sym own)
+    (referred_forgotten slots inv.2 n) in
+    rw (c.end.ensures.slots, after, c.put.ensures.added, c.put.ensures.rooms) (
+      slotted_freed f (less_slotted slots o inv.0) (omega arith),
+      rw (c.end.ensures.rooms, c.forget.ensures.rooms) inv.1,
+      referred_ended f r,
+    )
+
+pub invariant_of-self-else-name-lt18446744073709551615
+    : goal.invariant_of-self-else-name-lt18446744073709551615
+invariant_of-self-else-name-lt18446744073709551615 g c =
+    let inv = c.self.invariant in
+    let n = name_of_cell c.args.name in
+    let slots = c.self.inside.entries.slots in
+    let o = shared_target slots (target_in (cell_at slots n)) in
+    let same = less_state slots o c.self.inside.start c.self.inside.peak
+    ∙ state_is c.self.view_is in
+    let f = found (count_less slots o) n (ap (λ S. is_some (map.get S.cells n)) same ∙ c.requires)
+    in
+    let after = c.forget.ensures.slots
+    ∙ ap (λ t. count_less slots (shared_target slots t)) c.target-target.ensures in
+    let own : cell_at (count_less slots o) n ≡ cell_at slots n =
+    sym (get_cells (count_less slots o) n) ∙ (ap (λ S. map.get S.cells n)
+    (less_state slots o c.self.inside.start c.self.inside.peak) ∙ get_cells slots n) in
+    let r = subst (λ x. AreReferred (λ q. bit (refers_to q x)) (count_less slots o)) (sym own)
+    (referred_forgotten slots inv.2 n) in
+    rw (c.end.ensures.slots, after) (
+      slotted_retired f (less_slotted slots o inv.0) (omega arith),
+      rw (c.end.ensures.rooms, c.forget.ensures.rooms) inv.1,
+      referred_ended f r,
+    )
+
+pub returns-then-name-lt18446744073709551615 : goal.returns-then-name-lt18446744073709551615
+returns-then-name-lt18446744073709551615 g c =
+    let inv = c.self.invariant in
+    let n = name_of_cell c.args.name in
+    let slots = c.self.inside.entries.slots in
+    let o = shared_target slots (target_in (cell_at slots n)) in
+    let same = less_state slots o c.self.inside.start c.self.inside.peak
+    ∙ state_is c.self.view_is in
+    let f = found (count_less slots o) n (ap (λ S. is_some (map.get S.cells n)) same ∙ c.requires)
+    in
+    let after = c.forget.ensures.slots
+    ∙ ap (λ t. count_less slots (shared_target slots t)) c.target-target.ensures in
+    rw (c.end.ensures.slots, after)
+    (state_ended f c.self.inside.start c.self.inside.peak
+    ∙ ap (λ (S : State _). record S { cells = map.remove S.cells n }) same)
+
+pub returns-else-name-lt18446744073709551615 : goal.returns-else-name-lt18446744073709551615
+returns-else-name-lt18446744073709551615 g c =
+    let inv = c.self.invariant in
+    let n = name_of_cell c.args.name in
+    let slots = c.self.inside.entries.slots in
+    let o = shared_target slots (target_in (cell_at slots n)) in
+    let same = less_state slots o c.self.inside.start c.self.inside.peak
+    ∙ state_is c.self.view_is in
+    let f = found (count_less slots o) n (ap (λ S. is_some (map.get S.cells n)) same ∙ c.requires)
+    in
+    let after = c.forget.ensures.slots
+    ∙ ap (λ t. count_less slots (shared_target slots t)) c.target-target.ensures in
+    rw (c.end.ensures.slots, after)
+    (state_ended f c.self.inside.start c.self.inside.peak
+    ∙ ap (λ (S : State _). record S { cells = map.remove S.cells n }) same)

@@ -1,0 +1,12 @@
+-- The state for which slots stand, and what is written to them.
+pub mod Changes
+pub mod Counting
+pub mod Endings
+pub mod Entries
+pub mod Hindrance
+pub mod Makings
+pub mod Recounts
+pub mod References
+pub mod States
+pub mod Turning
+pub mod Turns

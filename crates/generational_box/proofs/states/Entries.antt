@@ -1,0 +1,938 @@
+-- The slots of a store with the table of their borrows, and what a slot that is written leaves of
+-- the others.
+use Rattle.std.proofs.Common.{◌≡◌, ◌≢◌, ℕ, zero, suc, ◌+◌, ◌<◌, ◌≤◌, Bool, true, false, cond}
+use Rattle.std.proofs.Common.{List, [], ◌∷◌, ◌++◌, length, Option, None, Some, refl, sym, ap}
+use Rattle.std.proofs.Common.{◌∙◌, arith, IfSome, OnOk, OnErr, Result, Ok, Err, is_none, is_some}
+use Rattle.std.proofs.Common.{subst, inl, inr, ◌⊎◌, slice_get, slice_set, nat_eq}
+use Rattle.std.specs.Ordering.{nat_cmp}
+use Rattle.std.specs.Cmp.{nat_cmp_total}
+use Rattle.std.proofs.Math.ListN.{get_or, get_or-eq_default}
+use Rattle.std.proofs.lemmas.Bool.{true≢false, false≢true, cases_eq, eq-eqb, ne_eqb}
+use Rattle.std.proofs.lemmas.Bool.{eqb-true}
+use Rattle.std.proofs.lemmas.Option.{none-some, slice_get_cases, slice_get_read, slice_get_within}
+use Rattle.std.proofs.lemmas.List.{get_or-set_same, length-set}
+use Rattle.generational_core.specs.declared.borrow.Borrow.{Borrow}
+use Rattle.generational_box.specs.declared.entry.EntryDetails.{EntryDetails}
+use Rattle.generational_box.specs.declared.entry.StorageEntry.{StorageEntry}
+use Rattle.generational_box.specs.declared.entry.StorageEntryData.{StorageEntryData}
+use Rattle.generational_core.specs.Borrowing.{leads_to, read_refusal, write_refusal}
+use Rattle.generational_core.specs.Cells.Content.{Here, Lent}
+use Rattle.generational_box.specs.Entry.{Entry, with_reader, without_reader_in, content_in}
+use Rattle.generational_box.specs.Entry.{has_no_borrow, cell_of, kind_in, target_in}
+use Rattle.generational_core.specs.Machine.{has_reader, has_writer}
+use Rattle.generational_box.specs.Entries.{EntryList, AreRoomy, IsUnborrowed, kept_data}
+use Rattle.generational_box.specs.Entries.{kind_of, lead_of, target_of}
+use Rattle.generational_box.specs.Table.{Releases}
+use Rattle.generational_box.specs.Entries.{index_in, index_of, has_index, entry_of}
+use Rattle.generational_box.specs.Table.{no_index}
+use Rattle.generational_box.specs.Entries.{AreIndexed, IsIndexed, LentHasIndex}
+use Rattle.generational_box.specs.Table.{IsUsed}
+use Rattle.generational_box.specs.Entry.Kept.{Empty, Live, Refers}
+use Rattle.generational_box.specs.declared.entry.Kind.{Kind}
+use Rattle.generational_box.specs.declared.entry.Kind.TheVariants as kind
+use Rattle.generational_core.specs.Names.{Name}
+use Rattle.generational_core.specs.declared.error.Location.{Location}
+use Rattle.generational_core.specs.Cells.{Content, Cell, location_of}
+use Rattle.std.specs.Cmp.{nat_eq_equiv}
+unfoldable use Rattle.generational_box.specs.Entries.{entries_of}
+use Rattle.generational_box.specs.Table.{Table, list_at, IsVacant, IsClosed, IsJoined}
+use Rattle.generational_box.specs.Slotted.{how_many, cell_in, change_entry, change_entry_if}
+use Rattle.generational_box.proofs.lists.Lists.{IsWritten, set-own, set_written, bit, passes}
+use Rattle.generational_box.proofs.lists.TableChanges.{Changes, Opens, closed, closed_count}
+use Rattle.generational_box.proofs.lists.TableChanges.{list_changed, none_some, opened}
+use Rattle.generational_box.proofs.lists.TableChanges.{opened_count, opened_few, opened_list}
+use Rattle.generational_box.proofs.lists.TableChanges.{opened_used, used_still}
+use Rattle.generational_box.proofs.lists.Tables.{removed_none}
+use Rattle.std.specs.FinSet as set
+use Rattle.generational_box.specs.declared.entry.StorageEntryData.TheVariants as slot
+
+module _ {T : Type 0} where
+  -- ---- the slots as contracts see them
+
+  -- a slot's entry and location together
+  abbrev pub both : List (List Borrow) → Option (StorageEntry T) → Option EntryDetails
+      → Option (Entry T)
+  both lists (Some e) (Some l) = Some (entry_of lists e l)
+  both lists _ _ = None
+
+  pub entries_get : (lists : List (List Borrow)) (es : List (StorageEntry T)) (ls : List EntryDetails)
+      (k : ℕ) → slice_get (entries_of lists es ls) k ≡ both lists (slice_get es k) (slice_get ls k)
+  unfolding entries_of
+  entries_get lists [] ls k = refl
+  entries_get lists (e ∷ es) [] k = none (slice_get (e ∷ es) k)
+    where
+      none : (o : Option (StorageEntry T)) → None ≡ both lists o None
+      none None = refl
+      none (Some e) = refl
+  entries_get lists (e ∷ es) (l ∷ ls) zero = refl
+  entries_get lists (e ∷ es) (l ∷ ls) (suc k) = entries_get lists es ls k
+
+  pub entries_len : (lists : List (List Borrow)) (es : List (StorageEntry T)) (ls : List EntryDetails)
+      → length ls ≡ length es → length (entries_of lists es ls) ≡ length es
+  unfolding entries_of
+  entries_len lists [] ls same = refl
+  entries_len lists (e ∷ es) [] same = absurd cc
+  entries_len lists (e ∷ es) (l ∷ ls) same =
+      let rest = entries_len lists es ls (omega (arith, same)) in omega arith
+
+  -- the lists of the other slots are the same
+  abbrev pub SameLists : (before after : List (List Borrow)) → List (StorageEntry T) → ℕ → Type 0
+  SameLists before after es i = (k : ℕ) → k ≢ i
+      → list_at after (index_in (slice_get es k)) ≡ list_at before (index_in (slice_get es k))
+
+  entries_same : (before after : List (List Borrow)) (es : List (StorageEntry T))
+      (ls : List EntryDetails)
+      → ((k : ℕ) → list_at after (index_in (slice_get es k))
+      ≡ list_at before (index_in (slice_get es k)))
+      → entries_of after es ls ≡ entries_of before es ls
+  unfolding entries_of
+  entries_same before after [] ls same = refl
+  entries_same before after (e ∷ es) [] same = refl
+  entries_same before after (e ∷ es) (l ∷ ls) same =
+      rw (same 0) (ap (λ rest. entry_of before e l ∷ rest)
+      (entries_same before after es ls (λ k. same (suc k))))
+
+  -- a slot that is written, with the location where its cell was made
+  pub entries_set : (before after : List (List Borrow)) (es : List (StorageEntry T))
+      (ls : List EntryDetails) (i : ℕ) (e : StorageEntry T) (l : EntryDetails)
+      → i < length es → i < length ls → SameLists before after es i
+      → entries_of after (slice_set es i e) (slice_set ls i l)
+      ≡ slice_set (entries_of before es ls) i (entry_of after e l)
+  unfolding entries_of
+  entries_set before after [] ls i e l below within same = absurd (omega (arith, below))
+  entries_set before after (x ∷ es) [] i e l below within same = absurd (omega (arith, within))
+  entries_set before after (x ∷ es) (y ∷ ls) zero e l below within same =
+      ap (λ rest. entry_of after e l ∷ rest)
+      (entries_same before after es ls (λ k. same (suc k) (λ z. omega (arith, z))))
+  entries_set before after (x ∷ es) (y ∷ ls) (suc i) e l below within same =
+      rw (same 0 (λ z. omega (arith, z))) (ap (λ rest. entry_of before x y ∷ rest)
+      (entries_set before after es ls i e l (omega (arith, below)) (omega (arith, within))
+      (λ k other. same (suc k) (λ z. other (omega (arith, z))))))
+
+  -- a slot more
+  pub entries_push : (lists : List (List Borrow)) (es : List (StorageEntry T))
+      (ls : List EntryDetails) (e : StorageEntry T) (l : EntryDetails) → length ls ≡ length es
+      → entries_of lists (es ++ e ∷ []) (ls ++ l ∷ [])
+      ≡ entries_of lists es ls ++ entry_of lists e l ∷ []
+  unfolding entries_of
+  entries_push lists [] [] e l same = refl
+  entries_push lists [] (y ∷ ls) e l same = absurd (omega (arith, same))
+  entries_push lists (x ∷ es) [] e l same = absurd (omega (arith, same))
+  entries_push lists (x ∷ es) (y ∷ ls) e l same =
+      ap (λ rest. entry_of lists x y ∷ rest) (entries_push lists es ls e l (omega (arith, same)))
+
+  -- ---- what holds of the slots and the table
+
+  module _ {es es' : List (StorageEntry T)} {i : ℕ} {e : StorageEntry T}
+      (w : IsWritten es es' i e) where
+    -- what holds of the slot that was written and of the others holds of all
+    over : (P : ℕ → Option (StorageEntry T) → Type 0) → P i (Some e)
+        → ((k : ℕ) → k ≢ i → P k (slice_get es k)) → (k : ℕ) → P k (slice_get es' k)
+    over P here others k = subst (P k) (sym (w.at k)) (at (nat_eq k i) refl)
+      where
+        at : (b : Bool) → nat_eq k i ≡ b → P k (cond b (Some e) (slice_get es k))
+        at true same = subst (λ n. P n (Some e)) (sym (eqb-true k i same)) here
+        at false other = others k (λ z. false≢true (sym other ∙ eq-eqb k i z))
+
+    pub indexed : {t t' : Table} → AreIndexed t es
+        → ((k : ℕ) → k ≢ i → index_in (slice_get es k) ≢ no_index
+        → IsUsed t' (index_in (slice_get es k)))
+        → (index_of e.content ≢ no_index → IsUsed t' (index_of e.content))
+        → LentHasIndex e.content
+        → (index_of e.content ≢ no_index → (k : ℕ) → k ≢ i
+        → index_in (slice_get es k) ≢ index_of e.content)
+        → set.len t'.free + how_many has_index es' ≡ length t'.lists → length t'.lists ≤ length es'
+        + 1
+        → AreIndexed t' es'
+    indexed {t} {t'} s others here lent alone counted few =
+        record {
+          used = over (λ k o. index_in o ≢ no_index → IsUsed t' (index_in o)) here others;
+          lent = over (λ k o. IsIndexed o) lent (λ k other. s.lent k);
+          apart = λ j k. over (λ j o. index_in o ≢ no_index → index_in o ≡ index_in (slice_get es'
+              k)
+              → j ≡ k) (written k) (rest k) j;
+          counted = counted;
+          few = few;
+        }
+      where
+        written : (k : ℕ) → index_of e.content ≢ no_index
+            → index_of e.content ≡ index_in (slice_get es' k) → i ≡ k
+        written k some = over (λ k o. index_of e.content ≡ index_in o → i ≡ k) (λ same. refl)
+            (λ k other same. absurd (alone some k other (sym same))) k
+
+        rest : (k j : ℕ) → j ≢ i → index_in (slice_get es j) ≢ no_index
+            → index_in (slice_get es j) ≡ index_in (slice_get es' k) → j ≡ k
+        rest k j other some =
+            over (λ k o. index_in (slice_get es j) ≡ index_in o → j ≡ k)
+            (λ same. absurd (alone (λ z. some (same ∙ z)) j other same))
+            (λ k at same. s.apart j k some same) k
+
+-- ---- a store's slots, as their methods find them
+
+-- the vectors of the slots and of locations, and the table, with what contracts see
+pub record IsKept {T : Type 0} (t : Table) (es : List (StorageEntry T)) (ls : List EntryDetails)
+    (now : EntryList T) : Type 0 where
+  pub slots : entries_of t.lists es ls ≡ now.slots
+  pub indexed : AreIndexed t es
+  pub made : length ls ≡ length es
+  pub small : length es + 1 < no_index
+
+pub kept : {T : Type 0} {t : Table} {es : List (StorageEntry T)} {ls : List EntryDetails}
+    {now : EntryList T} {room entries created : ℕ}
+    → record { slots = entries_of t.lists es ls; rooms = room } ≡ now
+    → AreIndexed t es × (length ls ≡ length es)
+    × AreRoomy room (length es) entries created t.rooms → IsKept t es ls now
+kept view v =
+    record {
+      slots = ap (λ (x : EntryList _). x.slots) view;
+      indexed = v.0;
+      made = v.1;
+      small = let few = v.2.filled in let most = v.2.indexes in omega arith;
+    }
+
+at_most_one : (b : Bool) → bit b ≤ 1
+at_most_one true = omega arith
+at_most_one false = omega arith
+
+most_all : {A : Type 0} (p : A → Bool) (xs : List A) → how_many p xs ≤ length xs
+most_all p [] = omega arith
+most_all p (x ∷ xs) =
+    let rest = most_all p xs in let one = at_most_one (p x) in omega arith
+
+pub less_all : {A : Type 0} (p : A → Bool) (xs : List A) (i : ℕ) (x : A)
+    → slice_get xs i ≡ Some x → p x ≡ false → how_many p xs < length xs
+less_all p [] i x there fails = absurd (none-some x there)
+less_all p (y ∷ xs) zero x there fails =
+    let same : y ≡ x = cc in let most = most_all p xs in rw (same, fails) (omega arith)
+less_all p (y ∷ xs) (suc i) x there fails =
+    let less = less_all p xs i x there fails in
+    let one = at_most_one (p y) in omega arith
+
+pub ok_then : {A E : Type 0} (r : Result A E) {P Q : Type 0} → (P → Q) → OnOk r P → OnOk r Q
+ok_then (Ok a) f p = f p
+ok_then (Err e) f p = tt
+
+pub err_then : {A E : Type 0} (r : Result A E) {P : Type 0} → P → OnErr r P
+err_then (Ok a) p = tt
+err_then (Err e) p = p
+
+pub err_from : {A E : Type 0} (r : Result A E) {P Q : Type 0} → (P → Q) → OnErr r P → OnErr r Q
+err_from (Ok a) f p = tt
+err_from (Err e) f p = f p
+
+pub release_rooms : (t t' : Table) (x y : ℕ) (left : List Borrow) → Releases t t' x y left
+    → t'.rooms ≡ t.rooms
+release_rooms t t' x y [] r = r.1.rooms
+release_rooms t t' x y (b ∷ bs) r = rw r.1 refl
+
+pub not_last : {x : ℕ} → x < no_index → x ≢ no_index
+not_last below last = omega (arith, below, last)
+
+-- the room stays, and so does the number of slots
+pub roomy_still : {room n n' a b r r' : ℕ} → AreRoomy room n a b r → n' ≡ n → r' ≡ r
+    → AreRoomy room n' a b r'
+roomy_still roomy same rooms =
+    record {
+      filled = let few = roomy.filled in omega arith;
+      entries = roomy.entries;
+      details = roomy.details;
+      borrows = let few = roomy.borrows in omega arith;
+      indexes = roomy.indexes;
+    }
+
+module _ {T : Type 0} {t : Table} {es : List (StorageEntry T)} {ls : List EntryDetails}
+    {now : EntryList T} (s : IsKept t es ls now) where
+  pub many : length now.slots ≡ length es
+  many = rw (← s.slots) (entries_len t.lists es ls s.made)
+
+  pub list_none : list_at t.lists no_index ≡ []
+  list_none = let few = s.indexed.few in let small = s.small in
+      get_or-eq_default t.lists [] (omega arith)
+
+  pub closed_none : {t' : Table} {x : ℕ} → IsClosed t t' x → list_at t'.lists no_index ≡ []
+  closed_none {t'} c = let few = s.indexed.few in let small = s.small in let same = c.same in
+      get_or-eq_default t'.lists [] (omega arith)
+
+  -- the slot that a read at an index finds
+  pub read_slot : {i : ℕ} → i < length now.slots → {e : StorageEntry T} (n : ℕ) → n ≡ length es
+      → e ≡ get_or es i e → slice_get es i ≡ Some e
+  read_slot {i} within {e} n len is =
+      let same = many in slice_get_read es n i e len (omega (arith, within)) is
+
+  pub one_slot : (i : ℕ) {a b : StorageEntry T} → slice_get es i ≡ Some a
+      → slice_get es i ≡ Some b → a ≡ b
+  one_slot i is too = let e = sym is ∙ too in cc
+
+  pub found_slot : {i : ℕ} → i < length now.slots → (e : StorageEntry T) × (slice_get es i ≡ Some e)
+  found_slot {i} within = at (slice_get_cases es i).1
+    where
+      at : ((e : StorageEntry T) × (i < length es) × (slice_get es i ≡ Some e) × (get_or es i e ≡
+          e))
+          ⊎ ((length es ≤ i) × (slice_get es i ≡ None))
+          → (e : StorageEntry T) × (slice_get es i ≡ Some e)
+      at (inl some) = (some.0, some.2)
+      at (inr past) = let same = many in absurd (omega (arith, past.0, within))
+
+  -- ---- a slot's details
+
+  module _ {i : ℕ} (within : i < length now.slots) {d : EntryDetails}
+      (at : slice_get ls i ≡ Some d) where
+    abbrev pub entry_there : (e : StorageEntry T) × (slice_get es i ≡ Some e)
+    entry_there = found_slot within
+
+    entry_seen : slice_get now.slots i ≡ Some (entry_of t.lists entry_there.0 d)
+    entry_seen =
+        ap (λ x. slice_get x i) (sym s.slots)
+        ∙ (entries_get t.lists es ls i ∙ (λ j. both t.lists (entry_there.1 j) (at j)))
+
+    -- what holds of them holds of what contracts see
+    pub details_seen : (P : Entry T → Type 0) → ((e : StorageEntry T) → P (entry_of t.lists e d))
+        → IfSome (slice_get now.slots i) P
+    details_seen P h = subst (λ o. IfSome o P) (sym entry_seen) (h entry_there.0)
+
+    pub details_heard : (P : Entry T → Type 0) → IfSome (slice_get now.slots i) P
+        → P (entry_of t.lists entry_there.0 d)
+    details_heard P h = subst (λ o. IfSome o P) entry_seen h
+
+    -- they change
+    pub details_changed : (d' : EntryDetails) (f : Entry T → Entry T)
+        → ((e : StorageEntry T) → entry_of t.lists e d' ≡ f (entry_of t.lists e d))
+        → entries_of t.lists es (slice_set ls i d') ≡ change_entry now.slots i f
+    details_changed d' f becomes =
+        let long = many in let made = s.made in
+        ap (λ x. entries_of t.lists x (slice_set ls i d')) (sym (set-own es i entry_there.0 entry_there.1))
+        ∙ (entries_set t.lists t.lists es ls i entry_there.0 d' (omega (arith, within))
+        (omega (arith, within)) (λ k other. refl)
+        ∙ (ap (slice_set (entries_of t.lists es ls) i) (becomes entry_there.0)
+        ∙ (ap (λ slots. slice_set slots i (f (entry_of t.lists entry_there.0 d))) s.slots
+        ∙ ap (change_entry_if now.slots i f) (sym entry_seen))))
+
+  module _ (i : ℕ) (e : StorageEntry T) (there : slice_get es i ≡ Some e) where
+    pub location : (l : EntryDetails) × (slice_get ls i ≡ Some l)
+    location = at (slice_get_cases ls i).1
+      where
+        at : ((l : EntryDetails) × (i < length ls) × (slice_get ls i ≡ Some l) × (get_or ls i l ≡ l))
+            ⊎ ((length ls ≤ i) × (slice_get ls i ≡ None))
+            → (l : EntryDetails) × (slice_get ls i ≡ Some l)
+        at (inl some) = (some.0, some.2)
+        at (inr past) =
+            let within = slice_get_within es i e there in let same = s.made in
+            absurd (omega (arith, past.0))
+
+    pub slot_seen : slice_get now.slots i ≡ Some (entry_of t.lists e location.0)
+    slot_seen =
+        ap (λ x. slice_get x i) (sym s.slots)
+        ∙ (entries_get t.lists es ls i ∙ (λ j. both t.lists (there j) (location.1 j)))
+
+    -- what holds of the slot with its borrows holds of what contracts see
+    pub says : (P : Entry T → Type 0) → ((l : EntryDetails) → P (entry_of t.lists e l))
+        → IfSome (slice_get now.slots i) P
+    says P h = rw slot_seen (h location.0)
+
+    -- what holds of what contracts see holds of the slot with its borrows
+    pub hears : (P : Entry T → Type 0) → IfSome (slice_get now.slots i) P
+        → P (entry_of t.lists e location.0)
+    hears P h = subst (λ o. IfSome o P) slot_seen h
+
+    pub used_here : index_of e.content ≢ no_index → IsUsed t (index_of e.content)
+    used_here some = rw there at (s.indexed.used i) some
+
+    pub lent_here : LentHasIndex e.content
+    lent_here = rw there at (s.indexed.lent i)
+
+    -- a value has no index where nobody reads it
+    module _ (kd : Kind) (x : ℕ) (v : T) (is : e.content ≡ slot.Data kd x v) where
+      pub used_at : x ≢ no_index → IsUsed t x
+      used_at some = subst (λ d. index_of d ≢ no_index → IsUsed t (index_of d)) is used_here some
+
+      pub free_value : x ≡ no_index → list_at t.lists x ≡ []
+      free_value none = rw none list_none
+
+      pub free_test : nat_eq x no_index
+          ≡ is_none (write_refusal (Some (Here v (list_at t.lists x))))
+      free_test = at (list_at t.lists x) refl (cases_eq x no_index)
+        where
+          at : (bs : List Borrow) → list_at t.lists x ≡ bs → (x ≡ no_index) ⊎ (x ≢ no_index)
+              → nat_eq x no_index ≡ is_none (write_refusal (Some (Here v bs)))
+          at [] is (inl none) = eq-eqb x no_index none
+          at [] is (inr some) = absurd ((used_at some).some is)
+          at (b ∷ bs) is (inl none) = absurd (none_some b bs (sym is ∙ free_value none))
+          at (b ∷ bs) is (inr some) = ne_eqb x no_index some
+
+      -- a second reader stands beside another
+      pub read_beside : x ≢ no_index
+          → is_some (write_refusal (Some (Here v (list_at t.lists x)))) ≡ true
+      read_beside some = at (list_at t.lists x) refl
+        where
+          at : (bs : List Borrow) → list_at t.lists x ≡ bs
+              → is_some (write_refusal (Some (Here v bs))) ≡ true
+          at [] is = absurd ((used_at some).some is)
+          at (b ∷ bs) is = refl
+
+    -- a writer stands where a value is lent
+    pub writer_of : (kd : Kind) (x : ℕ) → e.content ≡ slot.Lent kd x
+        → (w : Borrow) × (rest : List Borrow) × (list_at t.lists x ≡ w ∷ rest)
+        × (x < length t.lists)
+    writer_of kd x is =
+        at (list_at t.lists x) refl (rw is at used_here (rw is at lent_here))
+      where
+        at : (bs : List Borrow) → list_at t.lists x ≡ bs → IsUsed t x
+            → (w : Borrow) × (rest : List Borrow) × (list_at t.lists x ≡ w ∷ rest)
+            × (x < length t.lists)
+        at [] is used = absurd (used.some is)
+        at (w ∷ rest) is used = (w, rest, is, used.within)
+
+    -- a cell without borrows is a value without an index
+    pub alone : (l : Location)
+        → has_no_borrow (content_in (kept_data (list_at t.lists (index_of e.content)) l e.content))
+        ≡ true → (kd : Kind) × (v : T) × (e.content ≡ slot.Data kd no_index v)
+    alone l = at e.content refl
+      where
+        lent : (bs : List Borrow) (kd : Kind) (x : ℕ)
+            → has_no_borrow (content_in {T = T} (kept_data bs l (slot.Lent kd x))) ≡ true → ⊥
+        lent [] kd x h = false≢true h
+        lent (w ∷ bs) kd x h = false≢true h
+
+        read : (bs : List Borrow) → bs ≢ [] → (v : T)
+            → has_no_borrow (Some (Here v bs)) ≡ true → ⊥
+        read [] some v h = some refl
+        read (b ∷ bs) some v h = false≢true h
+
+        value : (kd : Kind) (x : ℕ) (v : T) → e.content ≡ slot.Data kd x v
+            → has_no_borrow (Some (Here v (list_at t.lists x))) ≡ true
+            → (x ≡ no_index) ⊎ (x ≢ no_index)
+            → (kd : Kind) × (v : T) × (e.content ≡ slot.Data kd no_index v)
+        value kd x v is h (inl none) = (kd, v, is ∙ ap (λ y. slot.Data kd y v) none)
+        value kd x v is h (inr some) =
+            absurd (read (list_at t.lists x) (used_at kd x v is some).some v h)
+
+        at : (d : StorageEntryData T) → e.content ≡ d
+            → has_no_borrow (content_in (kept_data (list_at t.lists (index_of d)) l d)) ≡ true
+            → (kd : Kind) × (v : T) × (e.content ≡ slot.Data kd no_index v)
+        at slot.Empty is h = absurd (false≢true h)
+        at (slot.Reference m g) is h = absurd (false≢true h)
+        at (slot.Lent kd x) is h = absurd (lent (list_at t.lists x) kd x h)
+        at (slot.Data kd x v) is h = value kd x v is h (cases_eq x no_index)
+
+    -- a test of the slot's content that says of each what h says of its cell
+    pub cell_test : {X : Type 0} (f : StorageEntryData T → Option X)
+        (h : Option (Cell T) → Option X) → h None ≡ None → f slot.Empty ≡ h None
+        → ((kd : Kind) (x : ℕ) (v : T) (c : Content T) (l : Location)
+        → f (slot.Data kd x v) ≡ h (cell_of (Live kd c l)))
+        → ((kd : Kind) (x : ℕ) (c : Content T) (l : Location)
+        → f (slot.Lent kd x) ≡ h (cell_of (Live kd c l)))
+        → ((m g : ℕ) (l : Location)
+        → f (slot.Reference m g) ≡ h (cell_of (Refers (record { slot = m; generation = g }) l)))
+        → (g : ℕ) → cond (nat_eq e.generation g) (f e.content) None
+        ≡ h (cell_in (slice_get now.slots i) g)
+    cell_test {X = X} f h none empty data' lent ref g =
+        rw (slot_seen, ← nat_eq_equiv.symm e.generation g)
+        (own (nat_eq e.generation g) (at e.content refl))
+      where
+        at : (d : StorageEntryData T) → e.content ≡ d
+            → f d ≡ h (cell_of (kept_data (list_at t.lists (index_of d)) location.0.created_at d))
+        at slot.Empty is = empty
+        at (slot.Data kd x v) is = data' kd x v _ _
+        at (slot.Lent kd x) is = let w = writer_of kd x is in rw w.2 (lent kd x _ _)
+        at (slot.Reference m n) is = ref m n _
+
+        own : (b : Bool) {o : Option X} {c : Option (Cell T)} → o ≡ h c
+            → cond b o None ≡ h (cond b c None)
+        own true same = same
+        own false same = sym none
+
+    -- whose value it is, what a box of a name reaches, and what a reference names
+    pub kind_test : (g : ℕ) → cond (nat_eq e.generation g) (kind_of e.content) None
+        ≡ kind_in (cell_in (slice_get now.slots i) g)
+    kind_test =
+        cell_test kind_of kind_in refl refl (λ kd x v. here kd) (λ kd x. here kd) (λ m n l. refl)
+      where
+        here : (kd : Kind) (c : Content T) (l : Location) → Some kd ≡ kind_in (cell_of (Live kd c l))
+        here kind.Value c l = refl
+        here kind.Shared c l = refl
+
+    pub lead_test : (n : Name) → cond (nat_eq e.generation n.generation) (lead_of e.content n) None
+        ≡ leads_to (cell_in (slice_get now.slots i) n.generation) n
+    lead_test n =
+        cell_test (λ d. lead_of d n) (λ c. leads_to c n) refl refl value lent (λ m g l. refl)
+        n.generation
+      where
+        value : (kd : Kind) (x : ℕ) (v : T) (c : Content T) (l : Location)
+            → lead_of (slot.Data kd x v) n ≡ leads_to (cell_of (Live kd c l)) n
+        value kind.Value x v c l = refl
+        value kind.Shared x v c l = refl
+
+        lent : (kd : Kind) (x : ℕ) (c : Content T) (l : Location)
+            → lead_of {T = T} (slot.Lent kd x) n ≡ leads_to (cell_of (Live kd c l)) n
+        lent kind.Value x c l = refl
+        lent kind.Shared x c l = refl
+
+    pub target_test : (g : ℕ) → cond (nat_eq e.generation g) (target_of e.content) None
+        ≡ target_in (cell_in (slice_get now.slots i) g)
+    target_test =
+        cell_test target_of target_in refl refl (λ kd x v. here kd) (λ kd x. here kd)
+        (λ m n l. refl)
+      where
+        here : (kd : Kind) (c : Content T) (l : Location)
+            → None ≡ target_in (cell_of (Live kd c l))
+        here kind.Value c l = refl
+        here kind.Shared c l = refl
+
+    -- a reference has no borrows
+    pub refers_none : IfSome (slice_get now.slots i) (λ e. is_some (target_in (cell_of e.kept))
+        ≡ true) → (m : Name) × (l : Location) × (e.content ≡ slot.Reference m.slot m.generation)
+    refers_none h = at e.content refl
+        (hears (λ e. is_some (target_in (cell_of e.kept)) ≡ true) h)
+      where
+        none : (kd : Kind) (c : Content T) (l : Location)
+            → is_some (target_in (cell_of (Live kd c l))) ≡ true → ⊥
+        none kind.Value c l h = false≢true h
+        none kind.Shared c l h = false≢true h
+
+        lent : (bs : List Borrow) (l : Location) (kd : Kind) (x : ℕ)
+            → is_some (target_in (cell_of {T = T} (kept_data bs l (slot.Lent kd x)))) ≡ true → ⊥
+        lent [] l kd x h = false≢true h
+        lent (w ∷ bs) l kd x h = none kd (Lent w) l h
+
+        at : (d : StorageEntryData T) → e.content ≡ d
+            → is_some (target_in (cell_of (kept_data (list_at t.lists (index_of d))
+            location.0.created_at d))) ≡ true
+            → (m : Name) × (l : Location) × (e.content ≡ slot.Reference m.slot m.generation)
+        at (slot.Reference m g) is h =
+            (record { slot = m; generation = g }, location.0.created_at, is)
+        at slot.Empty is h = absurd (false≢true h)
+        at (slot.Data kd x v) is h = absurd (none kd _ _ h)
+        at (slot.Lent kd x) is h = absurd (lent _ _ kd x h)
+
+    -- ---- a slot that changes with the table
+
+    -- the slots with the one at the index written, as contracts see them
+    pub view_changed : (lists : List (List Borrow)) (e' : StorageEntry T) (f : Entry T → Entry T)
+        → SameLists t.lists lists es i
+        → ((l : EntryDetails) → entry_of lists e' l ≡ f (entry_of t.lists e l))
+        → entries_of lists (slice_set es i e') ls ≡ change_entry now.slots i f
+    view_changed lists e' f same becomes =
+        let within = slice_get_within es i e there in let long = s.made in
+        ap (entries_of lists (slice_set es i e')) (sym (set-own ls i location.0 location.1))
+        ∙ (entries_set t.lists lists es ls i e' location.0 within (omega arith) same
+        ∙ (ap (slice_set (entries_of t.lists es ls) i) (becomes location.0)
+        ∙ (ap (λ slots. slice_set slots i (f (entry_of t.lists e location.0))) s.slots
+        ∙ ap (change_entry_if now.slots i f) (sym slot_seen))))
+
+    -- the table changes at an index that no other slot has
+    module _ {t' : Table} {x : ℕ} (c : Changes t t' x) (below : x < no_index)
+        (alone : (k : ℕ) → k ≢ i → index_in (slice_get es k) ≢ x) where
+      pub same_lists : SameLists t.lists t'.lists es i
+      same_lists k other = c.lists (index_in (slice_get es k)) (alone k other)
+
+      pub step_indexed : (e' : StorageEntry T)
+          → (index_of e'.content ≢ no_index → (index_of e'.content ≡ x) × IsUsed t' x)
+          → LentHasIndex e'.content
+          → set.len t'.free + bit (has_index e') + length t.lists
+          ≡ set.len t.free + bit (has_index e) + length t'.lists
+          → length t'.lists ≤ length es + 1 → AreIndexed t' (slice_set es i e')
+      step_indexed e' here lent counts few =
+          let w = set_written es i e' e there in
+          let count = rw there at (w.count has_index) in
+          let counted = s.indexed.counted in
+          let long = length-set es i e' in
+          indexed w s.indexed
+          (λ k other some. used_still c _ (alone k other) (s.indexed.used k some))
+          (λ some. subst (IsUsed t') (sym (here some).0) (here some).1)
+          lent
+          (λ some k other same. alone k other (same ∙ (here some).0))
+          (omega arith) (omega arith)
+
+    -- an index that is used by no slot
+    vacant_alone : (x : ℕ) → (IsUsed t x → ⊥) → x ≢ no_index
+        → (k : ℕ) → k ≢ i → index_in (slice_get es k) ≢ x
+    vacant_alone x unused some k other same =
+        unused (subst (IsUsed t) same (s.indexed.used k (λ z. some (sym same ∙ z))))
+
+    pub used_alone : (x : ℕ) → index_of e.content ≡ x → x ≢ no_index
+        → (k : ℕ) → k ≢ i → index_in (slice_get es k) ≢ x
+    used_alone x is some k other same =
+        let own : index_in (slice_get es i) ≡ x = rw there is in
+        other (s.indexed.apart k i (λ z. some (sym same ∙ z)) (same ∙ sym own))
+
+    module _ (none : index_of e.content ≡ no_index) where
+      has_none : has_index e ≡ false
+      has_none = rw none refl
+
+      fewer : how_many has_index es < length es
+      fewer = less_all has_index es i e there has_none
+
+      pub small_left : length t.lists < no_index
+      small_left = let few = s.indexed.few in let small = s.small in omega arith
+
+      pub room_left : length es ≤ t.rooms → t.free ≡ set.empty → length t.lists ≤ t.rooms
+      room_left roomy empty =
+          let full : set.len t.free ≡ 0 = ap set.len empty ∙ set.len-empty nat_cmp in
+          let counted = s.indexed.counted in let less = fewer in omega arith
+
+      -- the slot gets an index
+      module _ {t' : Table} {x : ℕ} {list : List Borrow} (o : Opens t t' x list) where
+        pub open_below : x < no_index
+        open_below = at o.vacant
+          where
+            at : IsVacant t x → x < no_index
+            at (inl v) = let low = v.1 in let small = small_left in omega arith
+            at (inr v) = let end = v.1 in let small = small_left in omega arith
+
+        open_alone : (k : ℕ) → k ≢ i → index_in (slice_get es k) ≢ x
+        open_alone = vacant_alone x (λ u. at u o.vacant) (let below = open_below in λ z. omega
+            (arith, z))
+          where
+            at : IsUsed t x → IsVacant t x → ⊥
+            at u (inl v) = true≢false (sym v.0 ∙ u.used)
+            at u (inr v) = let low = u.within in omega (arith, v.1)
+
+        pub open_lists : SameLists t.lists t'.lists es i
+        open_lists = same_lists (opened o) open_below open_alone
+
+        pub open_indexed : (e' : StorageEntry T) → index_of e'.content ≡ x
+            → LentHasIndex e'.content → AreIndexed t' (slice_set es i e')
+        open_indexed e' at lent =
+            let below = open_below in
+            let has : has_index e' ≡ true = rw (at, ne_eqb x no_index (λ z. omega (arith, z))) refl
+            in
+            let counts = opened_count o in let few = s.indexed.few in
+            let counted = s.indexed.counted in let less = fewer in
+            step_indexed (opened o) open_below open_alone e' (λ some. (at, opened_used o)) lent
+            (rw (has, has_none) (omega arith))
+            (opened_few o (length es + 1) few (λ z. omega arith))
+
+    -- the list at index 0 is the slot's, and stands elsewhere with a borrow more
+    module _ (is : index_of e.content ≡ 0) where
+      zero_used : IsUsed t 0
+      zero_used = subst (IsUsed t) is (used_here (λ z. omega (arith, is, z)))
+
+      join_few : length t.lists ≤ length es + set.len t.free
+      join_few = let most = most_all has_index es in let counted = s.indexed.counted in omega arith
+
+      pub join_room : length es ≤ t.rooms → t.free ≡ set.empty → length t.lists ≤ t.rooms
+      join_room roomy empty =
+          let full : set.len t.free ≡ 0 = ap set.len empty ∙ set.len-empty nat_cmp in
+          let few = join_few in omega arith
+
+      module _ {t' : Table} {y : ℕ} {list : List Borrow} (j : IsJoined t t' y list)
+          (some : list ≢ []) where
+        -- the table before index 0 is given back
+        abbrev before : Table
+        before = record { lists = t'.lists; free = set.remove t.free y; rooms = t'.rooms }
+
+        opens : Opens t before y list
+        opens = record { vacant = j.vacant; some = some; lists = j.lists; free = refl }
+
+        closes : IsClosed before t' 0
+        closes = record {
+          others = λ q other. refl;
+          same = refl;
+          rooms = refl;
+          freed = j.free;
+        }
+
+        zero_kept : set.contains before.free 0 ≡ false
+        zero_kept = removed_none t.free y 0 zero_used.used
+
+        pub join_below : y < no_index
+        join_below = at j.vacant
+          where
+            at : IsVacant t y → y < no_index
+            at (inl v) =
+                let low = v.1 in let few = s.indexed.few in let small = s.small in omega arith
+            at (inr v) =
+                let end = v.1 in
+                let full : set.len t.free ≡ 0 = ap set.len v.0 ∙ set.len-empty nat_cmp in
+                let few = join_few in let small = s.small in omega arith
+
+        join_alone : (k : ℕ) → k ≢ i → index_in (slice_get es k) ≢ y
+        join_alone = vacant_alone y (λ u. unused u j.vacant)
+            (let below = join_below in λ z. omega (arith, z))
+          where
+            unused : IsUsed t y → IsVacant t y → ⊥
+            unused u (inl v) = true≢false (sym v.0 ∙ u.used)
+            unused u (inr v) = let low = u.within in omega (arith, v.1)
+
+        zero_alone : (k : ℕ) → k ≢ i → index_in (slice_get es k) ≢ 0
+        zero_alone = used_alone 0 is (λ z. omega (arith, z))
+
+        pub join_list : list_at t'.lists y ≡ list
+        join_list = opened_list opens
+
+        pub join_lists : SameLists t.lists t'.lists es i
+        join_lists k other = (opened opens).lists (index_in (slice_get es k)) (join_alone k other)
+
+        pub join_indexed : (e' : StorageEntry T) → index_of e'.content ≡ y
+            → LentHasIndex e'.content → AreIndexed t' (slice_set es i e')
+        join_indexed e' at lent =
+            let w = set_written es i e' e there in
+            let above = j.above in let below = join_below in
+            let has : has_index e ≡ true = rw is refl in
+            let has' : has_index e' ≡ true =
+            rw (at, ne_eqb y no_index (λ z. omega (arith, z))) refl in
+            let count = rw (there, has, has') at (w.count has_index) in
+            let counted = s.indexed.counted in let opens_one = opened_count opens in
+            let closes_one = closed_count closes zero_kept in
+            let long = length-set es i e' in let many = join_few in
+            let few = opened_few opens (length es + 1) s.indexed.few
+            (λ none. omega (arith, none)) in
+            indexed w s.indexed
+            (λ k other some. used_still (closed closes) _ (zero_alone k other)
+            (used_still (opened opens) _ (join_alone k other) (s.indexed.used k some)))
+            (λ z. subst (IsUsed t') (sym at) (used_still (closed closes) y
+            (λ z. omega (arith, z)) (opened_used opens)))
+            lent
+            (λ z k other same. join_alone k other (same ∙ at))
+            (omega arith) (omega arith)
+
+    module _ (x : ℕ) (is : index_of e.content ≡ x) (some : x ≢ no_index) where
+      pub used_x : IsUsed t x
+      used_x = subst (IsUsed t) is (used_here (λ z. some (sym is ∙ z)))
+
+      used_below : x < no_index
+      used_below = let low = used_x.within in let few = s.indexed.few in
+          let small = s.small in omega arith
+
+      has_some : has_index e ≡ true
+      has_some = rw (is, ne_eqb x no_index some) refl
+
+      -- another list stands at the slot's index
+      module _ {t' : Table} (left : List Borrow) (b : left ≢ [])
+          (now' : t' ≡ record t { lists = slice_set t.lists x left }) where
+        pub list_lists : SameLists t.lists t'.lists es i
+        list_lists =
+            same_lists (list_changed t t' x left now') used_below (used_alone x is some)
+
+        pub list_indexed : (e' : StorageEntry T) → index_of e'.content ≡ x
+            → LentHasIndex e'.content → AreIndexed t' (slice_set es i e')
+        list_indexed e' at lent =
+            let has : has_index e' ≡ true = rw (at, ne_eqb x no_index some) refl in
+            let long : length t'.lists ≡ length t.lists = rw now' (length-set t.lists x left) in
+            let free : set.len t'.free ≡ set.len t.free = rw now' refl in
+            let few = s.indexed.few in
+            step_indexed (list_changed t t' x left now') used_below (used_alone x is some) e'
+            (λ z. (at, list_used)) lent (rw (has, has_some) (omega arith)) (omega arith)
+          where
+            list_used : IsUsed t' x
+            list_used = rw now' (record {
+              within = let long = length-set t.lists x left in let low = used_x.within in omega
+                  arith;
+              used = used_x.used;
+              some = λ z. b (sym (get_or-set_same t.lists x left [] used_x.within) ∙ z);
+            })
+
+      -- the slot's index is given back
+      module _ {t' : Table} (c : IsClosed t t' x) where
+        pub close_lists : SameLists t.lists t'.lists es i
+        close_lists = same_lists (closed c) used_below (used_alone x is some)
+
+        pub close_indexed : (e' : StorageEntry T) → index_of e'.content ≡ no_index
+            → LentHasIndex e'.content → AreIndexed t' (slice_set es i e')
+        close_indexed e' none lent =
+            let has : has_index e' ≡ false = rw none refl in
+            let free = closed_count c used_x.used in let long = c.same in
+            let few = s.indexed.few in
+            step_indexed (closed c) used_below (used_alone x is some) e'
+            (λ z. absurd (z none)) lent (rw (has, has_some) (omega arith)) (omega arith)
+
+    -- a reader is taken away from a value
+    module _ (kd : Kind) (x : ℕ) (v : T) (is : e.content ≡ slot.Data kd x v) (some : x ≢ no_index)
+      where
+        own : index_of e.content ≡ x
+        own = rw is refl
+
+        pub release_lists : (t' : Table) (y : ℕ) (left : List Borrow) → Releases t t' x y left
+            → SameLists t.lists t'.lists es i
+        release_lists t' y [] r = close_lists x own some r.1
+        release_lists t' y (b ∷ bs) r = list_lists x own some (b ∷ bs) (λ z. none_some b bs z) r.1
+
+        pub release_indexed : (t' : Table) (y : ℕ) (left : List Borrow) → Releases t t' x y left → (g
+            : ℕ)
+            → AreIndexed t' (slice_set es i (record { generation = g; content = slot.Data kd y v }))
+        release_indexed t' y [] r g = close_indexed x own some r.1 _ r.0 tt
+        release_indexed t' y (b ∷ bs) r g =
+            list_indexed x own some (b ∷ bs) (λ z. none_some b bs z) r.1 _ r.0 tt
+
+        pub release_list : (t' : Table) (y : ℕ) (left : List Borrow) → Releases t t' x y left
+            → list_at t'.lists y ≡ left
+        release_list t' y [] r =
+            let long = r.1.same in let few = s.indexed.few in let small = s.small in
+            rw r.0 (get_or-eq_default t'.lists [] (omega arith))
+        release_list t' y (b ∷ bs) r =
+            rw (r.0, r.1) (get_or-set_same t.lists x (b ∷ bs) [] (used_x x own some).within)
+
+module _ {T : Type 0} where
+  -- a cell has the location where it was made
+  pub created_there : (bs : List Borrow) (l : Location) (d : StorageEntryData T)
+      → IfSome (location_of (cell_of (kept_data bs l d))) (λ x. l ≡ x)
+  created_there bs l slot.Empty = tt
+  created_there bs l (slot.Reference m g) = refl
+  created_there bs l (slot.Data kind.Value x v) = refl
+  created_there bs l (slot.Data kind.Shared x v) = refl
+  created_there [] l (slot.Lent kd x) = tt
+  created_there (w ∷ bs) l (slot.Lent kind.Value x) = refl
+  created_there (w ∷ bs) l (slot.Lent kind.Shared x) = refl
+
+  -- where none is lent, no writer is in the way of a read
+  pub not_lent : (bs : List Borrow) (l : Location) (d : StorageEntryData T)
+      → ((kd : Kind) (x : ℕ) → d ≡ slot.Lent kd x → ⊥)
+      → None ≡ read_refusal (content_in (kept_data bs l d))
+  not_lent bs l slot.Empty gone = refl
+  not_lent bs l (slot.Reference m g) gone = refl
+  not_lent bs l (slot.Data kd x v) gone = refl
+  not_lent bs l (slot.Lent kd x) gone = absurd (gone kd x refl)
+
+  -- where no value is and none is lent, there is no content
+  pub no_content : (bs : List Borrow) (l : Location) (d : StorageEntryData T)
+      → ((kd : Kind) (x : ℕ) (v : T) → d ≡ slot.Data kd x v → ⊥)
+      → ((kd : Kind) (x : ℕ) → d ≡ slot.Lent kd x → ⊥) → content_in (kept_data bs l d) ≡ None
+  no_content bs l slot.Empty none gone = refl
+  no_content bs l (slot.Reference m g) none gone = refl
+  no_content bs l (slot.Data kd x v) none gone = absurd (none kd x v refl)
+  no_content bs l (slot.Lent kd x) none gone = absurd (gone kd x refl)
+
+  -- where no value is, no reader is added or taken away
+  pub reader_kept : (b : Borrow) (bs : List Borrow) (l : Location) (d : StorageEntryData T)
+      → ((kd : Kind) (x : ℕ) (v : T) → d ≡ slot.Data kd x v → ⊥)
+      → kept_data bs l d ≡ with_reader b (kept_data bs l d)
+  reader_kept b bs l slot.Empty none = refl
+  reader_kept b bs l (slot.Reference m g) none = refl
+  reader_kept b [] l (slot.Lent kd x) none = refl
+  reader_kept b (w ∷ bs) l (slot.Lent kd x) none = refl
+  reader_kept b bs l (slot.Data kd x v) none = absurd (none kd x v refl)
+
+  pub reader_left : (n : ℕ) (bs : List Borrow) (l : Location) (d : StorageEntryData T)
+      → ((kd : Kind) (x : ℕ) (v : T) → d ≡ slot.Data kd x v → ⊥)
+      → kept_data bs l d ≡ without_reader_in n (kept_data bs l d)
+  reader_left n bs l slot.Empty none = refl
+  reader_left n bs l (slot.Reference m g) none = refl
+  reader_left n [] l (slot.Lent kd x) none = refl
+  reader_left n (w ∷ bs) l (slot.Lent kd x) none = refl
+  reader_left n bs l (slot.Data kd x v) none = absurd (none kd x v refl)
+
+  pub no_reader : (n : ℕ) (bs : List Borrow) (l : Location) (d : StorageEntryData T)
+      → ((kd : Kind) (x : ℕ) (v : T) → d ≡ slot.Data kd x v → ⊥)
+      → false ≡ has_reader (content_in (kept_data bs l d)) n
+  no_reader n bs l slot.Empty none = refl
+  no_reader n bs l (slot.Reference m g) none = refl
+  no_reader n [] l (slot.Lent kd x) none = refl
+  no_reader n (w ∷ bs) l (slot.Lent kd x) none = refl
+  no_reader n bs l (slot.Data kd x v) none = absurd (none kd x v refl)
+
+  pub no_writer : (n : ℕ) (bs : List Borrow) (l : Location) (d : StorageEntryData T)
+      → ((kd : Kind) (x : ℕ) → d ≡ slot.Lent kd x → ⊥)
+      → has_writer (content_in (kept_data bs l d)) n ≡ false
+  no_writer n bs l slot.Empty none = refl
+  no_writer n bs l (slot.Reference m g) none = refl
+  no_writer n bs l (slot.Data kd x v) none = refl
+  no_writer n bs l (slot.Lent kd x) none = absurd (none kd x refl)
+
+-- room for one slot more
+pub room_for_one : {T : Type 0} {t : Table} {es : List (StorageEntry T)} (ls : List EntryDetails)
+    {now : EntryList T} {room entries created : ℕ}
+    → record { slots = entries_of t.lists es ls; rooms = room } ≡ now
+    → AreIndexed t es × (length ls ≡ length es)
+    × AreRoomy room (length es) entries created t.rooms
+    → length now.slots < now.rooms → length es < room
+room_for_one ls {now} {room} view v left =
+    let same = many (kept view v) in
+    let rooms : room ≡ now.rooms = ap (λ (x : EntryList _). x.rooms) view in omega arith
+
+-- ---- slots without borrows
+
+module _ {T : Type 0} where
+  pub unborrowed_none : (d : StorageEntryData T) → IsUnborrowed d → index_of d ≡ no_index
+  unborrowed_none (slot.Data kd x v) free = free
+  unborrowed_none (slot.Reference m g) free = refl
+  unborrowed_none slot.Empty free = absurd free
+  unborrowed_none (slot.Lent kd x) free = absurd free
+
+  pub unborrowed_lent : (d : StorageEntryData T) → IsUnborrowed d → LentHasIndex d
+  unborrowed_lent (slot.Data kd x v) free = tt
+  unborrowed_lent (slot.Reference m g) free = tt
+  unborrowed_lent slot.Empty free = absurd free
+  unborrowed_lent (slot.Lent kd x) free = absurd free
+
+pub indexed_none : {T : Type 0} {t : Table} {es : List (StorageEntry T)} → es ≡ []
+    → length t.lists ≡ 1 → t.free ≡ set.insert set.empty 0 → AreIndexed t es
+indexed_none none one free = rw none (record {
+  used = λ k some. absurd (some refl);
+  lent = λ k. tt;
+  apart = λ j k some same. absurd (some refl);
+  counted = rw (
+    free,
+    one,
+    set.len-insert nat_cmp_total set.empty 0,
+    set.contains-empty nat_cmp 0,
+    set.len-empty nat_cmp,
+  ) refl;
+  few = omega arith;
+})
+
+module _ {T : Type 0} where
+  no_index_test : (o : Option (StorageEntry T)) → index_in o ≡ no_index
+      → passes has_index o ≡ false
+  no_index_test None none = refl
+  no_index_test (Some e) none = rw (eq-eqb (index_of e.content) no_index none) refl
+
+  pub set_no_shorter : (es : List (StorageEntry T)) (i : ℕ) (e : StorageEntry T)
+      → length es ≤ length (slice_set es i e)
+  set_no_shorter es i e = let same = length-set es i e in omega arith
+
+  -- a slot without borrows that is written where none stood
+  pub indexed_free : {t : Table} {es es' : List (StorageEntry T)} {i : ℕ} {e : StorageEntry T}
+      → IsWritten es es' i e → AreIndexed t es → length es ≤ length es'
+      → index_in (slice_get es i) ≡ no_index → index_of e.content ≡ no_index
+      → LentHasIndex e.content → AreIndexed t es'
+  indexed_free {t} {es} {es'} {i} {e} w s longer before none lent =
+      indexed w s (λ k other. s.used k) (λ some. absurd (some none)) lent
+      (λ some. absurd (some none)) counted (let few = s.few in omega arith)
+    where
+      counted : set.len t.free + how_many has_index es' ≡ length t.lists
+      counted =
+          let count = rw (no_index_test (slice_get es i) before, no_index_test (Some e) none)
+          at (w.count has_index) in
+          let all = s.counted in omega (arith, count)
+
+module _ {T : Type 0} {t : Table} {es : List (StorageEntry T)} {ls : List EntryDetails}
+    {now : EntryList T} (s : IsKept t es ls now) where
+  -- a cell without borrows
+  pub free_entry : (g : ℕ) (d : StorageEntryData T) (l : EntryDetails) → IsUnborrowed d
+      → entry_of t.lists (record { generation = g; content = d }) l
+      ≡ record {
+        generation = g;
+        kept = kept_data [] l.created_at d;
+        references = l.references;
+      }
+  free_entry g (slot.Data kd x v) l free = rw (free, list_none s) refl
+  free_entry g (slot.Reference m n) l free = refl
+  free_entry g slot.Empty l free = absurd free
+  free_entry g (slot.Lent kd x) l free = absurd free
+
+  pub slots_pushed : (e : StorageEntry T) (l : EntryDetails)
+      → entries_of t.lists (es ++ e ∷ []) (ls ++ l ∷ []) ≡ now.slots ++ entry_of t.lists e l ∷ []
+  slots_pushed e l = rw (← s.slots) (entries_push t.lists es ls e l s.made)
+
+  pub slots_set : (i : ℕ) (e : StorageEntry T) (l : EntryDetails) → i < length now.slots
+      → entries_of t.lists (slice_set es i e) (slice_set ls i l)
+      ≡ slice_set now.slots i (entry_of t.lists e l)
+  slots_set i e l within =
+      let long = many s in let same = s.made in
+      rw (← s.slots) (entries_set t.lists t.lists es ls i e l (omega arith) (omega arith)
+      (λ k other. refl))
+
+  module _ (i : ℕ) (e : StorageEntry T) (there : slice_get es i ≡ Some e) where
+    pub empty_slot : IfSome (slice_get now.slots i) (λ seen. seen.kept ≡ Empty)
+        → e.content ≡ slot.Empty
+    empty_slot h = at e.content refl (hears s i e there (λ seen. seen.kept ≡ Empty) h)
+      where
+        at : (d : StorageEntryData T) → e.content ≡ d
+            → kept_data (list_at t.lists (index_of d)) (location s i e there).0.created_at d ≡ Empty
+            → e.content ≡ slot.Empty
+        at slot.Empty is h = is
+        at (slot.Data kd x v) is h = absurd cc
+        at (slot.Reference m g) is h = absurd cc
+        at (slot.Lent kd x) is h =
+            let w = writer_of s i e there kd x is in
+            let lent = rw w.2 at h in absurd cc

@@ -1,0 +1,8 @@
+use Rattle.std.proofs.Common.{option_copied}
+use Rattle.generational_box.proofs.Common.{Refer, meets_kept}
+use Rattle.generational_box.proofs.unsync.StoreStorage.new_reference.Goals as goal
+
+pub invariant_of-self-inside : goal.invariant_of-self-inside
+invariant_of-self-inside g c =
+    meets_kept _ _ (Refer (option_copied c.args.owner) c.args.inner) _
+    c.self.inside.sound c.self.inside.bounded c.make_reference.ensures.step

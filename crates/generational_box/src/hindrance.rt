@@ -1,0 +1,105 @@
+//! What stands in the way of an end.
+
+ghost use Rattle.std.specs.Prelude.{◌≡◌, map as list_map, option_map};
+ghost use Rattle.std.specs.List.{IsDistinct};
+ghost use Rattle.generational_core.specs.Conditions.{IsLinked};
+ghost use Rattle.generational_core.specs.Ending.{cells_after, first_hindrance};
+ghost use Rattle.generational_core.specs.Names.{is_name};
+ghost use Rattle.generational_box.specs.Entry.{FoundBorrowed, name_of_cell};
+ghost use Rattle.generational_box.specs.Slotted.{AreReferred, cell_at, cells_of, doomed_by};
+ghost use Rattle.generational_box.specs.Slotted.{first_refusal, has_more, refers_among, with_more};
+
+use crate::entries::Entries;
+use crate::entry::{CellName, Kind};
+use generational_core::BorrowMutResult;
+
+// The value that goes where a name ends, if its target goes with this many references left: its
+// own, or the target's.
+#[inline(always)]
+pub(crate) fn doomed<T: Drop>(entries: &Entries<T>, name: CellName, last: usize) -> Option<CellName>
+    requires { IsLinked (cells_of entries.now.slots) }
+    ensures { option_map name_of_cell result ≡ doomed_by (has_more entries.now.slots last)
+        (cell_at entries.now.slots (name_of_cell name)) (name_of_cell name) }
+{
+    if let Some(target) = entries.target(name) {
+        if entries.details(target.slot).references == last {
+            return Some(target);
+        }
+        return None;
+    }
+    match entries.kind(name) {
+        Some(Kind::Value) => Some(name),
+        _ => None,
+    }
+}
+
+// What hinders the end of the names of a list, at the first of them that is hindered. Takes no
+// memory, and asks each name thrice: how many references would be left is found by taking those of
+// the list off the counts for a while.
+pub(crate) fn find_hindrance<T: Drop>(
+    entries: &mut Entries<T>,
+    names: &[CellName],
+) -> BorrowMutResult<()>
+    requires linked { IsLinked (cells_of entries.old.slots) }
+    requires referred { AreReferred (λ m. 0) entries.old.slots }
+    requires apart { IsDistinct is_name (list_map name_of_cell names.now) }
+    ensures found { FoundBorrowed (first_hindrance (cells_of entries.old.slots)
+        (cells_after (cells_of entries.old.slots) (list_map name_of_cell names.now))
+        (list_map name_of_cell names.now)) result }
+    ensures same { entries.new ≡ entries.old }
+{
+    count_off(entries, names);
+    let found = first_hindered(entries, names);
+    count_back(entries, names);
+    found
+}
+
+// Takes the references of a list off the counts of what they name.
+fn count_off<T: Drop>(entries: &mut Entries<T>, names: &[CellName])
+    requires linked { IsLinked (cells_of entries.old.slots) }
+    requires referred { AreReferred (λ m. 0) entries.old.slots }
+    requires apart { IsDistinct is_name (list_map name_of_cell names.now) }
+    ensures counted { with_more (refers_among entries.old.slots (list_map name_of_cell names.now)) 0
+        entries.new.slots ≡ entries.old.slots }
+    ensures rooms { entries.new.rooms ≡ entries.old.rooms }
+{
+    for name in names {
+        if let Some(target) = entries.target(*name) {
+            entries.count_down(target.slot);
+        }
+    }
+}
+
+// Counts them again.
+fn count_back<T: Drop>(entries: &mut Entries<T>, names: &[CellName])
+    requires linked { IsLinked (cells_of entries.old.slots) }
+    requires referred { AreReferred (λ m. 0) (with_more (refers_among entries.old.slots
+        (list_map name_of_cell names.now)) 0 entries.old.slots) }
+    ensures counted { entries.new.slots ≡ with_more (refers_among entries.old.slots
+        (list_map name_of_cell names.now)) 0 entries.old.slots }
+    ensures rooms { entries.new.rooms ≡ entries.old.rooms }
+{
+    for name in names {
+        if let Some(target) = entries.target(*name) {
+            entries.count_up(target.slot);
+        }
+    }
+}
+
+// What hinders the end of the names of a list, at the first of them that is hindered, where their
+// references are off the counts.
+fn first_hindered<T: Drop>(entries: &Entries<T>, names: &[CellName]) -> BorrowMutResult<()>
+    requires { IsLinked (cells_of entries.now.slots) }
+    ensures { FoundBorrowed (first_refusal (cells_of entries.now.slots)
+        (has_more entries.now.slots 0) (list_map name_of_cell names.now)) result }
+{
+    for name in names {
+        if let Some(doomed) = doomed(entries, *name, 0) {
+            match entries.borrow_mut_error(doomed.slot) {
+                Ok(()) => {}
+                Err(refused) => return Err(refused),
+            }
+        }
+    }
+    Ok(())
+}
