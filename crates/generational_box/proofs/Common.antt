@@ -13,11 +13,14 @@ pub use Rattle.generational_box.specs.OwnerRecords.{add_to_list_in, knows}
 pub use Rattle.generational_box.specs.OwnerRecords.{IsListed, IsRefused, knows_any, record_of}
 pub use Rattle.generational_box.specs.OwnerRecords.{one_relisted, relist_in}
 pub use Rattle.generational_box.specs.Pools.{IsPool}
-pub use Rattle.generational_box.specs.Slotted.{AreReferred, HasBegun, IsMade, IsReferred, IsSlotted, Slotted}
+pub use Rattle.generational_box.specs.Slotted.{AreReferred, HasBegun, IsMade, IsReferred, IsSlotted}
+pub use Rattle.generational_box.specs.Slotted.{Slotted}
 pub use Rattle.generational_box.specs.Slotted.{cell_at, cell_in, change_entry, given_from, refers}
 pub use Rattle.generational_box.specs.Slotted.{given_in, how_many, is_reusable, is_spent}
-pub use Rattle.generational_box.specs.Slotted.{count_less, count_more, doomed_by, live_from, names_up}
-pub use Rattle.generational_box.specs.Slotted.{has_more, shared_target, state_of, with_cell, with_records}
+pub use Rattle.generational_box.specs.Slotted.{count_less, count_more, doomed_by, live_from}
+pub use Rattle.generational_box.specs.Slotted.{names_up}
+pub use Rattle.generational_box.specs.Slotted.{has_more, shared_target, state_of, with_cell}
+pub use Rattle.generational_box.specs.Slotted.{with_records}
 unfoldable pub use Rattle.generational_box.specs.Slotted.{cells_of, given_of}
 pub use Rattle.generational_box.specs.declared.entry.CellName.{CellName}
 pub use Rattle.generational_core.proofs.machine.Bounding.{IsLast, fresh_bounded, get_lasts}
@@ -41,7 +44,8 @@ pub use Rattle.generational_core.specs.Borrowing.{write_refusal}
 unfoldable pub use Rattle.generational_core.specs.Borrowing.{reach, read_trouble, write_trouble}
 pub use Rattle.generational_core.specs.Borrowing.Trouble.{BeingRead, Dropped}
 pub use Rattle.generational_core.specs.Boxes.{box_of, name_in, name_of}
-pub use Rattle.generational_core.specs.Cells.{Cell, Content, content_of, is_shared, location_of, refers_to, refill}
+pub use Rattle.generational_core.specs.Cells.{Cell, Content, content_of, is_shared, location_of}
+pub use Rattle.generational_core.specs.Cells.{refers_to, refill}
 pub use Rattle.generational_core.specs.Cells.Cell.{Value, Shared, Ref}
 pub use Rattle.generational_core.specs.Cells.Content.{Here, Lent}
 pub use Rattle.generational_core.specs.Conditions.{HasTargets, IsLinked, IsNamed}

@@ -138,7 +138,9 @@ module _ {T : Type 0} {slots after : List (Entry T)} {i : ℕ} {t : Entry T}
       → t.references + less' name ≡ how_many (refers name) after)
       → AreReferred less' after
   referred {less} {less'} r others own =
-      record { each = λ k. subst (IsReferred after less' k) (sym (w.at k)) (at k (nat_eq k i) refl) }
+      record {
+        each = λ k. subst (IsReferred after less' k) (sym (w.at k)) (at k (nat_eq k i) refl);
+      }
     where
       at : (k : ℕ) (b : Bool) → nat_eq k i ≡ b
           → IsReferred after less' k (cond b (Some t) (slice_get slots k))
@@ -157,8 +159,8 @@ module _ {T : Type 0} {slots after : List (Entry T)} {i : ℕ} {t : Entry T}
       → ((q : Name) → passes (refers q) (slice_get slots i) ≡ refers q t)
       → IsReferred slots less i (Some t) → AreReferred less after
   referred_still {less} r same own =
-      referred r (λ q other. ap (λ k. less q + k) (sym (count q))) (λ shared. own shared ∙ sym (count
-      name))
+      referred r (λ q other. ap (λ k. less q + k) (sym (count q)))
+      (λ shared. own shared ∙ sym (count name))
     where
       count : (q : Name) → how_many (refers q) after ≡ how_many (refers q) slots
       count q = let c = w.count (refers q) in let e = ap bit (same q) in omega arith

@@ -44,7 +44,9 @@ if_named (Some m) P h = h
 
 -- a name is itself
 pub is_own : (m : Name) → is_name m m ≡ true
-is_own m = name_test m m ∙ rw (eq-eqb m.slot m.slot refl, eq-eqb m.generation m.generation refl) refl
+is_own m =
+    name_test m m
+    ∙ rw (eq-eqb m.slot m.slot refl, eq-eqb m.generation m.generation refl) refl
 
 module _ {T : Type 0} where
   -- ---- slots whose counts change stand for the same state
@@ -55,7 +57,8 @@ module _ {T : Type 0} where
 
     pub recounted_written : (e : Entry T) → slice_get slots i ≡ Some e
         → IsWritten slots recounted i (record e { references = f e })
-    recounted_written e there = rw there (set_written slots i (record e { references = f e }) e there)
+    recounted_written e there =
+        rw there (set_written slots i (record e { references = f e }) e there)
 
     pub recounted_length : length recounted ≡ length slots
     recounted_length = at (slice_get slots i)
@@ -65,7 +68,8 @@ module _ {T : Type 0} where
         at None = refl
         at (Some e) = length-set slots i _
 
-    pub recounted_state : (start peak : ℕ) → state_of start peak recounted ≡ state_of start peak slots
+    pub recounted_state : (start peak : ℕ)
+        → state_of start peak recounted ≡ state_of start peak slots
     recounted_state start peak = at (slice_get slots i) refl
       where
         at : (o : Option (Entry T)) → slice_get slots i ≡ o
@@ -74,7 +78,8 @@ module _ {T : Type 0} where
         at (Some e) there = state_same (recounted_written e there) there refl refl start peak
 
     pub recounted_slotted : {free : set.FinSet nat_cmp} {rooms start live peak : ℕ}
-        → IsSlotted free rooms start live peak slots → IsSlotted free rooms start live peak recounted
+        → IsSlotted free rooms start live peak slots
+        → IsSlotted free rooms start live peak recounted
     recounted_slotted {free} {rooms} {start} {live} {peak} s = at (slice_get slots i) refl
       where
         at : (o : Option (Entry T)) → slice_get slots i ≡ o
@@ -154,7 +159,8 @@ module _ {T : Type 0} where
       (r : AreReferred (λ m. 0) slots) (targets : HasTargets (cells_of slots))
       (fresh : map.get (cells_of slots) (record { slot = i; generation = t.generation }) ≡ None)
       (none : t.references ≡ 0) where
-    count_added : (q : Name) → how_many (refers q) after ≡ how_many (refers q) slots + bit (refers q t)
+    count_added : (q : Name)
+        → how_many (refers q) after ≡ how_many (refers q) slots + bit (refers q t)
     count_added q =
         let c = rw (dead_refers q (slice_get slots i) dead) at (w.count (refers q)) in omega arith
 
@@ -292,7 +298,8 @@ module _ {T : Type 0} where
         → state_of start peak (count_more slots o) ≡ state_of start peak slots
     more_state start peak = at o
       where
-        at : (o : Option Name) → state_of start peak (count_more slots o) ≡ state_of start peak slots
+        at : (o : Option Name)
+            → state_of start peak (count_more slots o) ≡ state_of start peak slots
         at None = refl
         at (Some m) = recounted_state slots m.slot (λ e. e.references + 1) start peak
 
@@ -355,7 +362,8 @@ module _ {T : Type 0} (slots : List (Entry T)) where
         → state_of start peak (count_less slots o) ≡ state_of start peak slots
     less_state start peak = at o
       where
-        at : (o : Option Name) → state_of start peak (count_less slots o) ≡ state_of start peak slots
+        at : (o : Option Name)
+            → state_of start peak (count_less slots o) ≡ state_of start peak slots
         at None = refl
         at (Some m) = recounted_state slots m.slot (λ e. e.references - 1) start peak
 

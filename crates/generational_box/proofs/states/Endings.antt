@@ -8,7 +8,8 @@ use Rattle.generational_core.proofs.maps.Maps.{get-remove_apart}
 use Rattle.generational_box.specs.Entry.{target_in}
 use Rattle.generational_box.specs.Slotted.{refusal_of}
 use Rattle.generational_box.proofs.Common.{Cell, IsLinked, Name, Ref, Shared, State, Value, by_name}
-use Rattle.generational_box.proofs.Common.{cells_after, close, content_of, doomed_by, first_hindrance}
+use Rattle.generational_box.proofs.Common.{cells_after, close, content_of, doomed_by}
+use Rattle.generational_box.proofs.Common.{first_hindrance}
 unfoldable use Rattle.generational_box.proofs.Common.{hindrance_to}
 use Rattle.generational_box.proofs.Common.{is_named, is_shared, write_refusal, Location}
 
@@ -102,7 +103,8 @@ module _ {T : Type 0} where
             → d ≡ doomed_by (is_named (map.remove S.cells n)) c n
             → is_some (target_in c) ≡ false → without S d ≡ close S (n ∷ [])
         at None is own h =
-            rw own (ap (λ cells. record S { cells = cells }) (sym (close_one S.cells n linked None is)))
+            rw own (ap (λ cells. record S { cells = cells })
+            (sym (close_one S.cells n linked None is)))
         at (Some (Value c l)) is own h =
             rw own (ap (λ cells. record S { cells = cells })
             (sym (close_one S.cells n linked (Some (Value c l)) is)))

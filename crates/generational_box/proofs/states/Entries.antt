@@ -55,8 +55,8 @@ module _ {T : Type 0} where
   both lists (Some e) (Some l) = Some (entry_of lists e l)
   both lists _ _ = None
 
-  pub entries_get : (lists : List (List Borrow)) (es : List (StorageEntry T)) (ls : List EntryDetails)
-      (k : ℕ) → slice_get (entries_of lists es ls) k ≡ both lists (slice_get es k) (slice_get ls k)
+  pub entries_get : (lists : List (List Borrow)) (es : List (StorageEntry T))
+      (ls : List EntryDetails) (k : ℕ) → slice_get (entries_of lists es ls) k ≡ both lists (slice_get es k) (slice_get ls k)
   unfolding entries_of
   entries_get lists [] ls k = refl
   entries_get lists (e ∷ es) [] k = none (slice_get (e ∷ es) k)
@@ -67,7 +67,8 @@ module _ {T : Type 0} where
   entries_get lists (e ∷ es) (l ∷ ls) zero = refl
   entries_get lists (e ∷ es) (l ∷ ls) (suc k) = entries_get lists es ls k
 
-  pub entries_len : (lists : List (List Borrow)) (es : List (StorageEntry T)) (ls : List EntryDetails)
+  pub entries_len : (lists : List (List Borrow)) (es : List (StorageEntry T))
+      (ls : List EntryDetails)
       → length ls ≡ length es → length (entries_of lists es ls) ≡ length es
   unfolding entries_of
   entries_len lists [] ls same = refl
@@ -300,7 +301,8 @@ module _ {T : Type 0} {t : Table} {es : List (StorageEntry T)} {ls : List EntryD
         → entries_of t.lists es (slice_set ls i d') ≡ change_entry now.slots i f
     details_changed d' f becomes =
         let long = many in let made = s.made in
-        ap (λ x. entries_of t.lists x (slice_set ls i d')) (sym (set-own es i entry_there.0 entry_there.1))
+        ap (λ x. entries_of t.lists x (slice_set ls i d'))
+        (sym (set-own es i entry_there.0 entry_there.1))
         ∙ (entries_set t.lists t.lists es ls i entry_there.0 d' (omega (arith, within))
         (omega (arith, within)) (λ k other. refl)
         ∙ (ap (slice_set (entries_of t.lists es ls) i) (becomes entry_there.0)
@@ -311,7 +313,8 @@ module _ {T : Type 0} {t : Table} {es : List (StorageEntry T)} {ls : List EntryD
     pub location : (l : EntryDetails) × (slice_get ls i ≡ Some l)
     location = at (slice_get_cases ls i).1
       where
-        at : ((l : EntryDetails) × (i < length ls) × (slice_get ls i ≡ Some l) × (get_or ls i l ≡ l))
+        at : ((l : EntryDetails) × (i < length ls) × (slice_get ls i ≡ Some l)
+            × (get_or ls i l ≡ l))
             ⊎ ((length ls ≤ i) × (slice_get ls i ≡ None))
             → (l : EntryDetails) × (slice_get ls i ≡ Some l)
         at (inl some) = (some.0, some.2)
@@ -447,7 +450,8 @@ module _ {T : Type 0} {t : Table} {es : List (StorageEntry T)} {ls : List EntryD
     kind_test =
         cell_test kind_of kind_in refl refl (λ kd x v. here kd) (λ kd x. here kd) (λ m n l. refl)
       where
-        here : (kd : Kind) (c : Content T) (l : Location) → Some kd ≡ kind_in (cell_of (Live kd c l))
+        here : (kd : Kind) (c : Content T) (l : Location)
+            → Some kd ≡ kind_in (cell_of (Live kd c l))
         here kind.Value c l = refl
         here kind.Shared c l = refl
 
@@ -747,8 +751,8 @@ module _ {T : Type 0} {t : Table} {es : List (StorageEntry T)} {ls : List EntryD
         release_lists t' y [] r = close_lists x own some r.1
         release_lists t' y (b ∷ bs) r = list_lists x own some (b ∷ bs) (λ z. none_some b bs z) r.1
 
-        pub release_indexed : (t' : Table) (y : ℕ) (left : List Borrow) → Releases t t' x y left → (g
-            : ℕ)
+        pub release_indexed : (t' : Table) (y : ℕ) (left : List Borrow) → Releases t t' x y left
+            → (g : ℕ)
             → AreIndexed t' (slice_set es i (record { generation = g; content = slot.Data kd y v }))
         release_indexed t' y [] r g = close_indexed x own some r.1 _ r.0 tt
         release_indexed t' y (b ∷ bs) r g =

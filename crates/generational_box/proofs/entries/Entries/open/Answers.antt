@@ -9,6 +9,7 @@ use Rattle.generational_box.specs.Entries.{kept_data}
 use Rattle.generational_box.specs.Entry.{content_in, value_for}
 use Rattle.generational_box.proofs.states.Entries.{kept, many, says, used_at, free_value, read_slot}
 use Rattle.generational_box.proofs.entries.Entries.open.Goals.{}
+use Rattle.generational_box.proofs.entries.Entries.open.Goals.{}
 use Rattle.generational_box.proofs.entries.Entries.open.Goals.{else-index-via-then-index+else-contains}
 use Rattle.generational_box.proofs.entries.Entries.open.Goals.{else-index-via-else-index}
 use Rattle.generational_box.proofs.entries.Entries.open.Goals as goal

@@ -15,6 +15,7 @@ use Rattle.generational_core.specs.declared.error.Location.{Location}
 use Rattle.generational_box.proofs.states.Entries.{closed_none}
 use Rattle.generational_box.proofs.entries.Entries.release_write.Goals as goal
 use Rattle.generational_box.proofs.entries.Entries.release_write.Goals.{}
+use Rattle.generational_box.proofs.entries.Entries.release_write.Goals.{}
 use Rattle.generational_box.proofs.entries.Entries.release_write.Goals.{in_default-via-in-Lent+else-is_first}
 use Rattle.generational_box.proofs.entries.Entries.release_write.Goals.{in_default-via-in_default}
 

@@ -4,7 +4,8 @@ use Rattle.generational_box.proofs.states.Changes.{held_in, held_within, seen_in
 use Rattle.generational_box.proofs.slots.Slots.borrow_mut_error.Goals as goal
 
 pub borrow_mut_error-requires : goal.borrow_mut_error-requires
-borrow_mut_error-requires g c = held_within (held_in (state_is c.self.view_is) (name_of_cell c.args.name) c.requires)
+borrow_mut_error-requires g c =
+    held_within (held_in (state_is c.self.view_is) (name_of_cell c.args.name) c.requires)
 
 pub returns : goal.returns
 returns g c =

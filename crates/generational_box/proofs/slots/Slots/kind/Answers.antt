@@ -4,4 +4,6 @@ use Rattle.generational_box.proofs.states.Changes.{cell_seen, state_is}
 use Rattle.generational_box.proofs.slots.Slots.kind.Goals as goal
 
 pub returns : goal.returns
-returns g c = c.kind.ensures ∙ ap kind_in (cell_seen c.self.inside.entries.slots (state_is c.self.view_is) (name_of_cell c.args.name))
+returns g c =
+    c.kind.ensures ∙ ap kind_in (cell_seen c.self.inside.entries.slots (state_is c.self.view_is)
+    (name_of_cell c.args.name))

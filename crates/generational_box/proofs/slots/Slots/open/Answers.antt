@@ -5,7 +5,8 @@ use Rattle.generational_box.proofs.states.Changes.{held_in, held_within, seen_in
 use Rattle.generational_box.proofs.slots.Slots.open.Goals as goal
 
 pub open-requires : goal.open-requires
-open-requires g c = held_within (held_in (state_is c.self.view_is) (name_of_cell c.args.name) c.requires)
+open-requires g c =
+    held_within (held_in (state_is c.self.view_is) (name_of_cell c.args.name) c.requires)
 
 pub returns : goal.returns
 returns g c =
