@@ -1,6 +1,6 @@
 -- The slots of a store with the table of their borrows, and what holds of the two.
 use Rattle.std.specs.Prelude.{◌≡◌, ◌≢◌, ◌≤◌, ◌<◌, ◌+◌, ℕ, List, [], ◌∷◌, Bool, not}
-use Rattle.std.specs.Prelude.{nat_eq, length, slice_get, Option, None, Some}
+use Rattle.std.specs.Prelude.{false, nat_eq, length, slice_get, Option, None, Some}
 use Rattle.std.specs.FinSet as set
 use Rattle.generational_core.specs.declared.borrow.Borrow.{Borrow}
 use Rattle.generational_core.specs.declared.error.Location.{Location}
@@ -34,6 +34,11 @@ module _ {T : Type 0} where
   kind_of (slot.Data k i v) = Some k
   kind_of (slot.Lent k i) = Some k
   kind_of _ = None
+
+  -- whether it is a value of its own without borrows
+  abbrev pub is_unborrowed_data : StorageEntryData T → Bool
+  is_unborrowed_data (slot.Data kind.Value i v) = nat_eq i no_index
+  is_unborrowed_data _ = false
 
   -- the value, unless it's lent
   abbrev pub value_in : StorageEntryData T → Option T

@@ -1,6 +1,7 @@
 -- A slot as contracts see it: its generation, and its live cell.
 use Rattle.std.specs.Prelude.{◌≡◌, ℕ, Bool, true, false, ◌&&◌, not, nat_eq, if◌then◌else◌, List, []}
 use Rattle.std.specs.Prelude.{◌∷◌, ◌++◌, Option, Some, None, Result, Ok, Err, map as list_map}
+use Rattle.std.specs.Prelude.{is_none}
 use Rattle.std.specs.List.{filter}
 use Rattle.generational_core.specs.declared.error.Location.{Location}
 use Rattle.generational_core.specs.declared.error.BorrowMutError.{BorrowMutError}
@@ -15,7 +16,7 @@ use Rattle.generational_core.specs.Names.{Name}
 use Rattle.generational_core.specs.Cells.{Content, Cell}
 use Rattle.generational_core.specs.Cells.Cell.{Value, Shared, Ref}
 use Rattle.generational_core.specs.Cells.Content.{Here, Lent}
-use Rattle.generational_core.specs.Borrowing.{Trouble}
+use Rattle.generational_core.specs.Borrowing.{Trouble, write_refusal}
 use Rattle.generational_core.specs.Borrowing.Trouble.{BeingRead}
 use Rattle.generational_core.specs.Machine.{has_reader}
 use Rattle.generational_core.specs.Answers.{trouble_of, value_of}
@@ -50,6 +51,11 @@ module _ {T : Type 0} where
   kind_in (Some (Value c l)) = Some kind.Value
   kind_in (Some (Shared c l)) = Some kind.Shared
   kind_in _ = None
+
+  -- whether a cell is a value of its own without borrows
+  abbrev pub is_unborrowed_value : Option (Cell T) → Bool
+  is_unborrowed_value (Some (Value c l)) = is_none (write_refusal (Some c))
+  is_unborrowed_value _ = false
 
   -- what a cell names, if it is a Ref
   abbrev pub target_in : Option (Cell T) → Option Name

@@ -21,7 +21,7 @@ ghost use Rattle.std.specs.List.{list_any, filter};
 ghost use Rattle.std.specs.Prelude.{nat_eq, not, IfOk};
 ghost use Rattle.generational_box.specs.Entry.Kept.{Empty};
 ghost use Rattle.generational_box.specs.Entry.{cell_of, kind_in, name_of_cell, readers_of};
-ghost use Rattle.generational_box.specs.Entry.{referring, target_in};
+ghost use Rattle.generational_box.specs.Entry.{is_unborrowed_value, referring, target_in};
 ghost use Rattle.generational_box.specs.Entries.{IsUnborrowed, kept_data};
 ghost use Rattle.generational_core.specs.Borrowing.{leads_to};
 ghost use Rattle.generational_core.specs.Cells.{content_of, location_of};
@@ -146,6 +146,17 @@ impl<T> Entries<T> {
         match self.entries.get(name.slot) {
             Some(entry) => entry.kind(name.generation),
             None => None,
+        }
+    }
+
+    // Whether the cell of this name is a value that isn't shared and has no borrow.
+    #[inline(always)]
+    pub(crate) fn has_unborrowed_value(&self, name: CellName) -> bool
+        ensures { result ≡ is_unborrowed_value (cell_at self.now.slots (name_of_cell name)) }
+    {
+        match self.entries.get(name.slot) {
+            Some(entry) => entry.has_unborrowed_value(name.generation),
+            None => false,
         }
     }
 

@@ -3,6 +3,8 @@
 ghost use Rattle.std.specs.Prelude.{◌≡◌, ◌+◌, ◌<◌, IsSome, None, Some, nat_eq, option_map};
 ghost use Rattle.std.specs.Prelude.{if◌then◌else◌};
 ghost use Rattle.generational_core.specs.Slots.{last_generation};
+ghost use Rattle.std.specs.Prelude.{false};
+ghost use Rattle.generational_box.specs.Entries.{is_unborrowed_data};
 ghost use Rattle.generational_box.specs.Entries.{index_of, lead_of, kind_of, target_of, value_in};
 ghost use Rattle.generational_box.specs.Entry.{name_of_cell};
 
@@ -84,6 +86,22 @@ impl<T> StorageEntry<T> {
         match &self.content {
             StorageEntryData::Data(kind, _, _) | StorageEntryData::Lent(kind, _) => Some(*kind),
             _ => None,
+        }
+    }
+
+    // Whether the slot's cell has this generation, and is a value that isn't shared and has no
+    // borrow.
+    #[inline(always)]
+    pub(crate) fn has_unborrowed_value(&self, generation: u64) -> bool
+        ensures { result ≡ if nat_eq self.now.generation generation
+            then is_unborrowed_data self.now.content else false }
+    {
+        if self.generation != generation {
+            return false;
+        }
+        match &self.content {
+            StorageEntryData::Data(Kind::Value, index, _) => *index == NO_INDEX,
+            _ => false,
         }
     }
 

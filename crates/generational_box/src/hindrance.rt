@@ -1,11 +1,11 @@
 //! What stands in the way of an end.
 
 ghost use Rattle.std.specs.Prelude.{◌≡◌, map as list_map, option_map};
-ghost use Rattle.std.specs.List.{IsDistinct};
+ghost use Rattle.std.specs.List.{IsDistinct, list_all};
 ghost use Rattle.generational_core.specs.Conditions.{IsLinked};
 ghost use Rattle.generational_core.specs.Ending.{cells_after, first_hindrance};
 ghost use Rattle.generational_core.specs.Names.{is_name};
-ghost use Rattle.generational_box.specs.Entry.{FoundBorrowed, name_of_cell};
+ghost use Rattle.generational_box.specs.Entry.{FoundBorrowed, is_unborrowed_value, name_of_cell};
 ghost use Rattle.generational_box.specs.Slotted.{AreReferred, cell_at, cells_of, doomed_by};
 ghost use Rattle.generational_box.specs.Slotted.{first_refusal, has_more, refers_among, with_more};
 
@@ -34,9 +34,40 @@ pub(crate) fn doomed<T: Drop>(entries: &Entries<T>, name: CellName, last: usize)
 }
 
 // What hinders the end of the names of a list, at the first of them that is hindered. Takes no
-// memory, and asks each name thrice: how many references would be left is found by taking those of
-// the list off the counts for a while.
+// memory. Values that aren't shared and have no borrow are asked once each.
+#[inline(always)]
 pub(crate) fn find_hindrance<T: Drop>(
+    entries: &mut Entries<T>,
+    names: &[CellName],
+) -> BorrowMutResult<()>
+    requires linked { IsLinked (cells_of entries.old.slots) }
+    requires referred { AreReferred (λ m. 0) entries.old.slots }
+    requires apart { IsDistinct is_name (list_map name_of_cell names.now) }
+    ensures found { FoundBorrowed (first_hindrance (cells_of entries.old.slots)
+        (cells_after (cells_of entries.old.slots) (list_map name_of_cell names.now))
+        (list_map name_of_cell names.now)) result }
+    ensures same { entries.new ≡ entries.old }
+{
+    if are_unborrowed_values(entries, names) {
+        return Ok(());
+    }
+    find_hindrance_apart(entries, names)
+}
+
+// Whether each of the names is of a value that isn't shared and has no borrow.
+#[inline(always)]
+fn are_unborrowed_values<T: Drop>(entries: &Entries<T>, names: &[CellName]) -> bool
+    ensures { result ≡ list_all
+        (λ n. is_unborrowed_value (cell_at entries.now.slots (name_of_cell n))) names.now }
+{
+    names.iter().all(|name| entries.has_unborrowed_value(*name))
+}
+
+// The same for every cell. Takes no memory, and asks each name thrice: how many references would be
+// left is found by taking those of the list off the counts for a while.
+#[cold]
+#[inline(never)]
+fn find_hindrance_apart<T: Drop>(
     entries: &mut Entries<T>,
     names: &[CellName],
 ) -> BorrowMutResult<()>

@@ -23,7 +23,7 @@ ghost use Rattle.generational_box.specs.Borrows.{AreBelow};
 ghost use Rattle.generational_box.specs.Entries.{IsUnborrowed, kept_data, target_of};
 ghost use Rattle.generational_box.specs.Entry.{FoundBorrowed, cell_of, has_no_borrow, kind_in};
 ghost use Rattle.generational_box.specs.Entry.{less_read, name_of_cell, one_read, readers_of};
-ghost use Rattle.generational_box.specs.Entry.{target_in, value_for};
+ghost use Rattle.generational_box.specs.Entry.{is_unborrowed_value, target_in, value_for};
 ghost use Rattle.generational_box.specs.OwnerRecords.{IsListed, IsRefusal, IsRefused};
 ghost use Rattle.generational_box.specs.Slotted.{count_less, count_more, doomed_by, IsMade, Turns};
 ghost use Rattle.generational_box.specs.Slotted.{shared_target, with_records};
@@ -167,6 +167,15 @@ impl<T: Drop, P: SlotPool> Slots<T, P> {
         ensures { result ≡ content.Reference name.slot name.generation }
     {
         self.entries.reference_to(name.slot)
+    }
+
+    // Whether the cell of this name is a value that isn't shared and has no borrow.
+    #[inline(always)]
+    fn has_unborrowed_value(&self, name: CellName) -> bool
+        ensures { result
+            ≡ is_unborrowed_value (map.get self.now.state.cells (name_of_cell name)) }
+    {
+        self.entries.has_unborrowed_value(name)
     }
 
     // The writer that stands in the way of a read.
@@ -403,12 +412,13 @@ impl<T: Drop, P: SlotPool> Slots<T, P> {
     // Takes a cell away. Its slot is free from then on, unless its generation is the last. What a
     // reference names counts it no more.
     #[inline(always)]
-    fn remove(&mut self, name: CellName)
-        requires { IsSome (map.get self.old.state.cells (name_of_cell name)) }
+    fn remove(&mut self, name: CellName, target: Option<CellName>)
+        requires there { IsSome (map.get self.old.state.cells (name_of_cell name)) }
+        requires target { option_map name_of_cell target
+            ≡ target_in (map.get self.old.state.cells (name_of_cell name)) }
         ensures { self.new.state ≡ record self.old.state
             { cells = map.remove self.old.state.cells (name_of_cell name) } }
     {
-        let target = self.entries.target(name);
         forget(&mut self.entries, target);
         self.entries.end(name.slot);
         self.live -= 1;
@@ -448,13 +458,30 @@ impl<T: Drop, P: SlotPool> Slots<T, P> {
         ensures ok { OnOk result (self.new.state ≡ close self.old.state (name_of_cell name ∷ [])) }
         ensures err { OnErr result (self.new.state ≡ self.old.state) }
     {
+        if self.has_unborrowed_value(name) {
+            self.remove(name, None);
+            return Ok(());
+        }
+        self.end_apart(name)
+    }
+
+    // The same for every cell: also for a reference, and where a borrow stands.
+    #[cold]
+    #[inline(never)]
+    fn end_apart(&mut self, name: CellName) -> BorrowMutResult<()>
+        requires { IsLinked self.old.state.cells }
+        ensures found { FoundBorrowed (hindrance_to self.old.state (name_of_cell name ∷ []))
+            result }
+        ensures ok { OnOk result (self.new.state ≡ close self.old.state (name_of_cell name ∷ [])) }
+        ensures err { OnErr result (self.new.state ≡ self.old.state) }
+    {
         if let Some(doomed) = self.doomed(name) {
             match self.borrow_mut_error(doomed) {
                 Ok(()) => {}
                 Err(refused) => return Err(refused),
             }
         }
-        self.close(name);
+        self.close_any(name);
         Ok(())
     }
 
@@ -465,12 +492,36 @@ impl<T: Drop, P: SlotPool> Slots<T, P> {
         requires { IsLinked self.old.state.cells }
         ensures { self.new.state ≡ close self.old.state (name_of_cell name ∷ []) }
     {
-        let is_reference = self.target(name).is_some();
+        if self.has_unborrowed_value(name) {
+            self.remove(name, None);
+            return;
+        }
+        self.close_apart(name);
+    }
+
+    // The same for every cell: also for a reference, and where a borrow stands.
+    #[cold]
+    #[inline(never)]
+    fn close_apart(&mut self, name: CellName)
+        requires { IsLinked self.old.state.cells }
+        ensures { self.new.state ≡ close self.old.state (name_of_cell name ∷ []) }
+    {
+        self.close_any(name);
+    }
+
+    // The same.
+    #[inline(always)]
+    fn close_any(&mut self, name: CellName)
+        requires { IsLinked self.old.state.cells }
+        ensures { self.new.state ≡ close self.old.state (name_of_cell name ∷ []) }
+    {
+        let target = self.target(name);
+        let is_reference = target.is_some();
         if let Some(doomed) = self.doomed(name) {
-            self.remove(doomed);
+            self.remove(doomed, None);
         }
         if is_reference {
-            self.remove(name);
+            self.remove(name, target);
         }
     }
 
@@ -493,17 +544,16 @@ impl<T: Drop, P: SlotPool> Slots<T, P> {
         if old == new {
             return Ok(());
         }
-        let doomed = self.doomed(name);
-        if let Some(doomed) = doomed {
-            match self.borrow_mut_error(doomed) {
-                Ok(()) => {}
-                Err(refused) => return Err(refused),
-            }
+        let Some(doomed) = self.doomed(name) else {
+            self.redirect(name, old, new);
+            return Ok(());
+        };
+        match self.borrow_mut_error(doomed) {
+            Ok(()) => {}
+            Err(refused) => return Err(refused),
         }
         self.redirect(name, old, new);
-        if let Some(doomed) = doomed {
-            self.remove(doomed);
-        }
+        self.remove(doomed, None);
         Ok(())
     }
 

@@ -5,15 +5,22 @@ use Rattle.std.proofs.lemmas.Bool.{false≢true, true≢false}
 use Rattle.std.specs.FinMap as map
 use Rattle.generational_core.proofs.machine.Closing.{close_one, one_hindered}
 use Rattle.generational_core.proofs.maps.Maps.{get-remove_apart}
-use Rattle.generational_box.specs.Entry.{target_in}
+use Rattle.generational_box.specs.Entry.{is_unborrowed_value, target_in}
 use Rattle.generational_box.specs.Slotted.{refusal_of}
 use Rattle.generational_box.proofs.Common.{Cell, IsLinked, Name, Ref, Shared, State, Value, by_name}
 use Rattle.generational_box.proofs.Common.{cells_after, close, content_of, doomed_by}
 use Rattle.generational_box.proofs.Common.{first_hindrance}
 unfoldable use Rattle.generational_box.proofs.Common.{hindrance_to}
 use Rattle.generational_box.proofs.Common.{is_named, is_shared, write_refusal, Location}
+use Rattle.generational_box.proofs.Common.{Content, Trouble}
+use Rattle.std.proofs.Common.{is_none}
 
 module _ {T : Type 0} where
+  -- what names another cell is there
+  pub target_there : (c : Option (Cell T)) → is_some (target_in c) ≡ true → is_some c ≡ true
+  target_there None names = names
+  target_there (Some c) names = refl
+
   -- what hinders the end of a list is told by the cells
   pub hindrance_is : (S : State T) (names : List Name)
       → hindrance_to S names ≡ first_hindrance S.cells (cells_after S.cells names) names
@@ -48,9 +55,9 @@ module _ {T : Type 0} where
             one_hindered S n linked (Some (Ref m l)) is
             ∙ (named (is_named (map.remove S.cells n) m) m ∙ ap (refusal_of S.cells) (sym own))
 
-    -- a reference is there still when the value has gone
+    -- a reference stays as it is when the value has gone
     pub reference_left : is_some (target_in (map.get S.cells n)) ≡ true
-        → is_some (map.get (without S d).cells n) ≡ true
+        → map.get (without S d).cells n ≡ map.get S.cells n
     reference_left = at (map.get S.cells n) refl doomed
       where
         apart : (m : Name) (l : Location) → map.get S.cells n ≡ Some (Ref m l) → n ≡ m → ⊥
@@ -58,14 +65,13 @@ module _ {T : Type 0} where
             ∙ (ap (λ x. is_shared (map.get S.cells x)) (sym same) ∙ ap is_shared is))
 
         by : (m : Name) (l : Location) → map.get S.cells n ≡ Some (Ref m l) → (b : Bool)
-            → is_some (map.get (without S (cond b None (Some m))).cells n) ≡ true
-        by m l is true = ap is_some is
-        by m l is false =
-            ap is_some (get-remove_apart by_name S.cells m n (apart m l is) ∙ is)
+            → map.get (without S (cond b None (Some m))).cells n ≡ map.get S.cells n
+        by m l is true = refl
+        by m l is false = get-remove_apart by_name S.cells m n (apart m l is)
 
         at : (c : Option (Cell T)) → map.get S.cells n ≡ c
             → d ≡ doomed_by (is_named (map.remove S.cells n)) c n
-            → is_some (target_in c) ≡ true → is_some (map.get (without S d).cells n) ≡ true
+            → is_some (target_in c) ≡ true → map.get (without S d).cells n ≡ map.get S.cells n
         at (Some (Ref m l)) is own h = rw own (by m l is _)
         at None is own h = absurd (false≢true h)
         at (Some (Value c l)) is own h = absurd (false≢true h)
@@ -112,3 +118,34 @@ module _ {T : Type 0} where
             rw own (ap (λ cells. record S { cells = cells })
             (sym (close_one S.cells n linked (Some (Shared c l)) is)))
         at (Some (Ref m l)) is own h = absurd (true≢false h)
+
+  -- a value of its own without borrows is there and names nothing; it ends by itself, and nothing
+  -- hinders that
+  module _ (S : State T) (n : Name) (linked : IsLinked S.cells)
+      (free : is_unborrowed_value (map.get S.cells n) ≡ true) where
+    own_value : (c : Option (Cell T)) → is_unborrowed_value c ≡ true
+        → (k : Content T) × (l : Location) × (c ≡ Some (Value k l)) × (write_refusal (Some k) ≡ None)
+    own_value (Some (Value k l)) free = (k, l, refl, none (write_refusal (Some k)) free)
+      where
+        none : (t : Option Trouble) → is_none t ≡ true → t ≡ None
+        none None free = refl
+        none (Some t) free = absurd (false≢true free)
+    own_value None free = absurd (false≢true free)
+    own_value (Some (Shared k l)) free = absurd (false≢true free)
+    own_value (Some (Ref m l)) free = absurd (false≢true free)
+
+    pub free_there : is_some (map.get S.cells n) ≡ true
+    free_there = let v = own_value (map.get S.cells n) free in ap is_some v.2
+
+    pub free_names_none : None ≡ target_in (map.get S.cells n)
+    free_names_none = let v = own_value (map.get S.cells n) free in ap target_in (sym v.2)
+
+    pub free_hindrance : hindrance_to S (n ∷ []) ≡ None
+    free_hindrance =
+        let v = own_value (map.get S.cells n) free in
+        one_hindered S n linked _ v.2 ∙ v.3
+
+    pub free_closes : record S { cells = map.remove S.cells n } ≡ close S (n ∷ [])
+    free_closes =
+        let v = own_value (map.get S.cells n) free in
+        ap (λ cells. record S { cells = cells }) (sym (close_one S.cells n linked _ v.2))

@@ -19,9 +19,10 @@ use Rattle.generational_core.specs.Borrowing.{leads_to, read_refusal, write_refu
 use Rattle.generational_core.specs.Cells.Content.{Here, Lent}
 use Rattle.generational_box.specs.Entry.{Entry, with_reader, without_reader_in, content_in}
 use Rattle.generational_box.specs.Entry.{has_no_borrow, cell_of, kind_in, target_in}
+use Rattle.generational_box.specs.Entry.{is_unborrowed_value}
 use Rattle.generational_core.specs.Machine.{has_reader, has_writer}
 use Rattle.generational_box.specs.Entries.{EntryList, AreRoomy, IsUnborrowed, kept_data}
-use Rattle.generational_box.specs.Entries.{kind_of, lead_of, target_of}
+use Rattle.generational_box.specs.Entries.{is_unborrowed_data, kind_of, lead_of, target_of}
 use Rattle.generational_box.specs.Table.{Releases}
 use Rattle.generational_box.specs.Entries.{index_in, index_of, has_index, entry_of}
 use Rattle.generational_box.specs.Table.{no_index}
@@ -470,6 +471,28 @@ module _ {T : Type 0} {t : Table} {es : List (StorageEntry T)} {ls : List EntryD
             → lead_of {T = T} (slot.Lent kd x) n ≡ leads_to (cell_of (Live kd c l)) n
         lent kind.Value x c l = refl
         lent kind.Shared x c l = refl
+
+    -- whether it is a value of its own without borrows
+    pub value_test : (g : ℕ) → cond (nat_eq e.generation g) (is_unborrowed_data e.content) false
+        ≡ is_unborrowed_value (cell_in (slice_get now.slots i) g)
+    value_test g =
+        rw (slot_seen, ← nat_eq_equiv.symm e.generation g)
+        (own (nat_eq e.generation g) _ (at e.content refl))
+      where
+        at : (d : StorageEntryData T) → e.content ≡ d → is_unborrowed_data d
+            ≡ is_unborrowed_value
+            (cell_of (kept_data (list_at t.lists (index_of d)) location.0.created_at d))
+        at slot.Empty is = refl
+        at (slot.Data kind.Value x v) is = free_test kind.Value x v is
+        at (slot.Data kind.Shared x v) is = refl
+        at (slot.Lent kind.Value x) is = let w = writer_of kind.Value x is in rw w.2 refl
+        at (slot.Lent kind.Shared x) is = let w = writer_of kind.Shared x is in rw w.2 refl
+        at (slot.Reference m n) is = refl
+
+        own : (b : Bool) {x : Bool} (c : Option (Cell T)) → x ≡ is_unborrowed_value c
+            → cond b x false ≡ is_unborrowed_value (cond b c None)
+        own true c same = same
+        own false c same = refl
 
     pub target_test : (g : ℕ) → cond (nat_eq e.generation g) (target_of e.content) None
         ≡ target_in (cell_in (slice_get now.slots i) g)

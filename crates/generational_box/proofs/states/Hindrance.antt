@@ -1,22 +1,24 @@
 -- What hinders the end of names, as the counts of references tell it.
 use Rattle.std.proofs.Common.{◌≡◌, ℕ, ◌+◌, ◌<◌, Bool, true, false, cond, not, List, [], ◌∷◌}
 use Rattle.std.proofs.Common.{Option, None, Some, refl, sym, ap, subst, ◌∙◌, arith, nat_eq, nat_lt}
-use Rattle.std.proofs.Common.{is_some}
-use Rattle.std.specs.List.{IsDistinct}
+use Rattle.std.proofs.Common.{is_some, is_none, map as list_map}
+use Rattle.std.specs.List.{IsDistinct, list_all}
+use Rattle.std.proofs.lemmas.Bool.{and_parts, false≢true}
 use Rattle.std.specs.Option.{option_or}
 use Rattle.std.specs.FinMap as map
 use Rattle.std.proofs.lemmas.Bool.Decides.{nat_tests}
 use Rattle.std.proofs.lemmas.Option.{none-some}
 use Rattle.generational_core.proofs.machine.Closing.{borrowed_end, first_borrowed_end}
-use Rattle.generational_core.proofs.machine.Closing.{first_hindered}
-use Rattle.generational_box.proofs.Common.{AreReferred, Cell, Entry, HasTargets, IsLinked, Name}
+use Rattle.generational_core.proofs.machine.Closing.{first_borrowed_end, first_hindered}
+use Rattle.generational_box.proofs.Common.{AreReferred, Cell, CellName, Entry, HasTargets, IsLinked}
+use Rattle.generational_box.proofs.Common.{Name, Trouble, name_of_cell}
 use Rattle.generational_box.proofs.Common.{NameMap, Ref, Shared, Value, cell_at, cell_of}
 use Rattle.generational_box.proofs.Common.{cells_after, cells_of, content_in, content_of, doomed_by}
 use Rattle.generational_box.proofs.Common.{first_hindrance, has_more, how_many, is_name, is_named}
 use Rattle.generational_box.proofs.Common.{is_shared, name_here, refers, refers_to}
 use Rattle.generational_box.proofs.Common.{write_refusal, Kept, Empty, Live, Refers}
 use Rattle.generational_box.specs.declared.entry.Kind.TheVariants as kind
-use Rattle.generational_box.specs.Entry.{target_in}
+use Rattle.generational_box.specs.Entry.{is_unborrowed_value, target_in}
 use Rattle.generational_box.specs.Slotted.{first_refusal, has_more_in, refers_among, refusal_of}
 use Rattle.generational_box.specs.Slotted.{with_more}
 use Rattle.generational_box.proofs.lists.Lists.{bit}
@@ -53,6 +55,29 @@ module _ {T : Type 0} (cells : NameMap (Cell T)) (named told : Name → Bool)
   list_refusal [] = refl
   list_refusal (n ∷ names) =
       λ i. option_or (one_refusal n (map.get cells n) refl i) (list_refusal names i)
+
+-- values of their own without borrows hinder no end
+module _ {T : Type 0} (slots : List (Entry T)) (named : Name → Bool) where
+  free_end : (cell : Option (Cell T)) → is_unborrowed_value cell ≡ true
+      → borrowed_end (cells_of slots) named cell ≡ None
+  free_end (Some (Value c l)) free = none (write_refusal (Some c)) free
+    where
+      none : (t : Option Trouble) → is_none t ≡ true → t ≡ None
+      none None free = refl
+      none (Some t) free = absurd (false≢true free)
+  free_end None free = absurd (false≢true free)
+  free_end (Some (Shared c l)) free = absurd (false≢true free)
+  free_end (Some (Ref m l)) free = absurd (false≢true free)
+
+  free_ends : (items : List CellName)
+      → list_all (λ n. is_unborrowed_value (cell_at slots (name_of_cell n))) items ≡ true
+      → first_borrowed_end (cells_of slots) named (list_map name_of_cell items) ≡ None
+  free_ends [] all = refl
+  free_ends (item ∷ items) all =
+      let n = name_of_cell item in
+      let both = and_parts (is_unborrowed_value (cell_at slots n)) _ all in
+      let own = free_end (cell_at slots n) both.0 in
+      rw (get_cells slots n, own) (free_ends items both.1)
 
 -- none is left where no fewer went than there were
 rest_none : (rest gone all : ℕ) → rest + gone ≡ all → nat_eq rest 0 ≡ not (nat_lt gone all)
@@ -93,6 +118,16 @@ module _ {T : Type 0} where
       named_after high names apart m
       ∙ sym (more_counted low m s 0 _ _ (rest_none _ (off m) _ (count ∙ sym many)))) names
       ∙ ap (λ x. first_refusal x (has_more low 0) names) cells)
+
+  -- where all names of a list are of values without borrows, nothing hinders their end
+  pub none_hindered : (slots : List (Entry T)) (items : List CellName) → IsLinked (cells_of slots)
+      → list_all (λ n. is_unborrowed_value (cell_at slots (name_of_cell n))) items ≡ true
+      → first_hindrance (cells_of slots)
+      (cells_after (cells_of slots) (list_map name_of_cell items)) (list_map name_of_cell items)
+      ≡ None
+  none_hindered slots items linked all =
+      first_hindered (cells_of slots) (list_map name_of_cell items) linked
+      ∙ free_ends slots _ items all
 
   -- the value that goes where one name ends
   pub doomed_alone : (slots : List (Entry T)) → HasTargets (cells_of slots)

@@ -1,7 +1,7 @@
 -- What becomes of a reference's old target where it names another, as the machine says it.
 use Rattle.std.proofs.Common.{◌≡◌, Bool, true, false, cond, Err, Ok, Option, None, Some, refl}
 use Rattle.std.proofs.Common.{sym, ap, ◌∙◌, is_some, subst}
-use Rattle.std.proofs.lemmas.Bool.{true≢false}
+use Rattle.std.proofs.lemmas.Bool.{false≢true, true≢false}
 use Rattle.std.specs.FinMap as map
 use Rattle.generational_core.proofs.machine.Closing.{turn_hindered, turn_sweep}
 use Rattle.generational_core.specs.Ending.{hindrance_at}
@@ -59,27 +59,33 @@ module _ {T : Type 0} where
           at true = refl
           at false = refl
 
-      -- it's there still when the reference has turned
+      -- it's there still when the reference has turned, and names nothing
       pub doomed_left : (x : Name) → d ≡ Some x
-          → is_some (map.get (map.insert S.cells n (Ref new l)) x) ≡ true
+          → (is_some (map.get (map.insert S.cells n (Ref new l)) x) ≡ true)
+          × (None ≡ target_in (map.get (map.insert S.cells n (Ref new l)) x))
       doomed_left x is = at (is_named (map.remove S.cells n) old) (sym is ∙ target_doomed)
         where
           apart : old ≡ n → ⊥
           apart z = true≢false (sym (linked.targets n old l there)
               ∙ (ap (λ x. is_shared (map.get S.cells x)) z ∙ ap is_shared there))
 
-          live : (c : Option (Cell T)) → is_shared c ≡ true → is_some c ≡ true
-          live None h = h
-          live (Some c) h = refl
+          value : (c : Option (Cell T)) → is_shared c ≡ true
+              → (is_some c ≡ true) × (None ≡ target_in c)
+          value (Some (Shared c l)) h = (refl, refl)
+          value None h = absurd (false≢true h)
+          value (Some (Value c l)) h = absurd (false≢true h)
+          value (Some (Ref m l)) h = absurd (false≢true h)
 
           at : (b : Bool) → Some x ≡ cond b None (Some old)
-              → is_some (map.get (map.insert S.cells n (Ref new l)) x) ≡ true
+              → (is_some (map.get (map.insert S.cells n (Ref new l)) x) ≡ true)
+              × (None ≡ target_in (map.get (map.insert S.cells n (Ref new l)) x))
           at true is = absurd cc
           at false is =
               let same : x ≡ old = cc in
-              ap (λ k. is_some (map.get (map.insert S.cells n (Ref new l)) k)) same
-              ∙ (ap is_some (get-insert_apart by_name S.cells n (Ref new l) old apart)
-              ∙ live (map.get S.cells old) (linked.targets n old l there))
+              let kept = ap (map.get (map.insert S.cells n (Ref new l))) same
+              ∙ get-insert_apart by_name S.cells n (Ref new l) old apart in
+              let v = value (map.get S.cells old) (linked.targets n old l there) in
+              (ap is_some kept ∙ v.0, v.1 ∙ ap target_in (sym kept))
 
       pub turns_refused : (e : Refused BorrowMutError) → FoundBorrowed (refusal_of S.cells d) (Err e)
           → Turns S S (Err e) (turn S n old new l)

@@ -1,51 +1,20 @@
 -- The end of a name.
-use Rattle.std.proofs.Common.{ap, sym, ◌≡◌, ◌∙◌, option_map, refl}
-use Rattle.std.specs.FinMap as map
-use Rattle.generational_box.specs.Slotted.{Slotted}
-use Rattle.generational_box.proofs.Common.{State, name_of_cell}
-use Rattle.generational_box.proofs.states.Endings.{reference_closes, reference_left, value_closes}
-use Rattle.generational_box.proofs.states.Endings.{without}
-use Rattle.generational_box.proofs.states.Changes.{has_target}
+use Rattle.std.proofs.Common.{sym, ◌∙◌}
+use Rattle.generational_box.proofs.Common.{name_of_cell}
+use Rattle.generational_box.proofs.states.Endings.{free_closes, free_names_none, free_there}
 use Rattle.generational_box.proofs.slots.Slots.close.Goals as goal
-use Rattle.generational_box.proofs.slots.Slots.close.Goals.{in-Some, in_default}
 
-pub remove-requires-then-is_reference : goal.remove-requires-then-is_reference
-remove-requires-then-is_reference g c =
+pub remove-requires : goal.remove-requires
+remove-requires g c =
     let S = c.args.self.now.state in
-    let n = name_of_cell c.args.name in
-    let gone : c.match-doomed.self.state ≡ without S (option_map name_of_cell c.doomed.result) =
-    elim c.match-doomed.branch [
-      | in-Some w ↦ ap (λ (x : Slotted _). x.state) w.self-is ∙ rw w.in-Some.is w.remove.ensures
-      | in_default w ↦ ap (λ (x : Slotted _). x.state) w.self-is ∙ rw w.in_default.is refl
-    ] in
-    rw gone (reference_left S n c.requires _ c.doomed.ensures
-    (has_target name_of_cell c.target.result c.target.ensures
-    (sym c.is_some-is_reference.ensures ∙ c.if-is_reference.true)))
+    let free = sym c.has_unborrowed_value.ensures ∙ c.if-has_unborrowed_value.true in
+    record {
+      there = free_there S (name_of_cell c.args.name) c.requires free;
+      target = free_names_none S (name_of_cell c.args.name) c.requires free;
+    }
 
-pub returns-then-is_reference : goal.returns-then-is_reference
-returns-then-is_reference g c =
+pub returns-then-has_unborrowed_value : goal.returns-then-has_unborrowed_value
+returns-then-has_unborrowed_value g c =
     let S = c.args.self.now.state in
-    let n = name_of_cell c.args.name in
-    let gone : c.match-doomed.self.state ≡ without S (option_map name_of_cell c.doomed.result) =
-    elim c.match-doomed.branch [
-      | in-Some w ↦ ap (λ (x : Slotted _). x.state) w.self-is ∙ rw w.in-Some.is w.remove.ensures
-      | in_default w ↦ ap (λ (x : Slotted _). x.state) w.self-is ∙ rw w.in_default.is refl
-    ] in
-    c.remove-then-is_reference.ensures
-    ∙ (ap (λ (X : State _). record X { cells = map.remove X.cells n }) gone
-    ∙ reference_closes S n c.requires _ c.doomed.ensures
-    (has_target name_of_cell c.target.result c.target.ensures
-    (sym c.is_some-is_reference.ensures ∙ c.if-is_reference.true)))
-
-pub returns-else-is_reference : goal.returns-else-is_reference
-returns-else-is_reference g c =
-    let S = c.args.self.now.state in
-    let n = name_of_cell c.args.name in
-    let gone : c.match-doomed.self.state ≡ without S (option_map name_of_cell c.doomed.result) =
-    elim c.match-doomed.branch [
-      | in-Some w ↦ ap (λ (x : Slotted _). x.state) w.self-is ∙ rw w.in-Some.is w.remove.ensures
-      | in_default w ↦ ap (λ (x : Slotted _). x.state) w.self-is ∙ rw w.in_default.is refl
-    ] in
-    gone ∙ value_closes S n c.requires _ c.doomed.ensures
-    (has_target name_of_cell c.target.result c.target.ensures
-    (sym c.is_some-is_reference.ensures ∙ c.if-is_reference.false))
+    let free = sym c.has_unborrowed_value.ensures ∙ c.if-has_unborrowed_value.true in
+    c.remove.ensures ∙ free_closes S (name_of_cell c.args.name) c.requires free

@@ -1,25 +1,27 @@
 -- The end of a name, unless a borrow stands in the way.
-use Rattle.std.proofs.Common.{sym, ◌∙◌, Err, subst}
-use Rattle.generational_box.specs.Entry.{FoundBorrowed}
+use Rattle.std.proofs.Common.{sym, ◌∙◌}
 use Rattle.generational_box.proofs.Common.{name_of_cell}
-use Rattle.generational_box.proofs.states.Endings.{doomed_hinders}
+use Rattle.generational_box.proofs.states.Endings.{free_closes, free_hindrance, free_names_none}
+use Rattle.generational_box.proofs.states.Endings.{free_there}
 use Rattle.generational_box.proofs.slots.Slots.end.Goals as goal
-use Rattle.generational_box.proofs.slots.Slots.end.Goals.{in-Some+in-Ok, in_default}
 
-pub returns-in-Err-clause-found : goal.returns-in-Err-clause-found
-returns-in-Err-clause-found g c =
+pub remove-requires : goal.remove-requires
+remove-requires g c =
     let S = c.args.self.now.state in
-    subst (λ t. FoundBorrowed t (Err c.in-Err.refused))
-    (sym (doomed_hinders S (name_of_cell c.args.name) c.requires _ c.in-Some.ensures))
-    c.in-Err.ensures
+    let free = sym c.has_unborrowed_value.ensures ∙ c.if-has_unborrowed_value.true in
+    record {
+      there = free_there S (name_of_cell c.args.name) c.requires free;
+      target = free_names_none S (name_of_cell c.args.name) c.requires free;
+    }
 
-pub returns-clause-found : goal.returns-clause-found
-returns-clause-found g c =
+pub returns-then-has_unborrowed_value-clause-found : goal.returns-then-has_unborrowed_value-clause-found
+returns-then-has_unborrowed_value-clause-found g c =
     let S = c.args.self.now.state in
-    elim c.match-doomed.branch [
-      | in-Some+in-Ok w ↦
-          doomed_hinders S (name_of_cell c.args.name) c.requires _ w.in-Some.ensures
-          ∙ w.in-Ok.ensures
-      | in_default w ↦
-          doomed_hinders S (name_of_cell c.args.name) c.requires _ w.in_default.ensures
-    ]
+    let free = sym c.has_unborrowed_value.ensures ∙ c.if-has_unborrowed_value.true in
+    free_hindrance S (name_of_cell c.args.name) c.requires free
+
+pub returns-then-has_unborrowed_value-clause-ok : goal.returns-then-has_unborrowed_value-clause-ok
+returns-then-has_unborrowed_value-clause-ok g c =
+    let S = c.args.self.now.state in
+    let free = sym c.has_unborrowed_value.ensures ∙ c.if-has_unborrowed_value.true in
+    c.remove.ensures ∙ free_closes S (name_of_cell c.args.name) c.requires free

@@ -6,7 +6,7 @@ use Rattle.generational_box.proofs.Common.{AreReferred, cell_at, count_less, nam
 use Rattle.generational_box.proofs.Common.{refers_to}
 use Rattle.generational_box.proofs.Common.{State, shared_target}
 use Rattle.generational_box.proofs.lists.Lists.{bit}
-use Rattle.generational_box.proofs.states.Changes.{found, found_within}
+use Rattle.generational_box.proofs.states.Changes.{cell_seen, found, found_within}
 use Rattle.generational_box.proofs.states.Changes.{not_pooled, slotted_freed, slotted_retired}
 use Rattle.generational_box.proofs.states.Changes.{some_live, state_ended, state_is}
 use Rattle.generational_box.proofs.states.Counting.{less_length, less_slotted, less_state}
@@ -16,10 +16,11 @@ use Rattle.generational_box.proofs.slots.Slots.remove.Goals as goal
 
 pub forget-requires : goal.forget-requires
 forget-requires g c =
-    record {
-      some = rw c.target-target.ensures
-          (target_some c.self.inside.entries.slots c.self.invariant.2 (name_of_cell c.args.name));
-    }
+    let slots = c.self.inside.entries.slots in
+    let n = name_of_cell c.args.name in
+    let told = c.requires.target
+    ∙ ap target_in (sym (cell_seen slots (state_is c.self.view_is) n)) in
+    record { some = rw told (target_some slots c.self.invariant.2 n) }
 
 pub end-requires : goal.end-requires
 end-requires g c =
@@ -29,10 +30,12 @@ end-requires g c =
     let o = shared_target slots (target_in (cell_at slots n)) in
     let same = less_state slots o c.self.inside.start c.self.inside.peak
     ∙ state_is c.self.view_is in
-    let f = found (count_less slots o) n (ap (λ S. is_some (map.get S.cells n)) same ∙ c.requires)
+    let f = found (count_less slots o) n (ap (λ S. is_some (map.get S.cells n)) same ∙ c.requires.there)
     in
+    let told = c.requires.target
+    ∙ ap target_in (sym (cell_seen slots (state_is c.self.view_is) n)) in
     let after = c.forget.ensures.slots
-    ∙ ap (λ t. count_less slots (shared_target slots t)) c.target-target.ensures in
+    ∙ ap (λ t. count_less slots (shared_target slots t)) told in
     rw after (found_within f)
 
 pub overflow_sub-self : goal.overflow_sub-self
@@ -43,7 +46,7 @@ overflow_sub-self g c =
     let o = shared_target slots (target_in (cell_at slots n)) in
     let same = less_state slots o c.self.inside.start c.self.inside.peak
     ∙ state_is c.self.view_is in
-    let f = found (count_less slots o) n (ap (λ S. is_some (map.get S.cells n)) same ∙ c.requires)
+    let f = found (count_less slots o) n (ap (λ S. is_some (map.get S.cells n)) same ∙ c.requires.there)
     in
     some_live f (less_slotted slots o inv.0)
 
@@ -55,7 +58,7 @@ put-requires-clause-room g c =
     let o = shared_target slots (target_in (cell_at slots n)) in
     let same = less_state slots o c.self.inside.start c.self.inside.peak
     ∙ state_is c.self.view_is in
-    let f = found (count_less slots o) n (ap (λ S. is_some (map.get S.cells n)) same ∙ c.requires)
+    let f = found (count_less slots o) n (ap (λ S. is_some (map.get S.cells n)) same ∙ c.requires.there)
     in
     let within = found_within f in let long = less_length slots o in
     let room = inv.0.roomy in omega arith
@@ -68,7 +71,7 @@ put-requires-clause-absent g c =
     let o = shared_target slots (target_in (cell_at slots n)) in
     let same = less_state slots o c.self.inside.start c.self.inside.peak
     ∙ state_is c.self.view_is in
-    let f = found (count_less slots o) n (ap (λ S. is_some (map.get S.cells n)) same ∙ c.requires)
+    let f = found (count_less slots o) n (ap (λ S. is_some (map.get S.cells n)) same ∙ c.requires.there)
     in
     not_pooled f (less_slotted slots o inv.0)
 
@@ -80,10 +83,12 @@ invariant_of-self g c =
     let o = shared_target slots (target_in (cell_at slots n)) in
     let same = less_state slots o c.self.inside.start c.self.inside.peak
     ∙ state_is c.self.view_is in
-    let f = found (count_less slots o) n (ap (λ S. is_some (map.get S.cells n)) same ∙ c.requires)
+    let f = found (count_less slots o) n (ap (λ S. is_some (map.get S.cells n)) same ∙ c.requires.there)
     in
+    let told = c.requires.target
+    ∙ ap target_in (sym (cell_seen slots (state_is c.self.view_is) n)) in
     let after = c.forget.ensures.slots
-    ∙ ap (λ t. count_less slots (shared_target slots t)) c.target-target.ensures in
+    ∙ ap (λ t. count_less slots (shared_target slots t)) told in
     let own : cell_at (count_less slots o) n ≡ cell_at slots n =
     sym (get_cells (count_less slots o) n) ∙ (ap (λ S. map.get S.cells n)
     (less_state slots o c.self.inside.start c.self.inside.peak) ∙ get_cells slots n) in
@@ -104,10 +109,12 @@ invariant_of-self-else-name-lt18446744073709551615 g c =
     let o = shared_target slots (target_in (cell_at slots n)) in
     let same = less_state slots o c.self.inside.start c.self.inside.peak
     ∙ state_is c.self.view_is in
-    let f = found (count_less slots o) n (ap (λ S. is_some (map.get S.cells n)) same ∙ c.requires)
+    let f = found (count_less slots o) n (ap (λ S. is_some (map.get S.cells n)) same ∙ c.requires.there)
     in
+    let told = c.requires.target
+    ∙ ap target_in (sym (cell_seen slots (state_is c.self.view_is) n)) in
     let after = c.forget.ensures.slots
-    ∙ ap (λ t. count_less slots (shared_target slots t)) c.target-target.ensures in
+    ∙ ap (λ t. count_less slots (shared_target slots t)) told in
     let own : cell_at (count_less slots o) n ≡ cell_at slots n =
     sym (get_cells (count_less slots o) n) ∙ (ap (λ S. map.get S.cells n)
     (less_state slots o c.self.inside.start c.self.inside.peak) ∙ get_cells slots n) in
@@ -127,10 +134,12 @@ returns-then-name-lt18446744073709551615 g c =
     let o = shared_target slots (target_in (cell_at slots n)) in
     let same = less_state slots o c.self.inside.start c.self.inside.peak
     ∙ state_is c.self.view_is in
-    let f = found (count_less slots o) n (ap (λ S. is_some (map.get S.cells n)) same ∙ c.requires)
+    let f = found (count_less slots o) n (ap (λ S. is_some (map.get S.cells n)) same ∙ c.requires.there)
     in
+    let told = c.requires.target
+    ∙ ap target_in (sym (cell_seen slots (state_is c.self.view_is) n)) in
     let after = c.forget.ensures.slots
-    ∙ ap (λ t. count_less slots (shared_target slots t)) c.target-target.ensures in
+    ∙ ap (λ t. count_less slots (shared_target slots t)) told in
     rw (c.end.ensures.slots, after)
     (state_ended f c.self.inside.start c.self.inside.peak
     ∙ ap (λ (S : State _). record S { cells = map.remove S.cells n }) same)
@@ -143,10 +152,12 @@ returns-else-name-lt18446744073709551615 g c =
     let o = shared_target slots (target_in (cell_at slots n)) in
     let same = less_state slots o c.self.inside.start c.self.inside.peak
     ∙ state_is c.self.view_is in
-    let f = found (count_less slots o) n (ap (λ S. is_some (map.get S.cells n)) same ∙ c.requires)
+    let f = found (count_less slots o) n (ap (λ S. is_some (map.get S.cells n)) same ∙ c.requires.there)
     in
+    let told = c.requires.target
+    ∙ ap target_in (sym (cell_seen slots (state_is c.self.view_is) n)) in
     let after = c.forget.ensures.slots
-    ∙ ap (λ t. count_less slots (shared_target slots t)) c.target-target.ensures in
+    ∙ ap (λ t. count_less slots (shared_target slots t)) told in
     rw (c.end.ensures.slots, after)
     (state_ended f c.self.inside.start c.self.inside.peak
     ∙ ap (λ (S : State _). record S { cells = map.remove S.cells n }) same)
