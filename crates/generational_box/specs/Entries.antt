@@ -45,6 +45,11 @@ module _ {T : Type 0} where
   value_in (slot.Data k i v) = Some v
   value_in _ = None
 
+  -- the cell lent to the writer at an index, if it's a value
+  abbrev pub lent_data : ℕ → StorageEntryData T → StorageEntryData T
+  lent_data x (slot.Data k i v) = slot.Lent k x
+  lent_data x d = d
+
   -- what a reference names
   abbrev pub target_of : StorageEntryData T → Option Name
   target_of (slot.Reference s g) = Some (record { slot = s; generation = g })

@@ -41,7 +41,6 @@ use generational_core::{
 };
 use std::alloc::{AllocError, Global};
 use std::marker::Model;
-use std::mem;
 
 /// The slots of a store. Contracts see each as its generation and its cell with the borrows that
 /// stand there, and for how many slots there is room.
@@ -336,14 +335,7 @@ impl<T: Drop> Entries<T> {
         ensures rooms { self.new.rooms ≡ self.old.rooms }
     {
         let index = self.borrows.open(writer);
-        let content = &mut self.entries[slot].content;
-        match mem::replace(content, StorageEntryData::Empty) {
-            StorageEntryData::Data(kind, _, value) => {
-                *content = StorageEntryData::Lent(kind, index);
-                value
-            }
-            _ => unreachable!(),
-        }
+        self.entries[slot].content.lend(index)
     }
 
     // Puts a writer's value back, or hands it back where the writer doesn't stand, which changes

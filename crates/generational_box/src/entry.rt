@@ -4,11 +4,12 @@ ghost use Rattle.std.specs.Prelude.{◌≡◌, ◌+◌, ◌<◌, IsSome, None, S
 ghost use Rattle.std.specs.Prelude.{if◌then◌else◌};
 ghost use Rattle.generational_core.specs.Slots.{last_generation};
 ghost use Rattle.std.specs.Prelude.{false};
-ghost use Rattle.generational_box.specs.Entries.{is_unborrowed_data};
+ghost use Rattle.generational_box.specs.Entries.{is_unborrowed_data, lent_data};
 ghost use Rattle.generational_box.specs.Entries.{index_of, lead_of, kind_of, target_of, value_in};
 ghost use Rattle.generational_box.specs.Entry.{name_of_cell};
 
 use generational_core::Location;
+use std::mem;
 
 /// The index of a cell without borrows.
 pub(crate) const NO_INDEX: u32 = u32::MAX;
@@ -64,13 +65,15 @@ impl<T> StorageEntry<T> {
             return None;
         }
         match &self.content {
-            StorageEntryData::Data(Kind::Value, _, _) => Some(name),
-            StorageEntryData::Lent(Kind::Value, _) => Some(name),
+            StorageEntryData::Data(kind, _, _) | StorageEntryData::Lent(kind, _) => match kind {
+                Kind::Value => Some(name),
+                Kind::Shared => None,
+            },
             StorageEntryData::Reference(slot, generation) => Some(CellName {
                 slot: *slot as usize,
                 generation: *generation,
             }),
-            _ => None,
+            StorageEntryData::Empty => None,
         }
     }
 
@@ -155,6 +158,25 @@ impl<T> StorageEntryData<T> {
                 generation: *generation,
             }),
             _ => None,
+        }
+    }
+
+    // Lends the value, which is there, to the writer at an index.
+    #[inline(always)]
+    pub(crate) fn lend(&mut self, index: u32) -> T
+    where
+        T: Drop,
+        requires { IsSome (value_in self.old) }
+        ensures value { value_in self.old ≡ Some result }
+        ensures lent { self.new ≡ lent_data index self.old }
+    {
+        let kind = match self {
+            StorageEntryData::Data(kind, _, _) => *kind,
+            _ => Kind::Value,
+        };
+        match mem::replace(self, StorageEntryData::Lent(kind, index)) {
+            StorageEntryData::Data(_, _, value) => value,
+            _ => unreachable!(),
         }
     }
 

@@ -279,8 +279,7 @@ impl<T: Drop, P: SlotPool> Slots<T, P> {
     }
 
     // Makes room for one cell more. Want of memory is the only refusal. No slot changes.
-    #[cold]
-    #[inline(never)]
+    #[inline(always)]
     fn make_room(&mut self) -> Result<(), StoreError>
         ensures state { self.new.state ≡ self.old.state }
         ensures ok { OnOk result (self.new.spare ≡ self.old.spare + 1) }
@@ -462,13 +461,12 @@ impl<T: Drop, P: SlotPool> Slots<T, P> {
             self.remove(name, None);
             return Ok(());
         }
-        self.end_apart(name)
+        self.end_any(name)
     }
 
-    // The same for every cell: also for a reference, and where a borrow stands.
-    #[cold]
-    #[inline(never)]
-    fn end_apart(&mut self, name: CellName) -> BorrowMutResult<()>
+    // The same, for every cell.
+    #[inline(always)]
+    fn end_any(&mut self, name: CellName) -> BorrowMutResult<()>
         requires { IsLinked self.old.state.cells }
         ensures found { FoundBorrowed (hindrance_to self.old.state (name_of_cell name ∷ []))
             result }
@@ -499,7 +497,7 @@ impl<T: Drop, P: SlotPool> Slots<T, P> {
         self.close_apart(name);
     }
 
-    // The same for every cell: also for a reference, and where a borrow stands.
+    // The same, for every cell.
     #[cold]
     #[inline(never)]
     fn close_apart(&mut self, name: CellName)

@@ -1,4 +1,6 @@
-use Rattle.std.proofs.Common.{arith, refl, sym, ◌≡◌, ◌∙◌, true, [], ◌∷◌}
+use Rattle.std.proofs.Common.{arith, refl, sym, ap, ◌≡◌, ◌∙◌, true, [], ◌∷◌, Some}
+use Rattle.generational_core.specs.Cells.Content.{Here}
+use Rattle.generational_box.specs.Entries.{value_in}
 use Rattle.std.proofs.lemmas.List.{length-set}
 use Rattle.generational_box.specs.Entry.{content_in}
 use Rattle.generational_box.specs.Table.{no_index}
@@ -35,14 +37,14 @@ index_mut-requires g c =
     let same = many (kept c.self.view_is c.self.invariant) in
     omega (arith, c.requires.within, c.self.inside.entries.ok.0)
 
-pub unreachable-requires : goal.unreachable-requires
-unreachable-requires g c =
+pub lend-requires : goal.lend-requires
+lend-requires g c =
     let s = kept c.self.view_is c.self.invariant in
     let there = read_slot s c.requires.within _ c.self.inside.entries.ok.0
     c.index_mut.ensures.value in
     let a = alone s c.args.slot _ there _
     (hears s c.args.slot _ there (λ e. has_no_borrow (content_in e.kept) ≡ true) c.requires.free) in
-    c.in_default.not-Data _ _ _ (c.replace.ensures.value ∙ a.2)
+    rw a.2 refl
 
 pub invariant_of-self : goal.invariant_of-self
 invariant_of-self g c =
@@ -59,8 +61,9 @@ invariant_of-self g c =
       lists = c.open-index.ensures.lists;
       free = c.open-index.ensures.free;
     } in (
-      open_indexed s c.args.slot _ there (rw a.2 refl) o _ refl
-          (let below = open_below s c.args.slot _ there (rw a.2 refl) o in not_last below),
+      open_indexed s c.args.slot _ there (rw a.2 refl) o _ (rw (c.lend.ensures.lent, a.2) refl)
+          (let below = open_below s c.args.slot _ there (rw a.2 refl) o in
+          rw (c.lend.ensures.lent, a.2) (not_last below)),
       c.self.invariant.1 ∙ sym (length-set c.self.inside.entries.items c.args.slot _),
       roomy_still c.self.invariant.2 (length-set c.self.inside.entries.items c.args.slot _)
           c.open-index.ensures.rooms,
@@ -73,11 +76,10 @@ returns-clause-value g c =
     c.index_mut.ensures.value in
     let a = alone s c.args.slot _ there _
     (hears s c.args.slot _ there (λ e. has_no_borrow (content_in e.kept) ≡ true) c.requires.free) in
-    let is = sym c.replace.ensures.value ∙ c.in-Data.is in
-    let same : slot.Data a.0 no_index a.1
-    ≡ slot.Data c.in-Data.kind c.in-Data.field-1 c.in-Data.value = sym a.2 ∙ is in
-    let none : c.in-Data.field-1 ≡ no_index = cc in
-    says s c.args.slot _ there _ (λ l. rw (is, free_value s c.args.slot _ there _ _ _ is none) refl)
+    let same : Some a.1 ≡ Some c.lend.result = sym (ap value_in a.2) ∙ c.lend.ensures.value in
+    let value : c.lend.result ≡ a.1 = cc in
+    says s c.args.slot _ there (λ e. content_in e.kept ≡ Some (Here c.lend.result []))
+    (λ l. rw (a.2, value, free_value s c.args.slot _ there _ _ _ a.2 refl) refl)
 
 pub returns-clause-after : goal.returns-clause-after
 returns-clause-after g c =
@@ -94,9 +96,5 @@ returns-clause-after g c =
       lists = c.open-index.ensures.lists;
       free = c.open-index.ensures.free;
     } in
-    let same : slot.Data a.0 no_index a.1
-    ≡ slot.Data c.in-Data.kind c.in-Data.field-1 c.in-Data.value =
-    sym a.2 ∙ (sym c.replace.ensures.value ∙ c.in-Data.is) in
-    let kind : c.in-Data.kind ≡ a.0 = cc in
     view_changed s c.args.slot _ there _ _ _ (open_lists s c.args.slot _ there (rw a.2 refl) o)
-    (λ l. rw (a.2, kind, opened_list o) refl)
+    (λ l. rw (c.lend.ensures.lent, a.2, opened_list o) refl)

@@ -3,8 +3,8 @@ use Rattle.std.proofs.Common.{sym, ◌∙◌, Err, subst}
 use Rattle.generational_box.specs.Entry.{FoundBorrowed}
 use Rattle.generational_box.proofs.Common.{name_of_cell}
 use Rattle.generational_box.proofs.states.Endings.{doomed_hinders}
-use Rattle.generational_box.proofs.slots.Slots.end_apart.Goals as goal
-use Rattle.generational_box.proofs.slots.Slots.end_apart.Goals.{in-Some+in-Ok, in_default}
+use Rattle.generational_box.proofs.slots.Slots.end_any.Goals as goal
+use Rattle.generational_box.proofs.slots.Slots.end_any.Goals.{in-Some+in-Ok, in_default}
 
 pub returns-in-Err-clause-found : goal.returns-in-Err-clause-found
 returns-in-Err-clause-found g c =
