@@ -1,5 +1,5 @@
 //! `boxes` reads a script of calls over boxes from standard input, a command a line, and prints one
-//! reply a line.
+//! reply a line. `boxes fuzz SEED COUNT` draws a list of calls, and compares how two stores answer it.
 //!
 //! A line ends with the byte 0A alone, and a last line without it counts if it is not empty. The
 //! words of a line are parted by exactly one space, and a VALUE is all that follows the space after
@@ -39,6 +39,18 @@
 //! first fault, with status 1 for a stream that failed, 2 for arguments or a line too many, and 3
 //! for want of memory: then a text stands on standard error, and the replies to all earlier lines
 //! were written, unless writing is what failed.
+//!
+//! With the words `fuzz SEED COUNT` no script is read. SEED is a number of 64 bits, and COUNT one up
+//! to 100000, both decimal, without sign or leading zeros. A list of COUNT calls is drawn from SEED,
+//! in which each kind of call can occur, and run over two stores: one takes the slot that was freed
+//! last, the other the one that has been free for the longest. One line tells how the replies
+//! compare, ids and numbers of slots aside:
+//!
+//! | line           | what it says                                              | status |
+//! |----------------|-----------------------------------------------------------|--------|
+//! | `same`         | all replies are the same                                  | 0      |
+//! | `differs at N` | place N is the first whose replies differ, counted from 0 | 4      |
+//! | `refused at N` | memory refused a call at place N, and all before are same | 3      |
 #![tactic(auto)]
 
 use boxes_script::{Fault, boxes_run, report};

@@ -1,14 +1,22 @@
 //! Scripts of calls over boxes: their commands, their replies, and whole runs of them.
 //!
 //! The program `boxes` runs one script over its standard streams; its page says what the commands
-//! are. A [`Script`] answers a line at a time, over any store of texts.
+//! are. A [`Script`] answers a line at a time, over any store of texts. `boxes fuzz` draws a list of
+//! calls, by [`fuzz_words`] and [`fuzz_calls`], and compares how two stores answer it.
 #![tactic(auto)]
 
+mod drawing;
 mod fault;
+mod fuzz;
 mod lines;
 mod run;
 mod script;
+mod verdict;
+mod words;
 
+pub use crate::drawing::fuzz_calls;
 pub use crate::fault::Fault;
 pub use crate::run::{boxes_run, report};
 pub use crate::script::{Script, write_reply};
+pub use crate::verdict::{Verdict, compare};
+pub use crate::words::fuzz_words;

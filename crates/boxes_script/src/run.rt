@@ -1,20 +1,31 @@
 //! Runs of a script: its streams, its faults and its exit status.
 use crate::fault::Fault;
+use crate::fuzz::fuzz;
 use crate::lines::Lines;
 use crate::script::Script;
+use crate::verdict::Verdict;
 use generational_box::{Storage, UnsyncStorage};
 use line_number::MOST_LINES;
 use std::alloc::Global;
 use std::io::{BufWriter, Read, Write};
 
-/// Runs the script that `input` gives, and writes a reply a line to `output`.
+/// The most calls of a drawn list.
+const MOST_CALLS: usize = 100_000;
+
+/// Runs the program: without words the script that `input` gives, with a reply a line on `output`;
+/// with the words `fuzz SEED COUNT` a list of COUNT calls that is drawn from SEED, over two stores,
+/// with one line on `output`: `same`, `differs at N` or `refused at N`. SEED is a decimal number of
+/// 64 bits and COUNT one up to 100000, both without sign or leading zeros.
 ///
 /// `words` are the words after the program's name. The answer is the exit status: 0 at the end of
-/// the input. Else a fault ended the run, and its text stands on `faults`; a write to `faults` that
-/// fails changes no status. Faults are found in this order: the words, the memory of the buffers,
-/// and then for each line the limit, at the line's first byte, what reading it meets, its memory,
-/// and the writing of its reply. The replies to all lines before a fault were written, unless
-/// writing is what failed.
+/// the input, and where the stores answered the same; 4 where they differed. Else a fault ended the
+/// run, and its text stands on `faults`; a write to `faults` that fails changes no status.
+///
+/// Faults of a script are found in this order: the words, the memory of the buffers, and then for
+/// each line the limit, at the line's first byte, what reading it meets, its memory, and the
+/// writing of its reply. The replies to all lines before a fault were written, unless writing is
+/// what failed. Those of a drawn list are found in this order: the words, the memory of its lists,
+/// the writing of its line, and then memory that a call was refused.
 pub fn boxes_run<R: Read, W: Write, E: Write>(
     alloc: Global,
     words: &[String],
@@ -22,8 +33,13 @@ pub fn boxes_run<R: Read, W: Write, E: Write>(
     output: &mut W,
     faults: &mut E,
 ) -> u8 {
-    match run(alloc, words, input, output) {
-        Ok(()) => 0,
+    let ended = if words.is_empty() {
+        run(alloc, input, output)
+    } else {
+        run_fuzz(alloc, words, output)
+    };
+    match ended {
+        Ok(status) => status,
         Err(fault) => report(fault, faults),
     }
 }
@@ -35,22 +51,51 @@ pub fn report<E: Write>(fault: Fault, faults: &mut E) -> u8 {
     fault.status()
 }
 
-// Runs the script, or finds the fault in the words.
-fn run<R: Read, W: Write>(
-    alloc: Global,
-    words: &[String],
-    input: &mut R,
-    output: &mut W,
-) -> Result<(), Fault> {
-    if !words.is_empty() {
-        return Err(Fault::Usage);
-    }
+// Runs the script.
+fn run<R: Read, W: Write>(alloc: Global, input: &mut R, output: &mut W) -> Result<u8, Fault> {
     let mut lines = Lines::new(alloc, input)?;
     let mut replies = BufWriter::new(alloc, output).map_err(|_| Fault::Memory)?;
     let mut script = Script::new(alloc, UnsyncStorage::new(alloc, 1));
     let answered = answer_lines(&mut script, &mut lines, &mut replies);
     let _store = script.finish();
-    end_replies(answered, replies)
+    end_replies(answered, replies)?;
+    Ok(0)
+}
+
+// Runs a drawn list over two stores, or finds the fault in the words.
+fn run_fuzz<W: Write>(alloc: Global, words: &[String], output: &mut W) -> Result<u8, Fault> {
+    let (seed, count) = seed_and_count(words).ok_or(Fault::Usage)?;
+    let verdict = fuzz(alloc, seed, count).map_err(|_| Fault::Memory)?;
+    writeln!(output, "{verdict}").map_err(|_| Fault::Output)?;
+    output.flush().map_err(|_| Fault::Output)?;
+    match verdict {
+        Verdict::Same => Ok(0),
+        Verdict::Differs(_) => Ok(4),
+        Verdict::Refused(_) => Err(Fault::Memory),
+    }
+}
+
+// The numbers of the words `fuzz SEED COUNT`.
+fn seed_and_count(words: &[String]) -> Option<(u64, usize)> {
+    if words.len() != 3 || words.first()?.as_str() != "fuzz" {
+        return None;
+    }
+    let seed = decimal(words.get(1)?)?;
+    let count = decimal(words.get(2)?)? as usize;
+    if count > MOST_CALLS {
+        return None;
+    }
+    Some((seed, count))
+}
+
+// A decimal number without sign or leading zeros.
+fn decimal(word: &str) -> Option<u64> {
+    let is_plain = word.bytes().all(|byte| byte.is_ascii_digit());
+    let is_padded = word.len() > 1 && word.starts_with('0');
+    if !is_plain || is_padded {
+        return None;
+    }
+    word.parse::<u64>().ok()
 }
 
 // Answers the lines up to the input's end or the first fault.

@@ -16,7 +16,9 @@
 mod borrows;
 mod entries;
 mod entry;
+mod free_list;
 mod hindrance;
+mod indexes;
 mod owners;
 mod parts;
 mod pool;
@@ -25,7 +27,7 @@ mod table;
 mod unsync;
 
 pub use crate::parts::Numbers;
-pub use crate::pool::{LastFirst, SlotPool};
+pub use crate::pool::{LastFirst, OldestFirst, SlotPool};
 pub use crate::unsync::{Store, UnsyncStorage};
 pub use generational_core::{
     AlreadyBorrowedError, AlreadyBorrowedMutError, AnyStorage, BorrowError, BorrowMutError,

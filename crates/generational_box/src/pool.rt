@@ -1,11 +1,13 @@
 //! Free slots.
 
-ghost use Rattle.std.specs.Prelude.{◌≡◌, ℕ, ◌+◌, ◌<◌, ◌≤◌, ◌∷◌, true, false, IfSome, IfNone, IfErr};
-ghost use Rattle.std.specs.Prelude.{OnOk, OnErr, max, vec_len, vec_capacity, slice_get, drop};
+ghost use Rattle.std.specs.Prelude.{◌≡◌, ℕ, ◌+◌, ◌<◌, ◌≤◌, ◌∷◌, ◌++◌, [], true, false, drop};
+ghost use Rattle.std.specs.Prelude.{slice_get, IfSome, IfNone, IfErr, OnOk, OnErr, vec_len};
+ghost use Rattle.std.specs.Prelude.{vec_capacity};
 ghost use Rattle.std.specs.Ordering.{nat_cmp};
 ghost use Rattle.std.specs.FinSet as set;
 ghost use Rattle.generational_core.specs.declared.error.StoreError.TheVariants.{OutOfMemory};
 
+use crate::free_list::FreeList;
 use generational_core::StoreError;
 use std::alloc::Global;
 use std::marker::Model;
@@ -60,37 +62,15 @@ pub trait SlotPool: Drop {
 /// room.
 #[derive(Drop)]
 pub struct LastFirst {
-    slots: Vec<usize>,
-    room: usize,
+    list: FreeList,
 }
 
 impl Model for LastFirst {
-    ghost use Rattle.std.specs.Prelude.{vec_capacity, reverse};
-    ghost use Rattle.generational_box.specs.Pools.{Pool, IsPool};
+    ghost use Rattle.generational_box.specs.Pools.{Pool};
 
     ghost Value = { Pool };
 
-    ghost view = { λ p. record { slots = reverse p.slots.items; rooms = p.room } };
-
-    ghost invariant = { λ p. IsPool (reverse p.slots.items) p.room (vec_capacity p.slots) };
-}
-
-impl LastFirst {
-    // Makes room for this many slots in all. The only refusal is want of memory, which takes no
-    // slot out.
-    pub(crate) fn reserve(&mut self, alloc: Global, room: usize) -> Result<(), StoreError>
-        ensures slots { self.new.slots ≡ self.old.slots }
-        ensures rooms { self.old.rooms ≤ self.new.rooms }
-        ensures ok { OnOk result (room ≤ self.new.rooms) }
-        ensures most { self.new.rooms ≤ max self.old.rooms room }
-        ensures cause { IfErr result (λ error. error ≡ OutOfMemory) }
-    {
-        if self.room < room {
-            reserve_room(&mut self.slots, alloc, room)?;
-            self.room = room;
-        }
-        Ok(())
-    }
+    ghost view = { λ p. p.list };
 }
 
 impl SlotPool for LastFirst {
@@ -103,18 +83,13 @@ impl SlotPool for LastFirst {
 
     fn new(alloc: Global) -> LastFirst {
         LastFirst {
-            slots: Vec::new(alloc),
-            room: 0,
+            list: FreeList::new(alloc),
         }
     }
 
     #[inline(always)]
     fn grow(&mut self) -> Result<(), StoreError> {
-        if self.room == self.slots.capacity() {
-            reserve_more(&mut self.slots)?;
-        }
-        self.room += 1;
-        Ok(())
+        self.list.grow()
     }
 
     #[inline(always)]
@@ -128,8 +103,7 @@ impl SlotPool for LastFirst {
         ensures none { IfNone result (members_of self.old ≡ set.empty) }
         ensures unchanged { IfNone result (members_of self.new ≡ members_of self.old) }
     {
-        let slot = self.slots.pop()?;
-        Some(slot)
+        self.list.take()
     }
 
     #[inline(always)]
@@ -140,16 +114,94 @@ impl SlotPool for LastFirst {
         ensures rooms { self.new.rooms ≡ self.old.rooms }
         ensures added { members_of self.new ≡ set.insert (members_of self.old) slot }
     {
-        self.slots.push_reserved(slot);
+        self.list.put_first(slot);
     }
 
     #[inline(always)]
     fn room(&self) -> usize {
-        self.room
+        self.list.room()
     }
 
+    #[inline(always)]
     fn free(&self) -> usize {
-        self.slots.len()
+        self.list.count()
+    }
+}
+
+/// Takes the slot that was put first of those that are there. Contracts see it as the slots, the
+/// first one first, and the room.
+#[derive(Drop)]
+pub struct OldestFirst {
+    list: FreeList,
+    // the last slot of the list, if there is one
+    last: usize,
+}
+
+impl Model for OldestFirst {
+    ghost use Rattle.std.specs.Prelude.{◌≡◌};
+    ghost use Rattle.generational_box.specs.Pools.{last_of, Pool};
+
+    ghost Value = { Pool };
+
+    ghost view = { λ p. p.list };
+
+    ghost invariant = { λ p. last_of p.last p.list.slots ≡ p.last };
+}
+
+impl SlotPool for OldestFirst {
+    ghost use Rattle.std.specs.FinSet as set;
+    ghost use Rattle.generational_box.specs.Pools.{members_of};
+
+    ghost members = { members_of };
+
+    ghost rooms = { λ p. p.rooms };
+
+    fn new(alloc: Global) -> OldestFirst {
+        OldestFirst {
+            list: FreeList::new(alloc),
+            last: 0,
+        }
+    }
+
+    #[inline(always)]
+    fn grow(&mut self) -> Result<(), StoreError> {
+        self.list.grow()
+    }
+
+    #[inline(always)]
+    fn take(&mut self) -> Option<usize>
+        ensures first { result ≡ slice_get self.old.slots 0 }
+        ensures rest { self.new.slots ≡ drop 1 self.old.slots }
+        ensures rooms { self.new.rooms ≡ self.old.rooms }
+        ensures member { IfSome result (λ slot. set.contains (members_of self.old) slot ≡ true) }
+        ensures taken { IfSome result (λ slot. members_of self.new
+            ≡ set.remove (members_of self.old) slot) }
+        ensures none { IfNone result (members_of self.old ≡ set.empty) }
+        ensures unchanged { IfNone result (members_of self.new ≡ members_of self.old) }
+    {
+        self.list.take()
+    }
+
+    #[inline(always)]
+    fn put(&mut self, slot: usize)
+        requires room { slot < self.old.rooms }
+        requires absent { set.contains (members_of self.old) slot ≡ false }
+        ensures last { self.new.slots ≡ self.old.slots ++ slot ∷ [] }
+        ensures rooms { self.new.rooms ≡ self.old.rooms }
+        ensures added { members_of self.new ≡ set.insert (members_of self.old) slot }
+    {
+        self.list.put_last(slot, self.last);
+        self.last = slot;
+    }
+
+    #[inline(always)]
+    fn room(&self) -> usize {
+        self.list.room()
+    }
+
+    #[inline(always)]
+    fn free(&self) -> usize {
+        self.list.count()
     }
 }
 
@@ -176,22 +228,6 @@ pub(crate) fn reserve_room<X: Drop>(
         return Ok(());
     }
     if items.reserve(room - items.len()).is_err() {
-        return Err(StoreError::OutOfMemory);
-    }
-    Ok(())
-}
-
-// Makes the buffer larger. Want of memory changes no slot.
-#[cold]
-#[inline(never)]
-fn reserve_more(slots: &mut Vec<usize>) -> Result<(), StoreError>
-    ensures slots { slots.new.items ≡ slots.old.items }
-    ensures capacity { vec_capacity slots.old ≤ vec_capacity slots.new }
-    ensures ok { OnOk result (vec_capacity slots.old < vec_capacity slots.new) }
-    ensures cause { IfErr result (λ error. error ≡ OutOfMemory) }
-{
-    let spare = slots.capacity() - slots.len();
-    if slots.reserve(spare + 1).is_err() {
         return Err(StoreError::OutOfMemory);
     }
     Ok(())

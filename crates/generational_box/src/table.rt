@@ -12,7 +12,8 @@ ghost use Rattle.generational_box.specs.Table.{Releases};
 
 use crate::borrows::{Borrows, Removal};
 use crate::entry::NO_INDEX;
-use crate::pool::{LastFirst, SlotPool, reserve_room};
+use crate::indexes::FreeIndexes;
+use crate::pool::reserve_room;
 use generational_core::parts::Borrow;
 use generational_core::{Location, StoreError};
 use std::alloc::{AllocError, Global};
@@ -32,7 +33,7 @@ pub(crate) struct BorrowTable {
     // the borrows at the indexes from 1 on
     rest: Vec<Borrows>,
     // of these the indexes that were given back
-    free: LastFirst,
+    free: FreeIndexes,
 }
 
 impl Model for BorrowTable {
@@ -73,7 +74,7 @@ impl BorrowTable {
             },
             is_vacant: true,
             rest: Vec::new(alloc),
-            free: LastFirst::new(alloc),
+            free: FreeIndexes::new(alloc),
         }
     }
 

@@ -9,6 +9,8 @@ mod counts;
 #[cfg(test)]
 mod dialect;
 #[cfg(test)]
+mod drawn;
+#[cfg(test)]
 mod drops;
 #[cfg(test)]
 mod ending;
@@ -34,6 +36,8 @@ mod memory;
 mod naming;
 #[cfg(test)]
 mod numbers;
+#[cfg(test)]
+mod orders;
 #[cfg(test)]
 mod owned_lists;
 #[cfg(test)]

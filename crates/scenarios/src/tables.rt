@@ -5,7 +5,9 @@ ghost use Rattle.std.specs.Prelude.{◌≤◌};
 use crate::dialect::{Dialect, write_with_value};
 use crate::naming::Strangers;
 use crate::runs::{text, write_reply};
-use generational_box::{Call, Location, Numbers, Session, Storage, Store, UnsyncStorage};
+use generational_box::{
+    Call, LastFirst, Location, Numbers, OldestFirst, Session, SlotPool, Storage, Store,
+};
 use std::alloc::{AllocError, Global};
 use std::process::Abort;
 
@@ -16,7 +18,7 @@ const FIRST: Numbers = Numbers {
 };
 
 // The stores that stand beside a session's own.
-fn strangers(alloc: Global) -> Strangers<UnsyncStorage<String>> {
+fn strangers<P: SlotPool>(alloc: Global) -> Strangers<Store<String, P>> {
     Strangers::new(alloc, Store::new(alloc, 8), Store::new(alloc, 7))
 }
 
@@ -34,8 +36,25 @@ pub(crate) fn assert_answers_from(
 )
     requires { 1 ≤ numbers.generation }
 {
-    let store: UnsyncStorage<String> = Store::new_at(alloc, 7, numbers);
-    let mut dialect = Dialect::new(alloc, store, strangers(alloc));
+    assert_answers_over::<LastFirst>(rt, alloc, numbers, table);
+}
+
+/// Asserts the same over a new store that takes the slot that has been free for the longest.
+pub(crate) fn assert_oldest_first(rt: &impl Abort, alloc: Global, table: &[(&str, &str)]) {
+    assert_answers_over::<OldestFirst>(rt, alloc, FIRST, table);
+}
+
+// Asserts the same over a store with a pool of either kind.
+fn assert_answers_over<P: SlotPool>(
+    rt: &impl Abort,
+    alloc: Global,
+    numbers: Numbers,
+    table: &[(&str, &str)],
+)
+    requires { 1 ≤ numbers.generation }
+{
+    let store: Store<String, P> = Store::new_at(alloc, 7, numbers);
+    let mut dialect = Dialect::new(alloc, store, strangers::<P>(alloc));
     assert_table(rt, alloc, &mut dialect, table);
     let _store = dialect.finish();
 }
@@ -60,9 +79,14 @@ fn assert_table<S: Storage<String> + Drop>(
 /// Asserts that the calls of a table, handed in as one list, are answered by the replies beside
 /// them. Lines of the stores beside are no calls, and come first.
 pub(crate) fn assert_run(rt: &impl Abort, alloc: Global, table: &[(&str, &str)]) {
-    let store: UnsyncStorage<String> = Store::new(alloc, 7);
+    assert_run_over::<LastFirst>(rt, alloc, table);
+}
+
+/// Asserts the same over a store with a pool of either kind.
+pub(crate) fn assert_run_over<P: SlotPool>(rt: &impl Abort, alloc: Global, table: &[(&str, &str)]) {
+    let store: Store<String, P> = Store::new(alloc, 7);
     let mut session = Session::new(alloc, store);
-    assert_list(rt, alloc, &mut session, strangers(alloc), table);
+    assert_list(rt, alloc, &mut session, strangers::<P>(alloc), table);
     let _store = session.finish();
 }
 

@@ -11,6 +11,8 @@ use Rattle.std.proofs.lemmas.Bool.{eqb-true, false≢true}
 use Rattle.std.proofs.lemmas.Option.{none-some}
 use Rattle.std.proofs.lemmas.List.{reverse-append}
 use Rattle.std.proofs.lemmas.Map.Steps.{length-le_from_distinct_below}
+use Rattle.std.proofs.lemmas.Map.Keys.{IsDistinct-push}
+use Rattle.std.proofs.lemmas.List.Folds.{list_any-append}
 use Rattle.std.specs.List.{list_any, IsDistinct, AllByRecursion}
 use Rattle.std.specs.FinMap.{nat_cmp-IsAntisymmetric}
 use Rattle.std.specs.FinMap as map
@@ -197,13 +199,13 @@ remove-insert_new s i absent = set.same_set nat_cmp_total nat_cmp-IsAntisymmetri
     ∙ rw (contains-insert_at s i k)
     (cond_over (nat_eq k i) false true (set.contains s k) ∙ sym (contains_own s i absent k)))
 
-abbrev holds : List ℕ → ℕ → Bool
+abbrev pub holds : List ℕ → ℕ → Bool
 holds slots slot = list_any (nat_eq slot) slots
 
 abbrev pub members : List ℕ → set.FinSet nat_cmp
 members slots = set.from_list slots
 
-members-holds : (xs : List ℕ) (q : ℕ) → set.contains (members xs) q ≡ holds xs q
+pub members-holds : (xs : List ℕ) (q : ℕ) → set.contains (members xs) q ≡ holds xs q
 members-holds xs q = set.contains-from_list_nat xs q ∙ turn xs
   where
     turn : (ys : List ℕ) → list_any (λ y. nat_eq y q) ys ≡ holds ys q
@@ -223,9 +225,9 @@ all_absent : (x : ℕ) (xs : List ℕ) → AllByRecursion (λ y. nat_eq x y ≡ 
 all_absent x [] h = refl
 all_absent x (y ∷ ys) h = rw h.0 (all_absent x ys h.1)
 
-module _ {xs : List ℕ} {rooms capacity slot : ℕ} where
-  pub pool_put : IsPool xs rooms capacity → slot < rooms → set.contains (members xs) slot ≡ false
-      → IsPool (slot ∷ xs) rooms capacity
+module _ {xs : List ℕ} {rooms slot : ℕ} where
+  pub pool_put : IsPool xs rooms → slot < rooms → set.contains (members xs) slot ≡ false
+      → IsPool (slot ∷ xs) rooms
   unfolding IsDistinct
   pool_put p room absent = record {
     distinct = (absent_all slot xs (sym (members-holds xs slot) ∙ absent), p.distinct);
@@ -233,34 +235,29 @@ module _ {xs : List ℕ} {rooms capacity slot : ℕ} where
       | inl e ↦ rw e room
       | inr ne ↦ p.below q (rw (ne_eqb q slot ne) at h)
     ];
-    fits = p.fits;
   }
 
-  pub pool_take : IsPool (slot ∷ xs) rooms capacity → IsPool xs rooms capacity
+  pub pool_take : IsPool (slot ∷ xs) rooms → IsPool xs rooms
   unfolding IsDistinct
   pool_take p = record {
     distinct = p.distinct.1;
     below = λ q h.
         p.below q (elim (cases_Bool (nat_eq q slot)) [ inl t ↦ rw t refl | inr f ↦ rw f h ]);
-    fits = p.fits;
   }
 
-  head_absent : IsPool (slot ∷ xs) rooms capacity → set.contains (members xs) slot ≡ false
+  pub head_absent : IsPool (slot ∷ xs) rooms → set.contains (members xs) slot ≡ false
   unfolding IsDistinct
   head_absent p = members-holds xs slot ∙ all_absent slot xs p.distinct.0
 
-  pub members_take : IsPool (slot ∷ xs) rooms capacity
+  pub members_take : IsPool (slot ∷ xs) rooms
       → members xs ≡ set.remove (members (slot ∷ xs)) slot
   members_take p = sym (remove-insert_new (members xs) slot (head_absent p))
 
-pub pool_length : {xs : List ℕ} {rooms capacity : ℕ} → IsPool xs rooms capacity
-    → length xs ≤ capacity
-pool_length {xs} {rooms} p =
-    let le = length-le_from_distinct_below xs rooms p.distinct p.below in omega (arith, p.fits)
+pub pool_length : {xs : List ℕ} {rooms : ℕ} → IsPool xs rooms → length xs ≤ rooms
+pool_length {xs} {rooms} p = length-le_from_distinct_below xs rooms p.distinct p.below
 
 -- the slots of a pool are counted by its list
-pub pool_count : (xs : List ℕ) {rooms capacity : ℕ} → IsPool xs rooms capacity
-    → set.len (members xs) ≡ length xs
+pub pool_count : (xs : List ℕ) {rooms : ℕ} → IsPool xs rooms → set.len (members xs) ≡ length xs
 pool_count [] p = set.len-empty nat_cmp
 pool_count (x ∷ xs) p =
     let rest = pool_count xs (pool_take p) in
@@ -273,7 +270,22 @@ pub reverse_pushed : (xs ys : List ℕ) (x : ℕ) → xs ≡ ys ++ x ∷ []
     → reverse xs ≡ x ∷ reverse ys
 reverse_pushed xs ys x e = ap reverse e ∙ reverse-append ys (x ∷ [])
 
-pub pool_empty : (capacity : ℕ) → IsPool [] 0 capacity
+pub pool_empty : (rooms : ℕ) → IsPool [] rooms
 unfolding IsDistinct
-pool_empty capacity =
-    record { distinct = tt; below = λ q h. absurd (false≢true h); fits = omega arith }
+pool_empty rooms = record { distinct = tt; below = λ q h. absurd (false≢true h) }
+
+-- the same with a slot more at the end
+pub pool_push : {xs : List ℕ} {rooms slot : ℕ} → IsPool xs rooms → slot < rooms
+    → set.contains (members xs) slot ≡ false → IsPool (xs ++ slot ∷ []) rooms
+pool_push {xs} {rooms} {slot} p room absent = record {
+  distinct = IsDistinct-push nat_eq_equiv xs slot p.distinct
+      (sym (members-holds xs slot) ∙ absent);
+  below = λ q h. at q (holds xs q) refl (rw (list_any-append (nat_eq q) xs (slot ∷ [])) at h);
+}
+  where
+    at : (q : ℕ) (b : Bool) → holds xs q ≡ b → (b || (nat_eq q slot || false)) ≡ true → q < rooms
+    at q true there h = p.below q there
+    at q false absent h = elim (cases_eq q slot) [
+      | inl e ↦ rw e room
+      | inr ne ↦ absurd (false≢true (rw (ne_eqb q slot ne) at h))
+    ]

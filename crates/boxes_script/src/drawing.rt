@@ -1,0 +1,220 @@
+//! Lists of calls that are drawn from words.
+
+use generational_box::{BoxAt, Call, GenerationalBox, Location};
+use std::alloc::{AllocError, Global};
+
+/// How many words a call is drawn from.
+pub(crate) const WORDS: usize = 8;
+
+/// How many of the latest places of a kind are named.
+const LATEST: usize = 16;
+
+/// The values of the calls.
+const VALUES: [&str; 5] = ["", "a", "bc", "def", "three words here"];
+
+/// Draws a list of calls, each from eight words. Which calls it has depends on the words, and on
+/// the boxes of another store that may be named.
+///
+/// Every kind of call can occur. Most places that are named gave a box, an owner or a guard, if
+/// memory doesn't refuse it: perhaps one that is stale, or spent, or a reader where a writer is
+/// asked for. Some may have given anything, or lie past the end.
+pub fn fuzz_calls(
+    alloc: Global,
+    words: &[u32],
+    strangers: &[GenerationalBox<String>],
+) -> Result<Vec<Call<String>>, AllocError> {
+    let count = words.len() / WORDS;
+    let mut calls = Vec::with_capacity(alloc, count)?;
+    let mut drawing = Drawing::new(alloc, words, strangers);
+    for (place, line) in (0..count).zip(1..u32::MAX) {
+        drawing.begin(place);
+        let location = Location::new("fuzz", line, 1);
+        calls.push(drawing.call(location)?)?;
+    }
+    Ok(calls)
+}
+
+/// A list that is being drawn.
+#[derive(Drop)]
+struct Drawing<'a> {
+    alloc: Global,
+    words: &'a [u32],
+    strangers: &'a [GenerationalBox<String>],
+    // the call that is being drawn, and its next word
+    place: usize,
+    next: usize,
+    // the calls so far that may have given a box, an owner and a guard
+    boxes: Vec<usize>,
+    owners: Vec<usize>,
+    guards: Vec<usize>,
+}
+
+impl<'a> Drawing<'a> {
+    fn new(
+        alloc: Global,
+        words: &'a [u32],
+        strangers: &'a [GenerationalBox<String>],
+    ) -> Drawing<'a> {
+        Drawing {
+            alloc,
+            words,
+            strangers,
+            place: 0,
+            next: 0,
+            boxes: Vec::new(alloc),
+            owners: Vec::new(alloc),
+            guards: Vec::new(alloc),
+        }
+    }
+
+    // Goes on to the call of a place.
+    fn begin(&mut self, place: usize) {
+        self.place = place;
+        self.next = place.saturating_mul(WORDS);
+    }
+
+    // The next word.
+    fn word(&mut self) -> u32 {
+        let word = self.words.get(self.next).copied();
+        self.next = self.next.saturating_add(1);
+        word.unwrap_or(0)
+    }
+
+    // A number below `n`, from the next word.
+    fn below(&mut self, n: u32) -> u32 {
+        self.word().checked_rem(n).unwrap_or(0)
+    }
+
+    // A call of any kind.
+    fn call(&mut self, location: Location) -> Result<Call<String>, AllocError> {
+        match self.below(16) {
+            0..=3 => self.leak(location),
+            4..=6 => self.insert(location),
+            7..=11 => self.borrow(location),
+            12..=14 => Ok(self.end()),
+            _ => Ok(self.ask()),
+        }
+    }
+
+    // A making without an owner.
+    fn leak(&mut self, location: Location) -> Result<Call<String>, AllocError> {
+        self.boxes.push(self.place)?;
+        Ok(match self.below(4) {
+            0 => Call::LeakRc(self.value()?, location),
+            1 => Call::LeakReference(self.box_at()),
+            _ => Call::Leak(self.value()?, location),
+        })
+    }
+
+    // A making of an owner, or by one.
+    fn insert(&mut self, location: Location) -> Result<Call<String>, AllocError> {
+        let kind = self.below(8);
+        if kind < 2 {
+            let call = self.own(kind);
+            self.owners.push(self.place)?;
+            return Ok(call);
+        }
+        let owner = self.owner();
+        self.boxes.push(self.place)?;
+        Ok(match kind {
+            2 | 3 => Call::InsertRc(owner, self.value()?, location),
+            4 | 5 => Call::InsertReference(owner, self.box_at()),
+            _ => Call::Insert(owner, self.value()?, location),
+        })
+    }
+
+    // A making of an owner.
+    fn own(&mut self, kind: u32) -> Call<String> {
+        if kind == 0 {
+            Call::Owner
+        } else {
+            Call::CloneOwner(self.owner())
+        }
+    }
+
+    // A borrow, a change under it, or its end.
+    fn borrow(&mut self, location: Location) -> Result<Call<String>, AllocError> {
+        let kind = self.below(8);
+        if kind < 4 {
+            let asked = self.box_at();
+            self.guards.push(self.place)?;
+            return Ok(match kind {
+                0 | 1 => Call::TryRead(asked, location),
+                _ => Call::TryWrite(asked, location),
+            });
+        }
+        let guard = self.guard();
+        Ok(match kind {
+            4 => Call::Replace(guard, self.value()?),
+            _ => Call::Release(guard),
+        })
+    }
+
+    // An end, or a turn that may end a value.
+    fn end(&mut self) -> Call<String> {
+        match self.below(8) {
+            0 => Call::ReleaseOwner(self.owner()),
+            1 => Call::LeakOwner(self.owner()),
+            2 | 3 => Call::PointTo(self.box_at(), self.box_at()),
+            _ => Call::ManuallyDrop(self.box_at()),
+        }
+    }
+
+    // A question.
+    fn ask(&mut self) -> Call<String> {
+        match self.below(4) {
+            0 => Call::Id(self.box_at()),
+            1 => Call::RawPtr(self.box_at()),
+            2 => Call::CreatedAt(self.box_at()),
+            _ => Call::PtrEq(self.box_at(), self.box_at()),
+        }
+    }
+
+    // A value.
+    fn value(&mut self) -> Result<String, AllocError> {
+        let value = of(&VALUES, self.word());
+        String::from_str(self.alloc, value.unwrap_or(""))
+    }
+
+    // A box: seldom a foreign one, or that of any place.
+    fn box_at(&mut self) -> BoxAt<String> {
+        let word = self.word();
+        match (word % 16, of(self.strangers, word / 16)) {
+            (0, Some(stranger)) => BoxAt::Foreign(stranger),
+            (1, _) => BoxAt::Place(any(self.place, word / 16)),
+            _ => BoxAt::Place(latest(&self.boxes, self.place, word / 16)),
+        }
+    }
+
+    // The place of an owner.
+    fn owner(&mut self) -> usize {
+        let word = self.word();
+        latest(&self.owners, self.place, word)
+    }
+
+    // The place of a guard.
+    fn guard(&mut self) -> usize {
+        let word = self.word();
+        latest(&self.guards, self.place, word)
+    }
+}
+
+// The item that a word picks.
+fn of<X: Copy>(items: &[X], word: u32) -> Option<X> {
+    let index = (word as usize).checked_rem(items.len())?;
+    items.get(index).copied()
+}
+
+// A place that a word picks: it may be this one, or the one after it.
+fn any(place: usize, word: u32) -> usize {
+    let end = place.saturating_add(2);
+    (word as usize).checked_rem(end).unwrap_or(0)
+}
+
+// One of the latest places of a list that a word picks, or else any.
+fn latest(places: &Vec<usize>, place: usize, word: u32) -> usize {
+    let count = places.len().min(LATEST);
+    let picked = (word as usize).checked_rem(count);
+    let found = picked.and_then(|back| places.iter().rev().nth(back).copied());
+    found.unwrap_or(any(place, word))
+}

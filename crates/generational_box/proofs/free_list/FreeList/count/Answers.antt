@@ -1,0 +1,10 @@
+use Rattle.std.proofs.Common.{sym, ◌∙◌}
+use Rattle.generational_box.proofs.lists.Chains.{chain_length}
+use Rattle.generational_box.proofs.lists.Lists.{pool_count}
+use Rattle.generational_box.proofs.free_list.FreeList.count.Goals as goal
+
+pub returns : goal.returns
+returns c =
+    let l = c.self.inside in
+    rw (← c.self.view_is)
+    (sym (pool_count _ c.self.invariant ∙ chain_length l.links.items l.first l.count))

@@ -1,0 +1,5 @@
+use Rattle.generational_box.proofs.lists.Lists.{pool_empty}
+use Rattle.generational_box.proofs.free_list.FreeList.new.Goals as goal
+
+pub invariant_of-result : goal.invariant_of-result
+invariant_of-result c = pool_empty _

@@ -1,0 +1,156 @@
+//! Slots in a list whose links stand in a vector.
+
+ghost use Rattle.std.specs.Prelude.{◌≡◌, ◌+◌, ◌<◌, ◌∷◌, ◌++◌, [], false, true, IfSome, IfErr};
+ghost use Rattle.std.specs.Prelude.{OnOk, OnErr, drop, length, slice_get, vec_capacity};
+ghost use Rattle.std.specs.FinSet as set;
+ghost use Rattle.generational_core.specs.declared.error.StoreError.TheVariants.{OutOfMemory};
+ghost use Rattle.generational_box.specs.Pools.{last_of, members_of};
+
+use generational_core::StoreError;
+use std::alloc::Global;
+use std::marker::Model;
+
+// Slots without repetition, in an order that whoever puts them in chooses. There is room for as
+// many as have a link. Contracts see the slots, the first one first, and the room.
+#[derive(Drop)]
+pub(crate) struct FreeList {
+    // where a slot is in the list and isn't its last, its link is the next slot
+    links: Vec<usize>,
+    // where the list isn't empty, its first slot
+    first: usize,
+    count: usize,
+}
+
+impl Model for FreeList {
+    ghost use Rattle.std.specs.Prelude.{length};
+    ghost use Rattle.generational_box.specs.Pools.{chain, IsPool, Pool};
+
+    ghost Value = { Pool };
+
+    ghost view = { λ l. record {
+      slots = chain l.links.items l.first l.count;
+      rooms = length l.links.items;
+    } };
+
+    ghost invariant = { λ l. IsPool (chain l.links.items l.first l.count) (length l.links.items) };
+}
+
+impl FreeList {
+    // No slot and no room. Takes no memory.
+    pub(crate) fn new(alloc: Global) -> FreeList
+        ensures slots { result.slots ≡ [] }
+        ensures rooms { result.rooms ≡ 0 }
+    {
+        FreeList {
+            links: Vec::new(alloc),
+            first: 0,
+            count: 0,
+        }
+    }
+
+    // Makes room for one more slot. The only refusal is want of memory, which changes nothing.
+    #[inline(always)]
+    pub(crate) fn grow(&mut self) -> Result<(), StoreError>
+        ensures slots { self.new.slots ≡ self.old.slots }
+        ensures ok { OnOk result (self.new.rooms ≡ self.old.rooms + 1) }
+        ensures err { OnErr result (self.new.rooms ≡ self.old.rooms) }
+        ensures cause { IfErr result (λ error. error ≡ OutOfMemory) }
+    {
+        reserve_one(&mut self.links)?;
+        self.links.push_reserved(0);
+        Ok(())
+    }
+
+    // Takes the first slot out. Takes no memory.
+    #[inline(always)]
+    pub(crate) fn take(&mut self) -> Option<usize>
+        ensures first { result ≡ slice_get self.old.slots 0 }
+        ensures rest { self.new.slots ≡ drop 1 self.old.slots }
+        ensures rooms { self.new.rooms ≡ self.old.rooms }
+        ensures member { IfSome result (λ slot. set.contains (members_of self.old) slot ≡ true) }
+        ensures taken { IfSome result (λ slot. members_of self.new
+            ≡ set.remove (members_of self.old) slot) }
+    {
+        if self.count == 0 {
+            return None;
+        }
+        let slot = self.first;
+        self.first = self.links[slot];
+        self.count -= 1;
+        Some(slot)
+    }
+
+    // Puts a slot in before the others. Takes no memory.
+    #[inline(always)]
+    pub(crate) fn put_first(&mut self, slot: usize)
+        requires room { slot < self.old.rooms }
+        requires absent { set.contains (members_of self.old) slot ≡ false }
+        ensures slots { self.new.slots ≡ slot ∷ self.old.slots }
+        ensures rooms { self.new.rooms ≡ self.old.rooms }
+    {
+        self.links[slot] = self.first;
+        self.first = slot;
+        self.count += 1;
+    }
+
+    // Puts a slot in behind the others, of which one that is named is the last. Takes no memory.
+    #[inline(always)]
+    pub(crate) fn put_last(&mut self, slot: usize, last: usize)
+        requires room { slot < self.old.rooms }
+        requires absent { set.contains (members_of self.old) slot ≡ false }
+        requires last { last_of last self.old.slots ≡ last }
+        ensures slots { self.new.slots ≡ self.old.slots ++ slot ∷ [] }
+        ensures rooms { self.new.rooms ≡ self.old.rooms }
+        ensures added { members_of self.new ≡ set.insert (members_of self.old) slot }
+    {
+        if self.count == 0 {
+            self.put_first(slot);
+            return;
+        }
+        self.links[last] = slot;
+        self.count += 1;
+    }
+
+    // For how many slots there is room.
+    #[inline(always)]
+    pub(crate) fn room(&self) -> usize
+        ensures { result ≡ self.now.rooms }
+    {
+        self.links.len()
+    }
+
+    // How many slots there are.
+    #[inline(always)]
+    pub(crate) fn count(&self) -> usize
+        ensures { result ≡ set.len (members_of self.now) }
+    {
+        self.count
+    }
+}
+
+// Makes room for one link more. Want of memory changes no link.
+#[inline(always)]
+fn reserve_one(links: &mut Vec<usize>) -> Result<(), StoreError>
+    ensures links { links.new.items ≡ links.old.items }
+    ensures ok { OnOk result (length links.new.items < vec_capacity links.new) }
+    ensures cause { IfErr result (λ error. error ≡ OutOfMemory) }
+{
+    if links.len() < links.capacity() {
+        return Ok(());
+    }
+    reserve_more(links)
+}
+
+// The same where there is none.
+#[cold]
+#[inline(never)]
+fn reserve_more(links: &mut Vec<usize>) -> Result<(), StoreError>
+    ensures links { links.new.items ≡ links.old.items }
+    ensures ok { OnOk result (length links.new.items < vec_capacity links.new) }
+    ensures cause { IfErr result (λ error. error ≡ OutOfMemory) }
+{
+    if links.reserve(1).is_err() {
+        return Err(StoreError::OutOfMemory);
+    }
+    Ok(())
+}

@@ -1,0 +1,197 @@
+//! Drawn lists of calls over two stores, and how their replies compare.
+
+use crate::runs::{assert_ended, run_words};
+use boxes_script::{Verdict, compare, fuzz_calls, fuzz_words};
+use generational_box::{Call, GenerationalBox, Location, Reply, StoreError};
+use std::alloc::{AllocError, Global};
+use std::process::Abort;
+
+/// Asserts how the program ends with these words, and what it writes.
+fn assert_fuzz(
+    rt: &impl Abort,
+    alloc: Global,
+    words: &[&str],
+    status: u8,
+    output: &str,
+    faults: &str,
+) {
+    let mut after = Vec::new(alloc);
+    for word in words {
+        let word = String::from_str(alloc, word).expect(rt, "memory");
+        after.push(word).expect(rt, "memory");
+    }
+    let outcome = run_words(alloc, &after, &mut "".as_bytes());
+    assert_ended(rt, &outcome, status, output, faults);
+}
+
+#[test]
+fn two_stores_answer_a_list_alike(rt: HostRuntime) {
+    let alloc = rt.alloc();
+    assert_fuzz(&rt, alloc, &["fuzz", "1", "10000"], 0, "same\n", "");
+    assert_fuzz(&rt, alloc, &["fuzz", "1", "0"], 0, "same\n", "");
+    assert_fuzz(
+        &rt,
+        alloc,
+        &["fuzz", "18446744073709551615", "1"],
+        0,
+        "same\n",
+        "",
+    );
+}
+
+/// What standard error gets where the words are none that the program knows.
+const USAGE: &str = "boxes: usage: boxes or boxes fuzz SEED COUNT\n";
+
+#[test]
+fn words_that_are_no_list(rt: HostRuntime) {
+    let alloc = rt.alloc();
+    assert_fuzz(&rt, alloc, &["fuzz", "1"], 2, "", USAGE);
+    assert_fuzz(&rt, alloc, &["fuzz", "1", "100001"], 2, "", USAGE);
+    assert_fuzz(
+        &rt,
+        alloc,
+        &["fuzz", "18446744073709551616", "1"],
+        2,
+        "",
+        USAGE,
+    );
+    assert_fuzz(&rt, alloc, &["fuzz", "01", "1"], 2, "", USAGE);
+    assert_fuzz(&rt, alloc, &["fuzz", "+1", "1"], 2, "", USAGE);
+    assert_fuzz(&rt, alloc, &["fuzz", "1", ""], 2, "", USAGE);
+    assert_fuzz(&rt, alloc, &["fuzz", "1", "1", "1"], 2, "", USAGE);
+    assert_fuzz(&rt, alloc, &["buzz", "1", "1"], 2, "", USAGE);
+}
+
+/// The kinds of calls.
+const KINDS: [&str; 20] = [
+    "Leak",
+    "LeakRc",
+    "LeakReference",
+    "Insert",
+    "InsertRc",
+    "InsertReference",
+    "Owner",
+    "CloneOwner",
+    "ReleaseOwner",
+    "LeakOwner",
+    "TryRead",
+    "TryWrite",
+    "Replace",
+    "Release",
+    "ManuallyDrop",
+    "PointTo",
+    "PtrEq",
+    "Id",
+    "RawPtr",
+    "CreatedAt",
+];
+
+/// The kind of a call.
+fn kind(call: &Call<String>) -> &'static str {
+    match call {
+        Call::Leak(_, _) => "Leak",
+        Call::LeakRc(_, _) => "LeakRc",
+        Call::LeakReference(_) => "LeakReference",
+        Call::Insert(_, _, _) => "Insert",
+        Call::InsertRc(_, _, _) => "InsertRc",
+        Call::InsertReference(_, _) => "InsertReference",
+        Call::Owner => "Owner",
+        Call::CloneOwner(_) => "CloneOwner",
+        Call::ReleaseOwner(_) => "ReleaseOwner",
+        Call::LeakOwner(_) => "LeakOwner",
+        Call::TryRead(_, _) => "TryRead",
+        Call::TryWrite(_, _) => "TryWrite",
+        Call::Replace(_, _) => "Replace",
+        Call::Release(_) => "Release",
+        Call::ManuallyDrop(_) => "ManuallyDrop",
+        Call::PointTo(_, _) => "PointTo",
+        Call::PtrEq(_, _) => "PtrEq",
+        Call::Id(_) => "Id",
+        Call::RawPtr(_) => "RawPtr",
+        Call::CreatedAt(_) => "CreatedAt",
+    }
+}
+
+// The list of a seed has calls of all kinds.
+#[test]
+fn a_list_has_every_kind_of_call(rt: HostRuntime) {
+    let words = fuzz_words(rt.alloc(), 1, 8 * 10000).expect(&rt, "memory");
+    let strangers: [GenerationalBox<String>; 0] = [];
+    let calls = fuzz_calls(rt.alloc(), &words, &strangers).expect(&rt, "memory");
+    assert_eq!(&rt; calls.len(), 10000);
+    for wanted in KINDS {
+        assert!(&rt;
+            calls.iter().any(|call| kind(call) == wanted),
+            "no {wanted}"
+        );
+    }
+}
+
+/// Three replies, of which the second is another.
+fn three(rt: &impl Abort, alloc: Global, second: Reply<String>) -> Vec<Reply<String>> {
+    let mut replies = Vec::new(alloc);
+    replies
+        .push(Reply::Owner)
+        .map_err(|_| AllocError)
+        .expect(rt, "memory");
+    replies
+        .push(second)
+        .map_err(|_| AllocError)
+        .expect(rt, "memory");
+    replies
+        .push(Reply::Done)
+        .map_err(|_| AllocError)
+        .expect(rt, "memory");
+    replies
+}
+
+/// Asserts how two lists of replies compare that have these at place 1.
+fn assert_compared(
+    rt: &impl Abort,
+    alloc: Global,
+    one: Reply<String>,
+    other: Reply<String>,
+    verdict: Verdict,
+) {
+    let ones = three(rt, alloc, one);
+    let others = three(rt, alloc, other);
+    assert_eq!(rt; compare(&ones, &others), verdict);
+    assert_eq!(rt; compare(&others, &ones), verdict);
+}
+
+/// Where the replies of the next test say that a box was made.
+fn at(line: u32) -> Reply<String> {
+    Reply::Created(Location::new("fuzz", line, 1))
+}
+
+#[test]
+fn the_first_place_that_differs_is_found(rt: HostRuntime) {
+    let alloc = rt.alloc();
+    let lacks = StoreError::OutOfMemory;
+    let ended = StoreError::NumbersExhausted;
+    assert_compared(&rt, alloc, at(1), at(1), Verdict::Same);
+    assert_compared(&rt, alloc, Reply::Slot(1), Reply::Slot(2), Verdict::Same);
+    assert_compared(&rt, alloc, at(1), at(2), Verdict::Differs(1));
+    assert_compared(&rt, alloc, Reply::Done, Reply::Reader, Verdict::Differs(1));
+    assert_compared(
+        &rt,
+        alloc,
+        Reply::Store(lacks),
+        Reply::Done,
+        Verdict::Refused(1),
+    );
+    assert_compared(
+        &rt,
+        alloc,
+        Reply::Store(lacks),
+        Reply::Store(ended),
+        Verdict::Refused(1),
+    );
+    assert_compared(
+        &rt,
+        alloc,
+        Reply::Store(ended),
+        Reply::Store(ended),
+        Verdict::Same,
+    );
+}
