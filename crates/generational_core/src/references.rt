@@ -1,8 +1,9 @@
 //! Guards and views.
 
-ghost use Rattle.std.specs.Prelude.{◌≡◌};
+ghost use Rattle.std.specs.Prelude.{◌≡◌, Some};
 ghost use Rattle.std.specs.Borrow.{sem};
 ghost use Rattle.generational_core.specs.Boxes.{name_in};
+ghost use Rattle.generational_core.specs.Texts.{reader_text, writer_text};
 
 use crate::boxes::GenerationalBoxId;
 use crate::error::StoreError;
@@ -63,6 +64,15 @@ impl<T> GenerationalRef<T> {
         ensures { Meets (S.state store.old) (ReleaseReader self) (Flag result) (S.state store.new) }
     {
         store.release_read(self)
+    }
+}
+
+/// Prints `reader TICKET of SLOT@GENERATION`.
+impl<T> fmt::Debug for GenerationalRef<T> {
+    ghost debug_output = { λ g. Some (reader_text g) };
+
+    fn fmt<W: fmt::Write>(&self, f: &mut fmt::Formatter<W>) -> fmt::Result {
+        write!(f, "reader {} of {:?}", self.ticket, self.id)
     }
 }
 
@@ -294,6 +304,15 @@ impl<T> GenerationalRefMut<T> {
             (back_answer result) (S.state store.new) }
     {
         store.release_write(self)
+    }
+}
+
+/// Prints `writer TICKET of SLOT@GENERATION`.
+impl<T> fmt::Debug for GenerationalRefMut<T> {
+    ghost debug_output = { λ g. Some (writer_text g.guard) };
+
+    fn fmt<W: fmt::Write>(&self, f: &mut fmt::Formatter<W>) -> fmt::Result {
+        write!(f, "writer {} of {:?}", self.ticket, self.id)
     }
 }
 
