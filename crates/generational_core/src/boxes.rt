@@ -1,6 +1,7 @@
 //! Ids, pointers and boxes.
 
 ghost use Rattle.std.specs.Prelude.{◌≡◌, Some, ⊤};
+ghost use Rattle.generational_core.specs.declared.error.StoreError.TheVariants.{NumbersExhausted};
 ghost use Rattle.generational_core.specs.Boxes.{box_of};
 ghost use Rattle.generational_core.specs.Answers.{pointer_of};
 ghost use Rattle.generational_core.specs.Texts.{id_text};
@@ -178,7 +179,6 @@ impl<T> GenerationalBox<T> {
 
 impl<T> GenerationalBox<T> {
     ghost use Rattle.std.specs.Prelude.{◌≡◌, true, IfErr, None};
-    ghost use Rattle.generational_core.specs.declared.error.StoreError.TheVariants.{NumbersExhausted};
     ghost use Rattle.generational_core.specs.Answers.{pointer_of};
     ghost use Rattle.generational_core.specs.Borrowing.{can_read, can_write};
     ghost use Rattle.generational_core.specs.Machine.Action.{Make, MakeShared, Refer, Read, Write};

@@ -12,17 +12,15 @@ use Rattle.generational_core.specs.Cells.{Content}
 use Rattle.generational_core.specs.Cells.Content.{Here}
 use Rattle.generational_core.specs.State.{State}
 use Rattle.generational_core.specs.Borrowing.{Guard, Trouble, can_write}
-use Rattle.generational_core.specs.Machine.{Answer, Fresh, Outcome, act, unless}
-use Rattle.generational_core.specs.Machine.{write_at}
+use Rattle.generational_core.specs.Machine.{Answer, Fresh, Outcome, act, unless, write_at}
 use Rattle.generational_core.specs.Machine.Action.{Write}
-use Rattle.generational_core.specs.Machine.Answer.{Reads, Writes, Done, Refused}
+use Rattle.generational_core.specs.Machine.Answer.{Writes, Done, Refused}
 use Rattle.generational_core.specs.Steps.{Meets, limit_tickets, takes_ticket, last_ticket, may_lack}
 use Rattle.generational_core.specs.Steps.{needs_memory, no_names}
 
 module _ {T : Type 0} where
-  -- an answer of a borrow that no other borrow hindered
+  -- an answer to a write that no borrow hinders
   data Granted : Answer T → Type 0 where
-    reads : (g : Guard) → Granted (Reads g)
     writes : (g : Guard) (v : T) → Granted (Writes g v)
     done : Granted Done
     ended : Granted (Refused NumbersExhausted)
@@ -44,14 +42,12 @@ module _ {T : Type 0} where
   -- such an answer is a refusal by the end of numbers alone, and wants no memory
   refuses_by : (answer : Answer T) (e : StoreError)
       → Granted answer → answer ≡ Refused e → e ≡ NumbersExhausted
-  refuses_by answer e (reads g) is = cc
   refuses_by answer e (writes g v) is = cc
   refuses_by answer e done is = cc
   refuses_by answer e ended is = cc
 
   wants_none : (S : State T) (b : GenerationalPointer) (l : Location) (answer : Answer T)
       → Granted answer → needs_memory S answer (Write b l) ≡ false
-  wants_none S b l answer (reads g) = refl
   wants_none S b l answer (writes g v) = refl
   wants_none S b l answer done = refl
   wants_none S b l answer ended = refl
