@@ -22,6 +22,9 @@
 //! | `try_read B`           | `reader`                                                       |
 //! | `try_write B`          | `writer`                                                       |
 //! | `replace G VALUE`      | `old ` and the value that G's writer had                       |
+//! | `set B VALUE`          | `ok`, and VALUE is B's; `unready` where `can_write B` is false |
+//! | `can_read B`           | `true` or `false`: whether `try_read B` meets no borrow error  |
+//! | `can_write B`          | `true` or `false`: whether `try_write B` meets no borrow error |
 //! | `show G`               | `value ` and the value that G's guard lends                    |
 //! | `release N`            | `ok`, and N's guard or owner is spent                          |
 //! | `end B`                | `ok`, and B's box reaches nothing any more                     |

@@ -24,6 +24,9 @@ enum Command<'a> {
     TryRead(u32),
     TryWrite(u32),
     Replace(u32, &'a str),
+    Set(u32, &'a str),
+    CanRead(u32),
+    CanWrite(u32),
     Show(u32),
     Release(u32),
     End(u32),
@@ -186,6 +189,9 @@ impl<S: Storage<String>> Script<S> {
             Command::TryRead(line) => Call::TryRead(self.box_at(line), location),
             Command::TryWrite(line) => Call::TryWrite(self.box_at(line), location),
             Command::Replace(line, value) => Call::Replace(self.place(line), self.value(value)?),
+            Command::Set(line, value) => Call::Set(self.box_at(line), self.value(value)?),
+            Command::CanRead(line) => Call::CanRead(self.box_at(line)),
+            Command::CanWrite(line) => Call::CanWrite(self.box_at(line)),
             Command::Show(line) => return Ok(Request::View(self.place(line))),
             Command::Release(line) => self.release(line),
             Command::End(line) => Call::ManuallyDrop(self.box_at(line)),
@@ -286,7 +292,7 @@ fn parse_words<'a>(word: &str, rest: &'a str) -> Option<Command<'a>> {
     match word {
         "leak" => Some(Command::Leak(rest)),
         "leak_rc" => Some(Command::LeakRc(rest)),
-        "insert" | "insert_rc" | "replace" => {
+        "insert" | "insert_rc" | "replace" | "set" => {
             let (line, value) = line_and_value(rest)?;
             of_value(word, line, value)
         }
@@ -304,6 +310,7 @@ fn of_value<'a>(word: &str, line: u32, value: &'a str) -> Option<Command<'a>> {
         "insert" => Some(Command::Insert(line, value)),
         "insert_rc" => Some(Command::InsertRc(line, value)),
         "replace" => Some(Command::Replace(line, value)),
+        "set" => Some(Command::Set(line, value)),
         _ => None,
     }
 }
@@ -326,6 +333,8 @@ fn of_line<'a>(word: &str, line: u32) -> Option<Command<'a>> {
         "leak_owner" => Some(Command::LeakOwner(line)),
         "try_read" => Some(Command::TryRead(line)),
         "try_write" => Some(Command::TryWrite(line)),
+        "can_read" => Some(Command::CanRead(line)),
+        "can_write" => Some(Command::CanWrite(line)),
         "show" => Some(Command::Show(line)),
         "release" => Some(Command::Release(line)),
         "end" => Some(Command::End(line)),
@@ -362,6 +371,7 @@ pub fn write_reply<W: Write>(output: &mut W, reply: Reply<String>) -> io::Result
         Reply::Created(location) => writeln!(output, "{location}"),
         Reply::Error(error) => writeln!(output, "error: {error}"),
         Reply::Store(error) | Reply::Back(_, error) => writeln!(output, "refused: {error}"),
+        Reply::Unready(_) => writeln!(output, "unready"),
         Reply::NoSuch(_) => writeln!(output, "no such"),
     }
 }

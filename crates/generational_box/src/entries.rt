@@ -361,6 +361,24 @@ impl<T: Drop> Entries<T> {
         }
     }
 
+    // Puts another value in the place of that of a cell without borrows, and answers the old one.
+    #[inline(always)]
+    pub(crate) fn replace(&mut self, slot: usize, value: T) -> T
+        requires within { slot < length self.old.slots }
+        requires free { IfSome (slice_get self.old.slots slot)
+            (λ e. has_no_borrow (content_in e.kept) ≡ true) }
+        ensures value { IfSome (slice_get self.old.slots slot)
+            (λ e. content_in e.kept ≡ Some (Here result [])) }
+        ensures after { self.new.slots ≡ change_entry self.old.slots slot
+            (λ e. record e { kept = with_value value e.kept }) }
+        ensures rooms { self.new.rooms ≡ self.old.rooms }
+    {
+        match &mut self.entries[slot].content {
+            StorageEntryData::Data(_, _, kept) => mem::replace(kept, value),
+            _ => unreachable!(),
+        }
+    }
+
     // Ends the slot's cell, with the borrows that stand there.
     #[inline(always)]
     pub(crate) fn end(&mut self, slot: usize)

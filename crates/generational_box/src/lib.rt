@@ -32,6 +32,6 @@ pub use crate::unsync::{Store, UnsyncStorage};
 pub use generational_core::{
     AlreadyBorrowedError, AlreadyBorrowedMutError, AnyStorage, BorrowError, BorrowMutError,
     BorrowMutResult, BorrowResult, BoxAt, Call, GenerationalBox, GenerationalBoxId,
-    GenerationalPointer, GenerationalRef, GenerationalRefMut, Location, Mut, Owner, Ref, Refusal,
-    Refused, Reply, Session, StepCall, Storage, StoreError, ValueDroppedError, laws,
+    GenerationalPointer, GenerationalRef, GenerationalRefMut, Location, Mut, MutPart, Owner, Ref,
+    Refusal, Refused, Reply, Session, StepCall, Storage, StoreError, ValueDroppedError, laws,
 };

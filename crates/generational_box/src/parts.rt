@@ -11,7 +11,7 @@ ghost use Rattle.generational_core.specs.Answers.{make_answer, owner_answer, rel
 ghost use Rattle.generational_core.specs.Answers.{read_answer, write_answer, back_answer};
 ghost use Rattle.generational_core.specs.Answers.{end_answer, reference_answer, read_refused};
 ghost use Rattle.generational_core.specs.Answers.{value_behind};
-ghost use Rattle.generational_core.specs.Borrowing.{reach, read_trouble};
+ghost use Rattle.generational_core.specs.Borrowing.{can_read, can_write, reach, read_trouble};
 ghost use Rattle.generational_core.specs.Boxes.{box_of, id_of, name_in};
 ghost use Rattle.generational_core.specs.Cells.{content_of, is_shared};
 ghost use Rattle.generational_core.specs.Conditions.{fresh, HasTargets, IsFresh};
@@ -19,7 +19,8 @@ ghost use Rattle.generational_core.specs.Machine.{is_known, own_cell, OwnerName}
 ghost use Rattle.generational_core.specs.Machine.Action.{Make, MakeShared, Refer, NewOwner};
 ghost use Rattle.generational_core.specs.Machine.Action.{CloneOwner, ReleaseOwner, Read, Write};
 ghost use Rattle.generational_core.specs.Machine.Action.{ReleaseReader, ReleaseWriter, End, Point};
-ghost use Rattle.generational_core.specs.Machine.Answer.{Flag};
+ghost use Rattle.generational_core.specs.Machine.Action.{SetValue};
+ghost use Rattle.generational_core.specs.Machine.Answer.{Flag, Old};
 ghost use Rattle.generational_core.specs.Slots.{slots, free, retired};
 ghost use Rattle.generational_core.specs.State.{IsSound};
 ghost use Rattle.generational_core.specs.StepCalls.{is_ready};
@@ -307,6 +308,30 @@ impl<T: Drop, P: SlotPool> Parts<T, P> {
         }
     }
 
+    // Whether a read meets no writer, and reaches a value.
+    #[inline(always)]
+    pub(crate) fn can_read(&self, pointer: GenerationalPointer) -> bool
+        requires { IsSound self.now }
+        ensures { result ≡ can_read self.now pointer }
+    {
+        match self.reach(pointer) {
+            Some(name) => self.slots.borrow_error(name).is_none(),
+            None => false,
+        }
+    }
+
+    // Whether a write meets no borrow, and reaches a value.
+    #[inline(always)]
+    pub(crate) fn can_write(&self, pointer: GenerationalPointer) -> bool
+        requires { IsSound self.now }
+        ensures { result ≡ can_write self.now pointer }
+    {
+        match self.reach(pointer) {
+            Some(name) => self.slots.is_unborrowed(name),
+            None => false,
+        }
+    }
+
     // Ends the cell that the pointer names.
     #[inline(always)]
     pub(crate) fn recycle(&mut self, pointer: GenerationalPointer) -> BorrowMutResult<()>
@@ -485,6 +510,19 @@ impl<T: Drop, P: SlotPool> Parts<T, P> {
         let value = self.slots.begin_write(name, Borrow { ticket, location });
         self.next = ticket + 1;
         Ok(writer_at(self.id_of(name), ticket, value))
+    }
+
+    // Puts another value in the place of the reached one, and answers the old one.
+    #[inline(always)]
+    pub(crate) fn replace_value(&mut self, pointer: GenerationalPointer, value: T) -> T
+        requires sound { IsSound self.old }
+        requires free { can_write self.old pointer ≡ true }
+        ensures { Meets self.old (SetValue pointer value) (Old result) self.new }
+    {
+        match self.reach(pointer) {
+            Some(name) => self.slots.replace(name, value),
+            None => unreachable!(),
+        }
     }
 
     // Ends a write, and puts the guard's value back.

@@ -269,6 +269,17 @@ impl<T: Drop, P: SlotPool> Slots<T, P> {
         self.entries.release_write(name.slot, ticket, value)
     }
 
+    // Puts another value in the place of one without borrows, and answers the old one.
+    #[inline(always)]
+    pub(crate) fn replace(&mut self, name: CellName, value: T) -> T
+        requires { has_no_borrow (content_at self.old.state (name_of_cell name)) ≡ true }
+        ensures value { content_at self.old.state (name_of_cell name) ≡ Some (Here result []) }
+        ensures after { self.new.state
+            ≡ fill self.old.state (name_of_cell name) (Here value []) }
+    {
+        self.entries.replace(name.slot, value)
+    }
+
     // For how many cells more there is room.
     #[inline(always)]
     fn spare(&self) -> usize

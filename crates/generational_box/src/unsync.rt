@@ -12,6 +12,7 @@ use generational_core::{
     StoreError,
 };
 use std::alloc::Global;
+use std::fmt;
 use std::marker::Model;
 
 /// A store of values of one type in recycled slots. Contracts see it as the state of the abstract
@@ -72,6 +73,24 @@ impl<T, P: SlotPool> Store<T, P> {
     }
 }
 
+/// Prints `store NUMBER: SLOTS slots, FREE free`.
+impl<T: Drop, P: SlotPool> fmt::Debug for Store<T, P> {
+    ghost use Rattle.std.specs.Prelude.{Some};
+    ghost use Rattle.generational_core.specs.Texts.{store_text};
+
+    ghost debug_output = { λ s. Some (store_text s.state) };
+
+    fn fmt<W: fmt::Write>(&self, f: &mut fmt::Formatter<W>) -> fmt::Result {
+        write!(
+            f,
+            "store {}: {} slots, {} free",
+            self.parts.number(),
+            self.parts.slots(),
+            self.parts.free()
+        )
+    }
+}
+
 impl<T: Drop, P: SlotPool> AnyStorage<T> for Store<T, P> {
     ghost state = { λ s. s.state };
 
@@ -126,6 +145,16 @@ impl<T: Drop, P: SlotPool> AnyStorage<T> for Store<T, P> {
 
     fn ready(&self, call: &StepCall) -> bool {
         self.parts.ready(call)
+    }
+
+    #[inline(always)]
+    fn can_read(&self, pointer: GenerationalPointer) -> bool {
+        self.parts.can_read(pointer)
+    }
+
+    #[inline(always)]
+    fn can_write(&self, pointer: GenerationalPointer) -> bool {
+        self.parts.can_write(pointer)
     }
 
     #[inline(always)]
@@ -191,6 +220,11 @@ impl<T: Drop, P: SlotPool> Storage<T> for Store<T, P> {
         location: Location,
     ) -> BorrowMutResult<GenerationalRefMut<T>> {
         self.parts.try_write(pointer, location)
+    }
+
+    #[inline(always)]
+    fn replace_value(&mut self, pointer: GenerationalPointer, value: T) -> T {
+        self.parts.replace_value(pointer, value)
     }
 
     #[inline(always)]

@@ -3,6 +3,7 @@ pub mod Bounding
 pub mod Changes
 pub mod Closing
 pub mod Ends
+pub mod Granting
 pub mod Linking
 pub mod Releasing
 pub mod Soundness

@@ -75,6 +75,15 @@ module _ {T : Type 0} where
   write_answer (Ok g) = Writes g.guard g.value
   write_answer (Err e) = end_refused e
 
+  -- what a read, and a write, under its condition answers
+  abbrev pub free_read_answer : Result Guard StoreError → Answer T
+  free_read_answer (Ok g) = Reads g
+  free_read_answer (Err e) = refuses e
+
+  abbrev pub free_write_answer : Result (WriteGuard T) StoreError → Answer T
+  free_write_answer (Ok g) = Writes g.guard g.value
+  free_write_answer (Err e) = refuses e
+
   -- what the release of a writer answers
   abbrev pub back_answer : {U : Type 0} → Result U T → Answer T
   back_answer (Ok u) = Done

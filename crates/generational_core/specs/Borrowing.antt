@@ -1,6 +1,7 @@
 -- What a box reaches, and how a borrow of it is answered.
 use Rattle.generational_core.specs.State.{content_at, State}
-use Rattle.std.specs.Prelude.{ℕ, ◌+◌, if◌then◌else◌, nat_eq, List, ◌∷◌, Option, None, Some}
+use Rattle.std.specs.Prelude.{ℕ, ◌+◌, Bool, if◌then◌else◌, nat_eq, List, ◌∷◌, Option, None, Some}
+use Rattle.std.specs.Prelude.{is_none}
 use Rattle.std.specs.Prelude.{map as list_map}
 use Rattle.std.specs.FinMap as map
 use Rattle.generational_core.specs.declared.error.Location.{Location}
@@ -53,6 +54,13 @@ module _ {T : Type 0} where
 
   unfoldable pub write_trouble : State T → GenerationalPointer → Option Trouble
   write_trouble S b = refusal_at (reach S b) b.created_at (λ n. write_refusal (content_at S n))
+
+  -- whether a read of a box is free, and whether a write of it is
+  abbrev pub can_read : State T → GenerationalPointer → Bool
+  can_read S b = is_none (read_trouble S b)
+
+  abbrev pub can_write : State T → GenerationalPointer → Bool
+  can_write S b = is_none (write_trouble S b)
 
   abbrev pub fill : State T → Name → Content T → State T  -- another content in a cell
   fill S n c = record S { cells = change S.cells n (refill c) }

@@ -2,7 +2,6 @@
 use Rattle.generational_core.specs.Cells.{location_of, content_of, Content, Cell}
 use Rattle.std.specs.Prelude.{unwrap_or, ℕ, ◌+◌, ◌-◌, Bool, true, false, if◌then◌else◌, not, ◌&&◌}
 use Rattle.std.specs.Prelude.{nat_eq, nat_lt, max, List, [], ◌∷◌, ◌++◌, Option, None, Some, is_some}
-use Rattle.std.specs.Prelude.{is_none}
 use Rattle.std.specs.List.{list_any, filter}
 use Rattle.std.specs.FinMap as map
 use Rattle.std.specs.FinSet as set
@@ -18,7 +17,7 @@ use Rattle.generational_core.specs.Cells.Cell.{Value, Shared, Ref}
 use Rattle.generational_core.specs.State.{State, Ownership, content_at}
 use Rattle.generational_core.specs.Boxes.{name_in, name_of, box_of, has_same_id}
 use Rattle.generational_core.specs.Borrowing.{Trouble, Guard, reach, read_trouble, write_trouble}
-use Rattle.generational_core.specs.Borrowing.{fill, take_ticket}
+use Rattle.generational_core.specs.Borrowing.{can_read, can_write, fill, take_ticket}
 use Rattle.generational_core.specs.Borrowing.Trouble.{Dropped}
 use Rattle.generational_core.specs.Ending.{sweep, close, hindrance_to, hindrance_at}
 
@@ -222,5 +221,5 @@ module _ {T : Type 0} where
       then (Done, S)
       else unless (read_trouble S b) S
       (point S a b (own_cell S a.id) (reach S b) (cell_at S (reach S b)))
-  act S (CanRead b) f = (Flag (is_none (read_trouble S b)), S)
-  act S (CanWrite b) f = (Flag (is_none (write_trouble S b)), S)
+  act S (CanRead b) f = (Flag (can_read S b), S)
+  act S (CanWrite b) f = (Flag (can_write S b), S)

@@ -21,7 +21,8 @@ use Rattle.generational_core.specs.Session.Request.{Asks, Tells, Swaps}
 use Rattle.generational_core.specs.Session.Held.{Boxed, Reading, Writing, Owning, Nothing}
 use Rattle.generational_core.specs.Session.SessionReply.{ABox, AnOwner, AReader, AWriter, IsDone}
 use Rattle.generational_core.specs.Session.SessionReply.{TheOld, Yes, TheId, TheSlot, Created}
-use Rattle.generational_core.specs.Session.SessionReply.{Error, Lacking, HandedBack, NoSuch}
+use Rattle.generational_core.specs.Session.SessionReply.{Error, Lacking, HandedBack, Unready}
+use Rattle.generational_core.specs.Session.SessionReply.{NoSuch}
 
 module _ {T : Type 0} where
   -- what a place holds
@@ -47,6 +48,7 @@ module _ {T : Type 0} where
   as_reply (reply.Error e) = Error (trouble_of e)
   as_reply (reply.Store e) = Lacking e
   as_reply (reply.Back v e) = HandedBack v e
+  as_reply (reply.Unready back) = Unready back
   as_reply (reply.NoSuch back) = NoSuch back
 
   abbrev pub as_replies : List (Reply T) → List (SessionReply T)

@@ -1,5 +1,5 @@
 -- What the replies of a session promise, call by call.
-use Rattle.std.specs.Prelude.{◌≡◌, ℕ, ◌≤◌, false, List, [], ◌∷◌, Some, slice_get}
+use Rattle.std.specs.Prelude.{◌≡◌, ℕ, ◌≤◌, false, List, [], ◌∷◌, None, Some, slice_get}
 use Rattle.std.specs.FinSet as set
 use Rattle.generational_core.specs.declared.boxes.GenerationalPointer.{GenerationalPointer}
 use Rattle.generational_core.specs.declared.calls.Call.{Call}
@@ -11,20 +11,30 @@ use Rattle.generational_core.specs.Borrowing.Trouble.{Dropped}
 use Rattle.generational_core.specs.Machine.{OwnerName, ownership}
 use Rattle.generational_core.specs.Session.{SessionState, SessionReply, Run, box_in, at_place}
 use Rattle.generational_core.specs.Session.Held.{Boxed, Owning}
-use Rattle.generational_core.specs.Session.SessionReply.{ABox, IsDone, Error}
+use Rattle.generational_core.specs.Session.SessionReply.{ABox, IsDone, Error, Unready}
 
 module _ {T : Type 0} where
-  -- a call is a read or a write of this box, or makes a reference from it by no owner
+  -- a call reads, writes or sets this box, or makes a reference from it by no owner
   abbrev pub Borrows : SessionState T → Call T → GenerationalPointer → Type 0
   Borrows s (call.LeakReference b) box = box_in s b ≡ Some box
   Borrows s (call.TryRead b l) box = box_in s b ≡ Some box
   Borrows s (call.TryWrite b l) box = box_in s b ≡ Some box
+  Borrows s (call.Read b l) box = box_in s b ≡ Some box
+  Borrows s (call.Write b l) box = box_in s b ≡ Some box
+  Borrows s (call.Set b v) box = box_in s b ≡ Some box
   Borrows s _ box = ⊥
 
-  -- such a call of a box whose name has ended is answered so, with the box's own location
+  -- How such a call of a box whose name has ended is answered: with the box's own location, and a
+  -- call with a condition is told that this doesn't hold.
+  abbrev pub ended_reply : Call T → GenerationalPointer → SessionReply T
+  ended_reply (call.Read a l) b = Unready None
+  ended_reply (call.Write a l) b = Unready None
+  ended_reply (call.Set a v) b = Unready (Some v)
+  ended_reply _ b = Error (Dropped b.created_at)
+
   abbrev pub TellsEnds : SessionState T → Call T → SessionReply T → Type 0
   TellsEnds s c x = (b : GenerationalPointer)
-      → Borrows s c b → IsEnded s.state (name_of b) → x ≡ Error (Dropped b.created_at)
+      → Borrows s c b → IsEnded s.state (name_of b) → x ≡ ended_reply c b
 
   -- a box of this store, whose name was never given before
   pub record IsFirstGiven (S : State T) (b : GenerationalPointer) : Type 0 where
@@ -69,7 +79,7 @@ module _ {T : Type 0} where
   abbrev pub AllTellEnds : SessionState T → List (Call T) → List (SessionReply T) → Type 0
   AllTellEnds s calls replies = (i : ℕ) (c : Call T) (b : GenerationalPointer)
       → slice_get calls i ≡ Some c → Borrows s c b → IsEnded s.state (name_of b)
-      → slice_get replies i ≡ Some (Error (Dropped b.created_at))
+      → slice_get replies i ≡ Some (ended_reply c b)
 
   -- each place keeps its box
   abbrev pub KeepBoxes : SessionState T → SessionState T → Type 0

@@ -13,11 +13,12 @@ use Rattle.generational_core.specs.declared.calls.Call.TheVariants as call
 use Rattle.generational_core.specs.Answers.{pointer_of, value_behind}
 use Rattle.generational_core.specs.Boxes.{has_same_id}
 use Rattle.generational_core.specs.State.{State}
-use Rattle.generational_core.specs.Borrowing.{Trouble, Guard}
+use Rattle.generational_core.specs.Borrowing.{Trouble, Guard, can_read, can_write}
 use Rattle.generational_core.specs.Machine.{Action, Answer, OwnerName, Outcome, act}
 use Rattle.generational_core.specs.Machine.Action.{Make, MakeShared, Refer, NewOwner, CloneOwner}
 use Rattle.generational_core.specs.Machine.Action.{ReleaseOwner, LeakOwner, Read, Write}
-use Rattle.generational_core.specs.Machine.Action.{ReleaseReader, ReleaseWriter, End, Point}
+use Rattle.generational_core.specs.Machine.Action.{ReleaseReader, ReleaseWriter, SetValue, End}
+use Rattle.generational_core.specs.Machine.Action.{Point, CanRead, CanWrite}
 use Rattle.generational_core.specs.Machine.Answer.{Made, Owned, Reads, Writes, Done, Flag, Troubled}
 use Rattle.generational_core.specs.Machine.Answer.{Refused}
 use Rattle.generational_core.specs.Steps.{Meets, no_names}
@@ -101,6 +102,11 @@ module _ {T : Type 0} where
   replace p (Writing g old) v = Swaps p g v old
   replace p _ v = Tells (NoSuch (Some v))
 
+  -- a call with a condition, which is told where it doesn't hold
+  abbrev pub if_ready : Bool → Option T → Request T → Request T
+  if_ready true back next = next
+  if_ready false back next = Tells (Unready back)
+
   -- the owner that a call names
   abbrev pub owner_in : SessionState T → ℕ → Option OwnerName
   owner_in s p = owner_held (at_place s.table p)
@@ -122,6 +128,14 @@ module _ {T : Type 0} where
   ask s (call.LeakOwner p) = with_owner (owner_in s p) None (λ o. Asks (LeakOwner o))
   ask s (call.TryRead b l) = with_box (box_in s b) None (λ b. Asks (Read b l))
   ask s (call.TryWrite b l) = with_box (box_in s b) None (λ b. Asks (Write b l))
+  ask s (call.Read b l) = with_box (box_in s b) None
+      (λ b. if_ready (can_read s.state b) None (Asks (Read b l)))
+  ask s (call.Write b l) = with_box (box_in s b) None
+      (λ b. if_ready (can_write s.state b) None (Asks (Write b l)))
+  ask s (call.Set b v) = with_box (box_in s b) (Some v)
+      (λ b. if_ready (can_write s.state b) (Some v) (Asks (SetValue b v)))
+  ask s (call.CanRead b) = with_box (box_in s b) None (λ b. Asks (CanRead b))
+  ask s (call.CanWrite b) = with_box (box_in s b) None (λ b. Asks (CanWrite b))
   ask s (call.Replace p v) = replace p (at_place s.table p) v
   ask s (call.Release p) = release (at_place s.table p)
   ask s (call.ManuallyDrop b) = with_box (box_in s b) None (λ b. Asks (End b))

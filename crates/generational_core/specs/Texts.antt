@@ -16,6 +16,11 @@ use Rattle.generational_core.specs.declared.error.StoreError.TheVariants.{Number
 use Rattle.generational_core.specs.declared.error.StoreError.TheVariants.{UnknownOwner}
 use Rattle.generational_core.specs.declared.error.Refused.{Refused}
 use Rattle.generational_core.specs.declared.error.Refused.TheVariants as refused
+use Rattle.generational_core.specs.Names.{Name}
+use Rattle.generational_core.specs.State.{State}
+use Rattle.generational_core.specs.Borrowing.{Guard}
+use Rattle.generational_core.specs.Machine.{OwnerName}
+use Rattle.generational_core.specs.Slots.{slots, free}
 
 -- file:line:column, in decimal
 abbrev pub location_text : Location → List ℕ
@@ -34,6 +39,26 @@ same_locations = pointwise same_location
 -- slot@generation, in decimal
 abbrev pub id_text : GenerationalBoxId → List ℕ
 id_text id = decimal id.slot ++ (64 ∷ decimal id.generation)
+
+abbrev pub name_text : Name → List ℕ
+name_text n = decimal n.slot ++ (64 ∷ decimal n.generation)
+
+-- the ticket of a reader, or a writer, and its cell's slot@generation
+abbrev pub reader_text : Guard → List ℕ
+reader_text g = codes "reader " ++ (decimal g.ticket ++ (codes " of " ++ name_text g.cell))
+
+abbrev pub writer_text : Guard → List ℕ
+writer_text g = codes "writer " ++ (decimal g.ticket ++ (codes " of " ++ name_text g.cell))
+
+-- an owner's key and its store's number
+abbrev pub owner_text : OwnerName → List ℕ
+owner_text o = codes "owner " ++ (decimal o.key ++ (codes " of store " ++ decimal o.store))
+
+-- a store's number, and how many slots it has and of these free ones
+abbrev pub store_text : {T : Type 0} → State T → List ℕ
+store_text S =
+    codes "store " ++ (decimal S.number ++ (codes ": " ++ (decimal (slots S)
+    ++ (codes " slots, " ++ (decimal (free S) ++ codes " free")))))
 
 abbrev pub dropped_text : Location → List ℕ
 dropped_text l =
@@ -68,6 +93,11 @@ store_error_text UnknownOwner = codes "unknown owner"
 abbrev pub as_borrow_mut : BorrowError → BorrowMutError
 as_borrow_mut (reads.Dropped e) = writes.Dropped e
 as_borrow_mut (reads.AlreadyBorrowedMut e) = writes.AlreadyBorrowedMut e
+
+-- the same refusal, of a write or an end
+abbrev pub as_refused_mut : Refused BorrowError → Refused BorrowMutError
+as_refused_mut (refused.Borrow e) = refused.Borrow (as_borrow_mut e)
+as_refused_mut (refused.Store e) = refused.Store e
 
 -- the text of what a refusal holds
 abbrev pub refused_output : {E : Type 0} → (E → Option (List ℕ)) → Refused E → Option (List ℕ)

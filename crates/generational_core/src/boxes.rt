@@ -1,11 +1,12 @@
 //! Ids, pointers and boxes.
 
 ghost use Rattle.std.specs.Prelude.{◌≡◌, Some, ⊤};
+ghost use Rattle.generational_core.specs.declared.error.StoreError.TheVariants.{NumbersExhausted};
 ghost use Rattle.generational_core.specs.Boxes.{box_of};
 ghost use Rattle.generational_core.specs.Answers.{pointer_of};
 ghost use Rattle.generational_core.specs.Texts.{id_text};
 
-use crate::error::{BorrowMutResult, BorrowResult, Location, Refusal};
+use crate::error::{BorrowMutResult, BorrowResult, Location, Refusal, Refused, StoreError};
 use crate::references::{GenerationalRef, GenerationalRefMut};
 use crate::storage::Storage;
 use std::alloc::AllocError;
@@ -177,13 +178,16 @@ impl<T> GenerationalBox<T> {
 }
 
 impl<T> GenerationalBox<T> {
-    ghost use Rattle.std.specs.Prelude.{◌≡◌, IfErr, None};
+    ghost use Rattle.std.specs.Prelude.{◌≡◌, true, IfErr, None};
     ghost use Rattle.generational_core.specs.Answers.{pointer_of};
+    ghost use Rattle.generational_core.specs.Borrowing.{can_read, can_write};
     ghost use Rattle.generational_core.specs.Machine.Action.{Make, MakeShared, Refer, Read, Write};
-    ghost use Rattle.generational_core.specs.Machine.Action.{End, Point};
+    ghost use Rattle.generational_core.specs.Machine.Action.{End, Point, SetValue};
+    ghost use Rattle.generational_core.specs.Machine.Answer.{Old};
     ghost use Rattle.generational_core.specs.Steps.{Meets};
     ghost use Rattle.generational_core.specs.Answers.{box_answer, read_answer, write_answer};
     ghost use Rattle.generational_core.specs.Answers.{reference_box_answer, end_answer};
+    ghost use Rattle.generational_core.specs.Answers.{free_read_answer, free_write_answer};
 
     /// Makes a box of a value, which lives until it is ended by hand. Its id was never given
     /// before.
@@ -324,6 +328,91 @@ impl<T> GenerationalBox<T> {
             (S.state store.new) }
     {
         store.try_write(self.raw, location)
+    }
+
+    /// Whether a read of the value is free: false where the box's cell has ended or is of another
+    /// store, or a writer stands at the value. Other readers don't matter. Takes no memory, and is
+    /// O(1).
+    #[inline(always)]
+    pub fn can_read<S: Storage<T>>(self, store: &S) -> bool
+        ensures { result ≡ can_read (S.state store.now) (pointer_of self) }
+    {
+        store.can_read(self.raw)
+    }
+
+    /// Whether a write of the value is free: false where the box's cell has ended or is of another
+    /// store, or any borrow stands at the value. Takes no memory, and is O(1).
+    #[inline(always)]
+    pub fn can_write<S: Storage<T>>(self, store: &S) -> bool
+        ensures { result ≡ can_write (S.state store.now) (pointer_of self) }
+    {
+        store.can_write(self.raw)
+    }
+
+    /// Begins a read of a value that may be read (`can_read` is the test), asked for at a location.
+    /// The guard must be released; the value is seen through its `deref`.
+    ///
+    /// Refused, in this order: `NumbersExhausted`, where no ticket is left; `OutOfMemory`, only for
+    /// a reader beside another. A refused call leaves the store as it was. It is O(1), but for
+    /// finding room.
+    ///
+    /// Upstream's `read`, which panics where the value may not be read.
+    #[inline(always)]
+    pub fn read<S: Storage<T>>(
+        self,
+        store: &mut S,
+        location: Location,
+    ) -> Result<GenerationalRef<T>, StoreError>
+        requires { can_read (S.state store.old) (pointer_of self) ≡ true }
+        ensures { Meets (S.state store.old) (Read (pointer_of self) location)
+            (free_read_answer result) (S.state store.new) }
+    {
+        match store.try_read(self.raw, location) {
+            Ok(reader) => Ok(reader),
+            Err(Refused::Store(cause)) => Err(cause),
+            Err(Refused::Borrow(_)) => unreachable!(),
+        }
+    }
+
+    /// Begins a write of a value that may be written (`can_write` is the test), asked for at a
+    /// location. The guard owns the value until it is released.
+    ///
+    /// Refused by `NumbersExhausted` alone, where no ticket is left; the store stays as it was
+    /// then. Takes no memory, and is O(1).
+    ///
+    /// Upstream's `write`, which panics where the value may not be written.
+    #[inline(always)]
+    pub fn write<S: Storage<T>>(
+        self,
+        store: &mut S,
+        location: Location,
+    ) -> Result<GenerationalRefMut<T>, StoreError>
+        requires { can_write (S.state store.old) (pointer_of self) ≡ true }
+        ensures step { Meets (S.state store.old) (Write (pointer_of self) location)
+            (free_write_answer result) (S.state store.new) }
+        ensures cause { IfErr result (λ error. error ≡ NumbersExhausted) }
+    {
+        match store.try_write(self.raw, location) {
+            Ok(writer) => Ok(writer),
+            Err(Refused::Store(cause)) => Err(cause),
+            Err(Refused::Borrow(_)) => unreachable!(),
+        }
+    }
+
+    /// Sets a value that may be written (`can_write` is the test), and lets the old one go. Every
+    /// box that reaches the value reaches the new one from then on. No ticket is used up. Never
+    /// refused; takes no memory, and is O(1), but for letting the old value go.
+    ///
+    /// Upstream's `set`, which panics where the value may not be written.
+    #[inline(always)]
+    pub fn set<S: Storage<T>>(self, store: &mut S, value: T)
+    where
+        T: Drop,
+        requires { can_write (S.state store.old) (pointer_of self) ≡ true }
+        ensures { (old : T) × Meets (S.state store.old) (SetValue (pointer_of self) value) (Old old)
+            (S.state store.new) }
+    {
+        store.replace_value(self.raw, value);
     }
 
     /// Ends the box's cell, and the value with it: every box of this id is `Dropped` from then on,

@@ -4,7 +4,7 @@ use crate::boxes::{GenerationalBox, GenerationalBoxId};
 use crate::error::{BorrowMutError, Location, StoreError};
 
 /// A box in a call.
-#[derive(Drop)]
+#[derive(Debug, Drop)]
 pub enum BoxAt<T> {
     /// The box that the call of this place gave.
     Place(usize),
@@ -13,7 +13,7 @@ pub enum BoxAt<T> {
 }
 
 /// A call of a session. Places count the session's calls from 0.
-#[derive(Drop)]
+#[derive(Debug, Drop)]
 pub enum Call<T> {
     /// Makes a box of the value.
     Leak(T, Location),
@@ -41,6 +41,16 @@ pub enum Call<T> {
     TryRead(BoxAt<T>, Location),
     /// Begins a write.
     TryWrite(BoxAt<T>, Location),
+    /// Begins a read of a value that may be read.
+    Read(BoxAt<T>, Location),
+    /// Begins a write of a value that may be written.
+    Write(BoxAt<T>, Location),
+    /// Sets a value that may be written.
+    Set(BoxAt<T>, T),
+    /// Asks whether a value may be read.
+    CanRead(BoxAt<T>),
+    /// Asks whether a value may be written.
+    CanWrite(BoxAt<T>),
     /// Puts a value in the place of the one that the writer of this place owns.
     Replace(usize, T),
     /// Releases the guard that the call of this place gave.
@@ -60,7 +70,7 @@ pub enum Call<T> {
 }
 
 /// What a call is answered.
-#[derive(Drop)]
+#[derive(Debug, Drop)]
 pub enum Reply<T> {
     /// A box was made.
     Box(GenerationalBox<T>),
@@ -88,6 +98,9 @@ pub enum Reply<T> {
     Store(StoreError),
     /// A refusal of the store, with the value that was handed in. Nothing has changed.
     Back(T, StoreError),
+    /// A `Read`, a `Write` or a `Set` of a value that may not be read, or written. A value that was
+    /// handed in comes back. Nothing has changed.
+    Unready(Option<T>),
     /// A place that gave no such thing, or whose guard or owner is spent; a foreign box with this
     /// store's number. A value that was handed in comes back. Nothing has changed.
     NoSuch(Option<T>),

@@ -4,8 +4,11 @@ ghost use Rattle.std.specs.Prelude.{◌≡◌, Some};
 ghost use Rattle.generational_core.specs.Texts.{location_text, dropped_text, borrowed_mut_text};
 ghost use Rattle.generational_core.specs.Texts.{borrowed_text, borrow_error_text};
 ghost use Rattle.generational_core.specs.Texts.{borrow_mut_error_text, store_error_text};
-ghost use Rattle.generational_core.specs.Texts.{as_borrow_mut};
+ghost use Rattle.generational_core.specs.Texts.{as_borrow_mut, as_refused_mut};
+ghost use Rattle.generational_core.specs.declared.error.Refused.TheVariants as refused;
+ghost use Rattle.generational_core.specs.declared.error.StoreError.TheVariants.{OutOfMemory};
 
+use std::alloc::AllocError;
 use std::error::Error;
 use std::fmt;
 use std::marker::Model;
@@ -268,6 +271,15 @@ impl fmt::Display for StoreError {
 
 impl Error for StoreError {}
 
+/// An allocation that was refused is `OutOfMemory`. Takes no memory.
+impl From<AllocError> for StoreError {
+    ghost from_gives = { λ _ error. error ≡ OutOfMemory };
+
+    fn from(_refused: AllocError) -> StoreError {
+        StoreError::OutOfMemory
+    }
+}
+
 /// A refused call: a borrow stands in the way or the value is gone, or the store itself refuses.
 #[derive(Clone, Debug, PartialEq, Drop)]
 pub enum Refused<E> {
@@ -291,8 +303,31 @@ impl<E: fmt::Display> fmt::Display for Refused<E> {
     }
 }
 
+impl<E: Error> Error for Refused<E> {}
+
+/// Keeps the store's refusal. Takes no memory.
+impl<E> From<StoreError> for Refused<E> {
+    ghost from_gives = { λ cause r. r ≡ refused.Store cause };
+
+    fn from(cause: StoreError) -> Refused<E> {
+        Refused::Store(cause)
+    }
+}
+
+/// A refused read told as a refused write: keeps the variant and what it holds. Takes no memory.
+impl From<Refused<BorrowError>> for Refused<BorrowMutError> {
+    ghost from_gives = { λ read r. r ≡ as_refused_mut read };
+
+    fn from(read: Refused<BorrowError>) -> Refused<BorrowMutError> {
+        match read {
+            Refused::Borrow(error) => Refused::Borrow(BorrowMutError::from(error)),
+            Refused::Store(cause) => Refused::Store(cause),
+        }
+    }
+}
+
 /// A value that a store didn't take in, handed back, and why.
-#[derive(Drop)]
+#[derive(Debug, Drop)]
 pub struct Refusal<T> {
     /// The value that was handed in.
     pub value: T,

@@ -27,7 +27,7 @@ pub use crate::error::{
     BorrowResult, Location, Refusal, Refused, StoreError, ValueDroppedError,
 };
 pub use crate::owner::Owner;
-pub use crate::references::{GenerationalRef, GenerationalRefMut, Mut, Ref};
+pub use crate::references::{GenerationalRef, GenerationalRefMut, Mut, MutPart, Ref};
 pub use crate::session::Session;
 pub use crate::steps::StepCall;
 pub use crate::storage::{AnyStorage, Storage};

@@ -1,10 +1,12 @@
 //! Owners.
 
 ghost use Rattle.std.specs.Prelude.{◌≡◌, Some, IfErr};
+ghost use Rattle.generational_core.specs.Texts.{owner_text};
 
 use crate::boxes::{GenerationalBox, box_at};
 use crate::error::{BorrowMutError, BorrowResult, Location, Refusal, Refused, StoreError};
 use crate::storage::{AnyStorage, Storage};
+use std::fmt;
 use std::marker::Model;
 
 /// An owner of boxes. Contracts see it as its store's number and its key.
@@ -24,6 +26,15 @@ impl Model for Owner {
     ghost Value = { OwnerName };
 
     ghost view = { λ o. record { store = o.store; key = o.key } };
+}
+
+/// Prints `owner KEY of store NUMBER`.
+impl fmt::Debug for Owner {
+    ghost debug_output = { λ o. Some (owner_text o) };
+
+    fn fmt<W: fmt::Write>(&self, f: &mut fmt::Formatter<W>) -> fmt::Result {
+        write!(f, "owner {} of store {}", self.key, self.store)
+    }
 }
 
 impl Owner {

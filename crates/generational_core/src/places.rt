@@ -60,6 +60,11 @@ pub(crate) fn answer<T: Drop, S: Storage<T>>(
         Call::LeakOwner(place) => leak_owner(store, things, place),
         Call::TryRead(at, location) => try_read(store, things.as_slice(), at, location),
         Call::TryWrite(at, location) => try_write(store, things.as_slice(), at, location),
+        Call::Read(at, location) => read(store, things.as_slice(), at, location),
+        Call::Write(at, location) => write(store, things.as_slice(), at, location),
+        Call::Set(at, value) => (set(store, things.as_slice(), at, value), Thing::Nothing),
+        Call::CanRead(at) => (can_read(store, things.as_slice(), at), Thing::Nothing),
+        Call::CanWrite(at) => (can_write(store, things.as_slice(), at), Thing::Nothing),
         Call::Replace(place, value) => replace(store, things, place, value),
         Call::Release(place) => release(store, things, place),
         Call::ManuallyDrop(at) => manually_drop(store, things.as_slice(), at),
@@ -374,6 +379,92 @@ fn try_write<T, S: Storage<T>>(
     match from.try_write(store, location) {
         Ok(guard) => (Reply::Writer, Thing::Writer(guard)),
         Err(refused) => (refusal(refused), Thing::Nothing),
+    }
+}
+
+// Begins a read of a value that may be read.
+fn read<T, S: Storage<T>>(
+    store: &mut S,
+    things: &[Thing<T>],
+    at: BoxAt<T>,
+    location: Location,
+) -> (Reply<T>, Thing<T>)
+    ensures { Gives (session_in (S.state store.old) things.now) (call.Read at location)
+        (as_reply result.0) (as_held result.1) (session_in (S.state store.new) things.now) }
+{
+    let Some(from) = resolve(store, things, at) else {
+        return (Reply::NoSuch(None), Thing::Nothing);
+    };
+    if !from.can_read(store) {
+        return (Reply::Unready(None), Thing::Nothing);
+    }
+    match from.read(store, location) {
+        Ok(guard) => (Reply::Reader, Thing::Reader(guard)),
+        Err(cause) => (Reply::Store(cause), Thing::Nothing),
+    }
+}
+
+// Begins a write of a value that may be written.
+fn write<T, S: Storage<T>>(
+    store: &mut S,
+    things: &[Thing<T>],
+    at: BoxAt<T>,
+    location: Location,
+) -> (Reply<T>, Thing<T>)
+    ensures { Gives (session_in (S.state store.old) things.now) (call.Write at location)
+        (as_reply result.0) (as_held result.1) (session_in (S.state store.new) things.now) }
+{
+    let Some(from) = resolve(store, things, at) else {
+        return (Reply::NoSuch(None), Thing::Nothing);
+    };
+    if !from.can_write(store) {
+        return (Reply::Unready(None), Thing::Nothing);
+    }
+    match from.write(store, location) {
+        Ok(guard) => (Reply::Writer, Thing::Writer(guard)),
+        Err(cause) => (Reply::Store(cause), Thing::Nothing),
+    }
+}
+
+// Sets a value that may be written.
+fn set<T: Drop, S: Storage<T>>(
+    store: &mut S,
+    things: &[Thing<T>],
+    at: BoxAt<T>,
+    value: T,
+) -> Reply<T>
+    ensures { Gives (session_in (S.state store.old) things.now) (call.Set at value)
+        (as_reply result) Nothing (session_in (S.state store.new) things.now) }
+{
+    let Some(from) = resolve(store, things, at) else {
+        return Reply::NoSuch(Some(value));
+    };
+    if !from.can_write(store) {
+        return Reply::Unready(Some(value));
+    }
+    from.set(store, value);
+    Reply::Done
+}
+
+// Whether a value may be read.
+fn can_read<T, S: Storage<T>>(store: &S, things: &[Thing<T>], at: BoxAt<T>) -> Reply<T>
+    ensures { Gives (session_in (S.state store.now) things.now) (call.CanRead at)
+        (as_reply result) Nothing (session_in (S.state store.now) things.now) }
+{
+    match resolve(store, things, at) {
+        Some(named) => Reply::Flag(named.can_read(store)),
+        None => Reply::NoSuch(None),
+    }
+}
+
+// Whether a value may be written.
+fn can_write<T, S: Storage<T>>(store: &S, things: &[Thing<T>], at: BoxAt<T>) -> Reply<T>
+    ensures { Gives (session_in (S.state store.now) things.now) (call.CanWrite at)
+        (as_reply result) Nothing (session_in (S.state store.now) things.now) }
+{
+    match resolve(store, things, at) {
+        Some(named) => Reply::Flag(named.can_write(store)),
+        None => Reply::NoSuch(None),
     }
 }
 

@@ -1,14 +1,16 @@
 //! Guards and views.
 
-ghost use Rattle.std.specs.Prelude.{◌≡◌};
+ghost use Rattle.std.specs.Prelude.{◌≡◌, Some};
 ghost use Rattle.std.specs.Borrow.{sem};
 ghost use Rattle.generational_core.specs.Boxes.{name_in};
+ghost use Rattle.generational_core.specs.Texts.{reader_text, writer_text};
 
 use crate::boxes::GenerationalBoxId;
+use crate::error::StoreError;
 use crate::storage::Storage;
 use std::marker::{Model, PhantomData};
-use std::mem;
 use std::ops::{Deref, DerefMut};
+use std::{fmt, mem};
 
 /// A reader's guard. Contracts see it as its store's number, its cell's name and its ticket.
 ///
@@ -62,6 +64,15 @@ impl<T> GenerationalRef<T> {
         ensures { Meets (S.state store.old) (ReleaseReader self) (Flag result) (S.state store.new) }
     {
         store.release_read(self)
+    }
+}
+
+/// Prints `reader TICKET of SLOT@GENERATION`.
+impl<T> fmt::Debug for GenerationalRef<T> {
+    ghost debug_output = { λ g. Some (reader_text g) };
+
+    fn fmt<W: fmt::Write>(&self, f: &mut fmt::Formatter<W>) -> fmt::Result {
+        write!(f, "reader {} of {:?}", self.ticket, self.id)
     }
 }
 
@@ -147,6 +158,75 @@ impl<'a, T> Deref for Ref<'a, T> {
     }
 }
 
+impl<'a, T> Ref<'a, T> {
+    ghost use Rattle.std.specs.Prelude.{◌≡◌, IfOk, IfErr, option_copied};
+    ghost use Rattle.std.specs.Fn.{FnOnceReturnsAt};
+    ghost use Rattle.generational_core.specs.declared.error.StoreError.TheVariants.{OutOfMemory};
+
+    /// The view of what the closure finds in the value, as a part of it. The closure is called
+    /// once. Takes no memory of its own.
+    ///
+    /// Upstream's `AnyStorage::map`.
+    #[inline(always)]
+    pub fn map<U, F: FnOnce(&T) -> &U>(self, part: F) -> Ref<'a, U>
+        requires { F.IsAlwaysCallable part }
+        ensures { (found : _) × FnOnceReturnsAt F.FnOnce part self.entry found
+            × (result ≡ found.now) }
+    {
+        Ref {
+            value: part(self.value),
+        }
+    }
+
+    /// The same where there may be no such part: None exactly where the closure answers so. Only
+    /// this view ends then, and the borrow stands until its guard is released.
+    ///
+    /// Upstream's `AnyStorage::try_map`.
+    #[inline(always)]
+    pub fn try_map<U, F: FnOnce(&T) -> Option<&U>>(self, part: F) -> Option<Ref<'a, U>>
+        requires { F.IsAlwaysCallable part }
+        ensures { (found : _) × FnOnceReturnsAt F.FnOnce part self.entry found
+            × (result ≡ option_copied found) }
+    {
+        let value = part(self.value)?;
+        Some(Ref { value })
+    }
+
+    /// A clone of the value, as its type clones it. Refused by `OutOfMemory` where the clone lacks
+    /// memory. Takes the memory that the clone takes.
+    ///
+    /// Upstream's `cloned` of a reader's guard.
+    pub fn cloned(&self) -> Result<T, StoreError>
+    where
+        T: Clone,
+        ensures ok { IfOk result (λ clone. T.is_clone self.now clone) }
+        ensures cause { IfErr result (λ error. error ≡ OutOfMemory) }
+    {
+        match self.value.clone() {
+            Ok(clone) => Ok(clone),
+            Err(_) => Err(StoreError::OutOfMemory),
+        }
+    }
+}
+
+/// Prints the value.
+impl<'a, T: fmt::Debug> fmt::Debug for Ref<'a, T> {
+    ghost debug_output = { T.debug_output };
+
+    fn fmt<W: fmt::Write>(&self, f: &mut fmt::Formatter<W>) -> fmt::Result {
+        self.value.fmt(f)
+    }
+}
+
+/// Prints the value.
+impl<'a, T: fmt::Display> fmt::Display for Ref<'a, T> {
+    ghost output = { T.output };
+
+    fn fmt<W: fmt::Write>(&self, f: &mut fmt::Formatter<W>) -> fmt::Result {
+        self.value.fmt(f)
+    }
+}
+
 /// A writer's guard, which owns the value meanwhile. Contracts see it as a guard and the value.
 ///
 /// The value is read and written without the store. The guard has no `Drop`: `release` must spend
@@ -227,6 +307,15 @@ impl<T> GenerationalRefMut<T> {
     }
 }
 
+/// Prints `writer TICKET of SLOT@GENERATION`.
+impl<T> fmt::Debug for GenerationalRefMut<T> {
+    ghost debug_output = { λ g. Some (writer_text g.guard) };
+
+    fn fmt<W: fmt::Write>(&self, f: &mut fmt::Formatter<W>) -> fmt::Result {
+        write!(f, "writer {} of {:?}", self.ticket, self.id)
+    }
+}
+
 /// A view of a value that is written. It borrows the value's guard.
 #[derive(Drop)]
 pub struct Mut<'a, T> {
@@ -262,5 +351,87 @@ impl<'a, T> DerefMut for Mut<'a, T> {
         ensures value { result.now ≡ self.old.guard.now.value }
     {
         self.guard.value_mut()
+    }
+}
+
+impl<'a, T> Mut<'a, T> {
+    /// A view for writing of what the closure finds in the value, as a part of it. The closure is
+    /// called once. Takes no memory of its own.
+    ///
+    /// Upstream's `AnyStorage::map_mut`.
+    #[inline(always)]
+    pub fn map_mut<U, F: FnOnce(&mut T) -> &mut U>(self, part: F) -> MutPart<'a, U>
+        requires { F.IsAlwaysCallable part }
+    {
+        let Mut { guard } = self;
+        MutPart {
+            value: part(guard.value_mut()),
+        }
+    }
+
+    /// The same where there may be no such part: None where the closure answers so. Only this view
+    /// ends then, and the guard stays.
+    ///
+    /// Upstream's `AnyStorage::try_map_mut`.
+    #[inline(always)]
+    pub fn try_map_mut<U, F: FnOnce(&mut T) -> Option<&mut U>>(
+        self,
+        part: F,
+    ) -> Option<MutPart<'a, U>>
+        requires { F.IsAlwaysCallable part }
+    {
+        let Mut { guard } = self;
+        let value = part(guard.value_mut())?;
+        Some(MutPart { value })
+    }
+}
+
+/// A view of a part of a value that is written. It borrows the value's guard.
+#[derive(Drop)]
+pub struct MutPart<'a, T> {
+    value: &'a mut T,
+}
+
+impl<'a, T> Deref for MutPart<'a, T> {
+    type Target = T;
+
+    ghost deref_gives = { λ m x. x ≡ m.value.now };
+
+    #[inline(always)]
+    fn deref(&self) -> &T {
+        &*self.value
+    }
+}
+
+impl<'a, T> DerefMut for MutPart<'a, T> {
+    ghost deref_mut_gives = { λ m x. x ≡ m.value.now };
+
+    #[inline(always)]
+    fn deref_mut(&mut self) -> &mut T {
+        &mut *self.value
+    }
+}
+
+impl<'a, T> MutPart<'a, T> {
+    /// A view for writing of a part of this part, as `Mut::map_mut` gives one.
+    #[inline(always)]
+    pub fn map_mut<U, F: FnOnce(&mut T) -> &mut U>(self, part: F) -> MutPart<'a, U>
+        requires { F.IsAlwaysCallable part }
+    {
+        let MutPart { value } = self;
+        MutPart { value: part(value) }
+    }
+
+    /// The same where there may be no such part, as `Mut::try_map_mut` answers it.
+    #[inline(always)]
+    pub fn try_map_mut<U, F: FnOnce(&mut T) -> Option<&mut U>>(
+        self,
+        part: F,
+    ) -> Option<MutPart<'a, U>>
+        requires { F.IsAlwaysCallable part }
+    {
+        let MutPart { value } = self;
+        let value = part(value)?;
+        Some(MutPart { value })
     }
 }

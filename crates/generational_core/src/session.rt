@@ -83,8 +83,9 @@ impl<T: Drop, S: Storage<T>> Session<T, S> {
             AnswersAs a (call ∷ []) (as_reply reply ∷ []) self.new) }
 
         // A read or a write of a box whose name has ended is answered so, and so is a making of a
-        // reference from it by no owner. A box that is given was never given before, and a place
-        // keeps its box. The last release of an owner that is done ends the boxes of its list.
+        // reference from it by no owner; a call with a condition is told that it doesn't hold. A
+        // box that is given was never given before, and a place keeps its box. The last release of
+        // an owner that is done ends the boxes of its list.
         ensures tells_ends { IfOk result (λ reply. TellsEnds self.old call (as_reply reply)) }
         ensures new_box { IfOk result (λ reply. GivesNewBox self.old (as_reply reply)) }
         ensures keep_boxes { KeepBoxes self.old self.new }
@@ -125,7 +126,8 @@ impl<T: Drop, S: Storage<T>> Session<T, S> {
 
         // What `call` promises of a call holds of each call of the run. A read or a write of a box
         // whose name had ended before the run is answered so, wherever in the run it stands, and so
-        // is a making of a reference from it by no owner. No two replies give boxes with one id.
+        // is a making of a reference from it by no owner; a call with a condition is told that it
+        // doesn't hold. No two replies give boxes with one id.
         ensures promises { IfOk result (λ replies.
             let list = as_replies replies.items in
             (run : Run self.old calls.items list self.new) →

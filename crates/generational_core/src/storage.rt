@@ -1,13 +1,15 @@
 //! What every store does.
 
-ghost use Rattle.std.specs.Prelude.{◌≡◌, ◌≤◌, ◌+◌, ◌-◌, ◌↔◌, IsTrue, IfErr, None, option_copied};
+ghost use Rattle.std.specs.Prelude.{◌≡◌, ◌≤◌, ◌+◌, ◌-◌, ◌↔◌, true, IsTrue, IfErr, None};
+ghost use Rattle.std.specs.Prelude.{option_copied};
 ghost use Rattle.generational_core.specs.State.{State, IsSound};
 ghost use Rattle.generational_core.specs.Conditions.{IsFresh};
 ghost use Rattle.generational_core.specs.Slots.{slots, free, retired};
 ghost use Rattle.generational_core.specs.Machine.Action.{Make, NewOwner, CloneOwner, ReleaseOwner};
 ghost use Rattle.generational_core.specs.Machine.Action.{Read, Write, ReleaseReader, ReleaseWriter};
-ghost use Rattle.generational_core.specs.Machine.Action.{End, MakeShared, Refer, Point};
-ghost use Rattle.generational_core.specs.Machine.Answer.{Flag};
+ghost use Rattle.generational_core.specs.Machine.Action.{End, MakeShared, Refer, Point, SetValue};
+ghost use Rattle.generational_core.specs.Machine.Answer.{Flag, Old};
+ghost use Rattle.generational_core.specs.Borrowing.{can_read, can_write};
 ghost use Rattle.generational_core.specs.Steps.{Meets, last_ticket};
 ghost use Rattle.generational_core.specs.StepCalls.{is_ready};
 ghost use Rattle.generational_core.specs.Answers.{make_answer, owner_answer, release_answer};
@@ -74,6 +76,16 @@ pub trait AnyStorage<T> {
     /// writer, and an end no borrow of a value that would end. Takes no memory.
     fn ready(&self, call: &StepCall) -> bool
         ensures { result ≡ is_ready (state self.now) call.now };
+
+    /// Whether a read of the value that the pointer reaches is free: whether it reaches a value at
+    /// which no writer stands. Takes no memory.
+    fn can_read(&self, pointer: GenerationalPointer) -> bool
+        ensures { result ≡ can_read (state self.now) pointer };
+
+    /// Whether a write of the value that the pointer reaches is free: whether it reaches a value at
+    /// which no borrow stands. Takes no memory.
+    fn can_write(&self, pointer: GenerationalPointer) -> bool
+        ensures { result ≡ can_write (state self.now) pointer };
 
     /// An owner without boxes, of a record of its own.
     ///
@@ -243,6 +255,14 @@ pub trait Storage<T>: AnyStorage<T> {
     fn release_write(&mut self, guard: GenerationalRefMut<T>) -> Result<(), T>
         ensures { Meets (Self.state self.old) (ReleaseWriter guard.guard guard.value)
             (back_answer result) (Self.state self.new) };
+
+    /// Puts another value in the place of the one that the pointer reaches, at which no borrow
+    /// stands (`can_write` is the test), and answers the old one. No ticket is used up. Takes no
+    /// memory.
+    fn replace_value(&mut self, pointer: GenerationalPointer, value: T) -> T
+        requires { can_write (Self.state self.old) pointer ≡ true }
+        ensures { Meets (Self.state self.old) (SetValue pointer value) (Old result)
+            (Self.state self.new) };
 
     /// Ends a read. The answer is whether the store knew the guard; where it didn't, nothing
     /// changes. Takes no memory.

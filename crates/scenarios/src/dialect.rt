@@ -11,7 +11,8 @@
 //!
 //! A NAME of a box is `#P`, the place P, counted from 0 whatever the calls before gave, or `*K`,
 //! the box that the stores beside gave K-th, counted from 0. Other NAMEs are places. A value that
-//! comes back unused is told by `back VALUE`.
+//! comes back unused is told by `back VALUE`, or by `unready VALUE` from a set whose condition
+//! doesn't hold.
 
 ghost use Rattle.generational_core.specs.Conditions.{IsFresh};
 
@@ -119,6 +120,7 @@ impl<S: Storage<String> + Drop> Dialect<S> {
 pub(crate) fn write_with_value<W: Write>(output: &mut W, reply: Reply<String>) -> io::Result<()> {
     match reply {
         Reply::NoSuch(Some(value)) => writeln!(output, "back {value}"),
+        Reply::Unready(Some(value)) => writeln!(output, "unready {value}"),
         reply => write_reply(output, reply),
     }
 }

@@ -5,6 +5,8 @@
 #[cfg(test)]
 mod borrows;
 #[cfg(test)]
+mod conditions;
+#[cfg(test)]
 mod counts;
 #[cfg(test)]
 mod dialect;
@@ -74,5 +76,7 @@ mod texts;
 mod turning;
 #[cfg(test)]
 mod values;
+#[cfg(test)]
+mod views;
 #[cfg(test)]
 mod writers;

@@ -86,6 +86,7 @@ impl<S: Storage<String>> Strangers<S> {
             "insert_rc" => Call::InsertRc(place, String::from_str(self.alloc, value)?, location),
             "insert_reference" => Call::InsertReference(place, self.named(value)),
             "replace" => Call::Replace(place, String::from_str(self.alloc, value)?),
+            "set" => Call::Set(self.named(name), String::from_str(self.alloc, value)?),
             "clone" => Call::CloneOwner(place),
             "leak_owner" => Call::LeakOwner(place),
             "release_owner" => Call::ReleaseOwner(place),
@@ -105,6 +106,10 @@ impl<S: Storage<String>> Strangers<S> {
         match word {
             "try_read" => Call::TryRead(asked, location),
             "try_write" => Call::TryWrite(asked, location),
+            "read" => Call::Read(asked, location),
+            "write" => Call::Write(asked, location),
+            "can_read" => Call::CanRead(asked),
+            "can_write" => Call::CanWrite(asked),
             "leak_reference" => Call::LeakReference(asked),
             "end" => Call::ManuallyDrop(asked),
             "point_to" => Call::PointTo(asked, self.named(other)),

@@ -58,6 +58,9 @@ fn no_ticket_is_left(rt: HostRuntime) {
         &[
             ("leak 1", "box 0@1"),
             ("try_read 1", "refused: numbers exhausted"),
+            ("can_write 1", "true"),
+            ("write #0", "refused: numbers exhausted"),
+            ("set 1 2", "ok"),
             ("end 1", "ok"),
             ("try_read 1", "dropped: script:1:1"),
         ],

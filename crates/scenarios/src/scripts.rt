@@ -322,3 +322,59 @@ fn lines_of_the_dialect_are_bad(rt: HostRuntime) {
         ],
     );
 }
+
+#[test]
+fn a_value_is_set_where_nobody_reads_it(rt: HostRuntime) {
+    assert_replies(
+        &rt,
+        rt.alloc(),
+        &[
+            ("leak a", "box 0@1"),
+            ("try_read 1", "reader"),
+            ("set 1 b", "unready"),
+            ("can_read 1", "true"),
+            ("can_write 1", "false"),
+            ("release 2", "ok"),
+            ("set 1 b", "ok"),
+            ("try_read 1", "reader"),
+            ("show 8", "value b"),
+            ("set 1", "bad line"),
+            ("set 9 c", "no such"),
+        ],
+    );
+}
+
+// What was set is what a writer has, and what the writer puts in is what is read.
+#[test]
+fn a_value_is_set_and_then_replaced(rt: HostRuntime) {
+    assert_replies(
+        &rt,
+        rt.alloc(),
+        &[
+            ("leak 1", "box 0@1"),
+            ("set 1 2", "ok"),
+            ("try_write 1", "writer"),
+            ("replace 3 3", "old 2"),
+            ("release 3", "ok"),
+            ("try_read 1", "reader"),
+            ("show 6", "value 3"),
+        ],
+    );
+}
+
+// All boxes of a shared value reach what was set by one.
+#[test]
+fn a_shared_value_is_set(rt: HostRuntime) {
+    assert_replies(
+        &rt,
+        rt.alloc(),
+        &[
+            ("leak_rc a", "box 1@1"),
+            ("leak_reference 1", "box 2@1"),
+            ("set 2 b", "ok"),
+            ("try_read 1", "reader"),
+            ("show 4", "value b"),
+            ("can_write 2", "false"),
+        ],
+    );
+}

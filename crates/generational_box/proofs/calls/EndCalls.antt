@@ -26,7 +26,7 @@ abbrev Tells : Option Trouble → Type 0
 Tells t = is_none t ≡ not (tells_of_borrow t)
 
 -- nothing is found of what isn't there
-none_map : {A B : Type 0} (f : A → B) (o : Option A) (none : Bool)
+pub none_map : {A B : Type 0} (f : A → B) (o : Option A) (none : Bool)
     → is_some o ≡ not none → none ≡ is_none (option_map f o)
 none_map f None true e = refl
 none_map f (Some x) false e = refl

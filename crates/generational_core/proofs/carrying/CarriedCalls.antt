@@ -2,7 +2,7 @@
 use Rattle.std.proofs.Common.{◌≡◌, ℕ, ◌+◌, ◌-◌, ◌≤◌, Bool, true, false, cond, ◌&&◌, List, [], ◌∷◌}
 use Rattle.std.proofs.Common.{◌++◌, Option, None, Some, refl, sym, ap, subst, ◌∙◌, arith, unwrap_or}
 use Rattle.std.proofs.Common.{⊎_elim, inl, inr}
-use Rattle.std.specs.Prelude.{max, nat_eq, nat_lt, is_some, is_none, option_map, map as list_map}
+use Rattle.std.specs.Prelude.{max, nat_eq, nat_lt, is_some, option_map, map as list_map}
 use Rattle.std.specs.Prelude.{not, ◌⊎◌}
 use Rattle.std.specs.Ordering.{nat_cmp, eq_by_cmp}
 use Rattle.std.specs.Cmp.{nat_cmp_total, nat_eq_equiv}
@@ -25,8 +25,9 @@ use Rattle.generational_core.specs.Cells.Content.{Here, Lent}
 use Rattle.generational_core.specs.Cells.Cell.{Value, Shared, Ref}
 use Rattle.generational_core.specs.State.{State, Ownership, Owners, content_at}
 use Rattle.generational_core.specs.Boxes.{name_of, box_of, has_same_id}
-use Rattle.generational_core.specs.Borrowing.{leads_to, read_trouble, write_trouble, write_refusal}
-use Rattle.generational_core.specs.Borrowing.{Trouble, fill, take_ticket, reach, read_refusal}
+use Rattle.generational_core.specs.Borrowing.{leads_to, read_trouble, write_trouble}
+use Rattle.generational_core.specs.Borrowing.{Trouble, can_read, can_write, fill, reach}
+use Rattle.generational_core.specs.Borrowing.{take_ticket}
 use Rattle.generational_core.specs.Borrowing.Trouble.{Dropped}
 use Rattle.generational_core.specs.Ending.{close, hindrance_to}
 use Rattle.generational_core.specs.Machine.{set_ownership, release_owner, remove_reader}
@@ -362,6 +363,27 @@ module _ {T U : Type 0} {f : Name → Name} {d : ℕ} {g : T → U}
       (next_moved (with_content c n _ (Lent (next_borrow A l)) k (rw c.next refl)))
   write_alike l n _ k = stays c Done refl tt
 
+  -- a box that may be read, or written, may be so in both
+  pub read_moved : (b : GenerationalPointer) → KnowsBox Knows A.number b
+      → can_read S (rename_box f d A.number b) ≡ can_read A b
+  unfolding read_trouble
+  read_moved b k = ⊎_elim (λ e. rw (e.0, e.1) refl) (λ e. rw (
+    e.2,
+    e.3,
+    content_there c e.0 e.1,
+    (refusals_moved f d g (content_at A e.0)).0,
+  ) refl) (reach_cases c b k)
+
+  pub write_moved : (b : GenerationalPointer) → KnowsBox Knows A.number b
+      → can_write S (rename_box f d A.number b) ≡ can_write A b
+  unfolding write_trouble
+  write_moved b k = ⊎_elim (λ e. rw (e.0, e.1) refl) (λ e. rw (
+    e.2,
+    e.3,
+    content_there c e.0 e.1,
+    (refusals_moved f d g (content_at A e.0)).1,
+  ) refl) (reach_cases c b k)
+
   -- each call of a carried state matches the call of the state that carries it
   pub act_matched : (call : Action T) (new : Fresh)
       → KnowsCall Knows A.number call → KnowsFresh Knows call new
@@ -423,11 +445,7 @@ module _ {T U : Type 0} {f : Name → Name} {d : ℕ} {g : T → U}
       (⊎_elim (λ e. rw (e.0, e.1) (drop_alike c b)) (λ e. rw (e.2, e.3, c.cells.at e.0 e.1)
       (unless_alike c ((cell_moved f d g (map.get A.cells e.0)).3)
       (point_alike c a b e.0 (map.get A.cells e.0) k.0 e.1))) (reach_cases c b k.1))
-  act_matched (Action.CanRead b) new k kn = ⊎_elim
-      (λ e. rw (e.0, e.1) (stays c (Flag false) refl tt))
-      (λ e. rw (e.2, e.3, content_there c e.0 e.1, (refusals_moved f d g (content_at A e.0)).0)
-      (stays c (Flag (is_none (read_refusal (content_at A e.0)))) refl tt)) (reach_cases c b k)
-  act_matched (Action.CanWrite b) new k kn = ⊎_elim
-      (λ e. rw (e.0, e.1) (stays c (Flag false) refl tt))
-      (λ e. rw (e.2, e.3, content_there c e.0 e.1, (refusals_moved f d g (content_at A e.0)).1)
-      (stays c (Flag (is_none (write_refusal (content_at A e.0)))) refl tt)) (reach_cases c b k)
+  act_matched (Action.CanRead b) new k kn =
+      rw (read_moved b k) (stays c (Flag (can_read A b)) refl tt)
+  act_matched (Action.CanWrite b) new k kn =
+      rw (write_moved b k) (stays c (Flag (can_write A b)) refl tt)

@@ -32,8 +32,8 @@ use Rattle.generational_core.specs.Carrying.{shift_owner, rename_cell, KnowsBox,
 use Rattle.generational_core.specs.Carrying.{rename_box}
 use Rattle.generational_core.specs.Session.{SessionState, SessionReply, owner_held, with_owner, ask}
 use Rattle.generational_core.specs.Session.{Held, at_place, box_held, owner_in, with_box, add_place}
-use Rattle.generational_core.specs.Session.{Request, box_in, release, replace, reply_of, settle}
-use Rattle.generational_core.specs.Session.{gives, spend, swap}
+use Rattle.generational_core.specs.Session.{Request, box_in, if_ready, release, replace, reply_of}
+use Rattle.generational_core.specs.Session.{gives, settle, spend, swap}
 use Rattle.generational_core.specs.Session.Held.{Boxed, Reading, Writing, Owning, Nothing}
 use Rattle.generational_core.specs.Session.Request.{Asks, Tells, Swaps}
 use Rattle.generational_core.specs.Session.SessionReply.{Yes, Created, NoSuch}
@@ -44,6 +44,7 @@ use Rattle.generational_core.proofs.maps.Maps.{name_total, contains-insert_here,
 use Rattle.generational_core.proofs.maps.Maps.{name_cases, contains-insert_old, contains-insert_name}
 use Rattle.generational_core.proofs.maps.Maps.{by_name, name_here}
 use Rattle.generational_core.proofs.carrying.CarriedCalls.{Matched, same_box_moved, all_push, created_moved}
+use Rattle.generational_core.proofs.carrying.CarriedCalls.{read_moved, write_moved}
 
 -- what the calls of two sessions come to
 pub data AskedAlike {T : Type 0} (f : Name → Name)
@@ -171,6 +172,12 @@ module _ {T : Type 0} {f : Name → Name} {d : ℕ} {Knows : Name → Type 0} {s
       at (Owning o) k = alike o
       at _ k = no_such back
 
+  -- a call with a condition, where it holds in both or in none
+  ready_alike : {p q : Bool} (back : Option T) (x y : Request T)
+      → p ≡ q → Alike x y → Alike (if_ready p back x) (if_ready q back y)
+  ready_alike {q = true} back x y same alike = rw same alike
+  ready_alike {q = false} back x y same alike = rw same (both_tell _ _ refl refl)
+
   released_alike : (h : Held T)
       → KnowsHeld Knows store h → Alike (release (rename_held f d store h)) (release h)
   released_alike (Reading g) k = both_ask (Action.ReleaseReader g) k
@@ -201,6 +208,14 @@ module _ {T : Type 0} {f : Name → Name} {d : ℕ} {Knows : Name → Type 0} {s
   asked_alike (call.LeakOwner p) = with_owner_alike p None _ _ (λ o. both_ask (LeakOwner o) tt)
   asked_alike (call.TryRead b l) = with_box_alike b None _ _ (λ b k. both_ask (Action.Read b l) k)
   asked_alike (call.TryWrite b l) = with_box_alike b None _ _ (λ b k. both_ask (Action.Write b l) k)
+  asked_alike (call.Read b l) = with_box_alike b None _ _ (λ b k. ready_alike None _ _
+      (read_moved c.state b k) (both_ask (Action.Read b l) k))
+  asked_alike (call.Write b l) = with_box_alike b None _ _ (λ b k. ready_alike None _ _
+      (write_moved c.state b k) (both_ask (Action.Write b l) k))
+  asked_alike (call.Set b v) = with_box_alike b (Some v) _ _ (λ b k. ready_alike (Some v) _ _
+      (write_moved c.state b k) (both_ask (Action.SetValue b v) k))
+  asked_alike (call.CanRead b) = with_box_alike b None _ _ (λ b k. both_ask (Action.CanRead b) k)
+  asked_alike (call.CanWrite b) = with_box_alike b None _ _ (λ b k. both_ask (Action.CanWrite b) k)
   asked_alike (call.Replace p v) =
       place_alike (λ h. replace p h v) (λ h. replace p h v) (replaced_alike p v) p
   asked_alike (call.Release p) = place_alike release release released_alike p

@@ -2,7 +2,7 @@
 use Rattle.std.proofs.Common.{◌≡◌, ◌≢◌, ℕ, zero, suc, Bool, true, false, cond, List, [], ◌∷◌, ◌++◌}
 use Rattle.std.proofs.Common.{slice_get, slice_set, Option, None, Some, refl, sym, ap, subst, ◌∙◌}
 use Rattle.std.proofs.Common.{inl, inr, ⊎_elim, reverse, Result, Ok, Err, append_assoc}
-use Rattle.std.specs.Prelude.{nat_eq, nat_lt, map as list_map}
+use Rattle.std.specs.Prelude.{OnOk, is_err, is_none, nat_eq, nat_lt, map as list_map}
 use Rattle.std.proofs.lemmas.Bool.{true≢false}
 use Rattle.generational_core.specs.declared.boxes.GenerationalPointer.{GenerationalPointer}
 use Rattle.generational_core.specs.declared.calls.BoxAt.{BoxAt}
@@ -12,7 +12,7 @@ use Rattle.generational_core.specs.declared.calls.Call.TheVariants as call
 use Rattle.generational_core.specs.State.{State, Ownership, IsSound, IsGiven}
 use Rattle.generational_core.specs.Boxes.{name_of, name_in}
 use Rattle.generational_core.specs.Answers.{pointer_of, back_answer, end_refused}
-use Rattle.generational_core.specs.Borrowing.{Trouble}
+use Rattle.generational_core.specs.Borrowing.{Trouble, can_read, can_write}
 use Rattle.generational_core.specs.Ending.{hindrance_to}
 use Rattle.generational_core.specs.Machine.{Action, Answer, Fresh, Outcome, OwnerName, act, unless}
 use Rattle.generational_core.specs.Machine.{ownership, release_owner}
@@ -22,12 +22,12 @@ use Rattle.generational_core.specs.Conditions.{IsReleased, IsFresh}
 use Rattle.generational_core.specs.Session.{SessionState, Held, SessionReply, Request, Settles, Run}
 use Rattle.generational_core.specs.Session.{SessionStep, at_place, box_in, box_held, owner_held}
 use Rattle.generational_core.specs.Session.{with_box, with_owner, ask, reply_of, gives, spend}
-use Rattle.generational_core.specs.Session.{add_place, replace}
+use Rattle.generational_core.specs.Session.{add_place, if_ready, replace}
 use Rattle.generational_core.specs.Session.Held.{Boxed, Writing, Owning, Nothing}
-use Rattle.generational_core.specs.Session.SessionReply.{ABox, IsDone, Error}
+use Rattle.generational_core.specs.Session.SessionReply.{ABox, IsDone, Error, Unready}
 use Rattle.generational_core.specs.SoundSession.{IsSoundSession}
 use Rattle.generational_core.specs.Replies.{Borrows, TellsEnds, GivesNewBox, EndsOwned, AllTellEnds}
-use Rattle.generational_core.specs.Replies.{AllKeepPromises, KeepBoxes, GiveBoxesApart}
+use Rattle.generational_core.specs.Replies.{AllKeepPromises, KeepBoxes, GiveBoxesApart, ended_reply}
 use Rattle.generational_core.proofs.machine.Stepping.{ended_read, ended_write, meets_says, meets_given}
 use Rattle.generational_core.proofs.machine.Stepping.{meets_number}
 use Rattle.generational_core.proofs.machine.Releasing.{box_ends, box_stays, shared_ends, shared_stays}
@@ -36,7 +36,8 @@ use Rattle.generational_core.proofs.sessions.Sessions.{ComesTo, comes_to, held_c
 use Rattle.generational_core.proofs.sessions.Sessions.{takes_no_box, session_ended, by_step, fresh_kept}
 use Rattle.generational_core.proofs.sessions.Sessions.ComesTo.{tells, swaps, asks}
 use Rattle.generational_core.proofs.machine.Changes.{IsNewBox}
-use Rattle.std.proofs.lemmas.List.{map-append, map-set, reverse-append, append-nil, set-get_or}
+use Rattle.std.proofs.lemmas.List.{map-append, map-set, reverse-append, reverse-reverse, append-nil}
+use Rattle.std.proofs.lemmas.List.{set-get_or}
 use Rattle.std.proofs.lemmas.Option.{none-some}
 use Rattle.generational_core.specs.declared.calls.Reply.{Reply}
 use Rattle.generational_core.specs.declared.places.Thing.{Thing}
@@ -58,6 +59,11 @@ pub put_back : {X : Type 0} {xs taken after : List X} (p : ℕ) {x z : X} (y : X
     → after ≡ xs
 put_back {xs = xs} p {x} y there takes puts is =
     puts ∙ ((λ i. slice_set (takes i) p (is i)) ∙ set_back xs p x y there)
+
+-- what holds of a result that is no error
+pub went : {A E P : Type 0} (r : Result A E) → false ≡ is_err r → OnOk r P → P
+went (Ok a) ok p = p
+went (Err e) ok p = absurd (true≢false (sym ok))
 
 module _ {T : Type 0} where
   -- the reply to a call that is asked of the machine
@@ -88,6 +94,17 @@ module _ {T : Type 0} where
       answer_is answer R (inr m) = absurd (true≢false (sym m.0 ∙ ap (λ (out : Outcome T).
           needs_memory s.state (limit_tickets s.state out).0 (action b)) (acts no_names)))
 
+  -- a call whose condition doesn't hold is told so
+  told_unready : (s r : SessionState T) (c : Call T) (x : SessionReply T)
+      (o : Option GenerationalPointer) (ready : GenerationalPointer → Bool) (back : Option T)
+      (next : GenerationalPointer → Request T) (b : GenerationalPointer) → ready b ≡ false
+      → o ≡ Some b → Settles s c (with_box o back (λ b. if_ready (ready b) back (next b))) x r
+      → x ≡ Unready back
+  told_unready s r c x o ready back next b unready is step =
+      let it : Settles s c (if_ready (ready b) back (next b)) x r =
+      subst (λ o. Settles s c (with_box o back (λ b. if_ready (ready b) back (next b))) x r) is step
+      in (subst (λ q. Settles s c (if_ready q back (next b)) x r) unready it).0
+
   pub tells_ends : (s r : SessionState T) (c : Call T) (x : SessionReply T)
       → SessionStep s c x r → TellsEnds s c x
   tells_ends s r (call.LeakReference p) x step b borrows ended =
@@ -99,6 +116,15 @@ module _ {T : Type 0} where
   tells_ends s r (call.TryWrite p l) x step b borrows ended =
       answers_ended s r (call.TryWrite p l) x (box_in s p) (λ b. Action.Write b l) b
       (λ new. rw (ended_write s.state b ended, unless) refl) borrows step
+  tells_ends s r (call.Read p l) x step b borrows ended = told_unready s r (call.Read p l) x
+      (box_in s p) (can_read s.state) None (λ b. Request.Asks (Action.Read b l)) b
+      (ap is_none (ended_read s.state b ended)) borrows step
+  tells_ends s r (call.Write p l) x step b borrows ended = told_unready s r (call.Write p l) x
+      (box_in s p) (can_write s.state) None (λ b. Request.Asks (Action.Write b l)) b
+      (ap is_none (ended_write s.state b ended)) borrows step
+  tells_ends s r (call.Set p v) x step b borrows ended = told_unready s r (call.Set p v) x
+      (box_in s p) (can_write s.state) (Some v) (λ b. Request.Asks (Action.SetValue b v)) b
+      (ap is_none (ended_write s.state b ended)) borrows step
   tells_ends s r c x step b borrows ended = absurd borrows
 
   -- a reply gives the box that the machine made
@@ -218,6 +244,9 @@ module _ {T : Type 0} where
   borrows_kept s r c x step (call.LeakReference a) b is = box_in_kept s r c x step a b is
   borrows_kept s r c x step (call.TryRead a l) b is = box_in_kept s r c x step a b is
   borrows_kept s r c x step (call.TryWrite a l) b is = box_in_kept s r c x step a b is
+  borrows_kept s r c x step (call.Read a l) b is = box_in_kept s r c x step a b is
+  borrows_kept s r c x step (call.Write a l) b is = box_in_kept s r c x step a b is
+  borrows_kept s r c x step (call.Set a v) b is = box_in_kept s r c x step a b is
   borrows_kept s r c x step k b is = absurd is
 
   pub all_tell_ends : (calls : List (Call T)) (replies : List (SessionReply T))
@@ -225,7 +254,8 @@ module _ {T : Type 0} where
   all_tell_ends [] [] s r run i k b there borrows ended = cc
   all_tell_ends (c ∷ calls) (x ∷ replies) s r run zero k b there borrows ended =
       let same : k ≡ c = cc in
-      ap Some (tells_ends s run.0 c x run.1 b (subst (λ k. Borrows s k b) same borrows) ended)
+      ap Some (tells_ends s run.0 c x run.1 b (subst (λ k. Borrows s k b) same borrows) ended
+      ∙ ap (λ c. ended_reply c b) (sym same))
   all_tell_ends (c ∷ calls) (x ∷ replies) s r run (suc i) k b there borrows ended =
       all_tell_ends calls replies run.0 r run.2 i k b there
       (borrows_kept s run.0 c x run.1 k b borrows)
@@ -375,6 +405,14 @@ module _ {T : Type 0} where
   Continues s all S items calls replies = (rs : List (SessionReply T)) (last : SessionState T)
       → Run (session_in S items) (reverse calls) rs last
       → Run s all (as_replies replies ++ rs) last
+
+  -- a run before its first call
+  pub run_starts : {s : SessionState T} (S : State T) (items kept : List (Thing T))
+      (all calls : List (Call T)) (replies : List (Reply T))
+      → session_in S items ≡ s → kept ≡ items → calls ≡ reverse all → replies ≡ []
+      → Continues s all S kept calls replies
+  run_starts S items kept all calls replies view same turned none =
+      λ rs last run. rw (none, ← view) (rw (same, turned, reverse-reverse all) at run)
 
   -- one call more of a run
   pub run_goes : (s : SessionState T) (S R : State T) (items kept after : List (Thing T))

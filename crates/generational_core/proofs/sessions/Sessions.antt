@@ -1,5 +1,6 @@
 -- Each call of a session keeps what holds of every session, and so does a whole run.
-use Rattle.std.proofs.Common.{◌≡◌, ◌≢◌, ℕ, zero, suc, ◌+◌, ◌≤◌, ◌<◌, Bool, true, cond, List, [], ap}
+use Rattle.std.proofs.Common.{◌≡◌, ◌≢◌, ℕ, zero, suc, ◌+◌, ◌≤◌, ◌<◌, Bool, true, false, cond, List}
+use Rattle.std.proofs.Common.{[], ap}
 use Rattle.std.proofs.Common.{◌∷◌, ◌++◌, length, slice_set, Option, None, Some, refl, sym, subst}
 use Rattle.std.proofs.Common.{◌∙◌, inl, inr, ⊎_elim, arith}
 use Rattle.std.specs.Prelude.{◌⊎◌, ◌||◌, is_some, nat_eq, map as list_map}
@@ -20,7 +21,7 @@ use Rattle.generational_core.specs.Boxes.{name_of}
 use Rattle.generational_core.specs.Cells.{Content, Cell, is_shared}
 use Rattle.generational_core.specs.State.{State, Ownership, IsSound, tickets_of, content_at}
 use Rattle.generational_core.specs.Conditions.{count_in, count_under, IsBounded, IsEnded, fresh}
-use Rattle.generational_core.specs.Borrowing.{Guard, reach}
+use Rattle.generational_core.specs.Borrowing.{Guard, can_read, can_write, reach}
 use Rattle.generational_core.specs.Machine.{Action, Answer, OwnerName, is_known, has_reader}
 use Rattle.generational_core.specs.Machine.{has_writer, knows_reader, knows_writer}
 use Rattle.generational_core.specs.Machine.Answer.{Made, Owned, Reads, Writes, Done}
@@ -28,7 +29,7 @@ use Rattle.generational_core.specs.Steps.{Meets}
 use Rattle.generational_core.specs.Session.{SessionState, Held, SessionReply, Request, Settles, Run}
 use Rattle.generational_core.specs.Session.{SessionStep, at_place, add_place, gives, spend, ask}
 use Rattle.generational_core.specs.Session.{box_in, owner_in, owner_held, with_box, with_owner}
-use Rattle.generational_core.specs.Session.{release, replace, swap}
+use Rattle.generational_core.specs.Session.{if_ready, release, replace, swap}
 use Rattle.generational_core.specs.Session.Held.{Boxed, Reading, Writing, Owning, Nothing}
 use Rattle.generational_core.specs.SoundSession.{IsSoundSession, IsOwn, AreOne, holds_owner}
 use Rattle.generational_core.specs.Answers.{value_at}
@@ -327,6 +328,11 @@ module _ {T : Type 0} where
       at (Owning o) is = h o is
       at x is = tells _ (λ b e. cc)
 
+  comes_ready : {s : SessionState T} {c : Call T} (ready : Bool) (back : Option T)
+      (next : Request T) → ComesTo s c next → ComesTo s c (if_ready ready back next)
+  comes_ready true back next h = h
+  comes_ready false back next h = tells _ (λ b e. cc)
+
   comes_release : (s : SessionState T) (p : ℕ) (x : Held T) → at_place s.table p ≡ x
       → ComesTo s (call.Release p) (release x)
   comes_release s p (Reading g) is = asks (Action.ReleaseReader g) (λ answer. (p, refl, is))
@@ -366,6 +372,16 @@ module _ {T : Type 0} where
       comes_box (box_in s b) None _ (λ b. asks (Action.Read b l) (λ a. beyond s.table))
   comes_to s (call.TryWrite b l) =
       comes_box (box_in s b) None _ (λ b. asks (Action.Write b l) (λ a. beyond s.table))
+  comes_to s (call.Read b l) = comes_box (box_in s b) None _ (λ b. comes_ready
+      (can_read s.state b) None _ (asks (Action.Read b l) (λ a. beyond s.table)))
+  comes_to s (call.Write b l) = comes_box (box_in s b) None _ (λ b. comes_ready
+      (can_write s.state b) None _ (asks (Action.Write b l) (λ a. beyond s.table)))
+  comes_to s (call.Set b v) = comes_box (box_in s b) (Some v) _ (λ b. comes_ready
+      (can_write s.state b) (Some v) _ (asks (Action.SetValue b v) (λ a. beyond s.table)))
+  comes_to s (call.CanRead b) =
+      comes_box (box_in s b) None _ (λ b. asks (Action.CanRead b) (λ a. beyond s.table))
+  comes_to s (call.CanWrite b) =
+      comes_box (box_in s b) None _ (λ b. asks (Action.CanWrite b) (λ a. beyond s.table))
   comes_to s (call.Replace p v) = comes_replace s p v (at_place s.table p) refl
   comes_to s (call.Release p) = comes_release s p (at_place s.table p) refl
   comes_to s (call.ManuallyDrop b) =

@@ -3,9 +3,25 @@ use Rattle.std.proofs.lemmas.Grind.{common_steps}
 use Rattle.generational_core.specs.SoundSession.{IsSoundSession}
 use Rattle.generational_core.proofs.carrying.NumberedCalls.{run_answers}
 use Rattle.generational_core.proofs.sessions.SessionCalls.{all_keep_promises, all_tell_ends, run_keep_boxes}
-use Rattle.generational_core.proofs.sessions.SessionCalls.{boxes_apart, run_goes, run_ends}
+use Rattle.generational_core.proofs.sessions.SessionCalls.{boxes_apart, run_starts, run_goes, run_ends}
+use Rattle.generational_core.proofs.sessions.SessionCalls.{went}
 use Rattle.generational_core.proofs.sessions.Sessions.{run_kept, run_ended, run_value}
 use Rattle.generational_core.proofs.session.Session.run.Goals as goal
+
+pub loop-call-init : goal.loop-call-init
+loop-call-init g c =
+    let room = went c.reserve.result c.if-is_err.ensures.value c.reserve.ensures.ok in record {
+      run = run_starts _ _ _ _ _ _ c.self.view_is c.reserve.ensures.items c.reverse.ensures.items
+          c.in-Ok.ensures.items;
+      things = omega (arith, room, c.reverse.ensures.len, c.len-count.ensures);
+      replies = omega (
+        arith,
+        c.in-Ok.ensures.len,
+        c.in-Ok.ensures.capacity,
+        c.reverse.ensures.len,
+        c.len-count.ensures,
+      );
+    }
 
 pub loop-call-preserved : goal.loop-call-preserved
 loop-call-preserved g c = record {

@@ -1,0 +1,71 @@
+-- A write that is free is refused by the end of numbers alone: it wants no memory.
+use Rattle.std.proofs.Common.{◌≡◌, true, false, Option, None, Some, refl, sym, ap, subst, ◌∙◌}
+use Rattle.std.proofs.Common.{inl, inr}
+use Rattle.std.specs.Prelude.{nat_eq, ◌&&◌, is_none}
+use Rattle.std.proofs.lemmas.Bool.{true≢false, cond_both}
+use Rattle.generational_core.specs.declared.boxes.GenerationalPointer.{GenerationalPointer}
+use Rattle.generational_core.specs.declared.error.Location.{Location}
+use Rattle.generational_core.specs.declared.error.StoreError.{StoreError}
+use Rattle.generational_core.specs.declared.error.StoreError.TheVariants.{NumbersExhausted}
+use Rattle.generational_core.specs.Names.{Name}
+use Rattle.generational_core.specs.Cells.{Content}
+use Rattle.generational_core.specs.Cells.Content.{Here}
+use Rattle.generational_core.specs.State.{State}
+use Rattle.generational_core.specs.Borrowing.{Guard, Trouble, can_write}
+use Rattle.generational_core.specs.Machine.{Answer, Fresh, Outcome, act, unless, write_at}
+use Rattle.generational_core.specs.Machine.Action.{Write}
+use Rattle.generational_core.specs.Machine.Answer.{Writes, Done, Refused}
+use Rattle.generational_core.specs.Steps.{Meets, limit_tickets, takes_ticket, last_ticket, may_lack}
+use Rattle.generational_core.specs.Steps.{needs_memory, no_names}
+
+module _ {T : Type 0} where
+  -- an answer to a write that no borrow hinders
+  data Granted : Answer T → Type 0 where
+    writes : (g : Guard) (v : T) → Granted (Writes g v)
+    done : Granted Done
+    ended : Granted (Refused NumbersExhausted)
+
+  limited : (S : State T) (out : Outcome T) → Granted out.0 → Granted (limit_tickets S out).0
+  limited S out h = cond_both (takes_ticket out.0 && nat_eq S.next last_ticket)
+      (Refused NumbersExhausted, S) out (λ (o : Outcome T). Granted o.0) (λ _. ended) (λ _. h)
+
+  unhindered : (S : State T) (o : Option Trouble) (out : Outcome T)
+      → is_none o ≡ true → Granted out.0 → Granted (unless o S out).0
+  unhindered S None out h g = g
+  unhindered S (Some t) out h g = absurd (true≢false (sym h))
+
+  write_granted : (S : State T) (l : Location) (m : Option Name) (c : Option (Content T))
+      → Granted (write_at S l m c).0
+  write_granted S l (Some m) (Some (Here v rs)) = writes _ v
+  write_granted S l m c = done
+
+  -- such an answer is a refusal by the end of numbers alone, and wants no memory
+  refuses_by : (answer : Answer T) (e : StoreError)
+      → Granted answer → answer ≡ Refused e → e ≡ NumbersExhausted
+  refuses_by answer e (writes g v) is = cc
+  refuses_by answer e done is = cc
+  refuses_by answer e ended is = cc
+
+  wants_none : (S : State T) (b : GenerationalPointer) (l : Location) (answer : Answer T)
+      → Granted answer → needs_memory S answer (Write b l) ≡ false
+  wants_none S b l answer (writes g v) = refl
+  wants_none S b l answer done = refl
+  wants_none S b l answer ended = refl
+
+  module _ (S R : State T) (b : GenerationalPointer) (l : Location) where
+    act_write : can_write S b ≡ true
+        → (f : Fresh) → Granted (limit_tickets S (act S (Write b l) f)).0
+    act_write free f = limited S _ (unhindered S _ _ free (write_granted S l _ _))
+
+    -- a free write is refused by the end of numbers alone
+    write_met : (answer : Answer T) → can_write S b ≡ true → Meets S (Write b l) answer R
+        → Granted answer
+    unfolding may_lack
+    write_met answer free (inl m) = subst Granted
+        (sym (ap (λ (out : Outcome T). out.0) m.2)) (act_write free m.0)
+    write_met answer free (inr m) = absurd (true≢false
+        (sym m.0 ∙ wants_none S b l _ (act_write free no_names)))
+
+    pub write_refused_by : (e : StoreError) → can_write S b ≡ true
+        → Meets S (Write b l) (Refused e) R → e ≡ NumbersExhausted
+    write_refused_by e free m = refuses_by _ e (write_met (Refused e) free m) refl

@@ -1,0 +1,111 @@
+//! Views: their parts, clones and texts, and what is written through parts.
+
+use crate::expected::{
+    assert_prints, assert_shows, begin, begin_write, borrowed, leak, made, read, written,
+};
+use generational_box::{
+    GenerationalBox, GenerationalRef, GenerationalRefMut, Ref, Storage, Store, UnsyncStorage,
+};
+use std::alloc::Global;
+use std::process::Abort;
+
+/// The view of a guard's value.
+fn view<'a, S: Storage<(u32, u32)>>(
+    rt: &impl Abort,
+    store: &'a S,
+    guard: &GenerationalRef<(u32, u32)>,
+) -> Ref<'a, (u32, u32)> {
+    guard.deref(store).expect(rt, "a view")
+}
+
+/// Asserts what the views of a pair give: a clone, the second part, a part and none.
+fn assert_parts<S: Storage<(u32, u32)>>(
+    rt: &impl Abort,
+    alloc: Global,
+    store: &S,
+    guard: &GenerationalRef<(u32, u32)>,
+) {
+    let whole = view(rt, store, guard);
+    assert_eq!(rt; whole.cloned(), Ok((1, 2)));
+    assert_shows(rt, alloc, &whole, "(1, 2)");
+    let second = whole.map(|pair| &pair.1);
+    assert_eq!(rt; *second, 2);
+    assert_prints(rt, alloc, &second, "2");
+    let first = view(rt, store, guard).try_map(|pair| Some(&pair.0));
+    assert_eq!(rt; first.map(|part| *part), Some(1));
+    let none = view(rt, store, guard).try_map(|_pair| None::<&u32>);
+    assert!(rt; none.is_none());
+}
+
+/// Asserts that a write meets a reader that began where values are read.
+fn assert_read<S: Storage<(u32, u32)>>(
+    rt: &impl Abort,
+    alloc: Global,
+    store: &mut S,
+    asked: GenerationalBox<(u32, u32)>,
+) {
+    match asked.try_write(store, written()) {
+        Ok(_) => panic!(rt; "the write was given"),
+        Err(found) => assert_eq!(rt; found, borrowed(rt, alloc, &[read()])),
+    }
+}
+
+fn parts_of_a_pair<S: Storage<(u32, u32)>>(rt: &impl Abort, alloc: Global, store: &mut S) {
+    let pair = leak(rt, store, (1, 2), made());
+    let guard = begin(rt, store, pair, read());
+    assert_parts(rt, alloc, store, &guard);
+    assert_read(rt, alloc, store, pair);
+    assert!(rt; guard.release(store));
+}
+
+// A view that finds no part ends, and the borrow stands.
+#[test]
+fn a_pair_is_viewed(rt: HostRuntime) {
+    let mut store: UnsyncStorage<(u32, u32)> = Store::new(rt.alloc(), 7);
+    parts_of_a_pair(&rt, rt.alloc(), &mut store);
+}
+
+/// Writes both parts of a pair through its views, and looks for a third.
+fn write_parts(rt: &impl Abort, guard: &mut GenerationalRefMut<(u32, u32)>) {
+    *guard.deref_mut().map_mut(|pair| &mut pair.1) = 20;
+    assert_eq!(rt; *guard.deref(), (1, 20));
+    match guard.deref_mut().try_map_mut(|pair| Some(&mut pair.0)) {
+        Some(mut part) => *part = 10,
+        None => panic!(rt; "there is a part"),
+    }
+    assert_eq!(rt; *guard.deref(), (10, 20));
+    let none = guard.deref_mut().try_map_mut(|_pair| None::<&mut u32>);
+    assert!(rt; none.is_none());
+}
+
+/// Writes a part of a part, and looks for another.
+fn write_part_of_part(rt: &impl Abort, guard: &mut GenerationalRefMut<(u32, u32)>) {
+    *guard
+        .deref_mut()
+        .map_mut(|pair| pair)
+        .map_mut(|pair| &mut pair.0) = 11;
+    let whole = guard.deref_mut().map_mut(|pair| pair);
+    match whole.try_map_mut(|pair| Some(&mut pair.1)) {
+        Some(mut part) => *part = 22,
+        None => panic!(rt; "there is a part"),
+    }
+    assert_eq!(rt; *guard.deref(), (11, 22));
+}
+
+fn parts_of_a_writer<S: Storage<(u32, u32)>>(rt: &impl Abort, store: &mut S) {
+    let pair = leak(rt, store, (1, 2), made());
+    let mut guard = begin_write(rt, store, pair, written());
+    write_parts(rt, &mut guard);
+    write_part_of_part(rt, &mut guard);
+    assert_eq!(rt; guard.release(store), Ok(()));
+    let reader = begin(rt, store, pair, read());
+    assert_eq!(rt; view(rt, store, &reader).cloned(), Ok((11, 22)));
+    assert!(rt; reader.release(store));
+}
+
+// What is written through a part is the guard's, and goes back with it.
+#[test]
+fn a_pair_is_written_by_its_parts(rt: HostRuntime) {
+    let mut store: UnsyncStorage<(u32, u32)> = Store::new(rt.alloc(), 7);
+    parts_of_a_writer(&rt, &mut store);
+}
