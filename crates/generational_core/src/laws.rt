@@ -47,7 +47,7 @@ ghost use Rattle.generational_core.specs.Machine.Answer.{Made, Reads, Writes};
 ghost use Rattle.generational_core.specs.State.{IsGiven};
 ghost use Rattle.generational_core.specs.StepCalls.{is_ready};
 ghost use Rattle.generational_core.specs.StepCalls.{recorded_as, is_hindered};
-ghost use Rattle.std.specs.Prelude.{Option, Result, IfOk, OnOk, IsErr};
+ghost use Rattle.std.specs.Prelude.{Option, Result, IfOk, OnOk, IsErr, ◌++◌};
 ghost use Rattle.generational_core.specs.declared.boxes.GenerationalBox.{GenerationalBox};
 ghost use Rattle.generational_core.specs.declared.error.BorrowError.{BorrowError};
 ghost use Rattle.generational_core.specs.declared.error.BorrowMutError.{BorrowMutError};
@@ -61,6 +61,7 @@ ghost use Rattle.generational_core.specs.Answers.{box_answer, reference_box_answ
 ghost use Rattle.generational_core.specs.Answers.{write_answer, back_answer, end_answer};
 ghost use Rattle.generational_core.specs.Answers.{owner_answer, release_answer};
 ghost use Rattle.generational_core.specs.Conditions.{one_listed};
+ghost use Rattle.std.specs.List.{AllByRecursion};
 
 /// A state in which nothing was made is sound, and each call leads from a sound state to a sound
 /// one.
@@ -210,6 +211,10 @@ pub fn made_boxes_see_their_values<T>()
         (r : Result (GenerationalBox T) (Refused BorrowError)) →
         Meets S (Refer o c) (reference_box_answer r) R →
         IfOk r (λ b. reach R (pointer_of b) ≡ reach S c) }
+    ensures referred_together { (S R : State T) (o : Option OwnerName) (c : GenerationalPointer)
+        (r : Result (GenerationalBox T) (Refused BorrowError)) →
+        IsSound S → Meets S (Refer o c) (reference_box_answer r) R →
+        IfOk r (λ b. reach R (pointer_of b) ≡ reach R c) }
     ensures made_apart { (S R : State T) (o : Option OwnerName) (v : T) (l : Location)
         (r : Result (GenerationalBox T) (Refusal T)) →
         IsSound S → Meets S (Make o v l) (box_answer r) R →
@@ -275,11 +280,13 @@ pub fn owners_list_their_boxes<T>()
         Meets S (Make (Some o) v l) (box_answer r) R →
         IfOk r (λ b. (h : Ownership) → ownership S o ≡ Some h →
         ownership R o ≡ Some (one_listed (name_of (pointer_of b)) h)) }
+    ensures last { (names : List Name) (n : Name) → among (names ++ n ∷ []) n ≡ true }
 {}
 
 /// What each call leaves as it was. A box reaches what it reached, unless the call ends it or
 /// points it elsewhere (`LeavesBox`). It sees the value that it saw, unless the call does either,
-/// begins or ends a write of that value, or sets it (`LeavesValue`).
+/// begins or ends a write of that value, or sets it (`LeavesValue`). So it is of each box that isn't
+/// in the list, where an owner is released.
 pub fn calls_leave_the_rest<T>()
     ensures reach { (S R : State T) (call : Action T) (answer : Answer T) →
         IsSound S → Meets S call answer R → (b : GenerationalPointer) (m : Name) →
@@ -287,6 +294,11 @@ pub fn calls_leave_the_rest<T>()
     ensures seen { (S R : State T) (call : Action T) (answer : Answer T) →
         IsSound S → Meets S call answer R → (b : GenerationalPointer) (v : T) →
         LeavesValue S call b → value_in S b ≡ Some v → value_in R b ≡ Some v }
+    ensures unowned { (S R : State T) (o : OwnerName) (answer : Answer T) →
+        IsSound S → Meets S (ReleaseOwner o) answer R →
+        (h : Ownership) → ownership S o ≡ Some h → (b : GenerationalPointer) (v : T) →
+        AllByRecursion (λ n. n ≢ name_of b) h.names →
+        value_in S b ≡ Some v → value_in R b ≡ Some v }
 {}
 
 /// The bound on slots holds after each call of a session, and after each run.

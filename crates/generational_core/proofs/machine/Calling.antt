@@ -31,11 +31,23 @@ use Rattle.generational_core.specs.declared.error.Location.{Location}
 use Rattle.generational_core.specs.declared.error.Refusal.{Refusal}
 use Rattle.generational_core.specs.declared.error.Refused.{Refused}
 use Rattle.generational_core.specs.declared.error.StoreError.{StoreError}
-use Rattle.generational_core.proofs.machine.Ends.{none≢some}
+use Rattle.std.specs.List.{AllByRecursion}
+use Rattle.std.proofs.Common.{List, ◌++◌, ◌||◌, ◌∷◌}
+use Rattle.std.proofs.lemmas.Bool.{or_right}
+use Rattle.generational_core.specs.Conditions.{names_in}
+use Rattle.generational_core.specs.Names.{is_name}
+use Rattle.generational_core.proofs.machine.Changes.{held_record}
+use Rattle.generational_core.proofs.maps.Maps.{name_apart, name_here}
+use Rattle.generational_core.proofs.machine.Ends.{none≢some, some_live}
 use Rattle.generational_core.proofs.machine.Releasing.{last_cells}
 use Rattle.generational_core.proofs.machine.Seeing.{reaches, reach_stays, value_stays}
 use Rattle.generational_core.proofs.machine.Stepping.{made_new, reads_known}
 use Rattle.generational_core.proofs.machine.Telling.{meets_tells, ended_leads}
+
+-- a name stands in the list that it ends
+pub listed_last : (names : List Name) (n : Name) → among (names ++ n ∷ []) n ≡ true
+listed_last [] n = ap (λ x. x || false) (name_here n)
+listed_last (m ∷ names) n = or_right (is_name n m) _ (listed_last names n)
 
 module _ {T : Type 0} where
   -- a box that sees a value reaches it
@@ -111,6 +123,17 @@ module _ {T : Type 0} where
         → value_in S d ≡ Some w → name_of (pointer_of b) ≢ name_of d)
     referred_apart o c (Ok b) s m = new_apart _ _ s m
     referred_apart o c (Err e) s m = tt
+
+    -- a reference and the box from which it was made reach the same
+    pub referred_together : (o : Option OwnerName) (c : GenerationalPointer)
+        (r : Result (GenerationalBox T) (Refused BorrowError))
+        → IsSound S → Meets S (Refer o c) (reference_box_answer r) R
+        → IfOk r (λ b. reach R (pointer_of b) ≡ reach R c)
+    referred_together o c (Ok b) s m =
+        let told = meets_tells S R (Refer o c) (Made (pointer_of b)) m in
+        let to = some_live (reach S c) told.3 in
+        told.0 ∙ (to.1 ∙ sym (reach_stays S R (Refer o c) _ c to.0 s m tt to.1))
+    referred_together o c (Err e) s m = tt
 
     -- ---- borrows
 
@@ -201,6 +224,22 @@ module _ {T : Type 0} where
     keeps call answer s m b v leaves seen =
         let to = seen_reached S b v seen in
         value_stays S R call answer b to.0 s m leaves to.1 ∙ seen
+
+    -- which is so of each box that isn't in the list, where an owner is released
+    pub keeps_unowned : (o : OwnerName) (answer : Answer T) → IsSound S
+        → Meets S (ReleaseOwner o) answer R → (h : Ownership) → ownership S o ≡ Some h
+        → (b : GenerationalPointer) (v : T) → AllByRecursion (λ n. n ≢ name_of b) h.names
+        → value_in S b ≡ Some v → value_in R b ≡ Some v
+    keeps_unowned o answer s m h held b v apart =
+        keeps (ReleaseOwner o) answer s m b v (ap (λ r. among (names_in r) (name_of b))
+        (held_record S o h held) ∙ none h.names apart)
+      where
+        none : (names : List Name) → AllByRecursion (λ n. n ≢ name_of b) names
+            → among names (name_of b) ≡ false
+        none [] all = refl
+        none (n ∷ names) all =
+            ap (λ x. x || among names (name_of b)) (name_apart (name_of b) n (λ e. all.0 (sym e)))
+            ∙ none names all.1
 
     -- and reaches what it reached
     pub keeps_reach : (call : Action T) (answer : Answer T) → IsSound S → Meets S call answer R

@@ -57,7 +57,7 @@ module _ {T : Type 0} where
   Tells S (MakeShared o v l) (Made b) R = (value_in R b ≡ Some v) × Lists S o (name_of b) R
   Tells S (Refer o c) (Made b) R =
       (reach R b ≡ reach S c) × (IsSound S → value_in R b ≡ value_in S c)
-      × Lists S o (name_of b) R
+      × Lists S o (name_of b) R × (is_some (reach S c) ≡ true)
   Tells S NewOwner (Owned o) R = ownership R o ≡ Some (record { names = []; count = 1 })
   Tells S (Read b l) (Reads g) R = (reach S b ≡ Some g.cell) × (value_at R g.cell ≡ value_in S b)
   Tells S (Write b l) (Writes g v) R =
@@ -154,6 +154,7 @@ module _ {T : Type 0} where
             (λ is. true≢false (sym (s.given m (ap is_some at)) ∙ (ap (set.contains S.given) is ∙ new))))
             ∙ sym (value_in_reached S b m to))),
         in_list Q o n,
+        ap is_some to,
       )
   referred_told S o b n to target new h at = tt
 
