@@ -13,6 +13,7 @@ pub mod Names
 pub mod Numbered
 pub mod Places
 pub mod Replies
+pub mod Seeing
 pub mod Session
 pub mod Slots
 pub mod Sound

@@ -35,6 +35,7 @@ ghost use Rattle.generational_core.specs.SoundSession.{IsSoundSession};
 ghost use Rattle.generational_core.specs.Keeping.{Sets, IsUnwritten, IsUndisturbed, Undisturbed};
 ghost use Rattle.generational_core.specs.Answers.{value_at};
 ghost use Rattle.generational_core.specs.Keeping.{location_at};
+ghost use Rattle.generational_core.specs.Seeing.{value_in, LeavesBox, LeavesValue};
 ghost use Rattle.generational_core.specs.Numbered.{Matches, AnswersAs, empty_session};
 ghost use Rattle.generational_core.specs.History.{plain, plain_call, plain_answer};
 ghost use Rattle.std.specs.Prelude.{not};
@@ -46,6 +47,21 @@ ghost use Rattle.generational_core.specs.Machine.Answer.{Made, Reads, Writes};
 ghost use Rattle.generational_core.specs.State.{IsGiven};
 ghost use Rattle.generational_core.specs.StepCalls.{is_ready};
 ghost use Rattle.generational_core.specs.StepCalls.{recorded_as, is_hindered};
+ghost use Rattle.std.specs.Prelude.{Option, Result, IfOk, OnOk, IsErr, ◌++◌};
+ghost use Rattle.generational_core.specs.declared.boxes.GenerationalBox.{GenerationalBox};
+ghost use Rattle.generational_core.specs.declared.error.BorrowError.{BorrowError};
+ghost use Rattle.generational_core.specs.declared.error.BorrowMutError.{BorrowMutError};
+ghost use Rattle.generational_core.specs.declared.error.Refusal.{Refusal};
+ghost use Rattle.generational_core.specs.declared.error.Refused.{Refused};
+ghost use Rattle.generational_core.specs.declared.error.StoreError.{StoreError};
+ghost use Rattle.generational_core.specs.Machine.Action.{Make, MakeShared, Refer, NewOwner, Read};
+ghost use Rattle.generational_core.specs.Machine.Action.{Write, ReleaseWriter, End, Point};
+ghost use Rattle.generational_core.specs.Answers.{WriteGuard, value_behind, pointer_of};
+ghost use Rattle.generational_core.specs.Answers.{box_answer, reference_box_answer, read_answer};
+ghost use Rattle.generational_core.specs.Answers.{write_answer, back_answer, end_answer};
+ghost use Rattle.generational_core.specs.Answers.{owner_answer, release_answer};
+ghost use Rattle.generational_core.specs.Conditions.{one_listed};
+ghost use Rattle.std.specs.List.{AllByRecursion};
 
 /// A state in which nothing was made is sound, and each call leads from a sound state to a sound
 /// one.
@@ -174,6 +190,115 @@ pub fn undisturbed_values_stay<T>()
         (b : GenerationalPointer) (m : Name) →
         IsSoundSession s → (run : Run s calls replies r) → Undisturbed b m s calls replies r run →
         value_at r.state m ≡ value_at s.state m }
+{}
+
+/// A box sees the value that a read of it would show: that at the cell which it reaches, unless a
+/// writer has it. A box that a making gives sees the value that was handed in; one of a reference
+/// reaches and sees what the box sees from which it was made. No box has the name of a new one that
+/// saw a value before. A reference that was pointed elsewhere reaches what the other box reaches.
+pub fn made_boxes_see_their_values<T>()
+    ensures made { (S R : State T) (o : Option OwnerName) (v : T) (l : Location)
+        (r : Result (GenerationalBox T) (Refusal T)) → Meets S (Make o v l) (box_answer r) R →
+        IfOk r (λ b. value_in R (pointer_of b) ≡ Some v) }
+    ensures made_shared { (S R : State T) (o : Option OwnerName) (v : T) (l : Location)
+        (r : Result (GenerationalBox T) (Refusal T)) → Meets S (MakeShared o v l) (box_answer r) R →
+        IfOk r (λ b. value_in R (pointer_of b) ≡ Some v) }
+    ensures referred { (S R : State T) (o : Option OwnerName) (c : GenerationalPointer)
+        (r : Result (GenerationalBox T) (Refused BorrowError)) →
+        IsSound S → Meets S (Refer o c) (reference_box_answer r) R →
+        IfOk r (λ b. value_in R (pointer_of b) ≡ value_in S c) }
+    ensures referred_reach { (S R : State T) (o : Option OwnerName) (c : GenerationalPointer)
+        (r : Result (GenerationalBox T) (Refused BorrowError)) →
+        Meets S (Refer o c) (reference_box_answer r) R →
+        IfOk r (λ b. reach R (pointer_of b) ≡ reach S c) }
+    ensures referred_together { (S R : State T) (o : Option OwnerName) (c : GenerationalPointer)
+        (r : Result (GenerationalBox T) (Refused BorrowError)) →
+        IsSound S → Meets S (Refer o c) (reference_box_answer r) R →
+        IfOk r (λ b. reach R (pointer_of b) ≡ reach R c) }
+    ensures made_apart { (S R : State T) (o : Option OwnerName) (v : T) (l : Location)
+        (r : Result (GenerationalBox T) (Refusal T)) →
+        IsSound S → Meets S (Make o v l) (box_answer r) R →
+        IfOk r (λ b. (c : GenerationalPointer) (w : T) →
+        value_in S c ≡ Some w → name_of (pointer_of b) ≢ name_of c) }
+    ensures referred_apart { (S R : State T) (o : Option OwnerName) (c : GenerationalPointer)
+        (r : Result (GenerationalBox T) (Refused BorrowError)) →
+        IsSound S → Meets S (Refer o c) (reference_box_answer r) R →
+        IfOk r (λ b. (d : GenerationalPointer) (w : T) →
+        value_in S d ≡ Some w → name_of (pointer_of b) ≢ name_of d) }
+    ensures points { (S R : State T) (a b : GenerationalPointer)
+        (r : Result (Unit {0}) (Refused BorrowMutError)) → Meets S (Point a b) (end_answer r) R →
+        OnOk r (reach R a ≡ reach S b) }
+{}
+
+/// A reader's guard opens the value that its box sees, and a writer's has it. A write changes
+/// nothing that boxes reach. When a writer's guard is released, each box that reaches its cell sees
+/// the guard's value.
+pub fn guards_hold_what_boxes_see<T>()
+    ensures opens { (S R : State T) (b : GenerationalPointer) (l : Location)
+        (r : Result Guard (Refused BorrowError)) → Meets S (Read b l) (read_answer r) R →
+        IfOk r (λ g. value_behind R g ≡ value_in S b) }
+    ensures lends { (S R : State T) (b : GenerationalPointer) (l : Location)
+        (r : Result (WriteGuard T) (Refused BorrowMutError)) →
+        Meets S (Write b l) (write_answer r) R → IfOk r (λ w. value_in S b ≡ Some w.value) }
+    ensures lends_at { (S R : State T) (b : GenerationalPointer) (l : Location)
+        (r : Result (WriteGuard T) (Refused BorrowMutError)) →
+        Meets S (Write b l) (write_answer r) R →
+        IfOk r (λ w. (reach S b ≡ Some w.guard.cell) ×
+        ((c : GenerationalPointer) → reach R c ≡ reach S c)) }
+    ensures puts_back { (S R : State T) (g : Guard) (v : T) (r : Result (Unit {0}) T) →
+        Meets S (ReleaseWriter g v) (back_answer r) R →
+        OnOk r ((b : GenerationalPointer) → reach S b ≡ Some g.cell → value_in R b ≡ Some v) }
+{}
+
+/// A box that was ended reaches nothing, and so do the boxes of an owner's list after its last
+/// release. A box that reaches nothing sees nothing, and can't be read.
+pub fn ended_boxes_see_nothing<T>()
+    ensures ends { (S R : State T) (b : GenerationalPointer)
+        (r : Result (Unit {0}) (Refused BorrowMutError)) → Meets S (End b) (end_answer r) R →
+        OnOk r (reach R b ≡ None) }
+    ensures ends_owned { (S R : State T) (o : OwnerName)
+        (r : Result (Unit {0}) (OwnerName × Refused BorrowMutError)) →
+        Meets S (ReleaseOwner o) (release_answer r) R →
+        OnOk r ((h : Ownership) (b : GenerationalPointer) →
+        ownership S o ≡ Some h → h.count ≤ 1 → among h.names (name_of b) ≡ true →
+        reach R b ≡ None) }
+    ensures unseen { (S : State T) (b : GenerationalPointer) →
+        reach S b ≡ None → value_in S b ≡ None }
+    ensures unread { (S R : State T) (b : GenerationalPointer) (l : Location)
+        (r : Result Guard (Refused BorrowError)) →
+        Meets S (Read b l) (read_answer r) R → reach S b ≡ None → IsErr r }
+{}
+
+/// A new owner has a record without boxes and of one owner value. A box that is made by an owner
+/// stands at the end of its record's list.
+pub fn owners_list_their_boxes<T>()
+    ensures owned { (S R : State T) (r : Result OwnerName StoreError) →
+        Meets S NewOwner (owner_answer r) R →
+        IfOk r (λ o. ownership R o ≡ Some (record { names = []; count = 1 })) }
+    ensures lists { (S R : State T) (o : OwnerName) (v : T) (l : Location)
+        (r : Result (GenerationalBox T) (Refusal T)) →
+        Meets S (Make (Some o) v l) (box_answer r) R →
+        IfOk r (λ b. (h : Ownership) → ownership S o ≡ Some h →
+        ownership R o ≡ Some (one_listed (name_of (pointer_of b)) h)) }
+    ensures last { (names : List Name) (n : Name) → among (names ++ n ∷ []) n ≡ true }
+{}
+
+/// What each call leaves as it was. A box reaches what it reached, unless the call ends it or
+/// points it elsewhere (`LeavesBox`). It sees the value that it saw, unless the call does either,
+/// begins or ends a write of that value, or sets it (`LeavesValue`). So it is of each box that isn't
+/// in the list, where an owner is released.
+pub fn calls_leave_the_rest<T>()
+    ensures reach { (S R : State T) (call : Action T) (answer : Answer T) →
+        IsSound S → Meets S call answer R → (b : GenerationalPointer) (m : Name) →
+        LeavesBox S call b → reach S b ≡ Some m → reach R b ≡ Some m }
+    ensures seen { (S R : State T) (call : Action T) (answer : Answer T) →
+        IsSound S → Meets S call answer R → (b : GenerationalPointer) (v : T) →
+        LeavesValue S call b → value_in S b ≡ Some v → value_in R b ≡ Some v }
+    ensures unowned { (S R : State T) (o : OwnerName) (answer : Answer T) →
+        IsSound S → Meets S (ReleaseOwner o) answer R →
+        (h : Ownership) → ownership S o ≡ Some h → (b : GenerationalPointer) (v : T) →
+        AllByRecursion (λ n. n ≢ name_of b) h.names →
+        value_in S b ≡ Some v → value_in R b ≡ Some v }
 {}
 
 /// The bound on slots holds after each call of a session, and after each run.

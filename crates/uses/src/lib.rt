@@ -2,7 +2,11 @@
 #![tactic(auto)]
 
 pub mod clones;
+pub mod kinds;
+pub mod owned;
 pub mod sessions;
+pub mod shared;
 pub mod slots;
 pub mod soundness;
+pub mod values;
 pub mod writing;

@@ -1,6 +1,6 @@
 //! Callers of sessions, proved from the clauses of `Session` alone, for every storage.
 
-ghost use Rattle.std.specs.Prelude.{◌≡◌, IfSome, Some, map as list_map};
+ghost use Rattle.std.specs.Prelude.{◌≡◌, IfSome, Some, slice_get, map as list_map};
 ghost use Rattle.generational_core.specs.declared.boxes.GenerationalPointer.{GenerationalPointer};
 ghost use Rattle.generational_core.specs.Boxes.{name_of};
 ghost use Rattle.generational_core.specs.Conditions.{IsFresh, IsEnded};
@@ -29,6 +29,30 @@ pub fn read_later<S: Storage<u64>>(
     let reply = session.call(call).ok()?;
     let read = session.call(Call::TryRead(BoxAt::Place(place), here)).ok()?;
     Some((reply, read))
+}
+
+/// Reads and writes a box of an earlier place, by one list of calls. None where the session finds no
+/// memory. If the box's name has ended, both are answered so, with the box's own location.
+pub fn ask_for_ended<S: Storage<u64>>(
+    alloc: Global,
+    session: &mut Session<u64, S>,
+    place: usize,
+    here: Location,
+) -> Option<Vec<Reply<u64>>>
+    ensures { IfSome result (λ replies. (b : GenerationalPointer) →
+        at_place session.old.table place ≡ Boxed b → IsEnded session.old.state (name_of b) →
+        (slice_get (as_replies replies.items) 0 ≡ Some (Error (Dropped b.created_at)))
+        × (slice_get (as_replies replies.items) 1 ≡ Some (Error (Dropped b.created_at)))) }
+{
+    let read = Call::TryRead(BoxAt::Place(place), here);
+    let write = Call::TryWrite(BoxAt::Place(place), here);
+    let Ok(calls) = vec![in alloc; read, write] else {
+        return None;
+    };
+    let Ok(replies) = session.run(calls) else {
+        return None;
+    };
+    Some(replies)
 }
 
 /// The replies to calls in a session over a store in which nothing was made. None where the session

@@ -13,7 +13,7 @@ use Rattle.generational_core.specs.Boxes.{name_of, has_same_id}
 use Rattle.generational_core.specs.Cells.{Content, Cell, content_of, is_shared, refill}
 use Rattle.generational_core.specs.Cells.Cell.{Value, Shared, Ref}
 use Rattle.generational_core.specs.Cells.Content.{Here, Lent}
-use Rattle.generational_core.specs.Conditions.{one_listed, one_less, one_more}
+use Rattle.generational_core.specs.Conditions.{one_listed, one_less, one_more, names_in}
 use Rattle.generational_core.specs.Ending.{close, hindrance_to, hindrance_at, sweep}
 use Rattle.generational_core.specs.Keeping.{Sets}
 use Rattle.generational_core.specs.Machine.{add_to_list, release_owner, knows_reader, remove_reader}
@@ -29,6 +29,7 @@ use Rattle.generational_core.specs.Names.{change, Name, Names, is_name}
 use Rattle.generational_core.specs.Numbered.{want}
 use Rattle.generational_core.specs.State.{State, Ownership, Owners, IsGiven, IsBoxed, content_at}
 use Rattle.generational_core.specs.State.{tickets_of}
+use Rattle.generational_core.specs.Seeing.{ending, Turns, Lends}
 use Rattle.generational_core.specs.Steps.{IsNew, AreNew}
 use Rattle.generational_core.specs.declared.borrow.Borrow.{Borrow}
 use Rattle.generational_core.specs.declared.boxes.GenerationalPointer.{GenerationalPointer}
@@ -125,10 +126,10 @@ module _ {T : Type 0} where
   -- what is known where a call fills a content, and which ticket is the next then
   abbrev pub IsFilling : State T → Action T → ℕ → Name → Filling T → Type 0
   IsFilling S call next n (Reader v readers l) = next ≡ S.next + 1
-  IsFilling S call next n (Writer v l) = next ≡ S.next + 1
+  IsFilling S call next n (Writer v l) = (next ≡ S.next + 1) × Lends S call n
   IsFilling S call next n (Leave v readers g) = call ≡ ReleaseReader g
   IsFilling S call next n (Return w g v) =
-      (call ≡ ReleaseWriter g v) × (nat_eq w.ticket g.ticket ≡ true)
+      (call ≡ ReleaseWriter g v) × (nat_eq w.ticket g.ticket ≡ true) × Lends S call n
   IsFilling S call next n (Replace old v) = Sets S call n
 
   -- the state after it, with names for what is made
@@ -155,10 +156,11 @@ module _ {T : Type 0} where
       → IsNew S f.first × IsNew (add_cell S f.first (Shared (Here v []) l)) f.second)
   IsLawful S call f next (Fill n k) =
       (content_at S n ≡ Some (old_content k)) × IsFilling S call next n k
-  IsLawful S call f next (Close names) = hindrance_to S names ≡ None
+  IsLawful S call f next (Close names) = (hindrance_to S names ≡ None) × (names ≡ ending S call)
   IsLawful S call f next (Turn a old new l) =
       (map.get S.cells a ≡ Some (Ref old l)) × (is_shared (map.get S.cells new) ≡ true)
       × (hindrance_at S.cells (sweep (map.insert S.cells a (Ref new l))) old ≡ None)
+      × Turns call a
 
   -- ---- what an answer says
 
@@ -301,7 +303,8 @@ module _ {T : Type 0} where
       (λ all. let old = all o.key h (held_record S o h is) in
       records_put S _ S.owners all o.key (one_less h) old.0 old.1) (λ _. plain tt refl))
       (leads_unless (hindrance_to S h.names)
-      (λ free. leads (Close h.names) _ S.next (omega arith) free
+      (λ free. leads (Close h.names) _ S.next (omega arith)
+      (free, ap names_in (sym (held_record S o h is)))
       (λ all. records_left (close S h.names) _ S.owners all o.key) (λ _. plain tt refl)))
 
   -- ---- makings
@@ -349,7 +352,7 @@ module _ {T : Type 0} where
   refilled_content c old (Some (Shared o l)) h = refl
   refilled_content c old x h = absurd (none≢some _ _ refl h)
 
-  filled_content : (S : State T) (m : Name) (c old : Content T)
+  pub filled_content : (S : State T) (m : Name) (c old : Content T)
       → content_at S m ≡ Some old → content_at (fill S m c) m ≡ Some c
   filled_content S m c old had = ap content_of (get-changed_name S.cells m (refill c) m
       ∙ ap (λ b. cond b (option_map (refill c) (map.get S.cells m)) (map.get S.cells m))
@@ -369,16 +372,16 @@ module _ {T : Type 0} where
 
   leads_write : {S : State T} {f : Fresh} (b : GenerationalPointer) (l : Location) (m : Option Name)
       (c : Option (Content T)) → content_of (cell_at S m) ≡ c
-      → refusal_at m b.created_at (λ n. write_refusal (content_at S n)) ≡ None
+      → refusal_at m b.created_at (λ n. write_refusal (content_at S n)) ≡ None → reach S b ≡ m
       → Leads S (Write b l) f (write_at S l m c)
-  leads_write {S} b l (Some m) (Some (Here v [])) had free =
+  leads_write {S} b l (Some m) (Some (Here v [])) had free to =
       let known = and_from _ _ (nat_eq_equiv.refl S.number) (ap (λ c. has_writer c S.next)
       (filled_content S m (Lent (next_borrow S l)) (Here v []) had) ∙ nat_eq_equiv.refl S.next) in
-      leads (Fill m (Writer v l)) _ (S.next + 1) (omega arith) (had, refl) (λ h. h)
+      leads (Fill m (Writer v l)) _ (S.next + 1) (omega arith) (had, (refl, to)) (λ h. h)
       (λ _. plain (record { is = refl; next = refl }, known) refl)
-  leads_write b l (Some m) (Some (Here v (r ∷ readers))) had free =
+  leads_write b l (Some m) (Some (Here v (r ∷ readers))) had free to =
       absurd (none≢some _ _ free (ap write_refusal had))
-  leads_write b l m c had free = still (plain tt refl)
+  leads_write b l m c had free to = still (plain tt refl)
 
   leads_left : {S : State T} {f : Fresh} (g : Guard) (c : Option (Content T))
       → content_at S g.cell ≡ c
@@ -392,7 +395,7 @@ module _ {T : Type 0} where
       → content_at S g.cell ≡ c → has_writer c g.ticket ≡ true
       → Leads S (ReleaseWriter g v) f (Done, fill S g.cell (Here v []))
   leads_returned {S} g v (Some (Lent w)) had known = leads (Fill g.cell (Return w g v)) _
-      S.next (omega arith) (had, (refl, known)) (λ h. h) (λ _. plain tt refl)
+      S.next (omega arith) (had, (refl, known, refl)) (λ h. h) (λ _. plain tt refl)
   leads_returned g v c had known = absurd (true≢false (sym known))
 
   leads_set : {S : State T} {f : Fresh} (b : GenerationalPointer) (v : T) (m : Option Name)
@@ -415,7 +418,7 @@ module _ {T : Type 0} where
       leads_if (is_name old new) (λ _. still (plain tt refl))
       (leads_unless (hindrance_at S.cells (sweep (map.insert S.cells (name_of a) (Ref new l))) old)
       (λ free. leads (Turn (name_of a) old new l) _ S.next (omega arith)
-      (at_a, ap is_shared at_b, free) (λ h. h) (λ _. plain tt refl)))
+      (at_a, ap is_shared at_b, free, refl) (λ h. h) (λ _. plain tt refl)))
   leads_pointed a b true (Some _) to target at_a at_b = still (plain tt refl)
 
   -- what each call leads to
@@ -437,14 +440,14 @@ module _ {T : Type 0} where
   act_leads S (Read b l) f =
       leads_unless (read_trouble S b) (λ _. leads_read l (reach S b) _ refl)
   act_leads S (Write b l) f =
-      leads_unless (write_trouble S b) (λ free. leads_write b l (reach S b) _ refl free)
+      leads_unless (write_trouble S b) (λ free. leads_write b l (reach S b) _ refl free refl)
   act_leads S (ReleaseReader g) f =
       leads_if (knows_reader S g) (λ _. leads_left g _ refl) (still (plain tt refl))
   act_leads S (ReleaseWriter g v) f = leads_if (knows_writer S g)
       (λ known. leads_returned g v _ refl (and_parts _ _ known).1) (still (plain tt refl))
   act_leads S (SetValue b v) f = leads_set b v (reach S b) _ refl refl
   act_leads S (End b) f = leads_unless (hindrance_to S (own_name S b))
-      (λ free. leads (Close (own_name S b)) _ S.next (omega arith) free (λ h. h)
+      (λ free. leads (Close (own_name S b)) _ S.next (omega arith) (free, refl) (λ h. h)
       (λ _. plain tt refl))
   act_leads S (Point a b) f =
       leads_if (has_same_id a b) (λ _. still (plain tt refl))

@@ -141,7 +141,7 @@ module _ {T : Type 0} where
       (sym (ap content_of e.2) ∙ (ap (content_at S) e.0 ∙ law.0)))
       (changed_view by_name S.cells n (refill (new_content S k)) q)
   view S call f (Close names) owners next new law q =
-      ⊎_elim Same (λ e. Gone e.0 e.1) (closed_view S names law q)
+      ⊎_elim Same (λ e. Gone e.0 e.1) (closed_view S names law.0 q)
   view S call f (Turn a old to l) owners next new law q =
       ⊎_elim Same (⊎_elim (λ e. Turned old to l e.0 e.1) (λ e. Gone e.0 e.1))
       (turned_view S a old to l law.0 law.2 q)

@@ -1,0 +1,304 @@
+-- What the answer of each call tells of boxes, guards and owners.
+use Rattle.std.specs.FinMap as map
+use Rattle.std.specs.FinSet as set
+use Rattle.std.proofs.Common.{◌≡◌, ◌≢◌, Bool, true, false, cond, List, [], ◌∷◌, Option, None}
+use Rattle.std.proofs.Common.{Some, refl, sym, ap, subst, ◌∙◌, ⊎_elim, inl, inr, ◌||◌}
+use Rattle.std.proofs.lemmas.Bool.{true≢false, and_parts, cases_Bool}
+use Rattle.std.specs.Cmp.{nat_eq_equiv}
+use Rattle.std.specs.Prelude.{is_some, nat_eq, ◌⊎◌}
+use Rattle.generational_core.specs.Answers.{value_at, value_of}
+use Rattle.generational_core.specs.Borrowing.{Guard, Trouble, reach, leads_to, fill, read_trouble}
+use Rattle.generational_core.specs.Borrowing.{write_trouble}
+use Rattle.generational_core.specs.Boxes.{name_of, box_of, has_same_id}
+use Rattle.generational_core.specs.Cells.{Content, Cell, content_of, is_shared, refill}
+use Rattle.generational_core.specs.Cells.Cell.{Value, Shared, Ref}
+use Rattle.generational_core.specs.Cells.Content.{Here, Lent}
+use Rattle.generational_core.specs.Ending.{sweep, take_away, cells_after, close, hindrance_to}
+use Rattle.generational_core.specs.Ending.{hindrance_at}
+use Rattle.generational_core.specs.Machine.{Action, Answer, Fresh, Outcome, OwnerName, act, add_cell}
+use Rattle.generational_core.specs.Machine.{own_name, add_to_list, is_known, unless, refer, cell_at}
+use Rattle.generational_core.specs.Machine.{read_at, write_at, knows_writer, has_writer, make, point}
+use Rattle.generational_core.specs.Machine.{next_borrow}
+use Rattle.generational_core.specs.Conditions.{one_listed}
+use Rattle.generational_core.specs.Machine.{ownership}
+use Rattle.generational_core.specs.Machine.Action.{Make, MakeShared, Refer, NewOwner, Read, Write}
+use Rattle.generational_core.specs.Machine.Action.{ReleaseWriter, End, Point}
+use Rattle.generational_core.specs.Machine.Answer.{Made, Owned, Reads, Writes, Done, Troubled}
+use Rattle.generational_core.specs.Names.{Name, NameMap, among, is_name, change}
+use Rattle.generational_core.specs.Seeing.{value_in}
+use Rattle.generational_core.specs.State.{State, IsSound, Ownership, content_at}
+use Rattle.generational_core.specs.Steps.{Meets}
+use Rattle.generational_core.specs.declared.boxes.GenerationalBoxId.{GenerationalBoxId}
+use Rattle.generational_core.specs.declared.boxes.GenerationalPointer.{GenerationalPointer}
+use Rattle.generational_core.specs.declared.error.Location.{Location}
+use Rattle.generational_core.proofs.maps.Maps.{by_name, by_number, get-insert_here, get-insert_apart}
+use Rattle.generational_core.proofs.maps.Maps.{get-changed_here}
+use Rattle.generational_core.proofs.maps.Maps.{changed_view, name_here, name_same, same_ids}
+use Rattle.generational_core.proofs.machine.Changes.{filled_content, AreFresh, new_fresh}
+use Rattle.generational_core.proofs.machine.Ends.{by_cond, none≢some, swept_view, swept_ref}
+use Rattle.generational_core.proofs.machine.Ends.{without_view}
+use Rattle.generational_core.proofs.machine.Releasing.{box_ends}
+use Rattle.generational_core.proofs.machine.Seeing.{reach_by, value_in_reached}
+use Rattle.generational_core.proofs.machine.Seeing.{refilled_leads}
+use Rattle.generational_core.proofs.machine.Stepping.{meets_cases, is_refusal}
+
+module _ {T : Type 0} where
+  -- ---- what answers tell
+
+  -- the name stands at the end of the owner's list
+  abbrev pub Lists : State T → Option OwnerName → Name → State T → Type 0
+  Lists S o n R = (a : OwnerName) (h : Ownership)
+      → o ≡ Some a → ownership S a ≡ Some h → ownership R a ≡ Some (one_listed n h)
+
+  -- what a call's answer tells of the states before and after it
+  abbrev pub Tells : State T → Action T → Answer T → State T → Type 0
+  Tells S (Make o v l) (Made b) R =
+      (reach R b ≡ Some (name_of b)) × (value_in R b ≡ Some v) × Lists S o (name_of b) R
+  Tells S (MakeShared o v l) (Made b) R = (value_in R b ≡ Some v) × Lists S o (name_of b) R
+  Tells S (Refer o c) (Made b) R =
+      (reach R b ≡ reach S c) × (IsSound S → value_in R b ≡ value_in S c)
+      × Lists S o (name_of b) R × (is_some (reach S c) ≡ true)
+  Tells S NewOwner (Owned o) R = ownership R o ≡ Some (record { names = []; count = 1 })
+  Tells S (Read b l) (Reads g) R = (reach S b ≡ Some g.cell) × (value_at R g.cell ≡ value_in S b)
+  Tells S (Write b l) (Writes g v) R =
+      (reach S b ≡ Some g.cell) × (value_in S b ≡ Some v)
+      × ((c : GenerationalPointer) → reach R c ≡ reach S c)
+  Tells S (ReleaseWriter g v) Done R =
+      (b : GenerationalPointer) → reach S b ≡ Some g.cell → value_in R b ≡ Some v
+  Tells S (End b) Done R = reach R b ≡ None
+  Tells S (Point a b) Done R = reach R a ≡ reach S b
+  Tells S _ _ R = Unit {0}
+
+  abbrev TellsOf : State T → Action T → Outcome T → Type 0
+  TellsOf S call out = Tells S call out.0 out.1
+
+  -- a refusal that may come tells nothing
+  unless_told : (S : State T) (call : Action T) (t : Option Trouble) (out : Outcome T)
+      → ((why : Trouble) → Tells S call (Troubled why) S) → TellsOf S call out
+      → TellsOf S call (unless t S out)
+  unless_told S call None out h told = told
+  unless_told S call (Some t) out h told = h t
+
+  -- boxes of one id reach the same
+  same_reach : (S : State T) (a b : GenerationalPointer) → a.id ≡ b.id → reach S a ≡ reach S b
+  unfolding reach
+  same_reach S a b e = ap (λ (d : GenerationalBoxId). reach S (record { id = d; created_at = a.created_at })) e
+
+  -- ---- makings
+
+  -- an owner's list changes nothing that a box sees
+  listed : (S : State T) (o : Option OwnerName) (n : Name) (b : GenerationalPointer)
+      → (reach (add_to_list S o n) b ≡ reach S b)
+      × (value_in (add_to_list S o n) b ≡ value_in S b)
+  unfolding value_in reach
+  listed S None n b = (refl, refl)
+  listed S (Some o) n b = (refl, refl)
+
+  in_list : (S : State T) (o : Option OwnerName) (n : Name) → Lists S o n (add_to_list S o n)
+  in_list S None n a h is held = absurd cc
+  in_list S (Some b) n a h is held =
+      let same : b ≡ a = cc in
+      subst (λ x. ownership (add_to_list S (Some x) n) a ≡ Some (one_listed n h)) (sym same)
+      (by_cond (λ x. x ≡ Some h → cond (nat_eq a.store S.number)
+      (map.get (change S.owners a.key (one_listed n)) a.key) None ≡ Some (one_listed n h))
+      (nat_eq a.store S.number)
+      (λ own e. rw own (get-changed_here by_number S.owners a.key (one_listed n) h e))
+      (λ _ e. absurd (none≢some _ h refl e)) held)
+
+  -- the box of a cell that is added leads where the cell does
+  added_reach : (S : State T) (n : Name) (c : Cell T) (l : Location)
+      → reach (add_cell S n c) (box_of S.number n l) ≡ leads_to (Some c) n
+  unfolding reach
+  added_reach S n c l = rw (nat_eq_equiv.refl S.number)
+      (ap (λ x. leads_to x n) (get-insert_here by_name S.cells n c))
+
+  made_told : (S : State T) (o : Option OwnerName) (v : T) (l : Location) (n : Name)
+      → TellsOf S (Make o v l) (make S o n (Value (Here v []) l) l)
+  made_told S o v l n =
+      let c : Cell T = Value (Here v []) l in
+      let b = box_of S.number n l in
+      let Q = add_cell S n c in
+      let list = listed Q o n b in
+      let to = added_reach S n c l in (
+        list.0 ∙ to,
+        list.1 ∙ (value_in_reached Q b n to
+            ∙ ap (λ x. value_of (content_of x)) (get-insert_here by_name S.cells n c)),
+        in_list Q o n,
+      )
+
+  shared_told : (S : State T) (o : Option OwnerName) (v : T) (l : Location) (m n : Name) → m ≢ n
+      → TellsOf S (MakeShared o v l)
+      (make (add_cell S m (Shared (Here v []) l)) o n (Ref m l) l)
+  shared_told S o v l m n apart =
+      let c : Cell T = Shared (Here v []) l in
+      let one = add_cell S m c in
+      let Q = add_cell one n (Ref m l) in
+      let b = box_of S.number n l in (
+        (listed Q o n b).1 ∙ (value_in_reached Q b m (added_reach one n (Ref m l) l)
+            ∙ ap (λ x. value_of (content_of x)) (get-insert_apart by_name one.cells n (Ref m l) m apart
+            ∙ get-insert_here by_name S.cells m c)),
+        in_list Q o n,
+      )
+
+  referred_told : (S : State T) (o : Option OwnerName) (b : GenerationalPointer) (n : Name)
+      (to : Option Name) (target : Option (Cell T)) → set.contains S.given n ≡ false
+      → reach S b ≡ to → cell_at S to ≡ target → TellsOf S (Refer o b) (refer S o b to target n)
+  referred_told S o b n (Some m) (Some (Shared c l)) new to at =
+      let Q = add_cell S n (Ref m l) in
+      let box = box_of S.number n l in
+      let list = listed Q o n box in
+      let there = added_reach S n (Ref m l) l in (
+        list.0 ∙ (there ∙ sym to),
+        λ s. list.1 ∙ (value_in_reached Q box m there
+            ∙ (ap (λ x. value_of (content_of x)) (get-insert_apart by_name S.cells n (Ref m l) m
+            (λ is. true≢false (sym (s.given m (ap is_some at)) ∙ (ap (set.contains S.given) is ∙ new))))
+            ∙ sym (value_in_reached S b m to))),
+        in_list Q o n,
+        ap is_some to,
+      )
+  referred_told S o b n to target new h at = tt
+
+  -- ---- borrows
+
+  -- another content at a name changes nothing that boxes reach
+  pub filled_reach : (S : State T) (n : Name) (k : Content T) (b : GenerationalPointer)
+      → reach (fill S n k) b ≡ reach S b
+  unfolding reach
+  filled_reach S n k b =
+      ap (λ to. cond (nat_eq b.id.store S.number) to None)
+      (⊎_elim (ap (λ x. leads_to x (name_of b)))
+      (λ e. ap (λ x. leads_to x (name_of b)) e.3 ∙ (refilled_leads k e.1 (name_of b)
+      ∙ sym (ap (λ x. leads_to x (name_of b)) e.2)))
+      (changed_view by_name S.cells n (refill k) (name_of b)))
+
+  read_told : (S : State T) (b : GenerationalPointer) (l : Location) (m : Option Name)
+      (c : Option (Content T)) → reach S b ≡ m → content_of (cell_at S m) ≡ c
+      → TellsOf S (Read b l) (read_at S l m c)
+  read_told S b l (Some m) (Some (Here v rs)) to had = (
+    to,
+    ap value_of (filled_content S m _ (Here v rs) had)
+        ∙ (sym (ap value_of had) ∙ sym (value_in_reached S b m to)),
+  )
+  read_told S b l m c to had = tt
+
+  write_told : (S : State T) (b : GenerationalPointer) (l : Location) (m : Option Name)
+      (c : Option (Content T)) → reach S b ≡ m → content_of (cell_at S m) ≡ c
+      → TellsOf S (Write b l) (write_at S l m c)
+  unfolding reach
+  write_told S b l (Some m) (Some (Here v rs)) to had = (
+    to,
+    value_in_reached S b m to ∙ ap value_of had,
+    filled_reach S m (Lent (next_borrow S l)),
+  )
+  write_told S b l m c to had = tt
+
+  written_told : (S : State T) (g : Guard) (v : T) (c : Option (Content T)) → content_at S g.cell ≡ c
+      → has_writer c g.ticket ≡ true → TellsOf S (ReleaseWriter g v) (Done, fill S g.cell (Here v []))
+  written_told S g v (Some k) had known = λ b to.
+      value_in_reached (fill S g.cell (Here v [])) b g.cell
+      (filled_reach S g.cell (Here v []) b ∙ to)
+      ∙ ap value_of (filled_content S g.cell (Here v []) k had)
+  written_told S g v None had known = absurd (true≢false (sym known))
+
+  -- ---- ends, and references that turn
+
+  -- a cell that isn't kept in an end is gone
+  left_view : (cells : NameMap (Cell T)) (names : List Name) (n : Name)
+      → (map.get (cells_after cells names) n ≡ map.get cells n)
+      ⊎ (map.get (cells_after cells names) n ≡ None)
+  left_view cells names n =
+      ⊎_elim (λ e. ⊎_elim (λ k. inl (e.0 ∙ k)) (λ k. inr (e.0 ∙ k.0)) (without_view cells names n))
+      (λ e. inr e.0) (swept_view (take_away cells names) n)
+
+  shared_leads : (c : Option (Cell T)) (n : Name) → is_shared c ≡ true → leads_to c n ≡ None
+  shared_leads (Some (Shared c l)) n h = refl
+  shared_leads None n h = refl
+  shared_leads _ n h = absurd (true≢false (sym h))
+
+  pub ended_leads : (cells : NameMap (Cell T)) (names : List Name) (n : Name)
+      → among names n ≡ true → leads_to (map.get (cells_after cells names) n) n ≡ None
+  ended_leads cells names n there =
+      ⊎_elim
+      (λ shared. ⊎_elim (λ e. ap (λ x. leads_to x n) e ∙ shared_leads _ n shared)
+      (ap (λ x. leads_to x n)) (left_view cells names n))
+      (λ box. ap (λ x. leads_to x n) (box_ends cells names n box there))
+      (cases_Bool (is_shared (map.get cells n)))
+
+  ended_told : (S : State T) (b : GenerationalPointer)
+      → TellsOf S (End b) (Done, close S (own_name S b))
+  unfolding reach
+  ended_told S b = by_cond
+      (λ names. cond (nat_eq b.id.store S.number)
+      (leads_to (map.get (cells_after S.cells names) (name_of b)) (name_of b)) None ≡ None)
+      (nat_eq b.id.store S.number)
+      (λ own. rw own (ended_leads S.cells (name_of b ∷ []) (name_of b)
+      (ap (λ x. x || false) (name_here (name_of b)))))
+      (λ other. rw other refl)
+
+  turned_told : (S : State T) (a b : GenerationalPointer) (own : Bool)
+      (cell : Option (Cell T)) (to : Option Name) (target : Option (Cell T))
+      → nat_eq a.id.store S.number ≡ own → map.get S.cells (name_of a) ≡ cell → reach S b ≡ to
+      → TellsOf S (Point a b) (point S a b (cond own cell None) to target)
+  turned_told S a b true (Some (Ref old l)) (Some new) (Some (Shared c k)) own at to =
+      let one = map.insert S.cells (name_of a) (Ref new l) in
+      by_cond (TellsOf S (Point a b)) (is_name old new)
+      (λ same. reach_by S a old (record
+      { number = own; leads = ap (λ x. leads_to x (name_of a)) at })
+      ∙ (ap Some (name_same old new same) ∙ sym to))
+      (λ _. unless_told S (Point a b) (hindrance_at S.cells (sweep one) old) _ (λ t. tt)
+      (reach_by (record S { cells = sweep one }) a new (record {
+        number = own;
+        leads = ap (λ x. leads_to x (name_of a)) (swept_ref one (name_of a) new l
+            (get-insert_here by_name S.cells (name_of a) (Ref new l)));
+      }) ∙ sym to))
+  turned_told S a b false cell to target own at is = tt
+  turned_told S a b true None to target own at is = tt
+  turned_told S a b true (Some _) to target own at is = tt
+
+  -- ---- each call
+
+  act_tells : (S : State T) (call : Action T) (f : Fresh)
+      → AreFresh S call f → TellsOf S call (act S call f)
+  act_tells S (Make o v l) f new = by_cond (TellsOf S (Make o v l)) (is_known S o)
+      (λ _. made_told S o v l f.first) (λ _. tt)
+  act_tells S (MakeShared o v l) f new = by_cond (TellsOf S (MakeShared o v l)) (is_known S o)
+      (λ _. shared_told S o v l f.first f.second new.2) (λ _. tt)
+  act_tells S (Refer o b) f new = by_cond (TellsOf S (Refer o b)) (is_known S o)
+      (λ _. unless_told S (Refer o b) (read_trouble S b) _ (λ t. tt)
+      (referred_told S o b f.first (reach S b) _ new refl refl)) (λ _. tt)
+  act_tells S NewOwner f new =
+      rw (nat_eq_equiv.refl S.number) (get-insert_here by_number S.owners S.next _)
+  act_tells S (Read b l) f new = unless_told S (Read b l) (read_trouble S b) _ (λ t. tt)
+      (read_told S b l (reach S b) _ refl refl)
+  act_tells S (Write b l) f new = unless_told S (Write b l) (write_trouble S b) _ (λ t. tt)
+      (write_told S b l (reach S b) _ refl refl)
+  act_tells S (ReleaseWriter g v) f new = by_cond (TellsOf S (ReleaseWriter g v)) (knows_writer S g)
+      (λ known. written_told S g v _ refl (and_parts _ _ known).1) (λ _. tt)
+  act_tells S (End b) f new = unless_told S (End b) (hindrance_to S (own_name S b)) _ (λ t. tt)
+      (ended_told S b)
+  act_tells S (Point a b) f new = by_cond (TellsOf S (Point a b)) (has_same_id a b)
+      (λ same. same_reach S a b ((same_ids a b).0 same))
+      (λ _. unless_told S (Point a b) (read_trouble S b) _ (λ t. tt)
+      (turned_told S a b _ _ (reach S b) _ refl refl refl))
+  act_tells S _ f new = tt
+
+  refused_tells : (S R : State T) (call : Action T) (answer : Answer T)
+      → is_refusal answer ≡ true → Tells S call answer R
+  refused_tells S R (Make o v l) (Made b) h = absurd (true≢false (sym h))
+  refused_tells S R (MakeShared o v l) (Made b) h = absurd (true≢false (sym h))
+  refused_tells S R (Refer o c) (Made b) h = absurd (true≢false (sym h))
+  refused_tells S R NewOwner (Owned o) h = absurd (true≢false (sym h))
+  refused_tells S R (Read b l) (Reads g) h = absurd (true≢false (sym h))
+  refused_tells S R (Write b l) (Writes g v) h = absurd (true≢false (sym h))
+  refused_tells S R (ReleaseWriter g v) Done h = absurd (true≢false (sym h))
+  refused_tells S R (End b) Done h = absurd (true≢false (sym h))
+  refused_tells S R (Point a b) Done h = absurd (true≢false (sym h))
+  refused_tells S R _ _ h = tt
+
+  pub meets_tells : (S R : State T) (call : Action T) (answer : Answer T)
+      → Meets S call answer R → Tells S call answer R
+  meets_tells S R call answer m =
+      ⊎_elim (λ same. refused_tells S R call answer same.0)
+      (λ acts. subst (TellsOf S call) (sym acts.2)
+      (act_tells S call acts.0 (new_fresh S call acts.0 acts.1)))
+      (meets_cases S R call answer m)

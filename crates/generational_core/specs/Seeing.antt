@@ -1,0 +1,53 @@
+-- What a read of a box would see, and which calls leave that as it is.
+use Rattle.std.specs.Prelude.{◌≡◌, ◌≢◌, false, List, [], Option, None, Some}
+use Rattle.generational_core.specs.declared.boxes.GenerationalPointer.{GenerationalPointer}
+use Rattle.generational_core.specs.Names.{Name, among}
+use Rattle.generational_core.specs.State.{State}
+use Rattle.generational_core.specs.Boxes.{name_of}
+use Rattle.generational_core.specs.Borrowing.{reach}
+use Rattle.generational_core.specs.Machine.{Action, own_name}
+use Rattle.generational_core.specs.Machine.Action.{ReleaseOwner, Write, ReleaseWriter, SetValue}
+use Rattle.generational_core.specs.Machine.Action.{End, Point}
+use Rattle.generational_core.specs.Conditions.{names_under}
+use Rattle.generational_core.specs.Answers.{value_at}
+
+module _ {T : Type 0} where
+  -- the value at what was reached, and the one that a box reaches, unless a writer has it
+  abbrev pub value_reached : State T → Option Name → Option T
+  value_reached S None = None
+  value_reached S (Some m) = value_at S m
+
+  unfoldable pub value_in : State T → GenerationalPointer → Option T
+  value_in S b = value_reached S (reach S b)
+
+  -- the names that a call asks to end
+  abbrev pub ending : State T → Action T → List Name
+  ending S (End b) = own_name S b
+  ending S (ReleaseOwner o) = names_under S.owners o.key
+  ending S _ = []
+
+  -- a call turns the Ref at a name to another cell
+  abbrev pub Turns : Action T → Name → Type 0
+  Turns (Point a b) n = name_of a ≡ n
+  Turns _ n = ⊥
+
+  -- a call lends the value at a name to a writer, or takes it back from one
+  abbrev pub Lends : State T → Action T → Name → Type 0
+  Lends S (Write b l) m = reach S b ≡ Some m
+  Lends S (ReleaseWriter g v) m = g.cell ≡ m
+  Lends S _ m = ⊥
+
+  -- a call lets a box reach what it reaches: it neither ends the box nor points it elsewhere
+  abbrev pub LeavesBox : State T → Action T → GenerationalPointer → Type 0
+  LeavesBox S (End a) b = name_of a ≢ name_of b
+  LeavesBox S (ReleaseOwner o) b = among (names_under S.owners o.key) (name_of b) ≡ false
+  LeavesBox S (Point a c) b = name_of a ≢ name_of b
+  LeavesBox S _ b = Unit {0}
+
+  -- a call lets the value be that a box reaches: it isn't the start or the end of a write of it,
+  -- and doesn't set it
+  abbrev pub LeavesValue : State T → Action T → GenerationalPointer → Type 0
+  LeavesValue S (Write a l) b = reach S a ≢ reach S b
+  LeavesValue S (ReleaseWriter g v) b = reach S b ≢ Some g.cell
+  LeavesValue S (SetValue a v) b = reach S a ≢ reach S b
+  LeavesValue S call b = LeavesBox S call b

@@ -1,0 +1,12 @@
+use Rattle.std.proofs.Common.{ap, slice_get}
+use Rattle.generational_core.specs.Session.{box_held}
+use Rattle.uses.proofs.sessions.ask_for_ended.Goals as goal
+
+pub returns : goal.returns
+returns g c b there ended =
+    let items = c.in-Ok.ensures.items in
+    let told = c.in-Ok-run.ensures.tell_ends in
+    let box = ap box_held there in (
+      told 0 _ b (ap (λ xs. slice_get xs 0) items) box ended,
+      told 1 _ b (ap (λ xs. slice_get xs 1) items) box ended,
+    )
