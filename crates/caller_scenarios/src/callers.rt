@@ -1,6 +1,10 @@
 //! The proved callers of the crate `uses`, run: docs/CALLING.md shows them.
 
-use generational_box::{BoxAt, Call, GenerationalBox, Location, Reply, Session, UnsyncStorage};
+ghost use Rattle.generational_core.specs.Conditions.{IsFresh};
+
+use generational_box::{
+    BoxAt, Call, GenerationalBox, Location, Reply, Session, Storage, UnsyncStorage,
+};
 use std::alloc::Global;
 use std::test::Fail;
 use uses::kinds::{Entry, toggle};
@@ -14,47 +18,45 @@ fn here() -> Location {
 }
 
 /// A value is kept, written and replaced, each time read again.
-fn value_by_itself(alloc: Global) -> Option<(u64, (u64, u64))> {
-    let mut store = UnsyncStorage::new(alloc, 1);
-    let made = GenerationalBox::leak(&mut store, 3, here()).ok()?;
-    write_value(&mut store, made, 4, here())?;
-    let written = written_value(&mut store, made, 8, here())?;
-    let replaced = replaced_value(&mut store, made, 9, here())?;
+fn value_by_itself<S: Storage<u64>>(store: &mut S) -> Option<(u64, (u64, u64))> {
+    let made = GenerationalBox::leak(store, 3, here()).ok()?;
+    write_value(store, made, 4, here())?;
+    let written = written_value(store, made, 8, here())?;
+    let replaced = replaced_value(store, made, 9, here())?;
     Some((written, replaced))
 }
 
 /// Whether an owner's value can be read after the owner's release.
-fn owned_value(alloc: Global) -> Option<Option<u64>> {
-    let mut store = UnsyncStorage::new(alloc, 1);
-    let ended = end_owned(&mut store, 4, here())?;
-    Some(read_value(&mut store, ended, here()))
+fn owned_value<S: Storage<u64>>(store: &mut S) -> Option<Option<u64>> {
+    let ended = end_owned(store, 4, here())?;
+    Some(read_value(store, ended, here()))
 }
 
 /// A shared value, written through one reference, and outliving another.
-fn shared_values(alloc: Global) -> Option<(u64, u64)> {
-    let mut store = UnsyncStorage::new(alloc, 1);
-    let written = written_through(&mut store, 1, 2, here())?;
-    let kept = outlived(&mut store, 5, here())?;
+fn shared_values<S: Storage<u64>>(store: &mut S) -> Option<(u64, u64)> {
+    let written = written_through(store, 1, 2, here())?;
+    let kept = outlived(store, 5, here())?;
     Some((written, kept))
 }
 
 /// Whether a flag that was off is on after it was turned.
-fn turned_flag(alloc: Global) -> Option<bool> {
-    let mut store = UnsyncStorage::new(alloc, 1);
-    let flag = GenerationalBox::leak(&mut store, Entry::Flag(false), here()).ok()?;
-    toggle(&mut store, flag, here())?;
-    let guard = flag.try_read(&mut store, here()).ok()?;
-    let on = match guard.deref(&store).map(|view| *view) {
+fn turned_flag<S: Storage<Entry>>(store: &mut S) -> Option<bool> {
+    let flag = GenerationalBox::leak(store, Entry::Flag(false), here()).ok()?;
+    toggle(store, flag, here())?;
+    let guard = flag.try_read(store, here()).ok()?;
+    let on = match guard.deref(store).map(|view| *view) {
         Some(Entry::Flag(on)) => Some(on),
         _ => None,
     };
-    guard.release(&mut store);
+    guard.release(store);
     on
 }
 
 /// How many of the replies to a read and a write of an ended box are errors.
-fn ended_in_session(alloc: Global) -> Option<usize> {
-    let mut session = Session::new(alloc, UnsyncStorage::new(alloc, 1));
+fn ended_in_session<S: Storage<u64> + Drop>(alloc: Global, store: S) -> Option<usize>
+    requires { IsFresh (S.state store) }
+{
+    let mut session = Session::new(alloc, store);
     let made = session.call(Call::Leak(6, here())).is_ok();
     let ended = session.call(Call::ManuallyDrop(BoxAt::Place(0))).is_ok();
     let replies = ask_for_ended(alloc, &mut session, 0, here());
@@ -76,20 +78,24 @@ fn count_errors(replies: &Vec<Reply<u64>>) -> usize {
 #[test]
 fn values_are_there_and_back(rt: HostRuntime) -> Result<(), Fail> {
     assert_eq!(rt; there_and_back(rt.alloc(), 7), Some(7));
-    assert_eq!(rt; value_by_itself(rt.alloc()), Some((8, (8, 9))));
+    let mut store = UnsyncStorage::new(rt.alloc(), 1);
+    assert_eq!(rt; value_by_itself(&mut store), Some((8, (8, 9))));
     Ok(())
 }
 
 #[test]
 fn owned_and_shared_values(rt: HostRuntime) -> Result<(), Fail> {
-    assert_eq!(rt; owned_value(rt.alloc()), Some(None));
-    assert_eq!(rt; shared_values(rt.alloc()), Some((2, 5)));
+    let mut store = UnsyncStorage::new(rt.alloc(), 1);
+    assert_eq!(rt; owned_value(&mut store), Some(None));
+    assert_eq!(rt; shared_values(&mut store), Some((2, 5)));
     Ok(())
 }
 
 #[test]
 fn kinds_and_sessions(rt: HostRuntime) -> Result<(), Fail> {
-    assert_eq!(rt; turned_flag(rt.alloc()), Some(true));
-    assert_eq!(rt; ended_in_session(rt.alloc()), Some(2));
+    let mut store = UnsyncStorage::new(rt.alloc(), 1);
+    assert_eq!(rt; turned_flag(&mut store), Some(true));
+    let fresh = UnsyncStorage::new(rt.alloc(), 2);
+    assert_eq!(rt; ended_in_session(rt.alloc(), fresh), Some(2));
     Ok(())
 }
