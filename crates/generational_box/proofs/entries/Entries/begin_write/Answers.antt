@@ -3,7 +3,6 @@ use Rattle.generational_core.specs.Cells.Content.{Here}
 use Rattle.generational_box.specs.Entries.{value_in}
 use Rattle.std.proofs.lemmas.List.{length-set}
 use Rattle.generational_box.specs.Entry.{content_in}
-use Rattle.generational_box.specs.Table.{no_index}
 use Rattle.generational_box.proofs.states.Entries.{kept, many, says, free_value, read_slot}
 use Rattle.generational_box.proofs.states.Entries.{room_left, small_left, open_lists, open_indexed}
 use Rattle.generational_box.proofs.lists.TableChanges.{none_some}
@@ -11,7 +10,6 @@ use Rattle.generational_box.proofs.lists.TableChanges.{Opens}
 use Rattle.generational_box.proofs.lists.TableChanges.{opened_list}
 use Rattle.generational_box.proofs.states.Entries.{view_changed, roomy_still, hears}
 use Rattle.generational_box.proofs.states.Entries.{found_slot, alone, open_below, not_last}
-use Rattle.generational_box.specs.declared.entry.StorageEntryData.TheVariants as slot
 use Rattle.generational_box.specs.Entry.{has_no_borrow}
 use Rattle.generational_box.proofs.entries.Entries.begin_write.Goals as goal
 
