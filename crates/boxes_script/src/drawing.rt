@@ -132,20 +132,25 @@ impl<'a> Drawing<'a> {
         }
     }
 
-    // A borrow, a change under it, or its end.
+    // A borrow, another value, or a borrow's end.
     fn borrow(&mut self, location: Location) -> Result<Call<String>, AllocError> {
-        let kind = self.below(8);
-        if kind < 4 {
+        let kind = self.below(12);
+        if kind < 6 {
             let asked = self.box_at();
             self.guards.push(self.place)?;
             return Ok(match kind {
                 0 | 1 => Call::TryRead(asked, location),
-                _ => Call::TryWrite(asked, location),
+                2 => Call::Read(asked, location),
+                3 | 4 => Call::TryWrite(asked, location),
+                _ => Call::Write(asked, location),
             });
+        }
+        if kind == 6 {
+            return Ok(Call::Set(self.box_at(), self.value()?));
         }
         let guard = self.guard();
         Ok(match kind {
-            4 => Call::Replace(guard, self.value()?),
+            7 => Call::Replace(guard, self.value()?),
             _ => Call::Release(guard),
         })
     }
@@ -162,10 +167,12 @@ impl<'a> Drawing<'a> {
 
     // A question.
     fn ask(&mut self) -> Call<String> {
-        match self.below(4) {
+        match self.below(6) {
             0 => Call::Id(self.box_at()),
             1 => Call::RawPtr(self.box_at()),
             2 => Call::CreatedAt(self.box_at()),
+            3 => Call::CanRead(self.box_at()),
+            4 => Call::CanWrite(self.box_at()),
             _ => Call::PtrEq(self.box_at(), self.box_at()),
         }
     }

@@ -71,6 +71,7 @@ fn is_same(one: &Reply<String>, other: &Reply<String>) -> bool {
         (Reply::Back(one, cause), Reply::Back(other, other_cause)) => {
             one == other && cause == other_cause
         }
+        (Reply::Unready(one), Reply::Unready(other)) => one == other,
         (Reply::NoSuch(one), Reply::NoSuch(other)) => one == other,
         _ => false,
     }

@@ -36,7 +36,8 @@ ghost use Rattle.generational_core.specs.Keeping.{Sets, IsUnwritten, IsUndisturb
 ghost use Rattle.generational_core.specs.Answers.{value_at};
 ghost use Rattle.generational_core.specs.Keeping.{location_at};
 ghost use Rattle.generational_core.specs.Seeing.{value_in, LeavesBox, LeavesValue};
-ghost use Rattle.generational_core.specs.Numbered.{Matches, AnswersAs, empty_session};
+ghost use Rattle.generational_core.specs.Numbered.{Matches, AnswersAs, empty_session, erase};
+ghost use Rattle.generational_core.specs.Numbered.{refusal_in};
 ghost use Rattle.generational_core.specs.History.{plain, plain_call, plain_answer};
 ghost use Rattle.std.specs.Prelude.{not};
 ghost use Rattle.std.specs.FinSet as set;
@@ -337,6 +338,20 @@ pub fn replies_depend_on_calls<T>()
         Matches s a → is_some (map.get s.state.owners key) ≡ true →
         (k : ℕ) × (key + a.state.next ≡ k + s.state.next)
         × (is_some (map.get a.state.owners k) ≡ true) }
+{}
+
+/// Two sessions over fresh stores of one number, of any two kinds and with any two beginnings,
+/// answer the same calls alike, ids and slot numbers aside, where memory or an exhausted number
+/// refused the same of them.
+pub fn sessions_answer_alike<T>()
+    ensures { (number start next start_again next_again : ℕ) (calls : List (Call T))
+        (replies again : List (SessionReply T)) (r r_again : SessionState T) →
+        let s : SessionState T = record { state = fresh number start next; table = [] } in
+        let s_again : SessionState T =
+        record { state = fresh number start_again next_again; table = [] } in
+        Run s calls replies r → Run s_again calls again r_again →
+        map_list refusal_in replies ≡ map_list refusal_in again →
+        map_list erase replies ≡ map_list erase again }
 {}
 
 /// Boxes are told apart by their ids: what `ptr_eq` answers is an equivalence, and it is true

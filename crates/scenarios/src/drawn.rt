@@ -63,7 +63,7 @@ fn words_that_are_no_list(rt: HostRuntime) {
 }
 
 /// How many kinds of calls there are.
-const KINDS: u8 = 20;
+const KINDS: u8 = 25;
 
 /// The number of a call's kind, below that.
 fn kind(call: &Call<String>) -> u8 {
@@ -88,6 +88,11 @@ fn kind(call: &Call<String>) -> u8 {
         Call::Id(_) => 17,
         Call::RawPtr(_) => 18,
         Call::CreatedAt(_) => 19,
+        Call::Read(_, _) => 20,
+        Call::Write(_, _) => 21,
+        Call::Set(_, _) => 22,
+        Call::CanRead(_) => 23,
+        Call::CanWrite(_) => 24,
     }
 }
 
