@@ -1,8 +1,7 @@
 //! The two orders in which free slots are taken: the one that was freed last is first, or the one
 //! that has been free for the longest.
 
-use crate::tables::{assert_answers, assert_oldest_first, assert_run, assert_run_over};
-use generational_box::OldestFirst;
+use crate::tables::{assert_answers, assert_oldest_first, assert_run, assert_run_oldest_first};
 
 #[test]
 fn the_slot_that_was_freed_last_is_first(rt: HostRuntime) {
@@ -60,7 +59,7 @@ fn one_list_over_either_order(rt: HostRuntime) {
             ("leak c", "box 1@2"),
         ],
     );
-    assert_run_over::<OldestFirst>(
+    assert_run_oldest_first(
         &rt,
         rt.alloc(),
         &[

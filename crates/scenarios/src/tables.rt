@@ -6,7 +6,7 @@ use crate::dialect::{Dialect, write_with_value};
 use crate::naming::Strangers;
 use crate::runs::{text, write_reply};
 use generational_box::{
-    Call, LastFirst, Location, Numbers, OldestFirst, Session, SlotPool, Storage, Store,
+    Call, Location, Numbers, OldestFirst, Session, Storage, Store, UnsyncStorage,
 };
 use std::alloc::{AllocError, Global};
 use std::process::Abort;
@@ -18,7 +18,12 @@ const FIRST: Numbers = Numbers {
 };
 
 // The stores that stand beside a session's own.
-fn strangers<P: SlotPool>(alloc: Global) -> Strangers<Store<String, P>> {
+fn strangers(alloc: Global) -> Strangers<UnsyncStorage<String>> {
+    Strangers::new(alloc, Store::new(alloc, 8), Store::new(alloc, 7))
+}
+
+// The same, of the pool that takes the slot that has been free for the longest.
+fn oldest_first_strangers(alloc: Global) -> Strangers<Store<String, OldestFirst>> {
     Strangers::new(alloc, Store::new(alloc, 8), Store::new(alloc, 7))
 }
 
@@ -36,25 +41,16 @@ pub(crate) fn assert_answers_from(
 )
     requires { 1 ≤ numbers.generation }
 {
-    assert_answers_over::<LastFirst>(rt, alloc, numbers, table);
+    let store: UnsyncStorage<String> = Store::new_at(alloc, 7, numbers);
+    let mut dialect = Dialect::new(alloc, store, strangers(alloc));
+    assert_table(rt, alloc, &mut dialect, table);
+    let _store = dialect.finish();
 }
 
 /// Asserts the same over a new store that takes the slot that has been free for the longest.
 pub(crate) fn assert_oldest_first(rt: &impl Abort, alloc: Global, table: &[(&str, &str)]) {
-    assert_answers_over::<OldestFirst>(rt, alloc, FIRST, table);
-}
-
-// Asserts the same over a store with a pool of either kind.
-fn assert_answers_over<P: SlotPool>(
-    rt: &impl Abort,
-    alloc: Global,
-    numbers: Numbers,
-    table: &[(&str, &str)],
-)
-    requires { 1 ≤ numbers.generation }
-{
-    let store: Store<String, P> = Store::new_at(alloc, 7, numbers);
-    let mut dialect = Dialect::new(alloc, store, strangers::<P>(alloc));
+    let store: Store<String, OldestFirst> = Store::new(alloc, 7);
+    let mut dialect = Dialect::new(alloc, store, oldest_first_strangers(alloc));
     assert_table(rt, alloc, &mut dialect, table);
     let _store = dialect.finish();
 }
@@ -79,14 +75,17 @@ fn assert_table<S: Storage<String> + Drop>(
 /// Asserts that the calls of a table, handed in as one list, are answered by the replies beside
 /// them. Lines of the stores beside are no calls, and come first.
 pub(crate) fn assert_run(rt: &impl Abort, alloc: Global, table: &[(&str, &str)]) {
-    assert_run_over::<LastFirst>(rt, alloc, table);
+    let store: UnsyncStorage<String> = Store::new(alloc, 7);
+    let mut session = Session::new(alloc, store);
+    assert_list(rt, alloc, &mut session, strangers(alloc), table);
+    let _store = session.finish();
 }
 
-/// Asserts the same over a store with a pool of either kind.
-pub(crate) fn assert_run_over<P: SlotPool>(rt: &impl Abort, alloc: Global, table: &[(&str, &str)]) {
-    let store: Store<String, P> = Store::new(alloc, 7);
+/// Asserts the same over a store that takes the slot that has been free for the longest.
+pub(crate) fn assert_run_oldest_first(rt: &impl Abort, alloc: Global, table: &[(&str, &str)]) {
+    let store: Store<String, OldestFirst> = Store::new(alloc, 7);
     let mut session = Session::new(alloc, store);
-    assert_list(rt, alloc, &mut session, strangers::<P>(alloc), table);
+    assert_list(rt, alloc, &mut session, strangers(alloc), table);
     let _store = session.finish();
 }
 
