@@ -34,7 +34,7 @@ pub(crate) fn doomed<T: Drop>(entries: &Entries<T>, name: CellName, last: usize)
 }
 
 // What hinders the end of the names of a list, at the first of them that is hindered. Takes no
-// memory. Values that aren't shared and have no borrow are asked once each.
+// memory. Where all are values that aren't shared and have no borrow, each is asked once.
 #[inline(always)]
 pub(crate) fn find_hindrance<T: Drop>(
     entries: &mut Entries<T>,
