@@ -107,7 +107,7 @@ module _ {T : Type 0} where
 
   -- What holds of a store's slots and of the set of its free slots.
   pub record IsSlotted
-      (free : set.FinSet nat_cmp) (rooms start live peak : ℕ) (slots : List (Entry T))
+      (free : set.FinSet nat_cmp) (rooms start usable peak : ℕ) (slots : List (Entry T))
       : Type 0 where
     -- the free slots are those that may be used again
     pub pooled : (k : ℕ) → set.contains free k ≡ is_reusable (slice_get slots k)
@@ -115,12 +115,12 @@ module _ {T : Type 0} where
     pub roomy : length slots ≤ rooms
     -- no slot's generation is below the first one
     pub begun : (k : ℕ) → HasBegun start (slice_get slots k)
-    -- the live cells and the free slots are counted
-    pub counted : live ≡ how_many (λ e. is_live e.kept) slots
+    -- the slots that are live or free are counted, and the free ones
+    pub counted : usable ≡ how_many (λ e. is_live e.kept) slots + set.len free
     pub stocked : set.len free ≡ how_many is_spent slots
     -- a slot is made only where none is free: so the live and the free ones are no more than the
     -- peak, which is no more than there are slots
-    pub few : live + set.len free ≤ peak
+    pub few : usable ≤ peak
     pub bounded : peak ≤ length slots
 
   -- how many references of the slots name a cell

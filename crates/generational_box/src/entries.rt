@@ -32,7 +32,7 @@ ghost use Rattle.generational_box.specs.Slotted.{cell_at, change_entry};
 
 use crate::borrows::Borrows;
 use crate::entry::{CellName, EntryDetails, Kind, NO_INDEX, StorageEntry, StorageEntryData};
-use crate::pool::reserve_room;
+use crate::pool::{more_room, reserve_room};
 use crate::table::BorrowTable;
 use generational_core::parts::Borrow;
 use generational_core::{
@@ -105,8 +105,8 @@ impl<T> Entries<T> {
         self.room
     }
 
-    // Makes room for one slot more at least: for twice as many, so that few makings pay for it. The
-    // only refusal is want of memory, also where no index of 32 bits is left for a slot's borrows.
+    // Makes room for one slot more at least, and for so many that few makings pay for it. The only
+    // refusal is want of memory, also where no index of 32 bits is left for a slot's borrows.
     #[cold]
     #[inline(never)]
     pub(crate) fn grow(&mut self) -> Result<(), StoreError>
@@ -118,7 +118,7 @@ impl<T> Entries<T> {
         ensures few { OnOk result (self.new.rooms < no_index) }
         ensures cause { IfErr result (λ error. error ≡ OutOfMemory) }
     {
-        let room = more_room(self.room)?;
+        let room = larger_room(self.room)?;
         reserve_room(&mut self.entries, self.alloc, room)?;
         reserve_room(&mut self.details, self.alloc, room)?;
         self.borrows.grow(room)?;
@@ -490,7 +490,7 @@ impl<T: Drop> Entries<T> {
 }
 
 // The next larger number of slots for which room is made.
-fn more_room(room: usize) -> Result<usize, StoreError>
+fn larger_room(room: usize) -> Result<usize, StoreError>
     ensures more { IfOk result (λ more. (room < more) × (more + 1 < no_index)) }
     ensures cause { IfErr result (λ error. error ≡ OutOfMemory) }
 {
@@ -498,13 +498,7 @@ fn more_room(room: usize) -> Result<usize, StoreError>
     if room >= most {
         return Err(StoreError::OutOfMemory);
     }
-    if room < 4 {
-        return Ok(4);
-    }
-    if room > most / 2 {
-        return Ok(most);
-    }
-    Ok(room * 2)
+    Ok(most.min(room + more_room(room)))
 }
 
 // The answer to a write or an end where the readers at this index stand. Here the room for the

@@ -6,6 +6,7 @@ ghost use Rattle.std.specs.FinSet as set;
 ghost use Rattle.generational_core.specs.declared.error.StoreError.TheVariants.{OutOfMemory};
 ghost use Rattle.generational_box.specs.Pools.{last_of, members_of};
 
+use crate::pool::more_room;
 use generational_core::StoreError;
 use std::alloc::Global;
 use std::marker::Model;
@@ -149,7 +150,7 @@ fn reserve_more(links: &mut Vec<usize>) -> Result<(), StoreError>
     ensures ok { OnOk result (length links.new.items < vec_capacity links.new) }
     ensures cause { IfErr result (λ error. error ≡ OutOfMemory) }
 {
-    if links.reserve(1).is_err() {
+    if links.reserve(more_room(links.len())).is_err() {
         return Err(StoreError::OutOfMemory);
     }
     Ok(())

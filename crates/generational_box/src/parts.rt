@@ -140,6 +140,7 @@ impl<T: Drop, P: SlotPool> Parts<T, P> {
     }
 
     // Whether the cell of this name is a shared value, also one that is lent.
+    #[inline(always)]
     fn is_shared(&self, name: CellName) -> bool
         ensures { result ≡ is_shared (map.get self.now.cells (name_of_cell name)) }
     {
@@ -162,6 +163,7 @@ impl<T: Drop, P: SlotPool> Parts<T, P> {
     }
 
     // What the box's reference names, if its cell is one.
+    #[inline(always)]
     fn target(&self, pointer: GenerationalPointer) -> Option<CellName>
         ensures { option_map name_of_cell result ≡ target_in (own_cell self.now pointer.id) }
     {

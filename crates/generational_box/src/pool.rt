@@ -2,7 +2,7 @@
 
 ghost use Rattle.std.specs.Prelude.{◌≡◌, ℕ, ◌+◌, ◌<◌, ◌≤◌, ◌∷◌, ◌++◌, [], true, false, drop};
 ghost use Rattle.std.specs.Prelude.{slice_get, IfSome, IfNone, IfErr, OnOk, OnErr, vec_len};
-ghost use Rattle.std.specs.Prelude.{vec_capacity};
+ghost use Rattle.std.specs.Prelude.{max, vec_capacity};
 ghost use Rattle.std.specs.Ordering.{nat_cmp};
 ghost use Rattle.std.specs.FinSet as set;
 ghost use Rattle.generational_core.specs.declared.error.StoreError.TheVariants.{OutOfMemory};
@@ -11,6 +11,9 @@ use crate::free_list::FreeList;
 use generational_core::StoreError;
 use std::alloc::Global;
 use std::marker::Model;
+
+// So many slots aren't few any more.
+const MANY: usize = 2048;
 
 /// The numbers of the free slots, without repetition. Which of them `take` takes is the pool's own
 /// choice. The trait is implemented by this crate alone.
@@ -203,6 +206,21 @@ impl SlotPool for OldestFirst {
     fn free(&self) -> usize {
         self.list.count()
     }
+}
+
+// For how many slots room is made beside that for so many: seven times as many while they are few,
+// so that a slot is seldom moved, and then as many again.
+pub(crate) fn more_room(room: usize) -> usize
+    ensures some { 0 < result }
+    ensures most { result ≤ max room 14336 }
+{
+    if room == 0 {
+        return 4;
+    }
+    if room < MANY {
+        return room * 7;
+    }
+    room
 }
 
 // Makes a buffer large enough for this many in all. Want of memory changes nothing in it.

@@ -45,8 +45,8 @@ use std::marker::Model;
 pub(crate) struct Slots<T, P: SlotPool> {
     // the first generation of a slot
     start: u64,
-    // how many cells are live, and the most that were live at once
-    live: usize,
+    // how many slots are live or free, and the most cells that were live at once
+    usable: usize,
     peak: usize,
     entries: Entries<T>,
     pool: P,
@@ -69,7 +69,7 @@ impl<T, P: SlotPool> Model for Slots<T, P> {
     } };
 
     ghost invariant = { λ s.
-        IsSlotted (P.members s.pool) (P.rooms s.pool) s.start s.live s.peak s.entries.slots
+        IsSlotted (P.members s.pool) (P.rooms s.pool) s.start s.usable s.peak s.entries.slots
         × (P.rooms s.pool ≤ s.entries.rooms) × AreReferred (λ m. 0) s.entries.slots };
 }
 
@@ -81,7 +81,7 @@ impl<T, P: SlotPool> Slots<T, P> {
     {
         Slots {
             start,
-            live: 0,
+            usable: 0,
             peak: 0,
             entries: Entries::new(alloc),
             pool: P::new(alloc),
@@ -117,7 +117,7 @@ impl<T: Drop, P: SlotPool> Slots<T, P> {
     pub(crate) fn retired(&self) -> usize
         ensures { result ≡ retired self.now.state }
     {
-        self.entries.len() - self.live - self.pool.free()
+        self.entries.len() - self.usable
     }
 
     // The most cells that were live at once.
@@ -376,7 +376,6 @@ impl<T: Drop, P: SlotPool> Slots<T, P> {
         let target = content.target();
         self.entries.refill(slot, content, created_at);
         refer(&mut self.entries, target);
-        count_one(&mut self.live, &mut self.peak);
         Ok(name)
     }
 
@@ -415,7 +414,7 @@ impl<T: Drop, P: SlotPool> Slots<T, P> {
         let target = content.target();
         self.entries.push(name.generation, content, created_at);
         refer(&mut self.entries, target);
-        count_one(&mut self.live, &mut self.peak);
+        count_one(&mut self.usable, &mut self.peak);
         Ok(name)
     }
 
@@ -431,9 +430,10 @@ impl<T: Drop, P: SlotPool> Slots<T, P> {
     {
         forget(&mut self.entries, target);
         self.entries.end(name.slot);
-        self.live -= 1;
         if name.generation < u64::MAX {
             self.pool.put(name.slot);
+        } else {
+            self.usable -= 1;
         }
     }
 
@@ -605,17 +605,17 @@ impl<T: Drop, P: SlotPool> Slots<T, P> {
     }
 }
 
-// One more cell is live, where fewer are than were at once, or than can be counted.
+// A slot more is live, where all that aren't retired are.
 #[inline(always)]
-fn count_one(live: &mut usize, peak: &mut usize)
-    requires { live.old < max peak.old 18446744073709551615 }
-    ensures live { live.new ≡ live.old + 1 }
-    ensures peak { peak.new ≡ max peak.old live.new }
+fn count_one(usable: &mut usize, peak: &mut usize)
+    requires { usable.old < max peak.old 18446744073709551615 }
+    ensures usable { usable.new ≡ usable.old + 1 }
+    ensures peak { peak.new ≡ max peak.old usable.new }
 {
     let most = *peak;
-    *live += 1;
-    if most < *live {
-        *peak = *live;
+    *usable += 1;
+    if most < *usable {
+        *peak = *usable;
     }
 }
 

@@ -100,15 +100,16 @@ module _ {T : Type 0} {slots after : List (Entry T)} {i : ℕ} {t : Entry T}
         by q false e = refl
 
   -- what holds of the slots holds after the write, where the counts are right
-  pub slotted : {free : set.FinSet nat_cmp} {rooms start live peak : ℕ}
-      → IsSlotted free rooms start live peak slots
-      → (free' : set.FinSet nat_cmp) (rooms' live' peak' : ℕ)
+  pub slotted : {free : set.FinSet nat_cmp} {rooms start usable peak : ℕ}
+      → IsSlotted free rooms start usable peak slots
+      → (free' : set.FinSet nat_cmp) (rooms' usable' peak' : ℕ)
       → ((k : ℕ) → set.contains free' k ≡ cond (nat_eq k i) (is_spent t) (set.contains free k))
       → set.len free' + bit (is_reusable (slice_get slots i)) ≡ set.len free + bit (is_spent t)
-      → live' + bit (passes (λ e. is_live e.kept) (slice_get slots i)) ≡ live + bit (is_live t.kept)
-      → length after ≤ rooms' → start ≤ t.generation → live' + set.len free' ≤ peak'
-      → peak' ≤ length after → IsSlotted free' rooms' start live' peak' after
-  slotted {free} {start = start} s free' rooms' live' peak' pooled stocked counted roomy begun few
+      → usable' + bit (passes (λ e. is_live e.kept) (slice_get slots i))
+      + bit (is_reusable (slice_get slots i)) ≡ usable + bit (is_live t.kept) + bit (is_spent t)
+      → length after ≤ rooms' → start ≤ t.generation → usable' ≤ peak'
+      → peak' ≤ length after → IsSlotted free' rooms' start usable' peak' after
+  slotted {free} {start = start} s free' rooms' usable' peak' pooled stocked counted roomy begun few
       bounded =
       record {
         pooled = λ k. pooled k ∙ rw (w.at k) (by k (nat_eq k i));
@@ -186,16 +187,16 @@ module _ {T : Type 0} {slots after : List (Entry T)} {i : ℕ} {t : Entry T}
     pub state_same : (start peak : ℕ) → state_of start peak after ≡ state_of start peak slots
     state_same start peak = rw (cells_same, given_same start) refl
 
-    pub slotted_same : {free : set.FinSet nat_cmp} {rooms start live peak : ℕ}
-        → length after ≡ length slots → IsSlotted free rooms start live peak slots
-        → IsSlotted free rooms start live peak after
-    slotted_same {free} {rooms} {start} {live} {peak} long s =
+    pub slotted_same : {free : set.FinSet nat_cmp} {rooms start usable peak : ℕ}
+        → length after ≡ length slots → IsSlotted free rooms start usable peak slots
+        → IsSlotted free rooms start usable peak after
+    slotted_same {free} {rooms} {start} {usable} {peak} long s =
         let spent : is_spent t ≡ is_spent e = λ j. not (is_live (own j))
         && nat_lt (gen j) last_generation in
         let lives : is_live t.kept ≡ is_live e.kept = ap is_live own in
-        slotted s free rooms live peak
+        slotted s free rooms usable peak
         (contains_own free i (s.pooled i ∙ rw (there, spent) refl))
-        (rw (there, spent) refl) (rw (there, lives) refl) (let r = s.roomy in omega arith)
+        (rw (there, spent) refl) (rw (there, spent, lives) refl) (let r = s.roomy in omega arith)
         (rw gen (rw there at (s.begun i))) s.few (let b = s.bounded in omega arith)
 
 -- ---- the slot of a live cell
@@ -344,11 +345,11 @@ module _ {T : Type 0} {slots : List (Entry T)} {n : Name} (f : IsHeld slots n) w
       refill_live f.kind f.content (h f.content) f.created,
     ) refl
 
-    pub slotted_changed : {free : set.FinSet nat_cmp} {rooms start live peak : ℕ}
-        → IsSlotted free rooms start live peak slots → IsSlotted free rooms start live peak changed
-    slotted_changed {free} {rooms} {start} {live} {peak} s =
+    pub slotted_changed : {free : set.FinSet nat_cmp} {rooms start usable peak : ℕ}
+        → IsSlotted free rooms start usable peak slots → IsSlotted free rooms start usable peak changed
+    slotted_changed {free} {rooms} {start} {usable} {peak} s =
         let same : length changed ≡ length slots = rw (f.there, length-set) refl in
-        slotted written s free rooms live peak (contains_own free n.slot
+        slotted written s free rooms usable peak (contains_own free n.slot
         (s.pooled n.slot ∙ rw f.there refl))
         (rw f.there refl) (rw f.there refl) (let r = s.roomy in omega arith)
         (rw f.there at (s.begun n.slot)) s.few (let b = s.bounded in omega arith)
@@ -389,9 +390,9 @@ module _ {T : Type 0} {slots : List (Entry T)} {n : Name} (f : IsFound slots n) 
   pub ended_length : length ended ≡ length slots
   ended_length = rw (f.there, length-set) refl
 
-  module _ {free : set.FinSet nat_cmp} {rooms start live peak : ℕ}
-      (s : IsSlotted free rooms start live peak slots) where
-    pub some_live : 1 ≤ live
+  module _ {free : set.FinSet nat_cmp} {rooms start usable peak : ℕ}
+      (s : IsSlotted free rooms start usable peak slots) where
+    pub some_live : 1 ≤ usable
     some_live =
         let c = rw (f.there, f.live) at (emptied.count (λ e. is_live e.kept)) in
         let l = s.counted in omega arith
@@ -399,32 +400,33 @@ module _ {T : Type 0} {slots : List (Entry T)} {n : Name} (f : IsFound slots n) 
     pub not_pooled : set.contains free n.slot ≡ false
     not_pooled = s.pooled n.slot ∙ rw (f.there, f.live) refl
 
-    slotted_by : (now : set.FinSet nat_cmp) (spent : Bool) → is_spent ended_entry ≡ spent
+    slotted_by : (now : set.FinSet nat_cmp) (left : ℕ) (spent : Bool) → is_spent ended_entry ≡ spent
         → ((k : ℕ) → set.contains now k ≡ cond (nat_eq k n.slot) spent (set.contains free k))
-        → set.len now ≡ set.len free + bit spent → set.len now ≤ set.len free + 1
-        → IsSlotted now rooms start (live - 1) peak ended
-    slotted_by now spent is pooled stocked more =
-        let same = ended_length in let one = some_live in
-        slotted emptied s now rooms (live - 1) peak (λ k. rw is (pooled k))
-        (rw (f.there, f.live, is) (omega arith)) (rw (f.there, f.live) (omega arith))
+        → set.len now ≡ set.len free + bit spent → left + 1 ≡ usable + bit spent → left ≤ usable
+        → IsSlotted now rooms start left peak ended
+    slotted_by now left spent is pooled stocked counted fewer =
+        let same = ended_length in
+        slotted emptied s now rooms left peak (λ k. rw is (pooled k))
+        (rw (f.there, f.live, is) (omega arith)) (rw (f.there, f.live, is) (omega arith))
         (let r = s.roomy in omega arith)
         (rw f.there at (s.begun n.slot)) (let few = s.few in omega arith)
         (let b = s.bounded in omega arith)
 
     pub slotted_freed : n.generation < last_generation
-        → IsSlotted (set.insert free n.slot) rooms start (live - 1) peak ended
+        → IsSlotted (set.insert free n.slot) rooms start usable peak ended
     slotted_freed below =
         let more : set.len (set.insert free n.slot) ≡ set.len free + 1 =
         set.len-insert nat_cmp_total free n.slot ∙ rw not_pooled refl in
-        slotted_by (set.insert free n.slot) true (lt-ltb n.generation last_generation below)
-        (contains-insert_at free n.slot) more (omega arith)
+        slotted_by (set.insert free n.slot) usable true (lt-ltb n.generation last_generation below)
+        (contains-insert_at free n.slot) more refl (omega arith)
 
     -- a slot whose cell had the last generation is retired
     pub slotted_retired : last_generation ≤ n.generation
-        → IsSlotted free rooms start (live - 1) peak ended
+        → IsSlotted free rooms start (usable - 1) peak ended
     slotted_retired last =
-        slotted_by free false (le-ltb n.generation last_generation last)
-        (contains_own free n.slot not_pooled) (omega arith) (omega arith)
+        let one = some_live in
+        slotted_by free (usable - 1) false (le-ltb n.generation last_generation last)
+        (contains_own free n.slot not_pooled) (omega arith) (omega arith) (omega arith)
 
 -- ---- the same of the state that contracts see
 

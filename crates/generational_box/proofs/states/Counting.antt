@@ -77,13 +77,13 @@ module _ {T : Type 0} where
         at None there = rw there refl
         at (Some e) there = state_same (recounted_written e there) there refl refl start peak
 
-    pub recounted_slotted : {free : set.FinSet nat_cmp} {rooms start live peak : ℕ}
-        → IsSlotted free rooms start live peak slots
-        → IsSlotted free rooms start live peak recounted
-    recounted_slotted {free} {rooms} {start} {live} {peak} s = at (slice_get slots i) refl
+    pub recounted_slotted : {free : set.FinSet nat_cmp} {rooms start usable peak : ℕ}
+        → IsSlotted free rooms start usable peak slots
+        → IsSlotted free rooms start usable peak recounted
+    recounted_slotted {free} {rooms} {start} {usable} {peak} s = at (slice_get slots i) refl
       where
         at : (o : Option (Entry T)) → slice_get slots i ≡ o
-            → IsSlotted free rooms start live peak recounted
+            → IsSlotted free rooms start usable peak recounted
         at None there = rw there s
         at (Some e) there =
             slotted_same (recounted_written e there) there refl refl recounted_length s
@@ -303,12 +303,12 @@ module _ {T : Type 0} where
         at None = refl
         at (Some m) = recounted_state slots m.slot (λ e. e.references + 1) start peak
 
-    pub more_slotted : {free : set.FinSet nat_cmp} {rooms start live peak : ℕ}
-        → IsSlotted free rooms start live peak slots
-        → IsSlotted free rooms start live peak (count_more slots o)
-    more_slotted {free} {rooms} {start} {live} {peak} s = at o
+    pub more_slotted : {free : set.FinSet nat_cmp} {rooms start usable peak : ℕ}
+        → IsSlotted free rooms start usable peak slots
+        → IsSlotted free rooms start usable peak (count_more slots o)
+    more_slotted {free} {rooms} {start} {usable} {peak} s = at o
       where
-        at : (o : Option Name) → IsSlotted free rooms start live peak (count_more slots o)
+        at : (o : Option Name) → IsSlotted free rooms start usable peak (count_more slots o)
         at None = s
         at (Some m) = recounted_slotted slots m.slot (λ e. e.references + 1) s
 
@@ -367,12 +367,12 @@ module _ {T : Type 0} (slots : List (Entry T)) where
         at None = refl
         at (Some m) = recounted_state slots m.slot (λ e. e.references - 1) start peak
 
-    pub less_slotted : {free : set.FinSet nat_cmp} {rooms start live peak : ℕ}
-        → IsSlotted free rooms start live peak slots
-        → IsSlotted free rooms start live peak (count_less slots o)
-    less_slotted {free} {rooms} {start} {live} {peak} s = at o
+    pub less_slotted : {free : set.FinSet nat_cmp} {rooms start usable peak : ℕ}
+        → IsSlotted free rooms start usable peak slots
+        → IsSlotted free rooms start usable peak (count_less slots o)
+    less_slotted {free} {rooms} {start} {usable} {peak} s = at o
       where
-        at : (o : Option Name) → IsSlotted free rooms start live peak (count_less slots o)
+        at : (o : Option Name) → IsSlotted free rooms start usable peak (count_less slots o)
         at None = s
         at (Some m) = recounted_slotted slots m.slot (λ e. e.references - 1) s
 

@@ -14,7 +14,8 @@ use Rattle.std.specs.FinSet as set
 use Rattle.generational_core.specs.Machine.{add_cell}
 use Rattle.generational_box.proofs.Common.{Cell, IsNew, free, last_generation, Empty}
 use Rattle.generational_box.proofs.Common.{Live, Refers, Kept, Entry, cell_of, cell_in, cells_of}
-use Rattle.generational_box.proofs.Common.{given_in, is_live, is_spent, is_reusable, IsSlotted}
+use Rattle.generational_box.proofs.Common.{given_in, how_many, is_live, is_spent, is_reusable}
+use Rattle.generational_box.proofs.Common.{IsSlotted}
 use Rattle.generational_box.proofs.Common.{state_of}
 use Rattle.generational_box.proofs.lists.Lists.{IsWritten, set_written, push_written, passes}
 use Rattle.generational_box.proofs.lists.Lists.{cond_same, contains-remove_at, not_left, put_back}
@@ -22,8 +23,12 @@ use Rattle.generational_box.proofs.states.States.{len_cells, live_cell, free_are
 use Rattle.generational_box.proofs.states.States.{new_next}
 use Rattle.generational_box.proofs.states.Changes.{cells_put, given_put, slotted}
 
-module _ {T : Type 0} {pool : set.FinSet nat_cmp} {rooms start live peak : ℕ}
-    {slots : List (Entry T)} (s : IsSlotted pool rooms start live peak slots) where
+module _ {T : Type 0} {pool : set.FinSet nat_cmp} {rooms start usable peak : ℕ}
+    {slots : List (Entry T)} (s : IsSlotted pool rooms start usable peak slots) where
+  -- how many cells are live
+  abbrev many : ℕ
+  many = how_many (λ e. is_live e.kept) slots
+
   -- ---- a slot that is free
 
   module _ (i : ℕ) (member : set.contains pool i ≡ true) where
@@ -47,15 +52,6 @@ module _ {T : Type 0} {pool : set.FinSet nat_cmp} {rooms start live peak : ℕ}
     pub taken_within : i < length slots
     taken_within = slice_get_within slots i free_entry.0 free_entry.1
 
-    -- a free slot is none of the live ones
-    pub live_below : live < peak
-    live_below =
-        let less : set.len (set.remove pool i) ≡ set.len pool - 1 =
-        set.len-remove nat_cmp_total pool i ∙ rw member refl in
-        let more : set.len (set.insert (set.remove pool i) i) ≡ set.len (set.remove pool i) + 1 =
-        set.len-insert nat_cmp_total (set.remove pool i) i ∙ rw (not_left pool i member) refl in
-        let same = ap set.len (put_back pool i member) in let few = s.few in omega arith
-
     pub taken_empty : IfSome (slice_get slots i) (λ e. e.kept ≡ Empty)
     taken_empty = rw free_entry.1 free_entry.3
 
@@ -70,6 +66,11 @@ module _ {T : Type 0} {pool : set.FinSet nat_cmp} {rooms start live peak : ℕ}
         let more : set.len (set.insert (set.remove pool i) i) ≡ set.len (set.remove pool i) + 1 =
         set.len-insert nat_cmp_total (set.remove pool i) i ∙ rw (not_left pool i member) refl in
         let same = ap set.len (put_back pool i member) in omega arith
+
+    -- a free slot is none of the live ones
+    pub peak_stays : max peak (many + 1) ≡ peak
+    peak_stays =
+        let less = taken_less in let counted = s.counted in let few = s.few in omega arith
 
     -- the generation that is told before is the one that is given
     pub same_generation : (g h : ℕ) → IfSome (slice_get slots i) (λ e. g ≡ e.generation + 1)
@@ -90,12 +91,12 @@ module _ {T : Type 0} {pool : set.FinSet nat_cmp} {rooms start live peak : ℕ}
         → passes (λ e. is_live e.kept) (slice_get slots i) ≡ false
         → ((h : ℕ) → (leb start h && leb h g)
         ≡ (nat_eq h g || given_in start (slice_get slots i) h))
-        → state_of start (max peak (live + 1)) slots'
+        → state_of start (max peak (many + 1)) slots'
         ≡ add_cell (state_of start peak slots) (record { slot = i; generation = g }) c
     with_cell slots' i g w empty dead more =
         let e = rw (dead, lives) at (w.count (λ e. is_live e.kept)) in
-        let counted = s.counted in let n = len_cells slots' in
-        let same : live + 1 ≡ map.len (cells_of slots') = omega arith in
+        let n = len_cells slots' in
+        let same : many + 1 ≡ map.len (cells_of slots') = omega arith in
         let cells = cells_put w (λ h e. empty h) c cell in
         rw (same, cells, given_put w start more) refl
 
@@ -120,11 +121,12 @@ module _ {T : Type 0} {pool : set.FinSet nat_cmp} {rooms start live peak : ℕ}
       new_reused = rw next_is
           (new_next s i (free_entry i member).0 (free_entry i member).1 (free_entry i member).2)
 
-      pub state_reused : state_of start (max peak (live + 1)) (slice_set slots i next_entry)
+      pub state_reused : state_of start peak (slice_set slots i next_entry)
           ≡ add_cell (state_of start peak slots) (record { slot = i; generation = g }) c
       state_reused =
           let f = free_entry i member in
-          with_cell (slice_set slots i next_entry) i g reused
+          ap (λ most. state_of start most (slice_set slots i next_entry)) (sym (peak_stays i member))
+          ∙ with_cell (slice_set slots i next_entry) i g reused
           (λ h. rw (f.1, f.3) (cond_same _ None)) (rw (f.1, f.3) refl)
           (λ h. rw f.1 (at_next h f.0.generation g next_is since))
         where
@@ -132,19 +134,18 @@ module _ {T : Type 0} {pool : set.FinSet nat_cmp} {rooms start live peak : ℕ}
               → (leb start h && leb h g) ≡ (nat_eq h g || (leb start h && leb h last))
           at_next h last g is le = grind (arith, nat_tests)
 
-      pub slotted_reused : IsSlotted (set.remove pool i) rooms start (live + 1)
-          (max peak (live + 1)) (slice_set slots i next_entry)
+      pub slotted_reused : IsSlotted (set.remove pool i) rooms start usable peak
+          (slice_set slots i next_entry)
       slotted_reused =
           let f = free_entry i member in
           let same : length (slice_set slots i next_entry) ≡ length slots =
           length-set slots i next_entry in
           let less = taken_less i member in
           let some = rw (f.1, f.2, lives) at (reused.count is_spent) in
-          let stocked = s.stocked in let counted = s.counted in let few = s.few in
-          let b = s.bounded in let r = s.roomy in
-          slotted reused s (set.remove pool i) rooms (live + 1) (max peak (live + 1))
+          let stocked = s.stocked in let b = s.bounded in let r = s.roomy in
+          slotted reused s (set.remove pool i) rooms usable peak
           (λ k. rw lives (contains-remove_at pool i k)) (rw (f.1, f.2, lives) (omega arith))
-          (rw (f.1, f.3, lives) (omega arith)) (omega arith) since (omega arith) (omega arith)
+          (rw (f.1, f.2, f.3, lives) (omega arith)) (omega arith) since s.few (omega arith)
 
       -- the slot had no cell
       pub none_before : passes (λ e. is_live e.kept) (slice_get slots i) ≡ false
@@ -168,25 +169,31 @@ module _ {T : Type 0} {pool : set.FinSet nat_cmp} {rooms start live peak : ℕ}
       pub pushed : IsWritten slots (slots ++ first_entry ∷ []) (length slots) first_entry
       pushed = push_written slots first_entry
 
-      pub state_pushed : state_of start (max peak (live + 1)) (slots ++ first_entry ∷ [])
+      all_live : usable ≡ many
+      all_live =
+          let empty : set.len pool ≡ 0 = ap set.len none ∙ set.len-empty nat_cmp in
+          let counted = s.counted in omega arith
+
+      pub state_pushed : state_of start (max peak (usable + 1)) (slots ++ first_entry ∷ [])
           ≡ add_cell (state_of start peak slots)
           (record { slot = length slots; generation = start }) c
       state_pushed =
-          with_cell (slots ++ first_entry ∷ []) (length slots) start pushed
+          ap (λ n. state_of start (max peak (n + 1)) (slots ++ first_entry ∷ [])) all_live
+          ∙ with_cell (slots ++ first_entry ∷ []) (length slots) start pushed
           (λ h. rw past refl) (rw past refl) (λ h. rw past (at_first h))
         where
           at_first : (h : ℕ) → (leb start h && leb h start) ≡ (nat_eq h start || false)
           at_first h = grind (arith, nat_tests)
 
       pub slotted_pushed : (more : ℕ) → length slots < more
-          → IsSlotted pool more start (live + 1) (max peak (live + 1)) (slots ++ first_entry ∷ [])
+          → IsSlotted pool more start (usable + 1) (max peak (usable + 1)) (slots ++ first_entry ∷ [])
       slotted_pushed more room =
           let one : length (slots ++ first_entry ∷ []) ≡ length slots + 1 =
           length-append slots _ in
           let few = s.few in let b = s.bounded in
           let empty : set.len pool ≡ 0 = ap set.len none ∙ set.len-empty nat_cmp in
           let counted = s.counted in
-          slotted pushed s pool more (live + 1) (max peak (live + 1))
+          slotted pushed s pool more (usable + 1) (max peak (usable + 1))
           (λ k. rw (lives, none, set.contains-empty nat_cmp k)
           (sym (cond_same (nat_eq k (length slots)) false))) (rw (past, lives) refl)
           (rw (past, lives) (omega arith))

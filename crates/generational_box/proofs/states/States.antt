@@ -172,8 +172,8 @@ module _ {T : Type 0} (start : ℕ) where
       set.contains-from_list name_total (given_from start 0 slots) q
       ∙ any_at 0 slots q q.slot (omega arith)
 
-module _ {T : Type 0} {free' : set.FinSet nat_cmp} {rooms start live peak : ℕ}
-    {entries : List (Entry T)} (s : IsSlotted free' rooms start live peak entries) where
+module _ {T : Type 0} {free' : set.FinSet nat_cmp} {rooms start usable peak : ℕ}
+    {entries : List (Entry T)} (s : IsSlotted free' rooms start usable peak entries) where
   abbrev here : State T
   here = state_of start peak entries
 
@@ -252,7 +252,7 @@ module _ {T : Type 0} {free' : set.FinSet nat_cmp} {rooms start live peak : ℕ}
   free_are = s.stocked ∙ sym (len_kept is_spent (is_free here) free_is)
 
   -- every slot is live, free or retired
-  all_slots : length entries ≡ live + set.len free' + retired here
+  all_slots : length entries ≡ usable + retired here
   all_slots =
       let lost : retired here ≡ how_many
       (λ e. not (is_live e.kept) && not (nat_lt e.generation last_generation)) entries =
@@ -306,8 +306,8 @@ module _ {T : Type 0} {free' : set.FinSet nat_cmp} {rooms start live peak : ℕ}
     pub free_seen : set.len free' ≡ free S
     free_seen = free_are ∙ ap free view
 
-    pub all_seen : length entries ≡ live + set.len free' + retired S
-    all_seen = all_slots ∙ ap (λ X. live + set.len free' + retired X) view
+    pub all_seen : length entries ≡ usable + retired S
+    all_seen = all_slots ∙ ap (λ X. usable + retired X) view
 
     -- a slot is made only where none is free
     pub bound_seen : slots S ≤ S.peak + retired S
@@ -327,9 +327,9 @@ module _ {T : Type 0} where
     pooled = λ k. rw unused (set.contains-empty nat_cmp k);
     roomy = omega arith;
     begun = λ k. tt;
-    counted = refl;
+    counted = let none = ap set.len unused ∙ set.len-empty nat_cmp in omega arith;
     stocked = ap set.len unused ∙ set.len-empty nat_cmp;
-    few = let none = ap set.len unused ∙ set.len-empty nat_cmp in omega arith;
+    few = omega arith;
     bounded = omega arith;
   })
 

@@ -118,11 +118,11 @@ module _ {T : Type 0} where
       given_kept turned_written start (λ g. rw f.there refl),
     ) refl
 
-    pub turned_slotted : {free : set.FinSet nat_cmp} {rooms start live peak : ℕ}
-        → IsSlotted free rooms start live peak slots → IsSlotted free rooms start live peak turned
-    turned_slotted {free} {rooms} {start} {live} {peak} s =
+    pub turned_slotted : {free : set.FinSet nat_cmp} {rooms start usable peak : ℕ}
+        → IsSlotted free rooms start usable peak slots → IsSlotted free rooms start usable peak turned
+    turned_slotted {free} {rooms} {start} {usable} {peak} s =
         let same = turned_length in
-        slotted turned_written s free rooms live peak (contains_own free n.slot
+        slotted turned_written s free rooms usable peak (contains_own free n.slot
         (s.pooled n.slot ∙ rw f.there refl))
         (rw f.there refl) (rw f.there refl) (let r = s.roomy in omega arith)
         (rw f.there at (s.begun n.slot)) s.few (let b = s.bounded in omega arith)

@@ -88,7 +88,7 @@ invariant_of-self g c =
     let spare = ap (λ x. x.spare) c.self.view_is in
     let room = inv.0.roomy in
     let one = c.count_one.ensures in
-    rw (c.refer.ensures.slots, c.push.ensures.pushed, c.target-target.ensures, one.peak, one.live) (
+    rw (c.refer.ensures.slots, c.push.ensures.pushed, c.target-target.ensures, one.peak, one.usable) (
       more_slotted _ (target_of d) (slotted_pushed inv.0 (kept_data [] l d) cell.0 cell.1 none _
           (omega (arith, c.requires.room, c.requires.none))),
       rw (c.refer.ensures.rooms, c.push.ensures.rooms) inv.1,
@@ -114,7 +114,7 @@ returns-clause-ok g c =
           c.refer.ensures.slots,
           c.push.ensures.pushed,
           one.peak,
-          one.live,
+          one.usable,
           c.len.ensures,
           ← view,
         ) (more_state _ _ _ _ ∙ state_pushed inv.0 (kept_data [] l d) cell.0 cell.1 none));

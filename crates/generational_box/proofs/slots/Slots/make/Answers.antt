@@ -13,7 +13,7 @@ use Rattle.generational_box.proofs.states.Counting.{err_holds, if_named, lacking
 use Rattle.generational_box.proofs.states.Counting.{made_referred, made_within, more_length}
 use Rattle.generational_box.proofs.states.Counting.{more_slotted, more_state, new_fresh}
 use Rattle.generational_box.proofs.states.Counting.{unborrowed_cell}
-use Rattle.generational_box.proofs.states.Makings.{live_below, new_reused, none_before, reused}
+use Rattle.generational_box.proofs.states.Makings.{new_reused, none_before, reused}
 use Rattle.generational_box.proofs.states.Makings.{slotted_reused, state_reused, taken_below}
 use Rattle.generational_box.proofs.states.Makings.{taken_empty, taken_less, taken_within}
 use Rattle.generational_box.proofs.states.Makings.{same_generation}
@@ -117,10 +117,6 @@ refer-requires-clause-few g c =
     (rw (c.target-target.ensures, c.refill.ensures.filled)
     (made_few d l w dead inv.2 targets fresh there))
 
-pub count_one-requires : goal.count_one-requires
-count_one-requires g c =
-    let below = live_below c.self.invariant.0 _ c.in-Some.ensures.member in omega arith
-
 pub invariant_of-self-2 : goal.invariant_of-self-2
 invariant_of-self-2 g c =
     let inv = c.self.invariant in
@@ -137,13 +133,10 @@ invariant_of-self-2 g c =
     let there = subst (λ S. IfSome (target_of d) (λ m. is_shared (map.get S.cells m) ≡ true))
     (sym view) c.requires.target in
     let fresh = new_fresh slots c.in-Some.slot c.refill.result dead in
-    let one = c.count_one.ensures in
     rw (
       c.refer.ensures.slots,
       c.refill.ensures.filled,
       c.target-target.ensures,
-      one.peak,
-      one.live,
       c.in-Some.ensures.taken,
       c.take.ensures.rooms,
     ) (
@@ -162,7 +155,6 @@ returns-clause-ok g c =
     let slots = c.self.inside.entries.slots in
     let cell = unborrowed_cell d l c.requires.unborrowed in
     let m = c.in-Some.ensures.member in
-    let one = c.count_one.ensures in
     let next = next_told c.generation.result _ c.generation.ensures in
     let same = same_generation inv.0 _ m _ _ next c.refill.ensures.generation in
     let spare = ap (λ x. x.spare) c.self.view_is in
@@ -176,8 +168,6 @@ returns-clause-ok g c =
         added = rw cell.1 (rw (
           c.refer.ensures.slots,
           c.refill.ensures.filled,
-          one.peak,
-          one.live,
           same,
           ← view,
         ) (more_state _ _ _ _ ∙ state_reused inv.0 (kept_data [] l d) cell.0 cell.1 _ m _ next));

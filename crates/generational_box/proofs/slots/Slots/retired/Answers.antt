@@ -8,12 +8,7 @@ overflow_sub-result g c =
     let all = all_seen c.self.invariant.0 (state_is c.self.view_is) in
     omega (arith, c.len.ensures)
 
-pub overflow_sub-result-2 : goal.overflow_sub-result-2
-overflow_sub-result-2 g c =
-    let all = all_seen c.self.invariant.0 (state_is c.self.view_is) in
-    omega (arith, c.len.ensures, c.free.ensures)
-
 pub returns : goal.returns
 returns g c =
     let all = all_seen c.self.invariant.0 (state_is c.self.view_is) in
-    omega (arith, c.len.ensures, c.free.ensures)
+    omega (arith, c.len.ensures)
