@@ -13,26 +13,22 @@ use Rattle.generational_core.specs.declared.error.StoreError.{StoreError}
 use Rattle.generational_core.specs.declared.error.StoreError.TheVariants as error
 use Rattle.generational_core.specs.declared.boxes.GenerationalPointer.{GenerationalPointer}
 use Rattle.generational_core.specs.declared.calls.Call.{Call}
-use Rattle.generational_core.specs.declared.calls.Call.TheVariants as call
 use Rattle.generational_core.specs.declared.places.Thing.{Thing}
 use Rattle.generational_core.specs.Names.{Name, Names, name_cmp}
 use Rattle.generational_core.specs.Cells.{Cell}
 use Rattle.generational_core.specs.State.{State, IsSound}
 use Rattle.generational_core.specs.Conditions.{IsFresh, fresh}
 use Rattle.generational_core.specs.Borrowing.{Trouble, reach, read_trouble}
-use Rattle.generational_core.specs.Machine.{OwnerName, act, add_to_list, knows_reader, knows_writer}
+use Rattle.generational_core.specs.Machine.{OwnerName, act, add_to_list}
 use Rattle.generational_core.specs.Machine.{Action, Answer, Outcome, is_known, cell_at, unless}
 use Rattle.generational_core.specs.Machine.{Fresh, refer}
 use Rattle.generational_core.specs.Machine.Action.{Make, MakeShared, Refer}
-use Rattle.generational_core.specs.Machine.Answer.{Made, Done, Flag, Back, Troubled, Refused}
-use Rattle.generational_core.specs.Steps.{takes_ticket, last_ticket, limit_tickets, needs_memory}
-use Rattle.generational_core.specs.Steps.{Meets, Takes, answer_to, may_lack, no_names}
+use Rattle.generational_core.specs.Machine.Answer.{Made, Troubled, Refused}
+use Rattle.generational_core.specs.Steps.{Meets, Takes, takes_ticket, last_ticket}
 use Rattle.generational_core.specs.Carrying.{KnowsAnswer, rename_ownership, rename_action}
 use Rattle.generational_core.specs.Carrying.{rename_answer, KnowsCall, rename_guard, shift_owner}
-use Rattle.generational_core.specs.Session.{SessionState, SessionReply, SessionStep, with_owner}
-use Rattle.generational_core.specs.Session.{reply_of, add_place, owner_in, at_place, is_release}
-use Rattle.generational_core.specs.Session.{Held, Request, Settles, settle, refusal, spend, release}
-use Rattle.generational_core.specs.Session.{Run, ask, swap}
+use Rattle.generational_core.specs.Session.{SessionState, SessionReply, SessionStep, add_place}
+use Rattle.generational_core.specs.Session.{Held, Request, Settles, settle, refusal, Run, ask, swap}
 use Rattle.generational_core.specs.Session.Request.{Asks, Tells, Swaps}
 use Rattle.generational_core.specs.Places.{session_in}
 use Rattle.generational_core.specs.Numbered.{IsNumberBelow, AreNumbersBelow, number, CarriesSession}
@@ -42,7 +38,7 @@ use Rattle.generational_core.specs.Numbered.{want, erase}
 use Rattle.generational_core.proofs.carrying.CarriedCells.{some_map}
 use Rattle.generational_core.proofs.maps.Maps.{by_name, key_same, contains-insert_apart}
 use Rattle.generational_core.proofs.machine.Ends.{none≢some}
-use Rattle.generational_core.proofs.machine.Changes.{AreFresh, new_fresh, wants, act_says, is_making}
+use Rattle.generational_core.proofs.machine.Changes.{AreFresh, new_fresh, act_says, is_making}
 use Rattle.generational_core.proofs.machine.Stepping.{act_start, is_refusal, takes_new}
 use Rattle.generational_core.proofs.sessions.Sessions.{session_sound}
 use Rattle.generational_core.proofs.sessions.Refusals.{unspent, refusal_told, tell}

@@ -1,6 +1,6 @@
 -- What a reply tells of refusals: where memory or a ticket may lack, and that nothing has changed.
-use Rattle.std.proofs.Common.{◌≡◌, Bool, true, false, cond, Option, None, Some, refl, sym, ap, subst}
-use Rattle.std.proofs.Common.{◌∙◌, inl, inr}
+use Rattle.std.proofs.Common.{◌≡◌, Bool, true, false, cond, Option, None, Some, refl, sym, ap}
+use Rattle.std.proofs.Common.{subst, ◌∙◌, inl, inr}
 use Rattle.std.specs.Prelude.{[], ◌&&◌, nat_eq, nat_lt}
 use Rattle.std.proofs.lemmas.Bool.{true≢false, cond_both, eqb-true, eq-eqb, and_parts}
 use Rattle.std.proofs.lemmas.Option.{none-some}
@@ -20,17 +20,16 @@ use Rattle.generational_core.specs.Cells.Cell.{Shared, Ref}
 use Rattle.generational_core.specs.Cells.Content.{Here}
 use Rattle.generational_core.specs.Ending.{hindrance_to}
 use Rattle.generational_core.specs.Machine.{Action, Answer, Fresh, Outcome, OwnerName, act, unless}
-use Rattle.generational_core.specs.Machine.{cell_at, clone_owner, is_known, knows_reader, knows_writer}
-use Rattle.generational_core.specs.Machine.{own_cell, own_name, ownership, point, read_at, refer}
-use Rattle.generational_core.specs.Machine.{release_owner, set_at, turn, write_at}
+use Rattle.generational_core.specs.Machine.{cell_at, clone_owner, is_known, knows_reader}
+use Rattle.generational_core.specs.Machine.{knows_writer, own_cell, own_name, ownership, point}
+use Rattle.generational_core.specs.Machine.{read_at, refer, release_owner, set_at, turn, write_at}
 use Rattle.generational_core.specs.Machine.Action.{Make, MakeShared, Refer, NewOwner, CloneOwner}
 use Rattle.generational_core.specs.Machine.Action.{ReleaseOwner, LeakOwner, Read, Write}
 use Rattle.generational_core.specs.Machine.Action.{ReleaseReader, ReleaseWriter, SetValue, End}
 use Rattle.generational_core.specs.Machine.Action.{Point, CanRead, CanWrite}
 use Rattle.generational_core.specs.Machine.Answer.{Done, Flag, Back, Troubled, Refused}
 use Rattle.generational_core.specs.Numbered.{refusal_in, want}
-use Rattle.generational_core.specs.Replies.{MayLackMemory, TellsLack, LacksTicket, TellsExhaustion}
-use Rattle.generational_core.specs.Replies.{RefusalLeavesAll, refuses}
+use Rattle.generational_core.specs.Replies.{TellsLack, TellsExhaustion, RefusalLeavesAll, refuses}
 use Rattle.generational_core.specs.Session.{Held, Request, SessionReply, SessionState, SessionStep}
 use Rattle.generational_core.specs.Session.{Settles, add_place, ask, at_place, gives, is_release}
 use Rattle.generational_core.specs.Session.{owner_in, refusal, release, reply_of, settle, spend}
@@ -133,91 +132,96 @@ module _ {T : Type 0} where
 
   -- A call of the machine is refused by a borrow or for its owner, and changes nothing then; or it
   -- isn't refused.
-  data Ends (S : State T) : Outcome T → Type 0 where
-    troubled : (t : Trouble) → Ends S (Troubled t, S)
-    unknown : Ends S (Refused UnknownOwner, S)
-    goes : (out : Outcome T) → is_refusal out.0 ≡ false → Ends S out
+  data IsAnswered (S : State T) : Outcome T → Type 0 where
+    troubled : (t : Trouble) → IsAnswered S (Troubled t, S)
+    unknown : IsAnswered S (Refused UnknownOwner, S)
+    goes : (out : Outcome T) → is_refusal out.0 ≡ false → IsAnswered S out
 
   module _ {S : State T} where
-    ends_if : (b : Bool) {x y : Outcome T} → Ends S x → Ends S y → Ends S (cond b x y)
-    ends_if true h k = h
-    ends_if false h k = k
+    answered_if : (b : Bool) {x y : Outcome T}
+        → IsAnswered S x → IsAnswered S y → IsAnswered S (cond b x y)
+    answered_if true h k = h
+    answered_if false h k = k
 
-    ends_unless : (t : Option Trouble) {x : Outcome T} → Ends S x → Ends S (unless t S x)
-    ends_unless None h = h
-    ends_unless (Some t) h = troubled t
+    answered_unless : (t : Option Trouble) {x : Outcome T}
+        → IsAnswered S x → IsAnswered S (unless t S x)
+    answered_unless None h = h
+    answered_unless (Some t) h = troubled t
 
-    ends_done : (R : State T) → Ends S (Done, R)
-    ends_done R = goes (Done, R) refl
+    answered_done : (R : State T) → IsAnswered S (Done, R)
+    answered_done R = goes (Done, R) refl
 
-    ends_refer : (o : Option OwnerName) (b : GenerationalPointer) (m : Option Name)
-        (c : Option (Cell T)) (n : Name) → Ends S (refer S o b m c n)
-    ends_refer o b (Some m) (Some (Shared c l)) n = goes _ refl
-    ends_refer o b m c n = troubled (Dropped b.created_at)
+    answered_refer : (o : Option OwnerName) (b : GenerationalPointer) (m : Option Name)
+        (c : Option (Cell T)) (n : Name) → IsAnswered S (refer S o b m c n)
+    answered_refer o b (Some m) (Some (Shared c l)) n = goes _ refl
+    answered_refer o b m c n = troubled (Dropped b.created_at)
 
-    ends_read : (l : Location) (m : Option Name) (c : Option (Content T)) → Ends S (read_at S l m c)
-    ends_read l (Some m) (Some (Here v rs)) = goes _ refl
-    ends_read l m c = goes _ refl
+    answered_read : (l : Location) (m : Option Name) (c : Option (Content T))
+        → IsAnswered S (read_at S l m c)
+    answered_read l (Some m) (Some (Here v rs)) = goes _ refl
+    answered_read l m c = goes _ refl
 
-    ends_write : (l : Location) (m : Option Name) (c : Option (Content T))
-        → Ends S (write_at S l m c)
-    ends_write l (Some m) (Some (Here v rs)) = goes _ refl
-    ends_write l m c = goes _ refl
+    answered_write : (l : Location) (m : Option Name) (c : Option (Content T))
+        → IsAnswered S (write_at S l m c)
+    answered_write l (Some m) (Some (Here v rs)) = goes _ refl
+    answered_write l m c = goes _ refl
 
-    ends_set : (b : GenerationalPointer) (v : T) (m : Option Name) (c : Option (Content T))
-        → Ends S (set_at S b v m c)
-    ends_set b v None c = troubled (Dropped b.created_at)
-    ends_set b v (Some m) (Some (Here old [])) = goes _ refl
-    ends_set b v (Some m) c = goes _ refl
+    answered_set : (b : GenerationalPointer) (v : T) (m : Option Name) (c : Option (Content T))
+        → IsAnswered S (set_at S b v m c)
+    answered_set b v None c = troubled (Dropped b.created_at)
+    answered_set b v (Some m) (Some (Here old [])) = goes _ refl
+    answered_set b v (Some m) c = goes _ refl
 
-    ends_clone : (o : OwnerName) (h : Option Ownership) → Ends S (clone_owner S o h)
-    ends_clone o None = unknown
-    ends_clone o (Some h) = goes _ refl
+    answered_clone : (o : OwnerName) (h : Option Ownership) → IsAnswered S (clone_owner S o h)
+    answered_clone o None = unknown
+    answered_clone o (Some h) = goes _ refl
 
-    ends_release : (o : OwnerName) (h : Option Ownership) → Ends S (release_owner S o h)
-    ends_release o None = unknown
-    ends_release o (Some h) = ends_if (nat_lt 1 h.count) (ends_done _)
-        (ends_unless (hindrance_to S h.names) (ends_done _))
+    answered_release : (o : OwnerName) (h : Option Ownership) → IsAnswered S (release_owner S o h)
+    answered_release o None = unknown
+    answered_release o (Some h) = answered_if (nat_lt 1 h.count) (answered_done _)
+        (answered_unless (hindrance_to S h.names) (answered_done _))
 
-    ends_turn : (a old new : Name) (l : Location) → Ends S (turn S a old new l)
-    ends_turn a old new l =
-        ends_if (is_name old new) (ends_done S) (ends_unless _ (ends_done _))
+    answered_turn : (a old new : Name) (l : Location) → IsAnswered S (turn S a old new l)
+    answered_turn a old new l =
+        answered_if (is_name old new) (answered_done S) (answered_unless _ (answered_done _))
 
-    ends_point : (a b : GenerationalPointer) (c : Option (Cell T)) (m : Option Name)
-        (d : Option (Cell T)) → Ends S (point S a b c m d)
-    ends_point a b None m d = troubled (Dropped a.created_at)
-    ends_point a b (Some (Ref old l)) (Some new) (Some (Shared c k)) =
-        ends_turn (name_of a) old new l
-    ends_point a b (Some c) m d = troubled _
+    answered_point : (a b : GenerationalPointer) (c : Option (Cell T)) (m : Option Name)
+        (d : Option (Cell T)) → IsAnswered S (point S a b c m d)
+    answered_point a b None m d = troubled (Dropped a.created_at)
+    answered_point a b (Some (Ref old l)) (Some new) (Some (Shared c k)) =
+        answered_turn (name_of a) old new l
+    answered_point a b (Some c) m d = troubled _
 
-  act_ends : (S : State T) (action : Action T) (f : Fresh) → Ends S (act S action f)
-  act_ends S (Make o v l) f = ends_if (is_known S o) (goes _ refl) unknown
-  act_ends S (MakeShared o v l) f = ends_if (is_known S o) (goes _ refl) unknown
-  act_ends S (Refer o b) f = ends_if (is_known S o) (ends_unless (read_trouble S b)
-      (ends_refer o b (reach S b) (cell_at S (reach S b)) f.first)) unknown
-  act_ends S NewOwner f = goes _ refl
-  act_ends S (CloneOwner o) f = ends_clone o (ownership S o)
-  act_ends S (ReleaseOwner o) f = ends_release o (ownership S o)
-  act_ends S (LeakOwner o) f = goes _ refl
-  act_ends S (Read b l) f = ends_unless (read_trouble S b)
-      (ends_read l (reach S b) (content_of (cell_at S (reach S b))))
-  act_ends S (Write b l) f = ends_unless (write_trouble S b)
-      (ends_write l (reach S b) (content_of (cell_at S (reach S b))))
-  act_ends S (ReleaseReader g) f = ends_if (knows_reader S g) (goes _ refl) (goes _ refl)
-  act_ends S (ReleaseWriter g v) f = ends_if (knows_writer S g) (goes _ refl) (goes _ refl)
-  act_ends S (SetValue b v) f = ends_set b v (reach S b) (content_of (cell_at S (reach S b)))
-  act_ends S (End b) f = ends_unless (hindrance_to S (own_name S b)) (goes _ refl)
-  act_ends S (Point a b) f = ends_if (has_same_id a b) (goes _ refl) (ends_unless (read_trouble S b)
-      (ends_point a b (own_cell S a.id) (reach S b) (cell_at S (reach S b))))
-  act_ends S (CanRead b) f = goes _ refl
-  act_ends S (CanWrite b) f = goes _ refl
+  act_answered : (S : State T) (action : Action T) (f : Fresh) → IsAnswered S (act S action f)
+  act_answered S (Make o v l) f = answered_if (is_known S o) (goes _ refl) unknown
+  act_answered S (MakeShared o v l) f = answered_if (is_known S o) (goes _ refl) unknown
+  act_answered S (Refer o b) f = answered_if (is_known S o) (answered_unless (read_trouble S b)
+      (answered_refer o b (reach S b) (cell_at S (reach S b)) f.first)) unknown
+  act_answered S NewOwner f = goes _ refl
+  act_answered S (CloneOwner o) f = answered_clone o (ownership S o)
+  act_answered S (ReleaseOwner o) f = answered_release o (ownership S o)
+  act_answered S (LeakOwner o) f = goes _ refl
+  act_answered S (Read b l) f = answered_unless (read_trouble S b)
+      (answered_read l (reach S b) (content_of (cell_at S (reach S b))))
+  act_answered S (Write b l) f = answered_unless (write_trouble S b)
+      (answered_write l (reach S b) (content_of (cell_at S (reach S b))))
+  act_answered S (ReleaseReader g) f = answered_if (knows_reader S g) (goes _ refl) (goes _ refl)
+  act_answered S (ReleaseWriter g v) f = answered_if (knows_writer S g) (goes _ refl) (goes _ refl)
+  act_answered S (SetValue b v) f =
+      answered_set b v (reach S b) (content_of (cell_at S (reach S b)))
+  act_answered S (End b) f = answered_unless (hindrance_to S (own_name S b)) (goes _ refl)
+  act_answered S (Point a b) f = answered_if (has_same_id a b) (goes _ refl)
+      (answered_unless (read_trouble S b)
+      (answered_point a b (own_cell S a.id) (reach S b) (cell_at S (reach S b))))
+  act_answered S (CanRead b) f = goes _ refl
+  act_answered S (CanWrite b) f = goes _ refl
 
-  still : (S : State T) (out : Outcome T) → Ends S out → is_refusal out.0 ≡ true → out.1 ≡ S
+  still : (S : State T) (out : Outcome T) → IsAnswered S out → is_refusal out.0 ≡ true → out.1 ≡ S
   still S out (troubled t) refused = refl
   still S out unknown refused = refl
   still S out (goes o on) refused = absurd (true≢false (sym refused ∙ on))
 
-  wants_none : (S : State T) (out : Outcome T) → Ends S out → wants out.0 ≡ None
+  wants_none : (S : State T) (out : Outcome T) → IsAnswered S out → wants out.0 ≡ None
   wants_none S out (troubled t) = refl
   wants_none S out unknown = refl
   wants_none S out (goes o on) = unwanted out.0 on
@@ -289,12 +293,13 @@ module _ {T : Type 0} where
     last : wants out.0 ≡ Some NumbersExhausted → IsLast S action
     still : is_refusal out.0 ≡ true → out.1 ≡ S
 
-  acting : (S : State T) (action : Action T) (out : Outcome T) → Ends S out → Refusing S action out
-  acting S action out ends =
-      let none = sym (wants_none S out ends) in record {
+  acting : (S : State T) (action : Action T) (out : Outcome T)
+      → IsAnswered S out → Refusing S action out
+  acting S action out how =
+      let none = sym (wants_none S out how) in record {
         lacks = λ told. absurd (none-some _ (none ∙ told));
         last = λ told. absurd (none-some _ (none ∙ told));
-        still = still S out ends;
+        still = still S out how;
       }
 
   meets_refusing : (S : State T) (action : Action T) (out : Outcome T)
@@ -305,7 +310,7 @@ module _ {T : Type 0} where
         lacks = λ told. cc;
         last = λ _. (sym (same_ticket S action m.0) ∙ are.0, eqb-true S.next last_ticket are.1);
         still = λ _. refl;
-      }) (λ _. acting S action (act S action m.0) (act_ends S action m.0)))
+      }) (λ _. acting S action (act S action m.0) (act_answered S action m.0)))
   meets_refusing S action out (inr m) = record {
     lacks = λ _. m.0;
     last = λ told. let e = sym (ap wants m.1) ∙ told in cc;
