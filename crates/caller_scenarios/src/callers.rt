@@ -9,7 +9,7 @@ use std::alloc::Global;
 use std::test::Fail;
 use uses::kinds::{Entry, toggle};
 use uses::owned::end_owned;
-use uses::sessions::ask_for_ended;
+use uses::sessions::{ask_for_ended, carries_out};
 use uses::shared::{outlived, written_through};
 use uses::values::{read_value, replaced_value, there_and_back, write_value, written_value};
 
@@ -68,6 +68,18 @@ fn ended_in_session<S: Storage<u64> + Drop>(alloc: Global, store: S) -> Option<u
     }
 }
 
+/// Whether a value is kept and read in a session, and whether it is ended under its reader.
+fn carried_out<S: Storage<u64> + Drop>(alloc: Global, store: S) -> (bool, bool, bool)
+    requires { IsFresh (S.state store) }
+{
+    let mut session = Session::new(alloc, store);
+    let kept = carries_out(&mut session, Call::Leak(6, here()));
+    let read = carries_out(&mut session, Call::TryRead(BoxAt::Place(0), here()));
+    let ended = carries_out(&mut session, Call::ManuallyDrop(BoxAt::Place(0)));
+    session.finish();
+    (kept, read, ended)
+}
+
 fn count_errors(replies: &Vec<Reply<u64>>) -> usize {
     replies
         .iter()
@@ -97,5 +109,7 @@ fn kinds_and_sessions(rt: HostRuntime) -> Result<(), Fail> {
     assert_eq!(rt; turned_flag(&mut store), Some(true));
     let fresh = UnsyncStorage::new(rt.alloc(), 2);
     assert_eq!(rt; ended_in_session(rt.alloc(), fresh), Some(2));
+    let fresh = UnsyncStorage::new(rt.alloc(), 3);
+    assert_eq!(rt; carried_out(rt.alloc(), fresh), (true, true, false));
     Ok(())
 }

@@ -1,6 +1,9 @@
 -- What the replies of a session promise, call by call.
-use Rattle.std.specs.Prelude.{◌≡◌, ℕ, ◌≤◌, false, List, [], ◌∷◌, None, Some, slice_get}
+use Rattle.std.specs.Prelude.{◌≡◌, ◌↔◌, ℕ, ◌≤◌, ◌+◌, Bool, true, false, List, [], ◌∷◌, None, Some}
+use Rattle.std.specs.Prelude.{slice_get}
 use Rattle.std.specs.FinSet as set
+use Rattle.generational_core.specs.declared.error.StoreError.TheVariants.{NumbersExhausted}
+use Rattle.generational_core.specs.declared.error.StoreError.TheVariants.{OutOfMemory}
 use Rattle.generational_core.specs.declared.boxes.GenerationalPointer.{GenerationalPointer}
 use Rattle.generational_core.specs.declared.calls.Call.{Call}
 use Rattle.generational_core.specs.declared.calls.Call.TheVariants as call
@@ -8,10 +11,17 @@ use Rattle.generational_core.specs.State.{State, Ownership}
 use Rattle.generational_core.specs.Conditions.{IsEnded, AreEnded}
 use Rattle.generational_core.specs.Boxes.{name_of}
 use Rattle.generational_core.specs.Borrowing.Trouble.{Dropped}
-use Rattle.generational_core.specs.Machine.{OwnerName, ownership}
-use Rattle.generational_core.specs.Session.{SessionState, SessionReply, Run, box_in, at_place}
-use Rattle.generational_core.specs.Session.Held.{Boxed, Owning}
-use Rattle.generational_core.specs.Session.SessionReply.{ABox, IsDone, Error, Unready}
+use Rattle.generational_core.specs.Machine.{Action, OwnerName, act, ownership}
+use Rattle.generational_core.specs.Numbered.{refusal_in}
+use Rattle.generational_core.specs.Session.{SessionState, SessionReply, Run, box_in, at_place, ask}
+use Rattle.generational_core.specs.Session.{add_place}
+use Rattle.generational_core.specs.Session.Held.{Boxed, Owning, Nothing}
+use Rattle.generational_core.specs.Session.Request.{Asks}
+use Rattle.generational_core.specs.Session.SessionReply.{ABox, IsDone, Error, Lacking, HandedBack}
+use Rattle.generational_core.specs.Session.SessionReply.{Unready, NoSuch}
+use Rattle.generational_core.specs.Slots.{slots, retired}
+use Rattle.generational_core.specs.SoundSession.{IsSoundSession}
+use Rattle.generational_core.specs.Steps.{may_lack, takes_ticket, last_ticket, no_names}
 
 module _ {T : Type 0} where
   -- a call reads, writes or sets this box, or makes a reference from it by no owner
@@ -59,12 +69,51 @@ module _ {T : Type 0} where
   EndsOwned s c x r = (h : Ownership)
       → ReleasesLast s c h → x ≡ IsDone → AreEnded s.state h.names r.state
 
+  -- a call asks the machine for something that may lack memory there
+  pub record MayLackMemory (s : SessionState T) (c : Call T) : Type 0 where
+    pub action : Action T
+    pub asks : ask s c ≡ Asks action
+    pub lacks : may_lack s.state action ≡ true
+
+  -- a reply tells want of memory only where it may lack
+  abbrev pub TellsLack : SessionState T → Call T → SessionReply T → Type 0
+  TellsLack s c x = refusal_in x ≡ Some OutOfMemory → MayLackMemory s c
+
+  -- a call asks the machine for something that takes a ticket, and none is left
+  pub record LacksTicket (s : SessionState T) (c : Call T) : Type 0 where
+    pub action : Action T
+    pub asks : ask s c ≡ Asks action
+    pub takes : takes_ticket (act s.state action no_names).0 ≡ true
+    pub last : s.state.next ≡ last_ticket
+
+  -- a reply tells that the numbers are used up exactly where a ticket is lacking
+  abbrev pub TellsExhaustion : SessionState T → Call T → SessionReply T → Type 0
+  TellsExhaustion s c x = (refusal_in x ≡ Some NumbersExhausted) ↔ LacksTicket s c
+
+  -- whether a reply refuses its call
+  abbrev pub refuses : SessionReply T → Bool
+  refuses (Error t) = true
+  refuses (Lacking e) = true
+  refuses (HandedBack v e) = true
+  refuses (Unready back) = true
+  refuses (NoSuch back) = true
+  refuses _ = false
+
+  -- a call that is refused leaves all as it was, and its place holds nothing
+  abbrev pub RefusalLeavesAll : SessionState T → SessionReply T → SessionState T → Type 0
+  RefusalLeavesAll s x r = refuses x ≡ true → r ≡ add_place s Nothing
+
   -- what each call of a session promises
   pub record KeepsPromises (s : SessionState T) (c : Call T) (x : SessionReply T)
       (r : SessionState T) : Type 0 where
     pub tells_ends : TellsEnds s c x
     pub new_box : GivesNewBox s x
     pub ends_owned : EndsOwned s c x r
+    pub tells_lack : TellsLack s c x
+    pub tells_exhaustion : TellsExhaustion s c x
+    pub refusal_leaves_all : RefusalLeavesAll s x r
+    pub kept : IsSoundSession r
+    pub bounded : slots r.state ≤ r.state.peak + retired r.state
 
   -- each call of a run keeps its promises
   abbrev pub AllKeepPromises : (s : SessionState T)

@@ -54,6 +54,8 @@ impl<T: Drop, S: Storage<T>> Session<T, S> {
     ghost use Rattle.generational_core.specs.Replies.{TellsEnds, GivesNewBox, EndsOwned};
     ghost use Rattle.generational_core.specs.Replies.{KeepBoxes, GiveBoxesApart};
     ghost use Rattle.generational_core.specs.Replies.{AllKeepPromises, AllTellEnds};
+    ghost use Rattle.generational_core.specs.Replies.{TellsLack, TellsExhaustion};
+    ghost use Rattle.generational_core.specs.Replies.{RefusalLeavesAll};
 
     /// A session over a fresh store (`is_fresh` is the test). Takes no memory.
     pub fn new(alloc: Global, store: S) -> Session<T, S>
@@ -92,6 +94,16 @@ impl<T: Drop, S: Storage<T>> Session<T, S> {
         ensures ends_owned { IfOk result (λ reply.
             EndsOwned self.old call (as_reply reply) self.new) }
 
+        // Want of memory is told only where the call asks the machine for something that may lack
+        // memory there. That the numbers are used up is told exactly where it asks for something
+        // that takes a ticket, and the next ticket is the last number. A call that is refused
+        // leaves all as it was, and its place holds nothing.
+        ensures tells_lack { IfOk result (λ reply. TellsLack self.old call (as_reply reply)) }
+        ensures tells_exhaustion { IfOk result (λ reply.
+            TellsExhaustion self.old call (as_reply reply)) }
+        ensures refusal_leaves_all { IfOk result (λ reply.
+            RefusalLeavesAll self.old (as_reply reply) self.new) }
+
         // The state is sound, boxes at different places have different ids, and the store knows
         // the held guards and owners. There are no more slots than the peak and the retired ones.
         // A name that has ended is never live again. A value that nothing disturbs stays.
@@ -124,7 +136,9 @@ impl<T: Drop, S: Storage<T>> Session<T, S> {
         ensures same_answers { IfOk result (λ replies. (a : SessionState T) → Matches self.old a →
             AnswersAs a calls.items (as_replies replies.items) self.new) }
 
-        // What `call` promises of a call holds of each call of the run. A read or a write of a box
+        // What `call` promises of a call holds of each call of the run: what ends, what is given,
+        // what is refused and that a refusal leaves all as it was, and that the state after it is
+        // sound, with no more slots than the peak and the retired ones. A read or a write of a box
         // whose name had ended before the run is answered so, wherever in the run it stands, and so
         // is a making of a reference from it by no owner; a call with a condition is told that it
         // doesn't hold. No two replies give boxes with one id.

@@ -1,6 +1,6 @@
 //! Callers of sessions, proved from the clauses of `Session` alone, for every storage.
 
-ghost use Rattle.std.specs.Prelude.{◌≡◌, IfSome, Some, slice_get, map as list_map};
+ghost use Rattle.std.specs.Prelude.{◌≡◌, IfSome, IsFalse, Some, slice_get, map as list_map};
 ghost use Rattle.generational_core.specs.declared.boxes.GenerationalPointer.{GenerationalPointer};
 ghost use Rattle.generational_core.specs.Boxes.{name_of};
 ghost use Rattle.generational_core.specs.Conditions.{IsFresh, IsEnded};
@@ -10,6 +10,7 @@ ghost use Rattle.generational_core.specs.Session.Held.{Boxed};
 ghost use Rattle.generational_core.specs.Session.SessionReply.{Error};
 ghost use Rattle.generational_core.specs.Places.{as_reply, as_replies};
 ghost use Rattle.generational_core.specs.Numbered.{answers, erase, refusal_in, empty_session};
+ghost use Rattle.generational_core.specs.Replies.{refuses};
 
 use generational_box::{BoxAt, Call, Location, Reply, Session, Storage};
 use std::alloc::Global;
@@ -53,6 +54,28 @@ pub fn ask_for_ended<S: Storage<u64>>(
         return None;
     };
     Some(replies)
+}
+
+/// Answers a call, and says whether it was carried out. If it was refused, or its place finds no
+/// memory, the store's state is as it was.
+pub fn carries_out<S: Storage<u64>>(session: &mut Session<u64, S>, call: Call<u64>) -> bool
+    ensures { IsFalse result → session.new.state ≡ session.old.state }
+{
+    match session.call(call) {
+        Ok(reply) => !is_refusal(&reply),
+        Err(_) => false,
+    }
+}
+
+/// Whether a reply refuses its call.
+pub fn is_refusal(reply: &Reply<u64>) -> bool
+    ensures { result ≡ refuses (as_reply reply.now) }
+{
+    match reply {
+        Reply::Error(_) | Reply::Store(_) | Reply::Back(_, _) => true,
+        Reply::Unready(_) | Reply::NoSuch(_) => true,
+        _ => false,
+    }
 }
 
 /// The replies to calls in a session over a store in which nothing was made. None where the session

@@ -13,26 +13,22 @@ use Rattle.generational_core.specs.declared.error.StoreError.{StoreError}
 use Rattle.generational_core.specs.declared.error.StoreError.TheVariants as error
 use Rattle.generational_core.specs.declared.boxes.GenerationalPointer.{GenerationalPointer}
 use Rattle.generational_core.specs.declared.calls.Call.{Call}
-use Rattle.generational_core.specs.declared.calls.Call.TheVariants as call
 use Rattle.generational_core.specs.declared.places.Thing.{Thing}
 use Rattle.generational_core.specs.Names.{Name, Names, name_cmp}
 use Rattle.generational_core.specs.Cells.{Cell}
 use Rattle.generational_core.specs.State.{State, IsSound}
 use Rattle.generational_core.specs.Conditions.{IsFresh, fresh}
 use Rattle.generational_core.specs.Borrowing.{Trouble, reach, read_trouble}
-use Rattle.generational_core.specs.Machine.{OwnerName, act, add_to_list, knows_reader, knows_writer}
+use Rattle.generational_core.specs.Machine.{OwnerName, act, add_to_list}
 use Rattle.generational_core.specs.Machine.{Action, Answer, Outcome, is_known, cell_at, unless}
 use Rattle.generational_core.specs.Machine.{Fresh, refer}
 use Rattle.generational_core.specs.Machine.Action.{Make, MakeShared, Refer}
-use Rattle.generational_core.specs.Machine.Answer.{Made, Done, Flag, Back, Troubled, Refused}
-use Rattle.generational_core.specs.Steps.{takes_ticket, last_ticket, limit_tickets, needs_memory}
-use Rattle.generational_core.specs.Steps.{Meets, Takes, answer_to, may_lack, no_names}
+use Rattle.generational_core.specs.Machine.Answer.{Made, Troubled, Refused}
+use Rattle.generational_core.specs.Steps.{Meets, Takes, takes_ticket, last_ticket}
 use Rattle.generational_core.specs.Carrying.{KnowsAnswer, rename_ownership, rename_action}
 use Rattle.generational_core.specs.Carrying.{rename_answer, KnowsCall, rename_guard, shift_owner}
-use Rattle.generational_core.specs.Session.{SessionState, SessionReply, SessionStep, with_owner}
-use Rattle.generational_core.specs.Session.{reply_of, add_place, owner_in, at_place, is_release}
-use Rattle.generational_core.specs.Session.{Held, Request, Settles, settle, refusal, spend, release}
-use Rattle.generational_core.specs.Session.{Run, ask, swap}
+use Rattle.generational_core.specs.Session.{SessionState, SessionReply, SessionStep, add_place}
+use Rattle.generational_core.specs.Session.{Held, Request, Settles, settle, refusal, Run, ask, swap}
 use Rattle.generational_core.specs.Session.Request.{Asks, Tells, Swaps}
 use Rattle.generational_core.specs.Places.{session_in}
 use Rattle.generational_core.specs.Numbered.{IsNumberBelow, AreNumbersBelow, number, CarriesSession}
@@ -42,9 +38,10 @@ use Rattle.generational_core.specs.Numbered.{want, erase}
 use Rattle.generational_core.proofs.carrying.CarriedCells.{some_map}
 use Rattle.generational_core.proofs.maps.Maps.{by_name, key_same, contains-insert_apart}
 use Rattle.generational_core.proofs.machine.Ends.{none≢some}
-use Rattle.generational_core.proofs.machine.Changes.{AreFresh, new_fresh, wants, act_says, is_making}
+use Rattle.generational_core.proofs.machine.Changes.{AreFresh, new_fresh, act_says, is_making}
 use Rattle.generational_core.proofs.machine.Stepping.{act_start, is_refusal, takes_new}
 use Rattle.generational_core.proofs.sessions.Sessions.{session_sound}
+use Rattle.generational_core.proofs.sessions.Refusals.{unspent, refusal_told, tell}
 use Rattle.generational_core.proofs.carrying.CarriedCalls.{Matched, act_matched}
 use Rattle.generational_core.proofs.carrying.CarriedSession.{swapped_alike, settled_alike, placed_alike}
 use Rattle.generational_core.proofs.carrying.CarriedSession.{AskedAlike, asked_alike, box_agrees, last_known}
@@ -154,65 +151,6 @@ module _ {T : Type 0} where
       (takes_new S call m.0 (subst (λ (o : Outcome T). Takes S call o.0 m.0) e m.1))) m.2
   meets_fresh S R call answer wanting acting (inr m) =
       wanting error.OutOfMemory refl (λ i. (m.1 i, m.2 i))
-
-  -- the answers of a call that always goes
-  data Goes : Answer T → Type 0 where
-    done : Goes Done
-    flag : (b : Bool) → Goes (Flag b)
-    back_given : (v : T) → Goes (Back v)
-
-  abbrev AlwaysGoes : State T → Request T → Type 0
-  AlwaysGoes S (Asks action) = (new : Fresh) → Goes (limit_tickets S (act S action new)).0
-  AlwaysGoes S _ = Unit {0}
-
-  needs_nothing : (S : State T) (action : Action T) (answer : Answer T)
-      → Goes answer → needs_memory S answer action ≡ false
-  needs_nothing S action answer done = refl
-  needs_nothing S action answer _ = refl
-
-  never_refused : (S R : State T) (action : Action T) (e : StoreError)
-      → AlwaysGoes S (Asks action) → Meets S action (Refused e) R → ⊥
-  unfolding may_lack
-  never_refused S R action e h (inl m) = let g : Goes (Refused e) =
-      subst Goes (sym (ap (λ (out : Outcome T). out.0) m.2)) (h m.0) in elim g [ ]
-  never_refused S R action e h (inr m) =
-      true≢false (sym m.0 ∙ needs_nothing S action (answer_to S action) (h no_names))
-
-  release_goes : (S : State T) (h : Held T) → AlwaysGoes S (release h)
-  release_goes S (Held.Reading g) = λ new. cond_both (knows_reader S g) _ _
-      (λ out. Goes (limit_tickets S out).0) (λ _. flag true) (λ _. flag false)
-  release_goes S (Held.Writing g v) = λ new. cond_both (knows_writer S g) _ _
-      (λ out. Goes (limit_tickets S out).0) (λ _. done) (λ _. back_given v)
-  release_goes S _ = tt
-
-  leak_goes : (S : State T) (o : Option OwnerName)
-      → AlwaysGoes S (with_owner o None (λ o. Asks (Action.LeakOwner o)))
-  leak_goes S None = tt
-  leak_goes S (Some o) = λ new. done
-
-  -- releases of guards and leaks are never refused, and what is refused else spends nothing
-  unspent : (s : SessionState T) (c : Call T) (action : Action T) (e : StoreError) (R : State T)
-      → ask s c ≡ Asks action → Meets s.state action (Refused e) R
-      → spend c (Refused e) s.table ≡ s.table
-  unspent s (call.Release p) action e R is m = absurd (never_refused s.state R action e
-      (subst (AlwaysGoes s.state) is (release_goes s.state (at_place s.table p))) m)
-  unspent s (call.LeakOwner p) action e R is m = absurd (never_refused s.state R action e
-      (subst (AlwaysGoes s.state) is (leak_goes s.state (owner_in s p))) m)
-  unspent s _ action e R is m = refl
-
-  -- the refusal that a reply tells is that of the answer
-  refusal_told : (c : Call T) (e : StoreError) → refusal_in (refusal c e) ≡ want e
-  refusal_told (call.Leak v l) e = refl
-  refusal_told (call.LeakRc v l) e = refl
-  refusal_told (call.Insert p v l) e = refl
-  refusal_told (call.InsertRc p v l) e = refl
-  refusal_told _ e = refl
-
-  tell : (c : Call T) (answer : Answer T) → refusal_in (reply_of c answer) ≡ wants answer
-  tell c (Flag b) = cond_both (is_release c) SessionReply.IsDone (SessionReply.Yes b)
-      (λ x. refusal_in x ≡ None) (λ _. refl) (λ _. refl)
-  tell c (Refused e) = refusal_told c e
-  tell c _ = refl
 
   refusal_moved : (f : Name → Name) (d n : ℕ) (answer : Answer T)
       → is_refusal (rename_answer f d (λ (v : T). v) n answer) ≡ is_refusal answer
@@ -351,11 +289,11 @@ module _ {T : Type 0} {s a : SessionState T} (m : Matches s a) where
       let met : Meets s.state (mine action) (Refused e) s.state =
       subst (λ (o : Outcome T). Meets s.state (mine action) o.0 o.1) same step.2 in
       answered c (Asks action) (after s.table) (step.3 ∙ (ap (settle s c) same
-      ∙ ap after (unspent s c (mine action) e s.state asked met))) (refusal_told c e ∙ is)
+      ∙ ap after (unspent s c (mine action) (Refused e) s.state asked met refl))) ((refusal_told c e).0 ∙ is)
       (matched start (refl, placed_alike m.carries) refl refl)) (λ new unused is.
       let out = act s.state (mine action) new in
       answered c (Asks action) (settle s c out) (step.3 ∙ ap (settle s c) is)
-      (tell c out.0 ∙ (act_says s.state (mine action) new unused).able)
+      ((tell c out.0).0 ∙ (act_says s.state (mine action) new unused).able)
       (asks_step c action new k unused)) step.2
   settles_step c x r p q asked (both_tell y z e able) step =
       answered c (Tells z) (y, add_place s Held.Nothing) (λ i. (step.0 i, step.1 i)) able

@@ -34,7 +34,9 @@ use Rattle.generational_core.proofs.machine.Releasing.{box_ends, box_stays, shar
 use Rattle.generational_core.proofs.machine.Releasing.{listed_boxed, last_cells}
 use Rattle.generational_core.proofs.sessions.Sessions.{ComesTo, comes_to, held_changed, session_kept, by_run}
 use Rattle.generational_core.proofs.sessions.Sessions.{takes_no_box, session_ended, by_step, fresh_kept}
+use Rattle.generational_core.proofs.sessions.Sessions.{is_own}
 use Rattle.generational_core.proofs.sessions.Sessions.ComesTo.{tells, swaps, asks}
+use Rattle.generational_core.proofs.sessions.Refusals.{refusals}
 use Rattle.generational_core.proofs.machine.Changes.{IsNewBox}
 use Rattle.std.proofs.lemmas.List.{map-append, map-set, reverse-append, reverse-reverse, append-nil}
 use Rattle.std.proofs.lemmas.List.{set-get_or}
@@ -149,7 +151,7 @@ module _ {T : Type 0} where
           subst (λ (S : State T). IsNewBox s.state S b) (sym after)
           (meets_says s.state step.1 action
           (Made b) (subst (λ a. Meets s.state action a step.1) made step.2))
-      at q (tells y no_box) step = absurd (no_box b (sym step.0 ∙ is))
+      at q (tells y own) step = absurd (true≢false (sym own ∙ ap is_own (sym step.0 ∙ is)))
       at q (swaps p g v old there) step = let e = sym step.0 ∙ is in cc
 
   pub gives_new_box : (s r : SessionState T) (c : Call T) (x : SessionReply T)
@@ -212,7 +214,7 @@ module _ {T : Type 0} where
           ∙ held_before (spend c step.0 s.table) (gives step.0) p b
           (ap (λ table. at_place table p) it.1 ∙ held_beside s.table it.0 Nothing p b
           (λ e. takes_no_box action step.0 b (sym it.2 ∙ e)) is)
-      at q (tells y no_box) step =
+      at q (tells y own) step =
           ap (λ (s : SessionState T). at_place s.table p) step.1 ∙ held_before s.table _ p b is
       at q (swaps k g v old there) step =
           ap (λ (r : SessionState T). at_place r.table p) step.1
@@ -322,14 +324,21 @@ module _ {T : Type 0} where
       (s r : SessionState T) → IsSoundSession s → (run : Run s calls replies r)
       → AllKeepPromises s calls replies r run
   all_keep_promises [] [] s r kept run = tt
-  all_keep_promises (c ∷ calls) (x ∷ replies) s r kept run = (
-    record {
-      tells_ends = tells_ends s run.0 c x run.1;
-      new_box = gives_new_box s run.0 c x run.1;
-      ends_owned = ends_owned s run.0 c x kept.sound run.1;
-    },
-    all_keep_promises calls replies run.0 r (session_kept s run.0 c x kept run.1) run.2,
-  )
+  all_keep_promises (c ∷ calls) (x ∷ replies) s r kept run =
+      let after = session_kept s run.0 c x kept run.1 in
+      let told = refusals s run.0 c x run.1 in (
+        record {
+          tells_ends = tells_ends s run.0 c x run.1;
+          new_box = gives_new_box s run.0 c x run.1;
+          ends_owned = ends_owned s run.0 c x kept.sound run.1;
+          tells_lack = told.lack;
+          tells_exhaustion = told.exhaustion;
+          refusal_leaves_all = told.leaves_all;
+          kept = after;
+          bounded = after.bounded.few;
+        },
+        all_keep_promises calls replies run.0 r after run.2,
+      )
   all_keep_promises calls replies s r kept run = absurd run
 
   -- a session over a fresh store

@@ -302,11 +302,17 @@ module _ {T : Type 0} where
   Empties s c action answer = (p : ℕ) × (spend c answer s.table ≡ slice_set s.table p Nothing)
       × (at_place s.table p ≡ takes action answer)
 
-  -- What a call comes to: a reply that gives no box, another value for a writer that is there, or a
-  -- call of the machine.
+  -- a reply that needs no machine: it gives no box, and isn't a refusal of the store
+  abbrev pub is_own : SessionReply T → Bool
+  is_own (SessionReply.ABox b) = false
+  is_own (SessionReply.Lacking e) = false
+  is_own (SessionReply.HandedBack v e) = false
+  is_own _ = true
+
+  -- What a call comes to: a reply that needs no machine, another value for a writer that is there,
+  -- or a call of the machine.
   pub data ComesTo (s : SessionState T) (c : Call T) : Request T → Type 0 where
-    tells : (x : SessionReply T) → ((b : GenerationalPointer) → x ≢ SessionReply.ABox b)
-        → ComesTo s c (Request.Tells x)
+    tells : (x : SessionReply T) → is_own x ≡ true → ComesTo s c (Request.Tells x)
     swaps : (p : ℕ) (g : Guard) (v old : T) → at_place s.table p ≡ Writing g old
         → ComesTo s c (Request.Swaps p g v old)
     asks : (action : Action T)
@@ -315,7 +321,7 @@ module _ {T : Type 0} where
   comes_box : {s : SessionState T} {c : Call T} (o : Option GenerationalPointer) (back : Option T)
       (next : GenerationalPointer → Request T) → ((b : GenerationalPointer) → ComesTo s c (next b))
       → ComesTo s c (with_box o back next)
-  comes_box None back next h = tells _ (λ b e. cc)
+  comes_box None back next h = tells _ refl
   comes_box (Some b) back next h = h b
 
   comes_owner : {s : SessionState T} {c : Call T} (p : ℕ) (back : Option T)
@@ -326,23 +332,23 @@ module _ {T : Type 0} where
     where
       at : (x : Held T) → at_place s.table p ≡ x → ComesTo s c (with_owner (owner_held x) back next)
       at (Owning o) is = h o is
-      at x is = tells _ (λ b e. cc)
+      at x is = tells _ refl
 
   comes_ready : {s : SessionState T} {c : Call T} (ready : Bool) (back : Option T)
       (next : Request T) → ComesTo s c next → ComesTo s c (if_ready ready back next)
   comes_ready true back next h = h
-  comes_ready false back next h = tells _ (λ b e. cc)
+  comes_ready false back next h = tells _ refl
 
   comes_release : (s : SessionState T) (p : ℕ) (x : Held T) → at_place s.table p ≡ x
       → ComesTo s (call.Release p) (release x)
   comes_release s p (Reading g) is = asks (Action.ReleaseReader g) (λ answer. (p, refl, is))
   comes_release s p (Writing g v) is = asks (Action.ReleaseWriter g v) (λ answer. (p, refl, is))
-  comes_release s p x is = tells _ (λ b e. cc)
+  comes_release s p x is = tells _ refl
 
   comes_replace : (s : SessionState T) (p : ℕ) (v : T) (x : Held T) → at_place s.table p ≡ x
       → ComesTo s (call.Replace p v) (replace p x v)
   comes_replace s p v (Writing g old) is = swaps p g v old is
-  comes_replace s p v x is = tells _ (λ b e. cc)
+  comes_replace s p v x is = tells _ refl
 
   -- what each call comes to
   pub comes_to : (s : SessionState T) (c : Call T) → ComesTo s c (ask s c)
@@ -389,10 +395,10 @@ module _ {T : Type 0} where
   comes_to s (call.PointTo a b) = comes_box (box_in s a) None _ (λ x.
       comes_box (box_in s b) None _ (λ y. asks (Action.Point x y) (λ a. beyond s.table)))
   comes_to s (call.PtrEq a b) = comes_box (box_in s a) None _
-      (λ x. comes_box (box_in s b) None _ (λ y. tells _ (λ b e. cc)))
-  comes_to s (call.Id b) = comes_box (box_in s b) None _ (λ b. tells _ (λ b e. cc))
-  comes_to s (call.RawPtr b) = comes_box (box_in s b) None _ (λ b. tells _ (λ b e. cc))
-  comes_to s (call.CreatedAt b) = comes_box (box_in s b) None _ (λ b. tells _ (λ b e. cc))
+      (λ x. comes_box (box_in s b) None _ (λ y. tells _ refl))
+  comes_to s (call.Id b) = comes_box (box_in s b) None _ (λ b. tells _ refl)
+  comes_to s (call.RawPtr b) = comes_box (box_in s b) None _ (λ b. tells _ refl)
+  comes_to s (call.CreatedAt b) = comes_box (box_in s b) None _ (λ b. tells _ refl)
 
   module _ (s r : SessionState T) (c : Call T) (x : SessionReply T) where
     -- each call of a session keeps what holds of every session
@@ -406,7 +412,7 @@ module _ {T : Type 0} where
             (subst (λ table. IsSoundSession (add_place (record { state = step.1; table = table })
             (gives step.0))) (sym it.1)
             (kept_after s action step.1 it.0 kept step.0 step.2 it.2))
-        at q (tells y no_box) step = subst IsSoundSession (sym step.1) (kept_told s kept)
+        at q (tells y own) step = subst IsSoundSession (sym step.1) (kept_told s kept)
         at q (swaps p g v old there) step = subst IsSoundSession
             (sym step.1) (kept_told (swap s p g v) (kept_swapped s p g v old kept there))
 

@@ -3,6 +3,7 @@ use Rattle.generational_core.specs.SoundSession.{IsSoundSession}
 use Rattle.generational_core.proofs.carrying.NumberedCalls.{call_answers}
 use Rattle.generational_core.proofs.sessions.SessionCalls.{tells_ends, gives_new_box, ends_owned, keep_boxes}
 use Rattle.generational_core.proofs.sessions.SessionCalls.{call_step}
+use Rattle.generational_core.proofs.sessions.Refusals.{refusals}
 use Rattle.generational_core.proofs.sessions.Sessions.{session_kept, session_ended, session_value}
 use Rattle.generational_core.proofs.session.Session.call.Goals as goal
 
@@ -17,6 +18,7 @@ returns g c =
     let before = subst IsSoundSession c.self.view_is c.self.invariant in
     let step = call_step _ _ _ _ _ c.args.call _ _ c.self.view_is
     (rw c.reserve.ensures.items at c.answer-reply.ensures.step) c.push_reserved.ensures.items in
+    let told = refusals _ _ c.args.call _ step in
     record {
       step = step;
       back = search rules;
@@ -26,6 +28,9 @@ returns g c =
       new_box = gives_new_box _ _ c.args.call _ step;
       keep_boxes = keep_boxes _ _ c.args.call _ step;
       ends_owned = ends_owned _ _ c.args.call _ before.sound step;
+      tells_lack = told.lack;
+      tells_exhaustion = told.exhaustion;
+      refusal_leaves_all = told.leaves_all;
       kept = session_kept _ _ c.args.call _ before step;
       bounded = (session_kept _ _ c.args.call _ before step).bounded.few;
       ended = λ n ended. session_ended _ _ c.args.call _ step n ended;
