@@ -32,7 +32,7 @@ ghost use Rattle.generational_box.specs.Slotted.{cell_at, change_entry};
 
 use crate::borrows::Borrows;
 use crate::entry::{CellName, EntryDetails, Kind, NO_INDEX, StorageEntry, StorageEntryData};
-use crate::pool::{more_room, reserve_room};
+use crate::room::{more_room, reserve_room};
 use crate::table::BorrowTable;
 use generational_core::parts::Borrow;
 use generational_core::{

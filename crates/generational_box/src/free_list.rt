@@ -6,7 +6,7 @@ ghost use Rattle.std.specs.FinSet as set;
 ghost use Rattle.generational_core.specs.declared.error.StoreError.TheVariants.{OutOfMemory};
 ghost use Rattle.generational_box.specs.Pools.{last_of, members_of};
 
-use crate::pool::more_room;
+use crate::room::more_room;
 use generational_core::StoreError;
 use std::alloc::Global;
 use std::marker::Model;

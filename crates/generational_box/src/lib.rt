@@ -22,6 +22,7 @@ mod indexes;
 mod owners;
 mod parts;
 mod pool;
+mod room;
 mod slots;
 mod table;
 mod unsync;

@@ -2,7 +2,7 @@
 
 ghost use Rattle.std.specs.Prelude.{◌≡◌, ℕ, ◌+◌, ◌<◌, ◌≤◌, ◌∷◌, ◌++◌, [], true, false, drop};
 ghost use Rattle.std.specs.Prelude.{slice_get, IfSome, IfNone, IfErr, OnOk, OnErr, vec_len};
-ghost use Rattle.std.specs.Prelude.{max, vec_capacity};
+ghost use Rattle.std.specs.Prelude.{vec_capacity};
 ghost use Rattle.std.specs.Ordering.{nat_cmp};
 ghost use Rattle.std.specs.FinSet as set;
 ghost use Rattle.generational_core.specs.declared.error.StoreError.TheVariants.{OutOfMemory};
@@ -11,9 +11,6 @@ use crate::free_list::FreeList;
 use generational_core::StoreError;
 use std::alloc::Global;
 use std::marker::Model;
-
-// So many slots aren't few any more.
-const MANY: usize = 2048;
 
 /// The numbers of the free slots, without repetition. Which of them `take` takes is the pool's own
 /// choice. The trait is implemented by this crate alone.
@@ -206,49 +203,6 @@ impl SlotPool for OldestFirst {
     fn free(&self) -> usize {
         self.list.count()
     }
-}
-
-// For how many slots room is made beside that for so many: seven times as many while they are few,
-// so that a slot is seldom moved, and then as many again.
-pub(crate) fn more_room(room: usize) -> usize
-    ensures some { 0 < result }
-    ensures most { result ≤ max room 14336 }
-{
-    if room == 0 {
-        return 4;
-    }
-    if room < MANY {
-        return room * 7;
-    }
-    room
-}
-
-// Makes a buffer large enough for this many in all. Want of memory changes nothing in it.
-pub(crate) fn reserve_room<X: Drop>(
-    items: &mut Vec<X>,
-    alloc: Global,
-    room: usize,
-) -> Result<(), StoreError>
-    ensures items { items.new.items ≡ items.old.items }
-    ensures ok { OnOk result (room ≤ vec_capacity items.new) }
-    ensures capacity { vec_capacity items.old ≤ vec_capacity items.new }
-    ensures cause { IfErr result (λ error. error ≡ OutOfMemory) }
-{
-    if room <= items.capacity() {
-        return Ok(());
-    }
-    // a buffer where nothing stands isn't copied
-    if items.is_empty() {
-        match Vec::with_capacity(alloc, room) {
-            Ok(larger) => *items = larger,
-            Err(_) => return Err(StoreError::OutOfMemory),
-        }
-        return Ok(());
-    }
-    if items.reserve(room - items.len()).is_err() {
-        return Err(StoreError::OutOfMemory);
-    }
-    Ok(())
 }
 
 // Makes room for one more slot, and for its number among the free ones. Want of memory changes no

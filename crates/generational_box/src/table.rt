@@ -13,7 +13,7 @@ ghost use Rattle.generational_box.specs.Table.{Releases};
 use crate::borrows::{Borrows, Removal};
 use crate::entry::NO_INDEX;
 use crate::indexes::FreeIndexes;
-use crate::pool::reserve_room;
+use crate::room::reserve_room;
 use generational_core::parts::Borrow;
 use generational_core::{Location, StoreError};
 use std::alloc::{AllocError, Global};
