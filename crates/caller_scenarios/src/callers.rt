@@ -7,6 +7,7 @@ use generational_box::{
 };
 use std::alloc::Global;
 use std::test::Fail;
+use uses::conditions::{exchange, read_free, set_and_read, set_value};
 use uses::kinds::{Entry, toggle};
 use uses::owned::end_owned;
 use uses::sessions::ask_for_ended;
@@ -24,6 +25,20 @@ fn value_by_itself<S: Storage<u64>>(store: &mut S) -> Option<(u64, (u64, u64))> 
     let written = written_value(store, made, 8, here())?;
     let replaced = replaced_value(store, made, 9, here())?;
     Some((written, replaced))
+}
+
+/// A value is set, read and exchanged under conditions; while a reader stands there, it is neither
+/// set nor exchanged.
+fn value_under_conditions<S: Storage<u64>>(store: &mut S) -> Option<([u64; 3], bool)> {
+    let made = GenerationalBox::leak(store, 3, here()).ok()?;
+    set_value(store, made, 4)?;
+    let set = set_and_read(store, made, 5, here())?;
+    let old = exchange(store, made, 6, here())?;
+    let guard = made.try_read(store, here()).ok()?;
+    let refused = set_value(store, made, 9).is_none() && exchange(store, made, 9, here()).is_none();
+    guard.release(store);
+    let seen = read_free(store, made, here())?;
+    Some(([set, old, seen], refused))
 }
 
 /// Whether an owner's value can be read after the owner's release.
@@ -80,6 +95,13 @@ fn values_are_there_and_back(rt: HostRuntime) -> Result<(), Fail> {
     assert_eq!(rt; there_and_back(rt.alloc(), 7), Some(7));
     let mut store = UnsyncStorage::new(rt.alloc(), 1);
     assert_eq!(rt; value_by_itself(&mut store), Some((8, (8, 9))));
+    Ok(())
+}
+
+#[test]
+fn values_under_conditions(rt: HostRuntime) -> Result<(), Fail> {
+    let mut store = UnsyncStorage::new(rt.alloc(), 1);
+    assert_eq!(rt; value_under_conditions(&mut store), Some(([5, 5, 6], true)));
     Ok(())
 }
 

@@ -56,11 +56,14 @@ ghost use Rattle.generational_core.specs.declared.error.Refusal.{Refusal};
 ghost use Rattle.generational_core.specs.declared.error.Refused.{Refused};
 ghost use Rattle.generational_core.specs.declared.error.StoreError.{StoreError};
 ghost use Rattle.generational_core.specs.Machine.Action.{Make, MakeShared, Refer, NewOwner, Read};
-ghost use Rattle.generational_core.specs.Machine.Action.{Write, ReleaseWriter, End, Point};
+ghost use Rattle.generational_core.specs.Machine.Action.{Write, ReleaseWriter, SetValue, End};
+ghost use Rattle.generational_core.specs.Machine.Action.{Point};
+ghost use Rattle.generational_core.specs.Machine.Answer.{Old};
 ghost use Rattle.generational_core.specs.Answers.{WriteGuard, value_behind, pointer_of};
 ghost use Rattle.generational_core.specs.Answers.{box_answer, reference_box_answer, read_answer};
 ghost use Rattle.generational_core.specs.Answers.{write_answer, back_answer, end_answer};
 ghost use Rattle.generational_core.specs.Answers.{owner_answer, release_answer};
+ghost use Rattle.generational_core.specs.Answers.{free_read_answer, free_write_answer};
 ghost use Rattle.generational_core.specs.Conditions.{one_listed};
 ghost use Rattle.std.specs.List.{AllByRecursion};
 
@@ -231,9 +234,11 @@ pub fn made_boxes_see_their_values<T>()
         OnOk r (reach R a ≡ reach S b) }
 {}
 
-/// A reader's guard opens the value that its box sees, and a writer's has it. A write changes
-/// nothing that boxes reach. When a writer's guard is released, each box that reaches its cell sees
-/// the guard's value.
+/// A reader's guard opens the value that its box sees, and a writer's has it, whether the borrow
+/// was asked for with a condition or without. A write changes nothing that boxes reach. When a
+/// writer's guard is released, each box that reaches its cell sees the guard's value. A value that
+/// is set gives back the one that its box saw. Nothing changes what boxes reach then, and each box
+/// that reaches the same sees the value that was handed in.
 pub fn guards_hold_what_boxes_see<T>()
     ensures opens { (S R : State T) (b : GenerationalPointer) (l : Location)
         (r : Result Guard (Refused BorrowError)) → Meets S (Read b l) (read_answer r) R →
@@ -246,6 +251,17 @@ pub fn guards_hold_what_boxes_see<T>()
         Meets S (Write b l) (write_answer r) R →
         IfOk r (λ w. (reach S b ≡ Some w.guard.cell) ×
         ((c : GenerationalPointer) → reach R c ≡ reach S c)) }
+    ensures opens_free { (S R : State T) (b : GenerationalPointer) (l : Location)
+        (r : Result Guard StoreError) → Meets S (Read b l) (free_read_answer r) R →
+        IfOk r (λ g. value_behind R g ≡ value_in S b) }
+    ensures lends_free { (S R : State T) (b : GenerationalPointer) (l : Location)
+        (r : Result (WriteGuard T) StoreError) → Meets S (Write b l) (free_write_answer r) R →
+        IfOk r (λ w. (reach S b ≡ Some w.guard.cell) × (value_in S b ≡ Some w.value)
+        × ((c : GenerationalPointer) → reach R c ≡ reach S c)) }
+    ensures sets { (S R : State T) (b : GenerationalPointer) (v old : T) →
+        Meets S (SetValue b v) (Old old) R →
+        (value_in S b ≡ Some old) × ((c : GenerationalPointer) → reach R c ≡ reach S c)
+        × ((c : GenerationalPointer) → reach S c ≡ reach S b → value_in R c ≡ Some v) }
     ensures puts_back { (S R : State T) (g : Guard) (v : T) (r : Result (Unit {0}) T) →
         Meets S (ReleaseWriter g v) (back_answer r) R →
         OnOk r ((b : GenerationalPointer) → reach S b ≡ Some g.cell → value_in R b ≡ Some v) }

@@ -2,6 +2,7 @@
 #![tactic(auto)]
 
 pub mod clones;
+pub mod conditions;
 pub mod kinds;
 pub mod owned;
 pub mod sessions;

@@ -9,16 +9,16 @@ use Rattle.std.specs.Prelude.{is_some, nat_eq, Result, Ok, Err, IfOk, OnOk, IsEr
 use Rattle.generational_core.specs.Answers.{value_at, value_behind, WriteGuard, pointer_of}
 use Rattle.generational_core.specs.Answers.{box_answer, reference_box_answer, read_answer}
 use Rattle.generational_core.specs.Answers.{write_answer, back_answer, end_answer, owner_answer}
-use Rattle.generational_core.specs.Answers.{release_answer}
+use Rattle.generational_core.specs.Answers.{release_answer, free_read_answer, free_write_answer}
 use Rattle.generational_core.specs.Borrowing.{Guard, reach, leads_to}
 use Rattle.generational_core.specs.Boxes.{name_of}
 use Rattle.generational_core.specs.Cells.{Cell}
 use Rattle.generational_core.specs.Conditions.{one_listed}
 use Rattle.generational_core.specs.Machine.{Action, Answer, OwnerName, ownership}
 use Rattle.generational_core.specs.Machine.Action.{Make, MakeShared, Refer, NewOwner, Read, Write}
-use Rattle.generational_core.specs.Machine.Action.{ReleaseWriter, End, Point}
+use Rattle.generational_core.specs.Machine.Action.{ReleaseWriter, SetValue, End, Point}
 use Rattle.generational_core.specs.Machine.Action.{ReleaseOwner}
-use Rattle.generational_core.specs.Machine.Answer.{Made, Reads, Writes, Done}
+use Rattle.generational_core.specs.Machine.Answer.{Made, Reads, Writes, Done, Old}
 use Rattle.generational_core.specs.Names.{Name, among}
 use Rattle.generational_core.specs.Seeing.{value_reached, value_in, LeavesBox, LeavesValue}
 use Rattle.generational_core.specs.State.{State, IsSound, Ownership}
@@ -158,6 +158,25 @@ module _ {T : Type 0} where
     lends_at b l (Ok w) m =
         let t = meets_tells S R (Write b l) (Writes w.guard w.value) m in (t.0, t.2)
     lends_at b l (Err e) m = tt
+
+    -- the same of a read and a write under their conditions
+    pub opens_free : (b : GenerationalPointer) (l : Location) (r : Result Guard StoreError)
+        → Meets S (Read b l) (free_read_answer r) R → IfOk r (λ g. value_behind R g ≡ value_in S b)
+    opens_free b l (Ok g) m = opens b l (Ok g) m
+    opens_free b l (Err e) m = tt
+
+    pub lends_free : (b : GenerationalPointer) (l : Location)
+        (r : Result (WriteGuard T) StoreError) → Meets S (Write b l) (free_write_answer r) R
+        → IfOk r (λ w. (reach S b ≡ Some w.guard.cell) × (value_in S b ≡ Some w.value)
+        × ((c : GenerationalPointer) → reach R c ≡ reach S c))
+    lends_free b l (Ok w) m = meets_tells S R (Write b l) (Writes w.guard w.value) m
+    lends_free b l (Err e) m = tt
+
+    -- what a set gives back, and who sees the new value
+    pub sets : (b : GenerationalPointer) (v old : T) → Meets S (SetValue b v) (Old old) R
+        → (value_in S b ≡ Some old) × ((c : GenerationalPointer) → reach R c ≡ reach S c)
+        × ((c : GenerationalPointer) → reach S c ≡ reach S b → value_in R c ≡ Some v)
+    sets b v old m = meets_tells S R (SetValue b v) (Old old) m
 
     pub puts_back : (g : Guard) (v : T) {U : Type 0} (r : Result U T)
         → Meets S (ReleaseWriter g v) (back_answer r) R

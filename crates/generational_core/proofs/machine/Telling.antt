@@ -22,8 +22,9 @@ use Rattle.generational_core.specs.Machine.{next_borrow}
 use Rattle.generational_core.specs.Conditions.{one_listed}
 use Rattle.generational_core.specs.Machine.{ownership}
 use Rattle.generational_core.specs.Machine.Action.{Make, MakeShared, Refer, NewOwner, Read, Write}
-use Rattle.generational_core.specs.Machine.Action.{ReleaseWriter, End, Point}
-use Rattle.generational_core.specs.Machine.Answer.{Made, Owned, Reads, Writes, Done, Troubled}
+use Rattle.generational_core.specs.Machine.{set_at}
+use Rattle.generational_core.specs.Machine.Action.{ReleaseWriter, SetValue, End, Point}
+use Rattle.generational_core.specs.Machine.Answer.{Made, Owned, Reads, Writes, Done, Old, Troubled}
 use Rattle.generational_core.specs.Names.{Name, NameMap, among, is_name, change}
 use Rattle.generational_core.specs.Seeing.{value_in}
 use Rattle.generational_core.specs.State.{State, IsSound, Ownership, content_at}
@@ -65,6 +66,9 @@ module _ {T : Type 0} where
       × ((c : GenerationalPointer) → reach R c ≡ reach S c)
   Tells S (ReleaseWriter g v) Done R =
       (b : GenerationalPointer) → reach S b ≡ Some g.cell → value_in R b ≡ Some v
+  Tells S (SetValue b v) (Old old) R =
+      (value_in S b ≡ Some old) × ((c : GenerationalPointer) → reach R c ≡ reach S c)
+      × ((c : GenerationalPointer) → reach S c ≡ reach S b → value_in R c ≡ Some v)
   Tells S (End b) Done R = reach R b ≡ None
   Tells S (Point a b) Done R = reach R a ≡ reach S b
   Tells S _ _ R = Unit {0}
@@ -200,6 +204,19 @@ module _ {T : Type 0} where
       ∙ ap value_of (filled_content S g.cell (Here v []) k had)
   written_told S g v None had known = absurd (true≢false (sym known))
 
+  set_told : (S : State T) (b : GenerationalPointer) (v : T) (m : Option Name)
+      (c : Option (Content T)) → reach S b ≡ m → content_of (cell_at S m) ≡ c
+      → TellsOf S (SetValue b v) (set_at S b v m c)
+  set_told S b v None c to had = tt
+  set_told S b v (Some m) (Some (Here old [])) to had =
+      let stays = filled_reach S m (Here v []) in (
+        value_in_reached S b m to ∙ ap value_of had,
+        stays,
+        λ c same. value_in_reached (fill S m (Here v [])) c m (stays c ∙ (same ∙ to))
+            ∙ ap value_of (filled_content S m (Here v []) (Here old []) had),
+      )
+  set_told S b v (Some m) _ to had = tt
+
   -- ---- ends, and references that turn
 
   -- a cell that isn't kept in an end is gone
@@ -274,6 +291,7 @@ module _ {T : Type 0} where
       (write_told S b l (reach S b) _ refl refl)
   act_tells S (ReleaseWriter g v) f new = by_cond (TellsOf S (ReleaseWriter g v)) (knows_writer S g)
       (λ known. written_told S g v _ refl (and_parts _ _ known).1) (λ _. tt)
+  act_tells S (SetValue b v) f new = set_told S b v (reach S b) _ refl refl
   act_tells S (End b) f new = unless_told S (End b) (hindrance_to S (own_name S b)) _ (λ t. tt)
       (ended_told S b)
   act_tells S (Point a b) f new = by_cond (TellsOf S (Point a b)) (has_same_id a b)
@@ -291,6 +309,7 @@ module _ {T : Type 0} where
   refused_tells S R (Read b l) (Reads g) h = absurd (true≢false (sym h))
   refused_tells S R (Write b l) (Writes g v) h = absurd (true≢false (sym h))
   refused_tells S R (ReleaseWriter g v) Done h = absurd (true≢false (sym h))
+  refused_tells S R (SetValue b v) (Old old) h = absurd (true≢false (sym h))
   refused_tells S R (End b) Done h = absurd (true≢false (sym h))
   refused_tells S R (Point a b) Done h = absurd (true≢false (sym h))
   refused_tells S R _ _ h = tt
