@@ -9,5 +9,6 @@ pub mod sessions;
 pub mod shared;
 pub mod slots;
 pub mod soundness;
+pub mod table;
 pub mod values;
 pub mod writing;

@@ -5,12 +5,12 @@ use Rattle.std.specs.FinSet as set
 use Rattle.std.proofs.Common.{◌≡◌, ◌≢◌, ◌≤◌, Bool, true, false, cond, Option, None, Some, refl, sym}
 use Rattle.std.proofs.Common.{ap, ◌∙◌, []}
 use Rattle.std.proofs.lemmas.Bool.{true≢false}
-use Rattle.std.specs.Prelude.{is_some, nat_eq, Result, Ok, Err, IfOk, OnOk, IsErr}
+use Rattle.std.specs.Prelude.{◌+◌, is_some, nat_eq, Result, Ok, Err, IfOk, OnOk, IsOk, IsErr}
 use Rattle.generational_core.specs.Answers.{value_at, value_behind, WriteGuard, pointer_of}
 use Rattle.generational_core.specs.Answers.{box_answer, reference_box_answer, read_answer}
 use Rattle.generational_core.specs.Answers.{write_answer, back_answer, end_answer, owner_answer}
 use Rattle.generational_core.specs.Answers.{release_answer, free_read_answer, free_write_answer}
-use Rattle.generational_core.specs.Borrowing.{Guard, reach, leads_to}
+use Rattle.generational_core.specs.Borrowing.{Guard, reach, leads_to, can_write}
 use Rattle.generational_core.specs.Boxes.{name_of}
 use Rattle.generational_core.specs.Cells.{Cell}
 use Rattle.generational_core.specs.Conditions.{one_listed}
@@ -18,9 +18,11 @@ use Rattle.generational_core.specs.Machine.{Action, Answer, OwnerName, ownership
 use Rattle.generational_core.specs.Machine.Action.{Make, MakeShared, Refer, NewOwner, Read, Write}
 use Rattle.generational_core.specs.Machine.Action.{ReleaseWriter, SetValue, End, Point}
 use Rattle.generational_core.specs.Machine.Action.{ReleaseOwner}
-use Rattle.generational_core.specs.Machine.Answer.{Made, Reads, Writes, Done, Old}
+use Rattle.generational_core.specs.Machine.Action.{ReleaseReader}
+use Rattle.generational_core.specs.Machine.Answer.{Made, Reads, Writes, Done, Old, Flag}
 use Rattle.generational_core.specs.Names.{Name, among}
 use Rattle.generational_core.specs.Seeing.{value_reached, value_in, LeavesBox, LeavesValue}
+use Rattle.generational_core.specs.Seeing.{LeavesUnborrowed}
 use Rattle.generational_core.specs.State.{State, IsSound, Ownership}
 use Rattle.generational_core.specs.Steps.{Meets}
 use Rattle.generational_core.specs.declared.boxes.GenerationalBox.{GenerationalBox}
@@ -30,6 +32,7 @@ use Rattle.generational_core.specs.declared.error.BorrowMutError.{BorrowMutError
 use Rattle.generational_core.specs.declared.error.Location.{Location}
 use Rattle.generational_core.specs.declared.error.Refusal.{Refusal}
 use Rattle.generational_core.specs.declared.error.Refused.{Refused}
+use Rattle.generational_core.specs.declared.error.Refused.TheVariants as refused
 use Rattle.generational_core.specs.declared.error.StoreError.{StoreError}
 use Rattle.std.specs.List.{AllByRecursion}
 use Rattle.std.proofs.Common.{List, ◌++◌, ◌||◌, ◌∷◌}
@@ -40,6 +43,7 @@ use Rattle.generational_core.proofs.machine.Changes.{held_record}
 use Rattle.generational_core.proofs.maps.Maps.{name_apart, name_here}
 use Rattle.generational_core.proofs.machine.Ends.{none≢some, some_live}
 use Rattle.generational_core.proofs.machine.Releasing.{last_cells}
+use Rattle.generational_core.proofs.machine.Resting.{free_stays, free_ends, read_released}
 use Rattle.generational_core.proofs.machine.Seeing.{reaches, reach_stays, value_stays}
 use Rattle.generational_core.proofs.machine.Stepping.{made_new, reads_known}
 use Rattle.generational_core.proofs.machine.Telling.{meets_tells, ended_leads}
@@ -183,6 +187,39 @@ module _ {T : Type 0} where
         → OnOk r ((b : GenerationalPointer) → reach S b ≡ Some g.cell → value_in R b ≡ Some v)
     puts_back g v (Ok u) m = meets_tells S R (ReleaseWriter g v) Done m
     puts_back g v (Err w) m = tt
+
+    -- ---- values at which no borrow stands
+
+    pub made_free : (o : Option OwnerName) (v : T) (l : Location)
+        (r : Result (GenerationalBox T) (Refusal T)) → Meets S (Make o v l) (box_answer r) R
+        → IfOk r (λ b. can_write R (pointer_of b) ≡ true)
+    made_free o v l (Ok b) m = (meets_tells S R (Make o v l) (Made (pointer_of b)) m).3
+    made_free o v l (Err e) m = tt
+
+    pub made_shared_free : (o : Option OwnerName) (v : T) (l : Location)
+        (r : Result (GenerationalBox T) (Refusal T)) → Meets S (MakeShared o v l) (box_answer r) R
+        → IfOk r (λ b. can_write R (pointer_of b) ≡ true)
+    made_shared_free o v l (Ok b) m =
+        (meets_tells S R (MakeShared o v l) (Made (pointer_of b)) m).2
+    made_shared_free o v l (Err e) m = tt
+
+    pub keeps_free : (call : Action T) (answer : Answer T) → IsSound S → Meets S call answer R
+        → (b : GenerationalPointer) → LeavesUnborrowed S call b
+        → can_write S b ≡ true → can_write R b ≡ true
+    keeps_free call answer s m b = free_stays S R call answer b s m
+
+    pub ends_free : (b : GenerationalPointer) {U : Type 0} (r : Result U (Refused BorrowMutError))
+        → Meets S (End b) (end_answer r) R → can_write S b ≡ true → IsOk r
+    ends_free b (Ok u) m free = refl
+    ends_free b (Err (refused.Borrow e)) m free =
+        let done = free_ends S R b _ free m in absurd cc
+    ends_free b (Err (refused.Store e)) m free =
+        let done = free_ends S R b _ free m in absurd cc
+
+    pub reads_back : {Q : State T} (b : GenerationalPointer) (l : Location) (g : Guard)
+        (flag : Bool) → IsSound S → Meets S (Read b l) (Reads g) R
+        → Meets R (ReleaseReader g) (Flag flag) Q → Q ≡ record S { next = S.next + 1 }
+    reads_back {Q} b l g flag = read_released S R Q b l g flag
 
     -- ---- ends
 

@@ -8,7 +8,7 @@ use Rattle.std.specs.Cmp.{nat_eq_equiv}
 use Rattle.std.specs.Prelude.{is_some, nat_eq, ◌⊎◌}
 use Rattle.generational_core.specs.Answers.{value_at, value_of}
 use Rattle.generational_core.specs.Borrowing.{Guard, Trouble, reach, leads_to, fill, read_trouble}
-use Rattle.generational_core.specs.Borrowing.{write_trouble}
+use Rattle.generational_core.specs.Borrowing.{write_trouble, write_refusal, can_write}
 use Rattle.generational_core.specs.Boxes.{name_of, box_of, has_same_id}
 use Rattle.generational_core.specs.Cells.{Content, Cell, content_of, is_shared, refill}
 use Rattle.generational_core.specs.Cells.Cell.{Value, Shared, Ref}
@@ -39,6 +39,7 @@ use Rattle.generational_core.proofs.machine.Changes.{filled_content, AreFresh, n
 use Rattle.generational_core.proofs.machine.Ends.{by_cond, none≢some, swept_view, swept_ref}
 use Rattle.generational_core.proofs.machine.Ends.{without_view}
 use Rattle.generational_core.proofs.machine.Releasing.{box_ends}
+use Rattle.generational_core.proofs.machine.Resting.{rests_free}
 use Rattle.generational_core.proofs.machine.Seeing.{reach_by, value_in_reached}
 use Rattle.generational_core.proofs.machine.Seeing.{refilled_leads}
 use Rattle.generational_core.proofs.machine.Stepping.{meets_cases, is_refusal}
@@ -55,7 +56,9 @@ module _ {T : Type 0} where
   abbrev pub Tells : State T → Action T → Answer T → State T → Type 0
   Tells S (Make o v l) (Made b) R =
       (reach R b ≡ Some (name_of b)) × (value_in R b ≡ Some v) × Lists S o (name_of b) R
-  Tells S (MakeShared o v l) (Made b) R = (value_in R b ≡ Some v) × Lists S o (name_of b) R
+      × (can_write R b ≡ true)
+  Tells S (MakeShared o v l) (Made b) R =
+      (value_in R b ≡ Some v) × Lists S o (name_of b) R × (can_write R b ≡ true)
   Tells S (Refer o c) (Made b) R =
       (reach R b ≡ reach S c) × (IsSound S → value_in R b ≡ value_in S c)
       × Lists S o (name_of b) R × (is_some (reach S c) ≡ true)
@@ -94,9 +97,10 @@ module _ {T : Type 0} where
   listed : (S : State T) (o : Option OwnerName) (n : Name) (b : GenerationalPointer)
       → (reach (add_to_list S o n) b ≡ reach S b)
       × (value_in (add_to_list S o n) b ≡ value_in S b)
-  unfolding value_in reach
-  listed S None n b = (refl, refl)
-  listed S (Some o) n b = (refl, refl)
+      × (can_write (add_to_list S o n) b ≡ can_write S b)
+  unfolding value_in reach write_trouble
+  listed S None n b = (refl, refl, refl)
+  listed S (Some o) n b = (refl, refl, refl)
 
   in_list : (S : State T) (o : Option OwnerName) (n : Name) → Lists S o n (add_to_list S o n)
   in_list S None n a h is held = absurd cc
@@ -123,11 +127,12 @@ module _ {T : Type 0} where
       let b = box_of S.number n l in
       let Q = add_cell S n c in
       let list = listed Q o n b in
-      let to = added_reach S n c l in (
+      let to = added_reach S n c l in
+      let there = ap content_of (get-insert_here by_name S.cells n c) in (
         list.0 ∙ to,
-        list.1 ∙ (value_in_reached Q b n to
-            ∙ ap (λ x. value_of (content_of x)) (get-insert_here by_name S.cells n c)),
+        list.1 ∙ (value_in_reached Q b n to ∙ ap value_of there),
         in_list Q o n,
+        list.2 ∙ rests_free Q b n (record { reaches = to; free = ap write_refusal there }),
       )
 
   shared_told : (S : State T) (o : Option OwnerName) (v : T) (l : Location) (m n : Name) → m ≢ n
@@ -137,11 +142,14 @@ module _ {T : Type 0} where
       let c : Cell T = Shared (Here v []) l in
       let one = add_cell S m c in
       let Q = add_cell one n (Ref m l) in
-      let b = box_of S.number n l in (
-        (listed Q o n b).1 ∙ (value_in_reached Q b m (added_reach one n (Ref m l) l)
-            ∙ ap (λ x. value_of (content_of x)) (get-insert_apart by_name one.cells n (Ref m l) m apart
-            ∙ get-insert_here by_name S.cells m c)),
+      let b = box_of S.number n l in
+      let list = listed Q o n b in
+      let to = added_reach one n (Ref m l) l in
+      let there = ap content_of (get-insert_apart by_name one.cells n (Ref m l) m apart
+      ∙ get-insert_here by_name S.cells m c) in (
+        list.1 ∙ (value_in_reached Q b m to ∙ ap value_of there),
         in_list Q o n,
+        list.2 ∙ rests_free Q b m (record { reaches = to; free = ap write_refusal there }),
       )
 
   referred_told : (S : State T) (o : Option OwnerName) (b : GenerationalPointer) (n : Name)
