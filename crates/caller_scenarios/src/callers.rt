@@ -3,14 +3,17 @@
 ghost use Rattle.generational_core.specs.Conditions.{IsFresh};
 
 use generational_box::{
-    BoxAt, Call, GenerationalBox, Location, Reply, Session, Storage, UnsyncStorage,
+    BoxAt, Call, GenerationalBox, LastFirst, Location, OldestFirst, Reply, Session, Storage, Store,
+    UnsyncStorage,
 };
 use std::alloc::Global;
 use std::test::Fail;
+use uses::conditions::{exchange, read_free, set_and_read, set_value};
 use uses::kinds::{Entry, toggle};
 use uses::owned::end_owned;
 use uses::sessions::{ask_for_ended, carries_out};
 use uses::shared::{outlived, written_through};
+use uses::table::Table;
 use uses::values::{read_value, replaced_value, there_and_back, write_value, written_value};
 
 fn here() -> Location {
@@ -26,6 +29,20 @@ fn value_by_itself<S: Storage<u64>>(store: &mut S) -> Option<(u64, (u64, u64))> 
     Some((written, replaced))
 }
 
+/// A value is set, read and exchanged under conditions; while a reader stands there, it is neither
+/// set nor exchanged.
+fn value_under_conditions<S: Storage<u64>>(store: &mut S) -> Option<([u64; 3], bool)> {
+    let made = GenerationalBox::leak(store, 3, here()).ok()?;
+    set_value(store, made, 4)?;
+    let set = set_and_read(store, made, 5, here())?;
+    let old = exchange(store, made, 6, here())?;
+    let guard = made.try_read(store, here()).ok()?;
+    let refused = set_value(store, made, 9).is_none() && exchange(store, made, 9, here()).is_none();
+    guard.release(store);
+    let seen = read_free(store, made, here())?;
+    Some(([set, old, seen], refused))
+}
+
 /// Whether an owner's value can be read after the owner's release.
 fn owned_value<S: Storage<u64>>(store: &mut S) -> Option<Option<u64>> {
     let ended = end_owned(store, 4, here())?;
@@ -37,6 +54,23 @@ fn shared_values<S: Storage<u64>>(store: &mut S) -> Option<(u64, u64)> {
     let written = written_through(store, 1, 2, here())?;
     let kept = outlived(store, 5, here())?;
     Some((written, kept))
+}
+
+/// What three rows show, and one that was never given, after the middle one was removed twice.
+fn rows_of_table<S: Storage<u64> + Drop>(alloc: Global, store: S) -> Option<[Option<u64>; 4]> {
+    let mut table = Table::new(alloc, store);
+    let first = table.insert(3, here()).ok()?;
+    let second = table.insert(4, here()).ok()?;
+    let removed = table.remove(second);
+    let third = table.insert(5, here()).ok()?;
+    if !removed || table.remove(second) {
+        return None;
+    }
+    let shown = table.get(first, here()).ok()?;
+    let empty = table.get(second, here()).ok()?;
+    let last = table.get(third, here()).ok()?;
+    let past = table.get(9, here()).ok()?;
+    Some([shown, empty, last, past])
 }
 
 /// Whether a flag that was off is on after it was turned.
@@ -92,6 +126,23 @@ fn values_are_there_and_back(rt: HostRuntime) -> Result<(), Fail> {
     assert_eq!(rt; there_and_back(rt.alloc(), 7), Some(7));
     let mut store = UnsyncStorage::new(rt.alloc(), 1);
     assert_eq!(rt; value_by_itself(&mut store), Some((8, (8, 9))));
+    Ok(())
+}
+
+#[test]
+fn values_under_conditions(rt: HostRuntime) -> Result<(), Fail> {
+    let mut store = UnsyncStorage::new(rt.alloc(), 1);
+    assert_eq!(rt; value_under_conditions(&mut store), Some(([5, 5, 6], true)));
+    Ok(())
+}
+
+#[test]
+fn tables_over_both_pools(rt: HostRuntime) -> Result<(), Fail> {
+    let rows = Some([Some(3), None, Some(5), None]);
+    let last: Store<u64, LastFirst> = Store::new(rt.alloc(), 1);
+    assert_eq!(rt; rows_of_table(rt.alloc(), last), rows);
+    let oldest: Store<u64, OldestFirst> = Store::new(rt.alloc(), 1);
+    assert_eq!(rt; rows_of_table(rt.alloc(), oldest), rows);
     Ok(())
 }
 

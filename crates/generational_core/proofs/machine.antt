@@ -7,6 +7,7 @@ pub mod Ends
 pub mod Granting
 pub mod Linking
 pub mod Releasing
+pub mod Resting
 pub mod Seeing
 pub mod Soundness
 pub mod Stepping

@@ -6,7 +6,8 @@ use Rattle.generational_core.specs.State.{State}
 use Rattle.generational_core.specs.Boxes.{name_of}
 use Rattle.generational_core.specs.Borrowing.{reach}
 use Rattle.generational_core.specs.Machine.{Action, own_name}
-use Rattle.generational_core.specs.Machine.Action.{ReleaseOwner, Write, ReleaseWriter, SetValue}
+use Rattle.generational_core.specs.Machine.Action.{ReleaseOwner, Read, Write, ReleaseWriter}
+use Rattle.generational_core.specs.Machine.Action.{SetValue}
 use Rattle.generational_core.specs.Machine.Action.{End, Point}
 use Rattle.generational_core.specs.Conditions.{names_under}
 use Rattle.generational_core.specs.Answers.{value_at}
@@ -37,6 +38,12 @@ module _ {T : Type 0} where
   Lends S (ReleaseWriter g v) m = g.cell ≡ m
   Lends S _ m = ⊥
 
+  -- a call asks for a borrow of the value at a name
+  abbrev pub Borrows : State T → Action T → Name → Type 0
+  Borrows S (Read b l) m = reach S b ≡ Some m
+  Borrows S (Write b l) m = reach S b ≡ Some m
+  Borrows S _ m = ⊥
+
   -- a call lets a box reach what it reaches: it neither ends the box nor points it elsewhere
   abbrev pub LeavesBox : State T → Action T → GenerationalPointer → Type 0
   LeavesBox S (End a) b = name_of a ≢ name_of b
@@ -51,3 +58,9 @@ module _ {T : Type 0} where
   LeavesValue S (ReleaseWriter g v) b = reach S b ≢ Some g.cell
   LeavesValue S (SetValue a v) b = reach S a ≢ reach S b
   LeavesValue S call b = LeavesBox S call b
+
+  -- a call begins no borrow of what a box reaches, and lets the box reach it
+  abbrev pub LeavesUnborrowed : State T → Action T → GenerationalPointer → Type 0
+  LeavesUnborrowed S (Read a l) b = reach S a ≢ reach S b
+  LeavesUnborrowed S (Write a l) b = reach S a ≢ reach S b
+  LeavesUnborrowed S call b = LeavesBox S call b

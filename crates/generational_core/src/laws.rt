@@ -15,6 +15,7 @@ ghost use Rattle.generational_core.specs.Conditions.{IsLive, IsEnded, IsNamed};
 ghost use Rattle.generational_core.specs.Conditions.{fresh};
 ghost use Rattle.generational_core.specs.Boxes.{name_of, has_same_id};
 ghost use Rattle.generational_core.specs.Borrowing.{reach, read_trouble, write_trouble};
+ghost use Rattle.generational_core.specs.Borrowing.{can_read, can_write};
 ghost use Rattle.generational_core.specs.Borrowing.Trouble.{Dropped};
 ghost use Rattle.generational_core.specs.Machine.{Action, Answer, Fresh, OwnerName, act, ownership};
 ghost use Rattle.generational_core.specs.Machine.{is_known};
@@ -36,6 +37,7 @@ ghost use Rattle.generational_core.specs.Keeping.{Sets, IsUnwritten, IsUndisturb
 ghost use Rattle.generational_core.specs.Answers.{value_at};
 ghost use Rattle.generational_core.specs.Keeping.{location_at};
 ghost use Rattle.generational_core.specs.Seeing.{value_in, LeavesBox, LeavesValue};
+ghost use Rattle.generational_core.specs.Seeing.{LeavesUnborrowed};
 ghost use Rattle.generational_core.specs.Numbered.{Matches, AnswersAs, empty_session, erase};
 ghost use Rattle.generational_core.specs.Numbered.{refusal_in};
 ghost use Rattle.generational_core.specs.History.{plain, plain_call, plain_answer};
@@ -48,7 +50,7 @@ ghost use Rattle.generational_core.specs.Machine.Answer.{Made, Reads, Writes};
 ghost use Rattle.generational_core.specs.State.{IsGiven};
 ghost use Rattle.generational_core.specs.StepCalls.{is_ready};
 ghost use Rattle.generational_core.specs.StepCalls.{recorded_as, is_hindered};
-ghost use Rattle.std.specs.Prelude.{Option, Result, IfOk, OnOk, IsErr, ◌++◌};
+ghost use Rattle.std.specs.Prelude.{Bool, Option, Result, IfOk, OnOk, IsOk, IsErr, ◌++◌};
 ghost use Rattle.generational_core.specs.declared.boxes.GenerationalBox.{GenerationalBox};
 ghost use Rattle.generational_core.specs.declared.error.BorrowError.{BorrowError};
 ghost use Rattle.generational_core.specs.declared.error.BorrowMutError.{BorrowMutError};
@@ -56,11 +58,15 @@ ghost use Rattle.generational_core.specs.declared.error.Refusal.{Refusal};
 ghost use Rattle.generational_core.specs.declared.error.Refused.{Refused};
 ghost use Rattle.generational_core.specs.declared.error.StoreError.{StoreError};
 ghost use Rattle.generational_core.specs.Machine.Action.{Make, MakeShared, Refer, NewOwner, Read};
-ghost use Rattle.generational_core.specs.Machine.Action.{Write, ReleaseWriter, End, Point};
+ghost use Rattle.generational_core.specs.Machine.Action.{Write, ReleaseWriter, SetValue, End};
+ghost use Rattle.generational_core.specs.Machine.Action.{Point};
+ghost use Rattle.generational_core.specs.Machine.Action.{ReleaseReader};
+ghost use Rattle.generational_core.specs.Machine.Answer.{Old, Flag};
 ghost use Rattle.generational_core.specs.Answers.{WriteGuard, value_behind, pointer_of};
 ghost use Rattle.generational_core.specs.Answers.{box_answer, reference_box_answer, read_answer};
 ghost use Rattle.generational_core.specs.Answers.{write_answer, back_answer, end_answer};
 ghost use Rattle.generational_core.specs.Answers.{owner_answer, release_answer};
+ghost use Rattle.generational_core.specs.Answers.{free_read_answer, free_write_answer};
 ghost use Rattle.generational_core.specs.Conditions.{one_listed};
 ghost use Rattle.std.specs.List.{AllByRecursion};
 
@@ -231,9 +237,11 @@ pub fn made_boxes_see_their_values<T>()
         OnOk r (reach R a ≡ reach S b) }
 {}
 
-/// A reader's guard opens the value that its box sees, and a writer's has it. A write changes
-/// nothing that boxes reach. When a writer's guard is released, each box that reaches its cell sees
-/// the guard's value.
+/// A reader's guard opens the value that its box sees, and a writer's has it, whether the borrow
+/// was asked for with a condition or without. A write changes nothing that boxes reach. When a
+/// writer's guard is released, each box that reaches its cell sees the guard's value. A value that
+/// is set gives back the one that its box saw. Nothing changes what boxes reach then, and each box
+/// that reaches the same sees the value that was handed in.
 pub fn guards_hold_what_boxes_see<T>()
     ensures opens { (S R : State T) (b : GenerationalPointer) (l : Location)
         (r : Result Guard (Refused BorrowError)) → Meets S (Read b l) (read_answer r) R →
@@ -246,9 +254,46 @@ pub fn guards_hold_what_boxes_see<T>()
         Meets S (Write b l) (write_answer r) R →
         IfOk r (λ w. (reach S b ≡ Some w.guard.cell) ×
         ((c : GenerationalPointer) → reach R c ≡ reach S c)) }
+    ensures opens_free { (S R : State T) (b : GenerationalPointer) (l : Location)
+        (r : Result Guard StoreError) → Meets S (Read b l) (free_read_answer r) R →
+        IfOk r (λ g. value_behind R g ≡ value_in S b) }
+    ensures lends_free { (S R : State T) (b : GenerationalPointer) (l : Location)
+        (r : Result (WriteGuard T) StoreError) → Meets S (Write b l) (free_write_answer r) R →
+        IfOk r (λ w. (reach S b ≡ Some w.guard.cell) × (value_in S b ≡ Some w.value)
+        × ((c : GenerationalPointer) → reach R c ≡ reach S c)) }
+    ensures sets { (S R : State T) (b : GenerationalPointer) (v old : T) →
+        Meets S (SetValue b v) (Old old) R →
+        (value_in S b ≡ Some old) × ((c : GenerationalPointer) → reach R c ≡ reach S c)
+        × ((c : GenerationalPointer) → reach S c ≡ reach S b → value_in R c ≡ Some v) }
     ensures puts_back { (S R : State T) (g : Guard) (v : T) (r : Result (Unit {0}) T) →
         Meets S (ReleaseWriter g v) (back_answer r) R →
         OnOk r ((b : GenerationalPointer) → reach S b ≡ Some g.cell → value_in R b ≡ Some v) }
+{}
+
+/// A box that may be written reaches a value at which no borrow stands. It sees that value, and may
+/// be read; its end is never refused. So it is of each box that a making gives, and it stays so,
+/// unless a call ends the box, points it elsewhere, or begins a borrow of what it reaches
+/// (`LeavesUnborrowed`). A read that was released leaves the state as it was, but for a ticket.
+pub fn unborrowed_boxes_are_free<T>()
+    ensures made { (S R : State T) (o : Option OwnerName) (v : T) (l : Location)
+        (r : Result (GenerationalBox T) (Refusal T)) → Meets S (Make o v l) (box_answer r) R →
+        IfOk r (λ b. can_write R (pointer_of b) ≡ true) }
+    ensures made_shared { (S R : State T) (o : Option OwnerName) (v : T) (l : Location)
+        (r : Result (GenerationalBox T) (Refusal T)) → Meets S (MakeShared o v l) (box_answer r) R →
+        IfOk r (λ b. can_write R (pointer_of b) ≡ true) }
+    ensures sees { (S : State T) (b : GenerationalPointer) →
+        IsSound S → can_write S b ≡ true → (v : T) × (value_in S b ≡ Some v) }
+    ensures reads { (S : State T) (b : GenerationalPointer) →
+        can_write S b ≡ true → can_read S b ≡ true }
+    ensures ends { (S R : State T) (b : GenerationalPointer)
+        (r : Result (Unit {0}) (Refused BorrowMutError)) → Meets S (End b) (end_answer r) R →
+        can_write S b ≡ true → IsOk r }
+    ensures stays { (S R : State T) (call : Action T) (answer : Answer T) →
+        IsSound S → Meets S call answer R → (b : GenerationalPointer) →
+        LeavesUnborrowed S call b → can_write S b ≡ true → can_write R b ≡ true }
+    ensures released { (S R Q : State T) (b : GenerationalPointer) (l : Location) (g : Guard)
+        (known : Bool) → IsSound S → Meets S (Read b l) (Reads g) R →
+        Meets R (ReleaseReader g) (Flag known) Q → Q ≡ record S { next = S.next + 1 } }
 {}
 
 /// A box that was ended reaches nothing, and so do the boxes of an owner's list after its last

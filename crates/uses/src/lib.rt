@@ -2,11 +2,13 @@
 #![tactic(auto)]
 
 pub mod clones;
+pub mod conditions;
 pub mod kinds;
 pub mod owned;
 pub mod sessions;
 pub mod shared;
 pub mod slots;
 pub mod soundness;
+pub mod table;
 pub mod values;
 pub mod writing;

@@ -5,22 +5,24 @@ use Rattle.std.specs.FinSet as set
 use Rattle.std.proofs.Common.{◌≡◌, ◌≢◌, ◌≤◌, Bool, true, false, cond, Option, None, Some, refl, sym}
 use Rattle.std.proofs.Common.{ap, ◌∙◌, []}
 use Rattle.std.proofs.lemmas.Bool.{true≢false}
-use Rattle.std.specs.Prelude.{is_some, nat_eq, Result, Ok, Err, IfOk, OnOk, IsErr}
+use Rattle.std.specs.Prelude.{◌+◌, is_some, nat_eq, Result, Ok, Err, IfOk, OnOk, IsOk, IsErr}
 use Rattle.generational_core.specs.Answers.{value_at, value_behind, WriteGuard, pointer_of}
 use Rattle.generational_core.specs.Answers.{box_answer, reference_box_answer, read_answer}
 use Rattle.generational_core.specs.Answers.{write_answer, back_answer, end_answer, owner_answer}
-use Rattle.generational_core.specs.Answers.{release_answer}
-use Rattle.generational_core.specs.Borrowing.{Guard, reach, leads_to}
+use Rattle.generational_core.specs.Answers.{release_answer, free_read_answer, free_write_answer}
+use Rattle.generational_core.specs.Borrowing.{Guard, reach, leads_to, can_write}
 use Rattle.generational_core.specs.Boxes.{name_of}
 use Rattle.generational_core.specs.Cells.{Cell}
 use Rattle.generational_core.specs.Conditions.{one_listed}
 use Rattle.generational_core.specs.Machine.{Action, Answer, OwnerName, ownership}
 use Rattle.generational_core.specs.Machine.Action.{Make, MakeShared, Refer, NewOwner, Read, Write}
-use Rattle.generational_core.specs.Machine.Action.{ReleaseWriter, End, Point}
+use Rattle.generational_core.specs.Machine.Action.{ReleaseWriter, SetValue, End, Point}
 use Rattle.generational_core.specs.Machine.Action.{ReleaseOwner}
-use Rattle.generational_core.specs.Machine.Answer.{Made, Reads, Writes, Done}
+use Rattle.generational_core.specs.Machine.Action.{ReleaseReader}
+use Rattle.generational_core.specs.Machine.Answer.{Made, Reads, Writes, Done, Old, Flag}
 use Rattle.generational_core.specs.Names.{Name, among}
 use Rattle.generational_core.specs.Seeing.{value_reached, value_in, LeavesBox, LeavesValue}
+use Rattle.generational_core.specs.Seeing.{LeavesUnborrowed}
 use Rattle.generational_core.specs.State.{State, IsSound, Ownership}
 use Rattle.generational_core.specs.Steps.{Meets}
 use Rattle.generational_core.specs.declared.boxes.GenerationalBox.{GenerationalBox}
@@ -30,6 +32,7 @@ use Rattle.generational_core.specs.declared.error.BorrowMutError.{BorrowMutError
 use Rattle.generational_core.specs.declared.error.Location.{Location}
 use Rattle.generational_core.specs.declared.error.Refusal.{Refusal}
 use Rattle.generational_core.specs.declared.error.Refused.{Refused}
+use Rattle.generational_core.specs.declared.error.Refused.TheVariants as refused
 use Rattle.generational_core.specs.declared.error.StoreError.{StoreError}
 use Rattle.std.specs.List.{AllByRecursion}
 use Rattle.std.proofs.Common.{List, ◌++◌, ◌||◌, ◌∷◌}
@@ -40,6 +43,7 @@ use Rattle.generational_core.proofs.machine.Changes.{held_record}
 use Rattle.generational_core.proofs.maps.Maps.{name_apart, name_here}
 use Rattle.generational_core.proofs.machine.Ends.{none≢some, some_live}
 use Rattle.generational_core.proofs.machine.Releasing.{last_cells}
+use Rattle.generational_core.proofs.machine.Resting.{free_stays, free_ends, read_released}
 use Rattle.generational_core.proofs.machine.Seeing.{reaches, reach_stays, value_stays}
 use Rattle.generational_core.proofs.machine.Stepping.{made_new, reads_known}
 use Rattle.generational_core.proofs.machine.Telling.{meets_tells, ended_leads}
@@ -159,11 +163,63 @@ module _ {T : Type 0} where
         let t = meets_tells S R (Write b l) (Writes w.guard w.value) m in (t.0, t.2)
     lends_at b l (Err e) m = tt
 
+    -- the same of a read and a write under their conditions
+    pub opens_free : (b : GenerationalPointer) (l : Location) (r : Result Guard StoreError)
+        → Meets S (Read b l) (free_read_answer r) R → IfOk r (λ g. value_behind R g ≡ value_in S b)
+    opens_free b l (Ok g) m = opens b l (Ok g) m
+    opens_free b l (Err e) m = tt
+
+    pub lends_free : (b : GenerationalPointer) (l : Location)
+        (r : Result (WriteGuard T) StoreError) → Meets S (Write b l) (free_write_answer r) R
+        → IfOk r (λ w. (reach S b ≡ Some w.guard.cell) × (value_in S b ≡ Some w.value)
+        × ((c : GenerationalPointer) → reach R c ≡ reach S c))
+    lends_free b l (Ok w) m = meets_tells S R (Write b l) (Writes w.guard w.value) m
+    lends_free b l (Err e) m = tt
+
+    -- what a set gives back, and who sees the new value
+    pub sets : (b : GenerationalPointer) (v old : T) → Meets S (SetValue b v) (Old old) R
+        → (value_in S b ≡ Some old) × ((c : GenerationalPointer) → reach R c ≡ reach S c)
+        × ((c : GenerationalPointer) → reach S c ≡ reach S b → value_in R c ≡ Some v)
+    sets b v old m = meets_tells S R (SetValue b v) (Old old) m
+
     pub puts_back : (g : Guard) (v : T) {U : Type 0} (r : Result U T)
         → Meets S (ReleaseWriter g v) (back_answer r) R
         → OnOk r ((b : GenerationalPointer) → reach S b ≡ Some g.cell → value_in R b ≡ Some v)
     puts_back g v (Ok u) m = meets_tells S R (ReleaseWriter g v) Done m
     puts_back g v (Err w) m = tt
+
+    -- ---- values at which no borrow stands
+
+    pub made_free : (o : Option OwnerName) (v : T) (l : Location)
+        (r : Result (GenerationalBox T) (Refusal T)) → Meets S (Make o v l) (box_answer r) R
+        → IfOk r (λ b. can_write R (pointer_of b) ≡ true)
+    made_free o v l (Ok b) m = (meets_tells S R (Make o v l) (Made (pointer_of b)) m).3
+    made_free o v l (Err e) m = tt
+
+    pub made_shared_free : (o : Option OwnerName) (v : T) (l : Location)
+        (r : Result (GenerationalBox T) (Refusal T)) → Meets S (MakeShared o v l) (box_answer r) R
+        → IfOk r (λ b. can_write R (pointer_of b) ≡ true)
+    made_shared_free o v l (Ok b) m =
+        (meets_tells S R (MakeShared o v l) (Made (pointer_of b)) m).2
+    made_shared_free o v l (Err e) m = tt
+
+    pub keeps_free : (call : Action T) (answer : Answer T) → IsSound S → Meets S call answer R
+        → (b : GenerationalPointer) → LeavesUnborrowed S call b
+        → can_write S b ≡ true → can_write R b ≡ true
+    keeps_free call answer s m b = free_stays S R call answer b s m
+
+    pub ends_free : (b : GenerationalPointer) {U : Type 0} (r : Result U (Refused BorrowMutError))
+        → Meets S (End b) (end_answer r) R → can_write S b ≡ true → IsOk r
+    ends_free b (Ok u) m free = refl
+    ends_free b (Err (refused.Borrow e)) m free =
+        let done = free_ends S R b _ free m in absurd cc
+    ends_free b (Err (refused.Store e)) m free =
+        let done = free_ends S R b _ free m in absurd cc
+
+    pub reads_back : {Q : State T} (b : GenerationalPointer) (l : Location) (g : Guard)
+        (flag : Bool) → IsSound S → Meets S (Read b l) (Reads g) R
+        → Meets R (ReleaseReader g) (Flag flag) Q → Q ≡ record S { next = S.next + 1 }
+    reads_back {Q} b l g flag = read_released S R Q b l g flag
 
     -- ---- ends
 

@@ -29,7 +29,7 @@ use Rattle.generational_core.specs.Names.{change, Name, Names, is_name}
 use Rattle.generational_core.specs.Numbered.{want}
 use Rattle.generational_core.specs.State.{State, Ownership, Owners, IsGiven, IsBoxed, content_at}
 use Rattle.generational_core.specs.State.{tickets_of}
-use Rattle.generational_core.specs.Seeing.{ending, Turns, Lends}
+use Rattle.generational_core.specs.Seeing.{ending, Turns, Lends, Borrows}
 use Rattle.generational_core.specs.Steps.{IsNew, AreNew}
 use Rattle.generational_core.specs.declared.borrow.Borrow.{Borrow}
 use Rattle.generational_core.specs.declared.boxes.GenerationalPointer.{GenerationalPointer}
@@ -125,8 +125,8 @@ module _ {T : Type 0} where
 
   -- what is known where a call fills a content, and which ticket is the next then
   abbrev pub IsFilling : State T → Action T → ℕ → Name → Filling T → Type 0
-  IsFilling S call next n (Reader v readers l) = next ≡ S.next + 1
-  IsFilling S call next n (Writer v l) = (next ≡ S.next + 1) × Lends S call n
+  IsFilling S call next n (Reader v readers l) = (next ≡ S.next + 1) × Borrows S call n
+  IsFilling S call next n (Writer v l) = (next ≡ S.next + 1) × Lends S call n × Borrows S call n
   IsFilling S call next n (Leave v readers g) = call ≡ ReleaseReader g
   IsFilling S call next n (Return w g v) =
       (call ≡ ReleaseWriter g v) × (nat_eq w.ticket g.ticket ≡ true) × Lends S call n
@@ -359,16 +359,17 @@ module _ {T : Type 0} where
       (name_here m))
       ∙ refilled_content c old (map.get S.cells m) had
 
-  leads_read : {S : State T} {call : Action T} {f : Fresh} (l : Location) (m : Option Name)
-      (c : Option (Content T)) → content_of (cell_at S m) ≡ c → Leads S call f (read_at S l m c)
-  leads_read {S} l (Some m) (Some (Here v readers)) had =
+  leads_read : {S : State T} {f : Fresh} (b : GenerationalPointer) (l : Location) (m : Option Name)
+      (c : Option (Content T)) → content_of (cell_at S m) ≡ c → reach S b ≡ m
+      → Leads S (Read b l) f (read_at S l m c)
+  leads_read {S} b l (Some m) (Some (Here v readers)) had to =
       let k : Filling T = Reader v readers l in
       let known = and_from _ _ (nat_eq_equiv.refl S.number)
       (ap (λ c. has_reader c S.next) (filled_content S m (new_content S k) (Here v readers) had)
       ∙ pushed_reads readers (next_borrow S l)) in
-      leads (Fill m k) _ (S.next + 1) (omega arith) (had, refl) (λ h. h)
+      leads (Fill m k) _ (S.next + 1) (omega arith) (had, (refl, to)) (λ h. h)
       (λ _. plain (record { is = refl; next = refl }, known) refl)
-  leads_read l m c had = still (plain tt refl)
+  leads_read b l m c had to = still (plain tt refl)
 
   leads_write : {S : State T} {f : Fresh} (b : GenerationalPointer) (l : Location) (m : Option Name)
       (c : Option (Content T)) → content_of (cell_at S m) ≡ c
@@ -377,7 +378,7 @@ module _ {T : Type 0} where
   leads_write {S} b l (Some m) (Some (Here v [])) had free to =
       let known = and_from _ _ (nat_eq_equiv.refl S.number) (ap (λ c. has_writer c S.next)
       (filled_content S m (Lent (next_borrow S l)) (Here v []) had) ∙ nat_eq_equiv.refl S.next) in
-      leads (Fill m (Writer v l)) _ (S.next + 1) (omega arith) (had, (refl, to)) (λ h. h)
+      leads (Fill m (Writer v l)) _ (S.next + 1) (omega arith) (had, (refl, to, to)) (λ h. h)
       (λ _. plain (record { is = refl; next = refl }, known) refl)
   leads_write b l (Some m) (Some (Here v (r ∷ readers))) had free to =
       absurd (none≢some _ _ free (ap write_refusal had))
@@ -438,7 +439,7 @@ module _ {T : Type 0} where
   act_leads S (CloneOwner o) f = leads_cloned o (ownership S o) refl
   act_leads S (ReleaseOwner o) f = leads_released o (ownership S o) refl
   act_leads S (Read b l) f =
-      leads_unless (read_trouble S b) (λ _. leads_read l (reach S b) _ refl)
+      leads_unless (read_trouble S b) (λ _. leads_read b l (reach S b) _ refl refl)
   act_leads S (Write b l) f =
       leads_unless (write_trouble S b) (λ free. leads_write b l (reach S b) _ refl free refl)
   act_leads S (ReleaseReader g) f =

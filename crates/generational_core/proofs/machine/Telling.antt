@@ -8,7 +8,7 @@ use Rattle.std.specs.Cmp.{nat_eq_equiv}
 use Rattle.std.specs.Prelude.{is_some, nat_eq, ◌⊎◌}
 use Rattle.generational_core.specs.Answers.{value_at, value_of}
 use Rattle.generational_core.specs.Borrowing.{Guard, Trouble, reach, leads_to, fill, read_trouble}
-use Rattle.generational_core.specs.Borrowing.{write_trouble}
+use Rattle.generational_core.specs.Borrowing.{write_trouble, write_refusal, can_write}
 use Rattle.generational_core.specs.Boxes.{name_of, box_of, has_same_id}
 use Rattle.generational_core.specs.Cells.{Content, Cell, content_of, is_shared, refill}
 use Rattle.generational_core.specs.Cells.Cell.{Value, Shared, Ref}
@@ -22,8 +22,9 @@ use Rattle.generational_core.specs.Machine.{next_borrow}
 use Rattle.generational_core.specs.Conditions.{one_listed}
 use Rattle.generational_core.specs.Machine.{ownership}
 use Rattle.generational_core.specs.Machine.Action.{Make, MakeShared, Refer, NewOwner, Read, Write}
-use Rattle.generational_core.specs.Machine.Action.{ReleaseWriter, End, Point}
-use Rattle.generational_core.specs.Machine.Answer.{Made, Owned, Reads, Writes, Done, Troubled}
+use Rattle.generational_core.specs.Machine.{set_at}
+use Rattle.generational_core.specs.Machine.Action.{ReleaseWriter, SetValue, End, Point}
+use Rattle.generational_core.specs.Machine.Answer.{Made, Owned, Reads, Writes, Done, Old, Troubled}
 use Rattle.generational_core.specs.Names.{Name, NameMap, among, is_name, change}
 use Rattle.generational_core.specs.Seeing.{value_in}
 use Rattle.generational_core.specs.State.{State, IsSound, Ownership, content_at}
@@ -38,6 +39,7 @@ use Rattle.generational_core.proofs.machine.Changes.{filled_content, AreFresh, n
 use Rattle.generational_core.proofs.machine.Ends.{by_cond, none≢some, swept_view, swept_ref}
 use Rattle.generational_core.proofs.machine.Ends.{without_view}
 use Rattle.generational_core.proofs.machine.Releasing.{box_ends}
+use Rattle.generational_core.proofs.machine.Resting.{rests_free}
 use Rattle.generational_core.proofs.machine.Seeing.{reach_by, value_in_reached}
 use Rattle.generational_core.proofs.machine.Seeing.{refilled_leads}
 use Rattle.generational_core.proofs.machine.Stepping.{meets_cases, is_refusal}
@@ -54,7 +56,9 @@ module _ {T : Type 0} where
   abbrev pub Tells : State T → Action T → Answer T → State T → Type 0
   Tells S (Make o v l) (Made b) R =
       (reach R b ≡ Some (name_of b)) × (value_in R b ≡ Some v) × Lists S o (name_of b) R
-  Tells S (MakeShared o v l) (Made b) R = (value_in R b ≡ Some v) × Lists S o (name_of b) R
+      × (can_write R b ≡ true)
+  Tells S (MakeShared o v l) (Made b) R =
+      (value_in R b ≡ Some v) × Lists S o (name_of b) R × (can_write R b ≡ true)
   Tells S (Refer o c) (Made b) R =
       (reach R b ≡ reach S c) × (IsSound S → value_in R b ≡ value_in S c)
       × Lists S o (name_of b) R × (is_some (reach S c) ≡ true)
@@ -65,6 +69,9 @@ module _ {T : Type 0} where
       × ((c : GenerationalPointer) → reach R c ≡ reach S c)
   Tells S (ReleaseWriter g v) Done R =
       (b : GenerationalPointer) → reach S b ≡ Some g.cell → value_in R b ≡ Some v
+  Tells S (SetValue b v) (Old old) R =
+      (value_in S b ≡ Some old) × ((c : GenerationalPointer) → reach R c ≡ reach S c)
+      × ((c : GenerationalPointer) → reach S c ≡ reach S b → value_in R c ≡ Some v)
   Tells S (End b) Done R = reach R b ≡ None
   Tells S (Point a b) Done R = reach R a ≡ reach S b
   Tells S _ _ R = Unit {0}
@@ -90,9 +97,10 @@ module _ {T : Type 0} where
   listed : (S : State T) (o : Option OwnerName) (n : Name) (b : GenerationalPointer)
       → (reach (add_to_list S o n) b ≡ reach S b)
       × (value_in (add_to_list S o n) b ≡ value_in S b)
-  unfolding value_in reach
-  listed S None n b = (refl, refl)
-  listed S (Some o) n b = (refl, refl)
+      × (can_write (add_to_list S o n) b ≡ can_write S b)
+  unfolding value_in reach write_trouble
+  listed S None n b = (refl, refl, refl)
+  listed S (Some o) n b = (refl, refl, refl)
 
   in_list : (S : State T) (o : Option OwnerName) (n : Name) → Lists S o n (add_to_list S o n)
   in_list S None n a h is held = absurd cc
@@ -119,11 +127,12 @@ module _ {T : Type 0} where
       let b = box_of S.number n l in
       let Q = add_cell S n c in
       let list = listed Q o n b in
-      let to = added_reach S n c l in (
+      let to = added_reach S n c l in
+      let there = ap content_of (get-insert_here by_name S.cells n c) in (
         list.0 ∙ to,
-        list.1 ∙ (value_in_reached Q b n to
-            ∙ ap (λ x. value_of (content_of x)) (get-insert_here by_name S.cells n c)),
+        list.1 ∙ (value_in_reached Q b n to ∙ ap value_of there),
         in_list Q o n,
+        list.2 ∙ rests_free Q b n (record { reaches = to; free = ap write_refusal there }),
       )
 
   shared_told : (S : State T) (o : Option OwnerName) (v : T) (l : Location) (m n : Name) → m ≢ n
@@ -133,11 +142,14 @@ module _ {T : Type 0} where
       let c : Cell T = Shared (Here v []) l in
       let one = add_cell S m c in
       let Q = add_cell one n (Ref m l) in
-      let b = box_of S.number n l in (
-        (listed Q o n b).1 ∙ (value_in_reached Q b m (added_reach one n (Ref m l) l)
-            ∙ ap (λ x. value_of (content_of x)) (get-insert_apart by_name one.cells n (Ref m l) m apart
-            ∙ get-insert_here by_name S.cells m c)),
+      let b = box_of S.number n l in
+      let list = listed Q o n b in
+      let to = added_reach one n (Ref m l) l in
+      let there = ap content_of (get-insert_apart by_name one.cells n (Ref m l) m apart
+      ∙ get-insert_here by_name S.cells m c) in (
+        list.1 ∙ (value_in_reached Q b m to ∙ ap value_of there),
         in_list Q o n,
+        list.2 ∙ rests_free Q b m (record { reaches = to; free = ap write_refusal there }),
       )
 
   referred_told : (S : State T) (o : Option OwnerName) (b : GenerationalPointer) (n : Name)
@@ -199,6 +211,19 @@ module _ {T : Type 0} where
       (filled_reach S g.cell (Here v []) b ∙ to)
       ∙ ap value_of (filled_content S g.cell (Here v []) k had)
   written_told S g v None had known = absurd (true≢false (sym known))
+
+  set_told : (S : State T) (b : GenerationalPointer) (v : T) (m : Option Name)
+      (c : Option (Content T)) → reach S b ≡ m → content_of (cell_at S m) ≡ c
+      → TellsOf S (SetValue b v) (set_at S b v m c)
+  set_told S b v None c to had = tt
+  set_told S b v (Some m) (Some (Here old [])) to had =
+      let stays = filled_reach S m (Here v []) in (
+        value_in_reached S b m to ∙ ap value_of had,
+        stays,
+        λ c same. value_in_reached (fill S m (Here v [])) c m (stays c ∙ (same ∙ to))
+            ∙ ap value_of (filled_content S m (Here v []) (Here old []) had),
+      )
+  set_told S b v (Some m) _ to had = tt
 
   -- ---- ends, and references that turn
 
@@ -274,6 +299,7 @@ module _ {T : Type 0} where
       (write_told S b l (reach S b) _ refl refl)
   act_tells S (ReleaseWriter g v) f new = by_cond (TellsOf S (ReleaseWriter g v)) (knows_writer S g)
       (λ known. written_told S g v _ refl (and_parts _ _ known).1) (λ _. tt)
+  act_tells S (SetValue b v) f new = set_told S b v (reach S b) _ refl refl
   act_tells S (End b) f new = unless_told S (End b) (hindrance_to S (own_name S b)) _ (λ t. tt)
       (ended_told S b)
   act_tells S (Point a b) f new = by_cond (TellsOf S (Point a b)) (has_same_id a b)
@@ -291,6 +317,7 @@ module _ {T : Type 0} where
   refused_tells S R (Read b l) (Reads g) h = absurd (true≢false (sym h))
   refused_tells S R (Write b l) (Writes g v) h = absurd (true≢false (sym h))
   refused_tells S R (ReleaseWriter g v) Done h = absurd (true≢false (sym h))
+  refused_tells S R (SetValue b v) (Old old) h = absurd (true≢false (sym h))
   refused_tells S R (End b) Done h = absurd (true≢false (sym h))
   refused_tells S R (Point a b) Done h = absurd (true≢false (sym h))
   refused_tells S R _ _ h = tt

@@ -146,6 +146,16 @@ module _ {K : Type 0} {R : K → K → Ordering} (o : IsKeyOrder R) where
         split None = refl
         split (Some x) = get-insert_apart m k (f x) q ne
 
+    -- what is changed and changed back
+    pub changed_back : (m : map.FinMap R X) (k : K) (f g : X → X) (x : X)
+        → map.get m k ≡ Some x → g (f x) ≡ x → change (change m k f) k g ≡ m
+    changed_back m k f g x there back = map.same_map o.total o.exact _ _ (λ q. ⊎_elim
+        (λ is. subst (λ j. map.get (change (change m k f) k g) j ≡ map.get m j) (sym is)
+        (get-changed_here (change m k f) k g (f x) (get-changed_here m k f x there)
+        ∙ (ap Some back ∙ sym there)))
+        (λ ne. get-changed_apart (change m k f) k g q ne ∙ get-changed_apart m k f q ne)
+        (key_cases q k))
+
     pub get-changed : (m : map.FinMap R X) (k : K) (f : X → X) (q : K) → map.get (change m k f) q
         ≡ cond (eq_by_cmp R q k) (option_map f (map.get m q)) (map.get m q)
     get-changed m k f q = ⊎_elim

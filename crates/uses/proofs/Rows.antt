@@ -1,0 +1,209 @@
+-- Rows of boxes: one more, one emptied, and a state in which they show what they showed.
+use Rattle.std.proofs.Common.{◌≡◌, ℕ, zero, suc, true, [], ◌∷◌, ◌++◌, Option, None}
+use Rattle.std.proofs.Common.{Some, refl, sym, ap, subst, ◌∙◌, ◌<◌, length, arith}
+use Rattle.std.specs.Prelude.{slice_index_or, slice_set, ◌+◌, Ok}
+use Rattle.std.proofs.lemmas.List.{map-append, map-set}
+use Rattle.std.proofs.lemmas.Option.{none-some, same_Some}
+use Rattle.generational_core.specs.Answers.{pointer_of}
+use Rattle.generational_core.specs.Borrowing.{reach, can_write, write_trouble}
+use Rattle.generational_core.specs.Machine.{Answer, OwnerName}
+use Rattle.generational_core.specs.Machine.Action.{Make, End}
+use Rattle.generational_core.specs.Machine.Answer.{Made, Done}
+use Rattle.generational_core.specs.Seeing.{value_in}
+use Rattle.generational_core.specs.State.{State, IsSound}
+use Rattle.generational_core.specs.Steps.{Meets}
+use Rattle.generational_core.specs.declared.boxes.GenerationalBox.{GenerationalBox}
+use Rattle.generational_core.specs.declared.boxes.GenerationalPointer.{GenerationalPointer}
+use Rattle.generational_core.specs.declared.error.Location.{Location}
+use Rattle.generational_core.proofs.machine.Calling.{made, made_apart, made_free, keeps, keeps_free}
+use Rattle.generational_core.proofs.machine.Resting.{free_sees}
+use Rattle.uses.specs.Table.{Rows, IsFree, shown_in, values_in, EachBox, HasOtherName}
+use Rattle.uses.specs.Table.{AreApart, AreKept}
+
+module _ {T : Type 0} where
+  -- ---- what holds of each box
+
+  pub each_so : {P Q : GenerationalPointer → Type 0} (rows : Rows T)
+      → ((b : GenerationalPointer) → P b → Q b) → EachBox P rows → EachBox Q rows
+  each_so [] h all = tt
+  each_so {P} {Q} (None ∷ rows) h all = each_so {P = P} {Q = Q} rows h all
+  each_so {P} {Q} (Some b ∷ rows) h all =
+      (h (pointer_of b) all.0, each_so {P = P} {Q = Q} rows h all.1)
+
+  each_pushed : (P : GenerationalPointer → Type 0) (rows : Rows T) (a : GenerationalBox T)
+      → EachBox P rows → P (pointer_of a) → EachBox P (rows ++ Some a ∷ [])
+  each_pushed P [] a all new = (new, tt)
+  each_pushed P (None ∷ rows) a all new = each_pushed P rows a all new
+  each_pushed P (Some b ∷ rows) a all new = (all.0, each_pushed P rows a all.1 new)
+
+  each_emptied : (P : GenerationalPointer → Type 0) (rows : Rows T) (row : ℕ)
+      → EachBox P rows → EachBox P (slice_set rows row None)
+  each_emptied P [] row all = tt
+  each_emptied P (None ∷ rows) zero all = all
+  each_emptied P (Some b ∷ rows) zero all = all.1
+  each_emptied P (None ∷ rows) (suc row) all = each_emptied P rows row all
+  each_emptied P (Some b ∷ rows) (suc row) all =
+      (all.0, each_emptied P rows row all.1)
+
+  pub each_at : (P : GenerationalPointer → Type 0) (rows : Rows T) (row : ℕ) (a : GenerationalBox T)
+      → EachBox P rows → slice_index_or rows row None ≡ Some a → P (pointer_of a)
+  each_at P [] row a all is = absurd (none-some a is)
+  each_at P (None ∷ rows) zero a all is = absurd (none-some a is)
+  each_at P (Some b ∷ rows) zero a all is =
+      let same = same_Some b a is in subst (λ x. P (pointer_of x)) same all.0
+  each_at P (None ∷ rows) (suc row) a all is = each_at P rows row a all is
+  each_at P (Some b ∷ rows) (suc row) a all is = each_at P rows row a all.1 is
+
+  -- ---- names
+
+  apart_pushed : (rows : Rows T) (a : GenerationalBox T) → AreApart rows
+      → EachBox (HasOtherName (pointer_of a)) rows → AreApart (rows ++ Some a ∷ [])
+  apart_pushed [] a apart new = (tt, tt)
+  apart_pushed (None ∷ rows) a apart new = apart_pushed rows a apart new
+  apart_pushed (Some b ∷ rows) a apart new = (
+    each_pushed (HasOtherName (pointer_of b)) rows a apart.0 (λ e. new.0 (sym e)),
+    apart_pushed rows a apart.1 new.1,
+  )
+
+  apart_emptied : (rows : Rows T) (row : ℕ) → AreApart rows
+      → AreApart (slice_set rows row None)
+  apart_emptied [] row apart = tt
+  apart_emptied (None ∷ rows) zero apart = apart
+  apart_emptied (Some b ∷ rows) zero apart = apart.1
+  apart_emptied (None ∷ rows) (suc row) apart = apart_emptied rows row apart
+  apart_emptied (Some b ∷ rows) (suc row) apart = (
+    each_emptied (HasOtherName (pointer_of b)) rows row apart.0,
+    apart_emptied rows row apart.1,
+  )
+
+  -- once a row is emptied, all that are left have other names than its box
+  others : (rows : Rows T) (row : ℕ) (a : GenerationalBox T) → AreApart rows
+      → slice_index_or rows row None ≡ Some a
+      → EachBox (HasOtherName (pointer_of a)) (slice_set rows row None)
+  others [] row a apart is = absurd (none-some a is)
+  others (None ∷ rows) zero a apart is = absurd (none-some a is)
+  others (Some b ∷ rows) zero a apart is =
+      let same = same_Some b a is in
+      subst (λ x. EachBox (HasOtherName (pointer_of x)) rows) same apart.0
+  others (None ∷ rows) (suc row) a apart is = others rows row a apart is
+  others (Some b ∷ rows) (suc row) a apart is = (
+    λ e. each_at (HasOtherName (pointer_of b)) rows row a apart.0 is (sym e),
+    others rows row a apart.1 is,
+  )
+
+  -- ---- values
+
+  pub shown_at : (S : State T) (rows : Rows T) (row : ℕ)
+      → slice_index_or (values_in S rows) row None ≡ shown_in S (slice_index_or rows row None)
+  shown_at S [] row = refl
+  shown_at S (r ∷ rows) zero = refl
+  shown_at S (r ∷ rows) (suc row) = shown_at S rows row
+
+  -- an empty row may be emptied
+  pub empty_again : (S : State T) (rows : Rows T) (row : ℕ) → slice_index_or rows row None ≡ None
+      → slice_set (values_in S rows) row None ≡ values_in S rows
+  empty_again S [] row is = refl
+  empty_again S (r ∷ rows) zero is = ap (λ x. x ∷ values_in S rows) (sym (ap (shown_in S) is))
+  empty_again S (r ∷ rows) (suc row) is =
+      ap (λ xs. shown_in S r ∷ xs) (empty_again S rows row is)
+
+  -- the row of a box is one of the rows
+  pub within : (rows : Rows T) (row : ℕ) (a : GenerationalBox T)
+      → slice_index_or rows row None ≡ Some a → row < length rows
+  within [] row a is = absurd (none-some a is)
+  within (r ∷ rows) zero a is = omega arith
+  within (r ∷ rows) (suc row) a is = omega (arith, within rows row a is)
+
+  -- a state keeps a box: it sees what it saw, and no borrow stands there if none did
+  pub record Keeps (S R : State T) (b : GenerationalPointer) : Type 0 where
+    pub free : can_write S b ≡ true → can_write R b ≡ true
+    pub seen : (v : T) → value_in S b ≡ Some v → value_in R b ≡ Some v
+
+  -- a state without a ticket keeps each box
+  pub ticket_keeps : (S : State T) (b : GenerationalPointer)
+      → Keeps S (record S { next = S.next + 1 }) b
+  unfolding value_in reach write_trouble
+  ticket_keeps S b = record { free = λ e. e; seen = λ v e. e }
+
+  -- rows whose boxes are kept show what they showed
+  values_kept : (S R : State T) (rows : Rows T) → IsSound S → EachBox (IsFree S) rows
+      → EachBox (Keeps S R) rows → values_in R rows ≡ values_in S rows
+  values_kept S R [] s free all = refl
+  values_kept S R (None ∷ rows) s free all =
+      ap (λ xs. None ∷ xs) (values_kept S R rows s free all)
+  values_kept S R (Some b ∷ rows) s free all =
+      let saw = free_sees S (pointer_of b) s free.0 in
+      ap (λ x. x ∷ values_in R rows) (all.0.seen saw.0 saw.1 ∙ sym saw.1)
+      ∙ ap (λ xs. value_in S (pointer_of b) ∷ xs) (values_kept S R rows s free.1 all.1)
+
+  still_free : (S R : State T) (rows : Rows T)
+      → EachBox (IsFree S) rows → EachBox (Keeps S R) rows → EachBox (IsFree R) rows
+  still_free S R [] free all = tt
+  still_free S R (None ∷ rows) free all = still_free S R rows free all
+  still_free S R (Some b ∷ rows) free all =
+      (all.0.free free.0, still_free S R rows free.1 all.1)
+
+  -- ---- the rows of a table after a call of its store
+
+  module _ {S R : State T} (s : IsSound S) (rows : Rows T) (k : AreKept S rows) where
+    -- rows whose boxes are all kept
+    rows_kept : ((b : GenerationalPointer) → Keeps S R b)
+        → AreKept R rows × (values_in R rows ≡ values_in S rows)
+    rows_kept keeps = (
+      record {
+        free = each_so {P = IsFree S} {Q = IsFree R} rows (λ b. (keeps b).free) k.free;
+        apart = k.apart;
+      },
+      values_kept S R rows s k.free
+          (each_so {P = IsFree S} {Q = Keeps S R} rows (λ b _. keeps b) k.free),
+    )
+
+    -- a making, refused or not, leaves the rows
+    pub made_beside : (o : Option OwnerName) (v : T) (l : Location) (answer : Answer T)
+        → Meets S (Make o v l) answer R → AreKept R rows × (values_in R rows ≡ values_in S rows)
+    made_beside o v l answer m = rows_kept (λ b. record {
+      free = keeps_free (Make o v l) answer s m b tt;
+      seen = λ w. keeps (Make o v l) answer s m b w tt;
+    })
+
+    -- and its box may stand at their end
+    pub made_last : (o : Option OwnerName) (v : T) (l : Location) (a : GenerationalBox T)
+        → Meets S (Make o v l) (Made (pointer_of a)) R → AreKept R (rows ++ Some a ∷ [])
+        × (values_in R (rows ++ Some a ∷ []) ≡ values_in S rows ++ Some v ∷ [])
+    made_last o v l a m =
+        let kept = made_beside o v l (Made (pointer_of a)) m in
+        let apart = made_apart o v l (Ok a) s m in
+        let other = each_so {P = IsFree S} {Q = HasOtherName (pointer_of a)} rows
+        (λ b can. let saw = free_sees S b s can in apart b saw.0 saw.1) k.free in (
+          record {
+            free = each_pushed (IsFree R) rows a kept.0.free (made_free o v l (Ok a) m);
+            apart = apart_pushed rows a k.apart other;
+          },
+          map-append (shown_in R) rows (Some a ∷ [])
+              ∙ (ap (λ xs. xs ++ value_in R (pointer_of a) ∷ []) kept.1
+              ∙ ap (λ x. values_in S rows ++ x ∷ []) (made o v l (Ok a) m)),
+        )
+
+    -- a read that was released leaves the rows
+    pub read_beside : R ≡ record S { next = S.next + 1 }
+        → AreKept R rows × (values_in R rows ≡ values_in S rows)
+    read_beside is = rows_kept (λ b. subst (λ X. Keeps S X b) (sym is) (ticket_keeps S b))
+
+    -- the row of a box that was ended is emptied
+    pub ended_row : (row : ℕ) (a : GenerationalBox T) → slice_index_or rows row None ≡ Some a
+        → Meets S (End (pointer_of a)) Done R → AreKept R (slice_set rows row None)
+        × (values_in R (slice_set rows row None) ≡ slice_set (values_in S rows) row None)
+    ended_row row a is m =
+        let left = slice_set rows row None in
+        let free = each_emptied (IsFree S) rows row k.free in
+        let kept = each_so {P = HasOtherName (pointer_of a)} {Q = Keeps S R} left
+        (λ b other. record {
+          free = keeps_free (End (pointer_of a)) Done s m b other;
+          seen = λ w. keeps (End (pointer_of a)) Done s m b w other;
+        }) (others rows row a k.apart is) in (
+          record {
+            free = still_free S R left free kept;
+            apart = apart_emptied rows row k.apart;
+          },
+          values_kept S R left s free kept ∙ map-set (shown_in S) rows row None,
+        )

@@ -1,0 +1,104 @@
+//! A table of one's own, over a store of boxes.
+
+ghost use Rattle.std.specs.Prelude.{◌≡◌, [], ◌∷◌, ◌++◌, length, None, Some, is_some, IfOk, OnOk};
+ghost use Rattle.std.specs.Prelude.{IfErr, OnErr, slice_index_or, slice_set};
+
+use generational_box::{GenerationalBox, Location, Refusal, Storage, StoreError};
+use std::alloc::Global;
+use std::marker::Model;
+
+/// Values in numbered rows, which a store keeps. A caller sees the list of the rows: each shows its
+/// value, or none once it was removed.
+#[derive(Drop)]
+pub struct Table<T, S: Storage<T>> {
+    store: S,
+    rows: Vec<Option<GenerationalBox<T>>>,
+}
+
+impl<T, S: Storage<T>> Model for Table<T, S> {
+    ghost use Rattle.std.specs.Prelude.{List, Option};
+
+    ghost Value = { List (Option T) };
+
+    ghost use Rattle.uses.specs.Table.{values_in, AreKept};
+
+    ghost view = { λ t. values_in (S.state t.store) t.rows.items };
+
+    ghost invariant = { λ t. AreKept (S.state t.store) t.rows.items };
+}
+
+impl<T, S: Storage<T>> Table<T, S> {
+    /// A table without rows, over a store.
+    pub fn new(alloc: Global, store: S) -> Self
+        ensures { result ≡ [] }
+    {
+        Table {
+            store,
+            rows: Vec::new(alloc),
+        }
+    }
+
+    /// Keeps a value in a row of its own, at the end. The answer is the row's number.
+    ///
+    /// Refused by `OutOfMemory`: the value comes back, and the rows stay as they were.
+    pub fn insert(&mut self, value: T, here: Location) -> Result<usize, Refusal<T>>
+        ensures row { IfOk result (λ row. row ≡ length self.old) }
+        ensures ok { OnOk result (self.new ≡ self.old ++ Some value ∷ []) }
+        ensures err { OnErr result (self.new ≡ self.old) }
+        ensures back { IfErr result (λ refusal. refusal.value ≡ value) }
+    {
+        if self.rows.reserve(1).is_err() {
+            let cause = StoreError::OutOfMemory;
+            return Err(Refusal { value, cause });
+        }
+        let made = GenerationalBox::leak(&mut self.store, value, here)?;
+        let row = self.rows.len();
+        self.rows.push_reserved(Some(made));
+        Ok(row)
+    }
+
+    /// A copy of a row's value. None where the row is empty or was never given.
+    ///
+    /// Refused, in this order: `NumbersExhausted`, where the store has no ticket left;
+    /// `OutOfMemory`. The rows stay as they were, whatever the answer.
+    pub fn get(&mut self, row: usize, here: Location) -> Result<Option<T>, StoreError>
+    where
+        T: Copy,
+        ensures value { IfOk result (λ seen. seen ≡ slice_index_or self.old row None) }
+        ensures same { self.new ≡ self.old }
+    {
+        let Some(target) = box_in(self.rows.as_slice(), row) else {
+            return Ok(None);
+        };
+        let guard = target.read(&mut self.store, here)?;
+        let seen = guard.deref(&self.store).map(|view| *view);
+        guard.release(&mut self.store);
+        Ok(seen)
+    }
+
+    /// Ends a row's value, and empties the row. Answers whether it had a value. Never refused: no
+    /// borrow outlives a call of the table.
+    pub fn remove(&mut self, row: usize) -> bool
+        ensures had { result ≡ is_some (slice_index_or self.old row None) }
+        ensures removed { self.new ≡ slice_set self.old row None }
+    {
+        let Some(target) = box_in(self.rows.as_slice(), row) else {
+            return false;
+        };
+        match target.manually_drop(&mut self.store) {
+            Ok(()) => self.rows[row] = None,
+            Err(_) => unreachable!(),
+        }
+        true
+    }
+}
+
+// The box of a row, if it has one.
+fn box_in<T>(rows: &[Option<GenerationalBox<T>>], row: usize) -> Option<GenerationalBox<T>>
+    ensures { result ≡ slice_index_or rows.now row None }
+{
+    match rows.get(row) {
+        Some(found) => *found,
+        None => None,
+    }
+}
