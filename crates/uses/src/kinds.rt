@@ -16,6 +16,17 @@ pub enum Entry {
     Flag(bool),
 }
 
+/// The opposite of a flag. A number stays as it is.
+fn turned(given: Entry) -> Entry
+    ensures flag { (on : Bool) → given ≡ entry.Flag on → result ≡ entry.Flag (not on) }
+    ensures number { (n : ℕ) → given ≡ entry.Number n → result ≡ given }
+{
+    match given {
+        Entry::Number(n) => Entry::Number(n),
+        Entry::Flag(on) => Entry::Flag(!on),
+    }
+}
+
 /// Turns a flag to its opposite, and leaves a number as it is. None where the write is refused.
 pub fn toggle<S: Storage<Entry>>(
     store: &mut S,
@@ -30,10 +41,7 @@ pub fn toggle<S: Storage<Entry>>(
         value_in (S.state store.new) (pointer_of target) ≡ Some (entry.Number n)) }
 {
     let mut guard = target.try_write(store, here).ok()?;
-    let next = match *guard.deref() {
-        Entry::Number(n) => Entry::Number(n),
-        Entry::Flag(on) => Entry::Flag(!on),
-    };
+    let next = turned(*guard.deref());
     *guard.deref_mut() = next;
     guard.release(store).ok()
 }

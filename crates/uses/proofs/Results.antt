@@ -1,0 +1,33 @@
+-- What clauses on results and options say of the value with which a caller goes on.
+use Rattle.std.proofs.Common.{◌≡◌, Option, None, Some, sym, ap, ◌∙◌}
+use Rattle.std.specs.Prelude.{Result, Ok, Err, IfOk, OnOk, IfSome, OnSome}
+use Rattle.std.specs.Result.{result_ok}
+use Rattle.std.proofs.lemmas.Option.{none-some, same_Some}
+use Rattle.std.proofs.lemmas.Result.{IfOk-at_ok}
+
+module _ {X : Type 0} where
+  -- where `?` goes on, the value is that of the result
+  pub of_ok : {E : Type 0} (P : X → Type 0) (r : Result X E) (x : X)
+      → Some x ≡ result_ok r → IfOk r P → P x
+  of_ok {E = E} P (Ok y) x e p =
+      let same : ◌≡◌ {A = Result X E} (Ok y) (Ok x) = ap (λ z. Ok z) (sym (same_Some x y e)) in
+      IfOk-at_ok {T = X} {E = E} P {r = Ok y} {x = x} same p
+  of_ok P (Err z) x e p = absurd (none-some x (sym e))
+
+  pub on_ok : {E P : Type 0} (r : Result X E) (x : X) → Some x ≡ result_ok r → OnOk r P → P
+  on_ok (Ok y) x e p = p
+  on_ok (Err z) x e p = absurd (none-some x (sym e))
+
+  pub on_some : {P : Type 0} (r : Option X) (x : X) → r ≡ Some x → OnSome r P → P
+  on_some (Some y) x e p = p
+  on_some None x e p = absurd (none-some x e)
+
+  -- an option that has a known value, and one whose value is known to be what something has
+  pub has : (r : Option X) (v : X) → r ≡ Some v → IfSome r (λ s. s ≡ v)
+  has (Some y) v e = same_Some y v e
+  has None v e = tt
+
+  pub finds : (r o : Option X) (v : X) → IfSome r (λ s. o ≡ Some s) → o ≡ Some v
+      → IfSome r (λ s. s ≡ v)
+  finds (Some y) o v seen is = same_Some y v (sym seen ∙ is)
+  finds None o v seen is = tt
