@@ -67,7 +67,7 @@ impl<T, S: Storage<T>> Table<T, S> {
         ensures value { IfOk result (λ seen. seen ≡ slice_index_or self.old row None) }
         ensures same { self.new ≡ self.old }
     {
-        let Some(target) = box_in(self.rows.as_slice(), row) else {
+        let Some(target) = box_in(&self.rows, row) else {
             return Ok(None);
         };
         let guard = target.read(&mut self.store, here)?;
@@ -82,7 +82,7 @@ impl<T, S: Storage<T>> Table<T, S> {
         ensures had { result ≡ is_some (slice_index_or self.old row None) }
         ensures removed { self.new ≡ slice_set self.old row None }
     {
-        let Some(target) = box_in(self.rows.as_slice(), row) else {
+        let Some(target) = box_in(&self.rows, row) else {
             return false;
         };
         match target.manually_drop(&mut self.store) {
@@ -94,8 +94,8 @@ impl<T, S: Storage<T>> Table<T, S> {
 }
 
 // The box of a row, if it has one.
-fn box_in<T>(rows: &[Option<GenerationalBox<T>>], row: usize) -> Option<GenerationalBox<T>>
-    ensures { result ≡ slice_index_or rows.now row None }
+fn box_in<T>(rows: &Vec<Option<GenerationalBox<T>>>, row: usize) -> Option<GenerationalBox<T>>
+    ensures { result ≡ slice_index_or rows.now.items row None }
 {
     match rows.get(row) {
         Some(found) => *found,

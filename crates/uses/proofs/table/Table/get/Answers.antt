@@ -1,6 +1,5 @@
-use Rattle.std.proofs.Common.{None, arith, sym, ap, ◌∙◌}
+use Rattle.std.proofs.Common.{arith, sym, ap, ◌∙◌}
 use Rattle.std.proofs.lemmas.Grind.{common_steps}
-use Rattle.std.specs.Prelude.{slice_index_or}
 use Rattle.generational_core.proofs.machine.Calling.{opens_free, reads_back}
 use Rattle.generational_core.proofs.machine.Resting.{free_reads}
 use Rattle.uses.proofs.Rows.{each_at, read_beside, shown_at}
@@ -9,10 +8,8 @@ use Rattle.uses.proofs.table.Table.get.Goals as goal
 
 pub read-requires : goal.read-requires
 read-requires g c =
-    let at = c.box_in.ensures
-    ∙ ap (λ rows. slice_index_or rows c.args.row None) c.as_slice.ensures.value in
     free_reads _ _ (each_at (IsFree _) _ c.args.row c.in-Some.target c.self.invariant.free
-    (sym at ∙ c.in-Some.is))
+    (sym c.box_in.ensures ∙ c.in-Some.is))
 
 pub invariant_of-self-2 : goal.invariant_of-self-2
 invariant_of-self-2 g c =
@@ -22,12 +19,10 @@ invariant_of-self-2 g c =
 
 pub returns-clause-value : goal.returns-clause-value
 returns-clause-value g c =
-    let at = c.box_in.ensures
-    ∙ ap (λ rows. slice_index_or rows c.args.row None) c.as_slice.ensures.value in
     let read = opens_free _ _ _ c.read.ensures in
     let state = g.S.AnyStorage.state c.self.inside.store in
     let shown = shown_at state c.self.inside.rows.items c.args.row
-    ∙ ap (shown_in state) (sym at ∙ c.in-Some.is) in
+    ∙ ap (shown_in state) (sym c.box_in.ensures ∙ c.in-Some.is) in
     rw (← c.self.view_is, shown) (grind (arith, common_steps))
 
 pub returns-clause-same : goal.returns-clause-same

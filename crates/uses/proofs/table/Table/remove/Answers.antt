@@ -1,6 +1,6 @@
-use Rattle.std.proofs.Common.{None, Err, sym, ap, ◌∙◌}
+use Rattle.std.proofs.Common.{Err, sym, ap, ◌∙◌}
 use Rattle.std.proofs.lemmas.Bool.{true≢false}
-use Rattle.std.specs.Prelude.{is_some, slice_index_or}
+use Rattle.std.specs.Prelude.{is_some}
 use Rattle.generational_core.proofs.machine.Calling.{ends_free}
 use Rattle.generational_core.proofs.machine.Resting.{free_sees}
 use Rattle.uses.proofs.Rows.{each_at, empty_again, ended_row, shown_at}
@@ -9,38 +9,29 @@ use Rattle.uses.proofs.table.Table.remove.Goals as goal
 
 pub returns-in_default-clause-removed : goal.returns-in_default-clause-removed
 returns-in_default-clause-removed g c =
-    let at = c.box_in.ensures
-    ∙ ap (λ rows. slice_index_or rows c.args.row None) c.as_slice.ensures.value in
-    rw (← c.self.view_is) (sym (empty_again _ _ c.args.row (sym at ∙ c.in_default.is)))
+    rw (← c.self.view_is) (sym (empty_again _ _ c.args.row (sym c.box_in.ensures ∙ c.in_default.is)))
 
 pub invariant_of-self : goal.invariant_of-self
 invariant_of-self g c =
-    let at = c.box_in.ensures
-    ∙ ap (λ rows. slice_index_or rows c.args.row None) c.as_slice.ensures.value in
     (ended_row (g.met.S.AnyStorage.sound _) _ c.self.invariant c.args.row c.in-Some.target
-    (sym at ∙ c.in-Some.is) c.in-Ok.ensures).0
+    (sym c.box_in.ensures ∙ c.in-Some.is) c.in-Ok.ensures).0
 
 pub unreachable-requires : goal.unreachable-requires
 unreachable-requires g c =
-    let at = c.box_in.ensures
-    ∙ ap (λ rows. slice_index_or rows c.args.row None) c.as_slice.ensures.value in
     let free = each_at (IsFree _) _ c.args.row c.in-Some.target c.self.invariant.free
-    (sym at ∙ c.in-Some.is) in
+    (sym c.box_in.ensures ∙ c.in-Some.is) in
     true≢false (sym (ends_free _ {U = Unit {0}} (Err c.in-Err.field-0) c.in-Err.ensures free))
 
 pub returns-clause-had : goal.returns-clause-had
 returns-clause-had g c =
-    let at = c.box_in.ensures
-    ∙ ap (λ rows. slice_index_or rows c.args.row None) c.as_slice.ensures.value in
-    let there = sym at ∙ c.in-Some.is in
+    let there = sym c.box_in.ensures ∙ c.in-Some.is in
     let free = each_at (IsFree _) _ c.args.row c.in-Some.target c.self.invariant.free there in
     let saw = free_sees _ _ (g.met.S.AnyStorage.sound _) free in
-    rw (← c.self.view_is) (sym (ap is_some (shown_at _ _ c.args.row ∙ (ap (shown_in _) there ∙ saw.1))))
+    rw (← c.self.view_is)
+    (sym (ap is_some (shown_at _ _ c.args.row ∙ (ap (shown_in _) there ∙ saw.1))))
 
 pub returns-clause-removed : goal.returns-clause-removed
 returns-clause-removed g c =
-    let at = c.box_in.ensures
-    ∙ ap (λ rows. slice_index_or rows c.args.row None) c.as_slice.ensures.value in
     rw (← c.self.view_is)
     (ended_row (g.met.S.AnyStorage.sound _) _ c.self.invariant c.args.row c.in-Some.target
-    (sym at ∙ c.in-Some.is) c.in-Ok.ensures).1
+    (sym c.box_in.ensures ∙ c.in-Some.is) c.in-Ok.ensures).1
