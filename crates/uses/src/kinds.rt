@@ -17,7 +17,7 @@ pub enum Entry {
 }
 
 /// The opposite of a flag. A number stays as it is.
-fn turned(given: Entry) -> Entry
+fn opposite(given: Entry) -> Entry
     ensures flag { (on : Bool) → given ≡ entry.Flag on → result ≡ entry.Flag (not on) }
     ensures number { (n : ℕ) → given ≡ entry.Number n → result ≡ given }
 {
@@ -41,7 +41,7 @@ pub fn toggle<S: Storage<Entry>>(
         value_in (S.state store.new) (pointer_of target) ≡ Some (entry.Number n)) }
 {
     let mut guard = target.try_write(store, here).ok()?;
-    let next = turned(*guard.deref());
+    let next = opposite(*guard.deref());
     *guard.deref_mut() = next;
     guard.release(store).ok()
 }
