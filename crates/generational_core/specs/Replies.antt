@@ -24,15 +24,16 @@ use Rattle.generational_core.specs.SoundSession.{IsSoundSession}
 use Rattle.generational_core.specs.Steps.{may_lack, takes_ticket, last_ticket, no_names}
 
 module _ {T : Type 0} where
-  -- a call reads, writes or sets this box, or makes a reference from it by no owner
-  abbrev pub Borrows : SessionState T → Call T → GenerationalPointer → Type 0
-  Borrows s (call.LeakReference b) box = box_in s b ≡ Some box
-  Borrows s (call.TryRead b l) box = box_in s b ≡ Some box
-  Borrows s (call.TryWrite b l) box = box_in s b ≡ Some box
-  Borrows s (call.Read b l) box = box_in s b ≡ Some box
-  Borrows s (call.Write b l) box = box_in s b ≡ Some box
-  Borrows s (call.Set b v) box = box_in s b ≡ Some box
-  Borrows s _ box = ⊥
+  -- A call needs a living cell behind this box: it reads, writes or sets it, or makes a reference
+  -- from it by no owner.
+  abbrev pub NeedsBox : SessionState T → Call T → GenerationalPointer → Type 0
+  NeedsBox s (call.LeakReference b) box = box_in s b ≡ Some box
+  NeedsBox s (call.TryRead b l) box = box_in s b ≡ Some box
+  NeedsBox s (call.TryWrite b l) box = box_in s b ≡ Some box
+  NeedsBox s (call.Read b l) box = box_in s b ≡ Some box
+  NeedsBox s (call.Write b l) box = box_in s b ≡ Some box
+  NeedsBox s (call.Set b v) box = box_in s b ≡ Some box
+  NeedsBox s _ box = ⊥
 
   -- How such a call of a box whose name has ended is answered: with the box's own location, and a
   -- call with a condition is told that this doesn't hold.
@@ -44,7 +45,7 @@ module _ {T : Type 0} where
 
   abbrev pub TellsEnds : SessionState T → Call T → SessionReply T → Type 0
   TellsEnds s c x = (b : GenerationalPointer)
-      → Borrows s c b → IsEnded s.state (name_of b) → x ≡ ended_reply c b
+      → NeedsBox s c b → IsEnded s.state (name_of b) → x ≡ ended_reply c b
 
   -- a box of this store, whose name was never given before
   pub record IsFirstGiven (S : State T) (b : GenerationalPointer) : Type 0 where
@@ -127,7 +128,7 @@ module _ {T : Type 0} where
   -- In a run, such a call of a box whose name had ended before the run is answered so.
   abbrev pub AllTellEnds : SessionState T → List (Call T) → List (SessionReply T) → Type 0
   AllTellEnds s calls replies = (i : ℕ) (c : Call T) (b : GenerationalPointer)
-      → slice_get calls i ≡ Some c → Borrows s c b → IsEnded s.state (name_of b)
+      → slice_get calls i ≡ Some c → NeedsBox s c b → IsEnded s.state (name_of b)
       → slice_get replies i ≡ Some (ended_reply c b)
 
   -- each place keeps its box

@@ -1,11 +1,12 @@
 //! Callers of sessions, proved from the clauses of `Session` alone, for every storage.
 
-ghost use Rattle.std.specs.Prelude.{◌≡◌, IfSome, IsFalse, Some, slice_get, map as list_map};
+ghost use Rattle.std.specs.Prelude.{◌≡◌, ℕ, IfSome, IsFalse, IsTrue, Some, false};
+ghost use Rattle.std.specs.Prelude.{slice_get, map as list_map};
 ghost use Rattle.generational_core.specs.declared.boxes.GenerationalPointer.{GenerationalPointer};
 ghost use Rattle.generational_core.specs.Boxes.{name_of};
 ghost use Rattle.generational_core.specs.Conditions.{IsFresh, IsEnded};
 ghost use Rattle.generational_core.specs.Borrowing.Trouble.{Dropped};
-ghost use Rattle.generational_core.specs.Session.{at_place};
+ghost use Rattle.generational_core.specs.Session.{at_place, SessionReply, SessionStep};
 ghost use Rattle.generational_core.specs.Session.Held.{Boxed};
 ghost use Rattle.generational_core.specs.Session.SessionReply.{Error};
 ghost use Rattle.generational_core.specs.Places.{as_reply, as_replies};
@@ -56,10 +57,12 @@ pub fn ask_for_ended<S: Storage<u64>>(
     Some(replies)
 }
 
-/// Answers a call, and says whether it was carried out. If it was refused, or its place finds no
-/// memory, the store's state is as it was.
+/// Answers a call, and says whether it was carried out, with a reply that refuses nothing. If it was
+/// refused, or its place finds no memory, the store's state is as it was.
 pub fn carries_out<S: Storage<u64>>(session: &mut Session<u64, S>, call: Call<u64>) -> bool
-    ensures { IsFalse result → session.new.state ≡ session.old.state }
+    ensures refused { IsFalse result → session.new.state ≡ session.old.state }
+    ensures carried { IsTrue result → (reply : SessionReply ℕ)
+        × SessionStep session.old call reply session.new × (refuses reply ≡ false) }
 {
     match session.call(call) {
         Ok(reply) => !is_refusal(&reply),

@@ -26,7 +26,8 @@ use Rattle.generational_core.specs.Session.{add_place, if_ready, replace}
 use Rattle.generational_core.specs.Session.Held.{Boxed, Writing, Owning, Nothing}
 use Rattle.generational_core.specs.Session.SessionReply.{ABox, IsDone, Error, Unready}
 use Rattle.generational_core.specs.SoundSession.{IsSoundSession}
-use Rattle.generational_core.specs.Replies.{Borrows, TellsEnds, GivesNewBox, EndsOwned, AllTellEnds}
+use Rattle.generational_core.specs.Replies.{NeedsBox, TellsEnds, GivesNewBox, EndsOwned}
+use Rattle.generational_core.specs.Replies.{AllTellEnds}
 use Rattle.generational_core.specs.Replies.{AllKeepPromises, KeepBoxes, GiveBoxesApart, ended_reply}
 use Rattle.generational_core.proofs.machine.Stepping.{ended_read, ended_write, meets_says, meets_given}
 use Rattle.generational_core.proofs.machine.Stepping.{meets_number}
@@ -109,25 +110,25 @@ module _ {T : Type 0} where
 
   pub tells_ends : (s r : SessionState T) (c : Call T) (x : SessionReply T)
       → SessionStep s c x r → TellsEnds s c x
-  tells_ends s r (call.LeakReference p) x step b borrows ended =
+  tells_ends s r (call.LeakReference p) x step b needed ended =
       answers_ended s r (call.LeakReference p) x (box_in s p) (λ b. Action.Refer None b) b
-      (λ new. rw (ended_read s.state b ended, unless) refl) borrows step
-  tells_ends s r (call.TryRead p l) x step b borrows ended =
+      (λ new. rw (ended_read s.state b ended, unless) refl) needed step
+  tells_ends s r (call.TryRead p l) x step b needed ended =
       answers_ended s r (call.TryRead p l) x (box_in s p) (λ b. Action.Read b l) b
-      (λ new. rw (ended_read s.state b ended, unless) refl) borrows step
-  tells_ends s r (call.TryWrite p l) x step b borrows ended =
+      (λ new. rw (ended_read s.state b ended, unless) refl) needed step
+  tells_ends s r (call.TryWrite p l) x step b needed ended =
       answers_ended s r (call.TryWrite p l) x (box_in s p) (λ b. Action.Write b l) b
-      (λ new. rw (ended_write s.state b ended, unless) refl) borrows step
-  tells_ends s r (call.Read p l) x step b borrows ended = told_unready s r (call.Read p l) x
+      (λ new. rw (ended_write s.state b ended, unless) refl) needed step
+  tells_ends s r (call.Read p l) x step b needed ended = told_unready s r (call.Read p l) x
       (box_in s p) (can_read s.state) None (λ b. Request.Asks (Action.Read b l)) b
-      (ap is_none (ended_read s.state b ended)) borrows step
-  tells_ends s r (call.Write p l) x step b borrows ended = told_unready s r (call.Write p l) x
+      (ap is_none (ended_read s.state b ended)) needed step
+  tells_ends s r (call.Write p l) x step b needed ended = told_unready s r (call.Write p l) x
       (box_in s p) (can_write s.state) None (λ b. Request.Asks (Action.Write b l)) b
-      (ap is_none (ended_write s.state b ended)) borrows step
-  tells_ends s r (call.Set p v) x step b borrows ended = told_unready s r (call.Set p v) x
+      (ap is_none (ended_write s.state b ended)) needed step
+  tells_ends s r (call.Set p v) x step b needed ended = told_unready s r (call.Set p v) x
       (box_in s p) (can_write s.state) (Some v) (λ b. Request.Asks (Action.SetValue b v)) b
-      (ap is_none (ended_write s.state b ended)) borrows step
-  tells_ends s r c x step b borrows ended = absurd borrows
+      (ap is_none (ended_write s.state b ended)) needed step
+  tells_ends s r c x step b needed ended = absurd needed
 
   -- a reply gives the box that the machine made
   made_by : (answer : Answer T) (c : Call T) (b : GenerationalPointer)
@@ -241,28 +242,28 @@ module _ {T : Type 0} where
       (λ S R action answer e meets. meets_number S R action answer meets ∙ e) step refl)
       ∙ is
 
-  borrows_kept : (s r : SessionState T) (c : Call T) (x : SessionReply T) → SessionStep s c x r
-      → (k : Call T) (b : GenerationalPointer) → Borrows s k b → Borrows r k b
-  borrows_kept s r c x step (call.LeakReference a) b is = box_in_kept s r c x step a b is
-  borrows_kept s r c x step (call.TryRead a l) b is = box_in_kept s r c x step a b is
-  borrows_kept s r c x step (call.TryWrite a l) b is = box_in_kept s r c x step a b is
-  borrows_kept s r c x step (call.Read a l) b is = box_in_kept s r c x step a b is
-  borrows_kept s r c x step (call.Write a l) b is = box_in_kept s r c x step a b is
-  borrows_kept s r c x step (call.Set a v) b is = box_in_kept s r c x step a b is
-  borrows_kept s r c x step k b is = absurd is
+  need_kept : (s r : SessionState T) (c : Call T) (x : SessionReply T) → SessionStep s c x r
+      → (k : Call T) (b : GenerationalPointer) → NeedsBox s k b → NeedsBox r k b
+  need_kept s r c x step (call.LeakReference a) b is = box_in_kept s r c x step a b is
+  need_kept s r c x step (call.TryRead a l) b is = box_in_kept s r c x step a b is
+  need_kept s r c x step (call.TryWrite a l) b is = box_in_kept s r c x step a b is
+  need_kept s r c x step (call.Read a l) b is = box_in_kept s r c x step a b is
+  need_kept s r c x step (call.Write a l) b is = box_in_kept s r c x step a b is
+  need_kept s r c x step (call.Set a v) b is = box_in_kept s r c x step a b is
+  need_kept s r c x step k b is = absurd is
 
   pub all_tell_ends : (calls : List (Call T)) (replies : List (SessionReply T))
       (s r : SessionState T) → Run s calls replies r → AllTellEnds s calls replies
-  all_tell_ends [] [] s r run i k b there borrows ended = cc
-  all_tell_ends (c ∷ calls) (x ∷ replies) s r run zero k b there borrows ended =
+  all_tell_ends [] [] s r run i k b there needed ended = cc
+  all_tell_ends (c ∷ calls) (x ∷ replies) s r run zero k b there needed ended =
       let same : k ≡ c = cc in
-      ap Some (tells_ends s run.0 c x run.1 b (subst (λ k. Borrows s k b) same borrows) ended
+      ap Some (tells_ends s run.0 c x run.1 b (subst (λ k. NeedsBox s k b) same needed) ended
       ∙ ap (λ c. ended_reply c b) (sym same))
-  all_tell_ends (c ∷ calls) (x ∷ replies) s r run (suc i) k b there borrows ended =
+  all_tell_ends (c ∷ calls) (x ∷ replies) s r run (suc i) k b there needed ended =
       all_tell_ends calls replies run.0 r run.2 i k b there
-      (borrows_kept s run.0 c x run.1 k b borrows)
+      (need_kept s run.0 c x run.1 k b needed)
       (session_ended s run.0 c x run.1 (name_of b) ended)
-  all_tell_ends calls replies s r run i k b there borrows ended = absurd run
+  all_tell_ends calls replies s r run i k b there needed ended = absurd run
 
   -- an owner's release that is told as done is done
   release_done : (S : State T) (o : OwnerName) (h : Option Ownership) (p : ℕ)
