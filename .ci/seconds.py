@@ -18,6 +18,8 @@ import time
 
 TICKS = os.sysconf("SC_CLK_TCK")
 PAUSE = 0.2
+# What the system calls a checking process, and one that it has forked to check a part.
+CHECKING = ("(rattle", "(antt-kernel")
 DEAREST = 20
 
 
@@ -28,7 +30,7 @@ def read_process(pid, session):
         with open(f"/proc/{pid}/stat", encoding="utf-8", errors="replace") as file:
             name, fields = file.read().rsplit(")", 1)
         fields = fields.split()
-        if not name.endswith("(rattle") or int(fields[3]) != session:
+        if not name.endswith(CHECKING) or int(fields[3]) != session:
             return None
         with open(f"/proc/{pid}/cmdline", encoding="utf-8", errors="replace") as file:
             words = file.read().split("\0")
