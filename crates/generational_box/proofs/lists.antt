@@ -1,5 +1,6 @@
 -- Lists, free slots, and standing borrows.
 pub mod Chains
+pub mod Firsts
 pub mod Lists
 pub mod TableChanges
 pub mod Tables

@@ -189,7 +189,7 @@ impl<T: Drop, P: SlotPool> Parts<T, P> {
     fn holds(&self, id: GenerationalBoxId) -> bool
         ensures { result ≡ is_some (content_of (own_cell self.now id)) }
     {
-        id.store == self.number && self.slots.kind(cell_name(id)).is_some()
+        id.store == self.number && self.slots.holds(cell_name(id))
     }
 }
 
@@ -468,6 +468,14 @@ impl<T: Drop, P: SlotPool> Parts<T, P> {
         self.slots.turn(cell_name(pointer.id), old, new)
     }
 
+    // Makes the place free where the next borrow stands. Takes no memory.
+    #[inline(always)]
+    fn settle(&mut self)
+        ensures { self.new ≡ self.old }
+    {
+        self.slots.settle();
+    }
+
     // Begins a read. A value that isn't shared and has no borrow is asked for first.
     #[inline(always)]
     pub(crate) fn try_read(
@@ -478,6 +486,7 @@ impl<T: Drop, P: SlotPool> Parts<T, P> {
         requires { IsSound self.old }
         ensures { Meets self.old (Read pointer location) (read_answer result) self.new }
     {
+        self.settle();
         if self.has_unborrowed_value(pointer) {
             return self.begin_read(pointer, cell_name(pointer.id), location);
         }
@@ -539,6 +548,7 @@ impl<T: Drop, P: SlotPool> Parts<T, P> {
         requires { IsSound self.old }
         ensures { Meets self.old (Write pointer location) (write_answer result) self.new }
     {
+        self.settle();
         if self.has_unborrowed_value(pointer) {
             return self.begin_write(pointer, cell_name(pointer.id), location);
         }

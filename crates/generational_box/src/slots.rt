@@ -144,6 +144,14 @@ impl<T: Drop, P: SlotPool> Slots<T, P> {
         self.entries.kind(name)
     }
 
+    // Whether the cell of this name is a value, also one that is lent.
+    #[inline(always)]
+    pub(crate) fn holds(&self, name: CellName) -> bool
+        ensures { result ≡ is_some (kind_in (map.get self.now.state.cells (name_of_cell name))) }
+    {
+        self.entries.holds(name)
+    }
+
     // What the reference of this name names.
     #[inline(always)]
     pub(crate) fn target(&self, name: CellName) -> Option<CellName>
@@ -215,6 +223,14 @@ impl<T: Drop, P: SlotPool> Slots<T, P> {
             ≡ value_for ticket (content_at self.now.state (name_of_cell name)) }
     {
         self.entries.open(name.slot, ticket)
+    }
+
+    // Makes the place free where the next borrow stands. Takes no memory.
+    #[inline(always)]
+    pub(crate) fn settle(&mut self)
+        ensures { self.new ≡ self.old }
+    {
+        self.entries.settle();
     }
 
     // Adds a reader to a value that isn't lent. Only a reader beside another may lack memory, and
