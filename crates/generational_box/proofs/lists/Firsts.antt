@@ -193,11 +193,11 @@ left_of s i = cond (nat_eq s i) no_slot s
 -- ---- the slots of a store, as contracts see them
 
 pub record IsShown {T : Type 0} (s g : ℕ) (es : List (StorageEntry T)) (now : Indexed T) : Type 0
-    where
-  pub entries : with_first s es ≡ now.entries
-  pub first : first_of s ≡ now.first
-  pub silent : AreSilent s g es
-  pub few : length es < no_slot
+  where
+    pub entries : with_first s es ≡ now.entries
+    pub first : first_of s ≡ now.first
+    pub silent : AreSilent s g es
+    pub few : length es < no_slot
 
 pub shown : {T : Type 0} {s g r n c : ℕ} {es : List (StorageEntry T)} {now : Indexed T}
     → record { entries = with_first s es; first = first_of s; rooms = r } ≡ now

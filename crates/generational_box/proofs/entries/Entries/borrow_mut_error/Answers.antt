@@ -51,7 +51,6 @@ module _ {T : Type 0} (lists : List (List Borrow)) (d : StorageEntryData T) (l :
       → FoundBorrowed (trouble lists d l) (Err r)
   found_writer kd x is w rest there r found = rw (found, is, there) refl
 
-
 pub index-index-requires : goal.index-index-requires
 index-index-requires g c =
     let s = kept c.self.view_is c.self.invariant in

@@ -18,9 +18,12 @@ returns-then-not-is_lent-clause-known g c =
     let f = found_slot s c.requires in
     let lent = heard s c.args.slot f.0 f.1 (λ e. c.is_lent.result ≡ is_lent_data e.content)
     c.is_lent.ensures in
-    says s c.args.slot f.0 f.1 _ (λ l. (λ h. absurd (false≢true h), λ h.
-    sym (no_writer c.args.ticket _ l.created_at f.0.content
-    (lent_not f.0.content (sym lent ∙ c.if-not-is_lent.true))) ∙ h))
+    says s c.args.slot f.0 f.1 _ (λ l. (
+      λ h. absurd (false≢true h),
+      λ h.
+          sym (no_writer c.args.ticket _ l.created_at f.0.content
+          (lent_not f.0.content (sym lent ∙ c.if-not-is_lent.true))) ∙ h,
+    ))
 
 pub index-index-requires : goal.index-index-requires
 index-index-requires g c =
