@@ -265,14 +265,6 @@ impl<T> Entries<T> {
 }
 
 impl<T: Drop> Entries<T> {
-    // Makes index 0 free for the next borrow. Takes no memory.
-    #[inline(always)]
-    pub(crate) fn settle(&mut self)
-        ensures { self.new ≡ self.old }
-    {
-        settle(&mut self.entries, &mut self.borrows);
-    }
-
     // Adds a reader to a cell that isn't lent. Only a reader beside another may lack memory, and
     // then nothing changes.
     #[inline(always)]
@@ -298,6 +290,21 @@ impl<T: Drop> Entries<T> {
         self.entries.put_first(slot);
         self.borrows.put_first(borrow);
         Ok(())
+    }
+
+    // Adds a reader to a cell without borrows. Takes no memory.
+    #[inline(always)]
+    pub(crate) fn begin_first_read(&mut self, slot: usize, borrow: Borrow)
+        requires within { slot < length self.old.slots }
+        requires free { IfSome (slice_get self.old.slots slot)
+            (λ e. has_no_borrow (content_in e.kept) ≡ true) }
+        ensures after { self.new.slots ≡ change_entry self.old.slots slot
+            (λ e. record e { kept = with_reader borrow e.kept }) }
+        ensures rooms { self.new.rooms ≡ self.old.rooms }
+    {
+        settle(&mut self.entries, &mut self.borrows);
+        self.entries.put_first(slot);
+        self.borrows.put_first(borrow);
     }
 
     // Takes a reader away. The answer is whether it stood.

@@ -123,13 +123,28 @@ impl<T> IndexedEntries<T> {
         }
     }
 
+    // Whether the cell at index 0 has this name.
+    #[inline(always)]
+    fn is_first(&self, name: CellName) -> bool
+        ensures { result ≡ true → true ≡ is_some
+            (kind_of (data_at (slice_get self.now.entries name.slot) name.generation)) }
+    {
+        if self.first.slot != name.slot {
+            return false;
+        }
+        if name.slot == NO_SLOT {
+            return false;
+        }
+        self.first.generation == name.generation
+    }
+
     // Whether the cell of this name is a value, also one that is lent. The cell at index 0 is one.
     #[inline(always)]
     pub(crate) fn holds(&self, name: CellName) -> bool
         ensures { result ≡ is_some
             (kind_of (data_at (slice_get self.now.entries name.slot) name.generation)) }
     {
-        if self.first == name && name.slot != NO_SLOT {
+        if self.is_first(name) {
             return true;
         }
         self.kind(name).is_some()

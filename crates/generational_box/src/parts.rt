@@ -468,14 +468,6 @@ impl<T: Drop, P: SlotPool> Parts<T, P> {
         self.slots.turn(cell_name(pointer.id), old, new)
     }
 
-    // Makes the place free where the next borrow stands. Takes no memory.
-    #[inline(always)]
-    fn settle(&mut self)
-        ensures { self.new ≡ self.old }
-    {
-        self.slots.settle();
-    }
-
     // Begins a read. A value that isn't shared and has no borrow is asked for first.
     #[inline(always)]
     pub(crate) fn try_read(
@@ -486,11 +478,32 @@ impl<T: Drop, P: SlotPool> Parts<T, P> {
         requires { IsSound self.old }
         ensures { Meets self.old (Read pointer location) (read_answer result) self.new }
     {
-        self.settle();
         if self.has_unborrowed_value(pointer) {
-            return self.begin_read(pointer, cell_name(pointer.id), location);
+            return self.begin_first_read(pointer, location);
         }
         self.try_read_any(pointer, location)
+    }
+
+    // Begins a read of a value that isn't shared and has no borrow.
+    #[inline(always)]
+    fn begin_first_read(
+        &mut self,
+        pointer: GenerationalPointer,
+        location: Location,
+    ) -> BorrowResult<GenerationalRef<T>>
+        requires sound { IsSound self.old }
+        requires free { is_unborrowed_value (own_cell self.old pointer.id) ≡ true }
+        ensures { Meets self.old (Read pointer location) (read_answer result) self.new }
+    {
+        let name = cell_name(pointer.id);
+        let ticket = self.next;
+        if ticket == u64::MAX {
+            return Err(Refused::Store(StoreError::NumbersExhausted));
+        }
+        self.slots
+            .begin_first_read(name, Borrow { ticket, location });
+        self.next = ticket + 1;
+        Ok(reader_at(self.id_of(name), ticket))
     }
 
     // The same, for every box.
@@ -548,7 +561,6 @@ impl<T: Drop, P: SlotPool> Parts<T, P> {
         requires { IsSound self.old }
         ensures { Meets self.old (Write pointer location) (write_answer result) self.new }
     {
-        self.settle();
         if self.has_unborrowed_value(pointer) {
             return self.begin_write(pointer, cell_name(pointer.id), location);
         }

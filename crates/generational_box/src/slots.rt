@@ -225,14 +225,6 @@ impl<T: Drop, P: SlotPool> Slots<T, P> {
         self.entries.open(name.slot, ticket)
     }
 
-    // Makes the place free where the next borrow stands. Takes no memory.
-    #[inline(always)]
-    pub(crate) fn settle(&mut self)
-        ensures { self.new ≡ self.old }
-    {
-        self.entries.settle();
-    }
-
     // Adds a reader to a value that isn't lent. Only a reader beside another may lack memory, and
     // then nothing changes.
     #[inline(always)]
@@ -247,6 +239,16 @@ impl<T: Drop, P: SlotPool> Slots<T, P> {
             (write_refusal (content_at self.old.state (name_of_cell name))) ≡ true) }
     {
         self.entries.begin_read(name.slot, borrow)
+    }
+
+    // Adds a reader to a value without borrows. Takes no memory.
+    #[inline(always)]
+    pub(crate) fn begin_first_read(&mut self, name: CellName, borrow: Borrow)
+        requires { has_no_borrow (content_at self.old.state (name_of_cell name)) ≡ true }
+        ensures { IfSome (content_at self.old.state (name_of_cell name))
+            (λ c. self.new.state ≡ fill self.old.state (name_of_cell name) (one_read borrow c)) }
+    {
+        self.entries.begin_first_read(name.slot, borrow);
     }
 
     // Takes a reader away. The answer is whether it stood.

@@ -2,7 +2,7 @@
 use Rattle.std.proofs.Common.{◌≡◌, ◌≢◌, ℕ, zero, suc, ◌+◌, ◌≤◌, ◌<◌, Bool, true, false, cond, List}
 use Rattle.std.proofs.Common.{[], ◌∷◌, ◌++◌, length, Option, None, Some, refl, sym, ap, ◌∙◌, arith}
 use Rattle.std.proofs.Common.{slice_get, slice_set, nat_eq, option_map, IfSome, IsSome, is_some}
-use Rattle.std.proofs.Common.{inl, inr, ◌⊎◌, ◌&&◌, subst}
+use Rattle.std.proofs.Common.{inl, inr, ◌⊎◌, subst}
 use Rattle.std.proofs.Math.Dec.{eqb-suc-zero, eqb-zero-suc, eqb-suc-suc}
 use Rattle.std.proofs.lemmas.Bool.{false≢true, cases_eq, eq-eqb, ne_eqb, eqb-true}
 use Rattle.std.proofs.lemmas.List.{length-set}
@@ -398,28 +398,21 @@ module _ {T : Type 0} {s g : ℕ} {es : List (StorageEntry T)} {now : Indexed T}
       at false o = refl
 
   -- the name that is noted is that of a value
-  pub held : (k n : ℕ) → (nat_eq s k && nat_eq g n) ≡ true → k ≢ no_slot
+  pub held : (k n : ℕ) → s ≡ k → nat_eq g n ≡ true → k ≢ no_slot
       → true ≡ is_some (kind_of (data_at (slice_get now.entries k) n))
-  held k n noted some = by (nat_eq s k) (nat_eq g n) refl refl noted
+  held k n same named some =
+      sym (ap is_some (sym (found kind_of (same_kind 0) k n)) ∙ at w.silent.there)
     where
-      own : g ≡ n → (o : Option (StorageEntry T)) → IsFirst g o
-          → is_some (kind_of (data_at o n)) ≡ true
-      own named None first = absurd first
-      own named (Some e) first =
-          rw (eq-eqb e.generation n (first.0 ∙ named)) (silent_kind e.content first.1)
+      own : (o : Option (StorageEntry T)) → IsFirst g o → is_some (kind_of (data_at o n)) ≡ true
+      own None first = absurd first
+      own (Some e) first =
+          rw (eq-eqb e.generation n (first.0 ∙ eqb-true g n named))
+          (silent_kind e.content first.1)
 
-      at : s ≡ k → g ≡ n → (s ≡ no_slot) ⊎ IsFirst g (slice_get es s)
+      at : (s ≡ no_slot) ⊎ IsFirst g (slice_get es s)
           → is_some (kind_of (data_at (slice_get es k) n)) ≡ true
-      at same named (inl none) = absurd (some (sym same ∙ none))
-      at same named (inr first) = own named (slice_get es k) (rw same at first)
-
-      by : (a b : Bool) → nat_eq s k ≡ a → nat_eq g n ≡ b → (a && b) ≡ true
-          → true ≡ is_some (kind_of (data_at (slice_get now.entries k) n))
-      by true true same named h =
-          sym (ap is_some (sym (found kind_of (same_kind 0) k n))
-          ∙ at (eqb-true s k same) (eqb-true g n named) w.silent.there)
-      by true false same named h = absurd (false≢true h)
-      by false b same named h = absurd (false≢true h)
+      at (inl none) = absurd (some (sym same ∙ none))
+      at (inr first) = own (slice_get es k) (rw same at first)
 
   -- no slot stands there
   pub shown_none : (k : ℕ) → slice_get es k ≡ None → slice_get now.entries k ≡ None
