@@ -1,6 +1,5 @@
 -- Lists, free slots, and standing borrows.
 pub mod Chains
-pub mod Firsts
 pub mod Lists
 pub mod TableChanges
 pub mod Tables

@@ -1,7 +1,6 @@
 -- The slots of a store with the table of their borrows, and what holds of the two.
 use Rattle.std.specs.Prelude.{◌≡◌, ◌≢◌, ◌≤◌, ◌<◌, ◌+◌, ℕ, List, [], ◌∷◌, Bool, not}
-use Rattle.std.specs.Prelude.{false, true, nat_eq, length, slice_get, Option, None, Some, zero, suc}
-use Rattle.std.specs.Prelude.{if◌then◌else◌, ◌⊎◌}
+use Rattle.std.specs.Prelude.{false, nat_eq, length, slice_get, Option, None, Some}
 use Rattle.std.specs.FinSet as set
 use Rattle.generational_core.specs.declared.borrow.Borrow.{Borrow}
 use Rattle.generational_core.specs.declared.error.Location.{Location}
@@ -22,26 +21,6 @@ use Rattle.generational_box.specs.Table.{Table, list_at, no_index, IsUsed}
 pub record EntryList (T : Type 0) : Type 0 where
   pub slots : List (Entry T)
   pub rooms : ℕ
-
--- The slots, each with the index of its borrows; which of them has index 0, if one does; and for how
--- many there is room.
-pub record Indexed (T : Type 0) : Type 0 where
-  pub entries : List (StorageEntry T)
-  pub first : Option ℕ
-  pub rooms : ℕ
-
--- no slot of a list is so far behind
-abbrev pub no_slot : ℕ
-no_slot = 18446744073709551615
-
--- the slot at index 0, if that isn't one behind all
-abbrev pub first_of : ℕ → Option ℕ
-first_of slot = if nat_eq slot no_slot then None else Some slot
-
--- the slot at index 0 where one that had an index has it no longer
-abbrev pub first_left : ℕ → Option ℕ → Option ℕ
-first_left zero first = None
-first_left (suc index) first = first
 
 module _ {T : Type 0} where
   -- where the borrows of a slot's cell stand in the table
@@ -65,41 +44,6 @@ module _ {T : Type 0} where
   abbrev pub value_in : StorageEntryData T → Option T
   value_in (slot.Data k i v) = Some v
   value_in _ = None
-
-  abbrev pub is_lent_data : StorageEntryData T → Bool
-  is_lent_data (slot.Lent k i) = true
-  is_lent_data _ = false
-
-  -- a value whose borrows, or the writer that has it, stand at another index
-  abbrev pub at_index : ℕ → StorageEntryData T → StorageEntryData T
-  at_index x (slot.Data k i v) = slot.Data k x v
-  at_index x (slot.Lent k i) = slot.Lent k x
-  at_index x d = d
-
-  -- another value in the place of one
-  abbrev pub replaced_data : T → StorageEntryData T → StorageEntryData T
-  replaced_data v (slot.Data k i old) = slot.Data k i v
-  replaced_data v d = d
-
-  -- a lent value that is back
-  abbrev pub back_data : T → StorageEntryData T → StorageEntryData T
-  back_data v (slot.Lent k i) = slot.Data k no_index v
-  back_data v d = d
-
-  abbrev pub with_data : (StorageEntryData T → StorageEntryData T) → StorageEntry T
-      → StorageEntry T
-  with_data f e = record { generation = e.generation; content = f e.content }
-
-  -- the slots, of which one has index 0 though it doesn't say so
-  abbrev pub with_first : ℕ → List (StorageEntry T) → List (StorageEntry T)
-  with_first s [] = []
-  with_first zero (e ∷ es) = with_data (at_index 0) e ∷ es
-  with_first (suc s) (e ∷ es) = e ∷ with_first s es
-
-  -- what stands at a generation of a slot
-  abbrev pub data_at : Option (StorageEntry T) → ℕ → StorageEntryData T
-  data_at None g = slot.Empty
-  data_at (Some e) g = if nat_eq e.generation g then e.content else slot.Empty
 
   -- the cell lent to the writer at an index, if it's a value
   abbrev pub lent_data : ℕ → StorageEntryData T → StorageEntryData T
@@ -162,23 +106,6 @@ module _ {T : Type 0} where
   abbrev pub IsIndexed : Option (StorageEntry T) → Type 0
   IsIndexed None = Unit {0}
   IsIndexed (Some e) = LentHasIndex e.content
-
-module _ {T : Type 0} where
-  -- a value that says that it has no borrows, or a lent one that says so of its writer
-  abbrev pub IsSilent : StorageEntryData T → Type 0
-  IsSilent (slot.Data k i v) = i ≡ no_index
-  IsSilent (slot.Lent k i) = i ≡ no_index
-  IsSilent _ = ⊥
-
-  abbrev pub IsFirst : ℕ → Option (StorageEntry T) → Type 0
-  IsFirst g None = ⊥
-  IsFirst g (Some e) = (e.generation ≡ g) × IsSilent e.content
-
--- The slot at index 0, if there is one, has the generation that is noted, and no slot says that it
--- has this index.
-pub record AreSilent {T : Type 0} (slot generation : ℕ) (es : List (StorageEntry T)) : Type 0 where
-  pub there : (slot ≡ no_slot) ⊎ IsFirst generation (slice_get es slot)
-  pub others : (k : ℕ) → index_in (slice_get es k) ≢ 0
 
 -- What holds of a store's slots and the table of their borrows.
 pub record AreIndexed {T : Type 0} (t : Table) (es : List (StorageEntry T)) : Type 0 where

@@ -63,10 +63,10 @@ abbrev pub Releases : Table → Table → ℕ → ℕ → List Borrow → Type 0
 Releases t t' x y [] = (y ≡ no_index) × IsClosed t t' x
 Releases t t' x y left = (y ≡ x) × (t' ≡ record t { lists = slice_set t.lists x left })
 
--- the list at index 0 stands at another index, and index 0 is free
-pub record IsMoved (t t' : Table) (y : ℕ) : Type 0 where
+-- the list at index 0 stands at another index with a borrow more, and index 0 is free
+pub record IsJoined (t t' : Table) (y : ℕ) (list : List Borrow) : Type 0 where
   pub above : 0 < y
   pub vacant : IsVacant t y
-  pub lists : t'.lists ≡ put_list t.lists y (list_at t.lists 0)
+  pub lists : t'.lists ≡ put_list t.lists y list
   pub free : t'.free ≡ set.insert (set.remove t.free y) 0
   pub rooms : t'.rooms ≡ t.rooms

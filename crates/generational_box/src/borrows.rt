@@ -56,6 +56,18 @@ impl Borrows {
         }
     }
 
+    // Two borrows, in order.
+    #[cold]
+    #[inline(never)]
+    pub(crate) fn pair(alloc: Global, first: Borrow, second: Borrow) -> Result<Borrows, AllocError>
+        requires { first.ticket < second.ticket }
+        ensures { IfOk result (λ borrows. borrows ≡ first ∷ second ∷ []) }
+    {
+        let mut others = VecDeque::with_capacity(alloc, 1)?;
+        others.push_back_reserved(second);
+        Ok(Borrows { first, others })
+    }
+
     // The borrow that began first.
     #[inline(always)]
     pub(crate) fn first(&self) -> Borrow

@@ -3,7 +3,7 @@
 ghost use Rattle.std.specs.Prelude.{◌≡◌, ◌≢◌, ◌+◌, ◌-◌, ◌<◌, ◌≤◌, ◌∷◌, ◌++◌, [], true, Some, Err};
 ghost use Rattle.std.specs.Prelude.{IsTrue};
 ghost use Rattle.std.specs.Prelude.{◌↔◌, IfSome, IfErr, OnOk, OnErr, is_some, is_none, is_ok};
-ghost use Rattle.std.specs.Prelude.{length, List, None};
+ghost use Rattle.std.specs.Prelude.{length};
 ghost use Rattle.std.specs.Prelude.{option_copied, option_map, slice_get, slice_set};
 ghost use Rattle.generational_core.specs.Cells.Content.{Here};
 ghost use Rattle.generational_core.specs.Borrowing.{read_refusal, write_refusal};
@@ -18,14 +18,11 @@ ghost use Rattle.generational_box.specs.Borrows.{AreBelow};
 ghost use Rattle.generational_box.specs.Table.{no_index, IsUsed, Releases};
 ghost use Rattle.generational_box.specs.Table.{list_at};
 ghost use Rattle.std.specs.List.{list_any, filter};
-ghost use Rattle.std.specs.FinSet as set;
 ghost use Rattle.std.specs.Prelude.{nat_eq, not, IfOk};
 ghost use Rattle.generational_box.specs.Entry.Kept.{Empty};
 ghost use Rattle.generational_box.specs.Entry.{cell_of, kind_in, name_of_cell, readers_of};
 ghost use Rattle.generational_box.specs.Entry.{is_unborrowed_value, referring, target_in};
-ghost use Rattle.generational_box.specs.Entries.{AreIndexed, IsUnborrowed, kept_data};
-ghost use Rattle.generational_box.specs.declared.entry.EntryDetails.{EntryDetails};
-ghost use Rattle.generational_box.specs.Entries.{entries_of};
+ghost use Rattle.generational_box.specs.Entries.{IsUnborrowed, kept_data};
 ghost use Rattle.generational_core.specs.Borrowing.{leads_to};
 ghost use Rattle.generational_core.specs.Cells.{content_of, location_of};
 ghost use Rattle.generational_box.specs.Entry.{content_in, has_no_borrow, with_reader, value_for};
@@ -34,8 +31,7 @@ ghost use Rattle.generational_box.specs.Entry.{FoundBorrowed, FoundReaders};
 ghost use Rattle.generational_box.specs.Slotted.{cell_at, change_entry};
 
 use crate::borrows::Borrows;
-use crate::entry::{CellName, EntryDetails, Kind, NO_INDEX, StorageEntryData};
-use crate::indexed::IndexedEntries;
+use crate::entry::{CellName, EntryDetails, Kind, NO_INDEX, StorageEntry, StorageEntryData};
 use crate::room::{more_room, reserve_room};
 use crate::table::BorrowTable;
 use generational_core::parts::Borrow;
@@ -45,17 +41,17 @@ use generational_core::{
 };
 use std::alloc::{AllocError, Global};
 use std::marker::Model;
+use std::mem;
 
 /// The slots of a store. Contracts see each as its generation and its cell with the borrows that
 /// stand there, and for how many slots there is room.
 ///
 /// What every call asks for stands together in `entries`; what is seldom asked of a cell stands
-/// apart, and so do borrows, in a table that stays as small as the most that stood at once. The
-/// borrow that began last has index 0 there, until another begins.
+/// apart, and so do borrows, in a table that stays as small as the most that stood at once.
 #[derive(Drop)]
 pub(crate) struct Entries<T> {
     alloc: Global,
-    entries: IndexedEntries<T>,
+    entries: Vec<StorageEntry<T>>,
     details: Vec<EntryDetails>,
     borrows: BorrowTable,
     // for how many slots there is room in each of these
@@ -63,22 +59,20 @@ pub(crate) struct Entries<T> {
 }
 
 impl<T> Model for Entries<T> {
-    ghost use Rattle.std.specs.Prelude.{◌≡◌, ◌≤◌, length, is_none, vec_capacity};
-    ghost use Rattle.std.specs.FinSet as set;
+    ghost use Rattle.std.specs.Prelude.{◌≡◌, ◌≤◌, length, vec_capacity};
     ghost use Rattle.generational_box.specs.Entries.{EntryList, entries_of, AreIndexed, AreRoomy};
 
     ghost Value = { EntryList T };
 
     ghost view = { λ e. record {
-      slots = entries_of e.borrows.lists e.entries.entries e.details.items;
+      slots = entries_of e.borrows.lists e.entries.items e.details.items;
       rooms = e.room;
     } };
 
-    ghost invariant = { λ e. AreIndexed e.borrows e.entries.entries
-        × (length e.details.items ≡ length e.entries.entries)
-        × AreRoomy e.room (length e.entries.entries) e.entries.rooms
-        (vec_capacity e.details) e.borrows.rooms
-        × (set.contains e.borrows.free 0 ≡ is_none e.entries.first) };
+    ghost invariant = { λ e. AreIndexed e.borrows e.entries.items
+        × (length e.details.items ≡ length e.entries.items)
+        × AreRoomy e.room (length e.entries.items) (vec_capacity e.entries)
+        (vec_capacity e.details) e.borrows.rooms };
 }
 
 impl<T> Entries<T> {
@@ -88,7 +82,7 @@ impl<T> Entries<T> {
     {
         Entries {
             alloc,
-            entries: IndexedEntries::new(alloc),
+            entries: Vec::new(alloc),
             details: Vec::new(alloc),
             borrows: BorrowTable::new(alloc),
             room: 0,
@@ -125,7 +119,7 @@ impl<T> Entries<T> {
         ensures cause { IfErr result (λ error. error ≡ OutOfMemory) }
     {
         let room = larger_room(self.room)?;
-        self.entries.reserve(self.alloc, room)?;
+        reserve_room(&mut self.entries, self.alloc, room)?;
         reserve_room(&mut self.details, self.alloc, room)?;
         self.borrows.grow(room)?;
         self.room = room;
@@ -138,7 +132,10 @@ impl<T> Entries<T> {
         ensures { option_map name_of_cell result ≡ leads_to
             (cell_at self.now.slots (name_of_cell name)) (name_of_cell name) }
     {
-        self.entries.reach(name)
+        match self.entries.get(name.slot) {
+            Some(entry) => entry.reach(name),
+            None => None,
+        }
     }
 
     // Whose the value of this name is, also one that is lent.
@@ -146,15 +143,10 @@ impl<T> Entries<T> {
     pub(crate) fn kind(&self, name: CellName) -> Option<Kind>
         ensures { result ≡ kind_in (cell_at self.now.slots (name_of_cell name)) }
     {
-        self.entries.kind(name)
-    }
-
-    // Whether the cell of this name is a value, also one that is lent.
-    #[inline(always)]
-    pub(crate) fn holds(&self, name: CellName) -> bool
-        ensures { result ≡ is_some (kind_in (cell_at self.now.slots (name_of_cell name))) }
-    {
-        self.entries.holds(name)
+        match self.entries.get(name.slot) {
+            Some(entry) => entry.kind(name.generation),
+            None => None,
+        }
     }
 
     // Whether the cell of this name is a value that isn't shared and has no borrow.
@@ -162,7 +154,10 @@ impl<T> Entries<T> {
     pub(crate) fn has_unborrowed_value(&self, name: CellName) -> bool
         ensures { result ≡ is_unborrowed_value (cell_at self.now.slots (name_of_cell name)) }
     {
-        self.entries.has_unborrowed_value(name)
+        match self.entries.get(name.slot) {
+            Some(entry) => entry.has_unborrowed_value(name.generation),
+            None => false,
+        }
     }
 
     // What the reference of this name names.
@@ -171,7 +166,10 @@ impl<T> Entries<T> {
         ensures { option_map name_of_cell result
             ≡ target_in (cell_at self.now.slots (name_of_cell name)) }
     {
-        self.entries.target(name)
+        match self.entries.get(name.slot) {
+            Some(entry) => entry.target(name.generation),
+            None => None,
+        }
     }
 
     // Where the slot's cell was made, and how many references name it.
@@ -192,7 +190,7 @@ impl<T> Entries<T> {
         ensures { IfSome (slice_get self.now.slots slot)
             (λ e. result ≡ content.Reference slot e.generation) }
     {
-        let generation = self.entries.generation(slot);
+        let generation = self.entries[slot].generation;
         StorageEntryData::Reference(slot as u32, generation)
     }
 
@@ -202,7 +200,7 @@ impl<T> Entries<T> {
         requires { slot < length self.now.slots }
         ensures { IfSome (slice_get self.now.slots slot) (λ e. result ≡ e.generation) }
     {
-        self.entries.generation(slot)
+        self.entries[slot].generation
     }
 
     // The writer that stands in the way of a read.
@@ -212,11 +210,13 @@ impl<T> Entries<T> {
         ensures { IfSome (slice_get self.now.slots slot) (λ e. option_map
             (λ x. BeingWritten x.borrowed_mut_at) result ≡ read_refusal (content_in e.kept)) }
     {
-        if !self.entries.is_lent(slot) {
-            return None;
+        match &self.entries[slot].content {
+            StorageEntryData::Lent(_, index) => {
+                let writer = self.borrows.first(*index);
+                Some(AlreadyBorrowedMutError::new(writer.location))
+            }
+            _ => None,
         }
-        let writer = self.borrows.first(self.entries.index(slot));
-        Some(AlreadyBorrowedMutError::new(writer.location))
     }
 
     // Whether no borrow stands at the cell.
@@ -226,7 +226,11 @@ impl<T> Entries<T> {
         ensures { IfSome (slice_get self.now.slots slot)
             (λ e. result ≡ is_none (write_refusal (content_in e.kept))) }
     {
-        self.entries.index(slot) == NO_INDEX
+        match &self.entries[slot].content {
+            StorageEntryData::Data(_, index, _) => *index == NO_INDEX,
+            StorageEntryData::Lent(_, _) => false,
+            _ => true,
+        }
     }
 
     // The borrows that stand in the way of a write or an end.
@@ -236,14 +240,16 @@ impl<T> Entries<T> {
         ensures { IfSome (slice_get self.now.slots slot)
             (λ e. FoundBorrowed (write_refusal (content_in e.kept)) result) }
     {
-        let index = self.entries.index(slot);
-        if index == NO_INDEX {
-            return Ok(());
+        match &self.entries[slot].content {
+            StorageEntryData::Data(_, index, _) => {
+                if *index == NO_INDEX {
+                    return Ok(());
+                }
+                Err(readers_error(&self.borrows, *index, self.alloc))
+            }
+            StorageEntryData::Lent(_, index) => Err(writer_error(self.borrows.first(*index))),
+            _ => Ok(()),
         }
-        if self.entries.is_lent(slot) {
-            return Err(writer_error(self.borrows.first(index)));
-        }
-        Err(readers_error(&self.borrows, index, self.alloc))
     }
 
     // The value, where the reader stands.
@@ -253,14 +259,15 @@ impl<T> Entries<T> {
         ensures { IfSome (slice_get self.now.slots slot)
             (λ e. option_copied result ≡ value_for ticket (content_in e.kept)) }
     {
-        let index = self.entries.index(slot);
-        if index == NO_INDEX {
-            return None;
+        match &self.entries[slot].content {
+            StorageEntryData::Data(_, index, value) => {
+                if *index != NO_INDEX && self.borrows.contains(*index, ticket) {
+                    return Some(value);
+                }
+                None
+            }
+            _ => None,
         }
-        if !self.borrows.contains(index, ticket) {
-            return None;
-        }
-        self.entries.value(slot)
     }
 }
 
@@ -279,32 +286,20 @@ impl<T: Drop> Entries<T> {
             (λ e. is_some (write_refusal (content_in e.kept)) ≡ true)) }
         ensures rooms { self.new.rooms ≡ self.old.rooms }
     {
-        settle(&mut self.entries, &mut self.borrows);
-        if self.entries.value(slot).is_none() {
-            return Ok(());
+        match &mut self.entries[slot].content {
+            StorageEntryData::Data(_, index, _) => {
+                if *index == NO_INDEX {
+                    *index = self.borrows.open(borrow);
+                    return Ok(());
+                }
+                if *index == 0 {
+                    *index = self.borrows.join(borrow)?;
+                    return Ok(());
+                }
+                self.borrows.push(*index, borrow)
+            }
+            _ => Ok(()),
         }
-        let index = self.entries.index(slot);
-        if index != NO_INDEX {
-            return self.borrows.push(index, borrow);
-        }
-        self.entries.put_first(slot);
-        self.borrows.put_first(borrow);
-        Ok(())
-    }
-
-    // Adds a reader to a cell without borrows. Takes no memory.
-    #[inline(always)]
-    pub(crate) fn begin_first_read(&mut self, slot: usize, borrow: Borrow)
-        requires within { slot < length self.old.slots }
-        requires free { IfSome (slice_get self.old.slots slot)
-            (λ e. has_no_borrow (content_in e.kept) ≡ true) }
-        ensures after { self.new.slots ≡ change_entry self.old.slots slot
-            (λ e. record e { kept = with_reader borrow e.kept }) }
-        ensures rooms { self.new.rooms ≡ self.old.rooms }
-    {
-        settle(&mut self.entries, &mut self.borrows);
-        self.entries.put_first(slot);
-        self.borrows.put_first(borrow);
     }
 
     // Takes a reader away. The answer is whether it stood.
@@ -317,18 +312,15 @@ impl<T: Drop> Entries<T> {
             (λ e. record e { kept = without_reader_in ticket e.kept }) }
         ensures rooms { self.new.rooms ≡ self.old.rooms }
     {
-        if self.entries.is_lent(slot) {
-            return false;
+        match &mut self.entries[slot].content {
+            StorageEntryData::Data(_, index, _) => {
+                if *index == NO_INDEX {
+                    return false;
+                }
+                self.borrows.release(index, ticket)
+            }
+            _ => false,
         }
-        let mut index = self.entries.index(slot);
-        if index == NO_INDEX {
-            return false;
-        }
-        let known = self.borrows.release(&mut index, ticket);
-        if index == NO_INDEX {
-            self.entries.clear_index(slot);
-        }
-        known
     }
 
     // Lends the value of a cell without borrows to a writer.
@@ -343,9 +335,8 @@ impl<T: Drop> Entries<T> {
             (λ e. record e { kept = lend_to writer e.kept }) }
         ensures rooms { self.new.rooms ≡ self.old.rooms }
     {
-        settle(&mut self.entries, &mut self.borrows);
-        self.borrows.put_first(writer);
-        self.entries.lend(slot)
+        let index = self.borrows.open(writer);
+        self.entries[slot].content.lend(index)
     }
 
     // Puts a writer's value back, or hands it back where the writer doesn't stand, which changes
@@ -360,16 +351,15 @@ impl<T: Drop> Entries<T> {
         ensures err { IfErr result (λ back. (back ≡ value) × (self.new ≡ self.old)) }
         ensures rooms { self.new.rooms ≡ self.old.rooms }
     {
-        if !self.entries.is_lent(slot) {
-            return Err(value);
+        match &self.entries[slot].content {
+            StorageEntryData::Lent(kind, index) if self.borrows.is_first(*index, ticket) => {
+                let (kind, index) = (*kind, *index);
+                self.entries[slot].content = StorageEntryData::Data(kind, NO_INDEX, value);
+                self.borrows.close(index);
+                Ok(())
+            }
+            _ => Err(value),
         }
-        let index = self.entries.index(slot);
-        if !self.borrows.is_first(index, ticket) {
-            return Err(value);
-        }
-        self.entries.put_back(slot, value);
-        self.borrows.close(index);
-        Ok(())
     }
 
     // Puts another value in the place of that of a cell without borrows, and answers the old one.
@@ -384,7 +374,10 @@ impl<T: Drop> Entries<T> {
             (λ e. record e { kept = with_value value e.kept }) }
         ensures rooms { self.new.rooms ≡ self.old.rooms }
     {
-        self.entries.replace(slot, value)
+        match &mut self.entries[slot].content {
+            StorageEntryData::Data(_, _, kept) => mem::replace(kept, value),
+            _ => unreachable!(),
+        }
     }
 
     // Ends the slot's cell, with the borrows that stand there.
@@ -395,8 +388,8 @@ impl<T: Drop> Entries<T> {
             (λ e. record e { kept = Empty }) }
         ensures rooms { self.new.rooms ≡ self.old.rooms }
     {
-        let index = self.entries.index(slot);
-        self.entries.write(slot, StorageEntryData::Empty);
+        let index = self.entries[slot].index();
+        self.entries[slot].content = StorageEntryData::Empty;
         if index != NO_INDEX {
             self.borrows.close(index);
         }
@@ -426,7 +419,7 @@ impl<T: Drop> Entries<T> {
             created_at,
             references: 0,
         };
-        self.entries.refill(slot, content)
+        self.entries[slot].refill(content)
     }
 
     // Adds a slot with a cell without borrows, to which nothing refers. There is room for it.
@@ -445,7 +438,10 @@ impl<T: Drop> Entries<T> {
         ensures rooms { self.new.rooms ≡ self.old.rooms }
         ensures few { length self.old.slots < no_index }
     {
-        self.entries.push(generation, content);
+        self.entries.push_reserved(StorageEntry {
+            generation,
+            content,
+        });
         self.details.push_reserved(EntryDetails {
             created_at,
             references: 0,
@@ -464,8 +460,7 @@ impl<T: Drop> Entries<T> {
             })) }
         ensures rooms { self.new.rooms ≡ self.old.rooms }
     {
-        let reference = self.reference_to(target);
-        self.entries.write(slot, reference);
+        self.entries[slot].content = self.reference_to(target);
     }
 
     // One reference more names the slot's cell.
@@ -491,31 +486,6 @@ impl<T: Drop> Entries<T> {
         ensures rooms { self.new.rooms ≡ self.old.rooms }
     {
         self.details[slot].references -= 1;
-    }
-}
-
-// Gives another index to the slot at index 0, if there is one, so that this is free. Takes no
-// memory.
-#[inline(always)]
-fn settle<T: Drop>(entries: &mut IndexedEntries<T>, borrows: &mut BorrowTable)
-    requires indexed { AreIndexed borrows.old entries.old.entries }
-    requires first { set.contains borrows.old.free 0 ≡ is_none entries.old.first }
-    requires details { (ls : List EntryDetails) × (length ls ≡ length entries.old.entries) }
-    requires room { length entries.old.entries ≤ borrows.old.rooms }
-    requires small { length entries.old.entries + 1 < no_index }
-    ensures indexed { AreIndexed borrows.new entries.new.entries }
-    ensures free { set.contains borrows.new.free 0 ≡ true }
-    ensures none { entries.new.first ≡ None }
-    ensures slots { (ls : List EntryDetails) → length ls ≡ length entries.old.entries
-        → entries_of borrows.new.lists entries.new.entries ls
-        ≡ entries_of borrows.old.lists entries.old.entries ls }
-    ensures length { length entries.new.entries ≡ length entries.old.entries }
-    ensures rooms { borrows.new.rooms ≡ borrows.old.rooms }
-    ensures capacity { entries.new.rooms ≡ entries.old.rooms }
-{
-    if let Some(slot) = entries.first() {
-        let index = borrows.move_first();
-        entries.move_first(slot, index);
     }
 }
 

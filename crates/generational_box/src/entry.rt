@@ -1,8 +1,10 @@
 //! What a slot keeps in one place: the generation of its last cell, and that cell.
 
-ghost use Rattle.std.specs.Prelude.{◌≡◌, ◌+◌, ◌<◌, IsSome, Some, option_map};
+ghost use Rattle.std.specs.Prelude.{◌≡◌, ◌+◌, ◌<◌, IsSome, None, Some, nat_eq, option_map};
+ghost use Rattle.std.specs.Prelude.{if◌then◌else◌};
 ghost use Rattle.generational_core.specs.Slots.{last_generation};
-ghost use Rattle.generational_box.specs.Entries.{at_index, data_at, is_unborrowed_data, lent_data};
+ghost use Rattle.std.specs.Prelude.{false};
+ghost use Rattle.generational_box.specs.Entries.{is_unborrowed_data, lent_data};
 ghost use Rattle.generational_box.specs.Entries.{index_of, lead_of, kind_of, target_of, value_in};
 ghost use Rattle.generational_box.specs.Entry.{name_of_cell};
 
@@ -56,8 +58,8 @@ impl<T> StorageEntry<T> {
     // that is a value that isn't shared, or the target of a reference.
     #[inline(always)]
     pub(crate) fn reach(&self, name: CellName) -> Option<CellName>
-        ensures { option_map name_of_cell result
-            ≡ lead_of (data_at (Some self.now) name.generation) (name_of_cell name) }
+        ensures { option_map name_of_cell result ≡ if nat_eq self.now.generation name.generation
+            then lead_of self.now.content (name_of_cell name) else None }
     {
         if self.generation != name.generation {
             return None;
@@ -78,7 +80,8 @@ impl<T> StorageEntry<T> {
     // Whose the slot's value is, also one that is lent, if the slot's cell has this generation.
     #[inline(always)]
     pub(crate) fn kind(&self, generation: u64) -> Option<Kind>
-        ensures { result ≡ kind_of (data_at (Some self.now) generation) }
+        ensures { result ≡ if nat_eq self.now.generation generation
+            then kind_of self.now.content else None }
     {
         if self.generation != generation {
             return None;
@@ -93,7 +96,8 @@ impl<T> StorageEntry<T> {
     // borrow.
     #[inline(always)]
     pub(crate) fn has_unborrowed_value(&self, generation: u64) -> bool
-        ensures { result ≡ is_unborrowed_data (data_at (Some self.now) generation) }
+        ensures { result ≡ if nat_eq self.now.generation generation
+            then is_unborrowed_data self.now.content else false }
     {
         if self.generation != generation {
             return false;
@@ -107,8 +111,8 @@ impl<T> StorageEntry<T> {
     // The target of the slot's reference, if the slot's cell has this generation and is one.
     #[inline(always)]
     pub(crate) fn target(&self, generation: u64) -> Option<CellName>
-        ensures { option_map name_of_cell result
-            ≡ target_of (data_at (Some self.now) generation) }
+        ensures { option_map name_of_cell result ≡ if nat_eq self.now.generation generation
+            then target_of self.now.content else None }
     {
         if self.generation != generation {
             return None;
@@ -154,17 +158,6 @@ impl<T> StorageEntryData<T> {
                 generation: *generation,
             }),
             _ => None,
-        }
-    }
-
-    // The borrows of a value, or the writer that has it, stand at another index.
-    pub(crate) fn set_index(&mut self, index: u32)
-        ensures { self.new ≡ at_index index self.old }
-    {
-        match self {
-            StorageEntryData::Data(_, place, _) => *place = index,
-            StorageEntryData::Lent(_, place) => *place = index,
-            _ => {}
         }
     }
 

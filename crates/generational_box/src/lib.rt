@@ -18,7 +18,6 @@ mod entries;
 mod entry;
 mod free_list;
 mod hindrance;
-mod indexed;
 mod indexes;
 mod owners;
 mod parts;

@@ -189,7 +189,7 @@ impl<T: Drop, P: SlotPool> Parts<T, P> {
     fn holds(&self, id: GenerationalBoxId) -> bool
         ensures { result ≡ is_some (content_of (own_cell self.now id)) }
     {
-        id.store == self.number && self.slots.holds(cell_name(id))
+        id.store == self.number && self.slots.kind(cell_name(id)).is_some()
     }
 }
 
@@ -479,31 +479,9 @@ impl<T: Drop, P: SlotPool> Parts<T, P> {
         ensures { Meets self.old (Read pointer location) (read_answer result) self.new }
     {
         if self.has_unborrowed_value(pointer) {
-            return self.begin_first_read(pointer, location);
+            return self.begin_read(pointer, cell_name(pointer.id), location);
         }
         self.try_read_any(pointer, location)
-    }
-
-    // Begins a read of a value that isn't shared and has no borrow.
-    #[inline(always)]
-    fn begin_first_read(
-        &mut self,
-        pointer: GenerationalPointer,
-        location: Location,
-    ) -> BorrowResult<GenerationalRef<T>>
-        requires sound { IsSound self.old }
-        requires free { is_unborrowed_value (own_cell self.old pointer.id) ≡ true }
-        ensures { Meets self.old (Read pointer location) (read_answer result) self.new }
-    {
-        let name = cell_name(pointer.id);
-        let ticket = self.next;
-        if ticket == u64::MAX {
-            return Err(Refused::Store(StoreError::NumbersExhausted));
-        }
-        self.slots
-            .begin_first_read(name, Borrow { ticket, location });
-        self.next = ticket + 1;
-        Ok(reader_at(self.id_of(name), ticket))
     }
 
     // The same, for every box.

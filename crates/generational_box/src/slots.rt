@@ -144,14 +144,6 @@ impl<T: Drop, P: SlotPool> Slots<T, P> {
         self.entries.kind(name)
     }
 
-    // Whether the cell of this name is a value, also one that is lent.
-    #[inline(always)]
-    pub(crate) fn holds(&self, name: CellName) -> bool
-        ensures { result ≡ is_some (kind_in (map.get self.now.state.cells (name_of_cell name))) }
-    {
-        self.entries.holds(name)
-    }
-
     // What the reference of this name names.
     #[inline(always)]
     pub(crate) fn target(&self, name: CellName) -> Option<CellName>
@@ -239,16 +231,6 @@ impl<T: Drop, P: SlotPool> Slots<T, P> {
             (write_refusal (content_at self.old.state (name_of_cell name))) ≡ true) }
     {
         self.entries.begin_read(name.slot, borrow)
-    }
-
-    // Adds a reader to a value without borrows. Takes no memory.
-    #[inline(always)]
-    pub(crate) fn begin_first_read(&mut self, name: CellName, borrow: Borrow)
-        requires { has_no_borrow (content_at self.old.state (name_of_cell name)) ≡ true }
-        ensures { IfSome (content_at self.old.state (name_of_cell name))
-            (λ c. self.new.state ≡ fill self.old.state (name_of_cell name) (one_read borrow c)) }
-    {
-        self.entries.begin_first_read(name.slot, borrow);
     }
 
     // Takes a reader away. The answer is whether it stood.

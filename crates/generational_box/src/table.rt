@@ -1,12 +1,12 @@
 //! The table of all standing borrows of a store.
 
-ghost use Rattle.std.specs.Prelude.{◌≡◌, ◌<◌, ◌≤◌, ◌∷◌, ◌++◌, [], true, false, length, not, nat_eq};
+ghost use Rattle.std.specs.Prelude.{◌≡◌, ◌<◌, ◌≤◌, ◌∷◌, ◌++◌, [], false, length, not, nat_eq};
 ghost use Rattle.std.specs.Prelude.{slice_get, slice_set, Some, IfOk, IfErr, OnOk, OnErr};
 ghost use Rattle.std.specs.List.{list_any, filter};
 ghost use Rattle.std.specs.FinSet as set;
 ghost use Rattle.generational_core.specs.declared.error.StoreError.TheVariants.{OutOfMemory};
 ghost use Rattle.generational_box.specs.Borrows.{AreBelow, is_first_of};
-ghost use Rattle.generational_box.specs.Table.{list_at, put_list, IsVacant, IsMoved, IsUsed};
+ghost use Rattle.generational_box.specs.Table.{list_at, put_list, IsVacant, IsJoined, IsUsed};
 ghost use Rattle.generational_box.specs.Table.{IsClosed};
 ghost use Rattle.generational_box.specs.Table.{Releases};
 
@@ -22,8 +22,8 @@ use std::marker::Model;
 /// The standing borrows of a store: at each index those of one cell. An index that was given back
 /// is used again.
 ///
-/// Index 0 stands in place, for one borrow: the one that began last, until another begins. One that
-/// is released before that never touches the others.
+/// Index 0 stands in place, for one borrow: one that is released before the next begins never
+/// touches the others.
 #[derive(Drop)]
 pub(crate) struct BorrowTable {
     alloc: Global,
@@ -92,18 +92,22 @@ impl BorrowTable {
         self.free.reserve(self.alloc, room + 1)
     }
 
-    // Begins a list with one borrow at index 0, which is free. Takes no memory.
+    // Begins a list with one borrow, at an index that wasn't in use. Takes no memory.
     #[inline(always)]
-    pub(crate) fn put_first(&mut self, borrow: Borrow)
-        requires { set.contains self.old.free 0 ≡ true }
-        ensures vacant { IsVacant self.old 0 }
-        ensures lists { self.new.lists ≡ put_list self.old.lists 0 (borrow ∷ []) }
-        ensures free { self.new.free ≡ set.remove self.old.free 0 }
+    pub(crate) fn open(&mut self, borrow: Borrow) -> u32
+        requires room { self.old.free ≡ set.empty → length self.old.lists ≤ self.old.rooms }
+        requires small { length self.old.lists < 4294967295 }
+        ensures vacant { IsVacant self.old result }
+        ensures lists { self.new.lists ≡ put_list self.old.lists result (borrow ∷ []) }
+        ensures free { self.new.free ≡ set.remove self.old.free result }
         ensures rooms { self.new.rooms ≡ self.old.rooms }
     {
-        self.first.ticket = borrow.ticket;
-        self.first.location = borrow.location;
-        self.is_vacant = false;
+        if self.is_vacant {
+            self.first = borrow;
+            self.is_vacant = false;
+            return 0;
+        }
+        self.open_beside(Borrows::new(self.alloc, borrow))
     }
 
     // Begins a list at an index that isn't 0.
@@ -130,18 +134,22 @@ impl BorrowTable {
         }
     }
 
-    // Gives another index to the borrow at index 0, and index 0 back. Takes no memory.
-    #[cold]
-    #[inline(never)]
-    pub(crate) fn move_first(&mut self) -> u32
+    // Begins a list with the borrow in place and another behind it, at an index that isn't 0, and
+    // gives index 0 back. Want of memory changes nothing.
+    #[inline(always)]
+    pub(crate) fn join(&mut self, borrow: Borrow) -> Result<u32, AllocError>
         requires used { set.contains self.old.free 0 ≡ false }
         requires room { self.old.free ≡ set.empty → length self.old.lists ≤ self.old.rooms }
         requires small { length self.old.lists < 4294967295 }
-        ensures { IsMoved self.old self.new result }
+        requires ascends { AreBelow borrow.ticket (list_at self.old.lists 0) }
+        ensures ok { IfOk result (λ index. IsJoined self.old self.new index
+            (list_at self.old.lists 0 ++ borrow ∷ [])) }
+        ensures err { OnErr result (self.new ≡ self.old) }
     {
-        let index = self.open_beside(Borrows::new(self.alloc, self.first));
+        let list = Borrows::pair(self.alloc, self.first, borrow)?;
+        let index = self.open_beside(list);
         self.is_vacant = true;
-        index
+        Ok(index)
     }
 
     // Gives an index back. What stands there is forgotten.

@@ -38,11 +38,6 @@ pub free_used : (b : Bool) (s : set.FinSet nat_cmp) → set.contains (free_with 
 free_used true s used = absurd (true≢false (sym (inserted s 0) ∙ used))
 free_used false s used = refl
 
-pub free_vacant : (b : Bool) (s : set.FinSet nat_cmp) → set.contains s 0 ≡ false
-    → set.contains (free_with b s) 0 ≡ true → b ≡ true
-free_vacant true s none free = refl
-free_vacant false s none free = absurd (false≢true (sym none ∙ free))
-
 pub none_free : (b : Bool) (s : set.FinSet nat_cmp) → set.contains (free_with b s) 0 ≡ false
     → s ≡ set.empty → free_with b s ≡ set.empty
 none_free b s used none = rw (free_used b s used) none

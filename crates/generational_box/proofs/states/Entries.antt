@@ -19,11 +19,10 @@ use Rattle.generational_core.specs.Borrowing.{leads_to, read_refusal, write_refu
 use Rattle.generational_core.specs.Cells.Content.{Here, Lent}
 use Rattle.generational_box.specs.Entry.{Entry, with_reader, without_reader_in, content_in}
 use Rattle.generational_box.specs.Entry.{has_no_borrow, cell_of, kind_in, target_in}
-use Rattle.generational_box.specs.Entry.{is_unborrowed_value, Kept, value_for}
+use Rattle.generational_box.specs.Entry.{is_unborrowed_value}
 use Rattle.generational_core.specs.Machine.{has_reader, has_writer}
 use Rattle.generational_box.specs.Entries.{EntryList, AreRoomy, IsUnborrowed, kept_data}
-use Rattle.generational_box.specs.Entries.{at_index, data_at, first_left, is_lent_data, is_unborrowed_data}
-use Rattle.generational_box.specs.Entries.{kind_of, lead_of, target_of, value_in, with_data}
+use Rattle.generational_box.specs.Entries.{is_unborrowed_data, kind_of, lead_of, target_of}
 use Rattle.generational_box.specs.Table.{Releases}
 use Rattle.generational_box.specs.Entries.{index_in, index_of, has_index, entry_of}
 use Rattle.generational_box.specs.Table.{no_index}
@@ -37,17 +36,14 @@ use Rattle.generational_core.specs.declared.error.Location.{Location}
 use Rattle.generational_core.specs.Cells.{Content, Cell, location_of}
 use Rattle.std.specs.Cmp.{nat_eq_equiv}
 unfoldable use Rattle.generational_box.specs.Entries.{entries_of}
-use Rattle.generational_box.specs.Table.{Table, list_at, IsVacant, IsClosed, IsMoved}
+use Rattle.generational_box.specs.Table.{Table, list_at, IsVacant, IsClosed, IsJoined}
 use Rattle.generational_box.specs.Slotted.{how_many, cell_in, change_entry, change_entry_if}
-use Rattle.generational_box.proofs.lists.Lists.{IsWritten, cond_same, set-own, set_written, bit, passes}
+use Rattle.generational_box.proofs.lists.Lists.{IsWritten, set-own, set_written, bit, passes}
 use Rattle.generational_box.proofs.lists.TableChanges.{Changes, Opens, closed, closed_count}
 use Rattle.generational_box.proofs.lists.TableChanges.{list_changed, none_some, opened}
 use Rattle.generational_box.proofs.lists.TableChanges.{opened_count, opened_few, opened_list}
 use Rattle.generational_box.proofs.lists.TableChanges.{opened_used, used_still}
-use Rattle.generational_box.proofs.lists.Lists.{contains-insert_at, contains-remove_at}
-use Rattle.generational_box.proofs.lists.Tables.{inserted, removed_none}
-use Rattle.std.proofs.Math.Dec.{eqb-zero-suc}
-use Rattle.std.specs.List.{list_any}
+use Rattle.generational_box.proofs.lists.Tables.{removed_none}
 use Rattle.std.specs.FinSet as set
 use Rattle.generational_box.specs.declared.entry.StorageEntryData.TheVariants as slot
 
@@ -175,7 +171,7 @@ module _ {T : Type 0} where
 
 -- ---- a store's slots, as their methods find them
 
--- the slots and their details, and the table, with what contracts see
+-- the vectors of the slots and of locations, and the table, with what contracts see
 pub record IsKept {T : Type 0} (t : Table) (es : List (StorageEntry T)) (ls : List EntryDetails)
     (now : EntryList T) : Type 0 where
   pub slots : entries_of t.lists es ls ≡ now.slots
@@ -184,10 +180,10 @@ pub record IsKept {T : Type 0} (t : Table) (es : List (StorageEntry T)) (ls : Li
   pub small : length es + 1 < no_index
 
 pub kept : {T : Type 0} {t : Table} {es : List (StorageEntry T)} {ls : List EntryDetails}
-    {now : EntryList T} {room entries created : ℕ} {P : Type 0}
+    {now : EntryList T} {room entries created : ℕ}
     → record { slots = entries_of t.lists es ls; rooms = room } ≡ now
     → AreIndexed t es × (length ls ≡ length es)
-    × AreRoomy room (length es) entries created t.rooms × P → IsKept t es ls now
+    × AreRoomy room (length es) entries created t.rooms → IsKept t es ls now
 kept view v =
     record {
       slots = ap (λ (x : EntryList _). x.slots) view;
@@ -278,11 +274,6 @@ module _ {T : Type 0} {t : Table} {es : List (StorageEntry T)} {ls : List EntryD
           → (e : StorageEntry T) × (slice_get es i ≡ Some e)
       at (inl some) = (some.0, some.2)
       at (inr past) = let same = many in absurd (omega (arith, past.0, within))
-
-  pub slot_none : (i : ℕ) → slice_get es i ≡ None → slice_get now.slots i ≡ None
-  slot_none i none =
-      ap (λ x. slice_get x i) (sym s.slots)
-      ∙ (entries_get t.lists es ls i ∙ ap (λ o. both t.lists o (slice_get ls i)) none)
 
   -- ---- a slot's details
 
@@ -427,70 +418,92 @@ module _ {T : Type 0} {t : Table} {es : List (StorageEntry T)} {ls : List EntryD
         at (slot.Lent kd x) is h = absurd (lent (list_at t.lists x) kd x h)
         at (slot.Data kd x v) is h = value kd x v is h (cases_eq x no_index)
 
-    -- what holds of what a read finds
-    pub heard : (P : StorageEntry T → Type 0) → IfSome (slice_get es i) P → P e
-    heard P h = rw there at h
-
-    -- a writer stands where a value is lent
-    pub writer_at : is_lent_data e.content ≡ true
-        → (kd : Kind) × (w : Borrow) × (rest : List Borrow)
-        × (e.content ≡ slot.Lent kd (index_of e.content))
-        × (list_at t.lists (index_of e.content) ≡ w ∷ rest)
-        × (index_of e.content < length t.lists) × (index_of e.content ≢ no_index)
-    writer_at lent = at e.content refl lent
-      where
-        at : (d : StorageEntryData T) → e.content ≡ d → is_lent_data d ≡ true
-            → (kd : Kind) × (w : Borrow) × (rest : List Borrow)
-            × (d ≡ slot.Lent kd (index_of d)) × (list_at t.lists (index_of d) ≡ w ∷ rest)
-            × (index_of d < length t.lists) × (index_of d ≢ no_index)
-        at slot.Empty is h = absurd (false≢true h)
-        at (slot.Data kd x v) is h = absurd (false≢true h)
-        at (slot.Reference m g) is h = absurd (false≢true h)
-        at (slot.Lent kd x) is h =
-            let w = writer_of kd x is in
-            (kd, w.0, w.1, refl, w.2, w.3, rw is at lent_here)
-
-    -- a cell without an index has no borrows
-    pub free_any : (l : Location) → nat_eq (index_of e.content) no_index
-        ≡ is_none (write_refusal (content_in (kept_data
-        (list_at t.lists (index_of e.content)) l e.content)))
-    free_any l = at e.content refl
-      where
-        at : (d : StorageEntryData T) → e.content ≡ d → nat_eq (index_of d) no_index
-            ≡ is_none (write_refusal (content_in (kept_data (list_at t.lists (index_of d)) l d)))
-        at slot.Empty is = refl
-        at (slot.Reference m g) is = refl
-        at (slot.Data kd x v) is = free_test kd x v is
-        at (slot.Lent kd x) is =
-            let w = writer_of kd x is in
-            rw (w.2, ne_eqb x no_index (rw is at lent_here)) refl
-
-    pub free_none : index_of e.content ≡ no_index → (l : Location) → write_refusal
-        (content_in (kept_data (list_at t.lists (index_of e.content)) l e.content)) ≡ None
-    free_none none l = at _ (sym (free_any l) ∙ eq-eqb (index_of e.content) no_index none)
-      where
-        at : {X : Type 0} (o : Option X) → is_none o ≡ true → o ≡ None
-        at None h = refl
-        at (Some x) h = absurd (false≢true h)
-
-    -- what stands there, and what h says of it
-    at_content : {X : Type 0} (f : StorageEntryData T → X) (h : Option (Cell T) → X)
-        → f slot.Empty ≡ h None
-        → ((kd : Kind) (x : ℕ) (v : T) → e.content ≡ slot.Data kd x v → (l : Location)
-        → f (slot.Data kd x v) ≡ h (cell_of (Live kd (Here v (list_at t.lists x)) l)))
-        → ((kd : Kind) (x : ℕ) (w : Borrow) (l : Location)
-        → f (slot.Lent kd x) ≡ h (cell_of (Live kd (Lent w) l)))
+    -- a test of the slot's content that says of each what h says of its cell
+    pub cell_test : {X : Type 0} (f : StorageEntryData T → Option X)
+        (h : Option (Cell T) → Option X) → h None ≡ None → f slot.Empty ≡ h None
+        → ((kd : Kind) (x : ℕ) (v : T) (c : Content T) (l : Location)
+        → f (slot.Data kd x v) ≡ h (cell_of (Live kd c l)))
+        → ((kd : Kind) (x : ℕ) (c : Content T) (l : Location)
+        → f (slot.Lent kd x) ≡ h (cell_of (Live kd c l)))
         → ((m g : ℕ) (l : Location)
         → f (slot.Reference m g) ≡ h (cell_of (Refers (record { slot = m; generation = g }) l)))
-        → f e.content ≡ h (cell_of (entry_of t.lists e location.0).kept)
-    at_content f h empty data' lent ref = at e.content refl
+        → (g : ℕ) → cond (nat_eq e.generation g) (f e.content) None
+        ≡ h (cell_in (slice_get now.slots i) g)
+    cell_test {X = X} f h none empty data' lent ref g =
+        rw (slot_seen, ← nat_eq_equiv.symm e.generation g)
+        (own (nat_eq e.generation g) (at e.content refl))
       where
         at : (d : StorageEntryData T) → e.content ≡ d
             → f d ≡ h (cell_of (kept_data (list_at t.lists (index_of d)) location.0.created_at d))
         at slot.Empty is = empty
-        at (slot.Data kd x v) is = data' kd x v is _
+        at (slot.Data kd x v) is = data' kd x v _ _
         at (slot.Lent kd x) is = let w = writer_of kd x is in rw w.2 (lent kd x _ _)
         at (slot.Reference m n) is = ref m n _
+
+        own : (b : Bool) {o : Option X} {c : Option (Cell T)} → o ≡ h c
+            → cond b o None ≡ h (cond b c None)
+        own true same = same
+        own false same = sym none
+
+    -- whose value it is, what a box of a name reaches, and what a reference names
+    pub kind_test : (g : ℕ) → cond (nat_eq e.generation g) (kind_of e.content) None
+        ≡ kind_in (cell_in (slice_get now.slots i) g)
+    kind_test =
+        cell_test kind_of kind_in refl refl (λ kd x v. here kd) (λ kd x. here kd) (λ m n l. refl)
+      where
+        here : (kd : Kind) (c : Content T) (l : Location)
+            → Some kd ≡ kind_in (cell_of (Live kd c l))
+        here kind.Value c l = refl
+        here kind.Shared c l = refl
+
+    pub lead_test : (n : Name) → cond (nat_eq e.generation n.generation) (lead_of e.content n) None
+        ≡ leads_to (cell_in (slice_get now.slots i) n.generation) n
+    lead_test n =
+        cell_test (λ d. lead_of d n) (λ c. leads_to c n) refl refl value lent (λ m g l. refl)
+        n.generation
+      where
+        value : (kd : Kind) (x : ℕ) (v : T) (c : Content T) (l : Location)
+            → lead_of (slot.Data kd x v) n ≡ leads_to (cell_of (Live kd c l)) n
+        value kind.Value x v c l = refl
+        value kind.Shared x v c l = refl
+
+        lent : (kd : Kind) (x : ℕ) (c : Content T) (l : Location)
+            → lead_of {T = T} (slot.Lent kd x) n ≡ leads_to (cell_of (Live kd c l)) n
+        lent kind.Value x c l = refl
+        lent kind.Shared x c l = refl
+
+    -- whether it is a value of its own without borrows
+    pub value_test : (g : ℕ) → cond (nat_eq e.generation g) (is_unborrowed_data e.content) false
+        ≡ is_unborrowed_value (cell_in (slice_get now.slots i) g)
+    value_test g =
+        rw (slot_seen, ← nat_eq_equiv.symm e.generation g)
+        (own (nat_eq e.generation g) _ (at e.content refl))
+      where
+        at : (d : StorageEntryData T) → e.content ≡ d → is_unborrowed_data d
+            ≡ is_unborrowed_value
+            (cell_of (kept_data (list_at t.lists (index_of d)) location.0.created_at d))
+        at slot.Empty is = refl
+        at (slot.Data kind.Value x v) is = free_test kind.Value x v is
+        at (slot.Data kind.Shared x v) is = refl
+        at (slot.Lent kind.Value x) is = let w = writer_of kind.Value x is in rw w.2 refl
+        at (slot.Lent kind.Shared x) is = let w = writer_of kind.Shared x is in rw w.2 refl
+        at (slot.Reference m n) is = refl
+
+        own : (b : Bool) {x : Bool} (c : Option (Cell T)) → x ≡ is_unborrowed_value c
+            → cond b x false ≡ is_unborrowed_value (cond b c None)
+        own true c same = same
+        own false c same = refl
+
+    pub target_test : (g : ℕ) → cond (nat_eq e.generation g) (target_of e.content) None
+        ≡ target_in (cell_in (slice_get now.slots i) g)
+    target_test =
+        cell_test target_of target_in refl refl (λ kd x v. here kd) (λ kd x. here kd)
+        (λ m n l. refl)
+      where
+        here : (kd : Kind) (c : Content T) (l : Location)
+            → None ≡ target_in (cell_of (Live kd c l))
+        here kind.Value c l = refl
+        here kind.Shared c l = refl
 
     -- a reference has no borrows
     pub refers_none : IfSome (slice_get now.slots i) (λ e. is_some (target_in (cell_of e.kept))
@@ -532,15 +545,6 @@ module _ {T : Type 0} {t : Table} {es : List (StorageEntry T)} {ls : List EntryD
         ∙ (ap (slice_set (entries_of t.lists es ls) i) (becomes location.0)
         ∙ (ap (λ slots. slice_set slots i (f (entry_of t.lists e location.0))) s.slots
         ∙ ap (change_entry_if now.slots i f) (sym slot_seen))))
-
-    -- the same where the slot isn't written
-    pub view_kept : (lists : List (List Borrow)) (f : Entry T → Entry T)
-        → SameLists t.lists lists es i
-        → ((l : EntryDetails) → entry_of lists e l ≡ f (entry_of t.lists e l))
-        → entries_of lists es ls ≡ change_entry now.slots i f
-    view_kept lists f same becomes =
-        ap (λ x. entries_of lists x ls) (sym (set-own es i e there))
-        ∙ view_changed lists e f same becomes
 
     -- the table changes at an index that no other slot has
     module _ {t' : Table} {x : ℕ} (c : Changes t t' x) (below : x < no_index)
@@ -625,26 +629,27 @@ module _ {T : Type 0} {t : Table} {es : List (StorageEntry T)} {ls : List EntryD
             (rw (has, has_none) (omega arith))
             (opened_few o (length es + 1) few (λ z. omega arith))
 
-    -- the list at index 0 is the slot's, and gets another index
+    -- the list at index 0 is the slot's, and stands elsewhere with a borrow more
     module _ (is : index_of e.content ≡ 0) where
-      pub zero_used : IsUsed t 0
+      zero_used : IsUsed t 0
       zero_used = subst (IsUsed t) is (used_here (λ z. omega (arith, is, z)))
 
-      move_few : length t.lists ≤ length es + set.len t.free
-      move_few = let most = most_all has_index es in let counted = s.indexed.counted in omega arith
+      join_few : length t.lists ≤ length es + set.len t.free
+      join_few = let most = most_all has_index es in let counted = s.indexed.counted in omega arith
 
-      pub move_room : length es ≤ t.rooms → t.free ≡ set.empty → length t.lists ≤ t.rooms
-      move_room roomy empty =
+      pub join_room : length es ≤ t.rooms → t.free ≡ set.empty → length t.lists ≤ t.rooms
+      join_room roomy empty =
           let full : set.len t.free ≡ 0 = ap set.len empty ∙ set.len-empty nat_cmp in
-          let few = move_few in omega arith
+          let few = join_few in omega arith
 
-      module _ {t' : Table} {y : ℕ} (j : IsMoved t t' y) where
+      module _ {t' : Table} {y : ℕ} {list : List Borrow} (j : IsJoined t t' y list)
+          (some : list ≢ []) where
         -- the table before index 0 is given back
         abbrev before : Table
         before = record { lists = t'.lists; free = set.remove t.free y; rooms = t'.rooms }
 
-        opens : Opens t before y (list_at t.lists 0)
-        opens = record { vacant = j.vacant; some = zero_used.some; lists = j.lists; free = refl }
+        opens : Opens t before y list
+        opens = record { vacant = j.vacant; some = some; lists = j.lists; free = refl }
 
         closes : IsClosed before t' 0
         closes = record {
@@ -657,8 +662,8 @@ module _ {T : Type 0} {t : Table} {es : List (StorageEntry T)} {ls : List EntryD
         zero_kept : set.contains before.free 0 ≡ false
         zero_kept = removed_none t.free y 0 zero_used.used
 
-        pub move_below : y < no_index
-        move_below = at j.vacant
+        pub join_below : y < no_index
+        join_below = at j.vacant
           where
             at : IsVacant t y → y < no_index
             at (inl v) =
@@ -666,11 +671,11 @@ module _ {T : Type 0} {t : Table} {es : List (StorageEntry T)} {ls : List EntryD
             at (inr v) =
                 let end = v.1 in
                 let full : set.len t.free ≡ 0 = ap set.len v.0 ∙ set.len-empty nat_cmp in
-                let few = move_few in let small = s.small in omega arith
+                let few = join_few in let small = s.small in omega arith
 
-        move_alone : (k : ℕ) → k ≢ i → index_in (slice_get es k) ≢ y
-        move_alone = vacant_alone y (λ u. unused u j.vacant)
-            (let below = move_below in λ z. omega (arith, z))
+        join_alone : (k : ℕ) → k ≢ i → index_in (slice_get es k) ≢ y
+        join_alone = vacant_alone y (λ u. unused u j.vacant)
+            (let below = join_below in λ z. omega (arith, z))
           where
             unused : IsUsed t y → IsVacant t y → ⊥
             unused u (inl v) = true≢false (sym v.0 ∙ u.used)
@@ -679,33 +684,33 @@ module _ {T : Type 0} {t : Table} {es : List (StorageEntry T)} {ls : List EntryD
         zero_alone : (k : ℕ) → k ≢ i → index_in (slice_get es k) ≢ 0
         zero_alone = used_alone 0 is (λ z. omega (arith, z))
 
-        pub move_list : list_at t'.lists y ≡ list_at t.lists 0
-        move_list = opened_list opens
+        pub join_list : list_at t'.lists y ≡ list
+        join_list = opened_list opens
 
-        pub move_lists : SameLists t.lists t'.lists es i
-        move_lists k other = (opened opens).lists (index_in (slice_get es k)) (move_alone k other)
+        pub join_lists : SameLists t.lists t'.lists es i
+        join_lists k other = (opened opens).lists (index_in (slice_get es k)) (join_alone k other)
 
-        pub move_indexed : (e' : StorageEntry T) → index_of e'.content ≡ y
+        pub join_indexed : (e' : StorageEntry T) → index_of e'.content ≡ y
             → LentHasIndex e'.content → AreIndexed t' (slice_set es i e')
-        move_indexed e' at lent =
+        join_indexed e' at lent =
             let w = set_written es i e' e there in
-            let above = j.above in let below = move_below in
+            let above = j.above in let below = join_below in
             let has : has_index e ≡ true = rw is refl in
             let has' : has_index e' ≡ true =
             rw (at, ne_eqb y no_index (λ z. omega (arith, z))) refl in
             let count = rw (there, has, has') at (w.count has_index) in
             let counted = s.indexed.counted in let opens_one = opened_count opens in
             let closes_one = closed_count closes zero_kept in
-            let long = length-set es i e' in let many = move_few in
+            let long = length-set es i e' in let many = join_few in
             let few = opened_few opens (length es + 1) s.indexed.few
             (λ none. omega (arith, none)) in
             indexed w s.indexed
             (λ k other some. used_still (closed closes) _ (zero_alone k other)
-            (used_still (opened opens) _ (move_alone k other) (s.indexed.used k some)))
+            (used_still (opened opens) _ (join_alone k other) (s.indexed.used k some)))
             (λ z. subst (IsUsed t') (sym at) (used_still (closed closes) y
             (λ z. omega (arith, z)) (opened_used opens)))
             lent
-            (λ z k other same. move_alone k other (same ∙ at))
+            (λ z k other same. join_alone k other (same ∙ at))
             (omega arith) (omega arith)
 
     module _ (x : ℕ) (is : index_of e.content ≡ x) (some : x ≢ no_index) where
@@ -850,294 +855,12 @@ module _ {T : Type 0} where
   no_writer n bs l (slot.Data kd x v) none = refl
   no_writer n bs l (slot.Lent kd x) none = absurd (none kd x refl)
 
--- ---- what a name finds
-
-module _ {T : Type 0} {t : Table} {es : List (StorageEntry T)} {ls : List EntryDetails}
-    {now : EntryList T} (s : IsKept t es ls now) where
-  -- a test of what stands at a name that says of each content what h says of its cell
-  cell_test : {X : Type 0} (f : StorageEntryData T → X) (h : Option (Cell T) → X)
-      → f slot.Empty ≡ h None
-      → ((i : ℕ) (e : StorageEntry T) (there : slice_get es i ≡ Some e) → f e.content
-      ≡ h (cell_of (entry_of t.lists e (location s i e there).0).kept))
-      → (i g : ℕ) → f (data_at (slice_get es i) g) ≡ h (cell_in (slice_get now.slots i) g)
-  cell_test f h none each i g = at (slice_get es i) refl
-    where
-      own : (b : Bool) (d : StorageEntryData T) (k : Kept T) → f d ≡ h (cell_of k)
-          → f (cond b d slot.Empty) ≡ h (cond b (cell_of k) None)
-      own true d k same = same
-      own false d k same = none
-
-      at : (o : Option (StorageEntry T)) → slice_get es i ≡ o
-          → f (data_at o g) ≡ h (cell_in (slice_get now.slots i) g)
-      at None is =
-          rw (slot_none s i is) none
-      at (Some e) is =
-          rw (slot_seen s i e is, ← nat_eq_equiv.symm e.generation g)
-          (own (nat_eq e.generation g) e.content (entry_of t.lists e (location s i e is).0).kept
-          (each i e is))
-
-  -- whose value it is, what a box of a name reaches, and what a reference names
-  pub kind_test : (i g : ℕ)
-      → kind_of (data_at (slice_get es i) g) ≡ kind_in (cell_in (slice_get now.slots i) g)
-  kind_test = cell_test kind_of kind_in refl (λ i e there. at_content s i e there kind_of kind_in
-      refl (λ kd x v is l. here kd _ l) (λ kd x w l. here kd _ l) (λ m n l. refl))
-    where
-      here : (kd : Kind) (c : Content T) (l : Location)
-          → Some kd ≡ kind_in (cell_of (Live kd c l))
-      here kind.Value c l = refl
-      here kind.Shared c l = refl
-
-  pub lead_test : (n : Name) → lead_of (data_at (slice_get es n.slot) n.generation) n
-      ≡ leads_to (cell_in (slice_get now.slots n.slot) n.generation) n
-  lead_test n = cell_test (λ d. lead_of d n) (λ c. leads_to c n) refl
-      (λ i e there. at_content s i e there (λ d. lead_of d n) (λ c. leads_to c n)
-      refl (λ kd x v is l. value kd x v _ l) (λ kd x w l. lent kd x _ l) (λ m g l. refl))
-      n.slot n.generation
-    where
-      value : (kd : Kind) (x : ℕ) (v : T) (c : Content T) (l : Location)
-          → lead_of (slot.Data kd x v) n ≡ leads_to (cell_of (Live kd c l)) n
-      value kind.Value x v c l = refl
-      value kind.Shared x v c l = refl
-
-      lent : (kd : Kind) (x : ℕ) (c : Content T) (l : Location)
-          → lead_of {T = T} (slot.Lent kd x) n ≡ leads_to (cell_of (Live kd c l)) n
-      lent kind.Value x c l = refl
-      lent kind.Shared x c l = refl
-
-  pub target_test : (i g : ℕ)
-      → target_of (data_at (slice_get es i) g) ≡ target_in (cell_in (slice_get now.slots i) g)
-  target_test = cell_test target_of target_in refl (λ i e there. at_content s i e there target_of
-      target_in refl (λ kd x v is l. here kd _ l) (λ kd x w l. here kd _ l) (λ m n l. refl))
-    where
-      here : (kd : Kind) (c : Content T) (l : Location)
-          → None ≡ target_in (cell_of (Live kd c l))
-      here kind.Value c l = refl
-      here kind.Shared c l = refl
-
-  -- whether it is a value of its own without borrows
-  pub value_test : (i g : ℕ) → is_unborrowed_data (data_at (slice_get es i) g)
-      ≡ is_unborrowed_value (cell_in (slice_get now.slots i) g)
-  value_test = cell_test is_unborrowed_data is_unborrowed_value refl
-      (λ i e there. at_content s i e there is_unborrowed_data is_unborrowed_value refl
-      (λ kd x v is l. value i e there kd x v is l) (λ kd x w l. lent kd x w l) (λ m n l. refl))
-    where
-      value : (i : ℕ) (e : StorageEntry T) (there : slice_get es i ≡ Some e) (kd : Kind) (x : ℕ)
-          (v : T) → e.content ≡ slot.Data kd x v → (l : Location)
-          → is_unborrowed_data (slot.Data kd x v)
-          ≡ is_unborrowed_value (cell_of (Live kd (Here v (list_at t.lists x)) l))
-      value i e there kind.Value x v is l = free_test s i e there kind.Value x v is
-      value i e there kind.Shared x v is l = refl
-
-      lent : (kd : Kind) (x : ℕ) (w : Borrow) (l : Location) → is_unborrowed_data {T = T}
-          (slot.Lent kd x) ≡ is_unborrowed_value {T = T} (cell_of (Live kd (Lent w) l))
-      lent kind.Value x w l = refl
-      lent kind.Shared x w l = refl
-
--- ---- contents
-
-module _ {T : Type 0} where
-  pub lent_not : (d : StorageEntryData T) → is_lent_data d ≡ false
-      → (kd : Kind) (x : ℕ) → d ≡ slot.Lent kd x → ⊥
-  lent_not d h kd x is = true≢false (rw is at h)
-
-  pub data_is : (d : StorageEntryData T) → index_of d ≢ no_index → is_lent_data d ≡ false
-      → (kd : Kind) × (v : T) × (d ≡ slot.Data kd (index_of d) v)
-  data_is slot.Empty some h = absurd (some refl)
-  data_is (slot.Reference m g) some h = absurd (some refl)
-  data_is (slot.Data kd x v) some h = (kd, v, refl)
-  data_is (slot.Lent kd x) some h = absurd (true≢false h)
-
-  pub value_is : (d : StorageEntryData T) (v : T) → value_in d ≡ Some v
-      → (kd : Kind) × (d ≡ slot.Data kd (index_of d) v)
-  value_is slot.Empty v h = absurd (none-some v h)
-  value_is (slot.Reference m g) v h = absurd (none-some v h)
-  value_is (slot.Lent kd x) v h = absurd (none-some v h)
-  value_is (slot.Data kd x u) v h = (kd, ap (λ y. slot.Data kd x y) (let same : u ≡ v = cc in same))
-
-  pub value_not : (d : StorageEntryData T) → value_in d ≡ None
-      → (kd : Kind) (x : ℕ) (v : T) → d ≡ slot.Data kd x v → ⊥
-  value_not d h kd x v is = none-some v (sym h ∙ ap value_in is)
-
-  -- the value that a reader opens
-  pub value_seen : (n : ℕ) (bs : List Borrow) (l : Location) (d : StorageEntryData T)
-      → cond (list_any (λ b. nat_eq b.ticket n) bs) (value_in d) None
-      ≡ value_for n (content_in (kept_data bs l d))
-  value_seen n bs l slot.Empty = cond_same (list_any (λ b. nat_eq b.ticket n) bs) None
-  value_seen n bs l (slot.Reference m g) = cond_same (list_any (λ b. nat_eq b.ticket n) bs) None
-  value_seen n bs l (slot.Data kd x v) = refl
-  value_seen n [] l (slot.Lent kd x) = refl
-  value_seen n (b ∷ bs) l (slot.Lent kd x) =
-      cond_same (list_any (λ b. nat_eq b.ticket n) (b ∷ bs)) None
-
-  -- a value that is lent has no reader
-  pub lent_unread : (n : ℕ) (bs : List Borrow) (l : Location) (d : StorageEntryData T)
-      → is_lent_data d ≡ true → false ≡ has_reader (content_in (kept_data bs l d)) n
-  lent_unread n bs l slot.Empty h = absurd (false≢true h)
-  lent_unread n bs l (slot.Reference m g) h = absurd (false≢true h)
-  lent_unread n bs l (slot.Data kd x v) h = absurd (false≢true h)
-  lent_unread n [] l (slot.Lent kd x) h = refl
-  lent_unread n (b ∷ bs) l (slot.Lent kd x) h = refl
-
-  pub lent_left : (n : ℕ) (bs : List Borrow) (l : Location) (d : StorageEntryData T)
-      → is_lent_data d ≡ true → kept_data bs l d ≡ without_reader_in n (kept_data bs l d)
-  lent_left n bs l slot.Empty h = refl
-  lent_left n bs l (slot.Reference m g) h = refl
-  lent_left n bs l (slot.Data kd x v) h = absurd (false≢true h)
-  lent_left n [] l (slot.Lent kd x) h = refl
-  lent_left n (b ∷ bs) l (slot.Lent kd x) h = refl
-
-  -- where no borrow stands
-  pub none_unread : (n : ℕ) (l : Location) (d : StorageEntryData T)
-      → false ≡ has_reader (content_in (kept_data [] l d)) n
-  none_unread n l slot.Empty = refl
-  none_unread n l (slot.Reference m g) = refl
-  none_unread n l (slot.Data kd x v) = refl
-  none_unread n l (slot.Lent kd x) = refl
-
-  pub none_left : (n : ℕ) (l : Location) (d : StorageEntryData T)
-      → kept_data [] l d ≡ without_reader_in n (kept_data [] l d)
-  none_left n l slot.Empty = refl
-  none_left n l (slot.Reference m g) = refl
-  none_left n l (slot.Data kd x v) = refl
-  none_left n l (slot.Lent kd x) = refl
-
--- a test of an option that is answered
-pub none_of : {X : Type 0} (o : Option X) → is_some o ≡ false → o ≡ None
-none_of None h = refl
-none_of (Some x) h = absurd (true≢false h)
-
-pub some_of : {X : Type 0} (o : Option X) → is_some o ≡ true → (x : X) × (o ≡ Some x)
-some_of None h = absurd (false≢true h)
-some_of (Some x) h = (x, refl)
-
--- ---- index 0
-
-pub moved_free : {t t' : Table} {y : ℕ} → IsMoved t t' y → set.contains t'.free 0 ≡ true
-moved_free {t} {t'} {y} j = rw j.free (inserted (set.remove t.free y) 0)
-
-pub opened_zero : (s : set.FinSet nat_cmp) → set.contains (set.remove s 0) 0 ≡ false
-opened_zero s = contains-remove_at s 0 0
-
-pub closed_zero : {t t' : Table} (x : ℕ) (first : Option ℕ) → IsClosed t t' x
-    → set.contains t.free 0 ≡ is_none first → set.contains t'.free 0 ≡ is_none (first_left x first)
-closed_zero {t} {t'} zero first c same = rw c.freed (inserted t.free 0)
-closed_zero {t} {t'} (suc x) first c same =
-    rw c.freed (contains-insert_at t.free (suc x) 0 ∙ rw (eqb-zero-suc x) same)
-
--- the last borrow of an index, or one beside others
-pub released_closed : {t t' : Table} {x y : ℕ} (left : List Borrow) → Releases t t' x y left
-    → x ≢ no_index → y ≡ no_index → (left ≡ []) × IsClosed t t' x
-released_closed [] r some none = (refl, r.1)
-released_closed (b ∷ bs) r some none = absurd (some (sym r.0 ∙ none))
-
-pub released_kept : (t t' : Table) (x : ℕ) {y : ℕ} (left : List Borrow) → Releases t t' x y left
-    → y ≢ no_index → (left ≢ []) × (t' ≡ record t { lists = slice_set t.lists x left })
-released_kept t t' x [] r some = absurd (some r.0)
-released_kept t t' x (b ∷ bs) r some = (λ z. none_some b bs z, r.1)
-
--- ---- index 0 is made free
-
-pub zero_found : {T : Type 0} (o : Option (StorageEntry T)) → index_in o ≡ 0
-    → (e : StorageEntry T) × (o ≡ Some e) × (index_of e.content ≡ 0)
-zero_found None none = absurd (omega (arith, none))
-zero_found (Some e) first = (e, refl, first)
-
-module _ {T : Type 0} {t : Table} {es : List (StorageEntry T)} (indexed : AreIndexed t es)
-    (small : length es + 1 < no_index) (ls : List EntryDetails) (made : length ls ≡ length es)
-    (i : ℕ) (first : index_in (slice_get es i) ≡ 0) where
-  found : (e : StorageEntry T) × (slice_get es i ≡ Some e) × (index_of e.content ≡ 0)
-  found = zero_found (slice_get es i) first
-
-  abbrev now : EntryList T
-  now = record { slots = entries_of t.lists es ls; rooms = 0 }
-
-  before_move : IsKept t es ls now
-  before_move = record { slots = refl; indexed = indexed; made = made; small = small }
-
-  pub move_used : IsUsed t 0
-  move_used = zero_used before_move i found.0 found.1 found.2
-
-  pub move_free : length es ≤ t.rooms → t.free ≡ set.empty → length t.lists ≤ t.rooms
-  move_free = move_room before_move i found.0 found.1 found.2
-
-  module _ {t' : Table} {y : ℕ} (j : IsMoved t t' y) (es' : List (StorageEntry T))
-      (written : IfSome (slice_get es i)
-      (λ e. es' ≡ slice_set es i (with_data (at_index y) e))) where
-    after : es' ≡ slice_set es i (with_data (at_index y) found.0)
-    after = rw found.1 at written
-
-    pub moved_long : length es' ≡ length es
-    moved_long = rw after (length-set es i (with_data (at_index y) found.0))
-
-    pub moved_indexed : AreIndexed t' es'
-    moved_indexed = rw after (move_indexed before_move i found.0 found.1 found.2 j
-        (with_data (at_index y) found.0) (index found.0.content found.2)
-        (lent found.0.content))
-      where
-        index : (d : StorageEntryData T) → index_of d ≡ 0 → index_of (at_index y d) ≡ y
-        index (slot.Data kd x v) z = refl
-        index (slot.Lent kd x) z = refl
-        index slot.Empty z = absurd (omega (arith, z))
-        index (slot.Reference m g) z = absurd (omega (arith, z))
-
-        lent : (d : StorageEntryData T) → LentHasIndex (at_index y d)
-        lent (slot.Data kd x v) = tt
-        lent (slot.Lent kd x) = not_last (move_below before_move i found.0 found.1 found.2 j)
-        lent slot.Empty = tt
-        lent (slot.Reference m g) = tt
-
-    pub moved_slots : entries_of t'.lists es' ls ≡ entries_of t.lists es ls
-    moved_slots = rw after
-        (view_changed before_move i found.0 found.1 t'.lists (with_data (at_index y) found.0) (λ x. x)
-        (move_lists before_move i found.0 found.1 found.2 j) own
-        ∙ (ap (change_entry_if now.slots i (λ x. x))
-        (slot_seen before_move i found.0 found.1)
-        ∙ set-own now.slots i _ (slot_seen before_move i found.0 found.1)))
-      where
-        moves : list_at t'.lists y ≡ list_at t.lists 0
-        moves = move_list before_move i found.0 found.1 found.2 j
-
-        lent : (kd : Kind) (x : ℕ) (l : Location) (bs : List Borrow)
-            → kept_data {T = T} bs l (slot.Lent kd y) ≡ kept_data bs l (slot.Lent kd x)
-        lent kd x l [] = refl
-        lent kd x l (b ∷ bs) = refl
-
-        at : (l : Location) (d : StorageEntryData T) → index_of d ≡ 0
-            → kept_data (list_at t'.lists (index_of (at_index y d))) l (at_index y d)
-            ≡ kept_data (list_at t.lists (index_of d)) l d
-        at l (slot.Data kd x v) z = rw (z, moves) refl
-        at l (slot.Lent kd x) z = rw (moves, ← z) (lent kd x l (list_at t.lists x))
-        at l slot.Empty z = absurd (omega (arith, z))
-        at l (slot.Reference m g) z = absurd (omega (arith, z))
-
-        own : (l : EntryDetails) → entry_of t'.lists (with_data (at_index y) found.0) l
-            ≡ entry_of t.lists found.0 l
-        own l = ap (λ kept. record {
-          generation = found.0.generation;
-          kept = kept;
-          references = l.references;
-        }) (at l.created_at found.0.content found.2)
-
--- the slots and the table with index 0 free
-pub settled : {T : Type 0} {t t' : Table} {es es' : List (StorageEntry T)} {ls : List EntryDetails}
-    {now : EntryList T} → IsKept t es ls now → AreIndexed t' es'
-    → ((ls : List EntryDetails) → length ls ≡ length es
-    → entries_of t'.lists es' ls ≡ entries_of t.lists es ls)
-    → length es' ≡ length es → IsKept t' es' ls now
-settled {ls = ls} s indexed same long =
-    record {
-      slots = same ls s.made ∙ s.slots;
-      indexed = indexed;
-      made = s.made ∙ sym long;
-      small = let few = s.small in omega arith;
-    }
-
 -- room for one slot more
 pub room_for_one : {T : Type 0} {t : Table} {es : List (StorageEntry T)} (ls : List EntryDetails)
-    {now : EntryList T} {room entries created : ℕ} {P : Type 0}
+    {now : EntryList T} {room entries created : ℕ}
     → record { slots = entries_of t.lists es ls; rooms = room } ≡ now
     → AreIndexed t es × (length ls ≡ length es)
-    × AreRoomy room (length es) entries created t.rooms × P
+    × AreRoomy room (length es) entries created t.rooms
     → length now.slots < now.rooms → length es < room
 room_for_one ls {now} {room} view v left =
     let same = many (kept view v) in

@@ -15,11 +15,11 @@ use Rattle.generational_core.specs.declared.error.Location.{Location}
 use Rattle.generational_box.specs.declared.entry.Kind.{Kind}
 use Rattle.generational_box.specs.declared.entry.StorageEntryData.{StorageEntryData}
 use Rattle.generational_box.specs.declared.entry.StorageEntryData.TheVariants as slot
-use Rattle.generational_box.specs.Entries.{index_of, is_lent_data, kept_data}
+use Rattle.generational_box.specs.Entries.{index_of, kept_data}
 use Rattle.generational_box.specs.Entry.{FoundBorrowed, FoundReaders, content_in}
-use Rattle.generational_box.specs.Table.{list_at, no_index}
-use Rattle.generational_box.proofs.states.Entries.{data_is, found_slot, free_none, heard, kept}
-use Rattle.generational_box.proofs.states.Entries.{many, says, used_x, writer_at}
+use Rattle.generational_box.specs.Table.{list_at}
+use Rattle.generational_box.proofs.states.Entries.{kept, many, says, free_value, writer_of, used_at}
+use Rattle.generational_box.proofs.states.Entries.{no_content, read_slot}
 use Rattle.generational_box.proofs.entries.Entries.borrow_mut_error.Goals as goal
 
 module _ {T : Type 0} (lists : List (List Borrow)) (d : StorageEntryData T) (l : Location) where
@@ -51,67 +51,56 @@ module _ {T : Type 0} (lists : List (List Borrow)) (d : StorageEntryData T) (l :
       → FoundBorrowed (trouble lists d l) (Err r)
   found_writer kd x is w rest there r found = rw (found, is, there) refl
 
-pub index-index-requires : goal.index-index-requires
-index-index-requires g c =
-    let s = kept c.self.view_is c.self.invariant in
-    let same = many s in omega (arith, c.requires)
+pub index-requires : goal.index-requires
+index-requires g c =
+    let same = many (kept c.self.view_is c.self.invariant) in
+    omega (arith, c.requires, c.self.inside.entries.ok.0)
 
 pub returns-then-index : goal.returns-then-index
 returns-then-index g c =
     let s = kept c.self.view_is c.self.invariant in
-    let f = found_slot s c.requires in
-    let own = heard s c.args.slot f.0 f.1 (λ e. c.index-index.result ≡ index_of e.content) c.index-index.ensures in
-    says s c.args.slot f.0 f.1 _
-    (λ l. free_none s c.args.slot f.0 f.1 (sym own ∙ c.if-index.true) l.created_at)
-
-pub is_lent-requires : goal.is_lent-requires
-is_lent-requires g c =
-    let s = kept c.self.view_is c.self.invariant in
-    let same = many s in omega (arith, c.requires)
-
-pub first-requires : goal.first-requires
-first-requires g c =
-    let s = kept c.self.view_is c.self.invariant in
-    let f = found_slot s c.requires in
-    let own = heard s c.args.slot f.0 f.1 (λ e. c.index-index.result ≡ index_of e.content) c.index-index.ensures in
-    let lent = heard s c.args.slot f.0 f.1 (λ e. c.is_lent.result ≡ is_lent_data e.content)
-    c.is_lent.ensures in
-    let w = writer_at s c.args.slot f.0 f.1 (sym lent ∙ c.if-is_lent.true) in rw own w.5
-
-pub returns-then-is_lent : goal.returns-then-is_lent
-returns-then-is_lent g c =
-    let s = kept c.self.view_is c.self.invariant in
-    let f = found_slot s c.requires in
-    let own = heard s c.args.slot f.0 f.1 (λ e. c.index-index.result ≡ index_of e.content) c.index-index.ensures in
-    let lent = heard s c.args.slot f.0 f.1 (λ e. c.is_lent.result ≡ is_lent_data e.content)
-    c.is_lent.ensures in
-    let w = writer_at s c.args.slot f.0 f.1 (sym lent ∙ c.if-is_lent.true) in
-    let there : list_at c.self.inside.borrows.lists c.index-index.result ≡ w.1 ∷ w.2 = rw own w.4 in
-    let found : Some c.first.result ≡ Some w.1 =
-    sym c.first.ensures ∙ ap (λ bs. slice_get bs 0) there in
-    let same : c.first.result ≡ w.1 = cc found in
-    says s c.args.slot f.0 f.1 _ (λ l. found_writer c.self.inside.borrows.lists
-    f.0.content l.created_at _ _ w.3 w.1 w.2 w.4 c.writer_error.result
-    (rw same at c.writer_error.ensures))
+    let there = read_slot s c.requires _ c.self.inside.entries.ok.0 c.index.ensures in
+    says s c.args.slot _ there _ (λ l. rw (
+      c.in-Data.is,
+      free_value s c.args.slot _ there _ _ _ c.in-Data.is c.if-index.true,
+    ) refl)
 
 pub readers_error-requires : goal.readers_error-requires
 readers_error-requires g c =
     let s = kept c.self.view_is c.self.invariant in
-    let f = found_slot s c.requires in
-    let own = heard s c.args.slot f.0 f.1 (λ e. c.index-index.result ≡ index_of e.content) c.index-index.ensures in
-    rw own (used_x s c.args.slot f.0 f.1 (index_of f.0.content) refl
-    (λ z. c.if-index.false (own ∙ z))).within
+    let there = read_slot s c.requires _ c.self.inside.entries.ok.0 c.index.ensures in
+    (used_at s c.args.slot _ there _ _ _ c.in-Data.is c.if-index.false).within
 
-pub returns : goal.returns
-returns g c =
+pub first-requires : goal.first-requires
+first-requires g c =
     let s = kept c.self.view_is c.self.invariant in
-    let f = found_slot s c.requires in
-    let own = heard s c.args.slot f.0 f.1 (λ e. c.index-index.result ≡ index_of e.content) c.index-index.ensures in
-    let lent = heard s c.args.slot f.0 f.1 (λ e. c.is_lent.result ≡ is_lent_data e.content)
-    c.is_lent.ensures in
-    let some : index_of f.0.content ≢ no_index = λ z. c.if-index.false (own ∙ z) in
-    let d = data_is f.0.content some (sym lent ∙ c.if-is_lent.false) in
-    let u = used_x s c.args.slot f.0 f.1 (index_of f.0.content) refl some in
-    says s c.args.slot f.0 f.1 _ (λ l. found_readers c.self.inside.borrows.lists
-    f.0.content l.created_at _ _ _ d.2 c.readers_error.result u.some
-    (rw own at c.readers_error.ensures))
+    let there = read_slot s c.requires _ c.self.inside.entries.ok.0 c.index.ensures in
+    (writer_of s c.args.slot _ there _ _ c.in-Lent.is).3
+
+pub returns-else-index : goal.returns-else-index
+returns-else-index g c =
+    let s = kept c.self.view_is c.self.invariant in
+    let there = read_slot s c.requires _ c.self.inside.entries.ok.0 c.index.ensures in
+    let u = used_at s c.args.slot _ there _ _ _ c.in-Data.is c.if-index.false in
+    says s c.args.slot _ there _ (λ l. found_readers c.self.inside.borrows.lists
+    c.index.result.now.content l.created_at _ _ _ c.in-Data.is c.readers_error.result u.some
+    c.readers_error.ensures)
+
+pub returns-in_default : goal.returns-in_default
+returns-in_default g c =
+    let s = kept c.self.view_is c.self.invariant in
+    let there = read_slot s c.requires _ c.self.inside.entries.ok.0 c.index.ensures in
+    says s c.args.slot _ there _ (λ l. rw (no_content _ l.created_at c.index.result.now.content
+    c.in_default.not-Data c.in_default.not-Lent) refl)
+
+pub returns-in-Lent : goal.returns-in-Lent
+returns-in-Lent g c =
+    let s = kept c.self.view_is c.self.invariant in
+    let there = read_slot s c.requires _ c.self.inside.entries.ok.0 c.index.ensures in
+    let w = writer_of s c.args.slot _ there _ _ c.in-Lent.is in
+    let found : Some c.first.result ≡ Some w.0 =
+    sym c.first.ensures ∙ ap (λ bs. slice_get bs 0) w.2 in
+    let same : c.first.result ≡ w.0 = cc found in
+    says s c.args.slot _ there _ (λ l. found_writer c.self.inside.borrows.lists
+    c.index.result.now.content l.created_at _ _ c.in-Lent.is w.0 w.1 w.2 c.writer_error.result
+    (rw same at c.writer_error.ensures))

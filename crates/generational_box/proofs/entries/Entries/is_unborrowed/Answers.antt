@@ -1,21 +1,36 @@
-use Rattle.std.proofs.Common.{arith, is_none, nat_eq, ◌≡◌}
+use Rattle.std.proofs.Common.{arith, refl, ◌≡◌, is_none, true, false}
 use Rattle.generational_core.specs.Borrowing.{write_refusal}
-use Rattle.generational_box.specs.Entries.{index_of}
 use Rattle.generational_box.specs.Entry.{content_in}
-use Rattle.generational_box.specs.Table.{no_index}
-use Rattle.generational_box.proofs.states.Entries.{found_slot, free_any, heard, kept, many, says}
+use Rattle.generational_box.proofs.states.Entries.{kept, many, no_content, says, free_test}
+use Rattle.generational_box.proofs.states.Entries.{writer_of, read_slot}
+use Rattle.std.proofs.Common.{nat_eq}
 use Rattle.generational_box.proofs.entries.Entries.is_unborrowed.Goals as goal
 
 pub index-requires : goal.index-requires
 index-requires g c =
-    let s = kept c.self.view_is c.self.invariant in
-    let same = many s in omega (arith, c.requires)
+    let same = many (kept c.self.view_is c.self.invariant) in
+    omega (arith, c.requires, c.self.inside.entries.ok.0)
 
-pub returns : goal.returns
-returns g c =
+pub returns-in-Data : goal.returns-in-Data
+returns-in-Data g c =
     let s = kept c.self.view_is c.self.invariant in
-    let f = found_slot s c.requires in
-    let own = heard s c.args.slot f.0 f.1 (λ e. c.index.result ≡ index_of e.content) c.index.ensures in
-    says s c.args.slot f.0 f.1 (λ e. nat_eq c.index.result no_index
-    ≡ is_none (write_refusal (content_in e.kept)))
-    (λ l. rw own (free_any s c.args.slot f.0 f.1 l.created_at))
+    let there = read_slot s c.requires _ c.self.inside.entries.ok.0 c.index.ensures in
+    says s c.args.slot _ there
+    (λ e. nat_eq c.in-Data.index 4294967295 ≡ is_none (write_refusal (content_in e.kept)))
+    (λ l. rw c.in-Data.is (free_test s c.args.slot _ there _ _ _ c.in-Data.is))
+
+pub returns-in_default : goal.returns-in_default
+returns-in_default g c =
+    let s = kept c.self.view_is c.self.invariant in
+    let there = read_slot s c.requires _ c.self.inside.entries.ok.0 c.index.ensures in
+    says s c.args.slot _ there (λ e. true ≡ is_none (write_refusal (content_in e.kept)))
+    (λ l. rw (no_content _ l.created_at c.index.result.now.content c.in_default.not-Data
+    c.in_default.not-Lent) refl)
+
+pub returns-in-Lent : goal.returns-in-Lent
+returns-in-Lent g c =
+    let s = kept c.self.view_is c.self.invariant in
+    let there = read_slot s c.requires _ c.self.inside.entries.ok.0 c.index.ensures in
+    let w = writer_of s c.args.slot _ there _ _ c.in-Lent.is in
+    says s c.args.slot _ there (λ e. false ≡ is_none (write_refusal (content_in e.kept)))
+    (λ l. rw (c.in-Lent.is, w.2) refl)

@@ -1,62 +1,62 @@
-use Rattle.std.proofs.Common.{arith, sym, ap, ◌≡◌, ◌∙◌, [], None, cond, option_copied, nat_eq, true}
-use Rattle.std.proofs.Common.{false}
-use Rattle.std.specs.List.{list_any}
-use Rattle.generational_box.specs.Entries.{index_of, value_in}
+-- The value, where the reader stands.
+use Rattle.std.proofs.Common.{arith, refl, ◌≡◌, ℕ, List, [], ◌∷◌, None}
+use Rattle.generational_core.specs.declared.borrow.Borrow.{Borrow}
+use Rattle.generational_core.specs.declared.error.Location.{Location}
+use Rattle.generational_box.specs.declared.entry.Kind.{Kind}
+use Rattle.generational_box.specs.declared.entry.StorageEntryData.{StorageEntryData}
+use Rattle.generational_box.specs.declared.entry.StorageEntryData.TheVariants as slot
+use Rattle.generational_box.specs.Entries.{kept_data}
 use Rattle.generational_box.specs.Entry.{content_in, value_for}
-use Rattle.generational_box.specs.Table.{list_at}
-use Rattle.generational_box.proofs.states.Entries.{found_slot, heard, kept, list_none, many, says, used_x, value_seen}
+use Rattle.generational_box.proofs.states.Entries.{kept, many, says, used_at, free_value, read_slot}
+use Rattle.generational_box.proofs.entries.Entries.open.Goals.{}
+use Rattle.generational_box.proofs.entries.Entries.open.Goals.{}
+use Rattle.generational_box.proofs.entries.Entries.open.Goals.{else-index-via-then-index+else-contains}
+use Rattle.generational_box.proofs.entries.Entries.open.Goals.{else-index-via-else-index}
 use Rattle.generational_box.proofs.entries.Entries.open.Goals as goal
 
-pub index-index-requires : goal.index-index-requires
-index-index-requires g c =
-    let s = kept c.self.view_is c.self.invariant in
-    let same = many s in omega (arith, c.requires)
+no_value : {T : Type 0} (ticket : ℕ) (bs : List Borrow) (l : Location) (d : StorageEntryData T)
+    → ((kd : Kind) (x : ℕ) (v : T) → d ≡ slot.Data kd x v → ⊥)
+    → None ≡ value_for ticket (content_in (kept_data bs l d))
+no_value ticket bs l slot.Empty none = refl
+no_value ticket bs l (slot.Reference m n) none = refl
+no_value ticket bs l (slot.Data kd x v) none = absurd (none kd x v refl)
+no_value ticket [] l (slot.Lent kd x) none = refl
+no_value ticket (b ∷ bs) l (slot.Lent kd x) none = refl
 
-pub returns-then-index : goal.returns-then-index
-returns-then-index g c =
-    let s = kept c.self.view_is c.self.invariant in
-    let f = found_slot s c.requires in
-    let own = heard s c.args.slot f.0 f.1 (λ e. c.index-index.result ≡ index_of e.content) c.index-index.ensures in
-    let none : list_at c.self.inside.borrows.lists (index_of f.0.content) ≡ [] =
-    rw (← own, c.if-index.true) (list_none s) in
-    says s c.args.slot f.0 f.1 (λ e. None ≡ value_for c.args.ticket (content_in e.kept))
-    (λ l. rw none (value_seen c.args.ticket [] l.created_at f.0.content))
+pub index-requires : goal.index-requires
+index-requires g c =
+    let same = many (kept c.self.view_is c.self.invariant) in
+    omega (arith, c.requires, c.self.inside.entries.ok.0)
 
 pub contains-requires : goal.contains-requires
 contains-requires g c =
     let s = kept c.self.view_is c.self.invariant in
-    let f = found_slot s c.requires in
-    let own = heard s c.args.slot f.0 f.1 (λ e. c.index-index.result ≡ index_of e.content) c.index-index.ensures in
-    (used_x s c.args.slot f.0 f.1 c.index-index.result (sym own) c.if-index.false).within
+    let there = read_slot s c.requires _ c.self.inside.entries.ok.0 c.index.ensures in
+    (used_at s c.args.slot _ there _ _ _ c.in-Data.is c.if-index.true).within
 
-pub returns-then-not-contains : goal.returns-then-not-contains
-returns-then-not-contains g c =
+pub returns-then-contains : goal.returns-then-contains
+returns-then-contains g c =
     let s = kept c.self.view_is c.self.invariant in
-    let f = found_slot s c.requires in
-    let own = heard s c.args.slot f.0 f.1 (λ e. c.index-index.result ≡ index_of e.content) c.index-index.ensures in
-    let out : list_any (λ b. nat_eq b.ticket c.args.ticket)
-    (list_at c.self.inside.borrows.lists (index_of f.0.content)) ≡ false =
-    rw own at (sym c.contains.ensures ∙ c.if-not-contains.true) in
-    says s c.args.slot f.0 f.1 (λ e. None ≡ value_for c.args.ticket (content_in e.kept))
-    (λ l. ap (λ b. cond b (value_in f.0.content) None) (sym out)
-    ∙ value_seen c.args.ticket _ l.created_at f.0.content)
+    let there = read_slot s c.requires _ c.self.inside.entries.ok.0 c.index.ensures in
+    says s c.args.slot _ there _
+    (λ l. rw (c.in-Data.is, ← c.if-contains.ensures) refl)
 
-pub value-requires : goal.value-requires
-value-requires g c =
+pub returns-else-index : goal.returns-else-index
+returns-else-index g c =
     let s = kept c.self.view_is c.self.invariant in
-    let same = many s in omega (arith, c.requires)
+    let there = read_slot s c.requires _ c.self.inside.entries.ok.0 c.index.ensures in
+    elim c.else-index.branch [
+      | else-index-via-then-index+else-contains w ↦ says s c.args.slot _ there _
+          (λ l. rw (c.in-Data.is, ← w.if-contains.ensures) refl)
+      | else-index-via-else-index w ↦ says s c.args.slot _ there _ (λ l. rw (
+        c.in-Data.is,
+        free_value s c.args.slot _ there _ _ _ c.in-Data.is w.if-index.false,
+      ) refl)
+    ]
 
-pub returns : goal.returns
-returns g c =
+pub returns-in_default : goal.returns-in_default
+returns-in_default g c =
     let s = kept c.self.view_is c.self.invariant in
-    let f = found_slot s c.requires in
-    let own = heard s c.args.slot f.0 f.1 (λ e. c.index-index.result ≡ index_of e.content) c.index-index.ensures in
-    let value = heard s c.args.slot f.0 f.1 (λ e. option_copied c.value.result ≡ value_in e.content)
-    c.value.ensures in
-    let found : list_any (λ b. nat_eq b.ticket c.args.ticket)
-    (list_at c.self.inside.borrows.lists (index_of f.0.content)) ≡ true =
-    rw own at (sym c.contains.ensures ∙ c.if-not-contains.false) in
-    says s c.args.slot f.0 f.1
-    (λ e. option_copied c.value.result ≡ value_for c.args.ticket (content_in e.kept)) (λ l. value
-    ∙ (ap (λ b. cond b (value_in f.0.content) None) (sym found)
-    ∙ value_seen c.args.ticket _ l.created_at f.0.content))
+    let there = read_slot s c.requires _ c.self.inside.entries.ok.0 c.index.ensures in
+    says s c.args.slot _ there _
+    (λ l. no_value c.args.ticket _ l.created_at c.index.result.now.content c.in_default.not-Data)

@@ -1,35 +1,31 @@
-use Rattle.std.proofs.Common.{arith, refl, ap, ◌≡◌, ◌∙◌, ◌+◌, ◌++◌, ◌∷◌, [], length, length-append}
+-- A slot more, with a cell without borrows.
+use Rattle.std.proofs.Common.{arith, refl, ap, ◌∙◌, ◌++◌, ◌∷◌, [], length, length-append}
 use Rattle.std.proofs.lemmas.Option.{slice_get_past}
 use Rattle.generational_box.proofs.lists.Lists.{push_written}
-use Rattle.generational_box.proofs.states.Entries.{free_entry, indexed_free, kept, many, room_for_one, slots_pushed, unborrowed_lent, unborrowed_none}
+use Rattle.generational_box.proofs.states.Entries.{kept, many, room_for_one, indexed_free}
+use Rattle.generational_box.proofs.states.Entries.{slots_pushed}
+use Rattle.generational_box.proofs.states.Entries.{free_entry, unborrowed_lent, unborrowed_none}
 use Rattle.generational_box.proofs.entries.Entries.push.Goals as goal
 
 pub push_reserved-requires : goal.push_reserved-requires
 push_reserved-requires g c =
-    let left = room_for_one c.self.inside.details.items c.self.view_is c.self.invariant c.requires.room in
+    let left = room_for_one _ c.self.view_is c.self.invariant c.requires.room in
+    omega (arith, c.self.inside.entries.ok.0, c.self.invariant.2.entries)
+
+pub push_reserved-requires-2 : goal.push_reserved-requires-2
+push_reserved-requires-2 g c =
+    let left = room_for_one _ c.self.view_is c.self.invariant c.requires.room in
     omega (arith, c.self.invariant.1, c.self.inside.details.ok.0, c.self.invariant.2.details)
-
-pub push-requires-clause-room : goal.push-requires-clause-room
-push-requires-clause-room g c =
-    let left = room_for_one c.self.inside.details.items c.self.view_is c.self.invariant c.requires.room in
-    let room = c.self.invariant.2.entries in omega arith
-
-pub push-requires-clause-unborrowed : goal.push-requires-clause-unborrowed
-push-requires-clause-unborrowed g c =
-    unborrowed_none c.args.content c.requires.unborrowed
 
 pub invariant_of-self : goal.invariant_of-self
 invariant_of-self g c =
-    let s = kept c.self.view_is c.self.invariant in
-    let left = room_for_one c.self.inside.details.items c.self.view_is c.self.invariant c.requires.room in
-    let es = c.self.inside.entries.entries in
-    let long : length c.push.new.self.entries ≡ length es + 1 =
-    rw c.push.ensures.pushed (length-append es _) in
-    let made : length c.push_reserved.new.self.items ≡ length c.self.inside.details.items + 1 =
-    rw c.push_reserved.ensures.items (length-append c.self.inside.details.items _) in
-    let room = c.self.invariant.2 in
-    let more = c.push.ensures.rooms in let b = room.entries in (
-      rw c.push.ensures.pushed (indexed_free (push_written es _) c.self.invariant.0
+    let es = c.self.inside.entries.items in
+    let long = ap length c.push_reserved.ensures.items ∙ length-append es _ in
+    let made = ap length c.push_reserved-2.ensures.items
+    ∙ length-append c.self.inside.details.items _ in
+    let left = room_for_one _ c.self.view_is c.self.invariant c.requires.room in
+    let room = c.self.invariant.2 in (
+      rw c.push_reserved.ensures.items (indexed_free (push_written es _) c.self.invariant.0
           (rw (length-append es _) (omega arith))
           (rw (slice_get_past es (length es) (omega arith)) refl)
           (unborrowed_none c.args.content c.requires.unborrowed)
@@ -37,18 +33,17 @@ invariant_of-self g c =
       omega (arith, c.self.invariant.1),
       record {
         filled = omega arith;
-        entries = omega arith;
-        details = omega (arith, c.push_reserved.ensures.capacity, room.details);
+        entries = omega (arith, c.push_reserved.ensures.capacity, room.entries);
+        details = omega (arith, c.push_reserved-2.ensures.capacity, room.details);
         borrows = room.borrows;
         indexes = room.indexes;
       },
-      rw c.push.ensures.first c.self.invariant.3,
     )
 
 pub returns-clause-pushed : goal.returns-clause-pushed
 returns-clause-pushed g c =
     let s = kept c.self.view_is c.self.invariant in
-    rw (c.push.ensures.pushed, c.push_reserved.ensures.items)
+    rw (c.push_reserved.ensures.items, c.push_reserved-2.ensures.items)
     (slots_pushed s _ _ ∙ ap (λ e. c.args.self.now.slots ++ e ∷ [])
     (free_entry s c.args.generation c.args.content _ c.requires.unborrowed))
 

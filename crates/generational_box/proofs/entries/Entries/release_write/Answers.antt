@@ -1,159 +1,102 @@
-use Rattle.std.proofs.Common.{arith, refl, sym, ap, ◌≡◌, ◌≢◌, ◌∙◌, ◌∷◌, true, false, nat_eq, length, slice_get, slice_set}
-use Rattle.std.proofs.lemmas.Bool.{false≢true}
+use Rattle.std.proofs.Common.{arith, refl, sym, ◌≡◌, ap, ◌∙◌, true, false, nat_eq}
 use Rattle.std.proofs.lemmas.List.{length-set}
+use Rattle.generational_core.specs.Machine.{has_writer}
+use Rattle.generational_box.specs.Entry.{content_in}
+use Rattle.generational_box.proofs.states.Entries.{kept, many, says, read_slot}
+use Rattle.generational_box.proofs.states.Entries.{view_changed, roomy_still}
+use Rattle.generational_box.proofs.states.Entries.{lent_here}
+use Rattle.generational_box.specs.Entries.{kept_data, index_of}
+use Rattle.generational_box.specs.Table.{list_at}
+use Rattle.generational_box.proofs.states.Entries.{one_slot, used_x}
+use Rattle.generational_box.proofs.states.Entries.{close_indexed, close_lists, writer_of, no_writer}
+use Rattle.std.proofs.lemmas.Bool.{false≢true}
 use Rattle.generational_box.specs.Borrows.{is_first_of}
-use Rattle.generational_box.specs.Entries.{back_data, index_in, index_of, is_lent_data, with_data}
-use Rattle.generational_box.specs.Table.{list_at, no_index}
-use Rattle.generational_box.proofs.states.Entries.{close_indexed, close_lists, closed_none, closed_zero, found_slot, heard, kept, lent_not, many, no_writer, says, used_x, view_changed, writer_at}
+use Rattle.generational_core.specs.declared.error.Location.{Location}
+use Rattle.generational_box.proofs.states.Entries.{closed_none}
 use Rattle.generational_box.proofs.entries.Entries.release_write.Goals as goal
+use Rattle.generational_box.proofs.entries.Entries.release_write.Goals.{}
+use Rattle.generational_box.proofs.entries.Entries.release_write.Goals.{}
+use Rattle.generational_box.proofs.entries.Entries.release_write.Goals.{in_default-via-in-Lent+else-is_first}
+use Rattle.generational_box.proofs.entries.Entries.release_write.Goals.{in_default-via-in_default}
 
-pub is_lent-requires : goal.is_lent-requires
-is_lent-requires g c =
-    let s = kept c.self.view_is c.self.invariant in
-    let same = many s in omega (arith, c.requires)
+pub index-requires : goal.index-requires
+index-requires g c =
+    let same = many (kept c.self.view_is c.self.invariant) in
+    omega (arith, c.requires, c.self.inside.entries.ok.0)
 
-pub returns-then-not-is_lent-clause-known : goal.returns-then-not-is_lent-clause-known
-returns-then-not-is_lent-clause-known g c =
-    let s = kept c.self.view_is c.self.invariant in
-    let f = found_slot s c.requires in
-    let lent = heard s c.args.slot f.0 f.1 (λ e. c.is_lent.result ≡ is_lent_data e.content)
-    c.is_lent.ensures in
-    says s c.args.slot f.0 f.1 _ (λ l. (
-      λ h. absurd (false≢true h),
-      λ h.
-          sym (no_writer c.args.ticket _ l.created_at f.0.content
-          (lent_not f.0.content (sym lent ∙ c.if-not-is_lent.true))) ∙ h,
-    ))
-
-pub index-index-requires : goal.index-index-requires
-index-index-requires g c =
-    let s = kept c.self.view_is c.self.invariant in
-    let same = many s in omega (arith, c.requires)
+pub index_mut-requires : goal.index_mut-requires
+index_mut-requires g c =
+    let same = many (kept c.self.view_is c.self.invariant) in
+    omega (arith, c.requires, c.self.inside.entries.ok.0)
 
 pub is_first-requires : goal.is_first-requires
 is_first-requires g c =
     let s = kept c.self.view_is c.self.invariant in
-    let f = found_slot s c.requires in
-    let lent = heard s c.args.slot f.0 f.1 (λ e. c.is_lent.result ≡ is_lent_data e.content)
-    c.is_lent.ensures in
-    let own = heard s c.args.slot f.0 f.1 (λ e. c.index-index.result ≡ index_of e.content) c.index-index.ensures in
-    let w = writer_at s c.args.slot f.0 f.1 (sym lent ∙ c.if-not-is_lent.false) in
-    let some : c.index-index.result ≢ no_index = λ z. w.6 (sym own ∙ z) in
-    let there : list_at c.self.inside.borrows.lists c.index-index.result ≡ w.1 ∷ w.2 = rw own w.4 in
-    rw own w.5
-
-pub returns-then-not-is_first-clause-known : goal.returns-then-not-is_first-clause-known
-returns-then-not-is_first-clause-known g c =
-    let s = kept c.self.view_is c.self.invariant in
-    let f = found_slot s c.requires in
-    let lent = heard s c.args.slot f.0 f.1 (λ e. c.is_lent.result ≡ is_lent_data e.content)
-    c.is_lent.ensures in
-    let own = heard s c.args.slot f.0 f.1 (λ e. c.index-index.result ≡ index_of e.content) c.index-index.ensures in
-    let w = writer_at s c.args.slot f.0 f.1 (sym lent ∙ c.if-not-is_lent.false) in
-    let some : c.index-index.result ≢ no_index = λ z. w.6 (sym own ∙ z) in
-    let there : list_at c.self.inside.borrows.lists c.index-index.result ≡ w.1 ∷ w.2 = rw own w.4 in
-    let other : nat_eq w.1.ticket c.args.ticket ≡ false =
-    sym (ap (is_first_of c.args.ticket) there) ∙ (sym c.is_first.ensures ∙ c.if-not-is_first.true) in
-    says s c.args.slot f.0 f.1 _ (λ l. rw (w.3, w.4) (λ h. absurd (false≢true h), λ h. sym other ∙ h))
-
-pub put_back-requires-clause-within : goal.put_back-requires-clause-within
-put_back-requires-clause-within g c =
-    let s = kept c.self.view_is c.self.invariant in
-    let same = many s in omega (arith, c.requires)
-
-pub put_back-requires-clause-lent : goal.put_back-requires-clause-lent
-put_back-requires-clause-lent g c =
-    let s = kept c.self.view_is c.self.invariant in
-    let f = found_slot s c.requires in
-    let lent = heard s c.args.slot f.0 f.1 (λ e. c.is_lent.result ≡ is_lent_data e.content)
-    c.is_lent.ensures in
-    rw f.1 (sym lent ∙ c.if-not-is_lent.false)
-
-pub close-requires-clause-within : goal.close-requires-clause-within
-close-requires-clause-within g c =
-    let s = kept c.self.view_is c.self.invariant in
-    let f = found_slot s c.requires in
-    let lent = heard s c.args.slot f.0 f.1 (λ e. c.is_lent.result ≡ is_lent_data e.content)
-    c.is_lent.ensures in
-    let own = heard s c.args.slot f.0 f.1 (λ e. c.index-index.result ≡ index_of e.content) c.index-index.ensures in
-    let w = writer_at s c.args.slot f.0 f.1 (sym lent ∙ c.if-not-is_lent.false) in
-    let some : c.index-index.result ≢ no_index = λ z. w.6 (sym own ∙ z) in
-    let there : list_at c.self.inside.borrows.lists c.index-index.result ≡ w.1 ∷ w.2 = rw own w.4 in
-    rw own w.5
+    let found = read_slot s c.requires _ c.self.inside.entries.ok.0 c.index.ensures in
+    (writer_of s c.args.slot _ found _ _ c.in-Lent.is).3
 
 pub close-requires-clause-used : goal.close-requires-clause-used
 close-requires-clause-used g c =
     let s = kept c.self.view_is c.self.invariant in
-    let f = found_slot s c.requires in
-    let lent = heard s c.args.slot f.0 f.1 (λ e. c.is_lent.result ≡ is_lent_data e.content)
-    c.is_lent.ensures in
-    let own = heard s c.args.slot f.0 f.1 (λ e. c.index-index.result ≡ index_of e.content) c.index-index.ensures in
-    let w = writer_at s c.args.slot f.0 f.1 (sym lent ∙ c.if-not-is_lent.false) in
-    let some : c.index-index.result ≢ no_index = λ z. w.6 (sym own ∙ z) in
-    let there : list_at c.self.inside.borrows.lists c.index-index.result ≡ w.1 ∷ w.2 = rw own w.4 in
-    (used_x s c.args.slot f.0 f.1 c.index-index.result (sym own) some).used
+    let found = read_slot s c.requires _ c.self.inside.entries.ok.0 c.index.ensures in
+    let there = read_slot s c.requires _ c.self.inside.entries.ok.0 c.index_mut.ensures.value in
+    let is = ap (λ e. e.content) (one_slot s c.args.slot there found) ∙ c.in-Lent.is in
+    let w = writer_of s c.args.slot _ there _ _ is in
+    (used_x s c.args.slot _ there _ (rw is refl) (rw is at (lent_here s c.args.slot _ there))).used
 
 pub invariant_of-self : goal.invariant_of-self
 invariant_of-self g c =
     let s = kept c.self.view_is c.self.invariant in
-    let f = found_slot s c.requires in
-    let lent = heard s c.args.slot f.0 f.1 (λ e. c.is_lent.result ≡ is_lent_data e.content)
-    c.is_lent.ensures in
-    let own = heard s c.args.slot f.0 f.1 (λ e. c.index-index.result ≡ index_of e.content) c.index-index.ensures in
-    let w = writer_at s c.args.slot f.0 f.1 (sym lent ∙ c.if-not-is_lent.false) in
-    let some : c.index-index.result ≢ no_index = λ z. w.6 (sym own ∙ z) in
-    let there : list_at c.self.inside.borrows.lists c.index-index.result ≡ w.1 ∷ w.2 = rw own w.4 in
-    let now = heard s c.args.slot f.0 f.1 (λ e. c.put_back.new.self.entries
-    ≡ slice_set c.self.inside.entries.entries c.args.slot (with_data (back_data c.args.value) e))
-    c.put_back.ensures.entries in
-    let zero : index_in (slice_get c.self.inside.entries.entries c.args.slot) ≡ c.index-index.result =
-    rw f.1 (sym own) in
-    let kept = c.self.invariant.2 in
-    let rooms = c.close.ensures.rooms in let more = c.put_back.ensures.rooms in
-    let a = kept.filled in let b = kept.entries in let e = kept.borrows in
-    let long : length c.put_back.new.self.entries ≡ length c.self.inside.entries.entries =
-    rw now (length-set c.self.inside.entries.entries c.args.slot _) in (
-      rw now (close_indexed s c.args.slot f.0 f.1 c.index-index.result (sym own) some c.close.ensures _
-          (rw w.3 refl) (rw w.3 tt)),
-      c.self.invariant.1 ∙ sym long,
-      record {
-        filled = omega arith;
-        entries = omega arith;
-        details = kept.details;
-        borrows = omega arith;
-        indexes = kept.indexes;
-      },
-      rw (c.put_back.ensures.first, zero)
-          (closed_zero c.index-index.result c.self.inside.entries.first c.close.ensures c.self.invariant.3),
+    let found = read_slot s c.requires _ c.self.inside.entries.ok.0 c.index.ensures in
+    let there = read_slot s c.requires _ c.self.inside.entries.ok.0 c.index_mut.ensures.value in
+    let is = ap (λ e. e.content) (one_slot s c.args.slot there found) ∙ c.in-Lent.is in
+    let w = writer_of s c.args.slot _ there _ _ is in (
+      close_indexed s c.args.slot _ there _ (rw is refl) (rw is at (lent_here s c.args.slot _
+          there))
+          c.close.ensures _ refl tt,
+      c.self.invariant.1 ∙ sym (length-set c.self.inside.entries.items c.args.slot _),
+      roomy_still c.self.invariant.2 (length-set c.self.inside.entries.items c.args.slot _)
+          c.close.ensures.rooms,
     )
 
-pub returns-clause-known : goal.returns-clause-known
-returns-clause-known g c =
+pub returns-in-Lent-clause-known : goal.returns-in-Lent-clause-known
+returns-in-Lent-clause-known g c =
     let s = kept c.self.view_is c.self.invariant in
-    let f = found_slot s c.requires in
-    let lent = heard s c.args.slot f.0 f.1 (λ e. c.is_lent.result ≡ is_lent_data e.content)
-    c.is_lent.ensures in
-    let own = heard s c.args.slot f.0 f.1 (λ e. c.index-index.result ≡ index_of e.content) c.index-index.ensures in
-    let w = writer_at s c.args.slot f.0 f.1 (sym lent ∙ c.if-not-is_lent.false) in
-    let some : c.index-index.result ≢ no_index = λ z. w.6 (sym own ∙ z) in
-    let there : list_at c.self.inside.borrows.lists c.index-index.result ≡ w.1 ∷ w.2 = rw own w.4 in
-    let first : nat_eq w.1.ticket c.args.ticket ≡ true =
-    sym (ap (is_first_of c.args.ticket) there) ∙ (sym c.is_first.ensures ∙ c.if-not-is_first.false) in
-    says s c.args.slot f.0 f.1 _ (λ l. rw (w.3, w.4) (λ t. first, λ h. refl))
+    let found = read_slot s c.requires _ c.self.inside.entries.ok.0 c.index.ensures in
+    let there = read_slot s c.requires _ c.self.inside.entries.ok.0 c.index_mut.ensures.value in
+    let is = ap (λ e. e.content) (one_slot s c.args.slot there found) ∙ c.in-Lent.is in
+    let w = writer_of s c.args.slot _ there _ _ is in
+    let first : nat_eq w.0.ticket c.args.ticket ≡ true =
+    sym (ap (is_first_of c.args.ticket) w.2)
+    ∙ (sym c.is_first.ensures ∙ c.if-is_first.true) in
+    says s c.args.slot _ there _ (λ l. rw (is, w.2) (λ t. first, λ h. refl))
 
-pub returns-clause-ok : goal.returns-clause-ok
-returns-clause-ok g c =
+pub returns-in-Lent-clause-ok : goal.returns-in-Lent-clause-ok
+returns-in-Lent-clause-ok g c =
     let s = kept c.self.view_is c.self.invariant in
-    let f = found_slot s c.requires in
-    let lent = heard s c.args.slot f.0 f.1 (λ e. c.is_lent.result ≡ is_lent_data e.content)
-    c.is_lent.ensures in
-    let own = heard s c.args.slot f.0 f.1 (λ e. c.index-index.result ≡ index_of e.content) c.index-index.ensures in
-    let w = writer_at s c.args.slot f.0 f.1 (sym lent ∙ c.if-not-is_lent.false) in
-    let some : c.index-index.result ≢ no_index = λ z. w.6 (sym own ∙ z) in
-    let there : list_at c.self.inside.borrows.lists c.index-index.result ≡ w.1 ∷ w.2 = rw own w.4 in
-    let now = heard s c.args.slot f.0 f.1 (λ e. c.put_back.new.self.entries
-    ≡ slice_set c.self.inside.entries.entries c.args.slot (with_data (back_data c.args.value) e))
-    c.put_back.ensures.entries in
-    rw now (view_changed s c.args.slot f.0 f.1 _ _ _
-    (close_lists s c.args.slot f.0 f.1 c.index-index.result (sym own) some c.close.ensures)
-    (λ l. rw (w.3, w.4, closed_none s c.close.ensures) refl))
+    let found = read_slot s c.requires _ c.self.inside.entries.ok.0 c.index.ensures in
+    let there = read_slot s c.requires _ c.self.inside.entries.ok.0 c.index_mut.ensures.value in
+    let is = ap (λ e. e.content) (one_slot s c.args.slot there found) ∙ c.in-Lent.is in
+    let w = writer_of s c.args.slot _ there _ _ is in
+    view_changed s c.args.slot _ there _ _ _
+    (close_lists s c.args.slot _ there _ (rw is refl) (rw is at (lent_here s c.args.slot _ there))
+    c.close.ensures)
+    (λ l. rw (is, w.2, closed_none s c.close.ensures) refl)
+
+pub returns-in_default-clause-known : goal.returns-in_default-clause-known
+returns-in_default-clause-known g c =
+    let s = kept c.self.view_is c.self.invariant in
+    let found = read_slot s c.requires _ c.self.inside.entries.ok.0 c.index.ensures in
+    let now = c.index.result.now.content in
+    let no : (l : Location) → has_writer (content_in (kept_data
+    (list_at c.self.inside.borrows.lists (index_of now)) l now)) c.args.ticket ≡ false =
+    λ l. elim c.in_default.branch [
+      | in_default-via-in-Lent+else-is_first w ↦
+          let wr = writer_of s c.args.slot _ found _ _ w.in-Lent.is in
+          let other : nat_eq wr.0.ticket c.args.ticket ≡ false =
+          sym (ap (is_first_of c.args.ticket) wr.2)
+          ∙ (sym w.is_first.ensures ∙ w.if-is_first.false) in
+          rw (w.in-Lent.is, wr.2) other
+      | in_default-via-in_default w ↦ no_writer c.args.ticket _ l now w.in_default.not-Lent
+    ] in
+    says s c.args.slot _ found _ (λ l. (λ f. absurd (false≢true f), λ h. sym (no l.created_at) ∙ h))
