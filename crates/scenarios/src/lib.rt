@@ -25,8 +25,6 @@ mod expected;
 #[cfg(test)]
 mod freed;
 #[cfg(test)]
-mod fresh;
-#[cfg(test)]
 mod growth;
 #[cfg(test)]
 mod ids;
