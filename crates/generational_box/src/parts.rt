@@ -11,7 +11,8 @@ ghost use Rattle.generational_core.specs.Answers.{make_answer, owner_answer, rel
 ghost use Rattle.generational_core.specs.Answers.{read_answer, write_answer, back_answer};
 ghost use Rattle.generational_core.specs.Answers.{end_answer, reference_answer, read_refused};
 ghost use Rattle.generational_core.specs.Answers.{value_behind};
-ghost use Rattle.generational_core.specs.Borrowing.{can_read, can_write, reach, read_trouble};
+ghost use Rattle.generational_core.specs.Borrowing.{can_read, can_write, reach, read_refusal};
+ghost use Rattle.generational_core.specs.Borrowing.{read_trouble, write_refusal};
 ghost use Rattle.generational_core.specs.Boxes.{box_of, id_of, name_in};
 ghost use Rattle.generational_core.specs.Cells.{content_of, is_shared};
 ghost use Rattle.generational_core.specs.Conditions.{fresh, HasTargets, IsFresh};
@@ -22,10 +23,11 @@ ghost use Rattle.generational_core.specs.Machine.Action.{ReleaseReader, ReleaseW
 ghost use Rattle.generational_core.specs.Machine.Action.{SetValue};
 ghost use Rattle.generational_core.specs.Machine.Answer.{Flag, Old};
 ghost use Rattle.generational_core.specs.Slots.{slots, free, retired};
-ghost use Rattle.generational_core.specs.State.{IsSound};
+ghost use Rattle.generational_core.specs.State.{IsSound, content_at};
 ghost use Rattle.generational_core.specs.StepCalls.{is_ready};
 ghost use Rattle.generational_core.specs.Steps.{Meets, last_ticket};
-ghost use Rattle.generational_box.specs.Entry.{cell_of, name_of_cell, target_in};
+ghost use Rattle.generational_box.specs.Entry.{cell_of, is_unborrowed_value, name_of_cell};
+ghost use Rattle.generational_box.specs.Entry.{target_in};
 ghost use Rattle.generational_box.specs.Entries.{IsUnborrowed, kept_data, target_of};
 ghost use Rattle.generational_box.specs.Slotted.{IsMade};
 
@@ -172,6 +174,14 @@ impl<T: Drop, P: SlotPool> Parts<T, P> {
         } else {
             None
         }
+    }
+
+    // Whether the box's own cell is a value that isn't shared and has no borrow.
+    #[inline(always)]
+    fn has_unborrowed_value(&self, pointer: GenerationalPointer) -> bool
+        ensures { result ≡ is_unborrowed_value (own_cell self.now pointer.id) }
+    {
+        pointer.id.store == self.number && self.slots.has_unborrowed_value(cell_name(pointer.id))
     }
 
     // Whether a value has this id, also one that is lent.
@@ -458,23 +468,54 @@ impl<T: Drop, P: SlotPool> Parts<T, P> {
         self.slots.turn(cell_name(pointer.id), old, new)
     }
 
-    // Begins a read.
+    // Begins a read. A value that isn't shared and has no borrow is asked for first.
     #[inline(always)]
     pub(crate) fn try_read(
         &mut self,
         pointer: GenerationalPointer,
         location: Location,
     ) -> BorrowResult<GenerationalRef<T>>
-        requires sound { IsSound self.old }
+        requires { IsSound self.old }
+        ensures { Meets self.old (Read pointer location) (read_answer result) self.new }
+    {
+        if self.has_unborrowed_value(pointer) {
+            return self.begin_read(pointer, cell_name(pointer.id), location);
+        }
+        self.try_read_any(pointer, location)
+    }
+
+    // The same, for every box.
+    #[inline(always)]
+    fn try_read_any(
+        &mut self,
+        pointer: GenerationalPointer,
+        location: Location,
+    ) -> BorrowResult<GenerationalRef<T>>
+        requires { IsSound self.old }
         ensures { Meets self.old (Read pointer location) (read_answer result) self.new }
     {
         let Some(name) = self.reach(pointer) else {
             return Err(dropped(pointer));
         };
         match self.slots.borrow_error(name) {
-            None => {}
-            Some(writer) => return Err(lent(writer)),
+            None => self.begin_read(pointer, name, location),
+            Some(writer) => Err(lent(writer)),
         }
+    }
+
+    // Begins a read of the value that the box reaches, and no writer has.
+    #[inline(always)]
+    fn begin_read(
+        &mut self,
+        pointer: GenerationalPointer,
+        name: CellName,
+        location: Location,
+    ) -> BorrowResult<GenerationalRef<T>>
+        requires sound { IsSound self.old }
+        requires to { reach self.old pointer ≡ Some (name_of_cell name) }
+        requires free { read_refusal (content_at self.old (name_of_cell name)) ≡ None }
+        ensures { Meets self.old (Read pointer location) (read_answer result) self.new }
+    {
         let ticket = self.next;
         if ticket == u64::MAX {
             return Err(Refused::Store(StoreError::NumbersExhausted));
@@ -488,23 +529,54 @@ impl<T: Drop, P: SlotPool> Parts<T, P> {
         }
     }
 
-    // Begins a write.
+    // Begins a write. A value that isn't shared and has no borrow is asked for first.
     #[inline(always)]
     pub(crate) fn try_write(
         &mut self,
         pointer: GenerationalPointer,
         location: Location,
     ) -> BorrowMutResult<GenerationalRefMut<T>>
-        requires sound { IsSound self.old }
+        requires { IsSound self.old }
+        ensures { Meets self.old (Write pointer location) (write_answer result) self.new }
+    {
+        if self.has_unborrowed_value(pointer) {
+            return self.begin_write(pointer, cell_name(pointer.id), location);
+        }
+        self.try_write_any(pointer, location)
+    }
+
+    // The same, for every box.
+    #[inline(always)]
+    fn try_write_any(
+        &mut self,
+        pointer: GenerationalPointer,
+        location: Location,
+    ) -> BorrowMutResult<GenerationalRefMut<T>>
+        requires { IsSound self.old }
         ensures { Meets self.old (Write pointer location) (write_answer result) self.new }
     {
         let Some(name) = self.reach(pointer) else {
             return Err(dropped_mut(pointer));
         };
         match self.slots.borrow_mut_error(name) {
-            Ok(()) => {}
-            Err(refused) => return Err(refused),
+            Ok(()) => self.begin_write(pointer, name, location),
+            Err(refused) => Err(refused),
         }
+    }
+
+    // Begins a write of the value that the box reaches, and at which no borrow stands.
+    #[inline(always)]
+    fn begin_write(
+        &mut self,
+        pointer: GenerationalPointer,
+        name: CellName,
+        location: Location,
+    ) -> BorrowMutResult<GenerationalRefMut<T>>
+        requires sound { IsSound self.old }
+        requires to { reach self.old pointer ≡ Some (name_of_cell name) }
+        requires free { write_refusal (content_at self.old (name_of_cell name)) ≡ None }
+        ensures { Meets self.old (Write pointer location) (write_answer result) self.new }
+    {
         let ticket = self.next;
         if ticket == u64::MAX {
             return Err(Refused::Store(StoreError::NumbersExhausted));

@@ -171,7 +171,7 @@ impl<T: Drop, P: SlotPool> Slots<T, P> {
 
     // Whether the cell of this name is a value that isn't shared and has no borrow.
     #[inline(always)]
-    fn has_unborrowed_value(&self, name: CellName) -> bool
+    pub(crate) fn has_unborrowed_value(&self, name: CellName) -> bool
         ensures { result
             ≡ is_unborrowed_value (map.get self.now.state.cells (name_of_cell name)) }
     {

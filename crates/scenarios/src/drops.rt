@@ -4,6 +4,7 @@
 use crate::expected::{
     begin_write, end, insert, leak, made, made_later, new_owner, recycle, release, written,
 };
+use crate::fresh::{Scenario, play};
 use crate::sessions::call;
 use crate::sharing::{insert_rc, insert_reference, leak_rc, leak_reference, point};
 use generational_box::{
@@ -61,23 +62,26 @@ fn clone_of<S: Storage<Counted>>(rt: &impl Abort, store: &mut S, owner: &Owner) 
     owner.clone(store).expect(rt, "a clone")
 }
 
-fn releases<S: Storage<Counted>>(rt: &impl Abort, alloc: Global, store: &mut S) {
-    let value = counted(rt, alloc);
-    let owner = new_owner(rt, store);
-    insert(rt, store, &owner, another(rt, &value), made());
-    insert(rt, store, &owner, another(rt, &value), made_later());
-    let other = clone_of(rt, store, &owner);
-    assert_count(rt, &value, 3);
-    release(rt, store, other);
-    assert_count(rt, &value, 3);
-    release(rt, store, owner);
-    assert_count(rt, &value, 1);
+struct Releases;
+
+impl Scenario<Counted> for Releases {
+    fn play<R: Abort, S: Storage<Counted>>(rt: &R, alloc: Global, store: &mut S) {
+        let value = counted(rt, alloc);
+        let owner = new_owner(rt, store);
+        insert(rt, store, &owner, another(rt, &value), made());
+        insert(rt, store, &owner, another(rt, &value), made_later());
+        let other = clone_of(rt, store, &owner);
+        assert_count(rt, &value, 3);
+        release(rt, store, other);
+        assert_count(rt, &value, 3);
+        release(rt, store, owner);
+        assert_count(rt, &value, 1);
+    }
 }
 
 #[test]
 fn values_of_an_owner(rt: HostRuntime) {
-    let mut store: UnsyncStorage<Counted> = Store::new(rt.alloc(), 7);
-    releases(&rt, rt.alloc(), &mut store);
+    play::<Counted, Releases>(&rt, rt.alloc());
 }
 
 /// Puts a value in the place of a writer's, and lets the old one go.
@@ -94,72 +98,81 @@ fn put_back<S: Storage<Counted>>(
     assert!(rt; guard.release(store).is_ok());
 }
 
-fn writes<S: Storage<Counted>>(rt: &impl Abort, alloc: Global, store: &mut S) {
-    let first = counted(rt, alloc);
-    let second = counted(rt, alloc);
-    let only = leak(rt, store, another(rt, &first), made());
-    let mut guard = begin_write(rt, store, only, written());
-    replace(&mut guard, another(rt, &second));
-    assert_count(rt, &first, 1);
-    put_back(rt, store, guard);
-    assert_count(rt, &second, 2);
+struct Writes;
 
-    let mut guard = begin_write(rt, store, only, written());
-    *guard.deref_mut() = another(rt, &first);
-    assert_count(rt, &second, 1);
-    put_back(rt, store, guard);
-    assert_count(rt, &first, 2);
-    end(rt, store, only);
-    assert_count(rt, &first, 1);
+impl Scenario<Counted> for Writes {
+    fn play<R: Abort, S: Storage<Counted>>(rt: &R, alloc: Global, store: &mut S) {
+        let first = counted(rt, alloc);
+        let second = counted(rt, alloc);
+        let only = leak(rt, store, another(rt, &first), made());
+        let mut guard = begin_write(rt, store, only, written());
+        replace(&mut guard, another(rt, &second));
+        assert_count(rt, &first, 1);
+        put_back(rt, store, guard);
+        assert_count(rt, &second, 2);
+
+        let mut guard = begin_write(rt, store, only, written());
+        *guard.deref_mut() = another(rt, &first);
+        assert_count(rt, &second, 1);
+        put_back(rt, store, guard);
+        assert_count(rt, &first, 2);
+        end(rt, store, only);
+        assert_count(rt, &first, 1);
+    }
 }
 
 // A write lets the value go that it takes the place of, and no other.
 #[test]
 fn a_replaced_value(rt: HostRuntime) {
-    let mut store: UnsyncStorage<Counted> = Store::new(rt.alloc(), 7);
-    writes(&rt, rt.alloc(), &mut store);
+    play::<Counted, Writes>(&rt, rt.alloc());
 }
 
-fn shares<S: Storage<Counted>>(rt: &impl Abort, alloc: Global, store: &mut S) {
-    let value = counted(rt, alloc);
-    let owner = new_owner(rt, store);
-    let first = insert_rc(rt, store, &owner, another(rt, &value), made());
-    let second = leak_reference(rt, store, first);
-    insert_reference(rt, store, &owner, second);
-    assert_count(rt, &value, 2);
-    end(rt, store, first);
-    assert_count(rt, &value, 2);
-    release(rt, store, owner);
-    assert_count(rt, &value, 2);
-    end(rt, store, second);
-    assert_count(rt, &value, 1);
+struct Shares;
+
+impl Scenario<Counted> for Shares {
+    fn play<R: Abort, S: Storage<Counted>>(rt: &R, alloc: Global, store: &mut S) {
+        let value = counted(rt, alloc);
+        let owner = new_owner(rt, store);
+        let first = insert_rc(rt, store, &owner, another(rt, &value), made());
+        let second = leak_reference(rt, store, first);
+        insert_reference(rt, store, &owner, second);
+        assert_count(rt, &value, 2);
+        end(rt, store, first);
+        assert_count(rt, &value, 2);
+        release(rt, store, owner);
+        assert_count(rt, &value, 2);
+        end(rt, store, second);
+        assert_count(rt, &value, 1);
+    }
 }
 
 // It is let go once, with the last reference to it.
 #[test]
 fn a_shared_value(rt: HostRuntime) {
-    let mut store: UnsyncStorage<Counted> = Store::new(rt.alloc(), 7);
-    shares(&rt, rt.alloc(), &mut store);
+    play::<Counted, Shares>(&rt, rt.alloc());
 }
 
-fn turns<S: Storage<Counted>>(rt: &impl Abort, alloc: Global, store: &mut S) {
-    let old = counted(rt, alloc);
-    let new = counted(rt, alloc);
-    let reference = leak_rc(rt, store, another(rt, &old), made());
-    let other = leak_rc(rt, store, another(rt, &new), made_later());
-    point(rt, store, reference, other);
-    assert_count(rt, &old, 1);
-    end(rt, store, other);
-    assert_count(rt, &new, 2);
-    end(rt, store, reference);
-    assert_count(rt, &new, 1);
+struct Turns;
+
+impl Scenario<Counted> for Turns {
+    fn play<R: Abort, S: Storage<Counted>>(rt: &R, alloc: Global, store: &mut S) {
+        let old = counted(rt, alloc);
+        let new = counted(rt, alloc);
+        let reference = leak_rc(rt, store, another(rt, &old), made());
+        let other = leak_rc(rt, store, another(rt, &new), made_later());
+        point(rt, store, reference, other);
+        assert_count(rt, &old, 1);
+        end(rt, store, other);
+        assert_count(rt, &new, 2);
+        end(rt, store, reference);
+        assert_count(rt, &new, 1);
+    }
 }
 
 // A reference that is pointed elsewhere lets the value go to which it was the last.
 #[test]
 fn a_value_that_was_pointed_away_from(rt: HostRuntime) {
-    let mut store: UnsyncStorage<Counted> = Store::new(rt.alloc(), 7);
-    turns(&rt, rt.alloc(), &mut store);
+    play::<Counted, Turns>(&rt, rt.alloc());
 }
 
 // What is live, what is shared and what is leaked by its owner goes with the store.

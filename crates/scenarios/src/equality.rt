@@ -1,9 +1,10 @@
 //! Values that differ in one thing alone aren't equal.
 
 use crate::expected::{leak, made, made_later};
+use crate::fresh::{Scenario, play};
 use generational_box::{
     AlreadyBorrowedError, AlreadyBorrowedMutError, BorrowError, BorrowMutError, Location, Refused,
-    StepCall, Storage, Store, StoreError, UnsyncStorage, ValueDroppedError,
+    StepCall, Storage, Store, StoreError, ValueDroppedError,
 };
 use std::alloc::Global;
 use std::process::Abort;
@@ -104,26 +105,29 @@ fn refusals(rt: HostRuntime) {
 }
 
 /// Asserts that recorded calls differ in their kind, their box and their location.
-fn assert_steps<S: Storage<u32>>(rt: &impl Abort, store: &mut S) {
-    let one = leak(rt, store, 1, made()).pointer();
-    let other = leak(rt, store, 1, made()).pointer();
-    let read = StepCall::Read(one, made());
-    assert_eq!(rt; read, StepCall::Read(one, made()));
-    assert_differ(rt, &read, &StepCall::Read(other, made()));
-    assert_differ(rt, &read, &StepCall::Read(one, made_later()));
-    assert_differ(rt, &read, &StepCall::ManuallyDrop(one));
-    assert_differ(rt, &read, &StepCall::Leak(made()));
-    assert_differ(
-        rt,
-        &StepCall::ManuallyDrop(one),
-        &StepCall::ManuallyDrop(other),
-    );
-    assert_differ(rt, &StepCall::Leak(made()), &StepCall::Leak(made_later()));
-    assert_differ(rt, &StepCall::ReleaseRead(0), &StepCall::ReleaseRead(1));
+struct AssertSteps;
+
+impl Scenario<u32> for AssertSteps {
+    fn play<R: Abort, S: Storage<u32>>(rt: &R, _: Global, store: &mut S) {
+        let one = leak(rt, store, 1, made()).pointer();
+        let other = leak(rt, store, 1, made()).pointer();
+        let read = StepCall::Read(one, made());
+        assert_eq!(rt; read, StepCall::Read(one, made()));
+        assert_differ(rt, &read, &StepCall::Read(other, made()));
+        assert_differ(rt, &read, &StepCall::Read(one, made_later()));
+        assert_differ(rt, &read, &StepCall::ManuallyDrop(one));
+        assert_differ(rt, &read, &StepCall::Leak(made()));
+        assert_differ(
+            rt,
+            &StepCall::ManuallyDrop(one),
+            &StepCall::ManuallyDrop(other),
+        );
+        assert_differ(rt, &StepCall::Leak(made()), &StepCall::Leak(made_later()));
+        assert_differ(rt, &StepCall::ReleaseRead(0), &StepCall::ReleaseRead(1));
+    }
 }
 
 #[test]
 fn recorded_calls(rt: HostRuntime) {
-    let mut store: UnsyncStorage<u32> = Store::new(rt.alloc(), 7);
-    assert_steps(&rt, &mut store);
+    play::<u32, AssertSteps>(&rt, rt.alloc());
 }

@@ -1,6 +1,7 @@
 //! Ids: what tells boxes apart that had one slot, also once their values are gone.
 
 use crate::expected::{assert_shows, insert, leak, made, made_later, new_owner, release};
+use crate::fresh::{Scenario, TwoStoreScenario, play, play_in_two_stores};
 use generational_box::{
     AnyStorage, GenerationalBox, GenerationalBoxId, Location, Storage, Store, UnsyncStorage,
 };
@@ -50,44 +51,49 @@ fn assert_slot<S: Storage<u32>>(
     assert_eq!(rt; store.data_ptr(given.pointer()), slot);
 }
 
-fn boxes_one_after_the_other<S: Storage<u32>>(rt: &impl Abort, alloc: Global, store: &mut S) {
-    let owner = new_owner(rt, store);
-    let first = insert(rt, store, &owner, 1, made());
-    release(rt, store, owner);
-    let owner = new_owner(rt, store);
-    let second = insert(rt, store, &owner, 1234, made_later());
+struct BoxesOneAfterTheOther;
 
-    assert_eq!(rt; store.slots(), 1);
-    assert_id(rt, alloc, first, "0@1", made());
-    assert_id(rt, alloc, second, "0@2", made_later());
-    assert_slot(rt, store, first, 0);
-    assert_slot(rt, store, second, 0);
-    assert_apart(rt, first, second);
-    release(rt, store, owner);
+impl Scenario<u32> for BoxesOneAfterTheOther {
+    fn play<R: Abort, S: Storage<u32>>(rt: &R, alloc: Global, store: &mut S) {
+        let owner = new_owner(rt, store);
+        let first = insert(rt, store, &owner, 1, made());
+        release(rt, store, owner);
+        let owner = new_owner(rt, store);
+        let second = insert(rt, store, &owner, 1234, made_later());
+
+        assert_eq!(rt; store.slots(), 1);
+        assert_id(rt, alloc, first, "0@1", made());
+        assert_id(rt, alloc, second, "0@2", made_later());
+        assert_slot(rt, store, first, 0);
+        assert_slot(rt, store, second, 0);
+        assert_apart(rt, first, second);
+        release(rt, store, owner);
+    }
 }
 
 // Two owners use one slot, one after the other.
 #[test]
 fn boxes_of_one_slot(rt: HostRuntime) {
-    let mut store: UnsyncStorage<u32> = Store::new(rt.alloc(), 7);
-    boxes_one_after_the_other(&rt, rt.alloc(), &mut store);
+    play::<u32, BoxesOneAfterTheOther>(&rt, rt.alloc());
 }
 
-fn boxes_beside_another_store<S: Storage<u32>>(rt: &impl Abort, store: &mut S, eight: &mut S) {
-    let foreign = leak(rt, eight, 0, made());
-    for slot in 0..3 {
-        let given = leak(rt, store, 1, made());
-        assert_slot(rt, store, given, slot);
-        assert_apart(rt, given, foreign);
+struct BoxesBesideAnotherStore;
+
+impl TwoStoreScenario<u32> for BoxesBesideAnotherStore {
+    fn play<R: Abort, S: Storage<u32>>(rt: &R, _: Global, store: &mut S, eight: &mut S) {
+        let foreign = leak(rt, eight, 0, made());
+        for slot in 0..3 {
+            let given = leak(rt, store, 1, made());
+            assert_slot(rt, store, given, slot);
+            assert_apart(rt, given, foreign);
+        }
     }
 }
 
 // Slots are told by their numbers.
 #[test]
 fn boxes_of_several_slots(rt: HostRuntime) {
-    let mut store: UnsyncStorage<u32> = Store::new(rt.alloc(), 7);
-    let mut eight: UnsyncStorage<u32> = Store::new(rt.alloc(), 8);
-    boxes_beside_another_store(&rt, &mut store, &mut eight);
+    play_in_two_stores::<u32, BoxesBesideAnotherStore>(&rt, rt.alloc());
 }
 
 /// The id of a box that is made and ended.

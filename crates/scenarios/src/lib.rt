@@ -25,6 +25,8 @@ mod expected;
 #[cfg(test)]
 mod freed;
 #[cfg(test)]
+mod fresh;
+#[cfg(test)]
 mod growth;
 #[cfg(test)]
 mod ids;

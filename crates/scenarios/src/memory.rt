@@ -5,10 +5,10 @@ use crate::expected::{
     assert_opens, assert_reads, assert_released, assert_unread, begin, counts_of, dropped, end,
     insert, leak, made, made_later, new_owner, read, release,
 };
+use crate::fresh::{Scenario, SessionScenario, play, play_in_session};
 use generational_box::{
     AlreadyBorrowedError, AnyStorage, BorrowMutError, BoxAt, Call, GenerationalBox,
     GenerationalRef, Location, Owner, Refused, Reply, Session, Storage, Store, StoreError,
-    UnsyncStorage,
 };
 use std::alloc::{AllocError, Global};
 use std::process::Abort;
@@ -146,61 +146,70 @@ fn begin_if_memory<S: Storage<u32>>(
     }
 }
 
-fn slots<S: Storage<u32>>(rt: &impl Abort, store: &mut S) {
-    for value in 0..9 {
-        let used = leak_or_again(rt, store, value);
-        assert_reads(rt, store, used, value);
-        end(rt, store, used);
-        assert_unread(rt, store, used, dropped(made()));
-        leak(rt, store, value, made());
+struct Slots;
+
+impl Scenario<u32> for Slots {
+    fn play<R: Abort, S: Storage<u32>>(rt: &R, _: Global, store: &mut S) {
+        for value in 0..9 {
+            let used = leak_or_again(rt, store, value);
+            assert_reads(rt, store, used, value);
+            end(rt, store, used);
+            assert_unread(rt, store, used, dropped(made()));
+            leak(rt, store, value, made());
+        }
     }
 }
 
 // Only a making with no slot free may lack memory.
 #[test]
 fn for_a_new_slot(rt: HostRuntime) {
-    let mut store: UnsyncStorage<u32> = Store::new(rt.alloc(), 7);
-    slots(&rt, &mut store);
+    play::<u32, Slots>(&rt, rt.alloc());
 }
 
-fn readers_beside_others<S: Storage<u32>>(rt: &impl Abort, alloc: Global, store: &mut S) {
-    let value = leak_or_again(rt, store, 5);
-    let guard = begin(rt, store, value, made());
-    if let Some(second) = begin_if_memory(rt, store, value, made_later()) {
-        assert_released(rt, store, second, true);
+struct ReadersBesideOthers;
+
+impl Scenario<u32> for ReadersBesideOthers {
+    fn play<R: Abort, S: Storage<u32>>(rt: &R, alloc: Global, store: &mut S) {
+        let value = leak_or_again(rt, store, 5);
+        let guard = begin(rt, store, value, made());
+        if let Some(second) = begin_if_memory(rt, store, value, made_later()) {
+            assert_released(rt, store, second, true);
+        }
+        assert_opens(rt, store, &guard, Some(5));
+        assert_borrowed(rt, alloc, store, value, &[made()]);
+        if let Some(second) = begin_if_memory(rt, store, value, read()) {
+            assert_borrowed(rt, alloc, store, value, &[made(), read()]);
+            assert_released(rt, store, second, true);
+        }
+        assert_opens(rt, store, &guard, Some(5));
+        assert_released(rt, store, guard, true);
+        end(rt, store, value);
     }
-    assert_opens(rt, store, &guard, Some(5));
-    assert_borrowed(rt, alloc, store, value, &[made()]);
-    if let Some(second) = begin_if_memory(rt, store, value, read()) {
-        assert_borrowed(rt, alloc, store, value, &[made(), read()]);
-        assert_released(rt, store, second, true);
-    }
-    assert_opens(rt, store, &guard, Some(5));
-    assert_released(rt, store, guard, true);
-    end(rt, store, value);
 }
 
 // A cell's first reader takes no memory. One that lacks it beside others leaves those as they
 // were, and the store goes on once there is memory.
 #[test]
 fn for_a_reader_beside_others(rt: HostRuntime) {
-    let mut store: UnsyncStorage<u32> = Store::new(rt.alloc(), 7);
-    readers_beside_others(&rt, rt.alloc(), &mut store);
+    play::<u32, ReadersBesideOthers>(&rt, rt.alloc());
 }
 
-fn owners<S: Storage<u32>>(rt: &impl Abort, store: &mut S) {
-    for taken in 1..=20 {
-        let owner = owner_or_again(rt, store);
-        assert_eq!(rt; store.tickets_left(), 18446744073709551615 - taken);
-        owner.leak();
+struct Owners;
+
+impl Scenario<u32> for Owners {
+    fn play<R: Abort, S: Storage<u32>>(rt: &R, _: Global, store: &mut S) {
+        for taken in 1..=20 {
+            let owner = owner_or_again(rt, store);
+            assert_eq!(rt; store.tickets_left(), 18446744073709551615 - taken);
+            owner.leak();
+        }
     }
 }
 
 // The records of owners take memory. A refused owner took no ticket.
 #[test]
 fn for_owners(rt: HostRuntime) {
-    let mut store: UnsyncStorage<u32> = Store::new(rt.alloc(), 7);
-    owners(&rt, &mut store);
+    play::<u32, Owners>(&rt, rt.alloc());
 }
 
 /// The owner that comes back while the later of two boxes is read, and then the earlier one, too.
@@ -221,18 +230,22 @@ fn assert_told_of_earlier<S: Storage<u32>>(
     owner
 }
 
-fn boxes_of_an_owner<S: Storage<u32>>(rt: &impl Abort, alloc: Global, store: &mut S) {
-    let ended = leak_or_again(rt, store, 9);
-    end(rt, store, ended);
-    let mut owner = owner_or_again(rt, store);
-    let mut earlier = insert_or_again(rt, store, &owner, 0);
-    for value in 1..6 {
-        let later = insert_or_again(rt, store, &owner, value);
-        owner = assert_told_of_earlier(rt, alloc, store, owner, [earlier, later], value);
-        earlier = later;
+struct BoxesOfAnOwner;
+
+impl Scenario<u32> for BoxesOfAnOwner {
+    fn play<R: Abort, S: Storage<u32>>(rt: &R, alloc: Global, store: &mut S) {
+        let ended = leak_or_again(rt, store, 9);
+        end(rt, store, ended);
+        let mut owner = owner_or_again(rt, store);
+        let mut earlier = insert_or_again(rt, store, &owner, 0);
+        for value in 1..6 {
+            let later = insert_or_again(rt, store, &owner, value);
+            owner = assert_told_of_earlier(rt, alloc, store, owner, [earlier, later], value);
+            earlier = later;
+        }
+        release(rt, store, owner);
+        assert_eq!(rt; (store.slots(), store.free()), (6, 6));
     }
-    release(rt, store, owner);
-    assert_eq!(rt; (store.slots(), store.free()), (6, 6));
 }
 
 // A making by an owner may lack memory for the owner's list also where a slot is free, as at the
@@ -240,29 +253,31 @@ fn boxes_of_an_owner<S: Storage<u32>>(rt: &impl Abort, alloc: Global, store: &mu
 // earlier one is told of.
 #[test]
 fn for_the_boxes_of_an_owner(rt: HostRuntime) {
-    let mut store: UnsyncStorage<u32> = Store::new(rt.alloc(), 7);
-    boxes_of_an_owner(&rt, rt.alloc(), &mut store);
+    play::<u32, BoxesOfAnOwner>(&rt, rt.alloc());
 }
 
-fn readers_of_an_owners_box<S: Storage<u32>>(rt: &impl Abort, alloc: Global, store: &mut S) {
-    let owner = owner_or_again(rt, store);
-    let only = insert_or_again(rt, store, &owner, 5);
-    let first = begin(rt, store, only, made());
-    let second = begin_or_again(rt, store, only, made_later());
-    let owner = assert_kept_by(rt, alloc, store, owner, &[made(), made_later()]);
-    assert_opens(rt, store, &first, Some(5));
-    assert_opens(rt, store, &second, Some(5));
-    assert_released(rt, store, first, true);
-    assert_released(rt, store, second, true);
-    release(rt, store, owner);
-    assert_unread(rt, store, only, dropped(made()));
+struct ReadersOfAnOwnersBox;
+
+impl Scenario<u32> for ReadersOfAnOwnersBox {
+    fn play<R: Abort, S: Storage<u32>>(rt: &R, alloc: Global, store: &mut S) {
+        let owner = owner_or_again(rt, store);
+        let only = insert_or_again(rt, store, &owner, 5);
+        let first = begin(rt, store, only, made());
+        let second = begin_or_again(rt, store, only, made_later());
+        let owner = assert_kept_by(rt, alloc, store, owner, &[made(), made_later()]);
+        assert_opens(rt, store, &first, Some(5));
+        assert_opens(rt, store, &second, Some(5));
+        assert_released(rt, store, first, true);
+        assert_released(rt, store, second, true);
+        release(rt, store, owner);
+        assert_unread(rt, store, only, dropped(made()));
+    }
 }
 
 // A release that lacks memory to tell of two readers hands the owner back, and the readers go on.
 #[test]
 fn for_the_readers_of_an_owners_box(rt: HostRuntime) {
-    let mut store: UnsyncStorage<u32> = Store::new(rt.alloc(), 7);
-    readers_of_an_owners_box(&rt, rt.alloc(), &mut store);
+    play::<u32, ReadersOfAnOwnersBox>(&rt, rt.alloc());
 }
 
 /// A making and a read of what it makes, as a list.
@@ -314,19 +329,20 @@ fn assert_called<S: Storage<u32>>(rt: &impl Abort, session: &mut Session<u32, S>
     }
 }
 
-fn places<S: Storage<u32>>(rt: &impl Abort, alloc: Global, session: &mut Session<u32, S>) {
-    let calls = two_calls(rt, alloc);
-    let replies = run_or_again(rt, session, calls);
-    assert_two_replies(rt, session, replies);
-    assert_called(rt, session);
+struct Places;
+
+impl SessionScenario for Places {
+    fn play<R: Abort, S: Storage<u32>>(rt: &R, alloc: Global, session: &mut Session<u32, S>) {
+        let calls = two_calls(rt, alloc);
+        let replies = run_or_again(rt, session, calls);
+        assert_two_replies(rt, session, replies);
+        assert_called(rt, session);
+    }
 }
 
 // Calls that find no room for their places or replies come back whole, and have no place: they can
 // be handed in again.
 #[test]
 fn for_the_places_of_calls(rt: HostRuntime) {
-    let store: UnsyncStorage<u32> = Store::new(rt.alloc(), 7);
-    let mut session = Session::new(rt.alloc(), store);
-    places(&rt, rt.alloc(), &mut session);
-    session.finish();
+    play_in_session::<Places>(&rt, rt.alloc());
 }

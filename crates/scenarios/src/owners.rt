@@ -1,8 +1,10 @@
 //! Owners: which boxes end with them, and what keeps them from ending.
 
 use crate::expected::{new_owner, release};
+use crate::fresh::{Scenario, play};
 use crate::tables::assert_answers;
-use generational_box::{AnyStorage, Storage, Store, UnsyncStorage};
+use generational_box::{AnyStorage, Storage};
+use std::alloc::Global;
 use std::process::Abort;
 
 #[test]
@@ -246,12 +248,19 @@ fn two_owners<S: Storage<u32>>(rt: &impl Abort, store: &mut S) {
     assert!(rt; store.is_fresh());
 }
 
+struct OwnersThatComeAndGo;
+
+impl Scenario<u32> for OwnersThatComeAndGo {
+    fn play<R: Abort, S: Storage<u32>>(rt: &R, _: Global, store: &mut S) {
+        for _ in 0..500 {
+            two_owners(rt, store);
+        }
+        assert_eq!(rt; store.tickets_left(), u64::MAX - 1000);
+    }
+}
+
 // Owners that come and go leave no record behind, also where several are held at once.
 #[test]
 fn released_owners_leave_no_record(rt: HostRuntime) {
-    let mut store: UnsyncStorage<u32> = Store::new(rt.alloc(), 7);
-    for _ in 0..500 {
-        two_owners(&rt, &mut store);
-    }
-    assert_eq!(rt; store.tickets_left(), u64::MAX - 1000);
+    play::<u32, OwnersThatComeAndGo>(&rt, rt.alloc());
 }

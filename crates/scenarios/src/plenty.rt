@@ -4,59 +4,70 @@ use crate::expected::{
     assert_reads, assert_unread, dropped, insert, leak, made, made_later, new_owner, read, release,
     written,
 };
+use crate::fresh::{Scenario, SessionScenario, play, play_in_session};
 use crate::sessions::call;
 use crate::sharing::{insert_rc, insert_reference, leak_rc, leak_reference, point};
-use generational_box::{BoxAt, Call, Reply, Session, Storage, Store, UnsyncStorage};
+use generational_box::{BoxAt, Call, Reply, Session, Storage};
 use std::alloc::{AllocError, Global};
 use std::process::Abort;
 
-fn boxes_of_a_store<S: Storage<u32>>(rt: &impl Abort, store: &mut S) {
-    let owner = new_owner(rt, store);
-    let first = insert(rt, store, &owner, 0, made());
-    for value in 1..2_000 {
-        let owned = insert(rt, store, &owner, value, made_later());
-        assert_reads(rt, store, owned, value);
-        let leaked = leak(rt, store, value, made());
-        assert_reads(rt, store, leaked, value);
+struct BoxesOfAStore;
+
+impl Scenario<u32> for BoxesOfAStore {
+    fn play<R: Abort, S: Storage<u32>>(rt: &R, _: Global, store: &mut S) {
+        let owner = new_owner(rt, store);
+        let first = insert(rt, store, &owner, 0, made());
+        for value in 1..2_000 {
+            let owned = insert(rt, store, &owner, value, made_later());
+            assert_reads(rt, store, owned, value);
+            let leaked = leak(rt, store, value, made());
+            assert_reads(rt, store, leaked, value);
+        }
+        release(rt, store, owner);
+        assert_unread(rt, store, first, dropped(made()));
     }
-    release(rt, store, owner);
-    assert_unread(rt, store, first, dropped(made()));
 }
 
 /// Makes owners that have no boxes.
-fn owners_of_a_store<S: Storage<u32>>(rt: &impl Abort, store: &mut S) {
-    for _ in 0..2_000 {
-        new_owner(rt, store).leak();
+struct OwnersOfAStore;
+
+impl Scenario<u32> for OwnersOfAStore {
+    fn play<R: Abort, S: Storage<u32>>(rt: &R, _: Global, store: &mut S) {
+        for _ in 0..2_000 {
+            new_owner(rt, store).leak();
+        }
     }
 }
 
 #[test]
 fn slots_and_owners(rt: HostRuntime) {
-    let mut store: UnsyncStorage<u32> = Store::new(rt.alloc(), 7);
-    boxes_of_a_store(&rt, &mut store);
-    owners_of_a_store(&rt, &mut store);
+    play::<u32, BoxesOfAStore>(&rt, rt.alloc());
+    play::<u32, OwnersOfAStore>(&rt, rt.alloc());
 }
 
-fn shared_values_of_a_store<S: Storage<u32>>(rt: &impl Abort, store: &mut S) {
-    let owner = new_owner(rt, store);
-    let first = insert_rc(rt, store, &owner, 0, made());
-    for value in 1..2_000 {
-        let listed = insert_rc(rt, store, &owner, value, made_later());
-        let other = insert_reference(rt, store, &owner, listed);
-        assert_reads(rt, store, other, value);
-        let leaked = leak_rc(rt, store, value, made());
-        let reference = leak_reference(rt, store, leaked);
-        point(rt, store, reference, first);
-        assert_reads(rt, store, reference, 0);
+struct SharedValuesOfAStore;
+
+impl Scenario<u32> for SharedValuesOfAStore {
+    fn play<R: Abort, S: Storage<u32>>(rt: &R, _: Global, store: &mut S) {
+        let owner = new_owner(rt, store);
+        let first = insert_rc(rt, store, &owner, 0, made());
+        for value in 1..2_000 {
+            let listed = insert_rc(rt, store, &owner, value, made_later());
+            let other = insert_reference(rt, store, &owner, listed);
+            assert_reads(rt, store, other, value);
+            let leaked = leak_rc(rt, store, value, made());
+            let reference = leak_reference(rt, store, leaked);
+            point(rt, store, reference, first);
+            assert_reads(rt, store, reference, 0);
+        }
+        release(rt, store, owner);
+        assert_unread(rt, store, first, dropped(made()));
     }
-    release(rt, store, owner);
-    assert_unread(rt, store, first, dropped(made()));
 }
 
 #[test]
 fn shared_values_and_references(rt: HostRuntime) {
-    let mut store: UnsyncStorage<u32> = Store::new(rt.alloc(), 7);
-    shared_values_of_a_store(&rt, &mut store);
+    play::<u32, SharedValuesOfAStore>(&rt, rt.alloc());
 }
 
 /// Makes boxes by the owner at place 0.
@@ -131,46 +142,44 @@ fn run<S: Storage<u32>>(
     }
 }
 
-fn calls_of_a_session<S: Storage<u32>>(
-    rt: &impl Abort,
-    alloc: Global,
-    session: &mut Session<u32, S>,
-) {
-    let reply = call(rt, session, Call::Owner);
-    assert!(rt; matches!(&reply, Reply::Owner));
-    inserts(rt, session, 2_000);
-    reads(rt, session, 100);
-    assert_told(rt, session, Call::ManuallyDrop(BoxAt::Place(1)));
-    assert_told(rt, session, Call::TryWrite(BoxAt::Place(1), written()));
-    assert_told(rt, session, Call::ReleaseOwner(0));
-    leaks(rt, session, 4_000);
-    run(rt, session, makings(rt, alloc, 200), 200);
-    reads(rt, session, 1);
+struct CallsOfASession;
+
+impl SessionScenario for CallsOfASession {
+    fn play<R: Abort, S: Storage<u32>>(rt: &R, alloc: Global, session: &mut Session<u32, S>) {
+        let reply = call(rt, session, Call::Owner);
+        assert!(rt; matches!(&reply, Reply::Owner));
+        inserts(rt, session, 2_000);
+        reads(rt, session, 100);
+        assert_told(rt, session, Call::ManuallyDrop(BoxAt::Place(1)));
+        assert_told(rt, session, Call::TryWrite(BoxAt::Place(1), written()));
+        assert_told(rt, session, Call::ReleaseOwner(0));
+        leaks(rt, session, 4_000);
+        run(rt, session, makings(rt, alloc, 200), 200);
+        reads(rt, session, 1);
+    }
 }
 
 // Two thousand boxes of an owner, a hundred readers, six thousand calls and a list of two hundred.
 #[test]
 fn places_and_readers(rt: HostRuntime) {
-    let store: UnsyncStorage<u32> = Store::new(rt.alloc(), 7);
-    let mut session = Session::new(rt.alloc(), store);
-    calls_of_a_session(&rt, rt.alloc(), &mut session);
-    let _store = session.finish();
+    play_in_session::<CallsOfASession>(&rt, rt.alloc());
 }
 
-fn shared_values_of_a_session<S: Storage<u32>>(rt: &impl Abort, session: &mut Session<u32, S>) {
-    let reply = call(rt, session, Call::Owner);
-    assert!(rt; matches!(&reply, Reply::Owner));
-    shares(rt, session, 2_000);
-    reads(rt, session, 100);
-    let reply = call(rt, session, Call::ReleaseOwner(0));
-    assert!(rt; matches!(&reply, Reply::Done));
+struct SharedValuesOfASession;
+
+impl SessionScenario for SharedValuesOfASession {
+    fn play<R: Abort, S: Storage<u32>>(rt: &R, _: Global, session: &mut Session<u32, S>) {
+        let reply = call(rt, session, Call::Owner);
+        assert!(rt; matches!(&reply, Reply::Owner));
+        shares(rt, session, 2_000);
+        reads(rt, session, 100);
+        let reply = call(rt, session, Call::ReleaseOwner(0));
+        assert!(rt; matches!(&reply, Reply::Done));
+    }
 }
 
 // Two thousand shared values of an owner, as many of nobody, and six thousand references.
 #[test]
 fn places_and_references(rt: HostRuntime) {
-    let store: UnsyncStorage<u32> = Store::new(rt.alloc(), 7);
-    let mut session = Session::new(rt.alloc(), store);
-    shared_values_of_a_session(&rt, &mut session);
-    let _store = session.finish();
+    play_in_session::<SharedValuesOfASession>(&rt, rt.alloc());
 }

@@ -5,11 +5,12 @@ use crate::expected::{
     assert_opens, assert_reads, assert_released, assert_unread, begin, counts_of, dropped, end,
     leak, made, made_later, release,
 };
+use crate::fresh::{Scenario, SessionScenario, play, play_in_session};
 use crate::memory::{begin_or_again, owner_or_again, readers};
 use crate::sharing::{insert_rc, insert_reference, leak_rc, leak_reference, point};
 use generational_box::{
     BoxAt, Call, GenerationalBox, Location, Owner, Refused, Reply, Session, Storage, Store,
-    StoreError, UnsyncStorage,
+    StoreError,
 };
 use std::alloc::Global;
 use std::process::Abort;
@@ -107,98 +108,113 @@ fn assert_held<S: Storage<u32>>(
     assert_eq!(rt; refusal, Err(readers(rt, alloc, began)));
 }
 
-fn shared_values<S: Storage<u32>>(rt: &impl Abort, store: &mut S) {
-    for value in 0..9 {
-        let shared = leak_rc_or_again(rt, store, value);
-        assert_reads(rt, store, shared, value);
-        end(rt, store, shared);
-        assert_unread(rt, store, shared, dropped(made()));
-        leak_rc(rt, store, value, made());
+struct SharedValues;
+
+impl Scenario<u32> for SharedValues {
+    fn play<R: Abort, S: Storage<u32>>(rt: &R, _: Global, store: &mut S) {
+        for value in 0..9 {
+            let shared = leak_rc_or_again(rt, store, value);
+            assert_reads(rt, store, shared, value);
+            end(rt, store, shared);
+            assert_unread(rt, store, shared, dropped(made()));
+            leak_rc(rt, store, value, made());
+        }
     }
 }
 
 // Only a making with fewer than two slots free may lack memory.
 #[test]
 fn for_two_new_slots(rt: HostRuntime) {
-    let mut store: UnsyncStorage<u32> = Store::new(rt.alloc(), 7);
-    shared_values(&rt, &mut store);
+    play::<u32, SharedValues>(&rt, rt.alloc());
 }
 
-fn values_beside_one_free_slot<S: Storage<u32>>(rt: &impl Abort, store: &mut S) {
-    let mut earlier = leak_rc_or_again(rt, store, 0);
-    for value in 1..9 {
-        let kept = leak_reference_or_again(rt, store, earlier);
-        end(rt, store, earlier);
-        earlier = leak_rc_or_again(rt, store, value);
-        assert_reads(rt, store, earlier, value);
-        assert_reads(rt, store, kept, value - 1);
+struct ValuesBesideOneFreeSlot;
+
+impl Scenario<u32> for ValuesBesideOneFreeSlot {
+    fn play<R: Abort, S: Storage<u32>>(rt: &R, _: Global, store: &mut S) {
+        let mut earlier = leak_rc_or_again(rt, store, 0);
+        for value in 1..9 {
+            let kept = leak_reference_or_again(rt, store, earlier);
+            end(rt, store, earlier);
+            earlier = leak_rc_or_again(rt, store, value);
+            assert_reads(rt, store, earlier, value);
+            assert_reads(rt, store, kept, value - 1);
+        }
     }
 }
 
 // A making that finds one slot free leaves it free where it lacks memory for the other.
 #[test]
 fn for_one_new_slot_beside_a_free_one(rt: HostRuntime) {
-    let mut store: UnsyncStorage<u32> = Store::new(rt.alloc(), 7);
-    values_beside_one_free_slot(&rt, &mut store);
+    play::<u32, ValuesBesideOneFreeSlot>(&rt, rt.alloc());
 }
 
-fn references<S: Storage<u32>>(rt: &impl Abort, store: &mut S) {
-    let shared = leak_rc_or_again(rt, store, 5);
-    for _ in 0..9 {
-        let reference = leak_reference_or_again(rt, store, shared);
-        assert_reads(rt, store, reference, 5);
-        end(rt, store, reference);
-        leak_reference(rt, store, shared);
+struct References;
+
+impl Scenario<u32> for References {
+    fn play<R: Abort, S: Storage<u32>>(rt: &R, _: Global, store: &mut S) {
+        let shared = leak_rc_or_again(rt, store, 5);
+        for _ in 0..9 {
+            let reference = leak_reference_or_again(rt, store, shared);
+            assert_reads(rt, store, reference, 5);
+            end(rt, store, reference);
+            leak_reference(rt, store, shared);
+        }
     }
 }
 
 // A reference lacks memory only where no slot is free.
 #[test]
 fn for_a_reference(rt: HostRuntime) {
-    let mut store: UnsyncStorage<u32> = Store::new(rt.alloc(), 7);
-    references(&rt, &mut store);
+    play::<u32, References>(&rt, rt.alloc());
 }
 
-fn names_of_an_owner<S: Storage<u32>>(rt: &impl Abort, store: &mut S) {
-    let owner = owner_or_again(rt, store);
-    for value in 0..9 {
-        let shared = insert_rc_or_again(rt, store, &owner, value);
-        let reference = insert_reference_or_again(rt, store, &owner, shared);
-        end(rt, store, shared);
-        assert_reads(rt, store, reference, value);
+struct NamesOfAnOwner;
+
+impl Scenario<u32> for NamesOfAnOwner {
+    fn play<R: Abort, S: Storage<u32>>(rt: &R, _: Global, store: &mut S) {
+        let owner = owner_or_again(rt, store);
+        for value in 0..9 {
+            let shared = insert_rc_or_again(rt, store, &owner, value);
+            let reference = insert_reference_or_again(rt, store, &owner, shared);
+            end(rt, store, shared);
+            assert_reads(rt, store, reference, value);
+        }
+        release(rt, store, owner);
+        assert_eq!(rt; (store.slots(), store.free()), (19, 19));
     }
-    release(rt, store, owner);
-    assert_eq!(rt; (store.slots(), store.free()), (19, 19));
 }
 
 // An owner's makings may lack memory for slots and for the owner's list. What is refused leaves no
 // name in the list.
 #[test]
 fn for_the_references_of_an_owner(rt: HostRuntime) {
-    let mut store: UnsyncStorage<u32> = Store::new(rt.alloc(), 7);
-    names_of_an_owner(&rt, &mut store);
+    play::<u32, NamesOfAnOwner>(&rt, rt.alloc());
 }
 
-fn readers_of_the_old_value<S: Storage<u32>>(rt: &impl Abort, alloc: Global, store: &mut S) {
-    let reference = leak_rc_or_again(rt, store, 5);
-    let other = leak_rc_or_again(rt, store, 6);
-    let first = begin(rt, store, reference, made());
-    let second = begin_or_again(rt, store, reference, made_later());
-    let began = [made(), made_later()];
-    assert_held(rt, alloc, store, [reference, other], &began);
-    assert_opens(rt, store, &first, Some(5));
-    assert_released(rt, store, first, true);
-    assert_released(rt, store, second, true);
-    point(rt, store, reference, other);
-    assert_reads(rt, store, reference, 6);
+struct ReadersOfTheOldValue;
+
+impl Scenario<u32> for ReadersOfTheOldValue {
+    fn play<R: Abort, S: Storage<u32>>(rt: &R, alloc: Global, store: &mut S) {
+        let reference = leak_rc_or_again(rt, store, 5);
+        let other = leak_rc_or_again(rt, store, 6);
+        let first = begin(rt, store, reference, made());
+        let second = begin_or_again(rt, store, reference, made_later());
+        let began = [made(), made_later()];
+        assert_held(rt, alloc, store, [reference, other], &began);
+        assert_opens(rt, store, &first, Some(5));
+        assert_released(rt, store, first, true);
+        assert_released(rt, store, second, true);
+        point(rt, store, reference, other);
+        assert_reads(rt, store, reference, 6);
+    }
 }
 
 // To point a reference elsewhere takes memory only to tell of readers, and what lacks it leaves the
 // reference where it was.
 #[test]
 fn for_the_readers_of_an_old_value(rt: HostRuntime) {
-    let mut store: UnsyncStorage<u32> = Store::new(rt.alloc(), 7);
-    readers_of_the_old_value(&rt, rt.alloc(), &mut store);
+    play::<u32, ReadersOfTheOldValue>(&rt, rt.alloc());
 }
 
 /// Makes a shared value by a call. Where memory lacks, the call or its value comes back.
@@ -218,18 +234,19 @@ fn assert_referred<S: Storage<u32>>(rt: &impl Abort, session: &mut Session<u32, 
     }
 }
 
-fn calls<S: Storage<u32>>(rt: &impl Abort, session: &mut Session<u32, S>) {
-    for _ in 0..9 {
-        assert_shared(rt, session);
-        assert_referred(rt, session);
+struct Calls;
+
+impl SessionScenario for Calls {
+    fn play<R: Abort, S: Storage<u32>>(rt: &R, _: Global, session: &mut Session<u32, S>) {
+        for _ in 0..9 {
+            assert_shared(rt, session);
+            assert_referred(rt, session);
+        }
     }
 }
 
 // A session hands back what finds no place, and answers what finds no slot.
 #[test]
 fn for_the_calls_of_a_session(rt: HostRuntime) {
-    let store: UnsyncStorage<u32> = Store::new(rt.alloc(), 7);
-    let mut session = Session::new(rt.alloc(), store);
-    calls(&rt, &mut session);
-    session.finish();
+    play_in_session::<Calls>(&rt, rt.alloc());
 }

@@ -4,11 +4,12 @@ use crate::expected::{
     assert_released, assert_unread, begin, begin_write, borrowed, borrowed_mut, counts_of, dropped,
     end, leak, made, made_later, new_owner, read, release, written,
 };
+use crate::fresh::{Scenario, play};
 use crate::sharing::{
     assert_lends, assert_says, assert_slots, assert_unturned, gone, insert_rc, insert_reference,
     leak_rc, leak_reference, point, put_back, text,
 };
-use generational_box::{GenerationalBox, Owner, Storage, Store, UnsyncStorage};
+use generational_box::{GenerationalBox, Owner, Storage};
 use std::alloc::Global;
 use std::process::Abort;
 
@@ -31,88 +32,100 @@ fn values_of_two<S: Storage<String>>(
     ]
 }
 
-fn two_owners<S: Storage<String>>(rt: &impl Abort, alloc: Global, store: &mut S) {
-    let one = new_owner(rt, store);
-    let other = new_owner(rt, store);
-    let [original, reference, new] = values_of_two(rt, alloc, store, &one, &other);
-    point(rt, store, reference, new);
-    assert_says(rt, store, reference, "hello world 2");
-    assert_says(rt, store, original, "hello world");
+struct TwoOwners;
 
-    release(rt, store, one);
-    release(rt, store, other);
-    assert_unread(rt, store, original, dropped(made()));
-    assert_unread(rt, store, new, dropped(made_later()));
-    assert_unread(rt, store, reference, dropped(made()));
-    assert_slots(rt, store, 5, 5);
+impl Scenario<String> for TwoOwners {
+    fn play<R: Abort, S: Storage<String>>(rt: &R, alloc: Global, store: &mut S) {
+        let one = new_owner(rt, store);
+        let other = new_owner(rt, store);
+        let [original, reference, new] = values_of_two(rt, alloc, store, &one, &other);
+        point(rt, store, reference, new);
+        assert_says(rt, store, reference, "hello world 2");
+        assert_says(rt, store, original, "hello world");
+
+        release(rt, store, one);
+        release(rt, store, other);
+        assert_unread(rt, store, original, dropped(made()));
+        assert_unread(rt, store, new, dropped(made_later()));
+        assert_unread(rt, store, reference, dropped(made()));
+        assert_slots(rt, store, 5, 5);
+    }
 }
 
 // The reference leads to the value of another owner, and keeps the location at which it was made.
 #[test]
 fn a_reference_leads_to_another_owners_value(rt: HostRuntime) {
-    let mut store: UnsyncStorage<String> = Store::new(rt.alloc(), 7);
-    two_owners(&rt, rt.alloc(), &mut store);
+    play::<String, TwoOwners>(&rt, rt.alloc());
 }
 
-fn ended_boxes<S: Storage<String>>(rt: &impl Abort, alloc: Global, store: &mut S) {
-    let first = leak_rc(rt, store, text(rt, alloc, "1"), made());
-    end(rt, store, first);
-    let second = leak_rc(rt, store, text(rt, alloc, "2"), made_later());
-    end(rt, store, second);
-    let before = counts_of(store);
-    point(rt, store, first, first);
-    assert_unturned(rt, store, first, second, gone(made_later()));
-    assert_eq!(rt; counts_of(store), before);
+struct EndedBoxes;
+
+impl Scenario<String> for EndedBoxes {
+    fn play<R: Abort, S: Storage<String>>(rt: &R, alloc: Global, store: &mut S) {
+        let first = leak_rc(rt, store, text(rt, alloc, "1"), made());
+        end(rt, store, first);
+        let second = leak_rc(rt, store, text(rt, alloc, "2"), made_later());
+        end(rt, store, second);
+        let before = counts_of(store);
+        point(rt, store, first, first);
+        assert_unturned(rt, store, first, second, gone(made_later()));
+        assert_eq!(rt; counts_of(store), before);
+    }
 }
 
 // A box that has ended is pointed to itself with no change, and at no other.
 #[test]
 fn boxes_that_have_ended(rt: HostRuntime) {
-    let mut store: UnsyncStorage<String> = Store::new(rt.alloc(), 7);
-    ended_boxes(&rt, rt.alloc(), &mut store);
+    play::<String, EndedBoxes>(&rt, rt.alloc());
 }
 
-fn an_own_value<S: Storage<String>>(rt: &impl Abort, alloc: Global, store: &mut S) {
-    let own = leak(rt, store, text(rt, alloc, "own"), made());
-    let shared = leak_rc(rt, store, text(rt, alloc, "shared"), made_later());
-    assert_unturned(rt, store, own, shared, gone(made_later()));
-    assert_unturned(rt, store, shared, own, gone(made()));
+struct AnOwnValue;
 
-    let guard = begin(rt, store, own, read());
-    assert_unturned(rt, store, own, shared, gone(made_later()));
-    assert_released(rt, store, guard, true);
-    let guard = begin_write(rt, store, own, written());
-    assert_unturned(rt, store, own, shared, gone(made_later()));
-    put_back(rt, store, guard);
-    assert_says(rt, store, own, "own");
-    assert_says(rt, store, shared, "shared");
+impl Scenario<String> for AnOwnValue {
+    fn play<R: Abort, S: Storage<String>>(rt: &R, alloc: Global, store: &mut S) {
+        let own = leak(rt, store, text(rt, alloc, "own"), made());
+        let shared = leak_rc(rt, store, text(rt, alloc, "shared"), made_later());
+        assert_unturned(rt, store, own, shared, gone(made_later()));
+        assert_unturned(rt, store, shared, own, gone(made()));
+
+        let guard = begin(rt, store, own, read());
+        assert_unturned(rt, store, own, shared, gone(made_later()));
+        assert_released(rt, store, guard, true);
+        let guard = begin_write(rt, store, own, written());
+        assert_unturned(rt, store, own, shared, gone(made_later()));
+        put_back(rt, store, guard);
+        assert_says(rt, store, own, "own");
+        assert_says(rt, store, shared, "shared");
+    }
 }
 
 // An own value is neither pointed elsewhere nor led to, whether or not it is borrowed.
 #[test]
 fn own_values_stay_apart(rt: HostRuntime) {
-    let mut store: UnsyncStorage<String> = Store::new(rt.alloc(), 7);
-    an_own_value(&rt, rt.alloc(), &mut store);
+    play::<String, AnOwnValue>(&rt, rt.alloc());
 }
 
-fn the_only_reference<S: Storage<String>>(rt: &impl Abort, alloc: Global, store: &mut S) {
-    let reference = leak_rc(rt, store, text(rt, alloc, "old"), made());
-    let other = leak_rc(rt, store, text(rt, alloc, "new"), made_later());
-    let guard = begin(rt, store, reference, read());
-    let refusal = borrowed(rt, alloc, &[read()]);
-    assert_unturned(rt, store, reference, other, refusal);
-    assert_lends(rt, store, &guard, "old");
-    assert_released(rt, store, guard, true);
-    point(rt, store, reference, other);
-    assert_says(rt, store, reference, "new");
-    assert_slots(rt, store, 4, 1);
+struct TheOnlyReference;
+
+impl Scenario<String> for TheOnlyReference {
+    fn play<R: Abort, S: Storage<String>>(rt: &R, alloc: Global, store: &mut S) {
+        let reference = leak_rc(rt, store, text(rt, alloc, "old"), made());
+        let other = leak_rc(rt, store, text(rt, alloc, "new"), made_later());
+        let guard = begin(rt, store, reference, read());
+        let refusal = borrowed(rt, alloc, &[read()]);
+        assert_unturned(rt, store, reference, other, refusal);
+        assert_lends(rt, store, &guard, "old");
+        assert_released(rt, store, guard, true);
+        point(rt, store, reference, other);
+        assert_says(rt, store, reference, "new");
+        assert_slots(rt, store, 4, 1);
+    }
 }
 
 // The old value would end, and is read.
 #[test]
 fn the_old_value_is_read(rt: HostRuntime) {
-    let mut store: UnsyncStorage<String> = Store::new(rt.alloc(), 7);
-    the_only_reference(&rt, rt.alloc(), &mut store);
+    play::<String, TheOnlyReference>(&rt, rt.alloc());
 }
 
 /// Two references to one value, and one to another.
@@ -127,39 +140,45 @@ fn two_and_one<S: Storage<String>>(
     [reference, second, other]
 }
 
-fn one_of_two_references<S: Storage<String>>(rt: &impl Abort, alloc: Global, store: &mut S) {
-    let [reference, second, other] = two_and_one(rt, alloc, store);
-    let guard = begin(rt, store, reference, read());
-    point(rt, store, reference, other);
-    assert_lends(rt, store, &guard, "old");
-    assert_says(rt, store, reference, "new");
-    assert_says(rt, store, second, "old");
-    assert_slots(rt, store, 5, 0);
-    assert_released(rt, store, guard, true);
+struct OneOfTwoReferences;
+
+impl Scenario<String> for OneOfTwoReferences {
+    fn play<R: Abort, S: Storage<String>>(rt: &R, alloc: Global, store: &mut S) {
+        let [reference, second, other] = two_and_one(rt, alloc, store);
+        let guard = begin(rt, store, reference, read());
+        point(rt, store, reference, other);
+        assert_lends(rt, store, &guard, "old");
+        assert_says(rt, store, reference, "new");
+        assert_says(rt, store, second, "old");
+        assert_slots(rt, store, 5, 0);
+        assert_released(rt, store, guard, true);
+    }
 }
 
 // The old value is read and stays, for another reference.
 #[test]
 fn the_old_value_is_read_and_stays(rt: HostRuntime) {
-    let mut store: UnsyncStorage<String> = Store::new(rt.alloc(), 7);
-    one_of_two_references(&rt, rt.alloc(), &mut store);
+    play::<String, OneOfTwoReferences>(&rt, rt.alloc());
 }
 
-fn a_borrowed_new_value<S: Storage<String>>(rt: &impl Abort, alloc: Global, store: &mut S) {
-    let [reference, second, other] = two_and_one(rt, alloc, store);
-    let guard = begin_write(rt, store, other, written());
-    assert_unturned(rt, store, reference, other, borrowed_mut(written()));
-    put_back(rt, store, guard);
-    let guard = begin(rt, store, other, read());
-    point(rt, store, reference, other);
-    assert_released(rt, store, guard, true);
-    assert_says(rt, store, reference, "new");
-    assert_says(rt, store, second, "old");
+struct ABorrowedNewValue;
+
+impl Scenario<String> for ABorrowedNewValue {
+    fn play<R: Abort, S: Storage<String>>(rt: &R, alloc: Global, store: &mut S) {
+        let [reference, second, other] = two_and_one(rt, alloc, store);
+        let guard = begin_write(rt, store, other, written());
+        assert_unturned(rt, store, reference, other, borrowed_mut(written()));
+        put_back(rt, store, guard);
+        let guard = begin(rt, store, other, read());
+        point(rt, store, reference, other);
+        assert_released(rt, store, guard, true);
+        assert_says(rt, store, reference, "new");
+        assert_says(rt, store, second, "old");
+    }
 }
 
 // A value is led to while it is read, and not while it is written.
 #[test]
 fn the_new_value_is_borrowed(rt: HostRuntime) {
-    let mut store: UnsyncStorage<String> = Store::new(rt.alloc(), 7);
-    a_borrowed_new_value(&rt, rt.alloc(), &mut store);
+    play::<String, ABorrowedNewValue>(&rt, rt.alloc());
 }

@@ -4,6 +4,7 @@ use crate::expected::{
     assert_released, assert_shows, assert_unread, begin, dropped, end, insert, leak, made,
     made_later, new_owner, read, release,
 };
+use crate::fresh::{Scenario, play};
 use generational_box::{GenerationalRef, Storage, Store, UnsyncStorage};
 use std::alloc::Global;
 use std::process::Abort;
@@ -55,21 +56,24 @@ fn a_pair_with_a_text(rt: HostRuntime) -> Result<(), Fail> {
     Ok(())
 }
 
-fn names_alone<S: Storage<()>>(rt: &impl Abort, alloc: Global, store: &mut S) {
-    let one = leak(rt, store, (), made());
-    let other = leak(rt, store, (), made());
-    end(rt, store, one);
-    let guard = begin(rt, store, other, read());
-    assert_value(rt, store, &guard, &());
-    assert_released(rt, store, guard, true);
-    assert_shows(rt, alloc, &other, "1@1");
+struct NamesAlone;
+
+impl Scenario<()> for NamesAlone {
+    fn play<R: Abort, S: Storage<()>>(rt: &R, alloc: Global, store: &mut S) {
+        let one = leak(rt, store, (), made());
+        let other = leak(rt, store, (), made());
+        end(rt, store, one);
+        let guard = begin(rt, store, other, read());
+        assert_value(rt, store, &guard, &());
+        assert_released(rt, store, guard, true);
+        assert_shows(rt, alloc, &other, "1@1");
+    }
 }
 
 // A store of names alone.
 #[test]
 fn values_without_size(rt: HostRuntime) {
-    let mut store: UnsyncStorage<()> = Store::new(rt.alloc(), 7);
-    names_alone(&rt, rt.alloc(), &mut store);
+    play::<(), NamesAlone>(&rt, rt.alloc());
 }
 
 #[derive(Debug, PartialEq, Drop)]

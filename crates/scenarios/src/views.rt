@@ -3,9 +3,8 @@
 use crate::expected::{
     assert_prints, assert_shows, begin, begin_write, borrowed, leak, made, read, written,
 };
-use generational_box::{
-    GenerationalBox, GenerationalRef, GenerationalRefMut, Ref, Storage, Store, UnsyncStorage,
-};
+use crate::fresh::{Scenario, play};
+use generational_box::{GenerationalBox, GenerationalRef, GenerationalRefMut, Ref, Storage};
 use std::alloc::Global;
 use std::process::Abort;
 
@@ -50,19 +49,22 @@ fn assert_read<S: Storage<(u32, u32)>>(
     }
 }
 
-fn parts_of_a_pair<S: Storage<(u32, u32)>>(rt: &impl Abort, alloc: Global, store: &mut S) {
-    let pair = leak(rt, store, (1, 2), made());
-    let guard = begin(rt, store, pair, read());
-    assert_parts(rt, alloc, store, &guard);
-    assert_read(rt, alloc, store, pair);
-    assert!(rt; guard.release(store));
+struct PartsOfAPair;
+
+impl Scenario<(u32, u32)> for PartsOfAPair {
+    fn play<R: Abort, S: Storage<(u32, u32)>>(rt: &R, alloc: Global, store: &mut S) {
+        let pair = leak(rt, store, (1, 2), made());
+        let guard = begin(rt, store, pair, read());
+        assert_parts(rt, alloc, store, &guard);
+        assert_read(rt, alloc, store, pair);
+        assert!(rt; guard.release(store));
+    }
 }
 
 // A view that finds no part ends, and the borrow stands.
 #[test]
 fn a_pair_is_viewed(rt: HostRuntime) {
-    let mut store: UnsyncStorage<(u32, u32)> = Store::new(rt.alloc(), 7);
-    parts_of_a_pair(&rt, rt.alloc(), &mut store);
+    play::<(u32, u32), PartsOfAPair>(&rt, rt.alloc());
 }
 
 /// Writes both parts of a pair through its views, and looks for a third.
@@ -92,20 +94,23 @@ fn write_part_of_part(rt: &impl Abort, guard: &mut GenerationalRefMut<(u32, u32)
     assert_eq!(rt; *guard.deref(), (11, 22));
 }
 
-fn parts_of_a_writer<S: Storage<(u32, u32)>>(rt: &impl Abort, store: &mut S) {
-    let pair = leak(rt, store, (1, 2), made());
-    let mut guard = begin_write(rt, store, pair, written());
-    write_parts(rt, &mut guard);
-    write_part_of_part(rt, &mut guard);
-    assert_eq!(rt; guard.release(store), Ok(()));
-    let reader = begin(rt, store, pair, read());
-    assert_eq!(rt; view(rt, store, &reader).cloned(), Ok((11, 22)));
-    assert!(rt; reader.release(store));
+struct PartsOfAWriter;
+
+impl Scenario<(u32, u32)> for PartsOfAWriter {
+    fn play<R: Abort, S: Storage<(u32, u32)>>(rt: &R, _: Global, store: &mut S) {
+        let pair = leak(rt, store, (1, 2), made());
+        let mut guard = begin_write(rt, store, pair, written());
+        write_parts(rt, &mut guard);
+        write_part_of_part(rt, &mut guard);
+        assert_eq!(rt; guard.release(store), Ok(()));
+        let reader = begin(rt, store, pair, read());
+        assert_eq!(rt; view(rt, store, &reader).cloned(), Ok((11, 22)));
+        assert!(rt; reader.release(store));
+    }
 }
 
 // What is written through a part is the guard's, and goes back with it.
 #[test]
 fn a_pair_is_written_by_its_parts(rt: HostRuntime) {
-    let mut store: UnsyncStorage<(u32, u32)> = Store::new(rt.alloc(), 7);
-    parts_of_a_writer(&rt, &mut store);
+    play::<(u32, u32), PartsOfAWriter>(&rt, rt.alloc());
 }

@@ -3,22 +3,84 @@
 ghost use Rattle.std.specs.Prelude.{◌≡◌};
 
 use crate::places::{made as leaked_at, read as read_at};
-use generational_box::StepCall;
-use generational_sync::{Count, SyncState};
+use crate::workers::text;
+use generational_box::{GenerationalBox, GenerationalRef, StepCall};
+use generational_sync::{Count, SyncState, Tally};
 use std::alloc::Global;
 use std::marker::Brand;
+use std::process::Abort;
 use std::sync::ledger::Blank;
 use std::test::*;
 
-// One worker calls what lies under the lock, and nothing waits. Answers whether all replies were
-// those that were wanted.
+// Makes a box of `hello`.
+fn leak<A: Count, B: Count, C: Count, D: Count>(
+    rt: &impl Abort,
+    alloc: Global,
+    state: &mut SyncState<String, 7, A, B, C, D>,
+    tally: &mut Tally<A, B, C, D>,
+) -> GenerationalBox<String> {
+    let made = state.leak(text(rt, alloc, "hello"), leaked_at(), tally);
+    made.map_err(|refusal| refusal.cause).expect(rt, "a box")
+}
+
+// Begins a read, which nothing hinders.
+fn begin<A: Count, B: Count, C: Count, D: Count>(
+    rt: &impl Abort,
+    state: &mut SyncState<String, 7, A, B, C, D>,
+    tally: &mut Tally<A, B, C, D>,
+    asked: GenerationalBox<String>,
+) -> GenerationalRef<String> {
+    assert!(rt; state.ready(&StepCall::Read(asked.pointer(), read_at())));
+    let guard = state.try_read(asked, read_at(), tally);
+    guard.expect(rt, "a guard")
+}
+
+// Ends a box, which nothing hinders.
+fn end<A: Count, B: Count, C: Count, D: Count>(
+    rt: &impl Abort,
+    state: &mut SyncState<String, 7, A, B, C, D>,
+    tally: &mut Tally<A, B, C, D>,
+    asked: GenerationalBox<String>,
+) {
+    assert!(rt; state.ready(&StepCall::ManuallyDrop(asked.pointer())));
+    let ended = state.manually_drop(asked, tally);
+    assert!(rt; ended.is_ok());
+}
+
+// Asserts that a guard opens `hello`.
+fn assert_opens<A: Count, B: Count, C: Count, D: Count>(
+    rt: &impl Abort,
+    state: &SyncState<String, 7, A, B, C, D>,
+    guard: &GenerationalRef<String>,
+) {
+    let opened = state.open(guard);
+    assert!(rt; opened.is_some_and(|text| text.as_str() == "hello"));
+}
+
+// Makes a box, reads it and ends it. The reader hinders the end.
+fn live<A: Count, B: Count, C: Count, D: Count>(
+    rt: &impl Abort,
+    alloc: Global,
+    state: &mut SyncState<String, 7, A, B, C, D>,
+    tally: &mut Tally<A, B, C, D>,
+) {
+    let made = leak(rt, alloc, state, tally);
+    let guard = begin(rt, state, tally, made);
+    assert_opens(rt, state, &guard);
+    assert!(rt; !state.ready(&StepCall::ManuallyDrop(made.pointer())));
+    assert!(rt; state.release_read(guard, tally));
+    end(rt, state, tally, made);
+}
+
+// One worker calls what lies under the lock, and nothing waits.
 fn one_by_one<A: Count, B: Count, C: Count, D: Count>(
+    rt: &impl Abort,
     alloc: Global,
     made: Blank,
     lent: Blank,
     changed: Blank,
     refused: Blank,
-) -> Result<bool, Fail>
+)
     requires made { (made.name ≡ A.name) × (made.parts ≡ A.parts) × (made.parts ≡ 1) ×
         (A.workers ≡ 1) }
     requires lent { (lent.name ≡ B.name) × (lent.parts ≡ B.parts) × (lent.parts ≡ 1) ×
@@ -28,43 +90,22 @@ fn one_by_one<A: Count, B: Count, C: Count, D: Count>(
     requires refused { (refused.name ≡ D.name) × (refused.parts ≡ D.parts) × (refused.parts ≡ 1) ×
         (D.workers ≡ 1) }
 {
-    let (mut state, mut tallies) = SyncState::<String, 7, A, B, C, D>::new(
-        alloc, 1, made, lent, changed, refused,
-    ).map_err(|_| "memory")?;
-    let mut tally = tallies.pop().ok_or("a tally")?;
-    let hello = String::from_str(alloc, "hello")?;
-    let made = state
-        .leak(hello, leaked_at(), &mut tally)
-        .map_err(|_| "memory")?;
-    let read = StepCall::Read(made.pointer(), read_at());
-    let end = StepCall::ManuallyDrop(made.pointer());
-    if !state.ready(&read) {
-        return Ok(false);
-    }
-    let guard = state
-        .try_read(made, read_at(), &mut tally)
-        .map_err(|_| "memory")?;
-    let opened = state
-        .open(&guard)
-        .is_some_and(|text| text.as_str() == "hello");
-    let hindered = !state.ready(&end);
-    let released = state.release_read(guard, &mut tally);
-    if !state.ready(&end) {
-        return Ok(false);
-    }
-    let ended = state.manually_drop(made, &mut tally).is_ok();
-    Ok(opened && hindered && released && ended && tally.worker() == 0 && tally.is_whole())
+    let state = SyncState::<String, 7, A, B, C, D>::new(alloc, 1, made, lent, changed, refused);
+    let (mut state, mut tallies) = state.expect(rt, "a store");
+    let mut tally = tallies.pop().expect(rt, "a tally");
+    live(rt, alloc, &mut state, &mut tally);
+    assert_eq!(rt; tally.worker(), 0);
+    assert!(rt; tally.is_whole());
 }
 
 #[test]
-fn calls_without_threads(rt: HostRuntime) -> Result<(), Fail> {
-    let good = one_by_one::<Brand, Brand, Brand, Brand>(
+fn calls_without_threads(rt: HostRuntime) {
+    one_by_one::<Brand, Brand, Brand, Brand>(
+        &rt,
         rt.alloc(),
         Blank::new(1),
         Blank::new(1),
         Blank::new(1),
         Blank::new(1),
-    )?;
-    assert!(rt; good);
-    Ok(())
+    );
 }

@@ -16,7 +16,8 @@ use Rattle.generational_core.specs.Machine.Answer.{Refused as refuses}
 use Rattle.generational_core.specs.Boxes.{id_of}
 use Rattle.generational_core.specs.State.{tickets_of}
 use Rattle.generational_box.specs.Borrows.{AreBelow}
-use Rattle.generational_box.specs.Entry.{FoundBorrowed, less_read, one_read, readers_of}
+use Rattle.generational_box.specs.Entry.{FoundBorrowed, is_unborrowed_value, less_read, one_read}
+use Rattle.generational_box.specs.Entry.{readers_of}
 use Rattle.generational_box.proofs.Common.{Borrow, GenerationalBoxId, GenerationalPointer}
 use Rattle.generational_box.proofs.Common.{BorrowMutError, Location, OutOfMemory, NumbersExhausted}
 use Rattle.generational_box.proofs.Common.{end_refused, back_answer, WriteGuard, IsSound, Owners}
@@ -135,6 +136,26 @@ module _ {T : Type 0} where
       at true None is to = absurd cc
       at true (Some (Shared c l)) is to = absurd cc
       at false o is to = absurd cc
+
+  -- a box whose own cell is a value without borrows reaches it
+  pub unborrowed_reached : (V : State T) (b : GenerationalPointer) {n : Name}
+      → is_unborrowed_value (own_cell V b.id) ≡ true → n ≡ name_of b
+      → (reach V b ≡ Some n) × (write_refusal (content_at V n) ≡ None)
+      × (read_refusal (content_at V n) ≡ None)
+  unfolding reach
+  unborrowed_reached V b free own =
+      rw own (at (nat_eq b.id.store V.number) (map.get V.cells (name_of b)) free)
+    where
+      at : (own : Bool) (o : Option (Cell T)) → is_unborrowed_value (cond own o None) ≡ true
+          → (cond own (leads_to o (name_of b)) None ≡ Some (name_of b))
+          × (write_refusal (content_of o) ≡ None) × (read_refusal (content_of o) ≡ None)
+      at true (Some (Value (Here v []) l)) h = (refl, refl, refl)
+      at true (Some (Value (Here v (r ∷ rs)) l)) h = absurd (false≢true h)
+      at true (Some (Value (Lent w) l)) h = absurd (false≢true h)
+      at true (Some (Shared c l)) h = absurd (false≢true h)
+      at true (Some (Ref m l)) h = absurd (false≢true h)
+      at true None h = absurd (false≢true h)
+      at false o h = absurd (false≢true h)
 
   -- so something stands there
   pub has_content : {V : State T} {b : GenerationalPointer} {m : Name} → Reaches V b m
