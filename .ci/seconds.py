@@ -42,13 +42,17 @@ def read_process(pid, session):
 
 
 def watch(session, seen, is_over):
-    """Keeps the greatest time of each process of a session until the command is over."""
+    """Keeps the greatest time of each process of a session until the command is over. A process
+    that ends has no words any more: those that it had are kept."""
     while not is_over.wait(PAUSE):
         for pid in filter(str.isdigit, os.listdir("/proc")):
             found = read_process(pid, session)
             if found:
                 key, seconds, words, folder = found
-                seen[key] = (max(seconds, seen.get(key, (0,))[0]), words, folder)
+                before = seen.get(key, (0, words, folder))
+                if "--crate-name" not in words:
+                    words, folder = before[1:]
+                seen[key] = (max(seconds, before[0]), words, folder)
 
 
 def edit_names(crate):
