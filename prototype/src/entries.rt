@@ -1,0 +1,616 @@
+//! The slots of a store, and the borrows that stand at their cells.
+
+ghost use Rattle.std.specs.Prelude.{◌≡◌, ◌≢◌, ◌+◌, ◌-◌, ◌<◌, ◌≤◌, ◌∷◌, ◌++◌, [], true, Some, Err};
+ghost use Rattle.std.specs.Prelude.{IsTrue};
+ghost use Rattle.std.specs.Prelude.{◌↔◌, IfSome, IfErr, OnOk, OnErr, is_some, is_none, is_ok};
+ghost use Rattle.std.specs.Prelude.{length};
+ghost use Rattle.std.specs.Prelude.{option_copied, option_map, slice_get, slice_set};
+ghost use Rattle.generational_core.specs.Cells.Content.{Here};
+ghost use Rattle.generational_core.specs.Borrowing.{read_refusal, write_refusal};
+ghost use Rattle.generational_core.specs.Borrowing.Trouble.{BeingWritten};
+ghost use Rattle.generational_core.specs.Machine.{has_reader, has_writer};
+ghost use Rattle.generational_core.specs.Slots.{last_generation};
+ghost use Rattle.generational_core.specs.declared.error.Refused.TheVariants as refused;
+ghost use Rattle.generational_core.specs.declared.error.BorrowMutError.TheVariants as writes;
+ghost use Rattle.generational_core.specs.declared.error.StoreError.TheVariants.{OutOfMemory};
+ghost use Rattle.generational_box.specs.declared.entry.StorageEntryData.TheVariants as content;
+ghost use Rattle.generational_box.specs.Borrows.{AreBelow};
+ghost use Rattle.generational_box.specs.Table.{no_index, IsUsed, Releases};
+ghost use Rattle.generational_box.specs.Table.{list_at};
+ghost use Rattle.std.specs.List.{list_any, filter};
+ghost use Rattle.std.specs.Prelude.{nat_eq, not, IfOk};
+ghost use Rattle.generational_box.specs.Entry.Kept.{Empty};
+ghost use Rattle.generational_box.specs.Entry.{cell_of, kind_in, name_of_cell, readers_of};
+ghost use Rattle.generational_box.specs.Entry.{is_unborrowed_value, referring, target_in};
+ghost use Rattle.generational_box.specs.Entries.{IsUnborrowed, kept_data};
+ghost use Rattle.generational_core.specs.Borrowing.{leads_to};
+ghost use Rattle.generational_core.specs.Cells.{content_of, location_of};
+ghost use Rattle.generational_box.specs.Entry.{content_in, has_no_borrow, with_reader, value_for};
+ghost use Rattle.generational_box.specs.Entry.{without_reader_in, lend_to, with_value};
+ghost use Rattle.generational_box.specs.Entry.{FoundBorrowed, FoundReaders};
+ghost use Rattle.generational_box.specs.Slotted.{cell_at, change_entry};
+
+use crate::borrows::Borrows;
+use crate::entry::{CellName, EntryDetails, Kind, NO_INDEX, StorageEntry, StorageEntryData};
+use crate::room::{more_room, reserve_room};
+use crate::table::BorrowTable;
+use generational_core::parts::Borrow;
+use generational_core::{
+    AlreadyBorrowedError, AlreadyBorrowedMutError, BorrowMutError, BorrowMutResult, Location,
+    Refused, StoreError,
+};
+use std::alloc::{AllocError, Global};
+use std::marker::Model;
+use std::mem;
+
+/// The slots of a store. Contracts see each as its generation and its cell with the borrows that
+/// stand there, and for how many slots there is room.
+///
+/// What every call asks for stands together in `entries`; what is seldom asked of a cell stands
+/// apart, and so do borrows, in a table that stays as small as the most that stood at once.
+#[derive(Clone, Copy)]
+enum Standing { Nobody, Reader, Writer }
+
+#[derive(Drop)]
+pub(crate) struct Entries<T> {
+    alloc: Global,
+    entries: Vec<StorageEntry<T>>,
+    details: Vec<EntryDetails>,
+    borrows: BorrowTable,
+    noted_slot: usize,
+    noted_generation: u64,
+    noted: Borrow,
+    standing: Standing,
+    // for how many slots there is room in each of these
+    room: usize,
+}
+
+impl<T> Model for Entries<T> {
+    ghost use Rattle.std.specs.Prelude.{◌≡◌, ◌≤◌, length, vec_capacity};
+    ghost use Rattle.generational_box.specs.Entries.{EntryList, entries_of, AreIndexed, AreRoomy};
+
+    ghost Value = { EntryList T };
+
+    ghost view = { λ e. record {
+      slots = entries_of e.borrows.lists e.entries.items e.details.items;
+      rooms = e.room;
+    } };
+
+    ghost invariant = { λ e. AreIndexed e.borrows e.entries.items
+        × (length e.details.items ≡ length e.entries.items)
+        × AreRoomy e.room (length e.entries.items) (vec_capacity e.entries)
+        (vec_capacity e.details) e.borrows.rooms };
+}
+
+impl<T> Entries<T> {
+    // No slot. Takes no memory.
+    pub(crate) fn new(alloc: Global) -> Entries<T>
+        ensures { result ≡ record { slots = []; rooms = 0 } }
+    {
+        Entries {
+            alloc,
+            entries: Vec::new(alloc),
+            details: Vec::new(alloc),
+            borrows: BorrowTable::new(alloc),
+            noted_slot: 0,
+            noted_generation: 0,
+            noted: Borrow { ticket: 0, location: Location::new("", 0, 0) },
+            standing: Standing::Nobody,
+            room: 0,
+        }
+    }
+
+    // How many slots were made.
+    #[inline(always)]
+    pub(crate) fn len(&self) -> usize
+        ensures { result ≡ length self.now.slots }
+    {
+        self.entries.len()
+    }
+
+    // For how many there is room.
+    #[inline(always)]
+    pub(crate) fn room(&self) -> usize
+        ensures { result ≡ self.now.rooms }
+    {
+        self.room
+    }
+
+    // Makes room for one slot more at least, and for so many that few makings pay for it. The only
+    // refusal is want of memory, also where no index of 32 bits is left for a slot's borrows.
+    #[cold]
+    #[inline(never)]
+    pub(crate) fn grow(&mut self) -> Result<(), StoreError>
+    where
+        T: Drop,
+        ensures slots { self.new.slots ≡ self.old.slots }
+        ensures rooms { self.old.rooms ≤ self.new.rooms }
+        ensures ok { OnOk result (self.old.rooms < self.new.rooms) }
+        ensures few { OnOk result (self.new.rooms < no_index) }
+        ensures cause { IfErr result (λ error. error ≡ OutOfMemory) }
+    {
+        let room = larger_room(self.room)?;
+        reserve_room(&mut self.entries, self.alloc, room)?;
+        reserve_room(&mut self.details, self.alloc, room)?;
+        self.borrows.grow(room)?;
+        self.room = room;
+        Ok(())
+    }
+
+    // What a box of this name reaches.
+    #[inline(always)]
+    pub(crate) fn reach(&self, name: CellName) -> Option<CellName>
+        ensures { option_map name_of_cell result ≡ leads_to
+            (cell_at self.now.slots (name_of_cell name)) (name_of_cell name) }
+    {
+        match self.entries.get(name.slot) {
+            Some(entry) => entry.reach(name),
+            None => None,
+        }
+    }
+
+    // Whose the value of this name is, also one that is lent.
+    #[inline(always)]
+    pub(crate) fn kind(&self, name: CellName) -> Option<Kind>
+        ensures { result ≡ kind_in (cell_at self.now.slots (name_of_cell name)) }
+    {
+        match self.entries.get(name.slot) {
+            Some(entry) => entry.kind(name.generation),
+            None => None,
+        }
+    }
+
+    // Whether the cell of this name is a value that isn't shared and has no borrow.
+    #[inline(always)]
+    pub(crate) fn has_unborrowed_value(&self, name: CellName) -> bool
+        ensures { result ≡ is_unborrowed_value (cell_at self.now.slots (name_of_cell name)) }
+    {
+        match self.entries.get(name.slot) {
+            Some(entry) => entry.has_unborrowed_value(name.generation),
+            None => false,
+        }
+    }
+
+    // What the reference of this name names.
+    #[inline(always)]
+    pub(crate) fn target(&self, name: CellName) -> Option<CellName>
+        ensures { option_map name_of_cell result
+            ≡ target_in (cell_at self.now.slots (name_of_cell name)) }
+    {
+        match self.entries.get(name.slot) {
+            Some(entry) => entry.target(name.generation),
+            None => None,
+        }
+    }
+
+    // Where the slot's cell was made, and how many references name it.
+    #[inline(always)]
+    pub(crate) fn details(&self, slot: usize) -> EntryDetails
+        requires { slot < length self.now.slots }
+        ensures references { IfSome (slice_get self.now.slots slot)
+            (λ e. result.references ≡ e.references) }
+        ensures created { IfSome (slice_get self.now.slots slot)
+            (λ e. IfSome (location_of (cell_of e.kept)) (λ l. result.created_at ≡ l)) }
+    {
+        self.details[slot]
+    }
+
+    // A reference to a slot's cell.
+    pub(crate) fn reference_to(&self, slot: usize) -> StorageEntryData<T>
+        requires { slot < length self.now.slots }
+        ensures { IfSome (slice_get self.now.slots slot)
+            (λ e. result ≡ content.Reference slot e.generation) }
+    {
+        let generation = self.entries[slot].generation;
+        StorageEntryData::Reference(slot as u32, generation)
+    }
+
+    // The generation of the slot's last cell.
+    #[inline(always)]
+    pub(crate) fn generation(&self, slot: usize) -> u64
+        requires { slot < length self.now.slots }
+        ensures { IfSome (slice_get self.now.slots slot) (λ e. result ≡ e.generation) }
+    {
+        self.entries[slot].generation
+    }
+
+    // The writer that stands in the way of a read.
+    #[inline(always)]
+    pub(crate) fn borrow_error(&self, slot: usize) -> Option<AlreadyBorrowedMutError>
+        requires { slot < length self.now.slots }
+        ensures { IfSome (slice_get self.now.slots slot) (λ e. option_map
+            (λ x. BeingWritten x.borrowed_mut_at) result ≡ read_refusal (content_in e.kept)) }
+    {
+        match &self.entries[slot].content {
+            StorageEntryData::Lent(_, index) => {
+                let writer = self.borrows.first(*index);
+                Some(AlreadyBorrowedMutError::new(writer.location))
+            }
+            _ => None,
+        }
+    }
+
+    // Whether no borrow stands at the cell.
+    #[inline(always)]
+    pub(crate) fn is_unborrowed(&self, slot: usize) -> bool
+        requires { slot < length self.now.slots }
+        ensures { IfSome (slice_get self.now.slots slot)
+            (λ e. result ≡ is_none (write_refusal (content_in e.kept))) }
+    {
+        match &self.entries[slot].content {
+            StorageEntryData::Data(_, index, _) => *index == NO_INDEX,
+            StorageEntryData::Lent(_, _) => false,
+            _ => true,
+        }
+    }
+
+    // The borrows that stand in the way of a write or an end.
+    #[inline(always)]
+    pub(crate) fn borrow_mut_error(&self, slot: usize) -> BorrowMutResult<()>
+        requires { slot < length self.now.slots }
+        ensures { IfSome (slice_get self.now.slots slot)
+            (λ e. FoundBorrowed (write_refusal (content_in e.kept)) result) }
+    {
+        match &self.entries[slot].content {
+            StorageEntryData::Data(_, index, _) => {
+                if *index == NO_INDEX {
+                    return Ok(());
+                }
+                Err(readers_error(&self.borrows, *index, self.alloc))
+            }
+            StorageEntryData::Lent(_, index) => Err(writer_error(self.borrows.first(*index))),
+            _ => Ok(()),
+        }
+    }
+
+    // The value, where the reader stands.
+    #[inline(always)]
+    pub(crate) fn open(&self, name: CellName, ticket: u64) -> Option<&T>
+    {
+        if matches!(self.standing, Standing::Reader) && self.is_noted_as(name, ticket) {
+            return self.value(name.slot);
+        }
+        self.open_any(name, ticket)
+    }
+
+    #[inline(always)]
+    fn is_noted_as(&self, name: CellName, ticket: u64) -> bool {
+        if self.noted.ticket != ticket { return false; }
+        if self.noted_slot != name.slot { return false; }
+        self.noted_generation == name.generation
+    }
+
+    #[inline(always)]
+    fn value(&self, slot: usize) -> Option<&T> {
+        match &self.entries[slot].content {
+            StorageEntryData::Data(_, _, value) => Some(value),
+            _ => unreachable!(),
+        }
+    }
+
+    #[cold]
+    #[inline(never)]
+    fn open_any(&self, name: CellName, ticket: u64) -> Option<&T> {
+        if self.kind(name).is_none() { return None; }
+        match &self.entries[name.slot].content {
+            StorageEntryData::Data(_, index, value) => {
+                if *index != NO_INDEX && self.borrows.contains(*index, ticket) {
+                    return Some(value);
+                }
+                None
+            }
+            _ => None,
+        }
+    }
+}
+
+impl<T: Drop> Entries<T> {
+    #[inline(always)]
+    pub(crate) fn settle(&mut self) {
+        if !matches!(self.standing, Standing::Nobody) {
+            self.settle_apart();
+        }
+    }
+
+    #[cold]
+    #[inline(never)]
+    fn settle_apart(&mut self) {
+        self.standing = Standing::Nobody;
+        match &mut self.entries[self.noted_slot].content {
+            StorageEntryData::Data(_, index, _) => { if *index == NO_INDEX { *index = self.borrows.begin(self.noted); } else { let _ = self.borrows.push(*index, self.noted); } }
+            StorageEntryData::Lent(_, index) => { *index = self.borrows.begin(self.noted); }
+            _ => unreachable!(),
+        }
+    }
+
+    #[inline(always)]
+    pub(crate) fn note_reader(&mut self, name: CellName, borrow: Borrow) { self.note(name, borrow, Standing::Reader); }
+    #[inline(always)]
+    fn note(&mut self, name: CellName, borrow: Borrow, standing: Standing) {
+        self.noted_slot = name.slot;
+        self.noted_generation = name.generation;
+        self.noted.ticket = borrow.ticket;
+        self.noted.location = borrow.location;
+        self.standing = standing;
+    }
+
+    // Adds a reader to a list, if there is one
+    #[cold]
+    #[inline(never)]
+    pub(crate) fn reserve_reader(&mut self, slot: usize) -> Result<(), AllocError>
+    {
+        match &mut self.entries[slot].content {
+            StorageEntryData::Data(_, index, _) => {
+                if *index == NO_INDEX {
+                    return Ok(());
+                }
+                self.borrows.push(*index, self.noted)
+            }
+            _ => Ok(()),
+        }
+    }
+
+    // Takes a reader away. The answer is whether it stood.
+    #[inline(always)]
+    pub(crate) fn release_read(&mut self, name: CellName, ticket: u64) -> bool
+    {
+        if matches!(self.standing, Standing::Reader) && self.is_noted_as(name, ticket) {
+            self.standing = Standing::Nobody;
+            return true;
+        }
+        self.release_any(name, ticket)
+    }
+
+    #[cold]
+    #[inline(never)]
+    fn release_any(&mut self, name: CellName, ticket: u64) -> bool {
+        if self.kind(name).is_none() { return false; }
+        match &mut self.entries[name.slot].content {
+            StorageEntryData::Data(_, index, _) => {
+                if *index == NO_INDEX {
+                    return false;
+                }
+                self.borrows.release(index, ticket)
+            }
+            _ => false,
+        }
+    }
+
+    // Lends the value of a cell without borrows to a writer.
+    #[inline(always)]
+    pub(crate) fn begin_write(&mut self, name: CellName, writer: Borrow) -> T
+    {
+        let value = self.entries[name.slot].content.lend(NO_INDEX);
+        self.note(name, writer, Standing::Writer);
+        value
+    }
+
+    // Puts a writer's value back, or hands it back where the writer doesn't stand, which changes
+    // nothing.
+    #[inline(always)]
+    pub(crate) fn release_write(&mut self, name: CellName, ticket: u64, value: T) -> Result<(), T>
+    {
+        if matches!(self.standing, Standing::Writer) && self.is_noted_as(name, ticket) {
+            self.standing = Standing::Nobody;
+            self.put_back(name.slot, value);
+            return Ok(());
+        }
+        if self.close_any(name, ticket) {
+            self.put_back(name.slot, value);
+            return Ok(());
+        }
+        Err(value)
+    }
+
+    #[inline(always)]
+    fn put_back(&mut self, slot: usize, value: T) {
+        let kind = match &self.entries[slot].content {
+            StorageEntryData::Lent(kind, _) => *kind,
+            _ => unreachable!(),
+        };
+        self.entries[slot].content = StorageEntryData::Data(kind, NO_INDEX, value);
+    }
+
+    #[cold]
+    #[inline(never)]
+    fn close_any(&mut self, name: CellName, ticket: u64) -> bool {
+        if self.kind(name).is_none() { return false; }
+        match &self.entries[name.slot].content {
+            StorageEntryData::Lent(_, index) if *index != NO_INDEX && self.borrows.is_first(*index, ticket) => {
+                let index = *index;
+                self.borrows.close(index);
+                true
+            }
+            _ => false,
+        }
+    }
+
+    // Puts another value in the place of that of a cell without borrows, and answers the old one.
+    #[inline(always)]
+    pub(crate) fn replace(&mut self, slot: usize, value: T) -> T
+        requires within { slot < length self.old.slots }
+        requires free { IfSome (slice_get self.old.slots slot)
+            (λ e. has_no_borrow (content_in e.kept) ≡ true) }
+        ensures value { IfSome (slice_get self.old.slots slot)
+            (λ e. content_in e.kept ≡ Some (Here result [])) }
+        ensures after { self.new.slots ≡ change_entry self.old.slots slot
+            (λ e. record e { kept = with_value value e.kept }) }
+        ensures rooms { self.new.rooms ≡ self.old.rooms }
+    {
+        match &mut self.entries[slot].content {
+            StorageEntryData::Data(_, _, kept) => mem::replace(kept, value),
+            _ => unreachable!(),
+        }
+    }
+
+    // Ends the slot's cell, with the borrows that stand there.
+    #[inline(always)]
+    pub(crate) fn end(&mut self, slot: usize)
+        requires { slot < length self.old.slots }
+        ensures slots { self.new.slots ≡ change_entry self.old.slots slot
+            (λ e. record e { kept = Empty }) }
+        ensures rooms { self.new.rooms ≡ self.old.rooms }
+    {
+        let index = self.entries[slot].index();
+        self.entries[slot].content = StorageEntryData::Empty;
+        if index != NO_INDEX {
+            self.borrows.close(index);
+        }
+    }
+
+    // Puts a cell without borrows into a slot that has none, under the next generation, which is
+    // answered. Nothing refers to it.
+    #[inline(always)]
+    pub(crate) fn refill(
+        &mut self,
+        slot: usize,
+        content: StorageEntryData<T>,
+        created_at: Location,
+    ) -> u64
+        requires within { slot < length self.old.slots }
+        requires below { IfSome (slice_get self.old.slots slot)
+            (λ e. e.generation < last_generation) }
+        requires empty { IfSome (slice_get self.old.slots slot) (λ e. e.kept ≡ Empty) }
+        requires unborrowed { IsUnborrowed content }
+        ensures generation { IfSome (slice_get self.old.slots slot)
+            (λ e. result ≡ e.generation + 1) }
+        ensures filled { self.new.slots ≡ slice_set self.old.slots slot (record
+            { generation = result; kept = kept_data [] created_at content; references = 0 }) }
+        ensures rooms { self.new.rooms ≡ self.old.rooms }
+    {
+        self.details[slot] = EntryDetails {
+            created_at,
+            references: 0,
+        };
+        self.entries[slot].refill(content)
+    }
+
+    // Adds a slot with a cell without borrows, to which nothing refers. There is room for it.
+    #[inline(always)]
+    pub(crate) fn push(
+        &mut self,
+        generation: u64,
+        content: StorageEntryData<T>,
+        created_at: Location,
+    )
+        requires room { length self.old.slots < self.old.rooms }
+        requires unborrowed { IsUnborrowed content }
+        ensures pushed { self.new.slots ≡ self.old.slots ++ (record
+            { generation = generation; kept = kept_data [] created_at content; references = 0 })
+            ∷ [] }
+        ensures rooms { self.new.rooms ≡ self.old.rooms }
+        ensures few { length self.old.slots < no_index }
+    {
+        self.entries.push_reserved(StorageEntry {
+            generation,
+            content,
+        });
+        self.details.push_reserved(EntryDetails {
+            created_at,
+            references: 0,
+        });
+    }
+
+    // Lets the slot's reference name another cell.
+    pub(crate) fn redirect(&mut self, slot: usize, target: usize)
+        requires within { slot < length self.old.slots }
+        requires target { target < length self.old.slots }
+        requires refers { IfSome (slice_get self.old.slots slot)
+            (λ e. is_some (target_in (cell_of e.kept)) ≡ true) }
+        ensures slots { IfSome (slice_get self.old.slots target)
+            (λ t. self.new.slots ≡ change_entry self.old.slots slot (λ e. record e {
+              kept = referring (record { slot = target; generation = t.generation }) e.kept;
+            })) }
+        ensures rooms { self.new.rooms ≡ self.old.rooms }
+    {
+        self.entries[slot].content = self.reference_to(target);
+    }
+
+    // One reference more names the slot's cell.
+    #[inline(always)]
+    pub(crate) fn count_up(&mut self, slot: usize)
+        requires within { slot < length self.old.slots }
+        requires few { IfSome (slice_get self.old.slots slot)
+            (λ e. e.references < length self.old.slots) }
+        ensures slots { self.new.slots ≡ change_entry self.old.slots slot
+            (λ e. record e { references = e.references + 1 }) }
+        ensures rooms { self.new.rooms ≡ self.old.rooms }
+    {
+        self.details[slot].references += 1;
+    }
+
+    // One less does.
+    #[inline(always)]
+    pub(crate) fn count_down(&mut self, slot: usize)
+        requires within { slot < length self.old.slots }
+        requires some { IfSome (slice_get self.old.slots slot) (λ e. 0 < e.references) }
+        ensures slots { self.new.slots ≡ change_entry self.old.slots slot
+            (λ e. record e { references = e.references - 1 }) }
+        ensures rooms { self.new.rooms ≡ self.old.rooms }
+    {
+        self.details[slot].references -= 1;
+    }
+}
+
+// The next larger number of slots for which room is made.
+fn larger_room(room: usize) -> Result<usize, StoreError>
+    ensures more { IfOk result (λ more. (room < more) × (more + 1 < no_index)) }
+    ensures cause { IfErr result (λ error. error ≡ OutOfMemory) }
+{
+    let most = NO_INDEX as usize - 2;
+    if room >= most {
+        return Err(StoreError::OutOfMemory);
+    }
+    Ok(most.min(room + more_room(room)))
+}
+
+// The answer to a write or an end where the readers at this index stand. Here the room for the
+// answer is set up, and so only where there is one.
+#[inline(always)]
+fn readers_error(borrows: &BorrowTable, index: u32, alloc: Global) -> Refused<BorrowMutError>
+    requires { index < length borrows.now.lists }
+    ensures { FoundReaders (list_at borrows.now.lists index) result }
+{
+    if index == 0 {
+        return reader_error(borrows.in_place(), alloc);
+    }
+    readers_error_apart(borrows.beside(index), alloc)
+}
+
+#[cold]
+#[inline(never)]
+fn reader_error(reader: Borrow, alloc: Global) -> Refused<BorrowMutError>
+    ensures { FoundReaders (reader ∷ []) result }
+{
+    match Vec::with_capacity(alloc, 1) {
+        Ok(mut borrowed_at) => {
+            borrowed_at.push_reserved(reader.location);
+            Refused::Borrow(BorrowMutError::AlreadyBorrowed(AlreadyBorrowedError::new(borrowed_at)))
+        }
+        Err(_) => Refused::Store(StoreError::OutOfMemory),
+    }
+}
+
+#[cold]
+#[inline(never)]
+fn readers_error_apart(readers: &Borrows, alloc: Global) -> Refused<BorrowMutError>
+    ensures { FoundReaders readers.now result }
+{
+    match readers.locations(alloc) {
+        Ok(borrowed_at) => Refused::Borrow(BorrowMutError::AlreadyBorrowed(
+            AlreadyBorrowedError::new(borrowed_at),
+        )),
+        Err(_) => Refused::Store(StoreError::OutOfMemory),
+    }
+}
+
+// The answer to a write or an end where a writer stands.
+#[inline(always)]
+fn writer_error(writer: Borrow) -> Refused<BorrowMutError>
+    ensures { result ≡ refused.Borrow (writes.AlreadyBorrowedMut
+        (record { borrowed_mut_at = writer.location })) }
+{
+    Refused::Borrow(BorrowMutError::AlreadyBorrowedMut(AlreadyBorrowedMutError::new(
+        writer.location,
+    )))
+}

@@ -1,0 +1,195 @@
+//! What a slot keeps in one place: the generation of its last cell, and that cell.
+
+ghost use Rattle.std.specs.Prelude.{◌≡◌, ◌+◌, ◌<◌, IsSome, None, Some, nat_eq, option_map};
+ghost use Rattle.std.specs.Prelude.{if◌then◌else◌};
+ghost use Rattle.generational_core.specs.Slots.{last_generation};
+ghost use Rattle.std.specs.Prelude.{false};
+ghost use Rattle.generational_box.specs.Entries.{is_unborrowed_data, lent_data};
+ghost use Rattle.generational_box.specs.Entries.{index_of, lead_of, kind_of, target_of, value_in};
+ghost use Rattle.generational_box.specs.Entry.{name_of_cell};
+
+use generational_core::Location;
+use std::mem;
+
+/// The index of a cell without borrows.
+pub(crate) const NO_INDEX: u32 = u32::MAX;
+
+/// The name of a cell of the store that keeps it.
+#[derive(Clone, Copy, PartialEq)]
+pub(crate) struct CellName {
+    pub(crate) slot: usize,
+    pub(crate) generation: u64,
+}
+
+/// Whose a value is: a box's own, or shared by all references that name its cell.
+#[derive(Clone, Copy, Drop)]
+pub(crate) enum Kind {
+    Value,
+    Shared,
+}
+
+/// A slot: the generation of its last cell, and that cell while it is live.
+#[derive(Drop)]
+pub(crate) struct StorageEntry<T> {
+    pub(crate) generation: u64,
+    pub(crate) content: StorageEntryData<T>,
+}
+
+/// What is seldom asked of a slot, and so stands apart: where its last cell was made, and how many
+/// live references name that.
+#[derive(Clone, Copy)]
+pub(crate) struct EntryDetails {
+    pub(crate) created_at: Location,
+    pub(crate) references: usize,
+}
+
+/// A live cell: a value with the index of its readers in the table of borrows, the index of its
+/// writer while the value is lent, or a reference, by its target's slot and generation. Or nothing.
+#[derive(Drop)]
+pub(crate) enum StorageEntryData<T> {
+    Empty,
+    Data(Kind, u32, T),
+    Lent(Kind, u32),
+    Reference(u32, u64),
+}
+
+impl<T> StorageEntry<T> {
+    // The cell that a box of this name reaches, if the slot's cell has the name: its own one, if
+    // that is a value that isn't shared, or the target of a reference.
+    #[inline(always)]
+    pub(crate) fn reach(&self, name: CellName) -> Option<CellName>
+        ensures { option_map name_of_cell result ≡ if nat_eq self.now.generation name.generation
+            then lead_of self.now.content (name_of_cell name) else None }
+    {
+        if self.generation != name.generation {
+            return None;
+        }
+        match &self.content {
+            StorageEntryData::Data(kind, _, _) | StorageEntryData::Lent(kind, _) => match kind {
+                Kind::Value => Some(name),
+                Kind::Shared => None,
+            },
+            StorageEntryData::Reference(slot, generation) => Some(CellName {
+                slot: *slot as usize,
+                generation: *generation,
+            }),
+            StorageEntryData::Empty => None,
+        }
+    }
+
+    // Whose the slot's value is, also one that is lent, if the slot's cell has this generation.
+    #[inline(always)]
+    pub(crate) fn kind(&self, generation: u64) -> Option<Kind>
+        ensures { result ≡ if nat_eq self.now.generation generation
+            then kind_of self.now.content else None }
+    {
+        if self.generation != generation {
+            return None;
+        }
+        match &self.content {
+            StorageEntryData::Data(kind, _, _) | StorageEntryData::Lent(kind, _) => Some(*kind),
+            _ => None,
+        }
+    }
+
+    // Whether the slot's cell has this generation, and is a value that isn't shared and has no
+    // borrow.
+    #[inline(always)]
+    pub(crate) fn has_unborrowed_value(&self, generation: u64) -> bool
+        ensures { result ≡ if nat_eq self.now.generation generation
+            then is_unborrowed_data self.now.content else false }
+    {
+        if self.generation != generation {
+            return false;
+        }
+        match &self.content {
+            StorageEntryData::Data(Kind::Value, index, _) => *index == NO_INDEX,
+            _ => false,
+        }
+    }
+
+    // The target of the slot's reference, if the slot's cell has this generation and is one.
+    #[inline(always)]
+    pub(crate) fn target(&self, generation: u64) -> Option<CellName>
+        ensures { option_map name_of_cell result ≡ if nat_eq self.now.generation generation
+            then target_of self.now.content else None }
+    {
+        if self.generation != generation {
+            return None;
+        }
+        self.content.target()
+    }
+
+    // Where the borrows of the slot's cell stand in the table.
+    #[inline(always)]
+    pub(crate) fn index(&self) -> u32
+        ensures { result ≡ index_of self.now.content }
+    {
+        match &self.content {
+            StorageEntryData::Data(_, index, _) | StorageEntryData::Lent(_, index) => *index,
+            _ => NO_INDEX,
+        }
+    }
+
+    // Puts a cell into the slot, under the next generation, which is answered.
+    #[inline(always)]
+    pub(crate) fn refill(&mut self, content: StorageEntryData<T>) -> u64
+    where
+        T: Drop,
+        requires { self.old.generation < last_generation }
+        ensures generation { result ≡ self.old.generation + 1 }
+        ensures filled { self.new ≡ record { generation = result; content = content } }
+    {
+        self.generation += 1;
+        self.content = content;
+        self.generation
+    }
+}
+
+impl<T> StorageEntryData<T> {
+    // What the cell names, if it is a reference.
+    #[inline(always)]
+    pub(crate) fn target(&self) -> Option<CellName>
+        ensures { option_map name_of_cell result ≡ target_of self.now }
+    {
+        match self {
+            StorageEntryData::Reference(slot, generation) => Some(CellName {
+                slot: *slot as usize,
+                generation: *generation,
+            }),
+            _ => None,
+        }
+    }
+
+    // Lends the value, which is there, to the writer at an index.
+    #[inline(always)]
+    pub(crate) fn lend(&mut self, index: u32) -> T
+    where
+        T: Drop,
+        requires { IsSome (value_in self.old) }
+        ensures value { value_in self.old ≡ Some result }
+        ensures lent { self.new ≡ lent_data index self.old }
+    {
+        let kind = match self {
+            StorageEntryData::Data(kind, _, _) => *kind,
+            _ => unreachable!(),
+        };
+        match mem::replace(self, StorageEntryData::Lent(kind, index)) {
+            StorageEntryData::Data(_, _, value) => value,
+            _ => unreachable!(),
+        }
+    }
+
+    // The value, which is there.
+    pub(crate) fn into_value(self) -> T
+    where
+        T: Drop,
+        requires { IsSome (value_in self) }
+        ensures { value_in self ≡ Some result }
+    {
+        match self {
+            StorageEntryData::Data(_, _, value) => value,
+            _ => unreachable!(),
+        }
+    }
+}
