@@ -327,7 +327,9 @@ impl<T: Drop> LatestEntries<T> {
         ensures rooms { self.new.rooms ≡ self.old.rooms }
     {
         settle(&mut self.settled, &mut self.last);
-        self.settled.begin_write(slot, writer)
+        let value = self.settled.begin_write(slot, writer);
+        self.last.is_noted = false;
+        value
     }
 
     // Puts a writer's value back, or hands it back where the writer doesn't stand, which changes

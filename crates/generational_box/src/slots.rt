@@ -414,6 +414,7 @@ impl<T: Drop, P: SlotPool> Slots<T, P> {
     }
 
     // The same in a new slot, where none is free and there is room for one.
+    #[inline(always)]
     fn extend(
         &mut self,
         content: StorageEntryData<T>,
