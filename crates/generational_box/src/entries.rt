@@ -252,27 +252,6 @@ impl<T> Entries<T> {
         }
     }
 
-    // The memory that the borrows take.
-    #[inline(always)]
-    pub(crate) fn alloc(&self) -> Global {
-        self.alloc
-    }
-
-    // The value of a cell without borrows.
-    #[inline(always)]
-    pub(crate) fn value(&self, slot: usize) -> &T
-        requires within { slot < length self.now.slots }
-        requires free { IfSome (slice_get self.now.slots slot)
-            (λ e. has_no_borrow (content_in e.kept) ≡ true) }
-        ensures { IfSome (slice_get self.now.slots slot)
-            (λ e. content_in e.kept ≡ Some (Here result.now [])) }
-    {
-        match &self.entries[slot].content {
-            StorageEntryData::Data(_, _, value) => value,
-            _ => unreachable!(),
-        }
-    }
-
     // The value, where the reader stands.
     #[inline(always)]
     pub(crate) fn open(&self, slot: usize, ticket: u64) -> Option<&T>
@@ -537,7 +516,7 @@ fn readers_error(borrows: &BorrowTable, index: u32, alloc: Global) -> Refused<Bo
 
 #[cold]
 #[inline(never)]
-pub(crate) fn reader_error(reader: Borrow, alloc: Global) -> Refused<BorrowMutError>
+fn reader_error(reader: Borrow, alloc: Global) -> Refused<BorrowMutError>
     ensures { FoundReaders (reader ∷ []) result }
 {
     match Vec::with_capacity(alloc, 1) {

@@ -19,7 +19,6 @@ mod entry;
 mod free_list;
 mod hindrance;
 mod indexes;
-mod latest;
 mod owners;
 mod parts;
 mod pool;

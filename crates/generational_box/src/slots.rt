@@ -28,9 +28,9 @@ ghost use Rattle.generational_box.specs.OwnerRecords.{IsListed, IsRefusal, IsRef
 ghost use Rattle.generational_box.specs.Slotted.{count_less, count_more, doomed_by, IsMade, Turns};
 ghost use Rattle.generational_box.specs.Slotted.{shared_target, with_records};
 
+use crate::entries::Entries;
 use crate::entry::{CellName, Kind, StorageEntryData};
 use crate::hindrance::{doomed, find_hindrance};
-use crate::latest::LatestEntries;
 use crate::owners::OwnerRecords;
 use crate::pool::SlotPool;
 use generational_core::parts::Borrow;
@@ -48,7 +48,7 @@ pub(crate) struct Slots<T, P: SlotPool> {
     // how many slots are live or free, and the most cells that were live at once
     usable: usize,
     peak: usize,
-    entries: LatestEntries<T>,
+    entries: Entries<T>,
     pool: P,
 }
 
@@ -83,7 +83,7 @@ impl<T, P: SlotPool> Slots<T, P> {
             start,
             usable: 0,
             peak: 0,
-            entries: LatestEntries::new(alloc),
+            entries: Entries::new(alloc),
             pool: P::new(alloc),
         }
     }
@@ -142,24 +142,6 @@ impl<T: Drop, P: SlotPool> Slots<T, P> {
         ensures { result ≡ kind_in (map.get self.now.state.cells (name_of_cell name)) }
     {
         self.entries.kind(name)
-    }
-
-    // The same. The paths that few calls take ask this.
-    #[cold]
-    #[inline(never)]
-    pub(crate) fn reach_apart(&self, name: CellName) -> Option<CellName>
-        ensures { option_map name_of_cell result
-            ≡ leads_to (map.get self.now.state.cells (name_of_cell name)) (name_of_cell name) }
-    {
-        self.reach(name)
-    }
-
-    // Whether the cell of this name is a value, also one that is lent.
-    #[inline(always)]
-    pub(crate) fn holds(&self, name: CellName) -> bool
-        ensures { result ≡ is_some (content_at self.now.state (name_of_cell name)) }
-    {
-        self.entries.holds(name)
     }
 
     // What the reference of this name names.
@@ -235,27 +217,11 @@ impl<T: Drop, P: SlotPool> Slots<T, P> {
         self.entries.open(name.slot, ticket)
     }
 
-    // The reader that stands apart, if there is one, goes to a list. Nothing that contracts see
-    // changes.
-    #[inline(always)]
-    pub(crate) fn settle(&mut self)
-        ensures { self.new ≡ self.old }
-    {
-        self.entries.settle();
-    }
-
     // Adds a reader to a value that isn't lent. Only a reader beside another may lack memory, and
-    // then nothing changes. The caller may know that the value has no borrow.
+    // then nothing changes.
     #[inline(always)]
-    pub(crate) fn begin_read(
-        &mut self,
-        name: CellName,
-        borrow: Borrow,
-        is_alone: bool,
-    ) -> Result<(), AllocError>
+    pub(crate) fn begin_read(&mut self, name: CellName, borrow: Borrow) -> Result<(), AllocError>
         requires there { IsSome (content_at self.old.state (name_of_cell name)) }
-        requires alone { is_alone ≡ true
-            → write_refusal (content_at self.old.state (name_of_cell name)) ≡ None }
         requires ascends { AreBelow borrow.ticket
             (readers_of (content_at self.old.state (name_of_cell name))) }
         ensures ok { OnOk result (IfSome (content_at self.old.state (name_of_cell name))
@@ -264,7 +230,7 @@ impl<T: Drop, P: SlotPool> Slots<T, P> {
         ensures beside { OnErr result (is_some
             (write_refusal (content_at self.old.state (name_of_cell name))) ≡ true) }
     {
-        self.entries.begin_read(name, borrow, is_alone)
+        self.entries.begin_read(name.slot, borrow)
     }
 
     // Takes a reader away. The answer is whether it stood.
@@ -414,7 +380,6 @@ impl<T: Drop, P: SlotPool> Slots<T, P> {
     }
 
     // The same in a new slot, where none is free and there is room for one.
-    #[inline(always)]
     fn extend(
         &mut self,
         content: StorageEntryData<T>,
@@ -656,7 +621,7 @@ fn count_one(usable: &mut usize, peak: &mut usize)
 
 // The slot of what a new reference names counts it.
 #[inline(always)]
-fn refer<T: Drop>(entries: &mut LatestEntries<T>, target: Option<CellName>)
+fn refer<T: Drop>(entries: &mut Entries<T>, target: Option<CellName>)
     requires within { IfSome target (λ m. m.slot < length entries.old.slots) }
     requires few { IfSome target (λ m. IfSome (slice_get entries.old.slots m.slot)
         (λ e. e.references < length entries.old.slots)) }
@@ -671,7 +636,7 @@ fn refer<T: Drop>(entries: &mut LatestEntries<T>, target: Option<CellName>)
 
 // The slot of what a reference names counts it no more, if that is live.
 #[inline(always)]
-fn forget<T: Drop>(entries: &mut LatestEntries<T>, target: Option<CellName>)
+fn forget<T: Drop>(entries: &mut Entries<T>, target: Option<CellName>)
     requires some { IfSome (shared_target entries.old.slots (option_map name_of_cell target))
         (λ m. IfSome (slice_get entries.old.slots m.slot) (λ e. 0 < e.references)) }
     ensures slots { entries.new.slots ≡ count_less entries.old.slots
