@@ -14,6 +14,7 @@
 #![tactic(auto)]
 
 mod borrows;
+mod counts;
 mod entries;
 mod entry;
 mod free_list;

@@ -28,6 +28,7 @@ ghost use Rattle.generational_box.specs.OwnerRecords.{IsListed, IsRefusal, IsRef
 ghost use Rattle.generational_box.specs.Slotted.{count_less, count_more, doomed_by, IsMade, Turns};
 ghost use Rattle.generational_box.specs.Slotted.{shared_target, with_records};
 
+use crate::counts::Counts;
 use crate::entries::Entries;
 use crate::entry::{CellName, Kind, StorageEntryData};
 use crate::hindrance::{doomed, find_hindrance};
@@ -45,9 +46,7 @@ use std::marker::Model;
 pub(crate) struct Slots<T, P: SlotPool> {
     // the first generation of a slot
     start: u64,
-    // how many slots are live or free, and the most cells that were live at once
-    usable: usize,
-    peak: usize,
+    counts: Counts,
     entries: Entries<T>,
     pool: P,
 }
@@ -64,12 +63,13 @@ impl<T, P: SlotPool> Model for Slots<T, P> {
     ghost coded = { Prim.hlevel (codes, map.code) };
 
     ghost view = { λ s. record {
-      state = state_of s.start s.peak s.entries.slots;
+      state = state_of s.start s.counts.peak s.entries.slots;
       spare = set.len (P.members s.pool) + (P.rooms s.pool - length s.entries.slots);
     } };
 
     ghost invariant = { λ s.
-        IsSlotted (P.members s.pool) (P.rooms s.pool) s.start s.usable s.peak s.entries.slots
+        IsSlotted (P.members s.pool) (P.rooms s.pool) s.start s.counts.usable s.counts.peak
+        s.entries.slots
         × (P.rooms s.pool ≤ s.entries.rooms) × AreReferred (λ m. 0) s.entries.slots };
 }
 
@@ -81,8 +81,7 @@ impl<T, P: SlotPool> Slots<T, P> {
     {
         Slots {
             start,
-            usable: 0,
-            peak: 0,
+            counts: Counts::new(),
             entries: Entries::new(alloc),
             pool: P::new(alloc),
         }
@@ -117,14 +116,14 @@ impl<T: Drop, P: SlotPool> Slots<T, P> {
     pub(crate) fn retired(&self) -> usize
         ensures { result ≡ retired self.now.state }
     {
-        self.entries.len() - self.usable
+        self.entries.len() - self.counts.usable()
     }
 
     // The most cells that were live at once.
     pub(crate) fn peak_live(&self) -> usize
         ensures { result ≡ self.now.state.peak }
     {
-        self.peak
+        self.counts.peak()
     }
 
     // What a box of this name reaches.
@@ -289,17 +288,18 @@ impl<T: Drop, P: SlotPool> Slots<T, P> {
         self.pool.free() + (self.pool.room() - self.entries.len())
     }
 
-    // Makes room for one cell more. Want of memory is the only refusal. No slot changes.
-    #[inline(always)]
+    // Makes room for one cell more at least. Want of memory is the only refusal. No slot changes.
+    #[cold]
+    #[inline(never)]
     fn make_room(&mut self) -> Result<(), StoreError>
         ensures state { self.new.state ≡ self.old.state }
-        ensures ok { OnOk result (self.new.spare ≡ self.old.spare + 1) }
+        ensures ok { OnOk result (self.old.spare < self.new.spare) }
         ensures cause { IfErr result (λ error. error ≡ OutOfMemory) }
     {
         if self.pool.room() == self.entries.room() {
             self.entries.grow()?;
         }
-        self.pool.grow()
+        self.pool.grow(self.entries.room())
     }
 
     // Makes room for a cell more, where there is none.
@@ -414,7 +414,7 @@ impl<T: Drop, P: SlotPool> Slots<T, P> {
         let target = content.target();
         self.entries.push(name.generation, content, created_at);
         refer(&mut self.entries, target);
-        count_one(&mut self.usable, &mut self.peak);
+        self.counts.add_one();
         Ok(name)
     }
 
@@ -433,7 +433,7 @@ impl<T: Drop, P: SlotPool> Slots<T, P> {
         if name.generation < u64::MAX {
             self.pool.put(name.slot);
         } else {
-            self.usable -= 1;
+            self.counts.retire_one();
         }
     }
 
@@ -602,20 +602,6 @@ impl<T: Drop, P: SlotPool> Slots<T, P> {
             self.close(*name);
         }
         Ok(())
-    }
-}
-
-// A slot more is live, where all that aren't retired are.
-#[inline(always)]
-fn count_one(usable: &mut usize, peak: &mut usize)
-    requires { usable.old < max peak.old 18446744073709551615 }
-    ensures usable { usable.new ≡ usable.old + 1 }
-    ensures peak { peak.new ≡ max peak.old usable.new }
-{
-    let most = *peak;
-    *usable += 1;
-    if most < *usable {
-        *peak = *usable;
     }
 }
 

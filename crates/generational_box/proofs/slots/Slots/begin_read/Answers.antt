@@ -44,7 +44,7 @@ returns-clause-ok g c =
 pub returns-clause-err : goal.returns-clause-err
 returns-clause-err g c =
     err_from c.begin_read.result
-    (λ e. ap (λ x. state_of c.self.inside.start c.self.inside.peak x.slots) e
+    (λ e. ap (λ x. state_of c.self.inside.start c.self.inside.counts.peak x.slots) e
     ∙ state_is c.self.view_is) c.begin_read.ensures.err
 
 pub returns-clause-beside : goal.returns-clause-beside
