@@ -20,6 +20,7 @@ mod entry;
 mod free_list;
 mod hindrance;
 mod indexes;
+mod latest;
 mod owners;
 mod parts;
 mod pool;

@@ -29,9 +29,9 @@ ghost use Rattle.generational_box.specs.Slotted.{count_less, count_more, doomed_
 ghost use Rattle.generational_box.specs.Slotted.{shared_target, with_records};
 
 use crate::counts::Counts;
-use crate::entries::Entries;
 use crate::entry::{CellName, Kind, StorageEntryData};
 use crate::hindrance::{doomed, find_hindrance};
+use crate::latest::LatestEntries;
 use crate::owners::OwnerRecords;
 use crate::pool::SlotPool;
 use generational_core::parts::Borrow;
@@ -47,7 +47,7 @@ pub(crate) struct Slots<T, P: SlotPool> {
     // the first generation of a slot
     start: u64,
     counts: Counts,
-    entries: Entries<T>,
+    entries: LatestEntries<T>,
     pool: P,
 }
 
@@ -82,7 +82,7 @@ impl<T, P: SlotPool> Slots<T, P> {
         Slots {
             start,
             counts: Counts::new(),
-            entries: Entries::new(alloc),
+            entries: LatestEntries::new(alloc),
             pool: P::new(alloc),
         }
     }
@@ -141,6 +141,24 @@ impl<T: Drop, P: SlotPool> Slots<T, P> {
         ensures { result ≡ kind_in (map.get self.now.state.cells (name_of_cell name)) }
     {
         self.entries.kind(name)
+    }
+
+    // The same. The paths that few calls take ask this.
+    #[cold]
+    #[inline(never)]
+    pub(crate) fn reach_apart(&self, name: CellName) -> Option<CellName>
+        ensures { option_map name_of_cell result
+            ≡ leads_to (map.get self.now.state.cells (name_of_cell name)) (name_of_cell name) }
+    {
+        self.reach(name)
+    }
+
+    // Whether the cell of this name is a value, also one that is lent.
+    #[inline(always)]
+    pub(crate) fn holds(&self, name: CellName) -> bool
+        ensures { result ≡ is_some (content_at self.now.state (name_of_cell name)) }
+    {
+        self.entries.holds(name)
     }
 
     // What the reference of this name names.
@@ -216,11 +234,27 @@ impl<T: Drop, P: SlotPool> Slots<T, P> {
         self.entries.open(name.slot, ticket)
     }
 
-    // Adds a reader to a value that isn't lent. Only a reader beside another may lack memory, and
-    // then nothing changes.
+    // The reader that stands apart, if there is one, goes to a list. Nothing that contracts see
+    // changes.
     #[inline(always)]
-    pub(crate) fn begin_read(&mut self, name: CellName, borrow: Borrow) -> Result<(), AllocError>
+    pub(crate) fn settle(&mut self)
+        ensures { self.new ≡ self.old }
+    {
+        self.entries.settle();
+    }
+
+    // Adds a reader to a value that isn't lent. Only a reader beside another may lack memory, and
+    // then nothing changes. The caller may know that the value has no borrow.
+    #[inline(always)]
+    pub(crate) fn begin_read(
+        &mut self,
+        name: CellName,
+        borrow: Borrow,
+        is_alone: bool,
+    ) -> Result<(), AllocError>
         requires there { IsSome (content_at self.old.state (name_of_cell name)) }
+        requires alone { is_alone ≡ true
+            → write_refusal (content_at self.old.state (name_of_cell name)) ≡ None }
         requires ascends { AreBelow borrow.ticket
             (readers_of (content_at self.old.state (name_of_cell name))) }
         ensures ok { OnOk result (IfSome (content_at self.old.state (name_of_cell name))
@@ -229,7 +263,7 @@ impl<T: Drop, P: SlotPool> Slots<T, P> {
         ensures beside { OnErr result (is_some
             (write_refusal (content_at self.old.state (name_of_cell name))) ≡ true) }
     {
-        self.entries.begin_read(name.slot, borrow)
+        self.entries.begin_read(name, borrow, is_alone)
     }
 
     // Takes a reader away. The answer is whether it stood.
@@ -251,7 +285,7 @@ impl<T: Drop, P: SlotPool> Slots<T, P> {
         ensures after { self.new.state
             ≡ fill self.old.state (name_of_cell name) (Lent writer) }
     {
-        self.entries.begin_write(name.slot, writer)
+        self.entries.begin_write(name, writer)
     }
 
     // Puts a writer's value back, or hands it back where the writer doesn't stand, which changes
@@ -380,6 +414,7 @@ impl<T: Drop, P: SlotPool> Slots<T, P> {
     }
 
     // The same in a new slot, where none is free and there is room for one.
+    #[inline(always)]
     fn extend(
         &mut self,
         content: StorageEntryData<T>,
@@ -607,7 +642,7 @@ impl<T: Drop, P: SlotPool> Slots<T, P> {
 
 // The slot of what a new reference names counts it.
 #[inline(always)]
-fn refer<T: Drop>(entries: &mut Entries<T>, target: Option<CellName>)
+fn refer<T: Drop>(entries: &mut LatestEntries<T>, target: Option<CellName>)
     requires within { IfSome target (λ m. m.slot < length entries.old.slots) }
     requires few { IfSome target (λ m. IfSome (slice_get entries.old.slots m.slot)
         (λ e. e.references < length entries.old.slots)) }
@@ -622,7 +657,7 @@ fn refer<T: Drop>(entries: &mut Entries<T>, target: Option<CellName>)
 
 // The slot of what a reference names counts it no more, if that is live.
 #[inline(always)]
-fn forget<T: Drop>(entries: &mut Entries<T>, target: Option<CellName>)
+fn forget<T: Drop>(entries: &mut LatestEntries<T>, target: Option<CellName>)
     requires some { IfSome (shared_target entries.old.slots (option_map name_of_cell target))
         (λ m. IfSome (slice_get entries.old.slots m.slot) (λ e. 0 < e.references)) }
     ensures slots { entries.new.slots ≡ count_less entries.old.slots
