@@ -4,7 +4,6 @@ pub mod Counting
 pub mod Endings
 pub mod Entries
 pub mod Hindrance
-pub mod Latest
 pub mod Makings
 pub mod Recounts
 pub mod References
