@@ -4,6 +4,7 @@ pub mod Counting
 pub mod Endings
 pub mod Entries
 pub mod Hindrance
+pub mod Latest
 pub mod Makings
 pub mod Recounts
 pub mod References

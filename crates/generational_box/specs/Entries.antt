@@ -17,6 +17,15 @@ use Rattle.generational_box.specs.Entry.Kept.{Empty, Live, Refers}
 use Rattle.generational_box.specs.Slotted.{how_many}
 use Rattle.generational_box.specs.Table.{Table, list_at, no_index, IsUsed}
 
+-- nobody's borrow of a cell that was made at a location
+abbrev pub nobody : Location → Borrow
+nobody l = record { ticket = 0; location = l }
+
+-- the writer that stands first, or nobody
+abbrev pub writer_in : List Borrow → Location → Borrow
+writer_in [] l = nobody l
+writer_in (w ∷ bs) l = w
+
 -- the slots, and for how many there is room
 pub record EntryList (T : Type 0) : Type 0 where
   pub slots : List (Entry T)
@@ -68,13 +77,17 @@ module _ {T : Type 0} where
   IsUnborrowed (slot.Reference s g) = Unit {0}
   IsUnborrowed _ = ⊥
 
-  -- what a slot has whose cell has these borrows
+  -- what a slot has whose cell has these borrows; nobody stands for a writer who isn't among them
   abbrev pub kept_data : List Borrow → Location → StorageEntryData T → Kept T
   kept_data bs l slot.Empty = Empty
   kept_data bs l (slot.Data k i v) = Live k (Here v bs) l
-  kept_data (w ∷ bs) l (slot.Lent k i) = Live k (Lent w) l
-  kept_data [] l (slot.Lent k i) = Empty
+  kept_data bs l (slot.Lent k i) = Live k (Lent (writer_in bs l)) l
   kept_data bs l (slot.Reference s g) = Refers (record { slot = s; generation = g }) l
+
+  -- the cell with nobody as its writer
+  abbrev pub taken : Kept T → Kept T
+  taken (Live k c l) = Live k (Lent (nobody l)) l
+  taken kept = kept
 
   abbrev pub entry_of : List (List Borrow) → StorageEntry T → EntryDetails → Entry T
   entry_of lists e d =
@@ -98,20 +111,10 @@ module _ {T : Type 0} where
   abbrev pub has_index : StorageEntry T → Bool
   has_index e = not (nat_eq (index_of e.content) no_index)
 
-  -- a lent cell has an index
-  abbrev pub LentHasIndex : StorageEntryData T → Type 0
-  LentHasIndex (slot.Lent k i) = i ≢ no_index
-  LentHasIndex _ = Unit {0}
-
-  abbrev pub IsIndexed : Option (StorageEntry T) → Type 0
-  IsIndexed None = Unit {0}
-  IsIndexed (Some e) = LentHasIndex e.content
-
 -- What holds of a store's slots and the table of their borrows.
 pub record AreIndexed {T : Type 0} (t : Table) (es : List (StorageEntry T)) : Type 0 where
   -- borrows stand at each index of a slot, and no two slots have the same
   pub used : (k : ℕ) → index_in (slice_get es k) ≢ no_index → IsUsed t (index_in (slice_get es k))
-  pub lent : (k : ℕ) → IsIndexed (slice_get es k)
   pub apart : (j k : ℕ) → index_in (slice_get es j) ≢ no_index
       → index_in (slice_get es j) ≡ index_in (slice_get es k) → j ≡ k
   -- the indexes of slots and the free ones are all that there are, one more than slots at most

@@ -110,6 +110,11 @@ module _ {T : Type 0} where
   has_no_borrow (Some (Here v [])) = true
   has_no_borrow _ = false
 
+  -- whether a content is lent
+  abbrev pub is_lent : Option (Content T) → Bool
+  is_lent (Some (Lent w)) = true
+  is_lent _ = false
+
   -- the content lent to a writer
   abbrev pub lend_to : Borrow → Kept T → Kept T
   lend_to w = with_content (λ c. Lent w)

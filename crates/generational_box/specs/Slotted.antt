@@ -27,6 +27,11 @@ pub record Slotted (T : Type 0) : Type 0 where
   pub state : State T
   pub spare : ℕ
 
+-- How many slots are live or free, and the most that were at once.
+pub record Count : Type 0 where
+  pub usable : ℕ
+  pub peak : ℕ
+
 -- count names of a slot, upwards from a generation
 abbrev pub names_up : ℕ → ℕ → ℕ → List Name
 names_up slot from zero = []

@@ -22,10 +22,10 @@ ghost use Rattle.std.specs.Prelude.{nat_eq, not, IfOk};
 ghost use Rattle.generational_box.specs.Entry.Kept.{Empty};
 ghost use Rattle.generational_box.specs.Entry.{cell_of, kind_in, name_of_cell, readers_of};
 ghost use Rattle.generational_box.specs.Entry.{is_unborrowed_value, referring, target_in};
-ghost use Rattle.generational_box.specs.Entries.{IsUnborrowed, kept_data};
+ghost use Rattle.generational_box.specs.Entries.{IsUnborrowed, kept_data, taken, writer_in};
 ghost use Rattle.generational_core.specs.Borrowing.{leads_to};
 ghost use Rattle.generational_core.specs.Cells.{content_of, location_of};
-ghost use Rattle.generational_box.specs.Entry.{content_in, has_no_borrow, with_reader, value_for};
+ghost use Rattle.generational_box.specs.Entry.{content_in, has_no_borrow, is_lent, with_reader, value_for};
 ghost use Rattle.generational_box.specs.Entry.{without_reader_in, lend_to, with_value};
 ghost use Rattle.generational_box.specs.Entry.{FoundBorrowed, FoundReaders};
 ghost use Rattle.generational_box.specs.Slotted.{cell_at, change_entry};
@@ -212,7 +212,7 @@ impl<T> Entries<T> {
     {
         match &self.entries[slot].content {
             StorageEntryData::Lent(_, index) => {
-                let writer = self.borrows.first(*index);
+                let writer = writer_at(&self.borrows, *index, self.details[slot].created_at);
                 Some(AlreadyBorrowedMutError::new(writer.location))
             }
             _ => None,
@@ -247,8 +247,32 @@ impl<T> Entries<T> {
                 }
                 Err(readers_error(&self.borrows, *index, self.alloc))
             }
-            StorageEntryData::Lent(_, index) => Err(writer_error(self.borrows.first(*index))),
+            StorageEntryData::Lent(_, index) => {
+                let writer = writer_at(&self.borrows, *index, self.details[slot].created_at);
+                Err(writer_error(writer))
+            }
             _ => Ok(()),
+        }
+    }
+
+    // The memory that the borrows take.
+    #[inline(always)]
+    pub(crate) fn alloc(&self) -> Global {
+        self.alloc
+    }
+
+    // The value of a cell without borrows.
+    #[inline(always)]
+    pub(crate) fn value(&self, slot: usize) -> &T
+        requires within { slot < length self.now.slots }
+        requires free { IfSome (slice_get self.now.slots slot)
+            (λ e. has_no_borrow (content_in e.kept) ≡ true) }
+        ensures { IfSome (slice_get self.now.slots slot)
+            (λ e. content_in e.kept ≡ Some (Here result.now [])) }
+    {
+        match &self.entries[slot].content {
+            StorageEntryData::Data(_, _, value) => value,
+            _ => unreachable!(),
         }
     }
 
@@ -323,20 +347,62 @@ impl<T: Drop> Entries<T> {
         }
     }
 
-    // Lends the value of a cell without borrows to a writer.
+    // Takes the value of a cell without borrows out. Nobody is its writer then.
     #[inline(always)]
-    pub(crate) fn begin_write(&mut self, slot: usize, writer: Borrow) -> T
+    pub(crate) fn take(&mut self, slot: usize) -> T
         requires within { slot < length self.old.slots }
         requires free { IfSome (slice_get self.old.slots slot)
             (λ e. has_no_borrow (content_in e.kept) ≡ true) }
         ensures value { IfSome (slice_get self.old.slots slot)
             (λ e. content_in e.kept ≡ Some (Here result [])) }
         ensures after { self.new.slots ≡ change_entry self.old.slots slot
+            (λ e. record e { kept = taken e.kept }) }
+        ensures rooms { self.new.rooms ≡ self.old.rooms }
+    {
+        self.entries[slot].content.lend(NO_INDEX)
+    }
+
+    // Lets a lent value have this writer.
+    pub(crate) fn list_writer(&mut self, slot: usize, writer: Borrow)
+        requires within { slot < length self.old.slots }
+        requires lent { IfSome (slice_get self.old.slots slot)
+            (λ e. is_lent (content_in e.kept) ≡ true) }
+        ensures slots { self.new.slots ≡ change_entry self.old.slots slot
             (λ e. record e { kept = lend_to writer e.kept }) }
         ensures rooms { self.new.rooms ≡ self.old.rooms }
     {
-        let index = self.borrows.open(writer);
-        self.entries[slot].content.lend(index)
+        match &mut self.entries[slot].content {
+            StorageEntryData::Lent(_, index) => {
+                if *index == NO_INDEX {
+                    *index = self.borrows.open(writer);
+                } else {
+                    self.borrows.set_only(*index, writer);
+                }
+            }
+            _ => unreachable!(),
+        }
+    }
+
+    // Puts a value back where one is lent. Its writer is forgotten.
+    #[inline(always)]
+    pub(crate) fn put_back(&mut self, slot: usize, value: T)
+        requires within { slot < length self.old.slots }
+        requires lent { IfSome (slice_get self.old.slots slot)
+            (λ e. is_lent (content_in e.kept) ≡ true) }
+        ensures slots { self.new.slots ≡ change_entry self.old.slots slot
+            (λ e. record e { kept = with_value value e.kept }) }
+        ensures rooms { self.new.rooms ≡ self.old.rooms }
+    {
+        match &self.entries[slot].content {
+            StorageEntryData::Lent(kind, index) => {
+                let (kind, index) = (*kind, *index);
+                self.entries[slot].content = StorageEntryData::Data(kind, NO_INDEX, value);
+                if index != NO_INDEX {
+                    self.borrows.close(index);
+                }
+            }
+            _ => unreachable!(),
+        }
     }
 
     // Puts a writer's value back, or hands it back where the writer doesn't stand, which changes
@@ -352,10 +418,12 @@ impl<T: Drop> Entries<T> {
         ensures rooms { self.new.rooms ≡ self.old.rooms }
     {
         match &self.entries[slot].content {
-            StorageEntryData::Lent(kind, index) if self.borrows.is_first(*index, ticket) => {
-                let (kind, index) = (*kind, *index);
-                self.entries[slot].content = StorageEntryData::Data(kind, NO_INDEX, value);
-                self.borrows.close(index);
+            StorageEntryData::Lent(_, index) => {
+                let writer = writer_at(&self.borrows, *index, self.details[slot].created_at);
+                if writer.ticket != ticket {
+                    return Err(value);
+                }
+                self.put_back(slot, value);
                 Ok(())
             }
             _ => Err(value),
@@ -516,7 +584,7 @@ fn readers_error(borrows: &BorrowTable, index: u32, alloc: Global) -> Refused<Bo
 
 #[cold]
 #[inline(never)]
-fn reader_error(reader: Borrow, alloc: Global) -> Refused<BorrowMutError>
+pub(crate) fn reader_error(reader: Borrow, alloc: Global) -> Refused<BorrowMutError>
     ensures { FoundReaders (reader ∷ []) result }
 {
     match Vec::with_capacity(alloc, 1) {
@@ -541,9 +609,24 @@ fn readers_error_apart(readers: &Borrows, alloc: Global) -> Refused<BorrowMutErr
     }
 }
 
+// The writer at an index, or nobody.
+fn writer_at(borrows: &BorrowTable, index: u32, created_at: Location) -> Borrow
+    requires within { index ≢ no_index → index < length borrows.now.lists }
+    requires none { list_at borrows.now.lists no_index ≡ [] }
+    ensures { result ≡ writer_in (list_at borrows.now.lists index) created_at }
+{
+    if index == NO_INDEX {
+        return Borrow {
+            ticket: 0,
+            location: created_at,
+        };
+    }
+    borrows.first(index)
+}
+
 // The answer to a write or an end where a writer stands.
 #[inline(always)]
-fn writer_error(writer: Borrow) -> Refused<BorrowMutError>
+pub(crate) fn writer_error(writer: Borrow) -> Refused<BorrowMutError>
     ensures { result ≡ refused.Borrow (writes.AlreadyBorrowedMut
         (record { borrowed_mut_at = writer.location })) }
 {

@@ -1,12 +1,11 @@
 //! Slots in a list whose links stand in a vector.
 
 ghost use Rattle.std.specs.Prelude.{◌≡◌, ◌+◌, ◌<◌, ◌∷◌, ◌++◌, [], false, true, IfSome, IfErr};
-ghost use Rattle.std.specs.Prelude.{OnOk, OnErr, drop, length, slice_get, vec_capacity};
+ghost use Rattle.std.specs.Prelude.{OnOk, OnErr, drop, length, max, slice_get};
 ghost use Rattle.std.specs.FinSet as set;
 ghost use Rattle.generational_core.specs.declared.error.StoreError.TheVariants.{OutOfMemory};
 ghost use Rattle.generational_box.specs.Pools.{last_of, members_of};
 
-use crate::room::more_room;
 use generational_core::StoreError;
 use std::alloc::Global;
 use std::marker::Model;
@@ -49,17 +48,24 @@ impl FreeList {
         }
     }
 
-    // Makes room for one more slot. The only refusal is want of memory, which changes nothing.
-    #[inline(always)]
-    pub(crate) fn grow(&mut self) -> Result<(), StoreError>
+    // Makes room for this many slots in all, where there is less. The only refusal is want of
+    // memory, which changes nothing.
+    #[cold]
+    #[inline(never)]
+    pub(crate) fn grow(&mut self, room: usize) -> Result<(), StoreError>
         ensures slots { self.new.slots ≡ self.old.slots }
-        ensures ok { OnOk result (self.new.rooms ≡ self.old.rooms + 1) }
+        ensures ok { OnOk result (self.new.rooms ≡ max self.old.rooms room) }
         ensures err { OnErr result (self.new.rooms ≡ self.old.rooms) }
         ensures cause { IfErr result (λ error. error ≡ OutOfMemory) }
     {
-        reserve_one(&mut self.links)?;
-        self.links.push_reserved(0);
-        Ok(())
+        if room <= self.links.len() {
+            return Ok(());
+        }
+        // the new links lead past the last slot
+        match self.links.resize(room, room) {
+            Ok(()) => Ok(()),
+            Err(_) => Err(StoreError::OutOfMemory),
+        }
     }
 
     // Takes the first slot out. Takes no memory.
@@ -127,31 +133,4 @@ impl FreeList {
     {
         self.count
     }
-}
-
-// Makes room for one link more. Want of memory changes no link.
-#[inline(always)]
-fn reserve_one(links: &mut Vec<usize>) -> Result<(), StoreError>
-    ensures links { links.new.items ≡ links.old.items }
-    ensures ok { OnOk result (length links.new.items < vec_capacity links.new) }
-    ensures cause { IfErr result (λ error. error ≡ OutOfMemory) }
-{
-    if links.len() < links.capacity() {
-        return Ok(());
-    }
-    reserve_more(links)
-}
-
-// The same where there is none.
-#[cold]
-#[inline(never)]
-fn reserve_more(links: &mut Vec<usize>) -> Result<(), StoreError>
-    ensures links { links.new.items ≡ links.old.items }
-    ensures ok { OnOk result (length links.new.items < vec_capacity links.new) }
-    ensures cause { IfErr result (λ error. error ≡ OutOfMemory) }
-{
-    if links.reserve(more_room(links.len())).is_err() {
-        return Err(StoreError::OutOfMemory);
-    }
-    Ok(())
 }

@@ -9,14 +9,18 @@ ghost use Rattle.generational_box.specs.Entry.{FoundBorrowed, is_unborrowed_valu
 ghost use Rattle.generational_box.specs.Slotted.{AreReferred, cell_at, cells_of, doomed_by};
 ghost use Rattle.generational_box.specs.Slotted.{first_refusal, has_more, refers_among, with_more};
 
-use crate::entries::Entries;
 use crate::entry::{CellName, Kind};
+use crate::latest::LatestEntries;
 use generational_core::BorrowMutResult;
 
 // The value that goes where a name ends, if its target goes with this many references left: its
 // own, or the target's.
 #[inline(always)]
-pub(crate) fn doomed<T: Drop>(entries: &Entries<T>, name: CellName, last: usize) -> Option<CellName>
+pub(crate) fn doomed<T: Drop>(
+    entries: &LatestEntries<T>,
+    name: CellName,
+    last: usize,
+) -> Option<CellName>
     requires { IsLinked (cells_of entries.now.slots) }
     ensures { option_map name_of_cell result ≡ doomed_by (has_more entries.now.slots last)
         (cell_at entries.now.slots (name_of_cell name)) (name_of_cell name) }
@@ -37,7 +41,7 @@ pub(crate) fn doomed<T: Drop>(entries: &Entries<T>, name: CellName, last: usize)
 // memory. Where all are values that aren't shared and have no borrow, each is asked once.
 #[inline(always)]
 pub(crate) fn find_hindrance<T: Drop>(
-    entries: &mut Entries<T>,
+    entries: &mut LatestEntries<T>,
     names: &[CellName],
 ) -> BorrowMutResult<()>
     requires linked { IsLinked (cells_of entries.old.slots) }
@@ -56,7 +60,7 @@ pub(crate) fn find_hindrance<T: Drop>(
 
 // Whether each of the names is of a value that isn't shared and has no borrow.
 #[inline(always)]
-fn are_unborrowed_values<T: Drop>(entries: &Entries<T>, names: &[CellName]) -> bool
+fn are_unborrowed_values<T: Drop>(entries: &LatestEntries<T>, names: &[CellName]) -> bool
     ensures { result ≡ list_all
         (λ n. is_unborrowed_value (cell_at entries.now.slots (name_of_cell n))) names.now }
 {
@@ -68,7 +72,7 @@ fn are_unborrowed_values<T: Drop>(entries: &Entries<T>, names: &[CellName]) -> b
 #[cold]
 #[inline(never)]
 fn find_hindrance_apart<T: Drop>(
-    entries: &mut Entries<T>,
+    entries: &mut LatestEntries<T>,
     names: &[CellName],
 ) -> BorrowMutResult<()>
     requires linked { IsLinked (cells_of entries.old.slots) }
@@ -86,7 +90,7 @@ fn find_hindrance_apart<T: Drop>(
 }
 
 // Takes the references of a list off the counts of what they name.
-fn count_off<T: Drop>(entries: &mut Entries<T>, names: &[CellName])
+fn count_off<T: Drop>(entries: &mut LatestEntries<T>, names: &[CellName])
     requires linked { IsLinked (cells_of entries.old.slots) }
     requires referred { AreReferred (λ m. 0) entries.old.slots }
     requires apart { IsDistinct is_name (list_map name_of_cell names.now) }
@@ -102,7 +106,7 @@ fn count_off<T: Drop>(entries: &mut Entries<T>, names: &[CellName])
 }
 
 // Counts them again.
-fn count_back<T: Drop>(entries: &mut Entries<T>, names: &[CellName])
+fn count_back<T: Drop>(entries: &mut LatestEntries<T>, names: &[CellName])
     requires linked { IsLinked (cells_of entries.old.slots) }
     requires referred { AreReferred (λ m. 0) (with_more (refers_among entries.old.slots
         (list_map name_of_cell names.now)) 0 entries.old.slots) }
@@ -119,7 +123,7 @@ fn count_back<T: Drop>(entries: &mut Entries<T>, names: &[CellName])
 
 // What hinders the end of the names of a list, at the first of them that is hindered, where their
 // references are off the counts.
-fn first_hindered<T: Drop>(entries: &Entries<T>, names: &[CellName]) -> BorrowMutResult<()>
+fn first_hindered<T: Drop>(entries: &LatestEntries<T>, names: &[CellName]) -> BorrowMutResult<()>
     requires { IsLinked (cells_of entries.now.slots) }
     ensures { FoundBorrowed (first_refusal (cells_of entries.now.slots)
         (has_more entries.now.slots 0) (list_map name_of_cell names.now)) result }

@@ -14,11 +14,13 @@
 #![tactic(auto)]
 
 mod borrows;
+mod counts;
 mod entries;
 mod entry;
 mod free_list;
 mod hindrance;
 mod indexes;
+mod latest;
 mod owners;
 mod parts;
 mod pool;

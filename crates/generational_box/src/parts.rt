@@ -10,6 +10,7 @@ ghost use Rattle.generational_core.specs.declared.error.BorrowMutError.TheVarian
 ghost use Rattle.generational_core.specs.Answers.{make_answer, owner_answer, release_answer};
 ghost use Rattle.generational_core.specs.Answers.{read_answer, write_answer, back_answer};
 ghost use Rattle.generational_core.specs.Answers.{end_answer, reference_answer, read_refused};
+ghost use Rattle.generational_core.specs.Answers.{end_refused};
 ghost use Rattle.generational_core.specs.Answers.{value_behind};
 ghost use Rattle.generational_core.specs.Borrowing.{can_read, can_write, reach, read_refusal};
 ghost use Rattle.generational_core.specs.Borrowing.{read_trouble, write_refusal};
@@ -120,6 +121,18 @@ impl<T: Drop, P: SlotPool> Parts<T, P> {
         }
     }
 
+    // The same. The paths that few calls take ask this.
+    #[inline(always)]
+    fn reach_apart(&self, pointer: GenerationalPointer) -> Option<CellName>
+        ensures { option_map name_of_cell result ≡ reach self.now pointer }
+    {
+        if pointer.id.store == self.number {
+            self.slots.reach_apart(cell_name(pointer.id))
+        } else {
+            None
+        }
+    }
+
     // The shared value that the box reaches, unless a writer has it.
     fn shared_by(&self, inner: GenerationalPointer) -> BorrowResult<CellName>
         requires { IsSound self.now }
@@ -189,7 +202,7 @@ impl<T: Drop, P: SlotPool> Parts<T, P> {
     fn holds(&self, id: GenerationalBoxId) -> bool
         ensures { result ≡ is_some (content_of (own_cell self.now id)) }
     {
-        id.store == self.number && self.slots.kind(cell_name(id)).is_some()
+        id.store == self.number && self.slots.holds(cell_name(id))
     }
 }
 
@@ -468,7 +481,7 @@ impl<T: Drop, P: SlotPool> Parts<T, P> {
         self.slots.turn(cell_name(pointer.id), old, new)
     }
 
-    // Begins a read. A value that isn't shared and has no borrow is asked for first.
+    // Begins a read.
     #[inline(always)]
     pub(crate) fn try_read(
         &mut self,
@@ -478,27 +491,45 @@ impl<T: Drop, P: SlotPool> Parts<T, P> {
         requires { IsSound self.old }
         ensures { Meets self.old (Read pointer location) (read_answer result) self.new }
     {
-        if self.has_unborrowed_value(pointer) {
-            return self.begin_read(pointer, cell_name(pointer.id), location);
+        self.slots.settle();
+        match self.readable(pointer) {
+            Ok((name, is_alone)) => self.begin_read(pointer, name, location, is_alone),
+            Err(refused) => Err(refused),
         }
-        self.try_read_any(pointer, location)
+    }
+
+    // The value that the box reaches, unless a writer has it, and whether it is known to have no
+    // borrow. A value that isn't shared and has no borrow is asked for first.
+    #[inline(always)]
+    fn readable(&self, pointer: GenerationalPointer) -> BorrowResult<(CellName, bool)>
+        requires { IsSound self.now }
+        ensures ok { IfOk result (λ r. (reach self.now pointer ≡ Some (name_of_cell r.0))
+            × (read_refusal (content_at self.now (name_of_cell r.0)) ≡ None)
+            × (r.1 ≡ true → write_refusal (content_at self.now (name_of_cell r.0)) ≡ None)) }
+        ensures err { IfErr result (λ e. (l : Location) →
+            Meets self.now (Read pointer l) (read_refused e) self.now) }
+    {
+        if self.has_unborrowed_value(pointer) {
+            return Ok((cell_name(pointer.id), true));
+        }
+        self.readable_any(pointer)
     }
 
     // The same, for every box.
     #[inline(always)]
-    fn try_read_any(
-        &mut self,
-        pointer: GenerationalPointer,
-        location: Location,
-    ) -> BorrowResult<GenerationalRef<T>>
-        requires { IsSound self.old }
-        ensures { Meets self.old (Read pointer location) (read_answer result) self.new }
+    fn readable_any(&self, pointer: GenerationalPointer) -> BorrowResult<(CellName, bool)>
+        requires { IsSound self.now }
+        ensures ok { IfOk result (λ r. (reach self.now pointer ≡ Some (name_of_cell r.0))
+            × (read_refusal (content_at self.now (name_of_cell r.0)) ≡ None)
+            × (r.1 ≡ true → write_refusal (content_at self.now (name_of_cell r.0)) ≡ None)) }
+        ensures err { IfErr result (λ e. (l : Location) →
+            Meets self.now (Read pointer l) (read_refused e) self.now) }
     {
-        let Some(name) = self.reach(pointer) else {
+        let Some(name) = self.reach_apart(pointer) else {
             return Err(dropped(pointer));
         };
         match self.slots.borrow_error(name) {
-            None => self.begin_read(pointer, name, location),
+            None => Ok((name, self.slots.is_unborrowed(name))),
             Some(writer) => Err(lent(writer)),
         }
     }
@@ -510,17 +541,21 @@ impl<T: Drop, P: SlotPool> Parts<T, P> {
         pointer: GenerationalPointer,
         name: CellName,
         location: Location,
+        is_alone: bool,
     ) -> BorrowResult<GenerationalRef<T>>
         requires sound { IsSound self.old }
         requires to { reach self.old pointer ≡ Some (name_of_cell name) }
         requires free { read_refusal (content_at self.old (name_of_cell name)) ≡ None }
+        requires alone { is_alone ≡ true
+            → write_refusal (content_at self.old (name_of_cell name)) ≡ None }
         ensures { Meets self.old (Read pointer location) (read_answer result) self.new }
     {
         let ticket = self.next;
         if ticket == u64::MAX {
             return Err(Refused::Store(StoreError::NumbersExhausted));
         }
-        match self.slots.begin_read(name, Borrow { ticket, location }) {
+        let borrow = Borrow { ticket, location };
+        match self.slots.begin_read(name, borrow, is_alone) {
             Ok(()) => {
                 self.next = ticket + 1;
                 Ok(reader_at(self.id_of(name), ticket))
@@ -529,7 +564,7 @@ impl<T: Drop, P: SlotPool> Parts<T, P> {
         }
     }
 
-    // Begins a write. A value that isn't shared and has no borrow is asked for first.
+    // Begins a write.
     #[inline(always)]
     pub(crate) fn try_write(
         &mut self,
@@ -539,27 +574,43 @@ impl<T: Drop, P: SlotPool> Parts<T, P> {
         requires { IsSound self.old }
         ensures { Meets self.old (Write pointer location) (write_answer result) self.new }
     {
-        if self.has_unborrowed_value(pointer) {
-            return self.begin_write(pointer, cell_name(pointer.id), location);
+        self.slots.settle();
+        match self.writable(pointer) {
+            Ok(name) => self.begin_write(pointer, name, location),
+            Err(refused) => Err(refused),
         }
-        self.try_write_any(pointer, location)
+    }
+
+    // The value that the box reaches, unless a borrow stands there. A value that isn't shared and
+    // has no borrow is asked for first.
+    #[inline(always)]
+    fn writable(&self, pointer: GenerationalPointer) -> BorrowMutResult<CellName>
+        requires { IsSound self.now }
+        ensures ok { IfOk result (λ n. (reach self.now pointer ≡ Some (name_of_cell n))
+            × (write_refusal (content_at self.now (name_of_cell n)) ≡ None)) }
+        ensures err { IfErr result (λ e. (l : Location) →
+            Meets self.now (Write pointer l) (end_refused e) self.now) }
+    {
+        if self.has_unborrowed_value(pointer) {
+            return Ok(cell_name(pointer.id));
+        }
+        self.writable_any(pointer)
     }
 
     // The same, for every box.
     #[inline(always)]
-    fn try_write_any(
-        &mut self,
-        pointer: GenerationalPointer,
-        location: Location,
-    ) -> BorrowMutResult<GenerationalRefMut<T>>
-        requires { IsSound self.old }
-        ensures { Meets self.old (Write pointer location) (write_answer result) self.new }
+    fn writable_any(&self, pointer: GenerationalPointer) -> BorrowMutResult<CellName>
+        requires { IsSound self.now }
+        ensures ok { IfOk result (λ n. (reach self.now pointer ≡ Some (name_of_cell n))
+            × (write_refusal (content_at self.now (name_of_cell n)) ≡ None)) }
+        ensures err { IfErr result (λ e. (l : Location) →
+            Meets self.now (Write pointer l) (end_refused e) self.now) }
     {
-        let Some(name) = self.reach(pointer) else {
+        let Some(name) = self.reach_apart(pointer) else {
             return Err(dropped_mut(pointer));
         };
         match self.slots.borrow_mut_error(name) {
-            Ok(()) => self.begin_write(pointer, name, location),
+            Ok(()) => Ok(name),
             Err(refused) => Err(refused),
         }
     }

@@ -1,6 +1,6 @@
 //! Free slots.
 
-ghost use Rattle.std.specs.Prelude.{◌≡◌, ℕ, ◌+◌, ◌<◌, ◌≤◌, ◌∷◌, ◌++◌, [], true, false, drop};
+ghost use Rattle.std.specs.Prelude.{◌≡◌, ℕ, ◌+◌, ◌<◌, ◌≤◌, ◌∷◌, ◌++◌, [], true, false, drop, max};
 ghost use Rattle.std.specs.Prelude.{slice_get, IfSome, IfNone, IfErr, OnOk, OnErr, vec_len};
 ghost use Rattle.std.specs.Prelude.{vec_capacity};
 ghost use Rattle.std.specs.Ordering.{nat_cmp};
@@ -18,7 +18,7 @@ pub trait SlotPool: Drop {
     /// The free slots.
     ghost members: { Self → set.FinSet nat_cmp };
 
-    /// For how many slots there is room: as many as `grow` answered Ok.
+    /// For how many slots there is room.
     ghost rooms: { Self → ℕ };
 
     /// A pool without slots and without room. Takes no memory.
@@ -26,10 +26,11 @@ pub trait SlotPool: Drop {
         ensures empty { members result ≡ set.empty }
         ensures rooms { rooms result ≡ 0 };
 
-    /// Makes room for one more slot. The only refusal is `OutOfMemory`, and it changes nothing.
-    fn grow(&mut self) -> Result<(), StoreError>
+    /// Makes room for this many slots in all, where there is less. The only refusal is
+    /// `OutOfMemory`, and it changes nothing.
+    fn grow(&mut self, room: usize) -> Result<(), StoreError>
         ensures same { members self.new ≡ members self.old }
-        ensures ok { OnOk result (rooms self.new ≡ rooms self.old + 1) }
+        ensures ok { OnOk result (rooms self.new ≡ max (rooms self.old) room) }
         ensures err { OnErr result (rooms self.new ≡ rooms self.old) }
         ensures cause { IfErr result (λ error. error ≡ OutOfMemory) };
 
@@ -88,8 +89,8 @@ impl SlotPool for LastFirst {
     }
 
     #[inline(always)]
-    fn grow(&mut self) -> Result<(), StoreError> {
-        self.list.grow()
+    fn grow(&mut self, room: usize) -> Result<(), StoreError> {
+        self.list.grow(room)
     }
 
     #[inline(always)]
@@ -164,8 +165,8 @@ impl SlotPool for OldestFirst {
     }
 
     #[inline(always)]
-    fn grow(&mut self) -> Result<(), StoreError> {
-        self.list.grow()
+    fn grow(&mut self, room: usize) -> Result<(), StoreError> {
+        self.list.grow(room)
     }
 
     #[inline(always)]
@@ -216,11 +217,8 @@ pub(crate) fn make_room<T, P: SlotPool>(slots: &mut Vec<T>, pool: &mut P) -> Res
     ensures ok { OnOk result (vec_len slots.new < vec_capacity slots.new) }
     ensures grown { OnOk result (vec_len slots.new < P.rooms pool.new) }
 {
-    if slots.len() < slots.capacity() {
-        if slots.len() < pool.room() {
-            return Ok(());
-        }
-        return pool.grow();
+    if slots.len() < slots.capacity() && slots.len() < pool.room() {
+        return Ok(());
     }
     grow(slots, pool)
 }
@@ -239,8 +237,5 @@ fn grow<T, P: SlotPool>(slots: &mut Vec<T>, pool: &mut P) -> Result<(), StoreErr
     if slots.reserve(1).is_err() {
         return Err(StoreError::OutOfMemory);
     }
-    if pool.room() == slots.len() {
-        pool.grow()?;
-    }
-    Ok(())
+    pool.grow(slots.capacity())
 }

@@ -28,9 +28,10 @@ ghost use Rattle.generational_box.specs.OwnerRecords.{IsListed, IsRefusal, IsRef
 ghost use Rattle.generational_box.specs.Slotted.{count_less, count_more, doomed_by, IsMade, Turns};
 ghost use Rattle.generational_box.specs.Slotted.{shared_target, with_records};
 
-use crate::entries::Entries;
+use crate::counts::Counts;
 use crate::entry::{CellName, Kind, StorageEntryData};
 use crate::hindrance::{doomed, find_hindrance};
+use crate::latest::LatestEntries;
 use crate::owners::OwnerRecords;
 use crate::pool::SlotPool;
 use generational_core::parts::Borrow;
@@ -45,10 +46,8 @@ use std::marker::Model;
 pub(crate) struct Slots<T, P: SlotPool> {
     // the first generation of a slot
     start: u64,
-    // how many slots are live or free, and the most cells that were live at once
-    usable: usize,
-    peak: usize,
-    entries: Entries<T>,
+    counts: Counts,
+    entries: LatestEntries<T>,
     pool: P,
 }
 
@@ -64,12 +63,13 @@ impl<T, P: SlotPool> Model for Slots<T, P> {
     ghost coded = { Prim.hlevel (codes, map.code) };
 
     ghost view = { λ s. record {
-      state = state_of s.start s.peak s.entries.slots;
+      state = state_of s.start s.counts.peak s.entries.slots;
       spare = set.len (P.members s.pool) + (P.rooms s.pool - length s.entries.slots);
     } };
 
     ghost invariant = { λ s.
-        IsSlotted (P.members s.pool) (P.rooms s.pool) s.start s.usable s.peak s.entries.slots
+        IsSlotted (P.members s.pool) (P.rooms s.pool) s.start s.counts.usable s.counts.peak
+        s.entries.slots
         × (P.rooms s.pool ≤ s.entries.rooms) × AreReferred (λ m. 0) s.entries.slots };
 }
 
@@ -81,9 +81,8 @@ impl<T, P: SlotPool> Slots<T, P> {
     {
         Slots {
             start,
-            usable: 0,
-            peak: 0,
-            entries: Entries::new(alloc),
+            counts: Counts::new(),
+            entries: LatestEntries::new(alloc),
             pool: P::new(alloc),
         }
     }
@@ -117,14 +116,14 @@ impl<T: Drop, P: SlotPool> Slots<T, P> {
     pub(crate) fn retired(&self) -> usize
         ensures { result ≡ retired self.now.state }
     {
-        self.entries.len() - self.usable
+        self.entries.len() - self.counts.usable()
     }
 
     // The most cells that were live at once.
     pub(crate) fn peak_live(&self) -> usize
         ensures { result ≡ self.now.state.peak }
     {
-        self.peak
+        self.counts.peak()
     }
 
     // What a box of this name reaches.
@@ -142,6 +141,24 @@ impl<T: Drop, P: SlotPool> Slots<T, P> {
         ensures { result ≡ kind_in (map.get self.now.state.cells (name_of_cell name)) }
     {
         self.entries.kind(name)
+    }
+
+    // The same. The paths that few calls take ask this.
+    #[cold]
+    #[inline(never)]
+    pub(crate) fn reach_apart(&self, name: CellName) -> Option<CellName>
+        ensures { option_map name_of_cell result
+            ≡ leads_to (map.get self.now.state.cells (name_of_cell name)) (name_of_cell name) }
+    {
+        self.reach(name)
+    }
+
+    // Whether the cell of this name is a value, also one that is lent.
+    #[inline(always)]
+    pub(crate) fn holds(&self, name: CellName) -> bool
+        ensures { result ≡ is_some (content_at self.now.state (name_of_cell name)) }
+    {
+        self.entries.holds(name)
     }
 
     // What the reference of this name names.
@@ -217,11 +234,27 @@ impl<T: Drop, P: SlotPool> Slots<T, P> {
         self.entries.open(name.slot, ticket)
     }
 
-    // Adds a reader to a value that isn't lent. Only a reader beside another may lack memory, and
-    // then nothing changes.
+    // The reader that stands apart, if there is one, goes to a list. Nothing that contracts see
+    // changes.
     #[inline(always)]
-    pub(crate) fn begin_read(&mut self, name: CellName, borrow: Borrow) -> Result<(), AllocError>
+    pub(crate) fn settle(&mut self)
+        ensures { self.new ≡ self.old }
+    {
+        self.entries.settle();
+    }
+
+    // Adds a reader to a value that isn't lent. Only a reader beside another may lack memory, and
+    // then nothing changes. The caller may know that the value has no borrow.
+    #[inline(always)]
+    pub(crate) fn begin_read(
+        &mut self,
+        name: CellName,
+        borrow: Borrow,
+        is_alone: bool,
+    ) -> Result<(), AllocError>
         requires there { IsSome (content_at self.old.state (name_of_cell name)) }
+        requires alone { is_alone ≡ true
+            → write_refusal (content_at self.old.state (name_of_cell name)) ≡ None }
         requires ascends { AreBelow borrow.ticket
             (readers_of (content_at self.old.state (name_of_cell name))) }
         ensures ok { OnOk result (IfSome (content_at self.old.state (name_of_cell name))
@@ -230,7 +263,7 @@ impl<T: Drop, P: SlotPool> Slots<T, P> {
         ensures beside { OnErr result (is_some
             (write_refusal (content_at self.old.state (name_of_cell name))) ≡ true) }
     {
-        self.entries.begin_read(name.slot, borrow)
+        self.entries.begin_read(name, borrow, is_alone)
     }
 
     // Takes a reader away. The answer is whether it stood.
@@ -252,7 +285,7 @@ impl<T: Drop, P: SlotPool> Slots<T, P> {
         ensures after { self.new.state
             ≡ fill self.old.state (name_of_cell name) (Lent writer) }
     {
-        self.entries.begin_write(name.slot, writer)
+        self.entries.begin_write(name, writer)
     }
 
     // Puts a writer's value back, or hands it back where the writer doesn't stand, which changes
@@ -289,17 +322,18 @@ impl<T: Drop, P: SlotPool> Slots<T, P> {
         self.pool.free() + (self.pool.room() - self.entries.len())
     }
 
-    // Makes room for one cell more. Want of memory is the only refusal. No slot changes.
-    #[inline(always)]
+    // Makes room for one cell more at least. Want of memory is the only refusal. No slot changes.
+    #[cold]
+    #[inline(never)]
     fn make_room(&mut self) -> Result<(), StoreError>
         ensures state { self.new.state ≡ self.old.state }
-        ensures ok { OnOk result (self.new.spare ≡ self.old.spare + 1) }
+        ensures ok { OnOk result (self.old.spare < self.new.spare) }
         ensures cause { IfErr result (λ error. error ≡ OutOfMemory) }
     {
         if self.pool.room() == self.entries.room() {
             self.entries.grow()?;
         }
-        self.pool.grow()
+        self.pool.grow(self.entries.room())
     }
 
     // Makes room for a cell more, where there is none.
@@ -380,6 +414,7 @@ impl<T: Drop, P: SlotPool> Slots<T, P> {
     }
 
     // The same in a new slot, where none is free and there is room for one.
+    #[inline(always)]
     fn extend(
         &mut self,
         content: StorageEntryData<T>,
@@ -414,7 +449,7 @@ impl<T: Drop, P: SlotPool> Slots<T, P> {
         let target = content.target();
         self.entries.push(name.generation, content, created_at);
         refer(&mut self.entries, target);
-        count_one(&mut self.usable, &mut self.peak);
+        self.counts.add_one();
         Ok(name)
     }
 
@@ -433,7 +468,7 @@ impl<T: Drop, P: SlotPool> Slots<T, P> {
         if name.generation < u64::MAX {
             self.pool.put(name.slot);
         } else {
-            self.usable -= 1;
+            self.counts.retire_one();
         }
     }
 
@@ -605,23 +640,9 @@ impl<T: Drop, P: SlotPool> Slots<T, P> {
     }
 }
 
-// A slot more is live, where all that aren't retired are.
-#[inline(always)]
-fn count_one(usable: &mut usize, peak: &mut usize)
-    requires { usable.old < max peak.old 18446744073709551615 }
-    ensures usable { usable.new ≡ usable.old + 1 }
-    ensures peak { peak.new ≡ max peak.old usable.new }
-{
-    let most = *peak;
-    *usable += 1;
-    if most < *usable {
-        *peak = *usable;
-    }
-}
-
 // The slot of what a new reference names counts it.
 #[inline(always)]
-fn refer<T: Drop>(entries: &mut Entries<T>, target: Option<CellName>)
+fn refer<T: Drop>(entries: &mut LatestEntries<T>, target: Option<CellName>)
     requires within { IfSome target (λ m. m.slot < length entries.old.slots) }
     requires few { IfSome target (λ m. IfSome (slice_get entries.old.slots m.slot)
         (λ e. e.references < length entries.old.slots)) }
@@ -636,7 +657,7 @@ fn refer<T: Drop>(entries: &mut Entries<T>, target: Option<CellName>)
 
 // The slot of what a reference names counts it no more, if that is live.
 #[inline(always)]
-fn forget<T: Drop>(entries: &mut Entries<T>, target: Option<CellName>)
+fn forget<T: Drop>(entries: &mut LatestEntries<T>, target: Option<CellName>)
     requires some { IfSome (shared_target entries.old.slots (option_map name_of_cell target))
         (λ m. IfSome (slice_get entries.old.slots m.slot) (λ e. 0 < e.references)) }
     ensures slots { entries.new.slots ≡ count_less entries.old.slots

@@ -178,15 +178,6 @@ impl BorrowTable {
         self.rest[index as usize - 1].first()
     }
 
-    // Whether that has the ticket.
-    #[inline(always)]
-    pub(crate) fn is_first(&self, index: u32, ticket: u64) -> bool
-        requires { index < length self.now.lists }
-        ensures { result ≡ is_first_of ticket (list_at self.now.lists index) }
-    {
-        self.first(index).ticket == ticket
-    }
-
     // Whether a borrow at an index has the ticket.
     #[inline(always)]
     pub(crate) fn contains(&self, index: u32, ticket: u64) -> bool
@@ -230,6 +221,21 @@ impl BorrowTable {
         ensures err { OnErr result (self.new ≡ self.old) }
     {
         self.rest[index as usize - 1].push(borrow)
+    }
+
+    // Lets one borrow alone stand at an index.
+    pub(crate) fn set_only(&mut self, index: u32, borrow: Borrow)
+        requires within { index < length self.old.lists }
+        requires used { set.contains self.old.free index ≡ false }
+        ensures { self.new ≡ record self.old {
+          lists = slice_set self.old.lists index (borrow ∷ []);
+        } }
+    {
+        if index == 0 {
+            self.first = borrow;
+            return;
+        }
+        self.rest[index as usize - 1] = Borrows::new(self.alloc, borrow);
     }
 
     // Takes the ticket's own borrow out of a list, and gives the index back with the last one. The

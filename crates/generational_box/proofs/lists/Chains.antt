@@ -1,10 +1,12 @@
 -- Slots to which links lead, one after the other.
 use Rattle.std.proofs.Common.{◌≡◌, ◌≢◌, ℕ, zero, suc, ◌<◌, Bool, true, false, List, [], ◌∷◌}
 use Rattle.std.proofs.Common.{◌++◌, length, refl, sym, ap, ◌∙◌, arith, slice_set, nat_eq, ◌||◌}
-use Rattle.std.proofs.Common.{drop, get_or, ◌-◌, ◌+◌, length-append}
+use Rattle.std.proofs.Common.{drop, get_or, ◌-◌, ◌+◌, ◌≤◌, length-append, take}
+use Rattle.std.proofs.Common.{if◌then◌else◌}
 use Rattle.std.specs.FinSet as set
 use Rattle.std.proofs.lemmas.Bool.{true≢false, eq-eqb}
 use Rattle.std.proofs.lemmas.List.{get_or-set_same, get_or-set_other, get_or_append_left, get_or_read}
+use Rattle.std.proofs.lemmas.List.{take_all}
 use Rattle.generational_box.specs.Pools.{chain, last_of}
 use Rattle.generational_box.proofs.Common.{IsPool}
 use Rattle.generational_box.proofs.lists.Lists.{holds, members, members-holds, pool_take}
@@ -43,10 +45,10 @@ chain_same links others first (suc n) same =
         either true h = refl
         either false h = h
 
--- another link at the end
-pub chain_grown : (links : List ℕ) (x first n : ℕ) → IsPool (chain links first n) (length links)
-    → chain (links ++ x ∷ []) first n ≡ chain links first n
-chain_grown links x first n p =
+-- more links at the end
+pub chain_grown : (links more : List ℕ) (first n : ℕ) → IsPool (chain links first n) (length links)
+    → chain (links ++ more) first n ≡ chain links first n
+chain_grown links more first n p =
     chain_same links _ first n (λ q there. get_or_append_left links _ 0 q (p.below q there))
 
 -- another link of a slot that isn't there
@@ -130,13 +132,26 @@ last_within links first (suc n) last some p ends =
     let there = last_there first (chain links (get_or links first 0) n) in
     p.below last (sym (ap (holds (chain links first (suc n))) ends) ∙ there)
 
-pub pool_grown : (links : List ℕ) (x first n : ℕ) → IsPool (chain links first n) (length links)
-    → IsPool (chain (links ++ x ∷ []) first n) (length (links ++ x ∷ []))
-pool_grown links x first n p = rw (chain_grown links x first n p) record {
+pub pool_grown : (links more : List ℕ) (first n : ℕ) → IsPool (chain links first n) (length links)
+    → IsPool (chain (links ++ more) first n) (length (links ++ more))
+pool_grown links more first n p = rw (chain_grown links more first n p) record {
   distinct = p.distinct;
   below = λ slot there.
-      let low = p.below slot there in omega (arith, low, length-append links (x ∷ []));
+      let low = p.below slot there in omega (arith, low, length-append links more);
 }
+
+-- links that were added, where memory was found, change no slot of the list
+pub resized : (ok : Bool) (n : ℕ) (links more after : List ℕ) (first count : ℕ)
+    → after ≡ (if ok then take n links ++ more else links) → length links ≤ n
+    → IsPool (chain links first count) (length links)
+    → IsPool (chain after first count) (length after)
+    × (chain after first count ≡ chain links first count)
+resized true n links more after first count is few p =
+    rw (is, take_all n links few) (
+      pool_grown links more first count p,
+      chain_grown links more first count p,
+    )
+resized false n links more after first count is few p = rw is (p, refl)
 
 pub last_taken : (x : ℕ) (xs : List ℕ) → last_of x xs ≡ x → last_of x (drop 1 xs) ≡ x
 last_taken x [] ends = refl

@@ -18,15 +18,15 @@ use Rattle.generational_box.specs.declared.entry.StorageEntryData.{StorageEntryD
 use Rattle.generational_core.specs.Borrowing.{leads_to, read_refusal, write_refusal}
 use Rattle.generational_core.specs.Cells.Content.{Here, Lent}
 use Rattle.generational_box.specs.Entry.{Entry, with_reader, without_reader_in, content_in}
-use Rattle.generational_box.specs.Entry.{has_no_borrow, cell_of, kind_in, target_in}
+use Rattle.generational_box.specs.Entry.{has_no_borrow, is_lent, cell_of, kind_in, target_in}
 use Rattle.generational_box.specs.Entry.{is_unborrowed_value}
 use Rattle.generational_core.specs.Machine.{has_reader, has_writer}
 use Rattle.generational_box.specs.Entries.{EntryList, AreRoomy, IsUnborrowed, kept_data}
 use Rattle.generational_box.specs.Entries.{is_unborrowed_data, kind_of, lead_of, target_of}
 use Rattle.generational_box.specs.Table.{Releases}
-use Rattle.generational_box.specs.Entries.{index_in, index_of, has_index, entry_of}
+use Rattle.generational_box.specs.Entries.{index_in, index_of, has_index, entry_of, writer_in}
 use Rattle.generational_box.specs.Table.{no_index}
-use Rattle.generational_box.specs.Entries.{AreIndexed, IsIndexed, LentHasIndex}
+use Rattle.generational_box.specs.Entries.{AreIndexed}
 use Rattle.generational_box.specs.Table.{IsUsed}
 use Rattle.generational_box.specs.Entry.Kept.{Empty, Live, Refers}
 use Rattle.generational_box.specs.declared.entry.Kind.{Kind}
@@ -140,16 +140,14 @@ module _ {T : Type 0} where
         → ((k : ℕ) → k ≢ i → index_in (slice_get es k) ≢ no_index
         → IsUsed t' (index_in (slice_get es k)))
         → (index_of e.content ≢ no_index → IsUsed t' (index_of e.content))
-        → LentHasIndex e.content
         → (index_of e.content ≢ no_index → (k : ℕ) → k ≢ i
         → index_in (slice_get es k) ≢ index_of e.content)
         → set.len t'.free + how_many has_index es' ≡ length t'.lists → length t'.lists ≤ length es'
         + 1
         → AreIndexed t' es'
-    indexed {t} {t'} s others here lent alone counted few =
+    indexed {t} {t'} s others here alone counted few =
         record {
           used = over (λ k o. index_in o ≢ no_index → IsUsed t' (index_in o)) here others;
-          lent = over (λ k o. IsIndexed o) lent (λ k other. s.lent k);
           apart = λ j k. over (λ j o. index_in o ≢ no_index → index_in o ≡ index_in (slice_get es'
               k)
               → j ≡ k) (written k) (rest k) j;
@@ -255,6 +253,13 @@ module _ {T : Type 0} {t : Table} {es : List (StorageEntry T)} {ls : List EntryD
   closed_none {t'} c = let few = s.indexed.few in let small = s.small in let same = c.same in
       get_or-eq_default t'.lists [] (omega arith)
 
+  -- the details that a read at an index finds
+  pub read_details : {i : ℕ} → i < length now.slots → {d : EntryDetails} (n : ℕ) → n ≡ length ls
+      → d ≡ get_or ls i d → slice_get ls i ≡ Some d
+  read_details {i} within {d} n len is =
+      let same = many in let made = s.made in
+      slice_get_read ls n i d len (omega (arith, within)) is
+
   -- the slot that a read at an index finds
   pub read_slot : {i : ℕ} → i < length now.slots → {e : StorageEntry T} (n : ℕ) → n ≡ length es
       → e ≡ get_or es i e → slice_get es i ≡ Some e
@@ -333,6 +338,14 @@ module _ {T : Type 0} {t : Table} {es : List (StorageEntry T)} {ls : List EntryD
         → IfSome (slice_get now.slots i) P
     says P h = rw slot_seen (h location.0)
 
+    -- the same where its details are known
+    pub says_of : {d : EntryDetails} → slice_get ls i ≡ Some d → (P : Entry T → Type 0)
+        → P (entry_of t.lists e d) → IfSome (slice_get now.slots i) P
+    says_of {d} at P h =
+        let told = sym location.1 ∙ at in
+        let same : location.0 ≡ d = cc in
+        rw (slot_seen, same) h
+
     -- what holds of what contracts see holds of the slot with its borrows
     pub hears : (P : Entry T → Type 0) → IfSome (slice_get now.slots i) P
         → P (entry_of t.lists e location.0)
@@ -340,9 +353,6 @@ module _ {T : Type 0} {t : Table} {es : List (StorageEntry T)} {ls : List EntryD
 
     pub used_here : index_of e.content ≢ no_index → IsUsed t (index_of e.content)
     used_here some = rw there at (s.indexed.used i) some
-
-    pub lent_here : LentHasIndex e.content
-    lent_here = rw there at (s.indexed.lent i)
 
     -- a value has no index where nobody reads it
     module _ (kd : Kind) (x : ℕ) (v : T) (is : e.content ≡ slot.Data kd x v) where
@@ -373,18 +383,23 @@ module _ {T : Type 0} {t : Table} {es : List (StorageEntry T)} {ls : List EntryD
           at [] is = absurd ((used_at some).some is)
           at (b ∷ bs) is = refl
 
-    -- a writer stands where a value is lent
-    pub writer_of : (kd : Kind) (x : ℕ) → e.content ≡ slot.Lent kd x
-        → (w : Borrow) × (rest : List Borrow) × (list_at t.lists x ≡ w ∷ rest)
-        × (x < length t.lists)
-    writer_of kd x is =
-        at (list_at t.lists x) refl (rw is at used_here (rw is at lent_here))
+    -- the index of a lent value, if it has one
+    pub lent_used : (kd : Kind) (x : ℕ) → e.content ≡ slot.Lent kd x → x ≢ no_index → IsUsed t x
+    lent_used kd x is some = subst (λ d. index_of d ≢ no_index → IsUsed t (index_of d)) is used_here some
+
+    -- a lent cell is one
+    pub lent_is : (l : Location)
+        → is_lent (content_in (kept_data (list_at t.lists (index_of e.content)) l e.content))
+        ≡ true → (kd : Kind) × (x : ℕ) × (e.content ≡ slot.Lent kd x)
+    lent_is l = at e.content refl
       where
-        at : (bs : List Borrow) → list_at t.lists x ≡ bs → IsUsed t x
-            → (w : Borrow) × (rest : List Borrow) × (list_at t.lists x ≡ w ∷ rest)
-            × (x < length t.lists)
-        at [] is used = absurd (used.some is)
-        at (w ∷ rest) is used = (w, rest, is, used.within)
+        at : (d : StorageEntryData T) → e.content ≡ d
+            → is_lent (content_in (kept_data (list_at t.lists (index_of d)) l d)) ≡ true
+            → (kd : Kind) × (x : ℕ) × (e.content ≡ slot.Lent kd x)
+        at slot.Empty is h = absurd (false≢true h)
+        at (slot.Reference m g) is h = absurd (false≢true h)
+        at (slot.Data kd x v) is h = absurd (false≢true h)
+        at (slot.Lent kd x) is h = (kd, x, is)
 
     -- a cell without borrows is a value without an index
     pub alone : (l : Location)
@@ -392,11 +407,6 @@ module _ {T : Type 0} {t : Table} {es : List (StorageEntry T)} {ls : List EntryD
         ≡ true → (kd : Kind) × (v : T) × (e.content ≡ slot.Data kd no_index v)
     alone l = at e.content refl
       where
-        lent : (bs : List Borrow) (kd : Kind) (x : ℕ)
-            → has_no_borrow (content_in {T = T} (kept_data bs l (slot.Lent kd x))) ≡ true → ⊥
-        lent [] kd x h = false≢true h
-        lent (w ∷ bs) kd x h = false≢true h
-
         read : (bs : List Borrow) → bs ≢ [] → (v : T)
             → has_no_borrow (Some (Here v bs)) ≡ true → ⊥
         read [] some v h = some refl
@@ -415,7 +425,7 @@ module _ {T : Type 0} {t : Table} {es : List (StorageEntry T)} {ls : List EntryD
             → (kd : Kind) × (v : T) × (e.content ≡ slot.Data kd no_index v)
         at slot.Empty is h = absurd (false≢true h)
         at (slot.Reference m g) is h = absurd (false≢true h)
-        at (slot.Lent kd x) is h = absurd (lent (list_at t.lists x) kd x h)
+        at (slot.Lent kd x) is h = absurd (false≢true h)
         at (slot.Data kd x v) is h = value kd x v is h (cases_eq x no_index)
 
     -- a test of the slot's content that says of each what h says of its cell
@@ -437,7 +447,7 @@ module _ {T : Type 0} {t : Table} {es : List (StorageEntry T)} {ls : List EntryD
             → f d ≡ h (cell_of (kept_data (list_at t.lists (index_of d)) location.0.created_at d))
         at slot.Empty is = empty
         at (slot.Data kd x v) is = data' kd x v _ _
-        at (slot.Lent kd x) is = let w = writer_of kd x is in rw w.2 (lent kd x _ _)
+        at (slot.Lent kd x) is = lent kd x _ _
         at (slot.Reference m n) is = ref m n _
 
         own : (b : Bool) {o : Option X} {c : Option (Cell T)} → o ≡ h c
@@ -485,8 +495,8 @@ module _ {T : Type 0} {t : Table} {es : List (StorageEntry T)} {ls : List EntryD
         at slot.Empty is = refl
         at (slot.Data kind.Value x v) is = free_test kind.Value x v is
         at (slot.Data kind.Shared x v) is = refl
-        at (slot.Lent kind.Value x) is = let w = writer_of kind.Value x is in rw w.2 refl
-        at (slot.Lent kind.Shared x) is = let w = writer_of kind.Shared x is in rw w.2 refl
+        at (slot.Lent kind.Value x) is = refl
+        at (slot.Lent kind.Shared x) is = refl
         at (slot.Reference m n) is = refl
 
         own : (b : Bool) {x : Bool} (c : Option (Cell T)) → x ≡ is_unborrowed_value c
@@ -516,11 +526,6 @@ module _ {T : Type 0} {t : Table} {es : List (StorageEntry T)} {ls : List EntryD
         none kind.Value c l h = false≢true h
         none kind.Shared c l h = false≢true h
 
-        lent : (bs : List Borrow) (l : Location) (kd : Kind) (x : ℕ)
-            → is_some (target_in (cell_of {T = T} (kept_data bs l (slot.Lent kd x)))) ≡ true → ⊥
-        lent [] l kd x h = false≢true h
-        lent (w ∷ bs) l kd x h = none kd (Lent w) l h
-
         at : (d : StorageEntryData T) → e.content ≡ d
             → is_some (target_in (cell_of (kept_data (list_at t.lists (index_of d))
             location.0.created_at d))) ≡ true
@@ -529,7 +534,8 @@ module _ {T : Type 0} {t : Table} {es : List (StorageEntry T)} {ls : List EntryD
             (record { slot = m; generation = g }, location.0.created_at, is)
         at slot.Empty is h = absurd (false≢true h)
         at (slot.Data kd x v) is h = absurd (none kd _ _ h)
-        at (slot.Lent kd x) is h = absurd (lent _ _ kd x h)
+        at (slot.Lent kd x) is h = absurd (none kd
+            (Lent (writer_in (list_at t.lists x) location.0.created_at)) location.0.created_at h)
 
     -- ---- a slot that changes with the table
 
@@ -554,11 +560,10 @@ module _ {T : Type 0} {t : Table} {es : List (StorageEntry T)} {ls : List EntryD
 
       pub step_indexed : (e' : StorageEntry T)
           → (index_of e'.content ≢ no_index → (index_of e'.content ≡ x) × IsUsed t' x)
-          → LentHasIndex e'.content
           → set.len t'.free + bit (has_index e') + length t.lists
           ≡ set.len t.free + bit (has_index e) + length t'.lists
           → length t'.lists ≤ length es + 1 → AreIndexed t' (slice_set es i e')
-      step_indexed e' here lent counts few =
+      step_indexed e' here counts few =
           let w = set_written es i e' e there in
           let count = rw there at (w.count has_index) in
           let counted = s.indexed.counted in
@@ -566,7 +571,6 @@ module _ {T : Type 0} {t : Table} {es : List (StorageEntry T)} {ls : List EntryD
           indexed w s.indexed
           (λ k other some. used_still c _ (alone k other) (s.indexed.used k some))
           (λ some. subst (IsUsed t') (sym (here some).0) (here some).1)
-          lent
           (λ some k other same. alone k other (same ∙ (here some).0))
           (omega arith) (omega arith)
 
@@ -618,14 +622,14 @@ module _ {T : Type 0} {t : Table} {es : List (StorageEntry T)} {ls : List EntryD
         open_lists = same_lists (opened o) open_below open_alone
 
         pub open_indexed : (e' : StorageEntry T) → index_of e'.content ≡ x
-            → LentHasIndex e'.content → AreIndexed t' (slice_set es i e')
-        open_indexed e' at lent =
+            → AreIndexed t' (slice_set es i e')
+        open_indexed e' at =
             let below = open_below in
             let has : has_index e' ≡ true = rw (at, ne_eqb x no_index (λ z. omega (arith, z))) refl
             in
             let counts = opened_count o in let few = s.indexed.few in
             let counted = s.indexed.counted in let less = fewer in
-            step_indexed (opened o) open_below open_alone e' (λ some. (at, opened_used o)) lent
+            step_indexed (opened o) open_below open_alone e' (λ some. (at, opened_used o))
             (rw (has, has_none) (omega arith))
             (opened_few o (length es + 1) few (λ z. omega arith))
 
@@ -691,8 +695,8 @@ module _ {T : Type 0} {t : Table} {es : List (StorageEntry T)} {ls : List EntryD
         join_lists k other = (opened opens).lists (index_in (slice_get es k)) (join_alone k other)
 
         pub join_indexed : (e' : StorageEntry T) → index_of e'.content ≡ y
-            → LentHasIndex e'.content → AreIndexed t' (slice_set es i e')
-        join_indexed e' at lent =
+            → AreIndexed t' (slice_set es i e')
+        join_indexed e' at =
             let w = set_written es i e' e there in
             let above = j.above in let below = join_below in
             let has : has_index e ≡ true = rw is refl in
@@ -709,7 +713,6 @@ module _ {T : Type 0} {t : Table} {es : List (StorageEntry T)} {ls : List EntryD
             (used_still (opened opens) _ (join_alone k other) (s.indexed.used k some)))
             (λ z. subst (IsUsed t') (sym at) (used_still (closed closes) y
             (λ z. omega (arith, z)) (opened_used opens)))
-            lent
             (λ z k other same. join_alone k other (same ∙ at))
             (omega arith) (omega arith)
 
@@ -732,14 +735,14 @@ module _ {T : Type 0} {t : Table} {es : List (StorageEntry T)} {ls : List EntryD
             same_lists (list_changed t t' x left now') used_below (used_alone x is some)
 
         pub list_indexed : (e' : StorageEntry T) → index_of e'.content ≡ x
-            → LentHasIndex e'.content → AreIndexed t' (slice_set es i e')
-        list_indexed e' at lent =
+            → AreIndexed t' (slice_set es i e')
+        list_indexed e' at =
             let has : has_index e' ≡ true = rw (at, ne_eqb x no_index some) refl in
             let long : length t'.lists ≡ length t.lists = rw now' (length-set t.lists x left) in
             let free : set.len t'.free ≡ set.len t.free = rw now' refl in
             let few = s.indexed.few in
             step_indexed (list_changed t t' x left now') used_below (used_alone x is some) e'
-            (λ z. (at, list_used)) lent (rw (has, has_some) (omega arith)) (omega arith)
+            (λ z. (at, list_used)) (rw (has, has_some) (omega arith)) (omega arith)
           where
             list_used : IsUsed t' x
             list_used = rw now' (record {
@@ -755,13 +758,13 @@ module _ {T : Type 0} {t : Table} {es : List (StorageEntry T)} {ls : List EntryD
         close_lists = same_lists (closed c) used_below (used_alone x is some)
 
         pub close_indexed : (e' : StorageEntry T) → index_of e'.content ≡ no_index
-            → LentHasIndex e'.content → AreIndexed t' (slice_set es i e')
-        close_indexed e' none lent =
+            → AreIndexed t' (slice_set es i e')
+        close_indexed e' none =
             let has : has_index e' ≡ false = rw none refl in
             let free = closed_count c used_x.used in let long = c.same in
             let few = s.indexed.few in
             step_indexed (closed c) used_below (used_alone x is some) e'
-            (λ z. absurd (z none)) lent (rw (has, has_some) (omega arith)) (omega arith)
+            (λ z. absurd (z none)) (rw (has, has_some) (omega arith)) (omega arith)
 
     -- a reader is taken away from a value
     module _ (kd : Kind) (x : ℕ) (v : T) (is : e.content ≡ slot.Data kd x v) (some : x ≢ no_index)
@@ -777,9 +780,9 @@ module _ {T : Type 0} {t : Table} {es : List (StorageEntry T)} {ls : List EntryD
         pub release_indexed : (t' : Table) (y : ℕ) (left : List Borrow) → Releases t t' x y left
             → (g : ℕ)
             → AreIndexed t' (slice_set es i (record { generation = g; content = slot.Data kd y v }))
-        release_indexed t' y [] r g = close_indexed x own some r.1 _ r.0 tt
+        release_indexed t' y [] r g = close_indexed x own some r.1 _ r.0
         release_indexed t' y (b ∷ bs) r g =
-            list_indexed x own some (b ∷ bs) (λ z. none_some b bs z) r.1 _ r.0 tt
+            list_indexed x own some (b ∷ bs) (λ z. none_some b bs z) r.1 _ r.0
 
         pub release_list : (t' : Table) (y : ℕ) (left : List Borrow) → Releases t t' x y left
             → list_at t'.lists y ≡ left
@@ -797,9 +800,8 @@ module _ {T : Type 0} where
   created_there bs l (slot.Reference m g) = refl
   created_there bs l (slot.Data kind.Value x v) = refl
   created_there bs l (slot.Data kind.Shared x v) = refl
-  created_there [] l (slot.Lent kd x) = tt
-  created_there (w ∷ bs) l (slot.Lent kind.Value x) = refl
-  created_there (w ∷ bs) l (slot.Lent kind.Shared x) = refl
+  created_there bs l (slot.Lent kind.Value x) = refl
+  created_there bs l (slot.Lent kind.Shared x) = refl
 
   -- where none is lent, no writer is in the way of a read
   pub not_lent : (bs : List Borrow) (l : Location) (d : StorageEntryData T)
@@ -825,8 +827,7 @@ module _ {T : Type 0} where
       → kept_data bs l d ≡ with_reader b (kept_data bs l d)
   reader_kept b bs l slot.Empty none = refl
   reader_kept b bs l (slot.Reference m g) none = refl
-  reader_kept b [] l (slot.Lent kd x) none = refl
-  reader_kept b (w ∷ bs) l (slot.Lent kd x) none = refl
+  reader_kept b bs l (slot.Lent kd x) none = refl
   reader_kept b bs l (slot.Data kd x v) none = absurd (none kd x v refl)
 
   pub reader_left : (n : ℕ) (bs : List Borrow) (l : Location) (d : StorageEntryData T)
@@ -834,8 +835,7 @@ module _ {T : Type 0} where
       → kept_data bs l d ≡ without_reader_in n (kept_data bs l d)
   reader_left n bs l slot.Empty none = refl
   reader_left n bs l (slot.Reference m g) none = refl
-  reader_left n [] l (slot.Lent kd x) none = refl
-  reader_left n (w ∷ bs) l (slot.Lent kd x) none = refl
+  reader_left n bs l (slot.Lent kd x) none = refl
   reader_left n bs l (slot.Data kd x v) none = absurd (none kd x v refl)
 
   pub no_reader : (n : ℕ) (bs : List Borrow) (l : Location) (d : StorageEntryData T)
@@ -843,8 +843,7 @@ module _ {T : Type 0} where
       → false ≡ has_reader (content_in (kept_data bs l d)) n
   no_reader n bs l slot.Empty none = refl
   no_reader n bs l (slot.Reference m g) none = refl
-  no_reader n [] l (slot.Lent kd x) none = refl
-  no_reader n (w ∷ bs) l (slot.Lent kd x) none = refl
+  no_reader n bs l (slot.Lent kd x) none = refl
   no_reader n bs l (slot.Data kd x v) none = absurd (none kd x v refl)
 
   pub no_writer : (n : ℕ) (bs : List Borrow) (l : Location) (d : StorageEntryData T)
@@ -875,17 +874,10 @@ module _ {T : Type 0} where
   unborrowed_none slot.Empty free = absurd free
   unborrowed_none (slot.Lent kd x) free = absurd free
 
-  pub unborrowed_lent : (d : StorageEntryData T) → IsUnborrowed d → LentHasIndex d
-  unborrowed_lent (slot.Data kd x v) free = tt
-  unborrowed_lent (slot.Reference m g) free = tt
-  unborrowed_lent slot.Empty free = absurd free
-  unborrowed_lent (slot.Lent kd x) free = absurd free
-
 pub indexed_none : {T : Type 0} {t : Table} {es : List (StorageEntry T)} → es ≡ []
     → length t.lists ≡ 1 → t.free ≡ set.insert set.empty 0 → AreIndexed t es
 indexed_none none one free = rw none (record {
   used = λ k some. absurd (some refl);
-  lent = λ k. tt;
   apart = λ j k some same. absurd (some refl);
   counted = rw (
     free,
@@ -911,9 +903,9 @@ module _ {T : Type 0} where
   pub indexed_free : {t : Table} {es es' : List (StorageEntry T)} {i : ℕ} {e : StorageEntry T}
       → IsWritten es es' i e → AreIndexed t es → length es ≤ length es'
       → index_in (slice_get es i) ≡ no_index → index_of e.content ≡ no_index
-      → LentHasIndex e.content → AreIndexed t es'
-  indexed_free {t} {es} {es'} {i} {e} w s longer before none lent =
-      indexed w s (λ k other. s.used k) (λ some. absurd (some none)) lent
+      → AreIndexed t es'
+  indexed_free {t} {es} {es'} {i} {e} w s longer before none =
+      indexed w s (λ k other. s.used k) (λ some. absurd (some none))
       (λ some. absurd (some none)) counted (let few = s.few in omega arith)
     where
       counted : set.len t.free + how_many has_index es' ≡ length t.lists
@@ -960,6 +952,4 @@ module _ {T : Type 0} {t : Table} {es : List (StorageEntry T)} {ls : List EntryD
         at slot.Empty is h = is
         at (slot.Data kd x v) is h = absurd cc
         at (slot.Reference m g) is h = absurd cc
-        at (slot.Lent kd x) is h =
-            let w = writer_of s i e there kd x is in
-            let lent = rw w.2 at h in absurd cc
+        at (slot.Lent kd x) is h = absurd cc

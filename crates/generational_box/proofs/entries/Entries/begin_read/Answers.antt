@@ -50,7 +50,7 @@ invariant_of-self g c =
       lists = c.open.ensures.lists;
       free = c.open.ensures.free;
     } in (
-      open_indexed s c.args.slot _ there (rw (c.in-Data.is, c.if-index.true) refl) o _ refl tt,
+      open_indexed s c.args.slot _ there (rw (c.in-Data.is, c.if-index.true) refl) o _ refl,
       c.self.invariant.1 ∙ sym (length-set c.self.inside.entries.items c.args.slot _),
       roomy_still c.self.invariant.2 (length-set c.self.inside.entries.items c.args.slot _)
           c.open.ensures.rooms,
@@ -120,7 +120,7 @@ invariant_of-self-then-index-eq0 g c =
     c.index_mut.ensures.value in
     let j = c.in_ok-index-in-Data.ensures.ok in (
       join_indexed s c.args.slot _ there (rw (c.in-Data.is, c.if-index-eq0.true) refl) j
-          (not_empty _ _) _ refl tt,
+          (not_empty _ _) _ refl,
       c.self.invariant.1 ∙ sym (length-set c.self.inside.entries.items c.args.slot _),
       roomy_still c.self.invariant.2 (length-set c.self.inside.entries.items c.args.slot _) j.rooms,
     )

@@ -1,6 +1,10 @@
 -- The writer that stands in the way of a read.
-use Rattle.std.proofs.Common.{arith, refl, sym, ap, ◌≡◌, ◌∙◌, Some, slice_get}
-use Rattle.generational_box.proofs.states.Entries.{kept, many, not_lent, says, writer_of, read_slot}
+use Rattle.std.proofs.Common.{arith, refl, ◌≡◌, slice_get, option_map, Some}
+use Rattle.generational_core.specs.Borrowing.{read_refusal}
+use Rattle.generational_core.specs.Borrowing.Trouble.{BeingWritten}
+use Rattle.generational_box.specs.Entry.{content_in}
+use Rattle.generational_box.proofs.states.Entries.{kept, many, not_lent, says, lent_used, read_slot}
+use Rattle.generational_box.proofs.states.Entries.{list_none, says_of, read_details}
 use Rattle.generational_box.proofs.entries.Entries.borrow_error.Goals as goal
 
 pub index-requires : goal.index-requires
@@ -8,21 +12,28 @@ index-requires g c =
     let same = many (kept c.self.view_is c.self.invariant) in
     omega (arith, c.requires, c.self.inside.entries.ok.0)
 
-pub first-writer-requires : goal.first-writer-requires
-first-writer-requires g c =
+pub index-requires-in-Lent : goal.index-requires-in-Lent
+index-requires-in-Lent g c =
+    let s = kept c.self.view_is c.self.invariant in
+    let same = many s in let made = s.made in
+    omega (arith, c.requires, c.self.inside.details.ok.0)
+
+pub writer_at-writer-requires-clause-within : goal.writer_at-writer-requires-clause-within
+writer_at-writer-requires-clause-within g c =
     let s = kept c.self.view_is c.self.invariant in
     let there = read_slot s c.requires _ c.self.inside.entries.ok.0 c.index.ensures in
-    (writer_of s c.args.slot _ there _ _ c.in-Lent.is).3
+    λ some. (lent_used s c.args.slot _ there _ _ c.in-Lent.is some).within
+
+pub writer_at-writer-requires-clause-none : goal.writer_at-writer-requires-clause-none
+writer_at-writer-requires-clause-none g c = list_none (kept c.self.view_is c.self.invariant)
 
 pub returns-in-Lent : goal.returns-in-Lent
 returns-in-Lent g c =
     let s = kept c.self.view_is c.self.invariant in
     let there = read_slot s c.requires _ c.self.inside.entries.ok.0 c.index.ensures in
-    let w = writer_of s c.args.slot _ there _ _ c.in-Lent.is in
-    let found : Some c.first-writer.result ≡ Some w.0 =
-    sym c.first-writer.ensures ∙ ap (λ bs. slice_get bs 0) (w.2) in
-    let same : c.first-writer.result ≡ w.0 = cc found in
-    says s c.args.slot _ there _ (λ l. rw (c.in-Lent.is, w.2, c.new.ensures, same) refl)
+    says_of s c.args.slot _ there
+    (read_details s c.requires _ c.self.inside.details.ok.0 c.index-in-Lent.ensures) _
+    (rw (c.in-Lent.is, c.new.ensures, c.writer_at-writer.ensures) refl)
 
 pub returns-in_default : goal.returns-in_default
 returns-in_default g c =

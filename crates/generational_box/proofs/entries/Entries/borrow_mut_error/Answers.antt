@@ -15,11 +15,11 @@ use Rattle.generational_core.specs.declared.error.Location.{Location}
 use Rattle.generational_box.specs.declared.entry.Kind.{Kind}
 use Rattle.generational_box.specs.declared.entry.StorageEntryData.{StorageEntryData}
 use Rattle.generational_box.specs.declared.entry.StorageEntryData.TheVariants as slot
-use Rattle.generational_box.specs.Entries.{index_of, kept_data}
+use Rattle.generational_box.specs.Entries.{index_of, kept_data, writer_in}
 use Rattle.generational_box.specs.Entry.{FoundBorrowed, FoundReaders, content_in}
 use Rattle.generational_box.specs.Table.{list_at}
-use Rattle.generational_box.proofs.states.Entries.{kept, many, says, free_value, writer_of, used_at}
-use Rattle.generational_box.proofs.states.Entries.{no_content, read_slot}
+use Rattle.generational_box.proofs.states.Entries.{kept, many, says, free_value, lent_used, used_at}
+use Rattle.generational_box.proofs.states.Entries.{no_content, read_slot, list_none, says_of, read_details}
 use Rattle.generational_box.proofs.entries.Entries.borrow_mut_error.Goals as goal
 
 module _ {T : Type 0} (lists : List (List Borrow)) (d : StorageEntryData T) (l : Location) where
@@ -45,11 +45,10 @@ module _ {T : Type 0} (lists : List (List Borrow)) (d : StorageEntryData T) (l :
       at (b ∷ bs) (refused.Store UnknownOwner) some found = absurd found
 
   found_writer : (kd : Kind) (x : ℕ) → d ≡ slot.Lent kd x
-      → (w : Borrow) (rest : List Borrow) → list_at lists x ≡ w ∷ rest
-      → (r : Refused BorrowMutError) → r ≡ refused.Borrow
-      (writes.AlreadyBorrowedMut (record { borrowed_mut_at = w.location }))
+      → (r : Refused BorrowMutError) → r ≡ refused.Borrow (writes.AlreadyBorrowedMut
+      (record { borrowed_mut_at = (writer_in (list_at lists x) l).location }))
       → FoundBorrowed (trouble lists d l) (Err r)
-  found_writer kd x is w rest there r found = rw (found, is, there) refl
+  found_writer kd x is r found = rw (found, is) refl
 
 pub index-requires : goal.index-requires
 index-requires g c =
@@ -71,11 +70,20 @@ readers_error-requires g c =
     let there = read_slot s c.requires _ c.self.inside.entries.ok.0 c.index.ensures in
     (used_at s c.args.slot _ there _ _ _ c.in-Data.is c.if-index.false).within
 
-pub first-requires : goal.first-requires
-first-requires g c =
+pub index-requires-in-Lent : goal.index-requires-in-Lent
+index-requires-in-Lent g c =
+    let s = kept c.self.view_is c.self.invariant in
+    let same = many s in let made = s.made in
+    omega (arith, c.requires, c.self.inside.details.ok.0)
+
+pub writer_at-writer-requires-clause-within : goal.writer_at-writer-requires-clause-within
+writer_at-writer-requires-clause-within g c =
     let s = kept c.self.view_is c.self.invariant in
     let there = read_slot s c.requires _ c.self.inside.entries.ok.0 c.index.ensures in
-    (writer_of s c.args.slot _ there _ _ c.in-Lent.is).3
+    λ some. (lent_used s c.args.slot _ there _ _ c.in-Lent.is some).within
+
+pub writer_at-writer-requires-clause-none : goal.writer_at-writer-requires-clause-none
+writer_at-writer-requires-clause-none g c = list_none (kept c.self.view_is c.self.invariant)
 
 pub returns-else-index : goal.returns-else-index
 returns-else-index g c =
@@ -97,10 +105,10 @@ pub returns-in-Lent : goal.returns-in-Lent
 returns-in-Lent g c =
     let s = kept c.self.view_is c.self.invariant in
     let there = read_slot s c.requires _ c.self.inside.entries.ok.0 c.index.ensures in
-    let w = writer_of s c.args.slot _ there _ _ c.in-Lent.is in
-    let found : Some c.first.result ≡ Some w.0 =
-    sym c.first.ensures ∙ ap (λ bs. slice_get bs 0) w.2 in
-    let same : c.first.result ≡ w.0 = cc found in
-    says s c.args.slot _ there _ (λ l. found_writer c.self.inside.borrows.lists
-    c.index.result.now.content l.created_at _ _ c.in-Lent.is w.0 w.1 w.2 c.writer_error.result
-    (rw same at c.writer_error.ensures))
+    let d = c.index-in-Lent.result.now in
+    says_of s c.args.slot _ there
+    (read_details s c.requires _ c.self.inside.details.ok.0 c.index-in-Lent.ensures)
+    (λ e. FoundBorrowed (write_refusal (content_in e.kept)) (Err c.writer_error.result))
+    (found_writer c.self.inside.borrows.lists c.index.result.now.content d.created_at _ _
+    c.in-Lent.is c.writer_error.result
+    (rw (← c.writer_at-writer.ensures) c.writer_error.ensures))

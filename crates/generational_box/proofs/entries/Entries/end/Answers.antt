@@ -45,7 +45,7 @@ invariant_of-self g c =
     let own = ap (λ e. index_of e.content) (one_slot s c.args.slot there found) ∙ sym
     c.index-index.ensures in (
       close_indexed s c.args.slot _ there _ own c.if-index.true
-          c.close.ensures _ refl tt,
+          c.close.ensures _ refl,
       c.self.invariant.1 ∙ sym (length-set c.self.inside.entries.items c.args.slot _),
       roomy_still c.self.invariant.2 (length-set c.self.inside.entries.items c.args.slot _)
           c.close.ensures.rooms,
@@ -60,7 +60,7 @@ invariant_of-self-else-index g c =
     c.index-index.ensures in (
       indexed_free (set_written _ c.args.slot _ _ there) s.indexed
           (set_no_shorter _ c.args.slot _)
-          (rw there (own ∙ c.if-index.false)) refl tt,
+          (rw there (own ∙ c.if-index.false)) refl,
       c.self.invariant.1 ∙ sym (length-set c.self.inside.entries.items c.args.slot _),
       roomy_still c.self.invariant.2 (length-set c.self.inside.entries.items c.args.slot _) refl,
     )

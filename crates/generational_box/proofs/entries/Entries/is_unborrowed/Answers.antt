@@ -2,7 +2,7 @@ use Rattle.std.proofs.Common.{arith, refl, ◌≡◌, is_none, true, false}
 use Rattle.generational_core.specs.Borrowing.{write_refusal}
 use Rattle.generational_box.specs.Entry.{content_in}
 use Rattle.generational_box.proofs.states.Entries.{kept, many, no_content, says, free_test}
-use Rattle.generational_box.proofs.states.Entries.{writer_of, read_slot}
+use Rattle.generational_box.proofs.states.Entries.{read_slot}
 use Rattle.std.proofs.Common.{nat_eq}
 use Rattle.generational_box.proofs.entries.Entries.is_unborrowed.Goals as goal
 
@@ -31,6 +31,5 @@ pub returns-in-Lent : goal.returns-in-Lent
 returns-in-Lent g c =
     let s = kept c.self.view_is c.self.invariant in
     let there = read_slot s c.requires _ c.self.inside.entries.ok.0 c.index.ensures in
-    let w = writer_of s c.args.slot _ there _ _ c.in-Lent.is in
     says s c.args.slot _ there (λ e. false ≡ is_none (write_refusal (content_in e.kept)))
-    (λ l. rw (c.in-Lent.is, w.2) refl)
+    (λ l. rw c.in-Lent.is refl)

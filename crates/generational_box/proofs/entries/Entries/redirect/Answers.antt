@@ -25,7 +25,7 @@ invariant_of-self g c =
     ≡ content.Reference c.args.target e.generation)) (slot_seen s c.args.target t.0 t.1)
     c.reference_to.ensures in (
       indexed_free (set_written _ c.args.slot _ _ there) s.indexed
-          (set_no_shorter _ c.args.slot _) (rw (there, old.2) refl) (rw new refl) (rw new tt),
+          (set_no_shorter _ c.args.slot _) (rw (there, old.2) refl) (rw new refl),
       c.self.invariant.1 ∙ sym (length-set c.self.inside.entries.items c.args.slot _),
       roomy_still c.self.invariant.2 (length-set c.self.inside.entries.items c.args.slot _) refl,
     )

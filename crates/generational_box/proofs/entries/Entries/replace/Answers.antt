@@ -35,7 +35,7 @@ invariant_of-self g c =
     ≡ slot.Data c.in-Data.field-0 c.in-Data.field-1 c.in-Data.kept = sym a.2 ∙ c.in-Data.is in
     let none : c.in-Data.field-1 ≡ no_index = cc in (
       indexed_free (set_written _ c.args.slot _ _ there) s.indexed
-          (set_no_shorter _ c.args.slot _) (rw (there, a.2) refl) none tt,
+          (set_no_shorter _ c.args.slot _) (rw (there, a.2) refl) none,
       c.self.invariant.1 ∙ sym (length-set c.self.inside.entries.items c.args.slot _),
       roomy_still c.self.invariant.2 (length-set c.self.inside.entries.items c.args.slot _) refl,
     )

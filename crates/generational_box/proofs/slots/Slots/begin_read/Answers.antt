@@ -1,4 +1,4 @@
-use Rattle.std.proofs.Common.{◌≡◌, ◌∙◌, ap, is_some, true}
+use Rattle.std.proofs.Common.{◌≡◌, ◌∙◌, ap, is_some, true, None, refl}
 use Rattle.generational_box.specs.Borrows.{AreBelow}
 use Rattle.generational_box.specs.Entry.{one_read, readers_of}
 use Rattle.generational_box.proofs.Common.{name_of_cell, state_of, write_refusal}
@@ -6,6 +6,7 @@ use Rattle.generational_box.proofs.states.Entries.{ok_then, err_from}
 use Rattle.generational_box.proofs.states.Changes.{either, filled_in, heard_in, held_in}
 use Rattle.generational_box.proofs.states.Changes.{held_within, referred_changed, seen_in}
 use Rattle.generational_box.proofs.states.Changes.{slotted_changed, state_is}
+use Rattle.generational_box.proofs.states.Latest.{unrefused}
 use Rattle.generational_box.proofs.slots.Slots.begin_read.Goals as goal
 
 pub begin_read-requires-clause-within : goal.begin_read-requires-clause-within
@@ -44,7 +45,7 @@ returns-clause-ok g c =
 pub returns-clause-err : goal.returns-clause-err
 returns-clause-err g c =
     err_from c.begin_read.result
-    (λ e. ap (λ x. state_of c.self.inside.start c.self.inside.peak x.slots) e
+    (λ e. ap (λ x. state_of c.self.inside.start c.self.inside.counts.peak x.slots) e
     ∙ state_is c.self.view_is) c.begin_read.ensures.err
 
 pub returns-clause-beside : goal.returns-clause-beside
@@ -54,3 +55,11 @@ returns-clause-beside g c =
     let f = held_in view n c.requires.there in
     err_from c.begin_read.result (λ h. seen_in view n f (λ o. is_some (write_refusal o))
     (λ b. b ≡ true) h) c.begin_read.ensures.beside
+
+pub begin_read-requires-clause-alone : goal.begin_read-requires-clause-alone
+begin_read-requires-clause-alone g c alone =
+    let view = state_is c.self.view_is in
+    let n = name_of_cell c.args.name in
+    let f = held_in view n c.requires.there in
+    let free = heard_in view n f write_refusal (λ t. t ≡ None) (c.requires.alone alone) in
+    rw f.there (refl, unrefused f.content (rw f.there at free))

@@ -1,4 +1,4 @@
-use Rattle.std.proofs.Common.{◌≡◌, true, Some, []}
+use Rattle.std.proofs.Common.{◌≡◌, true, Some, [], refl}
 use Rattle.generational_box.specs.Entry.{has_no_borrow}
 use Rattle.generational_box.proofs.Common.{name_of_cell, Here, Lent}
 use Rattle.generational_box.proofs.states.Changes.{heard_in, held_in, held_within}
@@ -6,17 +6,13 @@ use Rattle.generational_box.proofs.states.Changes.{referred_changed, seen_in, sl
 use Rattle.generational_box.proofs.states.Changes.{state_changed, state_is, unborrowed_there}
 use Rattle.generational_box.proofs.slots.Slots.begin_write.Goals as goal
 
-pub begin_write-requires-clause-within : goal.begin_write-requires-clause-within
-begin_write-requires-clause-within g c =
-    held_within (held_in (state_is c.self.view_is) (name_of_cell c.args.name)
-    (unborrowed_there _ c.requires))
-
-pub begin_write-requires-clause-free : goal.begin_write-requires-clause-free
-begin_write-requires-clause-free g c =
+pub begin_write-requires : goal.begin_write-requires
+begin_write-requires g c =
     let view = state_is c.self.view_is in
     let n = name_of_cell c.args.name in
-    heard_in view n (held_in view n (unborrowed_there _ c.requires)) has_no_borrow (λ b. b ≡ true)
-    c.requires
+    let f = held_in view n (unborrowed_there _ c.requires) in
+    let free = heard_in view n f has_no_borrow (λ b. b ≡ true) c.requires in
+    record { free = rw f.there (refl, rw f.there at free) }
 
 pub invariant_of-self : goal.invariant_of-self
 invariant_of-self g c =
@@ -42,4 +38,4 @@ returns-clause-after g c =
     let n = name_of_cell c.args.name in
     let f = held_in view n (unborrowed_there _ c.requires) in
     rw (c.begin_write.ensures.after, ← view)
-    (state_changed f (λ d. Lent c.args.writer) c.self.inside.start c.self.inside.peak)
+    (state_changed f (λ d. Lent c.args.writer) c.self.inside.start c.self.inside.counts.peak)

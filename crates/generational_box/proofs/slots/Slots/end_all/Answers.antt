@@ -23,7 +23,7 @@ returns-in-Err-clause-found g c =
 
 pub loop-name-init : goal.loop-name-init
 loop-name-init g c =
-    let same = ap (λ e. state_of c.self.inside.start c.self.inside.peak e.slots)
+    let same = ap (λ e. state_of c.self.inside.start c.self.inside.counts.peak e.slots)
     c.find_hindrance.ensures.same ∙ state_is c.self.view_is in (
       subst (λ X. IsLinked X.cells) (sym same) c.requires.linked,
       ap (λ X. close X (list_map name_of_cell c.args.names.now)) same,

@@ -63,8 +63,8 @@ refer-requires-clause-few g c =
     (rw (c.target-target.ensures, c.push.ensures.pushed)
     (made_few d l w dead inv.2 targets fresh there))
 
-pub count_one-requires : goal.count_one-requires
-count_one-requires g c =
+pub add_one-requires : goal.add_one-requires
+add_one-requires g c =
     let inv = c.self.invariant in
     let few = inv.0.few in let bounded = inv.0.bounded in
     omega (arith, c.push.ensures.few)
@@ -87,7 +87,7 @@ invariant_of-self g c =
     let empty = free_seen inv.0 view in
     let spare = ap (λ x. x.spare) c.self.view_is in
     let room = inv.0.roomy in
-    let one = c.count_one.ensures in
+    let one = c.add_one.ensures in
     rw (c.refer.ensures.slots, c.push.ensures.pushed, c.target-target.ensures, one.peak, one.usable) (
       more_slotted _ (target_of d) (slotted_pushed inv.0 (kept_data [] l d) cell.0 cell.1 none _
           (omega (arith, c.requires.room, c.requires.none))),
@@ -104,7 +104,7 @@ returns-clause-ok g c =
     let l = c.args.created_at in
     let slots = c.self.inside.entries.slots in
     let cell = unborrowed_cell d l c.requires.unborrowed in
-    let one = c.count_one.ensures in
+    let one = c.add_one.ensures in
     let spare = ap (λ x. x.spare) c.self.view_is in
     let more = ap length c.refer.ensures.slots ∙ (more_length c.push.new.self.slots _
     ∙ (ap length c.push.ensures.pushed ∙ length-append slots _)) in (
@@ -114,7 +114,6 @@ returns-clause-ok g c =
           c.refer.ensures.slots,
           c.push.ensures.pushed,
           one.peak,
-          one.usable,
           c.len.ensures,
           ← view,
         ) (more_state _ _ _ _ ∙ state_pushed inv.0 (kept_data [] l d) cell.0 cell.1 none));

@@ -6,17 +6,17 @@ use Rattle.generational_box.proofs.slots.Slots.new.Goals as goal
 
 pub invariant_of-result : goal.invariant_of-result
 invariant_of-result g c =
-    let none = ap (λ s. s.slots) c.new.ensures in (
-      slotted_new _ _ c.args.start _ c.new-2.ensures.empty none,
-      omega (arith, c.new-2.ensures.rooms),
+    let none = ap (λ s. s.slots) c.new-2.ensures in (
+      rw c.new.ensures (slotted_new _ _ c.args.start _ c.new-3.ensures.empty none),
+      omega (arith, c.new-3.ensures.rooms),
       rw none (record { each = λ k. tt }),
     )
 
 pub returns-clause-state : goal.returns-clause-state
-returns-clause-state g c = new_state c.args.start _ (ap (λ s. s.slots) c.new.ensures)
+returns-clause-state g c = rw c.new.ensures (new_state c.args.start _ (ap (λ s. s.slots) c.new-2.ensures))
 
 pub returns-clause-spare : goal.returns-clause-spare
 returns-clause-spare g c =
-    let none : length c.new.result.slots ≡ 0 = ap (λ s. length s.slots) c.new.ensures in
-    let empty = ap set.len c.new-2.ensures.empty ∙ set.len-empty nat_cmp in
-    omega (arith, c.new-2.ensures.rooms)
+    let none : length c.new-2.result.slots ≡ 0 = ap (λ s. length s.slots) c.new-2.ensures in
+    let empty = ap set.len c.new-3.ensures.empty ∙ set.len-empty nat_cmp in
+    omega (arith, c.new-3.ensures.rooms)

@@ -38,13 +38,13 @@ returns-clause-ok g c =
     let n = name_of_cell c.args.name in
     let f = held_in view n c.requires in
     ok_then c.release_write.result (λ e.
-    ap (state_of c.self.inside.start c.self.inside.peak) e
-    ∙ (state_changed f (λ d. Here c.args.value []) c.self.inside.start c.self.inside.peak
+    ap (state_of c.self.inside.start c.self.inside.counts.peak) e
+    ∙ (state_changed f (λ d. Here c.args.value []) c.self.inside.start c.self.inside.counts.peak
     ∙ ap (λ S. fill S n (Here c.args.value [])) view))
     c.release_write.ensures.ok
 
 pub returns-clause-err : goal.returns-clause-err
 returns-clause-err g c =
     back_then c.args.value c.release_write.result
-    (λ e. ap (λ x. state_of c.self.inside.start c.self.inside.peak x.slots) e
+    (λ e. ap (λ x. state_of c.self.inside.start c.self.inside.counts.peak x.slots) e
     ∙ state_is c.self.view_is) c.release_write.ensures.err

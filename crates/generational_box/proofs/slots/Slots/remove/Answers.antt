@@ -28,7 +28,7 @@ end-requires g c =
     let n = name_of_cell c.args.name in
     let slots = c.self.inside.entries.slots in
     let o = shared_target slots (target_in (cell_at slots n)) in
-    let same = less_state slots o c.self.inside.start c.self.inside.peak
+    let same = less_state slots o c.self.inside.start c.self.inside.counts.peak
     ∙ state_is c.self.view_is in
     let f = found (count_less slots o) n (ap (λ S. is_some (map.get S.cells n)) same ∙ c.requires.there)
     in
@@ -38,13 +38,13 @@ end-requires g c =
     ∙ ap (λ t. count_less slots (shared_target slots t)) told in
     rw after (found_within f)
 
-pub overflow_sub-self : goal.overflow_sub-self
-overflow_sub-self g c =
+pub retire_one-requires : goal.retire_one-requires
+retire_one-requires g c =
     let inv = c.self.invariant in
     let n = name_of_cell c.args.name in
     let slots = c.self.inside.entries.slots in
     let o = shared_target slots (target_in (cell_at slots n)) in
-    let same = less_state slots o c.self.inside.start c.self.inside.peak
+    let same = less_state slots o c.self.inside.start c.self.inside.counts.peak
     ∙ state_is c.self.view_is in
     let f = found (count_less slots o) n (ap (λ S. is_some (map.get S.cells n)) same ∙ c.requires.there)
     in
@@ -56,7 +56,7 @@ put-requires-clause-room g c =
     let n = name_of_cell c.args.name in
     let slots = c.self.inside.entries.slots in
     let o = shared_target slots (target_in (cell_at slots n)) in
-    let same = less_state slots o c.self.inside.start c.self.inside.peak
+    let same = less_state slots o c.self.inside.start c.self.inside.counts.peak
     ∙ state_is c.self.view_is in
     let f = found (count_less slots o) n (ap (λ S. is_some (map.get S.cells n)) same ∙ c.requires.there)
     in
@@ -69,7 +69,7 @@ put-requires-clause-absent g c =
     let n = name_of_cell c.args.name in
     let slots = c.self.inside.entries.slots in
     let o = shared_target slots (target_in (cell_at slots n)) in
-    let same = less_state slots o c.self.inside.start c.self.inside.peak
+    let same = less_state slots o c.self.inside.start c.self.inside.counts.peak
     ∙ state_is c.self.view_is in
     let f = found (count_less slots o) n (ap (λ S. is_some (map.get S.cells n)) same ∙ c.requires.there)
     in
@@ -81,7 +81,7 @@ invariant_of-self g c =
     let n = name_of_cell c.args.name in
     let slots = c.self.inside.entries.slots in
     let o = shared_target slots (target_in (cell_at slots n)) in
-    let same = less_state slots o c.self.inside.start c.self.inside.peak
+    let same = less_state slots o c.self.inside.start c.self.inside.counts.peak
     ∙ state_is c.self.view_is in
     let f = found (count_less slots o) n (ap (λ S. is_some (map.get S.cells n)) same ∙ c.requires.there)
     in
@@ -91,7 +91,7 @@ invariant_of-self g c =
     ∙ ap (λ t. count_less slots (shared_target slots t)) told in
     let own : cell_at (count_less slots o) n ≡ cell_at slots n =
     sym (get_cells (count_less slots o) n) ∙ (ap (λ S. map.get S.cells n)
-    (less_state slots o c.self.inside.start c.self.inside.peak) ∙ get_cells slots n) in
+    (less_state slots o c.self.inside.start c.self.inside.counts.peak) ∙ get_cells slots n) in
     let r = subst (λ x. AreReferred (λ q. bit (refers_to q x)) (count_less slots o)) (sym own)
     (referred_forgotten slots inv.2 n) in
     rw (c.end.ensures.slots, after, c.put.ensures.added, c.put.ensures.rooms) (
@@ -107,7 +107,7 @@ invariant_of-self-else-name-lt18446744073709551615 g c =
     let n = name_of_cell c.args.name in
     let slots = c.self.inside.entries.slots in
     let o = shared_target slots (target_in (cell_at slots n)) in
-    let same = less_state slots o c.self.inside.start c.self.inside.peak
+    let same = less_state slots o c.self.inside.start c.self.inside.counts.peak
     ∙ state_is c.self.view_is in
     let f = found (count_less slots o) n (ap (λ S. is_some (map.get S.cells n)) same ∙ c.requires.there)
     in
@@ -117,10 +117,10 @@ invariant_of-self-else-name-lt18446744073709551615 g c =
     ∙ ap (λ t. count_less slots (shared_target slots t)) told in
     let own : cell_at (count_less slots o) n ≡ cell_at slots n =
     sym (get_cells (count_less slots o) n) ∙ (ap (λ S. map.get S.cells n)
-    (less_state slots o c.self.inside.start c.self.inside.peak) ∙ get_cells slots n) in
+    (less_state slots o c.self.inside.start c.self.inside.counts.peak) ∙ get_cells slots n) in
     let r = subst (λ x. AreReferred (λ q. bit (refers_to q x)) (count_less slots o)) (sym own)
     (referred_forgotten slots inv.2 n) in
-    rw (c.end.ensures.slots, after) (
+    rw (c.end.ensures.slots, after, c.retire_one.ensures.peak, c.retire_one.ensures.usable) (
       slotted_retired f (less_slotted slots o inv.0) (omega arith),
       rw (c.end.ensures.rooms, c.forget.ensures.rooms) inv.1,
       referred_ended f r,
@@ -132,7 +132,7 @@ returns-then-name-lt18446744073709551615 g c =
     let n = name_of_cell c.args.name in
     let slots = c.self.inside.entries.slots in
     let o = shared_target slots (target_in (cell_at slots n)) in
-    let same = less_state slots o c.self.inside.start c.self.inside.peak
+    let same = less_state slots o c.self.inside.start c.self.inside.counts.peak
     ∙ state_is c.self.view_is in
     let f = found (count_less slots o) n (ap (λ S. is_some (map.get S.cells n)) same ∙ c.requires.there)
     in
@@ -141,7 +141,7 @@ returns-then-name-lt18446744073709551615 g c =
     let after = c.forget.ensures.slots
     ∙ ap (λ t. count_less slots (shared_target slots t)) told in
     rw (c.end.ensures.slots, after)
-    (state_ended f c.self.inside.start c.self.inside.peak
+    (state_ended f c.self.inside.start c.self.inside.counts.peak
     ∙ ap (λ (S : State _). record S { cells = map.remove S.cells n }) same)
 
 pub returns-else-name-lt18446744073709551615 : goal.returns-else-name-lt18446744073709551615
@@ -150,7 +150,7 @@ returns-else-name-lt18446744073709551615 g c =
     let n = name_of_cell c.args.name in
     let slots = c.self.inside.entries.slots in
     let o = shared_target slots (target_in (cell_at slots n)) in
-    let same = less_state slots o c.self.inside.start c.self.inside.peak
+    let same = less_state slots o c.self.inside.start c.self.inside.counts.peak
     ∙ state_is c.self.view_is in
     let f = found (count_less slots o) n (ap (λ S. is_some (map.get S.cells n)) same ∙ c.requires.there)
     in
@@ -158,6 +158,6 @@ returns-else-name-lt18446744073709551615 g c =
     ∙ ap target_in (sym (cell_seen slots (state_is c.self.view_is) n)) in
     let after = c.forget.ensures.slots
     ∙ ap (λ t. count_less slots (shared_target slots t)) told in
-    rw (c.end.ensures.slots, after)
-    (state_ended f c.self.inside.start c.self.inside.peak
+    rw (c.end.ensures.slots, after, c.retire_one.ensures.peak)
+    (state_ended f c.self.inside.start c.self.inside.counts.peak
     ∙ ap (λ (S : State _). record S { cells = map.remove S.cells n }) same)

@@ -42,4 +42,4 @@ returns-clause-after g c =
     let n = name_of_cell c.args.name in
     let f = held_in view n (unborrowed_there _ c.requires) in
     rw (c.replace.ensures.after, ← view)
-    (state_changed f (λ d. Here c.args.value []) c.self.inside.start c.self.inside.peak)
+    (state_changed f (λ d. Here c.args.value []) c.self.inside.start c.self.inside.counts.peak)

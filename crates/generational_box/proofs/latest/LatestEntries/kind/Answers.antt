@@ -1,0 +1,13 @@
+use Rattle.std.proofs.Common.{refl, sym, ap, ◌∙◌}
+use Rattle.generational_box.specs.Entry.{kind_in, name_of_cell}
+use Rattle.generational_box.specs.Slotted.{cell_at}
+use Rattle.generational_box.specs.Entries.{EntryList}
+use Rattle.generational_box.proofs.states.Latest.{cells_keep, kind_same}
+use Rattle.generational_box.proofs.latest.LatestEntries.kind.Goals as goal
+
+pub returns : goal.returns
+returns g c =
+    c.kind.ensures
+    ∙ (sym (cells_keep kind_in kind_same c.self.inside.last c.self.inside.settled.slots
+    (name_of_cell c.args.name))
+    ∙ ap (λ (x : EntryList _). kind_in (cell_at x.slots (name_of_cell c.args.name))) c.self.view_is)

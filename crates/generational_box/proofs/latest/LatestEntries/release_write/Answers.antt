@@ -1,0 +1,20 @@
+use Rattle.std.proofs.Common.{refl, sym, ap, ◌∙◌}
+use Rattle.generational_box.specs.Entry.{with_value}
+use Rattle.generational_box.specs.Entries.{EntryList}
+use Rattle.generational_box.specs.Latest.{noted}
+use Rattle.generational_box.specs.Slotted.{change_entry}
+use Rattle.generational_box.proofs.states.Latest.{unwritten}
+use Rattle.generational_box.proofs.latest.LatestEntries.release_write.Goals as goal
+
+pub returns-then-self-ticket-clause-ok : goal.returns-then-self-ticket-clause-ok
+returns-then-self-ticket-clause-ok g c =
+    let last = c.self.inside.last in
+    c.put_back.ensures.slots
+    ∙ (ap (λ i. change_entry c.self.inside.settled.slots i
+    (λ e. record e { kept = with_value c.args.value e.kept })) (sym c.if-self-slot.true)
+    ∙ (unwritten last c.self.inside.settled.slots c.args.value
+    (sym c.is_writer.ensures ∙ c.if-is_writer.true)
+    ∙ (ap (λ i. change_entry (noted last c.self.inside.settled.slots) i (λ e. record e { kept = with_value c.args.value e.kept }))
+    c.if-self-slot.true
+    ∙ ap (λ (x : EntryList _). change_entry x.slots c.args.slot
+    (λ e. record e { kept = with_value c.args.value e.kept })) c.self.view_is)))

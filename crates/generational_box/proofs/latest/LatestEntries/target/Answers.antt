@@ -1,0 +1,14 @@
+use Rattle.std.proofs.Common.{refl, sym, ap, ◌∙◌}
+use Rattle.generational_box.specs.Entry.{target_in, name_of_cell}
+use Rattle.generational_box.specs.Slotted.{cell_at}
+use Rattle.generational_box.specs.Entries.{EntryList}
+use Rattle.generational_box.proofs.states.Latest.{cells_keep, target_same}
+use Rattle.generational_box.proofs.latest.LatestEntries.target.Goals as goal
+
+pub returns : goal.returns
+returns g c =
+    c.target.ensures
+    ∙ (sym (cells_keep target_in target_same c.self.inside.last c.self.inside.settled.slots
+    (name_of_cell c.args.name))
+    ∙ ap (λ (x : EntryList _). target_in (cell_at x.slots (name_of_cell c.args.name)))
+    c.self.view_is)

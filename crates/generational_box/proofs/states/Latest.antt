@@ -1,0 +1,689 @@
+-- The slots with the read that began last.
+use Rattle.std.proofs.Common.{◌≡◌, ℕ, Bool, true, false, List, [], ◌∷◌, Option, None, Some, refl}
+use Rattle.std.proofs.Common.{sym, ap, ◌∙◌, slice_get, nat_eq, zero, suc, slice_set, IfSome, not}
+use Rattle.std.proofs.Common.{is_none, option_copied, cond, if◌then◌else◌}
+use Rattle.std.proofs.lemmas.Bool.{eqb-true, eq-eqb, false≢true, ne_eqb}
+use Rattle.std.proofs.Common.{is_some}
+use Rattle.generational_core.specs.Machine.{has_reader}
+use Rattle.generational_core.specs.Cells.{content_of}
+use Rattle.generational_core.specs.Cells.Cell.{Value, Shared, Ref}
+use Rattle.generational_box.specs.Entry.{value_for}
+use Rattle.generational_core.specs.declared.borrow.Borrow.{Borrow}
+use Rattle.generational_core.specs.Borrowing.{write_refusal}
+use Rattle.generational_core.specs.Cells.{Content, Cell}
+use Rattle.generational_core.specs.Cells.Content.{Here, Lent}
+use Rattle.generational_box.specs.declared.entry.Kind.TheVariants as kind
+use Rattle.generational_box.specs.declared.latest.LastBorrow.{LastBorrow}
+use Rattle.generational_box.specs.Entry.{Entry, Kept, cell_of, content_in, has_no_borrow, with_reader}
+use Rattle.generational_box.specs.Entry.{without_reader_in, kind_in, target_in}
+use Rattle.generational_core.specs.Borrowing.{leads_to}
+use Rattle.generational_box.specs.Entry.Kept.{Empty, Live, Refers}
+use Rattle.generational_box.specs.Latest.{noted, HasApart, IsAlone, IsNoted, is_apart, is_reader}
+use Rattle.generational_box.specs.Latest.{is_writer, joined, may_join}
+use Rattle.generational_box.specs.declared.latest.Standing.{Standing}
+use Rattle.generational_box.specs.declared.latest.Standing.TheVariants as standing
+use Rattle.generational_box.specs.Entries.{nobody, taken}
+use Rattle.generational_box.specs.Entry.{is_lent, lend_to, referring, with_content, with_value}
+use Rattle.std.proofs.Common.{◌++◌}
+use Rattle.generational_core.specs.Borrowing.Trouble.{BeingWritten}
+use Rattle.generational_core.specs.declared.error.BorrowMutError.TheVariants as writes
+use Rattle.generational_box.specs.Slotted.{cell_at, cell_in, change_entry, change_entry_if}
+use Rattle.generational_box.proofs.lists.Lists.{set_written, set-own}
+use Rattle.generational_core.specs.Names.{Name}
+use Rattle.std.proofs.Common.{subst, Err}
+use Rattle.std.proofs.lemmas.Option.{none-some}
+use Rattle.generational_core.specs.declared.error.BorrowMutError.{BorrowMutError}
+use Rattle.generational_core.specs.declared.error.Refused.{Refused}
+use Rattle.generational_core.specs.declared.error.Refused.TheVariants as refused
+use Rattle.generational_core.specs.declared.error.StoreError.TheVariants.{OutOfMemory}
+use Rattle.generational_core.specs.declared.error.StoreError.TheVariants.{NumbersExhausted}
+use Rattle.generational_core.specs.declared.error.StoreError.TheVariants.{UnknownOwner}
+use Rattle.generational_box.specs.Entry.{FoundBorrowed, FoundReaders}
+
+set_twice : {A : Type 0} (xs : List A) (i : ℕ) (x y : A)
+    → slice_set (slice_set xs i x) i y ≡ slice_set xs i y
+set_twice [] i x y = refl
+set_twice (z ∷ zs) zero x y = refl
+set_twice (z ∷ zs) (suc i) x y = ap (λ rest. z ∷ rest) (set_twice zs i x y)
+
+same_number : (n : ℕ) → nat_eq n n ≡ true
+same_number n = eq-eqb n n refl
+
+-- ---- a slot that changes
+
+module _ {T : Type 0} where
+  pub change_own : (slots : List (Entry T)) (i : ℕ) (f : Entry T → Entry T) {e : Entry T}
+      → slice_get slots i ≡ Some e → slice_get (change_entry slots i f) i ≡ Some (f e)
+  change_own slots i f {e} there =
+      rw there ((set_written slots i (f e) e there).at i
+      ∙ ap (λ b. cond b (Some (f e)) (slice_get slots i)) (same_number i))
+
+  -- what holds of the slot that changed
+  pub change_here : (slots : List (Entry T)) (i : ℕ) (f : Entry T → Entry T)
+      (P : Entry T → Type 0) → IfSome (slice_get slots i) (λ e. P (f e))
+      → IfSome (slice_get (change_entry slots i f) i) P
+  change_here slots i f P h = at (slice_get slots i) refl h
+    where
+      at : (o : Option (Entry T)) → slice_get slots i ≡ o → IfSome o (λ e. P (f e))
+          → IfSome (slice_get (change_entry slots i f) i) P
+      at None empty h = rw (ap (change_entry_if slots i f) empty) (rw empty h)
+      at (Some e) there h = subst (λ o. IfSome o P) (sym (change_own slots i f there)) h
+
+  -- the others are as they were
+  pub change_away : (slots : List (Entry T)) (i k : ℕ) (f : Entry T → Entry T) → (i ≡ k → ⊥)
+      → slice_get (change_entry slots i f) k ≡ slice_get slots k
+  change_away slots i k f away = at (slice_get slots i) refl
+    where
+      here : (e : Entry T) → (b : Bool) → nat_eq k i ≡ b
+          → cond b (Some (f e)) (slice_get slots k) ≡ slice_get slots k
+      here e true at = absurd (away (sym (eqb-true k i at)))
+      here e false at = refl
+
+      at : (o : Option (Entry T)) → slice_get slots i ≡ o
+          → slice_get (change_entry_if slots i f o) k ≡ slice_get slots k
+      at None empty = refl
+      at (Some e) found = (set_written slots i (f e) e found).at k ∙ here e (nat_eq k i) refl
+
+  -- two changes are one
+  pub change_twice : (slots : List (Entry T)) (i : ℕ) (f h : Entry T → Entry T)
+      → change_entry (change_entry slots i f) i h ≡ change_entry slots i (λ e. h (f e))
+  change_twice slots i f h = at (slice_get slots i) refl
+    where
+      at : (o : Option (Entry T)) → slice_get slots i ≡ o
+          → change_entry (change_entry_if slots i f o) i h
+          ≡ change_entry_if slots i (λ e. h (f e)) o
+      at None empty = ap (change_entry_if slots i h) empty
+      at (Some e) there =
+          ap (change_entry_if (slice_set slots i (f e)) i h)
+          ((set_written slots i (f e) e there).at i
+          ∙ ap (λ b. cond b (Some (f e)) (slice_get slots i)) (same_number i))
+          ∙ set_twice slots i (f e) (h (f e))
+
+  -- changes that do the same there
+  pub change_alike : (slots : List (Entry T)) (i : ℕ) (f h : Entry T → Entry T)
+      → IfSome (slice_get slots i) (λ e. f e ≡ h e)
+      → change_entry slots i f ≡ change_entry slots i h
+  change_alike slots i f h same = at (slice_get slots i) same
+    where
+      at : (o : Option (Entry T)) → IfSome o (λ e. f e ≡ h e)
+          → change_entry_if slots i f o ≡ change_entry_if slots i h o
+      at None same = refl
+      at (Some e) same = ap (slice_set slots i) same
+
+  -- a change that does nothing there
+  pub change_none : (slots : List (Entry T)) (i : ℕ) (f : Entry T → Entry T)
+      → IfSome (slice_get slots i) (λ e. f e ≡ e) → change_entry slots i f ≡ slots
+  change_none slots i f same = at (slice_get slots i) refl same
+    where
+      at : (o : Option (Entry T)) → slice_get slots i ≡ o → IfSome o (λ e. f e ≡ e)
+          → change_entry_if slots i f o ≡ slots
+      at None empty same = refl
+      at (Some e) there same = ap (slice_set slots i) same ∙ set-own slots i e there
+
+set_apart : {A : Type 0} (xs : List A) (i j : ℕ) (x y : A) → (i ≡ j → ⊥)
+    → slice_set (slice_set xs i x) j y ≡ slice_set (slice_set xs j y) i x
+set_apart [] i j x y other = refl
+set_apart (z ∷ zs) zero zero x y other = absurd (other refl)
+set_apart (z ∷ zs) zero (suc j) x y other = refl
+set_apart (z ∷ zs) (suc i) zero x y other = refl
+set_apart (z ∷ zs) (suc i) (suc j) x y other =
+    ap (λ rest. z ∷ rest) (set_apart zs i j x y (λ e. other (ap suc e)))
+
+get_left : {A : Type 0} (xs ys : List A) (i : ℕ) (e : A) → slice_get xs i ≡ Some e
+    → slice_get (xs ++ ys) i ≡ Some e
+get_left [] ys i e there = absurd (none-some e there)
+get_left (x ∷ xs) ys zero e there = there
+get_left (x ∷ xs) ys (suc i) e there = get_left xs ys i e there
+
+set_left : {A : Type 0} (xs ys : List A) (i : ℕ) (e y : A) → slice_get xs i ≡ Some e
+    → slice_set (xs ++ ys) i y ≡ slice_set xs i y ++ ys
+set_left [] ys i e y there = absurd (none-some e there)
+set_left (x ∷ xs) ys zero e y there = refl
+set_left (x ∷ xs) ys (suc i) e y there = ap (λ rest. x ∷ rest) (set_left xs ys i e y there)
+
+get_other : {A : Type 0} (xs : List A) (i j : ℕ) (x : A) → (i ≡ j → ⊥)
+    → slice_get (slice_set xs i x) j ≡ slice_get xs j
+get_other [] i j x other = refl
+get_other (z ∷ zs) zero zero x other = absurd (other refl)
+get_other (z ∷ zs) zero (suc j) x other = refl
+get_other (z ∷ zs) (suc i) zero x other = refl
+get_other (z ∷ zs) (suc i) (suc j) x other = get_other zs i j x (λ e. other (ap suc e))
+
+module _ {T : Type 0} where
+  away : (slots : List (Entry T)) (i k : ℕ) (x e : Entry T) → slice_get slots i ≡ Some e
+      → (i ≡ k → ⊥) → slice_get (slice_set slots i x) k ≡ slice_get slots k
+  away slots i k x e there other = (set_written slots i x e there).at k ∙ by (nat_eq k i) refl
+    where
+      by : (b : Bool) → nat_eq k i ≡ b → cond b (Some x) (slice_get slots k) ≡ slice_get slots k
+      by true same = absurd (other (sym (eqb-true k i same)))
+      by false differ = refl
+
+  -- changes of two slots
+  pub change_apart : (slots : List (Entry T)) (i j : ℕ) (f h : Entry T → Entry T) → (i ≡ j → ⊥)
+      → change_entry (change_entry slots i f) j h ≡ change_entry (change_entry slots j h) i f
+  change_apart slots i j f h other = at (slice_get slots i) (slice_get slots j) refl refl
+    where
+      at : (o p : Option (Entry T)) → slice_get slots i ≡ o → slice_get slots j ≡ p
+          → change_entry (change_entry_if slots i f o) j h
+          ≡ change_entry (change_entry_if slots j h p) i f
+      at None None here there =
+          ap (change_entry_if slots j h) there ∙ sym (ap (change_entry_if slots i f) here)
+      at None (Some d) here there =
+          ap (change_entry_if slots j h) there
+          ∙ sym (ap (change_entry_if (slice_set slots j (h d)) i f)
+          (away slots j i (h d) d there (λ e. other (sym e)) ∙ here))
+      at (Some e) None here there =
+          ap (change_entry_if (slice_set slots i (f e)) j h)
+          (away slots i j (f e) e here other ∙ there)
+          ∙ sym (ap (change_entry_if slots i f) here)
+      at (Some e) (Some d) here there =
+          ap (change_entry_if (slice_set slots i (f e)) j h)
+          (away slots i j (f e) e here other ∙ there)
+          ∙ (set_apart slots i j (f e) (h d) other
+          ∙ sym (ap (change_entry_if (slice_set slots j (h d)) i f)
+          (away slots j i (h d) d there (λ e. other (sym e)) ∙ here)))
+
+  -- changes that don't mind each other
+  pub change_order : (slots : List (Entry T)) (i j : ℕ) (f h : Entry T → Entry T)
+      → ((e : Entry T) → f (h e) ≡ h (f e))
+      → change_entry (change_entry slots i f) j h ≡ change_entry (change_entry slots j h) i f
+  change_order slots i j f h same = by (nat_eq i j) refl
+    where
+      all : (o : Option (Entry T)) → IfSome o (λ e. h (f e) ≡ f (h e))
+      all None = tt
+      all (Some e) = sym (same e)
+
+      by : (b : Bool) → nat_eq i j ≡ b
+          → change_entry (change_entry slots i f) j h ≡ change_entry (change_entry slots j h) i f
+      by true own =
+          let one : i ≡ j = eqb-true i j own in
+          rw (← one) (change_twice slots i f h
+          ∙ (change_alike slots i (λ e. h (f e)) (λ e. f (h e)) (all (slice_get slots i))
+          ∙ sym (change_twice slots i h f)))
+      by false differ =
+          change_apart slots i j f h (λ e. false≢true (sym differ ∙ eq-eqb i j e))
+
+-- ---- which borrow stands apart
+
+pub reader_is : (s : Standing) → is_reader s ≡ true → s ≡ standing.Reader
+reader_is standing.Nobody is = absurd (false≢true is)
+reader_is standing.Reader is = refl
+reader_is standing.Writer is = absurd (false≢true is)
+
+pub writer_is : (s : Standing) → is_writer s ≡ true → s ≡ standing.Writer
+writer_is standing.Nobody is = absurd (false≢true is)
+writer_is standing.Reader is = absurd (false≢true is)
+writer_is standing.Writer is = refl
+
+-- one that isn't a writer is a reader
+pub other_is : (s : Standing) → is_apart s ≡ true → is_writer s ≡ false → s ≡ standing.Reader
+other_is standing.Nobody apart is = absurd (false≢true apart)
+other_is standing.Reader apart is = refl
+other_is standing.Writer apart is = absurd (false≢true (sym is))
+
+module _ {T : Type 0} where
+  -- the slot with the borrow that stands apart
+  abbrev pub joining : LastBorrow → Entry T → Entry T
+  joining r e = record e { kept = with_content (joined r.standing r.borrow) e.kept }
+
+  -- the cell there may have it
+  pub apart_there : (r : LastBorrow) (slots : List (Entry T)) → IsNoted r slots
+      → is_apart r.standing ≡ true
+      → IfSome (slice_get slots r.slot) (λ e. may_join r.standing (content_in e.kept) ≡ true)
+  apart_there r slots noted is = at (slice_get slots r.slot) (noted is)
+    where
+      at : (o : Option (Entry T)) → HasApart r o
+          → IfSome o (λ e. may_join r.standing (content_in e.kept) ≡ true)
+      at None h = absurd h
+      at (Some e) h = h.1
+
+  -- what no borrow changes is the same with the one that stands apart
+  pub noted_keeps : {A : Type 0} (F : Option (Entry T) → A) (r : LastBorrow)
+      (slots : List (Entry T)) (k : ℕ)
+      → ((e : Entry T) → F (Some (joining r e)) ≡ F (Some e))
+      → F (slice_get (noted r slots) k) ≡ F (slice_get slots k)
+  noted_keeps F r slots k same = by (is_apart r.standing)
+    where
+      here : (e : Entry T) → slice_get slots r.slot ≡ Some e → (b : Bool) → nat_eq k r.slot ≡ b
+          → F (cond b (Some (joining r e)) (slice_get slots k)) ≡ F (slice_get slots k)
+      here e there true at =
+          same e ∙ sym (ap F (ap (slice_get slots) (eqb-true k r.slot at) ∙ there))
+      here e there false at = refl
+
+      there : (o : Option (Entry T)) → slice_get slots r.slot ≡ o
+          → F (slice_get (change_entry_if slots r.slot (joining r) o) k) ≡ F (slice_get slots k)
+      there None empty = refl
+      there (Some e) is =
+          ap F ((set_written slots r.slot (joining r e) e is).at k)
+          ∙ here e is (nat_eq k r.slot) refl
+
+      by : (b : Bool) → F (slice_get (if b then change_entry slots r.slot (joining r)
+          else slots) k) ≡ F (slice_get slots k)
+      by true = there (slice_get slots r.slot) refl
+      by false = refl
+
+  pub cells_keep : {A : Type 0} (G : Option (Cell T) → A)
+      → ((f : Content T → Content T) (k : Kept T) → G (cell_of (with_content f k)) ≡ G (cell_of k))
+      → (r : LastBorrow) (slots : List (Entry T)) (n : Name)
+      → G (cell_at (noted r slots) n) ≡ G (cell_at slots n)
+  cells_keep G same r slots n =
+      noted_keeps (λ o. G (cell_in o n.generation)) r slots n.slot
+      (λ e. own e (nat_eq n.generation e.generation))
+    where
+      own : (e : Entry T) (b : Bool)
+          → G (if b then cell_of (with_content (joined r.standing r.borrow) e.kept) else None)
+          ≡ G (if b then cell_of e.kept else None)
+      own e true = same (joined r.standing r.borrow) e.kept
+      own e false = refl
+
+  -- ---- a borrow that stands apart ends
+
+  -- a reader that was the only one is taken away
+  pub reader_gone : (b : Borrow) (k : Kept T) → has_no_borrow (content_in k) ≡ true
+      → without_reader_in b.ticket (with_content (joined standing.Reader b) k) ≡ k
+  reader_gone b (Live kd (Here v []) l) free = rw (same_number b.ticket) refl
+  reader_gone b (Live kd (Here v (r ∷ rs)) l) free = absurd (false≢true free)
+  reader_gone b (Live kd (Lent w) l) free = absurd (false≢true free)
+  reader_gone b Empty free = absurd (false≢true free)
+  reader_gone b (Refers m l) free = absurd (false≢true free)
+
+  pub unread : (r : LastBorrow) (slots : List (Entry T)) → IsNoted r slots
+      → is_reader r.standing ≡ true → slots ≡ change_entry (noted r slots) r.slot
+      (λ e. record e { kept = without_reader_in r.borrow.ticket e.kept })
+  unread r slots alone is =
+      let reader : r.standing ≡ standing.Reader = reader_is r.standing is in
+      let apart : is_apart r.standing ≡ true = rw reader refl in
+      let fits = apart_there r slots alone apart in
+      let gone : (e : Entry T) → Entry T =
+      λ e. record e { kept = without_reader_in r.borrow.ticket e.kept } in
+      sym (rw apart (change_twice slots r.slot (joining r) gone)
+      ∙ change_none slots r.slot (λ e. gone (joining r e))
+      (each reader fits))
+    where
+      each : r.standing ≡ standing.Reader
+          → IfSome (slice_get slots r.slot)
+          (λ e. may_join r.standing (content_in e.kept) ≡ true)
+          → IfSome (slice_get slots r.slot)
+          (λ e. record (joining r e) {
+            kept = without_reader_in r.borrow.ticket (joining r e).kept;
+          } ≡ e)
+      each reader fits = at (slice_get slots r.slot) fits
+        where
+          at : (o : Option (Entry T))
+              → IfSome o (λ e. may_join r.standing (content_in e.kept) ≡ true)
+              → IfSome o (λ e. record (joining r e) {
+                kept = without_reader_in r.borrow.ticket (joining r e).kept;
+              } ≡ e)
+          at None h = tt
+          at (Some e) h =
+              ap (λ k. record e { kept = k })
+              (rw reader (reader_gone r.borrow e.kept (rw reader at h)))
+
+  -- a value that is put back ends its writer
+  pub unwritten : (r : LastBorrow) (slots : List (Entry T)) (v : T)
+      → is_writer r.standing ≡ true
+      → change_entry slots r.slot (λ e. record e { kept = with_value v e.kept })
+      ≡ change_entry (noted r slots) r.slot (λ e. record e { kept = with_value v e.kept })
+  unwritten r slots v is =
+      let writer : r.standing ≡ standing.Writer = writer_is r.standing is in
+      let apart : is_apart r.standing ≡ true = rw writer refl in
+      let back : (e : Entry T) → Entry T = λ e. record e { kept = with_value v e.kept } in
+      sym (rw apart (change_twice slots r.slot (joining r) back)
+      ∙ change_alike slots r.slot (λ e. back (joining r e)) back (at (slice_get slots r.slot)))
+    where
+      same : (f : Content T → Content T) (k : Kept T) → with_value v (with_content f k)
+          ≡ with_value v k
+      same f (Live kd c l) = refl
+      same f Empty = refl
+      same f (Refers m l) = refl
+
+      at : (o : Option (Entry T)) → IfSome o (λ e.
+          record (joining r e) { kept = with_value v (joining r e).kept }
+          ≡ record e { kept = with_value v e.kept })
+      at None = tt
+      at (Some e) = ap (λ k. record e { kept = k }) (same (joined r.standing r.borrow) e.kept)
+
+  -- ---- a borrow that begins
+
+  lent_after : (w : Borrow) (k : Kept T) → with_content (joined standing.Writer w) (taken k)
+      ≡ lend_to w k
+  lent_after w (Live kd c l) = refl
+  lent_after w Empty = refl
+  lent_after w (Refers m l) = refl
+
+  -- where a value was taken out, its writer stands apart
+  pub writer_noted : (slots : List (Entry T)) (i : ℕ) (w : Borrow)
+      → change_entry (change_entry slots i (λ e. record e { kept = taken e.kept })) i
+      (λ e. record e { kept = with_content (joined standing.Writer w) e.kept })
+      ≡ change_entry slots i (λ e. record e { kept = lend_to w e.kept })
+  writer_noted slots i w =
+      change_twice slots i (λ e. record e { kept = taken e.kept })
+      (λ e. record e { kept = with_content (joined standing.Writer w) e.kept })
+      ∙ change_alike slots i _ (λ e. record e { kept = lend_to w e.kept })
+      (at (slice_get slots i))
+    where
+      at : (o : Option (Entry T)) → IfSome o (λ e.
+          record e { kept = with_content (joined standing.Writer w) (taken e.kept) }
+          ≡ record e { kept = lend_to w e.kept })
+      at None = tt
+      at (Some e) = ap (λ k. record e { kept = k }) (lent_after w e.kept)
+
+  lent_then : (k : Kept T) → has_no_borrow (content_in k) ≡ true
+      → is_lent (content_in (taken k)) ≡ true
+  lent_then (Live kd c l) free = refl
+  lent_then Empty free = absurd (false≢true free)
+  lent_then (Refers m l) free = absurd (false≢true free)
+
+  pub writer_apart : (slots : List (Entry T)) (i g : ℕ) (b : Borrow)
+      → IsAlone g (slice_get slots i)
+      → IsNoted (record { standing = standing.Writer; slot = i; generation = g; borrow = b })
+      (change_entry slots i (λ e. record e { kept = taken e.kept }))
+  writer_apart slots i g b alone is = at (slice_get slots i) refl alone
+    where
+      at : (o : Option (Entry T)) → slice_get slots i ≡ o → IsAlone g o
+          → HasApart (record { standing = standing.Writer; slot = i; generation = g; borrow = b })
+          (slice_get (change_entry slots i (λ e. record e { kept = taken e.kept })) i)
+      at None empty h = absurd h
+      at (Some e) there h =
+          rw (change_own slots i (λ e. record e { kept = taken e.kept }) there)
+          (h.0, lent_then e.kept h.1)
+
+  -- ---- what is asked of a cell
+
+  pub kind_same : (f : Content T → Content T) (k : Kept T) → kind_in (cell_of (with_content f k))
+      ≡ kind_in (cell_of k)
+  kind_same f Empty = refl
+  kind_same f (Live kind.Value c l) = refl
+  kind_same f (Live kind.Shared c l) = refl
+  kind_same f (Refers m l) = refl
+
+  pub target_same : (f : Content T → Content T) (k : Kept T)
+      → target_in (cell_of (with_content f k)) ≡ target_in (cell_of k)
+  target_same f Empty = refl
+  target_same f (Live kind.Value c l) = refl
+  target_same f (Live kind.Shared c l) = refl
+  target_same f (Refers m l) = refl
+
+  pub lead_same : (n : Name) (f : Content T → Content T) (k : Kept T)
+      → leads_to (cell_of (with_content f k)) n ≡ leads_to (cell_of k) n
+  lead_same n f Empty = refl
+  lead_same n f (Live kind.Value c l) = refl
+  lead_same n f (Live kind.Shared c l) = refl
+  lead_same n f (Refers m l) = refl
+
+  -- what holds of the slot at which the borrow stands apart
+  pub noted_there : (r : LastBorrow) (slots : List (Entry T)) → IsNoted r slots
+      → is_apart r.standing ≡ true → (P : Entry T → Type 0)
+      → ((e : Entry T) → may_join r.standing (content_in e.kept) ≡ true → P (joining r e))
+      → IfSome (slice_get (noted r slots) r.slot) P
+  noted_there r slots alone is P holds =
+      rw is (change_here slots r.slot (joining r) P
+      (at (slice_get slots r.slot) (apart_there r slots alone is)))
+    where
+      at : (o : Option (Entry T))
+          → IfSome o (λ e. may_join r.standing (content_in e.kept) ≡ true)
+          → IfSome o (λ e. P (joining r e))
+      at None h = tt
+      at (Some e) h = holds e h
+
+  -- what the borrow that stands apart leaves true of its cell holds of all slots with it
+  pub joined_says : (r : LastBorrow) (slots : List (Entry T)) → IsNoted r slots → (k : ℕ)
+      (P : Entry T → Type 0) → (is_apart r.standing ≡ true → r.slot ≡ k → (e : Entry T)
+      → may_join r.standing (content_in e.kept) ≡ true → P e → P (joining r e))
+      → IfSome (slice_get slots k) P → IfSome (slice_get (noted r slots) k) P
+  joined_says r slots alone k P stays h = by (is_apart r.standing) refl
+    where
+      here : is_apart r.standing ≡ true → r.slot ≡ k
+          → (o : Option (Entry T)) → IfSome o P
+          → IfSome o (λ e. may_join r.standing (content_in e.kept) ≡ true)
+          → IfSome o (λ e. P (joining r e))
+      here is same None h fits = tt
+      here is same (Some e) h fits = stays is same e fits h
+
+      at : is_apart r.standing ≡ true → (b : Bool) → nat_eq r.slot k ≡ b
+          → IfSome (slice_get (change_entry slots r.slot (joining r)) k) P
+      at is true same =
+          let own : r.slot ≡ k = eqb-true r.slot k same in
+          subst (λ i. IfSome (slice_get (change_entry slots r.slot (joining r)) i) P) own
+          (change_here slots r.slot (joining r) P
+          (here is own (slice_get slots r.slot)
+          (subst (λ i. IfSome (slice_get slots i) P) (sym own) h) (apart_there r slots alone is)))
+      at is false other =
+          subst (λ o. IfSome o P) (sym (change_away slots r.slot k (joining r)
+          (λ z. false≢true (sym other ∙ eq-eqb r.slot k z)))) h
+
+      by : (b : Bool) → is_apart r.standing ≡ b
+          → IfSome (slice_get (if b then change_entry slots r.slot (joining r) else slots) k) P
+      by true is = at is (nat_eq r.slot k) refl
+      by false is = h
+
+  -- ---- a slot that changes beside it
+
+  -- a change that doesn't mind it
+  pub noted_order : (r : LastBorrow) (slots : List (Entry T)) (j : ℕ) (h : Entry T → Entry T)
+      → ((e : Entry T) → joining r (h e) ≡ h (joining r e))
+      → noted r (change_entry slots j h) ≡ change_entry (noted r slots) j h
+  noted_order r slots j h same = by (is_apart r.standing)
+    where
+      by : (b : Bool) → (if b then change_entry (change_entry slots j h) r.slot (joining r)
+          else change_entry slots j h)
+          ≡ change_entry (if b then change_entry slots r.slot (joining r) else slots) j h
+      by true = sym (change_order slots r.slot j (joining r) h same)
+      by false = refl
+
+  -- a change of another slot
+  pub noted_apart : (r : LastBorrow) (slots : List (Entry T)) (j : ℕ) (h : Entry T → Entry T)
+      → (is_apart r.standing ≡ true → r.slot ≡ j → ⊥)
+      → noted r (change_entry slots j h) ≡ change_entry (noted r slots) j h
+  noted_apart r slots j h other = by (is_apart r.standing) refl
+    where
+      by : (b : Bool) → is_apart r.standing ≡ b
+          → (if b then change_entry (change_entry slots j h) r.slot (joining r)
+          else change_entry slots j h)
+          ≡ change_entry (if b then change_entry slots r.slot (joining r) else slots) j h
+      by true is = sym (change_apart slots r.slot j (joining r) h (other is))
+      by false is = refl
+
+  pub alone_order : (r : LastBorrow) (slots : List (Entry T)) (j : ℕ) (h : Entry T → Entry T)
+      → IsNoted r slots → ((e : Entry T) → HasApart r (Some e) → HasApart r (Some (h e)))
+      → IsNoted r (change_entry slots j h)
+  alone_order r slots j h alone keeps is = by (nat_eq j r.slot) refl
+    where
+      here : (o : Option (Entry T)) → slice_get slots r.slot ≡ o → HasApart r o
+          → HasApart r (slice_get (change_entry slots r.slot h) r.slot)
+      here None empty has = absurd has
+      here (Some e) there has = rw (change_own slots r.slot h there) (keeps e has)
+
+      by : (b : Bool) → nat_eq j r.slot ≡ b → HasApart r (slice_get (change_entry slots j h) r.slot)
+      by true own =
+          let one : j ≡ r.slot = eqb-true j r.slot own in
+          rw one (here (slice_get slots r.slot) refl (alone is))
+      by false differ =
+          rw (change_away slots j r.slot h (λ e. false≢true (sym differ ∙ eq-eqb j r.slot e)))
+          (alone is)
+
+  pub alone_apart : (r : LastBorrow) (slots : List (Entry T)) (j : ℕ) (h : Entry T → Entry T)
+      → IsNoted r slots → (is_apart r.standing ≡ true → r.slot ≡ j → ⊥)
+      → IsNoted r (change_entry slots j h)
+  alone_apart r slots j h alone other is =
+      rw (change_away slots j r.slot h (λ e. other is (sym e))) (alone is)
+
+  -- one more slot
+  pub noted_pushed : (r : LastBorrow) (slots : List (Entry T)) (x : Entry T) → IsNoted r slots
+      → noted r (slots ++ x ∷ []) ≡ noted r slots ++ x ∷ []
+  noted_pushed r slots x alone = by (is_apart r.standing) refl
+    where
+      at : (o : Option (Entry T)) → slice_get slots r.slot ≡ o → HasApart r o
+          → change_entry (slots ++ x ∷ []) r.slot (joining r)
+          ≡ change_entry slots r.slot (joining r) ++ x ∷ []
+      at None empty has = absurd has
+      at (Some e) there has =
+          ap (change_entry_if (slots ++ x ∷ []) r.slot (joining r))
+          (get_left slots (x ∷ []) r.slot e there)
+          ∙ (set_left slots (x ∷ []) r.slot e (joining r e) there
+          ∙ ap (λ o. change_entry_if slots r.slot (joining r) o ++ x ∷ []) (sym there))
+
+      by : (b : Bool) → is_apart r.standing ≡ b
+          → (if b then change_entry (slots ++ x ∷ []) r.slot (joining r) else (slots ++ x ∷ []))
+          ≡ (if b then change_entry slots r.slot (joining r) else slots) ++ x ∷ []
+      by true is = at (slice_get slots r.slot) refl (alone is)
+      by false is = refl
+
+  full : (s : Standing) (f : Content T → Content T) (k : Kept T)
+      → may_join s (content_in k) ≡ true → with_content f k ≡ Empty → ⊥
+  full s f (Live kd c l) fits same = absurd cc
+  full standing.Nobody f Empty fits same = false≢true fits
+  full standing.Reader f Empty fits same = false≢true fits
+  full standing.Writer f Empty fits same = false≢true fits
+  full s f (Refers m l) fits same = absurd cc
+
+  -- it isn't where there is no cell
+  pub not_empty : (r : LastBorrow) (slots : List (Entry T)) (j : ℕ) → IsNoted r slots
+      → IfSome (slice_get (noted r slots) j) (λ e. e.kept ≡ Empty)
+      → is_apart r.standing ≡ true → r.slot ≡ j → ⊥
+  not_empty r slots j alone empty is same = at (slice_get slots r.slot) refl (alone is)
+    where
+      at : (o : Option (Entry T)) → slice_get slots r.slot ≡ o → HasApart r o → ⊥
+      at None none has = has
+      at (Some e) there has =
+          let seen : slice_get (noted r slots) j ≡ Some (joining r e) =
+          rw (is, ← same) (change_own slots r.slot (joining r) there) in
+          full r.standing (joined r.standing r.borrow) e.kept has.1
+          (subst (λ o. IfSome o (λ x. x.kept ≡ Empty)) seen empty)
+
+  -- another slot that is written
+  pub noted_set : (r : LastBorrow) (slots : List (Entry T)) (j : ℕ) (x : Entry T)
+      → IsNoted r slots → (is_apart r.standing ≡ true → r.slot ≡ j → ⊥)
+      → noted r (slice_set slots j x) ≡ slice_set (noted r slots) j x
+  noted_set r slots j x alone other = by (is_apart r.standing) refl
+    where
+      at : is_apart r.standing ≡ true → (o : Option (Entry T)) → slice_get slots r.slot ≡ o
+          → HasApart r o → change_entry (slice_set slots j x) r.slot (joining r)
+          ≡ slice_set (change_entry slots r.slot (joining r)) j x
+      at is None empty has = absurd has
+      at is (Some e) there has =
+          ap (change_entry_if (slice_set slots j x) r.slot (joining r))
+          (get_other slots j r.slot x (λ z. other is (sym z)) ∙ there)
+          ∙ (set_apart slots j r.slot x (joining r e) (λ z. other is (sym z))
+          ∙ ap (λ o. slice_set (change_entry_if slots r.slot (joining r) o) j x) (sym there))
+
+      by : (b : Bool) → is_apart r.standing ≡ b
+          → (if b then change_entry (slice_set slots j x) r.slot (joining r)
+          else slice_set slots j x)
+          ≡ slice_set (if b then change_entry slots r.slot (joining r) else slots) j x
+      by true is = at is (slice_get slots r.slot) refl (alone is)
+      by false is = refl
+
+  -- its own cell ends
+  pub ended : (r : LastBorrow) (slots : List (Entry T))
+      → change_entry slots r.slot (λ e. record e { kept = Empty })
+      ≡ change_entry (noted r slots) r.slot (λ e. record e { kept = Empty })
+  ended r slots = by (is_apart r.standing)
+    where
+      by : (b : Bool) → change_entry slots r.slot (λ e. record e { kept = Empty })
+          ≡ change_entry (if b then change_entry slots r.slot (joining r) else slots) r.slot
+          (λ e. record e { kept = Empty })
+      by true = sym (change_twice slots r.slot (joining r) (λ e. record e { kept = Empty }))
+      by false = refl
+
+  pub refer_order : (m : Name) (f : Content T → Content T) (k : Kept T)
+      → with_content f (referring m k) ≡ referring m (with_content f k)
+  refer_order m f Empty = refl
+  refer_order m f (Live kd c l) = refl
+  refer_order m f (Refers n l) = refl
+
+  pub each_some : (o : Option (Entry T)) {P Q : Entry T → Type 0}
+      → ((e : Entry T) → P e → Q e) → IfSome o P → IfSome o Q
+  each_some None f h = tt
+  each_some (Some e) f h = f e h
+
+  -- it opens to its own ticket alone
+  pub opens_same : (s : Standing) (b : Borrow) (t : ℕ) (k : Kept T) → is_apart s ≡ true
+      → (is_reader s ≡ true → b.ticket ≡ t → ⊥) → may_join s (content_in k) ≡ true
+      → value_for t (content_in k) ≡ value_for t (content_in (with_content (joined s b) k))
+  opens_same standing.Nobody b t k apart other fits = absurd (false≢true apart)
+  opens_same standing.Reader b t (Live kd (Here v []) l) apart other fits =
+      rw (ne_eqb b.ticket t (other refl)) refl
+  opens_same standing.Reader b t (Live kd (Here v (r ∷ rs)) l) apart other fits =
+      absurd (false≢true fits)
+  opens_same standing.Reader b t (Live kd (Lent w) l) apart other fits = absurd (false≢true fits)
+  opens_same standing.Reader b t Empty apart other fits = absurd (false≢true fits)
+  opens_same standing.Reader b t (Refers m l) apart other fits = absurd (false≢true fits)
+  opens_same standing.Writer b t (Live kd (Here v rs) l) apart other fits =
+      absurd (false≢true fits)
+  opens_same standing.Writer b t (Live kd (Lent w) l) apart other fits = refl
+  opens_same standing.Writer b t Empty apart other fits = absurd (false≢true fits)
+  opens_same standing.Writer b t (Refers m l) apart other fits = absurd (false≢true fits)
+
+  pub reads_there : (b : Borrow) (k : Kept T) → has_no_borrow (content_in k) ≡ true
+      → true ≡ has_reader (content_in (with_content (joined standing.Reader b) k)) b.ticket
+  reads_there b (Live kd (Here v []) l) free = rw (same_number b.ticket) refl
+  reads_there b (Live kd (Here v (r ∷ rs)) l) free = absurd (false≢true free)
+  reads_there b (Live kd (Lent w) l) free = absurd (false≢true free)
+  reads_there b Empty free = absurd (false≢true free)
+  reads_there b (Refers m l) free = absurd (false≢true free)
+
+  -- whose a value is told of every content
+  pub kinds_hold : (c : Option (Cell T)) → is_some (kind_in c) ≡ is_some (content_of c)
+  kinds_hold None = refl
+  kinds_hold (Some (Value c l)) = refl
+  kinds_hold (Some (Shared c l)) = refl
+  kinds_hold (Some (Ref m l)) = refl
+
+  pub holds_same : (f : Content T → Content T) (k : Kept T)
+      → is_some (content_of (cell_of (with_content f k))) ≡ is_some (content_of (cell_of k))
+  holds_same f Empty = refl
+  holds_same f (Live kind.Value c l) = refl
+  holds_same f (Live kind.Shared c l) = refl
+  holds_same f (Refers m l) = refl
+
+  -- other slots are as they were
+  pub noted_away : (r : LastBorrow) (slots : List (Entry T)) (k : ℕ)
+      → (is_apart r.standing ≡ true → r.slot ≡ k → ⊥)
+      → slice_get (noted r slots) k ≡ slice_get slots k
+  noted_away r slots k away = by (is_apart r.standing) refl
+    where
+      by : (b : Bool) → is_apart r.standing ≡ b
+          → slice_get (if b then change_entry slots r.slot (joining r) else slots) k
+          ≡ slice_get slots k
+      by true is = change_away slots r.slot k (joining r) (away is)
+      by false is = refl
+
+  -- it stands in the way of a write
+  pub found_reading : (b : Borrow) (k : Kept T) (r : Refused BorrowMutError)
+      → FoundReaders (b ∷ []) r → has_no_borrow (content_in k) ≡ true
+      → FoundBorrowed (write_refusal (content_in (with_content (joined standing.Reader b) k))) (Err r)
+  found_reading b (Live kd (Here v []) l) (refused.Borrow e) found free = ap Some (sym found)
+  found_reading b (Live kd (Here v []) l) (refused.Store OutOfMemory) found free = tt
+  found_reading b (Live kd (Here v []) l) (refused.Store NumbersExhausted) found free = absurd found
+  found_reading b (Live kd (Here v []) l) (refused.Store UnknownOwner) found free = absurd found
+  found_reading b (Live kd (Here v (x ∷ xs)) l) r found free = absurd (false≢true free)
+  found_reading b (Live kd (Lent w) l) r found free = absurd (false≢true free)
+  found_reading b Empty r found free = absurd (false≢true free)
+  found_reading b (Refers m l) r found free = absurd (false≢true free)
+
+  pub found_writing : (b : Borrow) (k : Kept T) (r : Refused BorrowMutError)
+      → r ≡ refused.Borrow (writes.AlreadyBorrowedMut (record { borrowed_mut_at = b.location }))
+      → is_lent (content_in k) ≡ true
+      → FoundBorrowed (write_refusal (content_in (with_content (joined standing.Writer b) k))) (Err r)
+  found_writing b (Live kd c l) r found lent = rw found refl
+  found_writing b Empty r found lent = absurd (false≢true lent)
+  found_writing b (Refers m l) r found lent = absurd (false≢true lent)
+
+  pub found_last : (s : Standing) (b : Borrow) (k : Kept T) (r : Refused BorrowMutError)
+      → is_apart s ≡ true → (is_writer s ≡ false → FoundReaders (b ∷ []) r)
+      → (is_writer s ≡ true → r ≡ refused.Borrow
+      (writes.AlreadyBorrowedMut (record { borrowed_mut_at = b.location })))
+      → may_join s (content_in k) ≡ true
+      → FoundBorrowed (write_refusal (content_in (with_content (joined s b) k))) (Err r)
+  found_last standing.Nobody b k r apart reader writer fits = absurd (false≢true apart)
+  found_last standing.Reader b k r apart reader writer fits =
+      found_reading b k r (reader refl) fits
+  found_last standing.Writer b k r apart reader writer fits =
+      found_writing b k r (writer refl) fits
+
+  -- what no borrow keeps from being written has none
+  pub unrefused : (c : Content T) → write_refusal (Some c) ≡ None → has_no_borrow (Some c) ≡ true
+  unrefused (Here v []) free = refl
+  unrefused (Here v (r ∷ rs)) free = absurd (none-some _ (sym free))
+  unrefused (Lent w) free = absurd (none-some _ (sym free))
