@@ -1,13 +1,15 @@
 -- A store's slots with the borrow that began last, which stands apart.
-use Rattle.std.specs.Prelude.{◌≡◌, ℕ, Bool, true, false, if◌then◌else◌, List, Option, Some, None}
-use Rattle.std.specs.Prelude.{slice_get}
+use Rattle.std.specs.Prelude.{◌≡◌, ℕ, Bool, true, false, if◌then◌else◌, List, [], ◌∷◌, Option}
+use Rattle.std.specs.Prelude.{Some, None, is_some, slice_get}
+use Rattle.generational_core.specs.Answers.{value_of}
 use Rattle.generational_core.specs.Cells.{Content}
-use Rattle.generational_core.specs.Cells.Content.{Lent}
+use Rattle.generational_core.specs.Cells.Content.{Here, Lent}
+use Rattle.generational_core.specs.Machine.{has_reader}
 use Rattle.generational_core.specs.declared.borrow.Borrow.{Borrow}
 use Rattle.generational_box.specs.declared.latest.LastBorrow.{LastBorrow}
 use Rattle.generational_box.specs.declared.latest.Standing.{Standing}
 use Rattle.generational_box.specs.declared.latest.Standing.TheVariants as standing
-use Rattle.generational_box.specs.Entry.{Entry, Kept, content_in, has_no_borrow, is_lent, one_read}
+use Rattle.generational_box.specs.Entry.{Entry, content_in, has_no_borrow, is_lent}
 use Rattle.generational_box.specs.Entry.{with_content}
 use Rattle.generational_box.specs.Slotted.{change_entry}
 
@@ -25,15 +27,17 @@ is_writer standing.Writer = true
 is_writer _ = false
 
 module _ {T : Type 0} where
-  -- a content with the borrow that stands apart
+  -- a content with the borrow that stands apart; a reader beside others is listed among them
   abbrev pub joined : Standing → Borrow → Content T → Content T
   joined standing.Writer b c = Lent b
-  joined _ b c = one_read b c
+  joined _ b (Here v []) = Here v (b ∷ [])
+  joined _ b c = c
 
-  -- where a reader stands apart its cell has no other borrow, and where a writer does it is lent
-  abbrev pub may_join : Standing → Option (Content T) → Bool
-  may_join standing.Writer c = is_lent c
-  may_join _ c = has_no_borrow c
+  -- where a reader stands apart its cell has no other borrow, or has it among them; and where a
+  -- writer does it is lent
+  abbrev pub may_join : Standing → ℕ → Option (Content T) → Bool
+  may_join standing.Writer t c = is_lent c
+  may_join _ t c = if has_no_borrow c then true else has_reader c t
 
   -- the slots with the borrow that stands apart, if there is one
   abbrev pub noted : LastBorrow → List (Entry T) → List (Entry T)
@@ -48,11 +52,17 @@ module _ {T : Type 0} where
   IsAlone generation (Some e) =
       (e.generation ≡ generation) × (has_no_borrow (content_in e.kept) ≡ true)
 
+  -- a cell of this generation with a value that isn't lent
+  abbrev pub IsReadable : ℕ → Option (Entry T) → Type 0
+  IsReadable generation None = ⊥
+  IsReadable generation (Some e) =
+      (e.generation ≡ generation) × (is_some (value_of (content_in e.kept)) ≡ true)
+
   -- the cell at which the borrow stands apart
   abbrev pub HasApart : LastBorrow → Option (Entry T) → Type 0
   HasApart r None = ⊥
   HasApart r (Some e) =
-      (e.generation ≡ r.generation) × (may_join r.standing (content_in e.kept) ≡ true)
+      (e.generation ≡ r.generation) × (may_join r.standing r.borrow.ticket (content_in e.kept) ≡ true)
 
   abbrev pub IsNoted : LastBorrow → List (Entry T) → Type 0
   IsNoted r slots = is_apart r.standing ≡ true → HasApart r (slice_get slots r.slot)

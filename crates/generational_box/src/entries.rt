@@ -24,6 +24,7 @@ ghost use Rattle.generational_box.specs.Entry.{cell_of, kind_in, name_of_cell, r
 ghost use Rattle.generational_box.specs.Entry.{is_unborrowed_value, referring, target_in};
 ghost use Rattle.generational_box.specs.Entries.{IsUnborrowed, kept_data, taken, writer_in};
 ghost use Rattle.generational_core.specs.Borrowing.{leads_to};
+ghost use Rattle.generational_core.specs.Answers.{value_of};
 ghost use Rattle.generational_core.specs.Cells.{content_of, location_of};
 ghost use Rattle.generational_box.specs.Entry.{content_in, has_no_borrow, is_lent, with_reader, value_for};
 ghost use Rattle.generational_box.specs.Entry.{without_reader_in, lend_to, with_value};
@@ -233,6 +234,19 @@ impl<T> Entries<T> {
         }
     }
 
+    // Whether the cell is a value without borrows.
+    #[inline(always)]
+    pub(crate) fn has_no_borrow(&self, slot: usize) -> bool
+        requires { slot < length self.now.slots }
+        ensures { IfSome (slice_get self.now.slots slot)
+            (λ e. result ≡ has_no_borrow (content_in e.kept)) }
+    {
+        match &self.entries[slot].content {
+            StorageEntryData::Data(_, index, _) => *index == NO_INDEX,
+            _ => false,
+        }
+    }
+
     // The borrows that stand in the way of a write or an end.
     #[inline(always)]
     pub(crate) fn borrow_mut_error(&self, slot: usize) -> BorrowMutResult<()>
@@ -261,14 +275,14 @@ impl<T> Entries<T> {
         self.alloc
     }
 
-    // The value of a cell without borrows.
+    // The value of a cell, which isn't lent.
     #[inline(always)]
     pub(crate) fn value(&self, slot: usize) -> &T
         requires within { slot < length self.now.slots }
-        requires free { IfSome (slice_get self.now.slots slot)
-            (λ e. has_no_borrow (content_in e.kept) ≡ true) }
+        requires there { IfSome (slice_get self.now.slots slot)
+            (λ e. is_some (value_of (content_in e.kept)) ≡ true) }
         ensures { IfSome (slice_get self.now.slots slot)
-            (λ e. content_in e.kept ≡ Some (Here result.now [])) }
+            (λ e. value_of (content_in e.kept) ≡ Some result.now) }
     {
         match &self.entries[slot].content {
             StorageEntryData::Data(_, _, value) => value,
@@ -571,7 +585,8 @@ fn larger_room(room: usize) -> Result<usize, StoreError>
 
 // The answer to a write or an end where the readers at this index stand. Here the room for the
 // answer is set up, and so only where there is one.
-#[inline(always)]
+#[cold]
+#[inline(never)]
 fn readers_error(borrows: &BorrowTable, index: u32, alloc: Global) -> Refused<BorrowMutError>
     requires { index < length borrows.now.lists }
     ensures { FoundReaders (list_at borrows.now.lists index) result }

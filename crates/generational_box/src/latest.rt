@@ -25,12 +25,13 @@ ghost use Rattle.generational_box.specs.Entry.{is_unborrowed_value, referring, t
 ghost use Rattle.generational_box.specs.Entries.{IsUnborrowed, kept_data};
 ghost use Rattle.generational_core.specs.Borrowing.{leads_to};
 ghost use Rattle.generational_core.specs.Cells.{content_of, location_of};
-ghost use Rattle.generational_box.specs.Entry.{content_in, has_no_borrow, with_reader, value_for};
+ghost use Rattle.generational_box.specs.Entry.{content_in, has_no_borrow, with_content};
+ghost use Rattle.generational_box.specs.Entry.{with_reader, value_for};
 ghost use Rattle.generational_box.specs.Entry.{without_reader_in, lend_to, with_value};
 ghost use Rattle.generational_box.specs.Entry.{FoundBorrowed, FoundReaders};
 ghost use Rattle.generational_box.specs.Slotted.{cell_at, change_entry};
-ghost use Rattle.generational_box.specs.Latest.{noted, IsAlone, IsNoted, is_apart, is_reader};
-ghost use Rattle.generational_box.specs.Latest.{is_writer};
+ghost use Rattle.generational_box.specs.Latest.{noted, IsAlone, IsNoted, IsReadable, is_apart};
+ghost use Rattle.generational_box.specs.Latest.{is_reader, is_writer, joined};
 ghost use Rattle.std.specs.Prelude.{false};
 
 use crate::entries::{Entries, reader_error, writer_error};
@@ -88,8 +89,9 @@ impl LastBorrow {
 /// The slots of a store. Contracts see each as its generation and its cell with the borrows that
 /// stand there, and for how many slots there is room.
 ///
-/// The borrow that began last is noted here, until another begins: a writer, or a reader of a cell
-/// that nobody else reads. It touches no list, and a reader writes nothing into its slot.
+/// The borrow that began last is noted here, until another begins. A writer touches no list, and a
+/// reader of a cell that nobody else reads touches neither a list nor its slot; a reader beside
+/// others is listed with them as well.
 #[derive(Drop)]
 pub(crate) struct LatestEntries<T> {
     settled: Entries<T>,
@@ -261,7 +263,7 @@ impl<T> LatestEntries<T> {
             (λ e. FoundBorrowed (write_refusal (content_in e.kept)) result) }
     {
         if self.last.is_apart() && self.last.slot == slot {
-            return Err(last_error(self.last, self.settled.alloc()));
+            return last_error(&self.settled, self.last);
         }
         self.settled.borrow_mut_error(slot)
     }
@@ -303,8 +305,8 @@ impl<T: Drop> LatestEntries<T> {
         settle(&mut self.settled, &mut self.last);
     }
 
-    // Adds a reader to a cell that isn't lent. Only a reader beside another may lack memory, and
-    // then nothing changes. The caller may know that the cell has no borrow.
+    // Adds a reader to a value that isn't lent. Only a reader beside another may lack memory, and
+    // then nothing changes. The caller may know that the value has no borrow.
     #[inline(always)]
     pub(crate) fn begin_read(
         &mut self,
@@ -312,7 +314,7 @@ impl<T: Drop> LatestEntries<T> {
         borrow: Borrow,
         is_alone: bool,
     ) -> Result<(), AllocError>
-        requires within { name.slot < length self.old.slots }
+        requires there { IsReadable name.generation (slice_get self.old.slots name.slot) }
         requires ascends { IfSome (slice_get self.old.slots name.slot)
             (λ e. AreBelow borrow.ticket (readers_of (content_in e.kept))) }
         requires alone { is_alone ≡ true → IsAlone name.generation
@@ -332,11 +334,7 @@ impl<T: Drop> LatestEntries<T> {
         self.last.generation = name.generation;
         self.last.borrow.ticket = borrow.ticket;
         self.last.borrow.location = borrow.location;
-        self.last.standing = if is_alone {
-            Standing::Reader
-        } else {
-            Standing::Nobody
-        };
+        self.last.standing = Standing::Reader;
         Ok(())
     }
 
@@ -350,7 +348,11 @@ impl<T: Drop> LatestEntries<T> {
             (λ e. record e { kept = without_reader_in ticket e.kept }) }
         ensures rooms { self.new.rooms ≡ self.old.rooms }
     {
-        if self.last.is_reader() && self.last.slot == slot && self.last.borrow.ticket == ticket {
+        if self.last.is_reader()
+            && self.last.slot == slot
+            && self.last.borrow.ticket == ticket
+            && self.settled.has_no_borrow(slot)
+        {
             self.last.standing = Standing::Nobody;
             return true;
         }
@@ -555,21 +557,27 @@ fn settle<T: Drop>(settled: &mut Entries<T>, last: &mut LastBorrow)
     }
 }
 
-// The answer to a write or an end where the borrow that stands apart is in the way.
+// The answer to a write or an end where the borrow that stands apart is in the way, and others
+// beside it.
 #[cold]
 #[inline(never)]
-fn last_error(last: LastBorrow, alloc: Global) -> Refused<BorrowMutError>
-    ensures reader { is_writer last.standing ≡ false → FoundReaders (last.borrow ∷ []) result }
-    ensures writer { is_writer last.standing ≡ true → result ≡ refused.Borrow
-        (writes.AlreadyBorrowedMut (record { borrowed_mut_at = last.borrow.location })) }
+fn last_error<T>(entries: &Entries<T>, last: LastBorrow) -> BorrowMutResult<()>
+    requires apart { is_apart last.standing ≡ true }
+    requires fits { IsNoted last entries.now.slots }
+    ensures { IfSome (slice_get entries.now.slots last.slot) (λ e. FoundBorrowed
+        (write_refusal (content_in (with_content (joined last.standing last.borrow) e.kept)))
+        result) }
 {
     if last.is_writer() {
-        return writer_error(last.borrow);
+        return Err(writer_error(last.borrow));
     }
-    reader_error(last.borrow, alloc)
+    if entries.has_no_borrow(last.slot) {
+        return Err(reader_error(last.borrow, entries.alloc()));
+    }
+    entries.borrow_mut_error(last.slot)
 }
 
-// Lists the borrow that stands apart, which takes no memory.
+// Lists the borrow that stands apart, unless it is a reader that is listed. Takes no memory.
 #[cold]
 #[inline(never)]
 fn list_last<T: Drop>(entries: &mut Entries<T>, last: LastBorrow)
@@ -580,6 +588,9 @@ fn list_last<T: Drop>(entries: &mut Entries<T>, last: LastBorrow)
 {
     if last.is_writer() {
         entries.list_writer(last.slot, last.borrow);
+        return;
+    }
+    if !entries.has_no_borrow(last.slot) {
         return;
     }
     match entries.begin_read(last.slot, last.borrow) {

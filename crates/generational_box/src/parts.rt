@@ -57,7 +57,6 @@ const NOBODY: CellName = CellName {
 // The parts of a store. Contracts see them as the state of the abstract machine. `P` chooses which
 // free slot is taken. That each call is a step of the machine is promised here; that the state is
 // sound is known to the store, which has these parts and closes them after each step.
-#[derive(Drop)]
 pub(crate) struct Parts<T, P: SlotPool> {
     alloc: Global,
     number: u64,
@@ -81,6 +80,24 @@ impl<T, P: SlotPool> Model for Parts<T, P> {
     ghost view = { λ s. with_records s.slots.state s.number s.owners s.next };
 
     ghost invariant = { λ s. AreCounted s.next s.owners };
+}
+
+// A store goes in a function of its own: LLVM follows few uses of a local variable, and what it
+// knows of a store it knows for as long as these are few.
+impl<T: Drop, P: SlotPool> Drop for Parts<T, P> {
+    #[cold]
+    #[inline(never)]
+    fn drop(self) {
+        let Parts {
+            alloc: _,
+            number: _,
+            next: _,
+            slots,
+            owners,
+        } = self;
+        drop(slots);
+        drop(owners);
+    }
 }
 
 /// Where a store's numbers begin.

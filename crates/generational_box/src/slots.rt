@@ -234,7 +234,7 @@ impl<T: Drop, P: SlotPool> Slots<T, P> {
         self.entries.open(name.slot, ticket)
     }
 
-    // The reader that stands apart, if there is one, goes to a list. Nothing that contracts see
+    // The borrow that stands apart, if there is one, goes to a list. Nothing that contracts see
     // changes.
     #[inline(always)]
     pub(crate) fn settle(&mut self)
@@ -253,6 +253,7 @@ impl<T: Drop, P: SlotPool> Slots<T, P> {
         is_alone: bool,
     ) -> Result<(), AllocError>
         requires there { IsSome (content_at self.old.state (name_of_cell name)) }
+        requires free { read_refusal (content_at self.old.state (name_of_cell name)) ≡ None }
         requires alone { is_alone ≡ true
             → write_refusal (content_at self.old.state (name_of_cell name)) ≡ None }
         requires ascends { AreBelow borrow.ticket
@@ -554,7 +555,8 @@ impl<T: Drop, P: SlotPool> Slots<T, P> {
     }
 
     // The same.
-    #[inline(always)]
+    #[cold]
+    #[inline(never)]
     fn close_any(&mut self, name: CellName)
         requires { IsLinked self.old.state.cells }
         ensures { self.new.state ≡ close self.old.state (name_of_cell name ∷ []) }

@@ -153,7 +153,8 @@ impl BorrowTable {
     }
 
     // Gives an index back. What stands there is forgotten.
-    #[inline(always)]
+    #[cold]
+    #[inline(never)]
     pub(crate) fn close(&mut self, index: u32)
         requires within { index < length self.old.lists }
         requires used { set.contains self.old.free index ≡ false }

@@ -20,6 +20,7 @@ use Rattle.generational_core.specs.Cells.Content.{Here, Lent}
 use Rattle.generational_box.specs.Entry.{Entry, with_reader, without_reader_in, content_in}
 use Rattle.generational_box.specs.Entry.{has_no_borrow, is_lent, cell_of, kind_in, target_in}
 use Rattle.generational_box.specs.Entry.{is_unborrowed_value}
+use Rattle.generational_core.specs.Answers.{value_of}
 use Rattle.generational_core.specs.Machine.{has_reader, has_writer}
 use Rattle.generational_box.specs.Entries.{EntryList, AreRoomy, IsUnborrowed, kept_data}
 use Rattle.generational_box.specs.Entries.{is_unborrowed_data, kind_of, lead_of, target_of}
@@ -372,6 +373,14 @@ module _ {T : Type 0} {t : Table} {es : List (StorageEntry T)} {ls : List EntryD
           at [] is (inr some) = absurd ((used_at some).some is)
           at (b ∷ bs) is (inl none) = absurd (none_some b bs (sym is ∙ free_value none))
           at (b ∷ bs) is (inr some) = ne_eqb x no_index some
+
+      pub alone_test : nat_eq x no_index ≡ has_no_borrow (Some (Here v (list_at t.lists x)))
+      alone_test = free_test ∙ at (list_at t.lists x)
+        where
+          at : (bs : List Borrow)
+              → is_none (write_refusal (Some (Here v bs))) ≡ has_no_borrow (Some (Here v bs))
+          at [] = refl
+          at (b ∷ bs) = refl
 
       -- a second reader stands beside another
       pub read_beside : x ≢ no_index
@@ -820,6 +829,23 @@ module _ {T : Type 0} where
   no_content bs l (slot.Reference m g) none gone = refl
   no_content bs l (slot.Data kd x v) none gone = absurd (none kd x v refl)
   no_content bs l (slot.Lent kd x) none gone = absurd (gone kd x refl)
+
+  -- where no value is, none is seen
+  pub no_value : (bs : List Borrow) (l : Location) (d : StorageEntryData T)
+      → ((kd : Kind) (x : ℕ) (v : T) → d ≡ slot.Data kd x v → ⊥)
+      → value_of (content_in (kept_data bs l d)) ≡ None
+  no_value bs l slot.Empty none = refl
+  no_value bs l (slot.Reference m g) none = refl
+  no_value bs l (slot.Lent kd x) none = refl
+  no_value bs l (slot.Data kd x v) none = absurd (none kd x v refl)
+
+  pub not_alone : (bs : List Borrow) (l : Location) (d : StorageEntryData T)
+      → ((kd : Kind) (x : ℕ) (v : T) → d ≡ slot.Data kd x v → ⊥)
+      → has_no_borrow (content_in (kept_data bs l d)) ≡ false
+  not_alone bs l slot.Empty none = refl
+  not_alone bs l (slot.Reference m g) none = refl
+  not_alone bs l (slot.Lent kd x) none = refl
+  not_alone bs l (slot.Data kd x v) none = absurd (none kd x v refl)
 
   -- where no value is, no reader is added or taken away
   pub reader_kept : (b : Borrow) (bs : List Borrow) (l : Location) (d : StorageEntryData T)

@@ -1,15 +1,17 @@
 -- The slots with the read that began last.
 use Rattle.std.proofs.Common.{◌≡◌, ℕ, Bool, true, false, List, [], ◌∷◌, Option, None, Some, refl}
-use Rattle.std.proofs.Common.{sym, ap, ◌∙◌, slice_get, nat_eq, zero, suc, slice_set, IfSome, not}
-use Rattle.std.proofs.Common.{is_none, option_copied, cond, if◌then◌else◌}
+use Rattle.std.proofs.Common.{sym, ap, ◌∙◌, slice_get, nat_eq, zero, suc, slice_set, IfSome}
+use Rattle.std.proofs.Common.{cond, if◌then◌else◌}
 use Rattle.std.proofs.lemmas.Bool.{eqb-true, eq-eqb, false≢true, ne_eqb}
 use Rattle.std.proofs.Common.{is_some}
+use Rattle.generational_core.specs.Answers.{value_of}
 use Rattle.generational_core.specs.Machine.{has_reader}
+use Rattle.std.specs.List.{list_any}
 use Rattle.generational_core.specs.Cells.{content_of}
 use Rattle.generational_core.specs.Cells.Cell.{Value, Shared, Ref}
 use Rattle.generational_box.specs.Entry.{value_for}
 use Rattle.generational_core.specs.declared.borrow.Borrow.{Borrow}
-use Rattle.generational_core.specs.Borrowing.{write_refusal}
+use Rattle.generational_core.specs.Borrowing.{read_refusal, write_refusal}
 use Rattle.generational_core.specs.Cells.{Content, Cell}
 use Rattle.generational_core.specs.Cells.Content.{Here, Lent}
 use Rattle.generational_box.specs.declared.entry.Kind.TheVariants as kind
@@ -18,20 +20,20 @@ use Rattle.generational_box.specs.Entry.{Entry, Kept, cell_of, content_in, has_n
 use Rattle.generational_box.specs.Entry.{without_reader_in, kind_in, target_in}
 use Rattle.generational_core.specs.Borrowing.{leads_to}
 use Rattle.generational_box.specs.Entry.Kept.{Empty, Live, Refers}
-use Rattle.generational_box.specs.Latest.{noted, HasApart, IsAlone, IsNoted, is_apart, is_reader}
+use Rattle.generational_box.specs.Latest.{noted, HasApart, IsAlone, IsNoted, IsReadable, is_apart}
+use Rattle.generational_box.specs.Latest.{is_reader}
 use Rattle.generational_box.specs.Latest.{is_writer, joined, may_join}
 use Rattle.generational_box.specs.declared.latest.Standing.{Standing}
 use Rattle.generational_box.specs.declared.latest.Standing.TheVariants as standing
-use Rattle.generational_box.specs.Entries.{nobody, taken}
+use Rattle.generational_box.specs.Entries.{taken}
 use Rattle.generational_box.specs.Entry.{is_lent, lend_to, referring, with_content, with_value}
-use Rattle.std.proofs.Common.{◌++◌}
-use Rattle.generational_core.specs.Borrowing.Trouble.{BeingWritten}
+use Rattle.std.proofs.Common.{◌++◌, ◌||◌, ◌<◌, length}
 use Rattle.generational_core.specs.declared.error.BorrowMutError.TheVariants as writes
 use Rattle.generational_box.specs.Slotted.{cell_at, cell_in, change_entry, change_entry_if}
 use Rattle.generational_box.proofs.lists.Lists.{set_written, set-own}
 use Rattle.generational_core.specs.Names.{Name}
 use Rattle.std.proofs.Common.{subst, Err}
-use Rattle.std.proofs.lemmas.Option.{none-some}
+use Rattle.std.proofs.lemmas.Option.{none-some, slice_get_within}
 use Rattle.generational_core.specs.declared.error.BorrowMutError.{BorrowMutError}
 use Rattle.generational_core.specs.declared.error.Refused.{Refused}
 use Rattle.generational_core.specs.declared.error.Refused.TheVariants as refused
@@ -48,6 +50,15 @@ set_twice (z ∷ zs) (suc i) x y = ap (λ rest. z ∷ rest) (set_twice zs i x y)
 
 same_number : (n : ℕ) → nat_eq n n ≡ true
 same_number n = eq-eqb n n refl
+
+any_last : (t : ℕ) (rs : List Borrow) (b : Borrow) → b.ticket ≡ t
+    → list_any (λ r. nat_eq r.ticket t) (rs ++ b ∷ []) ≡ true
+any_last t [] b same = rw (eq-eqb b.ticket t same) refl
+any_last t (r ∷ rs) b same = at (nat_eq r.ticket t) (any_last t rs b same)
+  where
+    at : (x : Bool) {y : Bool} → y ≡ true → (x || y) ≡ true
+    at true h = refl
+    at false h = h
 
 -- ---- a slot that changes
 
@@ -229,13 +240,23 @@ module _ {T : Type 0} where
   -- the cell there may have it
   pub apart_there : (r : LastBorrow) (slots : List (Entry T)) → IsNoted r slots
       → is_apart r.standing ≡ true
-      → IfSome (slice_get slots r.slot) (λ e. may_join r.standing (content_in e.kept) ≡ true)
+      → IfSome (slice_get slots r.slot) (λ e. may_join r.standing r.borrow.ticket (content_in e.kept) ≡ true)
   apart_there r slots noted is = at (slice_get slots r.slot) (noted is)
     where
       at : (o : Option (Entry T)) → HasApart r o
-          → IfSome o (λ e. may_join r.standing (content_in e.kept) ≡ true)
+          → IfSome o (λ e. may_join r.standing r.borrow.ticket (content_in e.kept) ≡ true)
       at None h = absurd h
       at (Some e) h = h.1
+
+  -- so its slot was made
+  pub apart_within : (r : LastBorrow) (slots : List (Entry T)) → IsNoted r slots
+      → is_apart r.standing ≡ true → r.slot < length slots
+  apart_within r slots noted is = at (slice_get slots r.slot) refl (noted is)
+    where
+      at : (o : Option (Entry T)) → slice_get slots r.slot ≡ o → HasApart r o
+          → r.slot < length slots
+      at None none h = absurd h
+      at (Some e) there h = slice_get_within slots r.slot e there
 
   -- what no borrow changes is the same with the one that stands apart
   pub noted_keeps : {A : Type 0} (F : Option (Entry T) → A) (r : LastBorrow)
@@ -276,6 +297,11 @@ module _ {T : Type 0} where
       own e true = same (joined r.standing r.borrow) e.kept
       own e false = refl
 
+  pub each_some : (o : Option (Entry T)) {P Q : Entry T → Type 0}
+      → ((e : Entry T) → P e → Q e) → IfSome o P → IfSome o Q
+  each_some None f h = tt
+  each_some (Some e) f h = f e h
+
   -- ---- a borrow that stands apart ends
 
   -- a reader that was the only one is taken away
@@ -287,37 +313,48 @@ module _ {T : Type 0} where
   reader_gone b Empty free = absurd (false≢true free)
   reader_gone b (Refers m l) free = absurd (false≢true free)
 
-  pub unread : (r : LastBorrow) (slots : List (Entry T)) → IsNoted r slots
-      → is_reader r.standing ≡ true → slots ≡ change_entry (noted r slots) r.slot
+  pub unread : (r : LastBorrow) (slots : List (Entry T)) → is_reader r.standing ≡ true
+      → IfSome (slice_get slots r.slot) (λ e. has_no_borrow (content_in e.kept) ≡ true)
+      → slots ≡ change_entry (noted r slots) r.slot
       (λ e. record e { kept = without_reader_in r.borrow.ticket e.kept })
-  unread r slots alone is =
+  unread r slots is free =
       let reader : r.standing ≡ standing.Reader = reader_is r.standing is in
       let apart : is_apart r.standing ≡ true = rw reader refl in
-      let fits = apart_there r slots alone apart in
       let gone : (e : Entry T) → Entry T =
       λ e. record e { kept = without_reader_in r.borrow.ticket e.kept } in
       sym (rw apart (change_twice slots r.slot (joining r) gone)
       ∙ change_none slots r.slot (λ e. gone (joining r e))
-      (each reader fits))
-    where
-      each : r.standing ≡ standing.Reader
-          → IfSome (slice_get slots r.slot)
-          (λ e. may_join r.standing (content_in e.kept) ≡ true)
-          → IfSome (slice_get slots r.slot)
-          (λ e. record (joining r e) {
-            kept = without_reader_in r.borrow.ticket (joining r e).kept;
-          } ≡ e)
-      each reader fits = at (slice_get slots r.slot) fits
-        where
-          at : (o : Option (Entry T))
-              → IfSome o (λ e. may_join r.standing (content_in e.kept) ≡ true)
-              → IfSome o (λ e. record (joining r e) {
-                kept = without_reader_in r.borrow.ticket (joining r e).kept;
-              } ≡ e)
-          at None h = tt
-          at (Some e) h =
-              ap (λ k. record e { kept = k })
-              (rw reader (reader_gone r.borrow e.kept (rw reader at h)))
+      (each_some (slice_get slots r.slot) (λ e h. ap (λ k. record e { kept = k })
+      (rw reader (reader_gone r.borrow e.kept h))) free))
+
+  -- beside others it is listed
+  pub listed_there : (b : Borrow) (k : Kept T) → has_no_borrow (content_in k) ≡ false
+      → with_content (joined standing.Reader b) k ≡ k
+  listed_there b (Live kd (Here v []) l) beside = absurd (false≢true (sym beside))
+  listed_there b (Live kd (Here v (r ∷ rs)) l) beside = refl
+  listed_there b (Live kd (Lent w) l) beside = refl
+  listed_there b Empty beside = refl
+  listed_there b (Refers m l) beside = refl
+
+  -- alone it is the first
+  pub first_there : (b : Borrow) (k : Kept T) → has_no_borrow (content_in k) ≡ true
+      → with_content (joined standing.Reader b) k ≡ with_reader b k
+  first_there b (Live kd (Here v []) l) free = refl
+  first_there b (Live kd (Here v (r ∷ rs)) l) free = absurd (false≢true free)
+  first_there b (Live kd (Lent w) l) free = absurd (false≢true free)
+  first_there b Empty free = absurd (false≢true free)
+  first_there b (Refers m l) free = absurd (false≢true free)
+
+  -- a reader that is listed changes nothing
+  pub listed_same : (r : LastBorrow) (slots : List (Entry T)) → is_apart r.standing ≡ true
+      → is_writer r.standing ≡ false
+      → IfSome (slice_get slots r.slot) (λ e. has_no_borrow (content_in e.kept) ≡ false)
+      → slots ≡ noted r slots
+  listed_same r slots apart other beside =
+      let reader : r.standing ≡ standing.Reader = other_is r.standing apart other in
+      sym (rw apart (change_none slots r.slot (joining r)
+      (each_some (slice_get slots r.slot) (λ e h. ap (λ k. record e { kept = k })
+      (rw reader (listed_there r.borrow e.kept h))) beside)))
 
   -- a value that is put back ends its writer
   pub unwritten : (r : LastBorrow) (slots : List (Entry T)) (v : T)
@@ -388,6 +425,78 @@ module _ {T : Type 0} where
           rw (change_own slots i (λ e. record e { kept = taken e.kept }) there)
           (h.0, lent_then e.kept h.1)
 
+  -- a reader that was listed may be noted
+  listed_after : (b : Borrow) (k : Kept T)
+      → with_content (joined standing.Reader b) (with_reader b k) ≡ with_reader b k
+  listed_after b (Live kd (Here v []) l) = refl
+  listed_after b (Live kd (Here v (r ∷ rs)) l) = refl
+  listed_after b (Live kd (Lent w) l) = refl
+  listed_after b Empty = refl
+  listed_after b (Refers m l) = refl
+
+  pub listed_noted : (slots : List (Entry T)) (i : ℕ) (b : Borrow)
+      → change_entry (change_entry slots i (λ e. record e { kept = with_reader b e.kept })) i
+      (λ e. record e { kept = with_content (joined standing.Reader b) e.kept })
+      ≡ change_entry slots i (λ e. record e { kept = with_reader b e.kept })
+  listed_noted slots i b =
+      change_twice slots i (λ e. record e { kept = with_reader b e.kept })
+      (λ e. record e { kept = with_content (joined standing.Reader b) e.kept })
+      ∙ change_alike slots i _ (λ e. record e { kept = with_reader b e.kept })
+      (at (slice_get slots i))
+    where
+      at : (o : Option (Entry T)) → IfSome o (λ e.
+          record e { kept = with_content (joined standing.Reader b) (with_reader b e.kept) }
+          ≡ record e { kept = with_reader b e.kept })
+      at None = tt
+      at (Some e) = ap (λ k. record e { kept = k }) (listed_after b e.kept)
+
+  -- and so may one of a value without borrows
+  pub first_noted : (slots : List (Entry T)) (i g : ℕ) (b : Borrow)
+      → IsAlone g (slice_get slots i)
+      → change_entry slots i (λ e. record e { kept = with_content (joined standing.Reader b) e.kept })
+      ≡ change_entry slots i (λ e. record e { kept = with_reader b e.kept })
+  first_noted slots i g b alone =
+      change_alike slots i _ (λ e. record e { kept = with_reader b e.kept })
+      (at (slice_get slots i) alone)
+    where
+      at : (o : Option (Entry T)) → IsAlone g o → IfSome o (λ e.
+          record e { kept = with_content (joined standing.Reader b) e.kept }
+          ≡ record e { kept = with_reader b e.kept })
+      at None h = tt
+      at (Some e) h = ap (λ k. record e { kept = k }) (first_there b e.kept h.1)
+
+  fits_after : (b : Borrow) (k : Kept T) → is_some (value_of (content_in k)) ≡ true
+      → may_join standing.Reader b.ticket (content_in (with_reader b k)) ≡ true
+  fits_after b (Live kd (Here v []) l) there = rw (same_number b.ticket) refl
+  fits_after b (Live kd (Here v (r ∷ rs)) l) there = any_last b.ticket (r ∷ rs) b refl
+  fits_after b (Live kd (Lent w) l) there = there
+  fits_after b Empty there = there
+  fits_after b (Refers m l) there = there
+
+  pub listed_apart : (slots : List (Entry T)) (i g : ℕ) (b : Borrow)
+      → IsReadable g (slice_get slots i)
+      → IsNoted (record { standing = standing.Reader; slot = i; generation = g; borrow = b })
+      (change_entry slots i (λ e. record e { kept = with_reader b e.kept }))
+  listed_apart slots i g b there is = at (slice_get slots i) refl there
+    where
+      at : (o : Option (Entry T)) → slice_get slots i ≡ o → IsReadable g o
+          → HasApart (record { standing = standing.Reader; slot = i; generation = g; borrow = b })
+          (slice_get (change_entry slots i (λ e. record e { kept = with_reader b e.kept })) i)
+      at None empty h = absurd h
+      at (Some e) own h =
+          rw (change_own slots i (λ e. record e { kept = with_reader b e.kept }) own)
+          (h.0, fits_after b e.kept h.1)
+
+  pub first_apart : (slots : List (Entry T)) (i g : ℕ) (b : Borrow)
+      → IsAlone g (slice_get slots i)
+      → IsNoted (record { standing = standing.Reader; slot = i; generation = g; borrow = b }) slots
+  first_apart slots i g b alone is = at (slice_get slots i) alone
+    where
+      at : (o : Option (Entry T)) → IsAlone g o
+          → HasApart (record { standing = standing.Reader; slot = i; generation = g; borrow = b }) o
+      at None h = absurd h
+      at (Some e) h = (h.0, rw h.1 refl)
+
   -- ---- what is asked of a cell
 
   pub kind_same : (f : Content T → Content T) (k : Kept T) → kind_in (cell_of (with_content f k))
@@ -414,14 +523,14 @@ module _ {T : Type 0} where
   -- what holds of the slot at which the borrow stands apart
   pub noted_there : (r : LastBorrow) (slots : List (Entry T)) → IsNoted r slots
       → is_apart r.standing ≡ true → (P : Entry T → Type 0)
-      → ((e : Entry T) → may_join r.standing (content_in e.kept) ≡ true → P (joining r e))
+      → ((e : Entry T) → may_join r.standing r.borrow.ticket (content_in e.kept) ≡ true → P (joining r e))
       → IfSome (slice_get (noted r slots) r.slot) P
   noted_there r slots alone is P holds =
       rw is (change_here slots r.slot (joining r) P
       (at (slice_get slots r.slot) (apart_there r slots alone is)))
     where
       at : (o : Option (Entry T))
-          → IfSome o (λ e. may_join r.standing (content_in e.kept) ≡ true)
+          → IfSome o (λ e. may_join r.standing r.borrow.ticket (content_in e.kept) ≡ true)
           → IfSome o (λ e. P (joining r e))
       at None h = tt
       at (Some e) h = holds e h
@@ -429,13 +538,13 @@ module _ {T : Type 0} where
   -- what the borrow that stands apart leaves true of its cell holds of all slots with it
   pub joined_says : (r : LastBorrow) (slots : List (Entry T)) → IsNoted r slots → (k : ℕ)
       (P : Entry T → Type 0) → (is_apart r.standing ≡ true → r.slot ≡ k → (e : Entry T)
-      → may_join r.standing (content_in e.kept) ≡ true → P e → P (joining r e))
+      → may_join r.standing r.borrow.ticket (content_in e.kept) ≡ true → P e → P (joining r e))
       → IfSome (slice_get slots k) P → IfSome (slice_get (noted r slots) k) P
   joined_says r slots alone k P stays h = by (is_apart r.standing) refl
     where
       here : is_apart r.standing ≡ true → r.slot ≡ k
           → (o : Option (Entry T)) → IfSome o P
-          → IfSome o (λ e. may_join r.standing (content_in e.kept) ≡ true)
+          → IfSome o (λ e. may_join r.standing r.borrow.ticket (content_in e.kept) ≡ true)
           → IfSome o (λ e. P (joining r e))
       here is same None h fits = tt
       here is same (Some e) h fits = stays is same e fits h
@@ -529,13 +638,13 @@ module _ {T : Type 0} where
       by true is = at (slice_get slots r.slot) refl (alone is)
       by false is = refl
 
-  full : (s : Standing) (f : Content T → Content T) (k : Kept T)
-      → may_join s (content_in k) ≡ true → with_content f k ≡ Empty → ⊥
-  full s f (Live kd c l) fits same = absurd cc
-  full standing.Nobody f Empty fits same = false≢true fits
-  full standing.Reader f Empty fits same = false≢true fits
-  full standing.Writer f Empty fits same = false≢true fits
-  full s f (Refers m l) fits same = absurd cc
+  full : (s : Standing) (t : ℕ) (f : Content T → Content T) (k : Kept T)
+      → may_join s t (content_in k) ≡ true → with_content f k ≡ Empty → ⊥
+  full s t f (Live kd c l) fits same = absurd cc
+  full standing.Nobody t f Empty fits same = false≢true fits
+  full standing.Reader t f Empty fits same = false≢true fits
+  full standing.Writer t f Empty fits same = false≢true fits
+  full s t f (Refers m l) fits same = absurd cc
 
   -- it isn't where there is no cell
   pub not_empty : (r : LastBorrow) (slots : List (Entry T)) (j : ℕ) → IsNoted r slots
@@ -548,7 +657,7 @@ module _ {T : Type 0} where
       at (Some e) there has =
           let seen : slice_get (noted r slots) j ≡ Some (joining r e) =
           rw (is, ← same) (change_own slots r.slot (joining r) there) in
-          full r.standing (joined r.standing r.borrow) e.kept has.1
+          full r.standing r.borrow.ticket (joined r.standing r.borrow) e.kept has.1
           (subst (λ o. IfSome o (λ x. x.kept ≡ Empty)) seen empty)
 
   -- another slot that is written
@@ -592,36 +701,52 @@ module _ {T : Type 0} where
   refer_order m f (Live kd c l) = refl
   refer_order m f (Refers n l) = refl
 
-  pub each_some : (o : Option (Entry T)) {P Q : Entry T → Type 0}
-      → ((e : Entry T) → P e → Q e) → IfSome o P → IfSome o Q
-  each_some None f h = tt
-  each_some (Some e) f h = f e h
-
   -- it opens to its own ticket alone
   pub opens_same : (s : Standing) (b : Borrow) (t : ℕ) (k : Kept T) → is_apart s ≡ true
-      → (is_reader s ≡ true → b.ticket ≡ t → ⊥) → may_join s (content_in k) ≡ true
+      → (is_reader s ≡ true → b.ticket ≡ t → ⊥) → may_join s b.ticket (content_in k) ≡ true
       → value_for t (content_in k) ≡ value_for t (content_in (with_content (joined s b) k))
   opens_same standing.Nobody b t k apart other fits = absurd (false≢true apart)
   opens_same standing.Reader b t (Live kd (Here v []) l) apart other fits =
       rw (ne_eqb b.ticket t (other refl)) refl
-  opens_same standing.Reader b t (Live kd (Here v (r ∷ rs)) l) apart other fits =
-      absurd (false≢true fits)
-  opens_same standing.Reader b t (Live kd (Lent w) l) apart other fits = absurd (false≢true fits)
-  opens_same standing.Reader b t Empty apart other fits = absurd (false≢true fits)
-  opens_same standing.Reader b t (Refers m l) apart other fits = absurd (false≢true fits)
+  opens_same standing.Reader b t (Live kd (Here v (r ∷ rs)) l) apart other fits = refl
+  opens_same standing.Reader b t (Live kd (Lent w) l) apart other fits = refl
+  opens_same standing.Reader b t Empty apart other fits = refl
+  opens_same standing.Reader b t (Refers m l) apart other fits = refl
   opens_same standing.Writer b t (Live kd (Here v rs) l) apart other fits =
       absurd (false≢true fits)
   opens_same standing.Writer b t (Live kd (Lent w) l) apart other fits = refl
   opens_same standing.Writer b t Empty apart other fits = absurd (false≢true fits)
   opens_same standing.Writer b t (Refers m l) apart other fits = absurd (false≢true fits)
 
-  pub reads_there : (b : Borrow) (k : Kept T) → has_no_borrow (content_in k) ≡ true
+  -- it reads its cell
+  pub reads_there : (b : Borrow) (k : Kept T)
+      → may_join standing.Reader b.ticket (content_in k) ≡ true
       → true ≡ has_reader (content_in (with_content (joined standing.Reader b) k)) b.ticket
-  reads_there b (Live kd (Here v []) l) free = rw (same_number b.ticket) refl
-  reads_there b (Live kd (Here v (r ∷ rs)) l) free = absurd (false≢true free)
-  reads_there b (Live kd (Lent w) l) free = absurd (false≢true free)
-  reads_there b Empty free = absurd (false≢true free)
-  reads_there b (Refers m l) free = absurd (false≢true free)
+  reads_there b (Live kd (Here v []) l) fits = rw (same_number b.ticket) refl
+  reads_there b (Live kd (Here v (r ∷ rs)) l) fits = sym fits
+  reads_there b (Live kd (Lent w) l) fits = sym fits
+  reads_there b Empty fits = sym fits
+  reads_there b (Refers m l) fits = sym fits
+
+  -- and the value is there
+  pub valued_there : (b : Borrow) (k : Kept T)
+      → may_join standing.Reader b.ticket (content_in k) ≡ true
+      → is_some (value_of (content_in k)) ≡ true
+  valued_there b (Live kd (Here v rs) l) fits = refl
+  valued_there b (Live kd (Lent w) l) fits = fits
+  valued_there b Empty fits = fits
+  valued_there b (Refers m l) fits = fits
+
+  -- so that it opens
+  pub opens_there : (b : Borrow) (k : Kept T) (v : T)
+      → may_join standing.Reader b.ticket (content_in k) ≡ true
+      → value_of (content_in k) ≡ Some v
+      → Some v ≡ value_for b.ticket (content_in (with_content (joined standing.Reader b) k))
+  opens_there b (Live kd (Here v []) l) x fits value = rw (same_number b.ticket) (sym value)
+  opens_there b (Live kd (Here v (r ∷ rs)) l) x fits value = rw fits (sym value)
+  opens_there b (Live kd (Lent w) l) x fits value = absurd (false≢true fits)
+  opens_there b Empty x fits value = absurd (false≢true fits)
+  opens_there b (Refers m l) x fits value = absurd (false≢true fits)
 
   -- whose a value is told of every content
   pub kinds_hold : (c : Option (Cell T)) → is_some (kind_in c) ≡ is_some (content_of c)
@@ -670,20 +795,14 @@ module _ {T : Type 0} where
   found_writing b Empty r found lent = absurd (false≢true lent)
   found_writing b (Refers m l) r found lent = absurd (false≢true lent)
 
-  pub found_last : (s : Standing) (b : Borrow) (k : Kept T) (r : Refused BorrowMutError)
-      → is_apart s ≡ true → (is_writer s ≡ false → FoundReaders (b ∷ []) r)
-      → (is_writer s ≡ true → r ≡ refused.Borrow
-      (writes.AlreadyBorrowedMut (record { borrowed_mut_at = b.location })))
-      → may_join s (content_in k) ≡ true
-      → FoundBorrowed (write_refusal (content_in (with_content (joined s b) k))) (Err r)
-  found_last standing.Nobody b k r apart reader writer fits = absurd (false≢true apart)
-  found_last standing.Reader b k r apart reader writer fits =
-      found_reading b k r (reader refl) fits
-  found_last standing.Writer b k r apart reader writer fits =
-      found_writing b k r (writer refl) fits
-
   -- what no borrow keeps from being written has none
   pub unrefused : (c : Content T) → write_refusal (Some c) ≡ None → has_no_borrow (Some c) ≡ true
   unrefused (Here v []) free = refl
   unrefused (Here v (r ∷ rs)) free = absurd (none-some _ (sym free))
   unrefused (Lent w) free = absurd (none-some _ (sym free))
+
+  -- and what no borrow keeps from being read has a value
+  pub readable : (c : Content T) → read_refusal (Some c) ≡ None
+      → is_some (value_of (Some c)) ≡ true
+  readable (Here v rs) free = refl
+  readable (Lent w) free = absurd (none-some _ (sym free))

@@ -1,8 +1,5 @@
 -- The writer that stands in the way of a read.
-use Rattle.std.proofs.Common.{arith, refl, ◌≡◌, slice_get, option_map, Some}
-use Rattle.generational_core.specs.Borrowing.{read_refusal}
-use Rattle.generational_core.specs.Borrowing.Trouble.{BeingWritten}
-use Rattle.generational_box.specs.Entry.{content_in}
+use Rattle.std.proofs.Common.{arith, refl}
 use Rattle.generational_box.proofs.states.Entries.{kept, many, not_lent, says, lent_used, read_slot}
 use Rattle.generational_box.proofs.states.Entries.{list_none, says_of, read_details}
 use Rattle.generational_box.proofs.entries.Entries.borrow_error.Goals as goal

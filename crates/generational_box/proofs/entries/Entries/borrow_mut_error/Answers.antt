@@ -1,6 +1,6 @@
 -- The borrows that stand in the way of a write or an end.
 use Rattle.std.proofs.Common.{arith, refl, ap, sym, ◌≡◌, ◌≢◌, ℕ, List, [], ◌∷◌}
-use Rattle.std.proofs.Common.{Some, Option, Err, subst, slice_get, ◌∙◌}
+use Rattle.std.proofs.Common.{Some, Option, Err, subst}
 use Rattle.generational_core.specs.Borrowing.{Trouble, write_refusal}
 use Rattle.generational_core.specs.Cells.Content.{Here}
 use Rattle.generational_core.specs.declared.borrow.Borrow.{Borrow}

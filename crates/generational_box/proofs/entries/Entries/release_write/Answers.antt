@@ -1,8 +1,6 @@
 -- A writer's end.
-use Rattle.std.proofs.Common.{arith, refl, sym, ap, ◌≡◌, ◌∙◌, true, false, nat_eq, is_ok, IsTrue}
-use Rattle.std.proofs.Common.{◌↔◌}
+use Rattle.std.proofs.Common.{arith, refl, sym, ◌≡◌, ◌∙◌, true}
 use Rattle.std.proofs.lemmas.Bool.{false≢true, eq-eqb, eqb-true}
-use Rattle.generational_core.specs.Machine.{has_writer}
 use Rattle.generational_box.specs.Entry.{content_in, is_lent}
 use Rattle.generational_box.proofs.states.Entries.{kept, lent_used, list_none, many, no_writer}
 use Rattle.generational_box.proofs.states.Entries.{read_details, read_slot, says, says_of}

@@ -1,4 +1,4 @@
-use Rattle.std.proofs.Common.{refl, sym, ap, ◌∙◌}
+use Rattle.std.proofs.Common.{ap, ◌∙◌}
 use Rattle.generational_box.specs.Entry.{lend_to}
 use Rattle.generational_box.specs.Entries.{EntryList}
 use Rattle.generational_box.specs.Slotted.{change_entry}

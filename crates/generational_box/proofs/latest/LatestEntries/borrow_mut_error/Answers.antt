@@ -1,7 +1,7 @@
 -- The borrows that stand in the way of a write or an end.
-use Rattle.std.proofs.Common.{refl, ap, sym, ◌≡◌, ◌∙◌}
+use Rattle.std.proofs.Common.{sym, ◌∙◌}
 use Rattle.std.proofs.lemmas.Bool.{false≢true}
-use Rattle.generational_box.proofs.states.Latest.{found_last, noted_away, noted_there}
+use Rattle.generational_box.proofs.states.Latest.{change_here, joining, noted_away}
 use Rattle.generational_box.proofs.latest.LatestEntries.borrow_mut_error.Goals as goal
 use Rattle.generational_box.proofs.latest.LatestEntries.borrow_mut_error.Goals.{else-is_apart-via-then-is_apart+else-self-slot}
 use Rattle.generational_box.proofs.latest.LatestEntries.borrow_mut_error.Goals.{else-is_apart-via-else-is_apart}
@@ -10,10 +10,8 @@ pub returns-then-self-slot : goal.returns-then-self-slot
 returns-then-self-slot g c =
     let last = c.self.inside.last in
     let apart = sym c.is_apart.ensures ∙ c.if-is_apart.true in
-    rw (← c.self.view_is, ← c.if-self-slot.true)
-    (noted_there last c.self.inside.settled.slots c.self.invariant apart _
-    (λ e fits. found_last last.standing last.borrow e.kept _ apart c.last_error.ensures.reader
-    c.last_error.ensures.writer fits))
+    rw (← c.self.view_is, ← c.if-self-slot.true, apart)
+    (change_here c.self.inside.settled.slots last.slot (joining last) _ c.last_error.ensures)
 
 pub returns : goal.returns
 returns g c =

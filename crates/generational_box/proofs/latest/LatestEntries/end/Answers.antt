@@ -1,4 +1,4 @@
-use Rattle.std.proofs.Common.{refl, ap, sym, ◌∙◌, ◌≡◌}
+use Rattle.std.proofs.Common.{refl, ap, ◌∙◌}
 use Rattle.generational_box.specs.Entry.Kept.{Empty}
 use Rattle.generational_box.specs.Entries.{EntryList}
 use Rattle.generational_box.specs.Latest.{noted}

@@ -1,4 +1,4 @@
-use Rattle.std.proofs.Common.{refl, sym, ap, ◌≡◌, ◌∙◌, is_some}
+use Rattle.std.proofs.Common.{sym, ap, ◌∙◌, is_some}
 use Rattle.generational_core.specs.Cells.{content_of}
 use Rattle.generational_box.specs.Entry.{name_of_cell}
 use Rattle.generational_box.specs.Slotted.{cell_at}

@@ -1,4 +1,4 @@
-use Rattle.std.proofs.Common.{refl, sym, ap, ◌≡◌, ◌∙◌, option_copied, true}
+use Rattle.std.proofs.Common.{sym, ◌≡◌, ◌∙◌, option_copied, true}
 use Rattle.std.proofs.lemmas.Bool.{false≢true}
 use Rattle.generational_box.specs.Entry.{content_in, value_for}
 use Rattle.generational_box.specs.Latest.{is_reader}

@@ -1,4 +1,4 @@
-use Rattle.std.proofs.Common.{refl, ap, ◌∙◌, ◌++◌, [], ◌∷◌}
+use Rattle.std.proofs.Common.{ap, ◌∙◌, ◌++◌, [], ◌∷◌}
 use Rattle.generational_box.specs.Entries.{EntryList, kept_data}
 use Rattle.generational_box.proofs.states.Latest.{noted_pushed}
 use Rattle.generational_box.proofs.latest.LatestEntries.push.Goals as goal

@@ -1,4 +1,4 @@
-use Rattle.std.proofs.Common.{refl, sym, ap, ◌∙◌}
+use Rattle.std.proofs.Common.{sym, ap, ◌∙◌}
 use Rattle.generational_core.specs.Borrowing.{leads_to}
 use Rattle.generational_box.specs.Entry.{name_of_cell}
 use Rattle.generational_box.specs.Slotted.{cell_at}

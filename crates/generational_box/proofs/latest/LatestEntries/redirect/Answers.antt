@@ -1,5 +1,5 @@
-use Rattle.std.proofs.Common.{refl, ap, ◌∙◌, ◌≡◌, slice_get}
-use Rattle.generational_box.specs.Entry.{Entry, referring}
+use Rattle.std.proofs.Common.{ap, ◌∙◌, ◌≡◌, slice_get}
+use Rattle.generational_box.specs.Entry.{referring}
 use Rattle.generational_box.specs.Latest.{noted, joined}
 use Rattle.generational_box.specs.Slotted.{change_entry}
 use Rattle.generational_box.proofs.states.Latest.{each_some, joined_says, noted_order, refer_order}

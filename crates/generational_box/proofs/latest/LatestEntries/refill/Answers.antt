@@ -1,4 +1,4 @@
-use Rattle.std.proofs.Common.{refl, ap, sym, ◌∙◌, ◌≡◌, [], slice_set, slice_get, subst, IfSome}
+use Rattle.std.proofs.Common.{ap, sym, ◌∙◌, ◌≡◌, [], slice_set, slice_get, subst, IfSome}
 use Rattle.generational_box.specs.Entry.Kept.{Empty}
 use Rattle.generational_box.specs.Entries.{EntryList, kept_data}
 use Rattle.generational_box.proofs.states.Latest.{not_empty, noted_set}

@@ -1,22 +1,20 @@
-use Rattle.std.proofs.Common.{refl, sym, ap, ◌∙◌}
-use Rattle.generational_box.specs.Entry.{without_reader_in}
+use Rattle.std.proofs.Common.{sym, ap, ◌≡◌, ◌∙◌, IfSome, refl, slice_get, subst}
+use Rattle.generational_box.specs.Entry.{content_in, has_no_borrow, without_reader_in}
 use Rattle.generational_box.specs.Entries.{EntryList}
 use Rattle.generational_box.specs.Slotted.{change_entry}
-use Rattle.generational_box.proofs.states.Latest.{noted_there, reader_is, reads_there, unread}
+use Rattle.generational_box.proofs.states.Latest.{each_some, unread}
 use Rattle.generational_box.proofs.latest.LatestEntries.release_read.Goals as goal
 
-pub returns-then-self-ticket-clause-after : goal.returns-then-self-ticket-clause-after
-returns-then-self-ticket-clause-after g c =
+pub returns-then-has_no_borrow-clause-after : goal.returns-then-has_no_borrow-clause-after
+returns-then-has_no_borrow-clause-after g c =
     let last = c.self.inside.last in
-    unread last c.self.inside.settled.slots c.self.invariant (sym c.is_reader.ensures ∙ c.if-is_reader.true)
+    let slots = c.self.inside.settled.slots in
+    let seen = subst (λ i. IfSome (slice_get slots i)
+    (λ e. c.has_no_borrow.result ≡ has_no_borrow (content_in e.kept)))
+    (sym c.if-self-slot.true) c.has_no_borrow.ensures in
+    let free = each_some (slice_get slots last.slot) (λ e h. sym h ∙ c.if-has_no_borrow.true)
+    seen in
+    unread last slots (sym c.is_reader.ensures ∙ c.if-is_reader.true) free
     ∙ (ap (λ (x : EntryList _). change_entry x.slots last.slot
     (λ e. record e { kept = without_reader_in last.borrow.ticket e.kept })) c.self.view_is
     ∙ rw (c.if-self-slot.true, c.if-self-ticket.true) refl)
-
-pub returns-then-self-ticket-clause-known : goal.returns-then-self-ticket-clause-known
-returns-then-self-ticket-clause-known g c =
-    let last = c.self.inside.last in
-    let reader = reader_is last.standing (sym c.is_reader.ensures ∙ c.if-is_reader.true) in
-    rw (← c.self.view_is, ← c.if-self-slot.true, ← c.if-self-ticket.true)
-    (noted_there last c.self.inside.settled.slots c.self.invariant (rw reader refl) _
-    (λ e fits. rw reader (reads_there last.borrow e.kept (rw reader at fits))))

@@ -1,4 +1,4 @@
-use Rattle.std.proofs.Common.{refl, sym, ap, ◌∙◌}
+use Rattle.std.proofs.Common.{sym, ap, ◌∙◌}
 use Rattle.generational_box.specs.Entry.{with_value}
 use Rattle.generational_box.specs.Entries.{EntryList}
 use Rattle.generational_box.specs.Latest.{noted}

@@ -4,14 +4,19 @@ use Rattle.generational_box.specs.Entry.{one_read, readers_of}
 use Rattle.generational_box.proofs.Common.{name_of_cell, state_of, write_refusal}
 use Rattle.generational_box.proofs.states.Entries.{ok_then, err_from}
 use Rattle.generational_box.proofs.states.Changes.{either, filled_in, heard_in, held_in}
-use Rattle.generational_box.proofs.states.Changes.{held_within, referred_changed, seen_in}
+use Rattle.generational_box.proofs.states.Changes.{referred_changed, seen_in}
 use Rattle.generational_box.proofs.states.Changes.{slotted_changed, state_is}
-use Rattle.generational_box.proofs.states.Latest.{unrefused}
+use Rattle.generational_core.specs.Borrowing.{read_refusal}
+use Rattle.generational_box.proofs.states.Latest.{readable, unrefused}
 use Rattle.generational_box.proofs.slots.Slots.begin_read.Goals as goal
 
-pub begin_read-requires-clause-within : goal.begin_read-requires-clause-within
-begin_read-requires-clause-within g c =
-    held_within (held_in (state_is c.self.view_is) (name_of_cell c.args.name) c.requires.there)
+pub begin_read-requires-clause-there : goal.begin_read-requires-clause-there
+begin_read-requires-clause-there g c =
+    let view = state_is c.self.view_is in
+    let n = name_of_cell c.args.name in
+    let f = held_in view n c.requires.there in
+    let free = heard_in view n f read_refusal (λ t. t ≡ None) c.requires.free in
+    rw f.there (refl, readable f.content (rw f.there at free))
 
 pub begin_read-requires-clause-ascends : goal.begin_read-requires-clause-ascends
 begin_read-requires-clause-ascends g c =

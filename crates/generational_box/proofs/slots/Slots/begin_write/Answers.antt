@@ -1,7 +1,7 @@
 use Rattle.std.proofs.Common.{◌≡◌, true, Some, [], refl}
 use Rattle.generational_box.specs.Entry.{has_no_borrow}
 use Rattle.generational_box.proofs.Common.{name_of_cell, Here, Lent}
-use Rattle.generational_box.proofs.states.Changes.{heard_in, held_in, held_within}
+use Rattle.generational_box.proofs.states.Changes.{heard_in, held_in}
 use Rattle.generational_box.proofs.states.Changes.{referred_changed, seen_in, slotted_changed}
 use Rattle.generational_box.proofs.states.Changes.{state_changed, state_is, unborrowed_there}
 use Rattle.generational_box.proofs.slots.Slots.begin_write.Goals as goal
