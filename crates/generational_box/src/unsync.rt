@@ -49,6 +49,7 @@ impl<T, P: SlotPool> Store<T, P> {
 
     /// An empty store with this number, by which it tells its boxes from those of other stores:
     /// its maker chooses it. Generations begin at 1, and tickets at 0. Takes no memory.
+    // Not inlined, nor is a store's end: see `Drop` of its parts.
     #[inline(never)]
     pub fn new(alloc: Global, number: u64) -> Self
         ensures { result.state ≡ fresh number 1 0 }
