@@ -280,6 +280,22 @@ impl<T> Entries<T> {
     {
         match &self.entries[slot].content {
             StorageEntryData::Data(_, value) => value,
+            _ => self.read_value(slot),
+        }
+    }
+
+    // The same, for every value.
+    #[cold]
+    #[inline(never)]
+    fn read_value(&self, slot: usize) -> &T
+        requires within { slot < length self.now.slots }
+        requires there { IfSome (slice_get self.now.slots slot)
+            (λ e. is_some (value_of (content_in e.kept)) ≡ true) }
+        ensures { IfSome (slice_get self.now.slots slot)
+            (λ e. value_of (content_in e.kept) ≡ Some result.now) }
+    {
+        match &self.entries[slot].content {
+            StorageEntryData::Data(_, value) => value,
             StorageEntryData::Read(_, _, value) => value,
             _ => unreachable!(),
         }
