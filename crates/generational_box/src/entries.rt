@@ -228,7 +228,7 @@ impl<T> Entries<T> {
             (λ e. result ≡ is_none (write_refusal (content_in e.kept))) }
     {
         match &self.entries[slot].content {
-            StorageEntryData::Read(_, _, _) => false,
+            StorageEntryData::Data(_, index, _) => *index == NO_INDEX,
             StorageEntryData::Lent(_, _) => false,
             _ => true,
         }
@@ -241,7 +241,10 @@ impl<T> Entries<T> {
         ensures { IfSome (slice_get self.now.slots slot)
             (λ e. result ≡ has_no_borrow (content_in e.kept)) }
     {
-        matches!(&self.entries[slot].content, StorageEntryData::Data(_, _))
+        match &self.entries[slot].content {
+            StorageEntryData::Data(_, index, _) => *index == NO_INDEX,
+            _ => false,
+        }
     }
 
     // The borrows that stand in the way of a write or an end.
@@ -252,7 +255,10 @@ impl<T> Entries<T> {
             (λ e. FoundBorrowed (write_refusal (content_in e.kept)) result) }
     {
         match &self.entries[slot].content {
-            StorageEntryData::Read(_, index, _) => {
+            StorageEntryData::Data(_, index, _) => {
+                if *index == NO_INDEX {
+                    return Ok(());
+                }
                 Err(readers_error(&self.borrows, *index, self.alloc))
             }
             StorageEntryData::Lent(_, index) => {
@@ -279,24 +285,7 @@ impl<T> Entries<T> {
             (λ e. value_of (content_in e.kept) ≡ Some result.now) }
     {
         match &self.entries[slot].content {
-            StorageEntryData::Data(_, value) => value,
-            _ => self.read_value(slot),
-        }
-    }
-
-    // The same, for every value.
-    #[cold]
-    #[inline(never)]
-    fn read_value(&self, slot: usize) -> &T
-        requires within { slot < length self.now.slots }
-        requires there { IfSome (slice_get self.now.slots slot)
-            (λ e. is_some (value_of (content_in e.kept)) ≡ true) }
-        ensures { IfSome (slice_get self.now.slots slot)
-            (λ e. value_of (content_in e.kept) ≡ Some result.now) }
-    {
-        match &self.entries[slot].content {
-            StorageEntryData::Data(_, value) => value,
-            StorageEntryData::Read(_, _, value) => value,
+            StorageEntryData::Data(_, _, value) => value,
             _ => unreachable!(),
         }
     }
@@ -309,8 +298,8 @@ impl<T> Entries<T> {
             (λ e. option_copied result ≡ value_for ticket (content_in e.kept)) }
     {
         match &self.entries[slot].content {
-            StorageEntryData::Read(_, index, value) => {
-                if self.borrows.contains(*index, ticket) {
+            StorageEntryData::Data(_, index, value) => {
+                if *index != NO_INDEX && self.borrows.contains(*index, ticket) {
                     return Some(value);
                 }
                 None
@@ -335,13 +324,12 @@ impl<T: Drop> Entries<T> {
             (λ e. is_some (write_refusal (content_in e.kept)) ≡ true)) }
         ensures rooms { self.new.rooms ≡ self.old.rooms }
     {
-        let content = &mut self.entries[slot].content;
-        match content {
-            StorageEntryData::Data(_, _) => {
-                content.list(self.borrows.open(borrow));
-                Ok(())
-            }
-            StorageEntryData::Read(_, index, _) => {
+        match &mut self.entries[slot].content {
+            StorageEntryData::Data(_, index, _) => {
+                if *index == NO_INDEX {
+                    *index = self.borrows.open(borrow);
+                    return Ok(());
+                }
                 if *index == 0 {
                     *index = self.borrows.join(borrow)?;
                     return Ok(());
@@ -362,12 +350,12 @@ impl<T: Drop> Entries<T> {
             (λ e. record e { kept = without_reader_in ticket e.kept }) }
         ensures rooms { self.new.rooms ≡ self.old.rooms }
     {
-        let content = &mut self.entries[slot].content;
-        match content {
-            StorageEntryData::Read(_, index, _) => {
-                let known = self.borrows.release(index, ticket);
-                content.unlist();
-                known
+        match &mut self.entries[slot].content {
+            StorageEntryData::Data(_, index, _) => {
+                if *index == NO_INDEX {
+                    return false;
+                }
+                self.borrows.release(index, ticket)
             }
             _ => false,
         }
@@ -385,7 +373,7 @@ impl<T: Drop> Entries<T> {
             (λ e. record e { kept = taken e.kept }) }
         ensures rooms { self.new.rooms ≡ self.old.rooms }
     {
-        self.entries[slot].content.lend()
+        self.entries[slot].content.lend(NO_INDEX)
     }
 
     // Lets a lent value have this writer.
@@ -422,7 +410,7 @@ impl<T: Drop> Entries<T> {
         match &self.entries[slot].content {
             StorageEntryData::Lent(kind, index) => {
                 let (kind, index) = (*kind, *index);
-                self.entries[slot].content = StorageEntryData::Data(kind, value);
+                self.entries[slot].content = StorageEntryData::Data(kind, NO_INDEX, value);
                 if index != NO_INDEX {
                     self.borrows.close(index);
                 }
@@ -469,7 +457,7 @@ impl<T: Drop> Entries<T> {
         ensures rooms { self.new.rooms ≡ self.old.rooms }
     {
         match &mut self.entries[slot].content {
-            StorageEntryData::Data(_, kept) => mem::replace(kept, value),
+            StorageEntryData::Data(_, _, kept) => mem::replace(kept, value),
             _ => unreachable!(),
         }
     }
