@@ -583,8 +583,7 @@ fn larger_room(room: usize) -> Result<usize, StoreError>
     Ok(most.min(room + more_room(room)))
 }
 
-// The answer to a write or an end where the readers at this index stand. Here the room for the
-// answer is set up, and so only where there is one.
+// The answer to a write or an end where the readers at this index stand.
 #[cold]
 #[inline(never)]
 fn readers_error(borrows: &BorrowTable, index: u32, alloc: Global) -> Refused<BorrowMutError>

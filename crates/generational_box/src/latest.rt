@@ -268,6 +268,12 @@ impl<T> LatestEntries<T> {
         self.settled.borrow_mut_error(slot)
     }
 
+    // Whether no borrow stands apart.
+    #[inline(always)]
+    pub(crate) fn is_settled(&self) -> bool {
+        !self.last.is_apart()
+    }
+
     // The value, where the reader stands.
     #[inline(always)]
     pub(crate) fn open(&self, slot: usize, ticket: u64) -> Option<&T>

@@ -581,6 +581,21 @@ impl<T: Drop, P: SlotPool> Parts<T, P> {
         }
     }
 
+    // The borrow that stands apart, if there is one, goes to a list. Nothing that contracts see
+    // changes. The number is written back after it: LLVM takes it that whoever has a part of the
+    // store may write all of it, and so it would ask for the number again.
+    #[inline(always)]
+    fn settle(&mut self)
+        ensures { self.new ≡ self.old }
+    {
+        if self.slots.is_settled() {
+            return;
+        }
+        let number = self.number;
+        self.slots.settle();
+        self.number = number;
+    }
+
     // Begins a write.
     #[inline(always)]
     pub(crate) fn try_write(
@@ -591,7 +606,7 @@ impl<T: Drop, P: SlotPool> Parts<T, P> {
         requires { IsSound self.old }
         ensures { Meets self.old (Write pointer location) (write_answer result) self.new }
     {
-        self.slots.settle();
+        self.settle();
         match self.writable(pointer) {
             Ok(name) => self.begin_write(pointer, name, location),
             Err(refused) => Err(refused),

@@ -234,6 +234,12 @@ impl<T: Drop, P: SlotPool> Slots<T, P> {
         self.entries.open(name.slot, ticket)
     }
 
+    // Whether no borrow stands apart.
+    #[inline(always)]
+    pub(crate) fn is_settled(&self) -> bool {
+        self.entries.is_settled()
+    }
+
     // The borrow that stands apart, if there is one, goes to a list. Nothing that contracts see
     // changes.
     #[inline(always)]
@@ -541,20 +547,10 @@ impl<T: Drop, P: SlotPool> Slots<T, P> {
             self.remove(name, None);
             return;
         }
-        self.close_apart(name);
-    }
-
-    // The same, for every cell.
-    #[cold]
-    #[inline(never)]
-    fn close_apart(&mut self, name: CellName)
-        requires { IsLinked self.old.state.cells }
-        ensures { self.new.state ≡ close self.old.state (name_of_cell name ∷ []) }
-    {
         self.close_any(name);
     }
 
-    // The same.
+    // The same, for every cell.
     #[cold]
     #[inline(never)]
     fn close_any(&mut self, name: CellName)
