@@ -14,13 +14,20 @@ use std::marker::Model;
 /// The borrows that stand at one cell, one at least, in the order in which they began: so their
 /// tickets ascend. Contracts see them as that list.
 ///
-/// The first stands in place, so that a cell's first borrow takes no memory. Of the others, the one
-/// with a ticket is found by binary search, and the first or the last is taken away in constant
-/// time.
+/// One borrow stands in place, so that a cell's first borrow takes no memory. Where there are more,
+/// all stand in a queue apart. There the one with a ticket is found by binary search, and then taken
+/// away in constant time if it is the first or the last. Once one borrow is left, the queue's memory
+/// is given back.
 #[derive(Drop)]
 pub(crate) struct Borrows {
-    first: Borrow,
-    others: VecDeque<Borrow>,
+    standing: Standing,
+}
+
+/// One borrow, or a queue of two at least.
+#[derive(Drop)]
+enum Standing {
+    One(Borrow),
+    Several(Box<VecDeque<Borrow>>),
 }
 
 /// What became of a borrow that was to be taken away: there was none, there are others beside it,
@@ -33,26 +40,25 @@ pub(crate) enum Removal {
 }
 
 impl Model for Borrows {
-    ghost use Rattle.std.specs.Prelude.{List, ◌∷◌};
+    ghost use Rattle.std.specs.Prelude.{List};
     ghost use Rattle.generational_core.specs.declared.borrow.Borrow.{Borrow};
-    ghost use Rattle.generational_box.specs.Borrows.{Ascend};
+    ghost use Rattle.generational_box.specs.Borrows.{borrows_in, IsStanding};
 
     ghost Value = { List Borrow };
 
-    ghost view = { λ b. b.first ∷ b.others.items };
+    ghost view = { λ b. borrows_in b.standing };
 
-    ghost invariant = { λ b. Ascend (b.first ∷ b.others.items) };
+    ghost invariant = { λ b. IsStanding b.standing };
 }
 
 impl Borrows {
     // One borrow. Takes no memory.
     #[inline(always)]
-    pub(crate) fn new(alloc: Global, borrow: Borrow) -> Borrows
+    pub(crate) fn new(borrow: Borrow) -> Borrows
         ensures { result ≡ borrow ∷ [] }
     {
         Borrows {
-            first: borrow,
-            others: VecDeque::new(alloc),
+            standing: Standing::One(borrow),
         }
     }
 
@@ -63,9 +69,10 @@ impl Borrows {
         requires { first.ticket < second.ticket }
         ensures { IfOk result (λ borrows. borrows ≡ first ∷ second ∷ []) }
     {
-        let mut others = VecDeque::with_capacity(alloc, 1)?;
-        others.push_back_reserved(second);
-        Ok(Borrows { first, others })
+        let queue = queue_of(alloc, first, second)?;
+        Ok(Borrows {
+            standing: Standing::Several(queue),
+        })
     }
 
     // The borrow that began first.
@@ -73,18 +80,27 @@ impl Borrows {
     pub(crate) fn first(&self) -> Borrow
         ensures { slice_get self.now 0 ≡ Some result }
     {
-        self.first
+        match &self.standing {
+            Standing::One(borrow) => *borrow,
+            Standing::Several(queue) => queue[0],
+        }
     }
 
     // Adds a borrow at the end. Want of memory changes nothing.
     #[cold]
     #[inline(never)]
-    pub(crate) fn push(&mut self, borrow: Borrow) -> Result<(), AllocError>
+    pub(crate) fn push(&mut self, alloc: Global, borrow: Borrow) -> Result<(), AllocError>
         requires { AreBelow borrow.ticket self.old }
         ensures ok { OnOk result (self.new ≡ self.old ++ borrow ∷ []) }
         ensures err { OnErr result (self.new ≡ self.old) }
     {
-        self.others.push_back(borrow)?;
+        match &mut self.standing {
+            Standing::One(first) => {
+                let queue = queue_of(alloc, *first, borrow)?;
+                self.standing = Standing::Several(queue);
+            }
+            Standing::Several(queue) => queue.push_back(borrow)?,
+        }
         Ok(())
     }
 
@@ -94,38 +110,34 @@ impl Borrows {
     pub(crate) fn contains(&self, ticket: u64) -> bool
         ensures { result ≡ list_any (λ b. nat_eq b.ticket ticket) self.now }
     {
-        self.first.ticket == ticket || has_ticket(&self.others, ticket)
+        match &self.standing {
+            Standing::One(borrow) => borrow.ticket == ticket,
+            Standing::Several(queue) => has_ticket(queue, ticket),
+        }
     }
 
     // Takes the ticket's own borrow away, unless it is the last: that is told, and left.
     #[cold]
     #[inline(never)]
-    pub(crate) fn remove(&mut self, alloc: Global, ticket: u64) -> Removal
+    pub(crate) fn remove(&mut self, ticket: u64) -> Removal
         ensures { IsRemoval ticket self.old self.new result }
     {
-        if self.first.ticket == ticket {
-            return match self.others.pop_front() {
-                Some(next) => {
-                    self.first = next;
-                    self.shrink(alloc);
-                    Removal::One
+        match &mut self.standing {
+            Standing::One(borrow) => {
+                if borrow.ticket == ticket {
+                    return Removal::Last;
                 }
-                None => Removal::Last,
-            };
-        }
-        if remove_among(&mut self.others, ticket) {
-            self.shrink(alloc);
-            return Removal::One;
-        }
-        Removal::None
-    }
-
-    // Gives back the memory for others where there are none.
-    fn shrink(&mut self, alloc: Global)
-        ensures { self.new ≡ self.old }
-    {
-        if self.others.is_empty() {
-            self.others = VecDeque::new(alloc);
+                Removal::None
+            }
+            Standing::Several(queue) => {
+                if !remove_among(queue, ticket) {
+                    return Removal::None;
+                }
+                if queue.len() == 1 {
+                    self.standing = Standing::One(queue[0]);
+                }
+                Removal::One
+            }
         }
     }
 
@@ -135,10 +147,30 @@ impl Borrows {
     pub(crate) fn locations(&self, alloc: Global) -> Result<Vec<Location>, AllocError>
         ensures { IfOk result (λ places. places.items ≡ map (λ b. b.location) self.now) }
     {
-        let mut places = locations_of(&self.others, alloc)?;
-        places.insert(0, self.first.location)?;
-        Ok(places)
+        match &self.standing {
+            Standing::One(borrow) => {
+                let mut places = Vec::with_capacity(alloc, 1)?;
+                places.push_reserved(borrow.location);
+                Ok(places)
+            }
+            Standing::Several(queue) => locations_of(queue, alloc),
+        }
     }
+}
+
+// A queue of two borrows, in order.
+fn queue_of(
+    alloc: Global,
+    first: Borrow,
+    second: Borrow,
+) -> Result<Box<VecDeque<Borrow>>, AllocError>
+    ensures { IfOk result (λ queue. queue.value.items ≡ first ∷ second ∷ []) }
+{
+    let mut queue = VecDeque::with_capacity(alloc, 2)?;
+    queue.push_back_reserved(first);
+    queue.push_back_reserved(second);
+    let queue = Box::new(alloc, queue)?;
+    Ok(queue)
 }
 
 // Where these began, in order.

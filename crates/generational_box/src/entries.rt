@@ -228,7 +228,7 @@ impl<T> Entries<T> {
             (λ e. result ≡ is_none (write_refusal (content_in e.kept))) }
     {
         match &self.entries[slot].content {
-            StorageEntryData::Data(_, index, _) => *index == NO_INDEX,
+            StorageEntryData::Read(_, _, _) => false,
             StorageEntryData::Lent(_, _) => false,
             _ => true,
         }
@@ -241,10 +241,7 @@ impl<T> Entries<T> {
         ensures { IfSome (slice_get self.now.slots slot)
             (λ e. result ≡ has_no_borrow (content_in e.kept)) }
     {
-        match &self.entries[slot].content {
-            StorageEntryData::Data(_, index, _) => *index == NO_INDEX,
-            _ => false,
-        }
+        matches!(&self.entries[slot].content, StorageEntryData::Data(_, _))
     }
 
     // The borrows that stand in the way of a write or an end.
@@ -255,10 +252,7 @@ impl<T> Entries<T> {
             (λ e. FoundBorrowed (write_refusal (content_in e.kept)) result) }
     {
         match &self.entries[slot].content {
-            StorageEntryData::Data(_, index, _) => {
-                if *index == NO_INDEX {
-                    return Ok(());
-                }
+            StorageEntryData::Read(_, index, _) => {
                 Err(readers_error(&self.borrows, *index, self.alloc))
             }
             StorageEntryData::Lent(_, index) => {
@@ -285,7 +279,24 @@ impl<T> Entries<T> {
             (λ e. value_of (content_in e.kept) ≡ Some result.now) }
     {
         match &self.entries[slot].content {
-            StorageEntryData::Data(_, _, value) => value,
+            StorageEntryData::Data(_, value) => value,
+            _ => self.read_value(slot),
+        }
+    }
+
+    // The same, for every value.
+    #[cold]
+    #[inline(never)]
+    fn read_value(&self, slot: usize) -> &T
+        requires within { slot < length self.now.slots }
+        requires there { IfSome (slice_get self.now.slots slot)
+            (λ e. is_some (value_of (content_in e.kept)) ≡ true) }
+        ensures { IfSome (slice_get self.now.slots slot)
+            (λ e. value_of (content_in e.kept) ≡ Some result.now) }
+    {
+        match &self.entries[slot].content {
+            StorageEntryData::Data(_, value) => value,
+            StorageEntryData::Read(_, _, value) => value,
             _ => unreachable!(),
         }
     }
@@ -298,8 +309,8 @@ impl<T> Entries<T> {
             (λ e. option_copied result ≡ value_for ticket (content_in e.kept)) }
     {
         match &self.entries[slot].content {
-            StorageEntryData::Data(_, index, value) => {
-                if *index != NO_INDEX && self.borrows.contains(*index, ticket) {
+            StorageEntryData::Read(_, index, value) => {
+                if self.borrows.contains(*index, ticket) {
                     return Some(value);
                 }
                 None
@@ -324,12 +335,13 @@ impl<T: Drop> Entries<T> {
             (λ e. is_some (write_refusal (content_in e.kept)) ≡ true)) }
         ensures rooms { self.new.rooms ≡ self.old.rooms }
     {
-        match &mut self.entries[slot].content {
-            StorageEntryData::Data(_, index, _) => {
-                if *index == NO_INDEX {
-                    *index = self.borrows.open(borrow);
-                    return Ok(());
-                }
+        let content = &mut self.entries[slot].content;
+        match content {
+            StorageEntryData::Data(_, _) => {
+                content.list(self.borrows.open(borrow));
+                Ok(())
+            }
+            StorageEntryData::Read(_, index, _) => {
                 if *index == 0 {
                     *index = self.borrows.join(borrow)?;
                     return Ok(());
@@ -350,12 +362,12 @@ impl<T: Drop> Entries<T> {
             (λ e. record e { kept = without_reader_in ticket e.kept }) }
         ensures rooms { self.new.rooms ≡ self.old.rooms }
     {
-        match &mut self.entries[slot].content {
-            StorageEntryData::Data(_, index, _) => {
-                if *index == NO_INDEX {
-                    return false;
-                }
-                self.borrows.release(index, ticket)
+        let content = &mut self.entries[slot].content;
+        match content {
+            StorageEntryData::Read(_, index, _) => {
+                let known = self.borrows.release(index, ticket);
+                content.unlist();
+                known
             }
             _ => false,
         }
@@ -373,7 +385,7 @@ impl<T: Drop> Entries<T> {
             (λ e. record e { kept = taken e.kept }) }
         ensures rooms { self.new.rooms ≡ self.old.rooms }
     {
-        self.entries[slot].content.lend(NO_INDEX)
+        self.entries[slot].content.lend()
     }
 
     // Lets a lent value have this writer.
@@ -410,7 +422,7 @@ impl<T: Drop> Entries<T> {
         match &self.entries[slot].content {
             StorageEntryData::Lent(kind, index) => {
                 let (kind, index) = (*kind, *index);
-                self.entries[slot].content = StorageEntryData::Data(kind, NO_INDEX, value);
+                self.entries[slot].content = StorageEntryData::Data(kind, value);
                 if index != NO_INDEX {
                     self.borrows.close(index);
                 }
@@ -457,7 +469,7 @@ impl<T: Drop> Entries<T> {
         ensures rooms { self.new.rooms ≡ self.old.rooms }
     {
         match &mut self.entries[slot].content {
-            StorageEntryData::Data(_, _, kept) => mem::replace(kept, value),
+            StorageEntryData::Data(_, kept) => mem::replace(kept, value),
             _ => unreachable!(),
         }
     }

@@ -5,6 +5,7 @@ ghost use Rattle.std.specs.Prelude.{if◌then◌else◌};
 ghost use Rattle.generational_core.specs.Slots.{last_generation};
 ghost use Rattle.std.specs.Prelude.{false};
 ghost use Rattle.generational_box.specs.Entries.{is_unborrowed_data, lent_data};
+ghost use Rattle.generational_box.specs.Entries.{read_data, unread_data, unread_in};
 ghost use Rattle.generational_box.specs.Entries.{index_of, lead_of, kind_of, target_of, value_in};
 ghost use Rattle.generational_box.specs.Entry.{name_of_cell};
 
@@ -43,14 +44,16 @@ pub(crate) struct EntryDetails {
     pub(crate) references: usize,
 }
 
-/// A live cell: a value with the index of its readers in the table of borrows, the index of its
-/// writer while the value is lent, or a reference, by its target's slot and generation. Or nothing.
+/// A live cell: a value, a value with the index of its readers in the table of borrows, the index of
+/// its writer while the value is lent, or a reference, by its target's slot and generation. Or
+/// nothing.
 #[derive(Drop)]
 pub(crate) enum StorageEntryData<T> {
     Empty,
-    Data(Kind, u32, T),
+    Data(Kind, T),
     Lent(Kind, u32),
     Reference(u32, u64),
+    Read(Kind, u32, T),
 }
 
 impl<T> StorageEntry<T> {
@@ -65,7 +68,9 @@ impl<T> StorageEntry<T> {
             return None;
         }
         match &self.content {
-            StorageEntryData::Data(kind, _, _) | StorageEntryData::Lent(kind, _) => match kind {
+            StorageEntryData::Data(kind, _)
+            | StorageEntryData::Read(kind, _, _)
+            | StorageEntryData::Lent(kind, _) => match kind {
                 Kind::Value => Some(name),
                 Kind::Shared => None,
             },
@@ -87,7 +92,9 @@ impl<T> StorageEntry<T> {
             return None;
         }
         match &self.content {
-            StorageEntryData::Data(kind, _, _) | StorageEntryData::Lent(kind, _) => Some(*kind),
+            StorageEntryData::Data(kind, _)
+            | StorageEntryData::Read(kind, _, _)
+            | StorageEntryData::Lent(kind, _) => Some(*kind),
             _ => None,
         }
     }
@@ -102,10 +109,7 @@ impl<T> StorageEntry<T> {
         if self.generation != generation {
             return false;
         }
-        match &self.content {
-            StorageEntryData::Data(Kind::Value, index, _) => *index == NO_INDEX,
-            _ => false,
-        }
+        matches!(&self.content, StorageEntryData::Data(Kind::Value, _))
     }
 
     // The target of the slot's reference, if the slot's cell has this generation and is one.
@@ -126,7 +130,7 @@ impl<T> StorageEntry<T> {
         ensures { result ≡ index_of self.now.content }
     {
         match &self.content {
-            StorageEntryData::Data(_, index, _) | StorageEntryData::Lent(_, index) => *index,
+            StorageEntryData::Read(_, index, _) | StorageEntryData::Lent(_, index) => *index,
             _ => NO_INDEX,
         }
     }
@@ -161,23 +165,53 @@ impl<T> StorageEntryData<T> {
         }
     }
 
-    // Lends the value, which is there, to the writer at an index.
+    // Lends the value, which is there and at which nobody stands. Nobody is its writer then.
     #[inline(always)]
-    pub(crate) fn lend(&mut self, index: u32) -> T
+    pub(crate) fn lend(&mut self) -> T
     where
         T: Drop,
-        requires { IsSome (value_in self.old) }
-        ensures value { value_in self.old ≡ Some result }
-        ensures lent { self.new ≡ lent_data index self.old }
+        requires { IsSome (unread_in self.old) }
+        ensures value { unread_in self.old ≡ Some result }
+        ensures lent { self.new ≡ lent_data self.old }
     {
         let kind = match self {
-            StorageEntryData::Data(kind, _, _) => *kind,
+            StorageEntryData::Data(kind, _) => *kind,
             _ => Kind::Value,
         };
-        match mem::replace(self, StorageEntryData::Lent(kind, index)) {
-            StorageEntryData::Data(_, _, value) => value,
+        match mem::replace(self, StorageEntryData::Lent(kind, NO_INDEX)) {
+            StorageEntryData::Data(_, value) => value,
             _ => unreachable!(),
         }
+    }
+
+    // Lets readers stand at a value where none stood, at an index of the table.
+    pub(crate) fn list(&mut self, index: u32)
+    where
+        T: Drop,
+        ensures { self.new ≡ read_data index self.old }
+    {
+        *self = match mem::replace(self, StorageEntryData::Empty) {
+            StorageEntryData::Data(kind, value) => StorageEntryData::Read(kind, index, value),
+            other => other,
+        };
+    }
+
+    // Lets none stand at a value whose readers' index was given back.
+    pub(crate) fn unlist(&mut self)
+    where
+        T: Drop,
+        ensures { self.new ≡ unread_data self.old }
+    {
+        *self = match mem::replace(self, StorageEntryData::Empty) {
+            StorageEntryData::Read(kind, index, value) => {
+                if index == NO_INDEX {
+                    StorageEntryData::Data(kind, value)
+                } else {
+                    StorageEntryData::Read(kind, index, value)
+                }
+            }
+            other => other,
+        };
     }
 
     // The value, which is there.
@@ -188,7 +222,7 @@ impl<T> StorageEntryData<T> {
         ensures { value_in self ≡ Some result }
     {
         match self {
-            StorageEntryData::Data(_, _, value) => value,
+            StorageEntryData::Data(_, value) | StorageEntryData::Read(_, _, value) => value,
             _ => unreachable!(),
         }
     }

@@ -16,7 +16,7 @@ use std::marker::Model;
 // first, and the room.
 #[derive(Drop)]
 pub(crate) struct FreeIndexes {
-    indexes: Vec<usize>,
+    indexes: Vec<u32>,
     room: usize,
 }
 
@@ -63,7 +63,7 @@ impl FreeIndexes {
 
     // Takes an index out: None exactly where there is none. Takes no memory.
     #[inline(always)]
-    pub(crate) fn take(&mut self) -> Option<usize>
+    pub(crate) fn take(&mut self) -> Option<u32>
         ensures rooms { self.new.rooms ≡ self.old.rooms }
         ensures member { IfSome result (λ i. set.contains (members_of self.old) i ≡ true) }
         ensures taken { IfSome result (λ i. members_of self.new
@@ -77,7 +77,7 @@ impl FreeIndexes {
 
     // Puts an index in that isn't there, and for which there is room. Takes no memory.
     #[inline(always)]
-    pub(crate) fn put(&mut self, index: usize)
+    pub(crate) fn put(&mut self, index: u32)
         requires room { index < self.old.rooms }
         requires absent { set.contains (members_of self.old) index ≡ false }
         ensures rooms { self.new.rooms ≡ self.old.rooms }

@@ -32,7 +32,7 @@ ghost use Rattle.generational_box.specs.Entry.{target_in};
 ghost use Rattle.generational_box.specs.Entries.{IsUnborrowed, kept_data, target_of};
 ghost use Rattle.generational_box.specs.Slotted.{IsMade};
 
-use crate::entry::{CellName, Kind, NO_INDEX, StorageEntryData};
+use crate::entry::{CellName, Kind, StorageEntryData};
 use crate::owners::OwnerRecords;
 use crate::pool::SlotPool;
 use crate::slots::Slots;
@@ -399,7 +399,7 @@ impl<T: Drop, P: SlotPool> Parts<T, P> {
             (make_answer result) self.new }
         ensures back { IfErr result (λ refusal. refusal.value ≡ value) }
     {
-        let content = StorageEntryData::Data(Kind::Value, NO_INDEX, value);
+        let content = StorageEntryData::Data(Kind::Value, value);
         match self
             .slots
             .make(content, location, &mut self.owners, self.number, owner)
@@ -432,7 +432,7 @@ impl<T: Drop, P: SlotPool> Parts<T, P> {
         if let Err(cause) = self.owners.list_for(self.number, owner, NOBODY) {
             return Err(Refusal { value, cause });
         }
-        let content = StorageEntryData::Data(Kind::Shared, NO_INDEX, value);
+        let content = StorageEntryData::Data(Kind::Shared, value);
         let shared = make_alone(&mut self.slots, &mut self.owners, content, location);
         let content = self.slots.reference_to(shared);
         let reference = make_alone(&mut self.slots, &mut self.owners, content, location);

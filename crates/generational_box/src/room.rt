@@ -6,20 +6,27 @@ ghost use Rattle.generational_core.specs.declared.error.StoreError.TheVariants.{
 use generational_core::StoreError;
 use std::alloc::Global;
 
-// So many slots aren't few any more.
-const MANY: usize = 2048;
+// For so many slots there is room at first, then for more, and then for many.
+const FEW: usize = 4;
 
-// By how many slots the room for so many grows: by seven times as many while they are few, so that
-// a slot is seldom moved, and then by as many again.
+const MORE: usize = 64;
+
+const MANY: usize = 1152;
+
+// By how many slots the room for so many grows: in great steps while they are few, so that a slot
+// is seldom moved, and then by as many again.
 pub(crate) fn more_room(room: usize) -> usize
     ensures some { 0 < result }
-    ensures most { result ≤ max room 14336 }
+    ensures most { result ≤ max room 1152 }
 {
-    if room == 0 {
-        return 4;
+    if room < FEW {
+        return FEW - room;
+    }
+    if room < MORE {
+        return MORE - room;
     }
     if room < MANY {
-        return room * 7;
+        return MANY - room;
     }
     room
 }

@@ -107,7 +107,7 @@ impl BorrowTable {
             self.is_vacant = false;
             return 0;
         }
-        self.open_beside(Borrows::new(self.alloc, borrow))
+        self.open_beside(Borrows::new(borrow))
     }
 
     // Begins a list at an index that isn't 0.
@@ -124,8 +124,8 @@ impl BorrowTable {
     {
         match self.free.take() {
             Some(index) => {
-                self.rest[index - 1] = list;
-                index as u32
+                self.rest[index as usize - 1] = list;
+                index
             }
             None => {
                 self.rest.push_reserved(list);
@@ -164,7 +164,7 @@ impl BorrowTable {
             self.is_vacant = true;
             return;
         }
-        self.free.put(index as usize);
+        self.free.put(index);
     }
 
     // The borrow that began first at an index.
@@ -221,7 +221,7 @@ impl BorrowTable {
         }) }
         ensures err { OnErr result (self.new ≡ self.old) }
     {
-        self.rest[index as usize - 1].push(borrow)
+        self.rest[index as usize - 1].push(self.alloc, borrow)
     }
 
     // Lets one borrow alone stand at an index.
@@ -236,7 +236,7 @@ impl BorrowTable {
             self.first = borrow;
             return;
         }
-        self.rest[index as usize - 1] = Borrows::new(self.alloc, borrow);
+        self.rest[index as usize - 1] = Borrows::new(borrow);
     }
 
     // Takes the ticket's own borrow out of a list, and gives the index back with the last one. The
@@ -258,11 +258,11 @@ impl BorrowTable {
             }
             return known;
         }
-        match self.rest[place as usize - 1].remove(self.alloc, ticket) {
+        match self.rest[place as usize - 1].remove(ticket) {
             Removal::None => false,
             Removal::One => true,
             Removal::Last => {
-                self.free.put(place as usize);
+                self.free.put(place);
                 *index = NO_INDEX;
                 true
             }

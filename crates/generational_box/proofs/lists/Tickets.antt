@@ -1,20 +1,19 @@
 -- Lists of borrows whose tickets ascend: what a binary search finds in them, and what a push or a
 -- removal leaves.
 use Rattle.std.proofs.Common.{◌≡◌, ◌≢◌, ℕ, zero, suc, ◌<◌, ◌≤◌, true, false, not, nat_eq}
-use Rattle.std.proofs.Common.{List, [], ◌∷◌, ◌++◌, length, get_or, refl, sym, ap, arith}
-use Rattle.std.proofs.Common.{⊎_elim, subst, Ok, Err, Bool, Bor, Option, None, Some, IsSome, OnSome}
+use Rattle.std.proofs.Common.{List, [], ◌∷◌, ◌++◌, length, get_or, refl, sym, ap, arith, ◌∙◌}
+use Rattle.std.proofs.Common.{⊎_elim, Ok, Err, Bool, Bor, Option, None, Some, IsSome, OnSome}
 use denote.Param.Members.{Mut}
 use Rattle.std.specs.declared.cmp.Ordering.TheVariants.{Less, Equal, Greater}
 use Rattle.std.specs.Fn.{Called, ComputesKey}
 use Rattle.std.specs.Ordering.{nat_cmp, ordering_index}
 use Rattle.std.specs.List.{list_any, filter, remove, HoldsAt}
 use Rattle.std.specs.List.Sorted.{IsBinarySearchResult, IsNonDecreasingBy, IsPartitionPoint}
-use Rattle.std.proofs.lemmas.Bool.{eq-eqb, ne_eqb, cases_lt, false≢true}
+use Rattle.std.proofs.lemmas.Bool.{eq-eqb, ne_eqb, cases_lt, cases_eq, or_parts, false≢true}
 use Rattle.std.proofs.lemmas.Bool.Decides.{nat_tests}
 use Rattle.std.proofs.lemmas.Cmp.{ranked}
 use Rattle.std.proofs.lemmas.List.Folds.{list_any_at, list_any_none}
 use Rattle.std.proofs.lemmas.List.Sorted.{answers_always}
-use Rattle.std.proofs.lemmas.List.Kept.{AllPairs-filter}
 use Rattle.std.proofs.lemmas.List.Quantifiers.{all_pairs_push}
 use Rattle.generational_core.specs.declared.borrow.Borrow.{Borrow}
 use Rattle.generational_box.specs.Borrows.{AreBelow, Ascend, IsOnly}
@@ -130,25 +129,16 @@ pub push_ascends : (bs : List Borrow) (b : Borrow) → Ascend bs → AreBelow b.
 push_ascends bs b up below =
     all_pairs_push (λ a b. a.ticket < b.ticket) bs b up (below_at b.ticket bs below)
 
--- the first of a list has another ticket
-module _ (t : ℕ) (b : Borrow) (bs : List Borrow) (other : b.ticket ≡ t → ⊥) where
-  pub any_behind : list_any (has t) (b ∷ bs) ≡ list_any (has t) bs
-  any_behind = rw (ne_eqb b.ticket t other) refl
+-- a first borrow with another ticket is left
+without_other : (t : ℕ) (b : Borrow) (bs : List Borrow) → b.ticket ≢ t
+    → without t (b ∷ bs) ≡ b ∷ without t bs
+without_other t b bs other = rw (ne_eqb b.ticket t other) refl
 
-  pub without_behind : without t (b ∷ bs) ≡ b ∷ without t bs
-  without_behind = rw (ne_eqb b.ticket t other) refl
-
-  pub left_ascends : Ascend (b ∷ bs) → Ascend (b ∷ without t bs)
-  left_ascends up = subst Ascend without_behind
-      (AllPairs-filter (λ a b. a.ticket < b.ticket) (λ b. not (has t b)) (b ∷ bs) up)
-
--- the first of a list has the ticket
-module _ (t : ℕ) (b : Borrow) (bs : List Borrow) (own : b.ticket ≡ t) where
-  pub any_first : list_any (has t) (b ∷ bs) ≡ true
-  any_first = any_at t (b ∷ bs) 0 (omega arith) (λ d. own)
-
-  pub without_first : Ascend (b ∷ bs) → bs ≡ without t (b ∷ bs)
-  without_first up = remove_is_filter t (b ∷ bs) 0 up (omega arith) (λ d. own)
+-- a first borrow with the ticket is the only one that isn't
+without_first : (t : ℕ) (b : Borrow) (bs : List Borrow) → b.ticket ≡ t → Ascend (b ∷ bs)
+    → without t (b ∷ bs) ≡ bs
+without_first t b bs own up =
+    sym (remove_is_filter t (b ∷ bs) 0 up (omega arith) (λ d. own))
 
 pub none_some : (b : Borrow) (bs : List Borrow) → b ∷ bs ≡ [] → ⊥
 none_some b bs z = cc
@@ -158,3 +148,29 @@ pub without_only : (t : ℕ) (bs : List Borrow) → IsOnly t bs → without t bs
 without_only t [] only = absurd only
 without_only t (b ∷ []) only = rw only refl
 without_only t (b ∷ c ∷ bs) only = absurd only
+
+-- two borrows in order
+pub two_ascend : (a b : Borrow) → AreBelow b.ticket (a ∷ []) → Ascend (a ∷ b ∷ [])
+two_ascend a b below = push_ascends (a ∷ []) b (one_ascends a) below
+
+-- where no borrow has the ticket, all are left
+pub none_left : (t : ℕ) (bs : List Borrow) → list_any (has t) bs ≡ false → without t bs ≡ bs
+none_left t [] none = refl
+none_left t (b ∷ bs) none =
+    let parts = or_parts (has t b) (list_any (has t) bs) none in
+    rw parts.0 (ap (λ l. b ∷ l) (none_left t bs parts.1))
+
+-- of two borrows at least one is left
+pub left_some : (t : ℕ) (bs : List Borrow) → Ascend bs → 2 ≤ length bs → without t bs ≢ []
+left_some t [] up two = absurd (omega arith)
+left_some t (b ∷ []) up two = absurd (omega arith)
+left_some t (b ∷ c ∷ bs) up two = ⊎_elim
+    (λ own e. none_some c bs (sym (without_first t b (c ∷ bs) own up) ∙ e))
+    (λ other e. none_some b _ (sym (without_other t b (c ∷ bs) other) ∙ e))
+    (cases_eq b.ticket t)
+
+-- some that aren't one are two at least
+pub two_of_some : {X : Type 0} (xs : List X) → xs ≢ [] → length xs ≢ 1 → 2 ≤ length xs
+two_of_some [] some more = absurd (some refl)
+two_of_some (x ∷ []) some more = absurd (more refl)
+two_of_some (x ∷ y ∷ xs) some more = omega arith

@@ -229,8 +229,9 @@ module _ {T : Type 0} where
 module _ {T : Type 0} where
   pub unborrowed_cell : (d : StorageEntryData T) (l : Location) → IsUnborrowed d
       → (c : Cell T) × (cell_of (kept_data [] l d) ≡ Some c)
-  unborrowed_cell (slot.Data kind.Value x v) l free = (_, refl)
-  unborrowed_cell (slot.Data kind.Shared x v) l free = (_, refl)
+  unborrowed_cell (slot.Data kind.Value v) l free = (_, refl)
+  unborrowed_cell (slot.Data kind.Shared v) l free = (_, refl)
+  unborrowed_cell (slot.Read kd x v) l free = absurd free
   unborrowed_cell (slot.Reference m g) l free = (_, refl)
   unborrowed_cell slot.Empty l free = absurd free
   unborrowed_cell (slot.Lent kd x) l free = absurd free
@@ -247,18 +248,19 @@ module _ {T : Type 0} where
         → AreReferred (λ q. 0) (count_more after (target_of d))
     made_referred free there = at d refl free there
       where
-        none : (kd : Kind) (x : ℕ) (v : T) (q : Name)
-            → refers_to q (cell_of (kept_data [] l (slot.Data kd x v))) ≡ false
-        none kind.Value x v q = refl
-        none kind.Shared x v q = refl
+        none : (kd : Kind) (v : T) (q : Name)
+            → refers_to q (cell_of (kept_data [] l (slot.Data kd v))) ≡ false
+        none kind.Value v q = refl
+        none kind.Shared v q = refl
 
         at : (e : StorageEntryData T) → d ≡ e → IsUnborrowed e
             → IfSome (target_of e) (λ m. is_shared (map.get (cells_of slots) m) ≡ true)
             → AreReferred (λ q. 0) (count_more after (target_of e))
-        at (slot.Data kd x v) is free there =
+        at (slot.Read kd x v) is free there = absurd free
+        at (slot.Data kd v) is free there =
             let added = referred_added w dead r targets fresh refl in
             subst (λ less. AreReferred less after)
-            (λ j q. bit ((ap (λ e. refers_to q (cell_of (kept_data [] l e))) is ∙ none kd x v q) j))
+            (λ j q. bit ((ap (λ e. refers_to q (cell_of (kept_data [] l e))) is ∙ none kd v q) j))
             added
         at (slot.Reference m n) is free there =
             referred_more w dead r targets fresh refl (record { slot = m; generation = n }) there

@@ -27,7 +27,7 @@ use Rattle.generational_box.specs.Entries.{is_unborrowed_data, kind_of, lead_of,
 use Rattle.generational_box.specs.Table.{Releases}
 use Rattle.generational_box.specs.Entries.{index_in, index_of, has_index, entry_of, writer_in}
 use Rattle.generational_box.specs.Table.{no_index}
-use Rattle.generational_box.specs.Entries.{AreIndexed}
+use Rattle.generational_box.specs.Entries.{AreIndexed, IsListed, IsListedIn, unread_data}
 use Rattle.generational_box.specs.Table.{IsUsed}
 use Rattle.generational_box.specs.Entry.Kept.{Empty, Live, Refers}
 use Rattle.generational_box.specs.declared.entry.Kind.{Kind}
@@ -137,7 +137,7 @@ module _ {T : Type 0} where
         at true same = subst (λ n. P n (Some e)) (sym (eqb-true k i same)) here
         at false other = others k (λ z. false≢true (sym other ∙ eq-eqb k i z))
 
-    pub indexed : {t t' : Table} → AreIndexed t es
+    pub indexed : {t t' : Table} → AreIndexed t es → IsListed e.content
         → ((k : ℕ) → k ≢ i → index_in (slice_get es k) ≢ no_index
         → IsUsed t' (index_in (slice_get es k)))
         → (index_of e.content ≢ no_index → IsUsed t' (index_of e.content))
@@ -146,8 +146,9 @@ module _ {T : Type 0} where
         → set.len t'.free + how_many has_index es' ≡ length t'.lists → length t'.lists ≤ length es'
         + 1
         → AreIndexed t' es'
-    indexed {t} {t'} s others here alone counted few =
+    indexed {t} {t'} s fits others here alone counted few =
         record {
+          listed = over (λ k o. IsListedIn o) fits (λ k other. s.listed k);
           used = over (λ k o. index_in o ≢ no_index → IsUsed t' (index_in o)) here others;
           apart = λ j k. over (λ j o. index_in o ≢ no_index → index_in o ≡ index_in (slice_get es'
               k)
@@ -167,6 +168,14 @@ module _ {T : Type 0} where
             over (λ k o. index_in (slice_get es j) ≡ index_in o → j ≡ k)
             (λ same. absurd (alone (λ z. some (same ∙ z)) j other same))
             (λ k at same. s.apart j k some same) k
+
+-- a slot with an index has listed readers, if it has readers
+has_listed : {T : Type 0} (d : StorageEntryData T) → index_of d ≢ no_index → IsListed d
+has_listed slot.Empty some = tt
+has_listed (slot.Data kd v) some = tt
+has_listed (slot.Read kd x v) some = some
+has_listed (slot.Lent kd x) some = tt
+has_listed (slot.Reference m g) some = tt
 
 -- ---- a store's slots, as their methods find them
 
@@ -355,42 +364,52 @@ module _ {T : Type 0} {t : Table} {es : List (StorageEntry T)} {ls : List EntryD
     pub used_here : index_of e.content ≢ no_index → IsUsed t (index_of e.content)
     used_here some = rw there at (s.indexed.used i) some
 
-    -- a value has no index where nobody reads it
-    module _ (kd : Kind) (x : ℕ) (v : T) (is : e.content ≡ slot.Data kd x v) where
-      pub used_at : x ≢ no_index → IsUsed t x
-      used_at some = subst (λ d. index_of d ≢ no_index → IsUsed t (index_of d)) is used_here some
+    -- a value with listed readers has an index, and one reader at least
+    module _ (kd : Kind) (x : ℕ) (v : T) (is : e.content ≡ slot.Read kd x v) where
+      pub has_place : x ≢ no_index
+      has_place = subst IsListed is (rw there at (s.indexed.listed i))
 
-      pub free_value : x ≡ no_index → list_at t.lists x ≡ []
-      free_value none = rw none list_none
+      pub used_at : IsUsed t x
+      used_at = subst (λ d. index_of d ≢ no_index → IsUsed t (index_of d)) is used_here has_place
 
-      pub free_test : nat_eq x no_index
-          ≡ is_none (write_refusal (Some (Here v (list_at t.lists x))))
-      free_test = at (list_at t.lists x) refl (cases_eq x no_index)
+      pub read_test : false ≡ is_none (write_refusal (Some (Here v (list_at t.lists x))))
+      read_test = at (list_at t.lists x) refl
         where
-          at : (bs : List Borrow) → list_at t.lists x ≡ bs → (x ≡ no_index) ⊎ (x ≢ no_index)
-              → nat_eq x no_index ≡ is_none (write_refusal (Some (Here v bs)))
-          at [] is (inl none) = eq-eqb x no_index none
-          at [] is (inr some) = absurd ((used_at some).some is)
-          at (b ∷ bs) is (inl none) = absurd (none_some b bs (sym is ∙ free_value none))
-          at (b ∷ bs) is (inr some) = ne_eqb x no_index some
+          at : (bs : List Borrow) → list_at t.lists x ≡ bs
+              → false ≡ is_none (write_refusal (Some (Here v bs)))
+          at [] is = absurd (used_at.some is)
+          at (b ∷ bs) is = refl
 
-      pub alone_test : nat_eq x no_index ≡ has_no_borrow (Some (Here v (list_at t.lists x)))
-      alone_test = free_test ∙ at (list_at t.lists x)
+      pub beside_test : false ≡ has_no_borrow (Some (Here v (list_at t.lists x)))
+      beside_test = at (list_at t.lists x) refl
         where
-          at : (bs : List Borrow)
-              → is_none (write_refusal (Some (Here v bs))) ≡ has_no_borrow (Some (Here v bs))
-          at [] = refl
-          at (b ∷ bs) = refl
+          at : (bs : List Borrow) → list_at t.lists x ≡ bs
+              → false ≡ has_no_borrow (Some (Here v bs))
+          at [] is = absurd (used_at.some is)
+          at (b ∷ bs) is = refl
 
       -- a second reader stands beside another
-      pub read_beside : x ≢ no_index
-          → is_some (write_refusal (Some (Here v (list_at t.lists x)))) ≡ true
-      read_beside some = at (list_at t.lists x) refl
+      pub read_beside : is_some (write_refusal (Some (Here v (list_at t.lists x)))) ≡ true
+      read_beside = at (list_at t.lists x) refl
         where
           at : (bs : List Borrow) → list_at t.lists x ≡ bs
               → is_some (write_refusal (Some (Here v bs))) ≡ true
-          at [] is = absurd ((used_at some).some is)
+          at [] is = absurd (used_at.some is)
           at (b ∷ bs) is = refl
+
+    -- where no value is without listed readers, no cell is without borrows
+    pub not_alone : (l : Location) → ((kd : Kind) (v : T) → e.content ≡ slot.Data kd v → ⊥)
+        → has_no_borrow (content_in (kept_data (list_at t.lists (index_of e.content)) l e.content))
+        ≡ false
+    not_alone l none = at e.content refl
+      where
+        at : (d : StorageEntryData T) → e.content ≡ d
+            → has_no_borrow (content_in (kept_data (list_at t.lists (index_of d)) l d)) ≡ false
+        at slot.Empty is = refl
+        at (slot.Reference m g) is = refl
+        at (slot.Lent kd x) is = refl
+        at (slot.Read kd x v) is = sym (beside_test kd x v is)
+        at (slot.Data kd v) is = absurd (none kd v is)
 
     -- the index of a lent value, if it has one
     pub lent_used : (kd : Kind) (x : ℕ) → e.content ≡ slot.Lent kd x → x ≢ no_index → IsUsed t x
@@ -407,55 +426,47 @@ module _ {T : Type 0} {t : Table} {es : List (StorageEntry T)} {ls : List EntryD
             → (kd : Kind) × (x : ℕ) × (e.content ≡ slot.Lent kd x)
         at slot.Empty is h = absurd (false≢true h)
         at (slot.Reference m g) is h = absurd (false≢true h)
-        at (slot.Data kd x v) is h = absurd (false≢true h)
+        at (slot.Data kd v) is h = absurd (false≢true h)
+        at (slot.Read kd x v) is h = absurd (false≢true h)
         at (slot.Lent kd x) is h = (kd, x, is)
 
-    -- a cell without borrows is a value without an index
+    -- a cell without borrows is a value without listed readers
     pub alone : (l : Location)
         → has_no_borrow (content_in (kept_data (list_at t.lists (index_of e.content)) l e.content))
-        ≡ true → (kd : Kind) × (v : T) × (e.content ≡ slot.Data kd no_index v)
+        ≡ true → (kd : Kind) × (v : T) × (e.content ≡ slot.Data kd v)
     alone l = at e.content refl
       where
-        read : (bs : List Borrow) → bs ≢ [] → (v : T)
-            → has_no_borrow (Some (Here v bs)) ≡ true → ⊥
-        read [] some v h = some refl
-        read (b ∷ bs) some v h = false≢true h
-
-        value : (kd : Kind) (x : ℕ) (v : T) → e.content ≡ slot.Data kd x v
-            → has_no_borrow (Some (Here v (list_at t.lists x))) ≡ true
-            → (x ≡ no_index) ⊎ (x ≢ no_index)
-            → (kd : Kind) × (v : T) × (e.content ≡ slot.Data kd no_index v)
-        value kd x v is h (inl none) = (kd, v, is ∙ ap (λ y. slot.Data kd y v) none)
-        value kd x v is h (inr some) =
-            absurd (read (list_at t.lists x) (used_at kd x v is some).some v h)
-
         at : (d : StorageEntryData T) → e.content ≡ d
             → has_no_borrow (content_in (kept_data (list_at t.lists (index_of d)) l d)) ≡ true
-            → (kd : Kind) × (v : T) × (e.content ≡ slot.Data kd no_index v)
+            → (kd : Kind) × (v : T) × (e.content ≡ slot.Data kd v)
         at slot.Empty is h = absurd (false≢true h)
         at (slot.Reference m g) is h = absurd (false≢true h)
         at (slot.Lent kd x) is h = absurd (false≢true h)
-        at (slot.Data kd x v) is h = value kd x v is h (cases_eq x no_index)
+        at (slot.Read kd x v) is h = absurd (false≢true (beside_test kd x v is ∙ h))
+        at (slot.Data kd v) is h = (kd, v, is)
 
     -- a test of the slot's content that says of each what h says of its cell
     pub cell_test : {X : Type 0} (f : StorageEntryData T → Option X)
         (h : Option (Cell T) → Option X) → h None ≡ None → f slot.Empty ≡ h None
+        → ((kd : Kind) (v : T) (c : Content T) (l : Location)
+        → f (slot.Data kd v) ≡ h (cell_of (Live kd c l)))
         → ((kd : Kind) (x : ℕ) (v : T) (c : Content T) (l : Location)
-        → f (slot.Data kd x v) ≡ h (cell_of (Live kd c l)))
+        → f (slot.Read kd x v) ≡ h (cell_of (Live kd c l)))
         → ((kd : Kind) (x : ℕ) (c : Content T) (l : Location)
         → f (slot.Lent kd x) ≡ h (cell_of (Live kd c l)))
         → ((m g : ℕ) (l : Location)
         → f (slot.Reference m g) ≡ h (cell_of (Refers (record { slot = m; generation = g }) l)))
         → (g : ℕ) → cond (nat_eq e.generation g) (f e.content) None
         ≡ h (cell_in (slice_get now.slots i) g)
-    cell_test {X = X} f h none empty data' lent ref g =
+    cell_test {X = X} f h none empty data' read lent ref g =
         rw (slot_seen, ← nat_eq_equiv.symm e.generation g)
         (own (nat_eq e.generation g) (at e.content refl))
       where
         at : (d : StorageEntryData T) → e.content ≡ d
             → f d ≡ h (cell_of (kept_data (list_at t.lists (index_of d)) location.0.created_at d))
         at slot.Empty is = empty
-        at (slot.Data kd x v) is = data' kd x v _ _
+        at (slot.Data kd v) is = data' kd v _ _
+        at (slot.Read kd x v) is = read kd x v _ _
         at (slot.Lent kd x) is = lent kd x _ _
         at (slot.Reference m n) is = ref m n _
 
@@ -468,7 +479,8 @@ module _ {T : Type 0} {t : Table} {es : List (StorageEntry T)} {ls : List EntryD
     pub kind_test : (g : ℕ) → cond (nat_eq e.generation g) (kind_of e.content) None
         ≡ kind_in (cell_in (slice_get now.slots i) g)
     kind_test =
-        cell_test kind_of kind_in refl refl (λ kd x v. here kd) (λ kd x. here kd) (λ m n l. refl)
+        cell_test kind_of kind_in refl refl (λ kd v. here kd) (λ kd x v. here kd)
+        (λ kd x. here kd) (λ m n l. refl)
       where
         here : (kd : Kind) (c : Content T) (l : Location)
             → Some kd ≡ kind_in (cell_of (Live kd c l))
@@ -478,13 +490,18 @@ module _ {T : Type 0} {t : Table} {es : List (StorageEntry T)} {ls : List EntryD
     pub lead_test : (n : Name) → cond (nat_eq e.generation n.generation) (lead_of e.content n) None
         ≡ leads_to (cell_in (slice_get now.slots i) n.generation) n
     lead_test n =
-        cell_test (λ d. lead_of d n) (λ c. leads_to c n) refl refl value lent (λ m g l. refl)
+        cell_test (λ d. lead_of d n) (λ c. leads_to c n) refl refl value read lent (λ m g l. refl)
         n.generation
       where
-        value : (kd : Kind) (x : ℕ) (v : T) (c : Content T) (l : Location)
-            → lead_of (slot.Data kd x v) n ≡ leads_to (cell_of (Live kd c l)) n
-        value kind.Value x v c l = refl
-        value kind.Shared x v c l = refl
+        value : (kd : Kind) (v : T) (c : Content T) (l : Location)
+            → lead_of (slot.Data kd v) n ≡ leads_to (cell_of (Live kd c l)) n
+        value kind.Value v c l = refl
+        value kind.Shared v c l = refl
+
+        read : (kd : Kind) (x : ℕ) (v : T) (c : Content T) (l : Location)
+            → lead_of (slot.Read kd x v) n ≡ leads_to (cell_of (Live kd c l)) n
+        read kind.Value x v c l = refl
+        read kind.Shared x v c l = refl
 
         lent : (kd : Kind) (x : ℕ) (c : Content T) (l : Location)
             → lead_of {T = T} (slot.Lent kd x) n ≡ leads_to (cell_of (Live kd c l)) n
@@ -502,8 +519,10 @@ module _ {T : Type 0} {t : Table} {es : List (StorageEntry T)} {ls : List EntryD
             ≡ is_unborrowed_value
             (cell_of (kept_data (list_at t.lists (index_of d)) location.0.created_at d))
         at slot.Empty is = refl
-        at (slot.Data kind.Value x v) is = free_test kind.Value x v is
-        at (slot.Data kind.Shared x v) is = refl
+        at (slot.Data kind.Value v) is = refl
+        at (slot.Data kind.Shared v) is = refl
+        at (slot.Read kind.Value x v) is = read_test kind.Value x v is
+        at (slot.Read kind.Shared x v) is = refl
         at (slot.Lent kind.Value x) is = refl
         at (slot.Lent kind.Shared x) is = refl
         at (slot.Reference m n) is = refl
@@ -516,7 +535,8 @@ module _ {T : Type 0} {t : Table} {es : List (StorageEntry T)} {ls : List EntryD
     pub target_test : (g : ℕ) → cond (nat_eq e.generation g) (target_of e.content) None
         ≡ target_in (cell_in (slice_get now.slots i) g)
     target_test =
-        cell_test target_of target_in refl refl (λ kd x v. here kd) (λ kd x. here kd)
+        cell_test target_of target_in refl refl (λ kd v. here kd) (λ kd x v. here kd)
+        (λ kd x. here kd)
         (λ m n l. refl)
       where
         here : (kd : Kind) (c : Content T) (l : Location)
@@ -542,7 +562,8 @@ module _ {T : Type 0} {t : Table} {es : List (StorageEntry T)} {ls : List EntryD
         at (slot.Reference m g) is h =
             (record { slot = m; generation = g }, location.0.created_at, is)
         at slot.Empty is h = absurd (false≢true h)
-        at (slot.Data kd x v) is h = absurd (none kd _ _ h)
+        at (slot.Data kd v) is h = absurd (none kd _ _ h)
+        at (slot.Read kd x v) is h = absurd (none kd _ _ h)
         at (slot.Lent kd x) is h = absurd (none kd
             (Lent (writer_in (list_at t.lists x) location.0.created_at)) location.0.created_at h)
 
@@ -567,17 +588,17 @@ module _ {T : Type 0} {t : Table} {es : List (StorageEntry T)} {ls : List EntryD
       pub same_lists : SameLists t.lists t'.lists es i
       same_lists k other = c.lists (index_in (slice_get es k)) (alone k other)
 
-      pub step_indexed : (e' : StorageEntry T)
+      pub step_indexed : (e' : StorageEntry T) → IsListed e'.content
           → (index_of e'.content ≢ no_index → (index_of e'.content ≡ x) × IsUsed t' x)
           → set.len t'.free + bit (has_index e') + length t.lists
           ≡ set.len t.free + bit (has_index e) + length t'.lists
           → length t'.lists ≤ length es + 1 → AreIndexed t' (slice_set es i e')
-      step_indexed e' here counts few =
+      step_indexed e' fits here counts few =
           let w = set_written es i e' e there in
           let count = rw there at (w.count has_index) in
           let counted = s.indexed.counted in
           let long = length-set es i e' in
-          indexed w s.indexed
+          indexed w s.indexed fits
           (λ k other some. used_still c _ (alone k other) (s.indexed.used k some))
           (λ some. subst (IsUsed t') (sym (here some).0) (here some).1)
           (λ some k other same. alone k other (same ∙ (here some).0))
@@ -638,7 +659,9 @@ module _ {T : Type 0} {t : Table} {es : List (StorageEntry T)} {ls : List EntryD
             in
             let counts = opened_count o in let few = s.indexed.few in
             let counted = s.indexed.counted in let less = fewer in
-            step_indexed (opened o) open_below open_alone e' (λ some. (at, opened_used o))
+            step_indexed (opened o) open_below open_alone e'
+            (has_listed e'.content (λ z. omega (arith, sym at ∙ z, below)))
+            (λ some. (at, opened_used o))
             (rw (has, has_none) (omega arith))
             (opened_few o (length es + 1) few (λ z. omega arith))
 
@@ -717,7 +740,7 @@ module _ {T : Type 0} {t : Table} {es : List (StorageEntry T)} {ls : List EntryD
             let long = length-set es i e' in let many = join_few in
             let few = opened_few opens (length es + 1) s.indexed.few
             (λ none. omega (arith, none)) in
-            indexed w s.indexed
+            indexed w s.indexed (has_listed e'.content (λ z. omega (arith, sym at ∙ z, below)))
             (λ k other some. used_still (closed closes) _ (zero_alone k other)
             (used_still (opened opens) _ (join_alone k other) (s.indexed.used k some)))
             (λ z. subst (IsUsed t') (sym at) (used_still (closed closes) y
@@ -751,6 +774,7 @@ module _ {T : Type 0} {t : Table} {es : List (StorageEntry T)} {ls : List EntryD
             let free : set.len t'.free ≡ set.len t.free = rw now' refl in
             let few = s.indexed.few in
             step_indexed (list_changed t t' x left now') used_below (used_alone x is some) e'
+            (has_listed e'.content (λ z. some (sym at ∙ z)))
             (λ z. (at, list_used)) (rw (has, has_some) (omega arith)) (omega arith)
           where
             list_used : IsUsed t' x
@@ -766,40 +790,46 @@ module _ {T : Type 0} {t : Table} {es : List (StorageEntry T)} {ls : List EntryD
         pub close_lists : SameLists t.lists t'.lists es i
         close_lists = same_lists (closed c) used_below (used_alone x is some)
 
-        pub close_indexed : (e' : StorageEntry T) → index_of e'.content ≡ no_index
-            → AreIndexed t' (slice_set es i e')
-        close_indexed e' none =
+        pub close_indexed : (e' : StorageEntry T) → IsListed e'.content
+            → index_of e'.content ≡ no_index → AreIndexed t' (slice_set es i e')
+        close_indexed e' fits none =
             let has : has_index e' ≡ false = rw none refl in
             let free = closed_count c used_x.used in let long = c.same in
             let few = s.indexed.few in
-            step_indexed (closed c) used_below (used_alone x is some) e'
+            step_indexed (closed c) used_below (used_alone x is some) e' fits
             (λ z. absurd (z none)) (rw (has, has_some) (omega arith)) (omega arith)
 
     -- a reader is taken away from a value
-    module _ (kd : Kind) (x : ℕ) (v : T) (is : e.content ≡ slot.Data kd x v) (some : x ≢ no_index)
-      where
-        own : index_of e.content ≡ x
-        own = rw is refl
+    module _ (kd : Kind) (x : ℕ) (v : T) (is : e.content ≡ slot.Read kd x v) where
+      own : index_of e.content ≡ x
+      own = rw is refl
 
-        pub release_lists : (t' : Table) (y : ℕ) (left : List Borrow) → Releases t t' x y left
-            → SameLists t.lists t'.lists es i
-        release_lists t' y [] r = close_lists x own some r.1
-        release_lists t' y (b ∷ bs) r = list_lists x own some (b ∷ bs) (λ z. none_some b bs z) r.1
+      some : x ≢ no_index
+      some = has_place kd x v is
 
-        pub release_indexed : (t' : Table) (y : ℕ) (left : List Borrow) → Releases t t' x y left
-            → (g : ℕ)
-            → AreIndexed t' (slice_set es i (record { generation = g; content = slot.Data kd y v }))
-        release_indexed t' y [] r g = close_indexed x own some r.1 _ r.0
-        release_indexed t' y (b ∷ bs) r g =
-            list_indexed x own some (b ∷ bs) (λ z. none_some b bs z) r.1 _ r.0
+      pub release_lists : (t' : Table) (y : ℕ) (left : List Borrow) → Releases t t' x y left
+          → SameLists t.lists t'.lists es i
+      release_lists t' y [] r = close_lists x own some r.1
+      release_lists t' y (b ∷ bs) r = list_lists x own some (b ∷ bs) (λ z. none_some b bs z) r.1
 
-        pub release_list : (t' : Table) (y : ℕ) (left : List Borrow) → Releases t t' x y left
-            → list_at t'.lists y ≡ left
-        release_list t' y [] r =
-            let long = r.1.same in let few = s.indexed.few in let small = s.small in
-            rw r.0 (get_or-eq_default t'.lists [] (omega arith))
-        release_list t' y (b ∷ bs) r =
-            rw (r.0, r.1) (get_or-set_same t.lists x (b ∷ bs) [] (used_x x own some).within)
+      pub release_indexed : (t' : Table) (y : ℕ) (left : List Borrow) → Releases t t' x y left
+          → (g : ℕ) → AreIndexed t' (slice_set es i
+          (record { generation = g; content = unread_data (slot.Read kd y v) }))
+      release_indexed t' y [] r g =
+          rw (eq-eqb y no_index r.0) (close_indexed x own some r.1 _ tt refl)
+      release_indexed t' y (b ∷ bs) r g =
+          rw (ne_eqb y no_index (λ z. some (sym r.0 ∙ z)))
+          (list_indexed x own some (b ∷ bs) (λ z. none_some b bs z) r.1 _ r.0)
+
+      -- what is left of the cell
+      pub release_kept : (t' : Table) (y : ℕ) (left : List Borrow) → Releases t t' x y left
+          → (l : Location) → kept_data (list_at t'.lists (index_of (unread_data (slot.Read kd y v))))
+          l (unread_data (slot.Read kd y v)) ≡ Live kd (Here v left) l
+      release_kept t' y [] r l = rw (eq-eqb y no_index r.0) refl
+      release_kept t' y (b ∷ bs) r l =
+          rw (ne_eqb y no_index (λ z. some (sym r.0 ∙ z)), r.0, r.1)
+          (ap (λ left. Live kd (Here v left) l)
+          (get_or-set_same t.lists x (b ∷ bs) [] (used_x x own some).within))
 
 module _ {T : Type 0} where
   -- a cell has the location where it was made
@@ -807,8 +837,10 @@ module _ {T : Type 0} where
       → IfSome (location_of (cell_of (kept_data bs l d))) (λ x. l ≡ x)
   created_there bs l slot.Empty = tt
   created_there bs l (slot.Reference m g) = refl
-  created_there bs l (slot.Data kind.Value x v) = refl
-  created_there bs l (slot.Data kind.Shared x v) = refl
+  created_there bs l (slot.Data kind.Value v) = refl
+  created_there bs l (slot.Data kind.Shared v) = refl
+  created_there bs l (slot.Read kind.Value x v) = refl
+  created_there bs l (slot.Read kind.Shared x v) = refl
   created_there bs l (slot.Lent kind.Value x) = refl
   created_there bs l (slot.Lent kind.Shared x) = refl
 
@@ -818,66 +850,69 @@ module _ {T : Type 0} where
       → None ≡ read_refusal (content_in (kept_data bs l d))
   not_lent bs l slot.Empty gone = refl
   not_lent bs l (slot.Reference m g) gone = refl
-  not_lent bs l (slot.Data kd x v) gone = refl
+  not_lent bs l (slot.Data kd v) gone = refl
+  not_lent bs l (slot.Read kd x v) gone = refl
   not_lent bs l (slot.Lent kd x) gone = absurd (gone kd x refl)
 
-  -- where no value is and none is lent, there is no content
-  pub no_content : (bs : List Borrow) (l : Location) (d : StorageEntryData T)
-      → ((kd : Kind) (x : ℕ) (v : T) → d ≡ slot.Data kd x v → ⊥)
-      → ((kd : Kind) (x : ℕ) → d ≡ slot.Lent kd x → ⊥) → content_in (kept_data bs l d) ≡ None
-  no_content bs l slot.Empty none gone = refl
-  no_content bs l (slot.Reference m g) none gone = refl
-  no_content bs l (slot.Data kd x v) none gone = absurd (none kd x v refl)
-  no_content bs l (slot.Lent kd x) none gone = absurd (gone kd x refl)
+  -- where no readers are listed and nothing is lent, nothing is in the way of a write
+  pub no_trouble : (bs : List Borrow) (l : Location) (d : StorageEntryData T)
+      → ((kd : Kind) (x : ℕ) (v : T) → d ≡ slot.Read kd x v → ⊥)
+      → ((kd : Kind) (x : ℕ) → d ≡ slot.Lent kd x → ⊥)
+      → write_refusal (content_in (kept_data bs l d)) ≡ None
+  no_trouble bs l slot.Empty none gone = refl
+  no_trouble bs l (slot.Reference m g) none gone = refl
+  no_trouble bs l (slot.Data kd v) none gone = refl
+  no_trouble bs l (slot.Read kd x v) none gone = absurd (none kd x v refl)
+  no_trouble bs l (slot.Lent kd x) none gone = absurd (gone kd x refl)
 
   -- where no value is, none is seen
   pub no_value : (bs : List Borrow) (l : Location) (d : StorageEntryData T)
-      → ((kd : Kind) (x : ℕ) (v : T) → d ≡ slot.Data kd x v → ⊥)
+      → ((kd : Kind) (v : T) → d ≡ slot.Data kd v → ⊥)
+      → ((kd : Kind) (x : ℕ) (v : T) → d ≡ slot.Read kd x v → ⊥)
       → value_of (content_in (kept_data bs l d)) ≡ None
-  no_value bs l slot.Empty none = refl
-  no_value bs l (slot.Reference m g) none = refl
-  no_value bs l (slot.Lent kd x) none = refl
-  no_value bs l (slot.Data kd x v) none = absurd (none kd x v refl)
+  no_value bs l slot.Empty none read = refl
+  no_value bs l (slot.Reference m g) none read = refl
+  no_value bs l (slot.Lent kd x) none read = refl
+  no_value bs l (slot.Data kd v) none read = absurd (none kd v refl)
+  no_value bs l (slot.Read kd x v) none read = absurd (read kd x v refl)
 
-  pub not_alone : (bs : List Borrow) (l : Location) (d : StorageEntryData T)
-      → ((kd : Kind) (x : ℕ) (v : T) → d ≡ slot.Data kd x v → ⊥)
-      → has_no_borrow (content_in (kept_data bs l d)) ≡ false
-  not_alone bs l slot.Empty none = refl
-  not_alone bs l (slot.Reference m g) none = refl
-  not_alone bs l (slot.Lent kd x) none = refl
-  not_alone bs l (slot.Data kd x v) none = absurd (none kd x v refl)
-
-  -- where no value is, no reader is added or taken away
+  -- where no value is, no reader is added
   pub reader_kept : (b : Borrow) (bs : List Borrow) (l : Location) (d : StorageEntryData T)
-      → ((kd : Kind) (x : ℕ) (v : T) → d ≡ slot.Data kd x v → ⊥)
+      → ((kd : Kind) (v : T) → d ≡ slot.Data kd v → ⊥)
+      → ((kd : Kind) (x : ℕ) (v : T) → d ≡ slot.Read kd x v → ⊥)
       → kept_data bs l d ≡ with_reader b (kept_data bs l d)
-  reader_kept b bs l slot.Empty none = refl
-  reader_kept b bs l (slot.Reference m g) none = refl
-  reader_kept b bs l (slot.Lent kd x) none = refl
-  reader_kept b bs l (slot.Data kd x v) none = absurd (none kd x v refl)
+  reader_kept b bs l slot.Empty none read = refl
+  reader_kept b bs l (slot.Reference m g) none read = refl
+  reader_kept b bs l (slot.Lent kd x) none read = refl
+  reader_kept b bs l (slot.Data kd v) none read = absurd (none kd v refl)
+  reader_kept b bs l (slot.Read kd x v) none read = absurd (read kd x v refl)
 
+  -- where no readers are listed, none is taken away
   pub reader_left : (n : ℕ) (bs : List Borrow) (l : Location) (d : StorageEntryData T)
-      → ((kd : Kind) (x : ℕ) (v : T) → d ≡ slot.Data kd x v → ⊥)
+      → ((kd : Kind) (x : ℕ) (v : T) → d ≡ slot.Read kd x v → ⊥)
       → kept_data bs l d ≡ without_reader_in n (kept_data bs l d)
   reader_left n bs l slot.Empty none = refl
   reader_left n bs l (slot.Reference m g) none = refl
   reader_left n bs l (slot.Lent kd x) none = refl
-  reader_left n bs l (slot.Data kd x v) none = absurd (none kd x v refl)
+  reader_left n bs l (slot.Data kd v) none = refl
+  reader_left n bs l (slot.Read kd x v) none = absurd (none kd x v refl)
 
   pub no_reader : (n : ℕ) (bs : List Borrow) (l : Location) (d : StorageEntryData T)
-      → ((kd : Kind) (x : ℕ) (v : T) → d ≡ slot.Data kd x v → ⊥)
+      → ((kd : Kind) (x : ℕ) (v : T) → d ≡ slot.Read kd x v → ⊥)
       → false ≡ has_reader (content_in (kept_data bs l d)) n
   no_reader n bs l slot.Empty none = refl
   no_reader n bs l (slot.Reference m g) none = refl
   no_reader n bs l (slot.Lent kd x) none = refl
-  no_reader n bs l (slot.Data kd x v) none = absurd (none kd x v refl)
+  no_reader n bs l (slot.Data kd v) none = refl
+  no_reader n bs l (slot.Read kd x v) none = absurd (none kd x v refl)
 
   pub no_writer : (n : ℕ) (bs : List Borrow) (l : Location) (d : StorageEntryData T)
       → ((kd : Kind) (x : ℕ) → d ≡ slot.Lent kd x → ⊥)
       → has_writer (content_in (kept_data bs l d)) n ≡ false
   no_writer n bs l slot.Empty none = refl
   no_writer n bs l (slot.Reference m g) none = refl
-  no_writer n bs l (slot.Data kd x v) none = refl
+  no_writer n bs l (slot.Data kd v) none = refl
+  no_writer n bs l (slot.Read kd x v) none = refl
   no_writer n bs l (slot.Lent kd x) none = absurd (none kd x refl)
 
 -- room for one slot more
@@ -895,16 +930,25 @@ room_for_one ls {now} {room} view v left =
 
 module _ {T : Type 0} where
   pub unborrowed_none : (d : StorageEntryData T) → IsUnborrowed d → index_of d ≡ no_index
-  unborrowed_none (slot.Data kd x v) free = free
+  unborrowed_none (slot.Data kd v) free = refl
+  unborrowed_none (slot.Read kd x v) free = absurd free
   unborrowed_none (slot.Reference m g) free = refl
   unborrowed_none slot.Empty free = absurd free
   unborrowed_none (slot.Lent kd x) free = absurd free
+
+  pub unborrowed_listed : (d : StorageEntryData T) → IsUnborrowed d → IsListed d
+  unborrowed_listed (slot.Data kd v) free = tt
+  unborrowed_listed (slot.Read kd x v) free = absurd free
+  unborrowed_listed (slot.Reference m g) free = tt
+  unborrowed_listed slot.Empty free = tt
+  unborrowed_listed (slot.Lent kd x) free = tt
 
 pub indexed_none : {T : Type 0} {t : Table} {es : List (StorageEntry T)} → es ≡ []
     → length t.lists ≡ 1 → t.free ≡ set.insert set.empty 0 → AreIndexed t es
 indexed_none none one free = rw none (record {
   used = λ k some. absurd (some refl);
   apart = λ j k some same. absurd (some refl);
+  listed = λ k. tt;
   counted = rw (
     free,
     one,
@@ -927,11 +971,11 @@ module _ {T : Type 0} where
 
   -- a slot without borrows that is written where none stood
   pub indexed_free : {t : Table} {es es' : List (StorageEntry T)} {i : ℕ} {e : StorageEntry T}
-      → IsWritten es es' i e → AreIndexed t es → length es ≤ length es'
+      → IsWritten es es' i e → AreIndexed t es → IsListed e.content → length es ≤ length es'
       → index_in (slice_get es i) ≡ no_index → index_of e.content ≡ no_index
       → AreIndexed t es'
-  indexed_free {t} {es} {es'} {i} {e} w s longer before none =
-      indexed w s (λ k other. s.used k) (λ some. absurd (some none))
+  indexed_free {t} {es} {es'} {i} {e} w s fits longer before none =
+      indexed w s fits (λ k other. s.used k) (λ some. absurd (some none))
       (λ some. absurd (some none)) counted (let few = s.few in omega arith)
     where
       counted : set.len t.free + how_many has_index es' ≡ length t.lists
@@ -950,7 +994,8 @@ module _ {T : Type 0} {t : Table} {es : List (StorageEntry T)} {ls : List EntryD
         kept = kept_data [] l.created_at d;
         references = l.references;
       }
-  free_entry g (slot.Data kd x v) l free = rw (free, list_none s) refl
+  free_entry g (slot.Data kd v) l free = refl
+  free_entry g (slot.Read kd x v) l free = absurd free
   free_entry g (slot.Reference m n) l free = refl
   free_entry g slot.Empty l free = absurd free
   free_entry g (slot.Lent kd x) l free = absurd free
@@ -976,6 +1021,7 @@ module _ {T : Type 0} {t : Table} {es : List (StorageEntry T)} {ls : List EntryD
             → kept_data (list_at t.lists (index_of d)) (location s i e there).0.created_at d ≡ Empty
             → e.content ≡ slot.Empty
         at slot.Empty is h = is
-        at (slot.Data kd x v) is h = absurd cc
+        at (slot.Data kd v) is h = absurd cc
+        at (slot.Read kd x v) is h = absurd cc
         at (slot.Reference m g) is h = absurd cc
         at (slot.Lent kd x) is h = absurd cc

@@ -1,13 +1,16 @@
 -- A borrow more at the end.
-use Rattle.std.proofs.Common.{◌∷◌}
-use Rattle.generational_box.proofs.lists.Tickets.{push_ascends}
+use Rattle.std.proofs.Common.{arith}
+use Rattle.generational_box.proofs.lists.Tickets.{push_ascends, two_ascend}
 use Rattle.generational_box.proofs.borrows.Borrows.push.Goals as goal
 
-pub invariant_of-self : goal.invariant_of-self
-invariant_of-self c = rw c.in_err-push_back.ensures.items c.self.invariant
+pub invariant_of-self-in_ok-queue-in-One-2 : goal.invariant_of-self-in_ok-queue-in-One-2
+invariant_of-self-in_ok-queue-in-One-2 c =
+    let below = rw (← c.self.view_is, c.in-One.is) at c.requires in
+    rw c.in_ok-queue-in-One.ensures (omega arith, two_ascend _ _ below)
 
-pub invariant_of-self-2 : goal.invariant_of-self-2
-invariant_of-self-2 c =
-    rw c.in_ok-push_back.ensures.items
-    (push_ascends (c.self.inside.first ∷ c.self.inside.others.items) c.args.borrow c.self.invariant
-    (rw (← c.self.view_is) at c.requires))
+pub invariant_of-self-in-Continue-branch-2 : goal.invariant_of-self-in-Continue-branch-2
+invariant_of-self-in-Continue-branch-2 c =
+    let below = rw (← c.self.view_is, c.in-Several.is) at c.requires in
+    let stand = rw c.in-Several.is at c.self.invariant in
+    rw (c.in_ok-push_back-in-Several.ensures.items, c.deref_mut.ensures.value)
+    (grind (arith, stand.0), push_ascends _ c.args.borrow stand.1 below)

@@ -2,6 +2,8 @@
 use Rattle.std.proofs.Common.{arith, refl}
 use Rattle.generational_box.proofs.states.Entries.{kept, many, not_lent, says, lent_used, read_slot}
 use Rattle.generational_box.proofs.states.Entries.{list_none, says_of, read_details}
+use Rattle.generational_box.specs.Entries.{index_of}
+use Rattle.generational_box.specs.Table.{list_at}
 use Rattle.generational_box.proofs.entries.Entries.borrow_error.Goals as goal
 
 pub index-requires : goal.index-requires
@@ -37,4 +39,4 @@ returns-in_default g c =
     let s = kept c.self.view_is c.self.invariant in
     let there = read_slot s c.requires _ c.self.inside.entries.ok.0 c.index.ensures in
     says s c.args.slot _ there _
-    (λ l. not_lent _ l.created_at c.index.result.now.content c.in_default.not-Lent)
+    (λ l. not_lent (list_at c.self.inside.borrows.lists (index_of c.index.result.now.content)) l.created_at c.index.result.now.content c.in_default.not-Lent)

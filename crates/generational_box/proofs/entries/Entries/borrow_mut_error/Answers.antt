@@ -18,8 +18,8 @@ use Rattle.generational_box.specs.declared.entry.StorageEntryData.TheVariants as
 use Rattle.generational_box.specs.Entries.{index_of, kept_data, writer_in}
 use Rattle.generational_box.specs.Entry.{FoundBorrowed, FoundReaders, content_in}
 use Rattle.generational_box.specs.Table.{list_at}
-use Rattle.generational_box.proofs.states.Entries.{kept, many, says, free_value, lent_used, used_at}
-use Rattle.generational_box.proofs.states.Entries.{no_content, read_slot, list_none, says_of, read_details}
+use Rattle.generational_box.proofs.states.Entries.{kept, many, says, lent_used, used_at}
+use Rattle.generational_box.proofs.states.Entries.{no_trouble, read_slot, list_none, says_of, read_details}
 use Rattle.generational_box.proofs.entries.Entries.borrow_mut_error.Goals as goal
 
 module _ {T : Type 0} (lists : List (List Borrow)) (d : StorageEntryData T) (l : Location) where
@@ -29,7 +29,7 @@ module _ {T : Type 0} (lists : List (List Borrow)) (d : StorageEntryData T) (l :
 
 module _ {T : Type 0} (lists : List (List Borrow)) (d : StorageEntryData T) (l : Location) where
   -- readers stand in the way, and so does a writer
-  found_readers : (kd : Kind) (x : ℕ) (v : T) → d ≡ slot.Data kd x v
+  found_readers : (kd : Kind) (x : ℕ) (v : T) → d ≡ slot.Read kd x v
       → (r : Refused BorrowMutError) → list_at lists x ≢ [] → FoundReaders (list_at lists x) r
       → FoundBorrowed (trouble lists d l) (Err r)
   found_readers kd x v is r some found =
@@ -55,20 +55,11 @@ index-requires g c =
     let same = many (kept c.self.view_is c.self.invariant) in
     omega (arith, c.requires, c.self.inside.entries.ok.0)
 
-pub returns-then-index : goal.returns-then-index
-returns-then-index g c =
-    let s = kept c.self.view_is c.self.invariant in
-    let there = read_slot s c.requires _ c.self.inside.entries.ok.0 c.index.ensures in
-    says s c.args.slot _ there _ (λ l. rw (
-      c.in-Data.is,
-      free_value s c.args.slot _ there _ _ _ c.in-Data.is c.if-index.true,
-    ) refl)
-
 pub readers_error-requires : goal.readers_error-requires
 readers_error-requires g c =
     let s = kept c.self.view_is c.self.invariant in
     let there = read_slot s c.requires _ c.self.inside.entries.ok.0 c.index.ensures in
-    (used_at s c.args.slot _ there _ _ _ c.in-Data.is c.if-index.false).within
+    (used_at s c.args.slot _ there _ _ _ c.in-Read.is).within
 
 pub index-requires-in-Lent : goal.index-requires-in-Lent
 index-requires-in-Lent g c =
@@ -85,21 +76,21 @@ writer_at-writer-requires-clause-within g c =
 pub writer_at-writer-requires-clause-none : goal.writer_at-writer-requires-clause-none
 writer_at-writer-requires-clause-none g c = list_none (kept c.self.view_is c.self.invariant)
 
-pub returns-else-index : goal.returns-else-index
-returns-else-index g c =
+pub returns-in-Read : goal.returns-in-Read
+returns-in-Read g c =
     let s = kept c.self.view_is c.self.invariant in
     let there = read_slot s c.requires _ c.self.inside.entries.ok.0 c.index.ensures in
-    let u = used_at s c.args.slot _ there _ _ _ c.in-Data.is c.if-index.false in
+    let u = used_at s c.args.slot _ there _ _ _ c.in-Read.is in
     says s c.args.slot _ there _ (λ l. found_readers c.self.inside.borrows.lists
-    c.index.result.now.content l.created_at _ _ _ c.in-Data.is c.readers_error.result u.some
+    c.index.result.now.content l.created_at _ _ _ c.in-Read.is c.readers_error.result u.some
     c.readers_error.ensures)
 
 pub returns-in_default : goal.returns-in_default
 returns-in_default g c =
     let s = kept c.self.view_is c.self.invariant in
     let there = read_slot s c.requires _ c.self.inside.entries.ok.0 c.index.ensures in
-    says s c.args.slot _ there _ (λ l. rw (no_content _ l.created_at c.index.result.now.content
-    c.in_default.not-Data c.in_default.not-Lent) refl)
+    says s c.args.slot _ there _ (λ l. rw (no_trouble (list_at c.self.inside.borrows.lists (index_of c.index.result.now.content)) l.created_at c.index.result.now.content
+    c.in_default.not-Read c.in_default.not-Lent) refl)
 
 pub returns-in-Lent : goal.returns-in-Lent
 returns-in-Lent g c =

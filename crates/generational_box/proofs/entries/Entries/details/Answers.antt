@@ -4,6 +4,8 @@ use Rattle.std.proofs.lemmas.Option.{slice_get_read}
 use Rattle.generational_core.specs.Cells.{location_of}
 use Rattle.generational_box.specs.Entry.{cell_of}
 use Rattle.generational_box.proofs.states.Entries.{kept, many, details_seen, created_there}
+use Rattle.generational_box.specs.Entries.{index_of}
+use Rattle.generational_box.specs.Table.{list_at}
 use Rattle.generational_box.proofs.entries.Entries.details.Goals as goal
 
 pub index-requires : goal.index-requires
@@ -26,4 +28,5 @@ returns-clause-created g c =
     let there = slice_get_read c.self.inside.details.items _ c.args.slot c.index.result.now
     refl (omega (arith, c.requires, c.self.invariant.1)) c.index.ensures in
     details_seen s c.requires there (λ e. IfSome (location_of (cell_of e.kept))
-    (λ l. c.index.result.now.created_at ≡ l)) (λ e. created_there _ _ e.content)
+    (λ l. c.index.result.now.created_at ≡ l)) (λ e. created_there
+    (list_at c.self.inside.borrows.lists (index_of e.content)) _ e.content)

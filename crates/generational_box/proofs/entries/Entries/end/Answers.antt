@@ -45,7 +45,7 @@ invariant_of-self g c =
     let own = ap (λ e. index_of e.content) (one_slot s c.args.slot there found) ∙ sym
     c.index-index.ensures in (
       close_indexed s c.args.slot _ there _ own c.if-index.true
-          c.close.ensures _ refl,
+          c.close.ensures _ tt refl,
       c.self.invariant.1 ∙ sym (length-set c.self.inside.entries.items c.args.slot _),
       roomy_still c.self.invariant.2 (length-set c.self.inside.entries.items c.args.slot _)
           c.close.ensures.rooms,
@@ -58,7 +58,7 @@ invariant_of-self-else-index g c =
     let there = read_slot s c.requires _ c.self.inside.entries.ok.0 c.index_mut.ensures.value in
     let own = ap (λ e. index_of e.content) (one_slot s c.args.slot there found) ∙ sym
     c.index-index.ensures in (
-      indexed_free (set_written _ c.args.slot _ _ there) s.indexed
+      indexed_free (set_written _ c.args.slot _ _ there) s.indexed tt
           (set_no_shorter _ c.args.slot _)
           (rw there (own ∙ c.if-index.false)) refl,
       c.self.invariant.1 ∙ sym (length-set c.self.inside.entries.items c.args.slot _),

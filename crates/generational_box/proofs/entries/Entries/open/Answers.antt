@@ -7,19 +7,18 @@ use Rattle.generational_box.specs.declared.entry.StorageEntryData.{StorageEntryD
 use Rattle.generational_box.specs.declared.entry.StorageEntryData.TheVariants as slot
 use Rattle.generational_box.specs.Entries.{kept_data}
 use Rattle.generational_box.specs.Entry.{content_in, value_for}
-use Rattle.generational_box.proofs.states.Entries.{kept, many, says, used_at, free_value, read_slot}
-use Rattle.generational_box.proofs.entries.Entries.open.Goals.{}
-use Rattle.generational_box.proofs.entries.Entries.open.Goals.{}
-use Rattle.generational_box.proofs.entries.Entries.open.Goals.{else-index-via-then-index+else-contains}
-use Rattle.generational_box.proofs.entries.Entries.open.Goals.{else-index-via-else-index}
+use Rattle.generational_box.proofs.states.Entries.{kept, many, says, used_at, read_slot}
+use Rattle.generational_box.specs.Entries.{index_of}
+use Rattle.generational_box.specs.Table.{list_at}
 use Rattle.generational_box.proofs.entries.Entries.open.Goals as goal
 
 no_value : {T : Type 0} (ticket : ℕ) (bs : List Borrow) (l : Location) (d : StorageEntryData T)
-    → ((kd : Kind) (x : ℕ) (v : T) → d ≡ slot.Data kd x v → ⊥)
+    → ((kd : Kind) (x : ℕ) (v : T) → d ≡ slot.Read kd x v → ⊥)
     → None ≡ value_for ticket (content_in (kept_data bs l d))
 no_value ticket bs l slot.Empty none = refl
 no_value ticket bs l (slot.Reference m n) none = refl
-no_value ticket bs l (slot.Data kd x v) none = absurd (none kd x v refl)
+no_value ticket bs l (slot.Data kd v) none = refl
+no_value ticket bs l (slot.Read kd x v) none = absurd (none kd x v refl)
 no_value ticket [] l (slot.Lent kd x) none = refl
 no_value ticket (b ∷ bs) l (slot.Lent kd x) none = refl
 
@@ -32,31 +31,25 @@ pub contains-requires : goal.contains-requires
 contains-requires g c =
     let s = kept c.self.view_is c.self.invariant in
     let there = read_slot s c.requires _ c.self.inside.entries.ok.0 c.index.ensures in
-    (used_at s c.args.slot _ there _ _ _ c.in-Data.is c.if-index.true).within
+    (used_at s c.args.slot _ there _ _ _ c.in-Read.is).within
 
 pub returns-then-contains : goal.returns-then-contains
 returns-then-contains g c =
     let s = kept c.self.view_is c.self.invariant in
     let there = read_slot s c.requires _ c.self.inside.entries.ok.0 c.index.ensures in
     says s c.args.slot _ there _
-    (λ l. rw (c.in-Data.is, ← c.if-contains.ensures) refl)
+    (λ l. rw (c.in-Read.is, ← c.contains.ensures, c.if-contains.true) refl)
 
-pub returns-else-index : goal.returns-else-index
-returns-else-index g c =
+pub returns-else-contains : goal.returns-else-contains
+returns-else-contains g c =
     let s = kept c.self.view_is c.self.invariant in
     let there = read_slot s c.requires _ c.self.inside.entries.ok.0 c.index.ensures in
-    elim c.else-index.branch [
-      | else-index-via-then-index+else-contains w ↦ says s c.args.slot _ there _
-          (λ l. rw (c.in-Data.is, ← w.if-contains.ensures) refl)
-      | else-index-via-else-index w ↦ says s c.args.slot _ there _ (λ l. rw (
-        c.in-Data.is,
-        free_value s c.args.slot _ there _ _ _ c.in-Data.is w.if-index.false,
-      ) refl)
-    ]
+    says s c.args.slot _ there _
+    (λ l. rw (c.in-Read.is, ← c.contains.ensures, c.if-contains.false) refl)
 
 pub returns-in_default : goal.returns-in_default
 returns-in_default g c =
     let s = kept c.self.view_is c.self.invariant in
     let there = read_slot s c.requires _ c.self.inside.entries.ok.0 c.index.ensures in
     says s c.args.slot _ there _
-    (λ l. no_value c.args.ticket _ l.created_at c.index.result.now.content c.in_default.not-Data)
+    (λ l. no_value c.args.ticket (list_at c.self.inside.borrows.lists (index_of c.index.result.now.content)) l.created_at c.index.result.now.content c.in_default.not-Read)

@@ -4,7 +4,7 @@ use Rattle.std.proofs.lemmas.Option.{slice_get_past}
 use Rattle.generational_box.proofs.lists.Lists.{push_written}
 use Rattle.generational_box.proofs.states.Entries.{kept, many, room_for_one, indexed_free}
 use Rattle.generational_box.proofs.states.Entries.{slots_pushed}
-use Rattle.generational_box.proofs.states.Entries.{free_entry, unborrowed_none}
+use Rattle.generational_box.proofs.states.Entries.{free_entry, unborrowed_listed, unborrowed_none}
 use Rattle.generational_box.proofs.entries.Entries.push.Goals as goal
 
 pub push_reserved-requires : goal.push_reserved-requires
@@ -26,6 +26,7 @@ invariant_of-self g c =
     let left = room_for_one _ c.self.view_is c.self.invariant c.requires.room in
     let room = c.self.invariant.2 in (
       rw c.push_reserved.ensures.items (indexed_free (push_written es _) c.self.invariant.0
+          (unborrowed_listed c.args.content c.requires.unborrowed)
           (rw (length-append es _) (omega arith))
           (rw (slice_get_past es (length es) (omega arith)) refl)
           (unborrowed_none c.args.content c.requires.unborrowed)),

@@ -3,9 +3,9 @@ use Rattle.std.proofs.Common.{arith, refl, sym, ap, ◌≡◌, ◌∙◌, true}
 use Rattle.std.proofs.lemmas.List.{length-set}
 use Rattle.generational_box.specs.Entry.{content_in, is_lent}
 use Rattle.generational_box.proofs.lists.Lists.{set_written}
-use Rattle.generational_box.proofs.states.Entries.{close_indexed, close_lists, closed_none, hears}
+use Rattle.generational_box.proofs.states.Entries.{close_indexed, close_lists, hears}
 use Rattle.generational_box.proofs.states.Entries.{indexed_free, kept, lent_is, lent_used}
-use Rattle.generational_box.proofs.states.Entries.{list_none, many, one_slot, read_slot}
+use Rattle.generational_box.proofs.states.Entries.{many, one_slot, read_slot}
 use Rattle.generational_box.proofs.states.Entries.{roomy_still, set_no_shorter, view_changed}
 use Rattle.generational_box.proofs.entries.Entries.put_back.Goals as goal
 
@@ -38,7 +38,7 @@ invariant_of-self g c =
     let there = read_slot s c.requires.within _ c.self.inside.entries.ok.0
     c.index_mut.ensures.value in
     let is = ap (λ e. e.content) (one_slot s c.args.slot there found) ∙ c.in-Lent.is in (
-      close_indexed s c.args.slot _ there _ (rw is refl) c.if-index.true c.close.ensures _ refl,
+      close_indexed s c.args.slot _ there _ (rw is refl) c.if-index.true c.close.ensures _ tt refl,
       c.self.invariant.1 ∙ sym (length-set c.self.inside.entries.items c.args.slot _),
       roomy_still c.self.invariant.2 (length-set c.self.inside.entries.items c.args.slot _)
           c.close.ensures.rooms,
@@ -51,7 +51,7 @@ invariant_of-self-else-index g c =
     let there = read_slot s c.requires.within _ c.self.inside.entries.ok.0
     c.index_mut.ensures.value in
     let is = ap (λ e. e.content) (one_slot s c.args.slot there found) ∙ c.in-Lent.is in (
-      indexed_free (set_written _ c.args.slot _ _ there) s.indexed
+      indexed_free (set_written _ c.args.slot _ _ there) s.indexed tt
           (set_no_shorter _ c.args.slot _) (rw (there, is) c.if-index.false) refl,
       c.self.invariant.1 ∙ sym (length-set c.self.inside.entries.items c.args.slot _),
       roomy_still c.self.invariant.2 (length-set c.self.inside.entries.items c.args.slot _) refl,
@@ -74,7 +74,7 @@ returns-then-index-clause-slots g c =
     let is = ap (λ e. e.content) (one_slot s c.args.slot there found) ∙ c.in-Lent.is in
     view_changed s c.args.slot _ there _ _ _
     (close_lists s c.args.slot _ there _ (rw is refl) c.if-index.true c.close.ensures)
-    (λ l. rw (is, closed_none s c.close.ensures) refl)
+    (λ l. rw is refl)
 
 pub returns-else-index-clause-slots : goal.returns-else-index-clause-slots
 returns-else-index-clause-slots g c =
@@ -84,4 +84,4 @@ returns-else-index-clause-slots g c =
     c.index_mut.ensures.value in
     let is = ap (λ e. e.content) (one_slot s c.args.slot there found) ∙ c.in-Lent.is in
     view_changed s c.args.slot _ there _ _ _ (λ k other. refl)
-    (λ l. rw (is, list_none s) refl)
+    (λ l. rw is refl)

@@ -24,7 +24,7 @@ invariant_of-self g c =
     let new = subst (λ o. IfSome o (λ (e : Entry _). c.reference_to.result
     ≡ content.Reference c.args.target e.generation)) (slot_seen s c.args.target t.0 t.1)
     c.reference_to.ensures in (
-      indexed_free (set_written _ c.args.slot _ _ there) s.indexed
+      indexed_free (set_written _ c.args.slot _ _ there) s.indexed (rw new tt)
           (set_no_shorter _ c.args.slot _) (rw (there, old.2) refl) (rw new refl),
       c.self.invariant.1 ∙ sym (length-set c.self.inside.entries.items c.args.slot _),
       roomy_still c.self.invariant.2 (length-set c.self.inside.entries.items c.args.slot _) refl,

@@ -5,7 +5,7 @@ use Rattle.generational_core.specs.Slots.{last_generation}
 use Rattle.generational_box.proofs.lists.Lists.{set_written}
 use Rattle.generational_box.proofs.states.Entries.{kept, many, says, hears, read_slot, empty_slot}
 use Rattle.generational_box.proofs.states.Entries.{indexed_free, slots_set, free_entry}
-use Rattle.generational_box.proofs.states.Entries.{unborrowed_none}
+use Rattle.generational_box.proofs.states.Entries.{unborrowed_listed, unborrowed_none}
 use Rattle.generational_box.proofs.entries.Entries.refill.Goals as goal
 
 pub index_mut-requires : goal.index_mut-requires
@@ -37,7 +37,8 @@ invariant_of-self g c =
     }) in
     let room = c.self.invariant.2 in (
       indexed_free (set_written c.self.inside.entries.items c.args.slot c.refill.new.self _ there)
-          c.self.invariant.0 (omega arith)
+          c.self.invariant.0 (rw c.refill.ensures.filled
+          (unborrowed_listed c.args.content c.requires.unborrowed)) (omega arith)
           (rw (there, empty_slot s c.args.slot _ there c.requires.empty) refl)
           (rw c.refill.ensures.filled
           (unborrowed_none c.args.content c.requires.unborrowed)),

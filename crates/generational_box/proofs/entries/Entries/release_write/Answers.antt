@@ -4,6 +4,8 @@ use Rattle.std.proofs.lemmas.Bool.{false≢true, eq-eqb, eqb-true}
 use Rattle.generational_box.specs.Entry.{content_in, is_lent}
 use Rattle.generational_box.proofs.states.Entries.{kept, lent_used, list_none, many, no_writer}
 use Rattle.generational_box.proofs.states.Entries.{read_details, read_slot, says, says_of}
+use Rattle.generational_box.specs.Entries.{index_of}
+use Rattle.generational_box.specs.Table.{list_at}
 use Rattle.generational_box.proofs.entries.Entries.release_write.Goals as goal
 
 pub index-requires : goal.index-requires
@@ -59,6 +61,7 @@ returns-in_default-clause-known g c =
     let found = read_slot s c.requires _ c.self.inside.entries.ok.0 c.index.ensures in
     says s c.args.slot _ found _ (λ l. (
       λ f. absurd (false≢true f),
-      λ h. sym (no_writer c.args.ticket _ l.created_at c.index.result.now.content
-          c.in_default.not-Lent) ∙ h,
+      λ h. sym (no_writer c.args.ticket
+          (list_at c.self.inside.borrows.lists (index_of c.index.result.now.content)) l.created_at
+          c.index.result.now.content c.in_default.not-Lent) ∙ h,
     ))

@@ -22,20 +22,15 @@ unreachable-requires g c =
     c.index_mut.ensures.value in
     let a = alone s c.args.slot _ there _
     (hears s c.args.slot _ there (λ e. has_no_borrow (content_in e.kept) ≡ true) c.requires.free) in
-    c.in_default.not-Data _ _ _ a.2
+    c.in_default.not-Data _ _ a.2
 
 pub invariant_of-self : goal.invariant_of-self
 invariant_of-self g c =
     let s = kept c.self.view_is c.self.invariant in
     let there = read_slot s c.requires.within _ c.self.inside.entries.ok.0
-    c.index_mut.ensures.value in
-    let a = alone s c.args.slot _ there _
-    (hears s c.args.slot _ there (λ e. has_no_borrow (content_in e.kept) ≡ true) c.requires.free) in
-    let same : slot.Data a.0 no_index a.1
-    ≡ slot.Data c.in-Data.field-0 c.in-Data.field-1 c.in-Data.kept = sym a.2 ∙ c.in-Data.is in
-    let none : c.in-Data.field-1 ≡ no_index = cc in (
-      indexed_free (set_written _ c.args.slot _ _ there) s.indexed
-          (set_no_shorter _ c.args.slot _) (rw (there, a.2) refl) none,
+    c.index_mut.ensures.value in (
+      indexed_free (set_written _ c.args.slot _ _ there) s.indexed tt
+          (set_no_shorter _ c.args.slot _) (rw (there, c.in-Data.is) refl) refl,
       c.self.invariant.1 ∙ sym (length-set c.self.inside.entries.items c.args.slot _),
       roomy_still c.self.invariant.2 (length-set c.self.inside.entries.items c.args.slot _) refl,
     )
@@ -45,23 +40,12 @@ returns-clause-value g c =
     let s = kept c.self.view_is c.self.invariant in
     let there = read_slot s c.requires.within _ c.self.inside.entries.ok.0
     c.index_mut.ensures.value in
-    let a = alone s c.args.slot _ there _
-    (hears s c.args.slot _ there (λ e. has_no_borrow (content_in e.kept) ≡ true) c.requires.free) in
-    let same : slot.Data a.0 no_index a.1
-    ≡ slot.Data c.in-Data.field-0 c.in-Data.field-1 c.in-Data.kept = sym a.2 ∙ c.in-Data.is in
-    let old : c.replace.result ≡ a.1 = (let is = c.replace.ensures.value in cc) in
-    says s c.args.slot _ there _ (λ l. rw (a.2, old, list_none s) refl)
+    says s c.args.slot _ there _ (λ l. rw (c.in-Data.is, c.replace.ensures.value) refl)
 
 pub returns-clause-after : goal.returns-clause-after
 returns-clause-after g c =
     let s = kept c.self.view_is c.self.invariant in
     let there = read_slot s c.requires.within _ c.self.inside.entries.ok.0
     c.index_mut.ensures.value in
-    let a = alone s c.args.slot _ there _
-    (hears s c.args.slot _ there (λ e. has_no_borrow (content_in e.kept) ≡ true) c.requires.free) in
-    let same : slot.Data a.0 no_index a.1
-    ≡ slot.Data c.in-Data.field-0 c.in-Data.field-1 c.in-Data.kept = sym a.2 ∙ c.in-Data.is in
-    let none : c.in-Data.field-1 ≡ no_index = cc in
-    let kind : c.in-Data.field-0 ≡ a.0 = cc in
     view_changed s c.args.slot _ there _ _ _ (λ k other. refl)
-    (λ l. rw (a.2, none, kind, c.replace.ensures.after, list_none s) refl)
+    (λ l. rw (c.in-Data.is, c.replace.ensures.after) refl)

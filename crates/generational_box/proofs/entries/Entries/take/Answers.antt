@@ -3,9 +3,9 @@ use Rattle.std.proofs.Common.{arith, refl, sym, ap, ◌≡◌, ◌∙◌, true, 
 use Rattle.std.proofs.lemmas.List.{length-set}
 use Rattle.generational_core.specs.Cells.Content.{Here}
 use Rattle.generational_box.specs.Entry.{content_in, has_no_borrow}
-use Rattle.generational_box.specs.Entries.{value_in}
+use Rattle.generational_box.specs.Entries.{unread_in}
 use Rattle.generational_box.proofs.lists.Lists.{set_written}
-use Rattle.generational_box.proofs.states.Entries.{alone, free_value, hears, indexed_free, kept}
+use Rattle.generational_box.proofs.states.Entries.{alone, hears, indexed_free, kept}
 use Rattle.generational_box.proofs.states.Entries.{list_none, many, read_slot, roomy_still, says}
 use Rattle.generational_box.proofs.states.Entries.{set_no_shorter, view_changed}
 use Rattle.generational_box.proofs.entries.Entries.take.Goals as goal
@@ -32,8 +32,8 @@ invariant_of-self g c =
     let a = alone s c.args.slot _ there _
     (hears s c.args.slot _ there (λ e. has_no_borrow (content_in e.kept) ≡ true) c.requires.free) in (
       indexed_free (set_written _ c.args.slot _ _ there) s.indexed
-          (set_no_shorter _ c.args.slot _) (rw (there, a.2) refl)
-          (rw (c.lend.ensures.lent, a.2) refl),
+          (rw (c.lend.ensures.lent, a.2) tt) (set_no_shorter _ c.args.slot _)
+          (rw (there, a.2) refl) (rw (c.lend.ensures.lent, a.2) refl),
       c.self.invariant.1 ∙ sym (length-set c.self.inside.entries.items c.args.slot _),
       roomy_still c.self.invariant.2 (length-set c.self.inside.entries.items c.args.slot _) refl,
     )
@@ -45,10 +45,10 @@ returns-clause-value g c =
     c.index_mut.ensures.value in
     let a = alone s c.args.slot _ there _
     (hears s c.args.slot _ there (λ e. has_no_borrow (content_in e.kept) ≡ true) c.requires.free) in
-    let same : Some a.1 ≡ Some c.lend.result = sym (ap value_in a.2) ∙ c.lend.ensures.value in
+    let same : Some a.1 ≡ Some c.lend.result = sym (ap unread_in a.2) ∙ c.lend.ensures.value in
     let value : c.lend.result ≡ a.1 = cc in
     says s c.args.slot _ there (λ e. content_in e.kept ≡ Some (Here c.lend.result []))
-    (λ l. rw (a.2, value, free_value s c.args.slot _ there _ _ _ a.2 refl) refl)
+    (λ l. rw (a.2, value) refl)
 
 pub returns-clause-after : goal.returns-clause-after
 returns-clause-after g c =

@@ -4,6 +4,9 @@ use Rattle.std.proofs.lemmas.Bool.{false≢true}
 use Rattle.generational_core.specs.Answers.{value_of}
 use Rattle.generational_box.specs.Entry.{content_in}
 use Rattle.generational_box.proofs.states.Entries.{kept, many, hears, no_value, says, read_slot}
+use Rattle.generational_box.specs.Entries.{index_of}
+use Rattle.generational_box.specs.Table.{list_at}
+use Rattle.generational_box.proofs.states.Entries.{location}
 use Rattle.generational_box.proofs.entries.Entries.value.Goals as goal
 
 pub index-requires : goal.index-requires
@@ -11,17 +14,8 @@ index-requires g c =
     let same = many (kept c.self.view_is c.self.invariant) in
     omega (arith, c.requires.within, c.self.inside.entries.ok.0)
 
-pub unreachable-requires : goal.unreachable-requires
-unreachable-requires g c =
-    let s = kept c.self.view_is c.self.invariant in
-    let there = read_slot s c.requires.within _ c.self.inside.entries.ok.0 c.index.ensures in
-    let some = hears s c.args.slot _ there (λ e. is_some (value_of (content_in e.kept)) ≡ true)
-    c.requires.there in
-    false≢true (ap is_some (sym (no_value _ _ c.index.result.now.content c.in_default.not-Data))
-    ∙ some)
-
-pub returns : goal.returns
-returns g c =
+pub returns-in-Data : goal.returns-in-Data
+returns-in-Data g c =
     let s = kept c.self.view_is c.self.invariant in
     let there = read_slot s c.requires.within _ c.self.inside.entries.ok.0 c.index.ensures in
     says s c.args.slot _ there (λ e. value_of (content_in e.kept) ≡ Some c.in-Data.value)
