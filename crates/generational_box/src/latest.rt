@@ -460,7 +460,7 @@ impl<T: Drop> LatestEntries<T> {
             (λ e. record e { kept = Empty }) }
         ensures rooms { self.new.rooms ≡ self.old.rooms }
     {
-        if self.last.is_apart() && self.last.slot == slot {
+        if self.last.slot == slot {
             self.last.standing = Standing::Nobody;
         }
         self.settled.end(slot)
