@@ -5,8 +5,8 @@ use Rattle.std.specs.List.{list_any, filter, AllPairs}
 use Rattle.generational_core.specs.declared.borrow.Borrow.{Borrow}
 use Rattle.generational_box.specs.declared.borrows.Removal.{Removal}
 use Rattle.generational_box.specs.declared.borrows.Removal.TheVariants as removal
-use Rattle.generational_box.specs.declared.borrows.Standing.{Standing}
-use Rattle.generational_box.specs.declared.borrows.Standing.TheVariants.{One, Several}
+use Rattle.generational_box.specs.declared.borrows.OneOrSeveral.{OneOrSeveral}
+use Rattle.generational_box.specs.declared.borrows.OneOrSeveral.TheVariants.{One, Several}
 
 -- each ticket of the list is below n
 abbrev pub AreBelow : ℕ → List Borrow → Type 0
@@ -17,14 +17,14 @@ abbrev pub Ascend : List Borrow → Type 0
 Ascend = AllPairs (λ a b. a.ticket < b.ticket)
 
 -- one borrow, or those of a queue
-abbrev pub borrows_in : Standing → List Borrow
+abbrev pub borrows_in : OneOrSeveral → List Borrow
 borrows_in (One b) = b ∷ []
 borrows_in (Several queue) = queue.value.items
 
 -- in a queue two borrows stand at least, and their tickets ascend
-abbrev pub IsStanding : Standing → Type 0
-IsStanding (One b) = Unit {0}
-IsStanding (Several queue) = (2 ≤ length queue.value.items) × Ascend queue.value.items
+abbrev pub IsOrdered : OneOrSeveral → Type 0
+IsOrdered (One b) = Unit {0}
+IsOrdered (Several queue) = (2 ≤ length queue.value.items) × Ascend queue.value.items
 
 -- there is one borrow, and it has the ticket
 abbrev pub IsOnly : ℕ → List Borrow → Type 0

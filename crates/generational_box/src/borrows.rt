@@ -20,12 +20,12 @@ use std::marker::Model;
 /// is given back.
 #[derive(Drop)]
 pub(crate) struct Borrows {
-    standing: Standing,
+    standing: OneOrSeveral,
 }
 
 /// One borrow, or a queue of two at least.
 #[derive(Drop)]
-enum Standing {
+enum OneOrSeveral {
     One(Borrow),
     Several(Box<VecDeque<Borrow>>),
 }
@@ -42,13 +42,13 @@ pub(crate) enum Removal {
 impl Model for Borrows {
     ghost use Rattle.std.specs.Prelude.{List};
     ghost use Rattle.generational_core.specs.declared.borrow.Borrow.{Borrow};
-    ghost use Rattle.generational_box.specs.Borrows.{borrows_in, IsStanding};
+    ghost use Rattle.generational_box.specs.Borrows.{borrows_in, IsOrdered};
 
     ghost Value = { List Borrow };
 
     ghost view = { λ b. borrows_in b.standing };
 
-    ghost invariant = { λ b. IsStanding b.standing };
+    ghost invariant = { λ b. IsOrdered b.standing };
 }
 
 impl Borrows {
@@ -58,7 +58,7 @@ impl Borrows {
         ensures { result ≡ borrow ∷ [] }
     {
         Borrows {
-            standing: Standing::One(borrow),
+            standing: OneOrSeveral::One(borrow),
         }
     }
 
@@ -71,7 +71,7 @@ impl Borrows {
     {
         let queue = queue_of(alloc, first, second)?;
         Ok(Borrows {
-            standing: Standing::Several(queue),
+            standing: OneOrSeveral::Several(queue),
         })
     }
 
@@ -81,8 +81,8 @@ impl Borrows {
         ensures { slice_get self.now 0 ≡ Some result }
     {
         match &self.standing {
-            Standing::One(borrow) => *borrow,
-            Standing::Several(queue) => queue[0],
+            OneOrSeveral::One(borrow) => *borrow,
+            OneOrSeveral::Several(queue) => queue[0],
         }
     }
 
@@ -95,11 +95,11 @@ impl Borrows {
         ensures err { OnErr result (self.new ≡ self.old) }
     {
         match &mut self.standing {
-            Standing::One(first) => {
+            OneOrSeveral::One(first) => {
                 let queue = queue_of(alloc, *first, borrow)?;
-                self.standing = Standing::Several(queue);
+                self.standing = OneOrSeveral::Several(queue);
             }
-            Standing::Several(queue) => queue.push_back(borrow)?,
+            OneOrSeveral::Several(queue) => queue.push_back(borrow)?,
         }
         Ok(())
     }
@@ -111,8 +111,8 @@ impl Borrows {
         ensures { result ≡ list_any (λ b. nat_eq b.ticket ticket) self.now }
     {
         match &self.standing {
-            Standing::One(borrow) => borrow.ticket == ticket,
-            Standing::Several(queue) => has_ticket(queue, ticket),
+            OneOrSeveral::One(borrow) => borrow.ticket == ticket,
+            OneOrSeveral::Several(queue) => has_ticket(queue, ticket),
         }
     }
 
@@ -123,18 +123,18 @@ impl Borrows {
         ensures { IsRemoval ticket self.old self.new result }
     {
         match &mut self.standing {
-            Standing::One(borrow) => {
+            OneOrSeveral::One(borrow) => {
                 if borrow.ticket == ticket {
                     return Removal::Last;
                 }
                 Removal::None
             }
-            Standing::Several(queue) => {
+            OneOrSeveral::Several(queue) => {
                 if !remove_among(queue, ticket) {
                     return Removal::None;
                 }
                 if queue.len() == 1 {
-                    self.standing = Standing::One(queue[0]);
+                    self.standing = OneOrSeveral::One(queue[0]);
                 }
                 Removal::One
             }
@@ -148,12 +148,12 @@ impl Borrows {
         ensures { IfOk result (λ places. places.items ≡ map (λ b. b.location) self.now) }
     {
         match &self.standing {
-            Standing::One(borrow) => {
+            OneOrSeveral::One(borrow) => {
                 let mut places = Vec::with_capacity(alloc, 1)?;
                 places.push_reserved(borrow.location);
                 Ok(places)
             }
-            Standing::Several(queue) => locations_of(queue, alloc),
+            OneOrSeveral::Several(queue) => locations_of(queue, alloc),
         }
     }
 }

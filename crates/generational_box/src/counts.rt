@@ -61,8 +61,7 @@ impl Counts {
     }
 
     // One less is.
-    #[cold]
-    #[inline(never)]
+    #[inline(always)]
     pub(crate) fn retire_one(&mut self)
         requires { 0 < self.old.usable }
         ensures usable { self.new.usable ≡ self.old.usable - 1 }

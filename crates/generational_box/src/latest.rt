@@ -452,14 +452,21 @@ impl<T: Drop> LatestEntries<T> {
         self.settled.replace(slot, value)
     }
 
-    // Ends the slot's cell, with the borrows that stand there.
+    // Ends the slot's cell, with the borrows that stand there. The caller may know that it is a value
+    // without borrows.
     #[inline(always)]
-    pub(crate) fn end(&mut self, slot: usize)
-        requires { slot < length self.old.slots }
+    pub(crate) fn end(&mut self, slot: usize, is_alone: bool)
+        requires within { slot < length self.old.slots }
+        requires alone { is_alone ≡ true → IfSome (slice_get self.old.slots slot)
+            (λ e. has_no_borrow (content_in e.kept) ≡ true) }
         ensures slots { self.new.slots ≡ change_entry self.old.slots slot
             (λ e. record e { kept = Empty }) }
         ensures rooms { self.new.rooms ≡ self.old.rooms }
     {
+        if is_alone {
+            self.settled.end(slot);
+            return;
+        }
         if self.last.slot == slot {
             self.last.standing = Standing::Nobody;
         }

@@ -461,17 +461,20 @@ impl<T: Drop, P: SlotPool> Slots<T, P> {
     }
 
     // Takes a cell away. Its slot is free from then on, unless its generation is the last. What a
-    // reference names counts it no more.
+    // reference names counts it no more. The caller may know that the cell is a value without
+    // borrows.
     #[inline(always)]
-    fn remove(&mut self, name: CellName, target: Option<CellName>)
+    fn remove(&mut self, name: CellName, target: Option<CellName>, is_alone: bool)
         requires there { IsSome (map.get self.old.state.cells (name_of_cell name)) }
         requires target { option_map name_of_cell target
             ≡ target_in (map.get self.old.state.cells (name_of_cell name)) }
+        requires alone { is_alone ≡ true
+            → has_no_borrow (content_at self.old.state (name_of_cell name)) ≡ true }
         ensures { self.new.state ≡ record self.old.state
             { cells = map.remove self.old.state.cells (name_of_cell name) } }
     {
         forget(&mut self.entries, target);
-        self.entries.end(name.slot);
+        self.entries.end(name.slot, is_alone);
         if name.generation < u64::MAX {
             self.pool.put(name.slot);
         } else {
@@ -511,7 +514,7 @@ impl<T: Drop, P: SlotPool> Slots<T, P> {
         ensures err { OnErr result (self.new.state ≡ self.old.state) }
     {
         if self.has_unborrowed_value(name) {
-            self.remove(name, None);
+            self.remove(name, None, true);
             return Ok(());
         }
         self.end_any(name)
@@ -544,7 +547,7 @@ impl<T: Drop, P: SlotPool> Slots<T, P> {
         ensures { self.new.state ≡ close self.old.state (name_of_cell name ∷ []) }
     {
         if self.has_unborrowed_value(name) {
-            self.remove(name, None);
+            self.remove(name, None, true);
             return;
         }
         self.close_any(name);
@@ -560,10 +563,10 @@ impl<T: Drop, P: SlotPool> Slots<T, P> {
         let target = self.target(name);
         let is_reference = target.is_some();
         if let Some(doomed) = self.doomed(name) {
-            self.remove(doomed, None);
+            self.remove(doomed, None, false);
         }
         if is_reference {
-            self.remove(name, target);
+            self.remove(name, target, false);
         }
     }
 
@@ -595,7 +598,7 @@ impl<T: Drop, P: SlotPool> Slots<T, P> {
             Err(refused) => return Err(refused),
         }
         self.redirect(name, old, new);
-        self.remove(doomed, None);
+        self.remove(doomed, None, false);
         Ok(())
     }
 

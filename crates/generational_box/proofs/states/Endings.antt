@@ -12,7 +12,8 @@ use Rattle.generational_box.proofs.Common.{cells_after, close, content_of, doome
 use Rattle.generational_box.proofs.Common.{first_hindrance}
 unfoldable use Rattle.generational_box.proofs.Common.{hindrance_to}
 use Rattle.generational_box.proofs.Common.{is_named, is_shared, write_refusal, Location}
-use Rattle.generational_box.proofs.Common.{Content, Trouble}
+use Rattle.generational_box.proofs.Common.{Content, Trouble, content_at, has_no_borrow}
+use Rattle.generational_box.proofs.states.Latest.{unrefused}
 use Rattle.std.proofs.Common.{is_none}
 
 module _ {T : Type 0} where
@@ -136,6 +137,11 @@ module _ {T : Type 0} where
 
     pub free_there : is_some (map.get S.cells n) ≡ true
     free_there = let v = own_value (map.get S.cells n) free in ap is_some v.2
+
+    pub free_alone : has_no_borrow (content_at S n) ≡ true
+    free_alone =
+        let v = own_value (map.get S.cells n) free in
+        ap (λ c. has_no_borrow (content_of c)) v.2 ∙ unrefused v.0 v.3
 
     pub free_names_none : None ≡ target_in (map.get S.cells n)
     free_names_none = let v = own_value (map.get S.cells n) free in ap target_in (sym v.2)

@@ -1,7 +1,8 @@
 -- The end of a name.
 use Rattle.std.proofs.Common.{sym, ◌∙◌}
 use Rattle.generational_box.proofs.Common.{name_of_cell}
-use Rattle.generational_box.proofs.states.Endings.{free_closes, free_names_none, free_there}
+use Rattle.generational_box.proofs.states.Endings.{free_alone, free_closes, free_names_none}
+use Rattle.generational_box.proofs.states.Endings.{free_there}
 use Rattle.generational_box.proofs.slots.Slots.close.Goals as goal
 
 pub remove-requires : goal.remove-requires
@@ -11,6 +12,7 @@ remove-requires g c =
     record {
       there = free_there S (name_of_cell c.args.name) c.requires free;
       target = free_names_none S (name_of_cell c.args.name) c.requires free;
+      alone = λ _. free_alone S (name_of_cell c.args.name) c.requires free;
     }
 
 pub returns-then-has_unborrowed_value : goal.returns-then-has_unborrowed_value

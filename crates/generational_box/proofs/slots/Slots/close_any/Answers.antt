@@ -3,6 +3,7 @@ use Rattle.std.proofs.Common.{is_some}
 use Rattle.generational_box.specs.Entry.{target_in}
 use Rattle.generational_box.proofs.states.Endings.{target_there}
 use Rattle.std.proofs.Common.{ap, sym, ◌≡◌, ◌∙◌, option_map, refl}
+use Rattle.std.proofs.lemmas.Bool.{false≢true}
 use Rattle.std.specs.FinMap as map
 use Rattle.generational_box.specs.Slotted.{Slotted}
 use Rattle.generational_box.proofs.Common.{State, name_of_cell}
@@ -27,6 +28,7 @@ remove-requires-then-is_reference g c =
     rw gone (record {
       there = ap is_some left ∙ target_there (map.get S.cells n) names;
       target = c.target-target.ensures ∙ ap target_in (sym left);
+      alone = λ is. absurd (false≢true is);
     })
 
 pub returns-then-is_reference : goal.returns-then-is_reference

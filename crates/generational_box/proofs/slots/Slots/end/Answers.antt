@@ -1,8 +1,8 @@
 -- The end of a name, unless a borrow stands in the way.
 use Rattle.std.proofs.Common.{sym, ◌∙◌}
 use Rattle.generational_box.proofs.Common.{name_of_cell}
-use Rattle.generational_box.proofs.states.Endings.{free_closes, free_hindrance, free_names_none}
-use Rattle.generational_box.proofs.states.Endings.{free_there}
+use Rattle.generational_box.proofs.states.Endings.{free_alone, free_closes, free_hindrance}
+use Rattle.generational_box.proofs.states.Endings.{free_names_none, free_there}
 use Rattle.generational_box.proofs.slots.Slots.end.Goals as goal
 
 pub remove-requires : goal.remove-requires
@@ -12,6 +12,7 @@ remove-requires g c =
     record {
       there = free_there S (name_of_cell c.args.name) c.requires free;
       target = free_names_none S (name_of_cell c.args.name) c.requires free;
+      alone = λ _. free_alone S (name_of_cell c.args.name) c.requires free;
     }
 
 pub returns-then-has_unborrowed_value-clause-found : goal.returns-then-has_unborrowed_value-clause-found

@@ -1,12 +1,13 @@
 -- A cell that goes.
-use Rattle.std.proofs.Common.{arith, ap, sym, ◌≡◌, ◌∙◌, is_some, subst}
+use Rattle.std.proofs.Common.{arith, ap, sym, ◌≡◌, ◌∙◌, is_some, subst, true}
 use Rattle.std.specs.FinMap as map
-use Rattle.generational_box.specs.Entry.{target_in}
+use Rattle.generational_box.specs.Entry.{has_no_borrow, target_in}
 use Rattle.generational_box.proofs.Common.{AreReferred, cell_at, count_less, name_of_cell}
 use Rattle.generational_box.proofs.Common.{refers_to}
 use Rattle.generational_box.proofs.Common.{State, shared_target}
 use Rattle.generational_box.proofs.lists.Lists.{bit}
-use Rattle.generational_box.proofs.states.Changes.{cell_seen, found, found_within}
+use Rattle.generational_box.proofs.states.Changes.{cell_seen, found, found_within, heard_in}
+use Rattle.generational_box.proofs.states.Changes.{held_in, unborrowed_there}
 use Rattle.generational_box.proofs.states.Changes.{not_pooled, slotted_freed, slotted_retired}
 use Rattle.generational_box.proofs.states.Changes.{some_live, state_ended, state_is}
 use Rattle.generational_box.proofs.states.Counting.{less_length, less_slotted, less_state}
@@ -22,8 +23,8 @@ forget-requires g c =
     ∙ ap target_in (sym (cell_seen slots (state_is c.self.view_is) n)) in
     record { some = rw told (target_some slots c.self.invariant.2 n) }
 
-pub end-requires : goal.end-requires
-end-requires g c =
+pub end-requires-clause-within : goal.end-requires-clause-within
+end-requires-clause-within g c =
     let inv = c.self.invariant in
     let n = name_of_cell c.args.name in
     let slots = c.self.inside.entries.slots in
@@ -37,6 +38,21 @@ end-requires g c =
     let after = c.forget.ensures.slots
     ∙ ap (λ t. count_less slots (shared_target slots t)) told in
     rw after (found_within f)
+
+pub end-requires-clause-alone : goal.end-requires-clause-alone
+end-requires-clause-alone g c is =
+    let n = name_of_cell c.args.name in
+    let slots = c.self.inside.entries.slots in
+    let o = shared_target slots (target_in (cell_at slots n)) in
+    let same = less_state slots o c.self.inside.start c.self.inside.counts.peak
+    ∙ state_is c.self.view_is in
+    let told = c.requires.target
+    ∙ ap target_in (sym (cell_seen slots (state_is c.self.view_is) n)) in
+    let after = c.forget.ensures.slots
+    ∙ ap (λ t. count_less slots (shared_target slots t)) told in
+    let free = c.requires.alone is in
+    rw after (heard_in same n (held_in same n (unborrowed_there _ free)) has_no_borrow (λ b. b ≡ true)
+    free)
 
 pub retire_one-requires : goal.retire_one-requires
 retire_one-requires g c =

@@ -1,6 +1,7 @@
 -- A reference that names another shared value, and its old target.
 use Rattle.std.proofs.Common.{ap, sym, ◌≡◌, ◌∙◌, None, Some, refl}
 use Rattle.std.proofs.Common.{true, false}
+use Rattle.std.proofs.lemmas.Bool.{false≢true}
 use Rattle.std.specs.FinMap as map
 use Rattle.generational_box.proofs.Common.{Ref, State, is_name}
 use Rattle.generational_box.proofs.Common.{name_of_cell, name_test}
@@ -56,7 +57,11 @@ remove-requires g c =
     } = rw r.1 at c.redirect-2.ensures in
     let left = doomed_left S n o m r.0 c.requires.linked r.1 other _ c.in-Some.ensures
     (name_of_cell c.in-Some.doomed) refl in
-    rw redirected (record { there = left.0; target = left.1 })
+    rw redirected (record {
+      there = left.0;
+      target = left.1;
+      alone = λ is. absurd (false≢true is);
+    })
 
 pub returns : goal.returns
 returns g c =
