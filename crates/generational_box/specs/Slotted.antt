@@ -32,6 +32,15 @@ pub record Count : Type 0 where
   pub usable : ℕ
   pub peak : ℕ
 
+-- What a store has of slots: the free ones, for how many there is room, the first generation of
+-- each, how many are in use, and the slots themselves.
+pub record Inventory (T : Type 0) : Type 0 where
+  pub free : set.FinSet nat_cmp
+  pub rooms : ℕ
+  pub start : ℕ
+  pub counts : Count
+  pub slots : List (Entry T)
+
 -- count names of a slot, upwards from a generation
 abbrev pub names_up : ℕ → ℕ → ℕ → List Name
 names_up slot from zero = []
@@ -111,22 +120,20 @@ module _ {T : Type 0} where
   HasBegun start (Some e) = start ≤ e.generation
 
   -- What holds of a store's slots and of the set of its free slots.
-  pub record IsSlotted
-      (free : set.FinSet nat_cmp) (rooms start usable peak : ℕ) (slots : List (Entry T))
-      : Type 0 where
+  pub record IsSlotted (p : Inventory T) : Type 0 where
     -- the free slots are those that may be used again
-    pub pooled : (k : ℕ) → set.contains free k ≡ is_reusable (slice_get slots k)
+    pub pooled : (k : ℕ) → set.contains p.free k ≡ is_reusable (slice_get p.slots k)
     -- there is room for all of them
-    pub roomy : length slots ≤ rooms
+    pub roomy : length p.slots ≤ p.rooms
     -- no slot's generation is below the first one
-    pub begun : (k : ℕ) → HasBegun start (slice_get slots k)
+    pub begun : (k : ℕ) → HasBegun p.start (slice_get p.slots k)
     -- the slots that are live or free are counted, and the free ones
-    pub counted : usable ≡ how_many (λ e. is_live e.kept) slots + set.len free
-    pub stocked : set.len free ≡ how_many is_spent slots
+    pub counted : p.counts.usable ≡ how_many (λ e. is_live e.kept) p.slots + set.len p.free
+    pub stocked : set.len p.free ≡ how_many is_spent p.slots
     -- a slot is made only where none is free: so the live and the free ones are no more than the
     -- peak, which is no more than there are slots
-    pub few : usable ≤ peak
-    pub bounded : peak ≤ length slots
+    pub few : p.counts.usable ≤ p.counts.peak
+    pub bounded : p.counts.peak ≤ length p.slots
 
   -- how many references of the slots name a cell
   abbrev pub refers : Name → Entry T → Bool

@@ -68,8 +68,13 @@ impl<T, P: SlotPool> Model for Slots<T, P> {
     } };
 
     ghost invariant = { λ s.
-        IsSlotted (P.members s.pool) (P.rooms s.pool) s.start s.counts.usable s.counts.peak
-        s.entries.slots
+        IsSlotted (record {
+          free = P.members s.pool;
+          rooms = P.rooms s.pool;
+          start = s.start;
+          counts = s.counts;
+          slots = s.entries.slots;
+        })
         × (P.rooms s.pool ≤ s.entries.rooms) × AreReferred (λ m. 0) s.entries.slots };
 }
 

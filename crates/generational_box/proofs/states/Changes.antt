@@ -22,7 +22,7 @@ use Rattle.generational_box.proofs.Common.{given_in, is_spent, is_reusable, HasB
 use Rattle.generational_box.proofs.Common.{IsReferred, AreReferred, refers, how_many, change_entry}
 use Rattle.generational_box.proofs.Common.{is_live, with_content, content_in, content_at, State}
 use Rattle.generational_box.proofs.Common.{has_no_borrow}
-use Rattle.generational_box.proofs.Common.{Slotted}
+use Rattle.generational_box.proofs.Common.{Count, Inventory, Slotted}
 use Rattle.generational_box.specs.declared.entry.Kind.TheVariants as kind
 use Rattle.generational_box.proofs.lists.Lists.{IsWritten, set_written, bit, passes}
 use Rattle.generational_box.proofs.lists.Lists.{contains_own, contains-insert_at}
@@ -99,37 +99,6 @@ module _ {T : Type 0} {slots after : List (Entry T)} {i : ℕ} {t : Entry T}
         by q true e = rw (eqb-true q.slot i e) (more q.generation)
         by q false e = refl
 
-  -- what holds of the slots holds after the write, where the counts are right
-  pub slotted : {free : set.FinSet nat_cmp} {rooms start usable peak : ℕ}
-      → IsSlotted free rooms start usable peak slots
-      → (free' : set.FinSet nat_cmp) (rooms' usable' peak' : ℕ)
-      → ((k : ℕ) → set.contains free' k ≡ cond (nat_eq k i) (is_spent t) (set.contains free k))
-      → set.len free' + bit (is_reusable (slice_get slots i)) ≡ set.len free + bit (is_spent t)
-      → usable' + bit (passes (λ e. is_live e.kept) (slice_get slots i))
-      + bit (is_reusable (slice_get slots i)) ≡ usable + bit (is_live t.kept) + bit (is_spent t)
-      → length after ≤ rooms' → start ≤ t.generation → usable' ≤ peak'
-      → peak' ≤ length after → IsSlotted free' rooms' start usable' peak' after
-  slotted {free} {start = start} s free' rooms' usable' peak' pooled stocked counted roomy begun few
-      bounded =
-      record {
-        pooled = λ k. pooled k ∙ rw (w.at k) (by k (nat_eq k i));
-        roomy = roomy;
-        begun = λ k. rw (w.at k) (since k (nat_eq k i));
-        counted = let e = w.count (λ e. is_live e.kept) in let c = s.counted in omega arith;
-        stocked = let e = w.count is_spent in let c = s.stocked in omega arith;
-        few = few;
-        bounded = bounded;
-      }
-    where
-      by : (k : ℕ) (b : Bool) → cond b (is_spent t) (set.contains free k)
-          ≡ is_reusable (cond b (Some t) (slice_get slots k))
-      by k true = refl
-      by k false = s.pooled k
-
-      since : (k : ℕ) (b : Bool) → HasBegun start (cond b (Some t) (slice_get slots k))
-      since k true = begun
-      since k false = s.begun k
-
   -- the counts of references are right after it, where they are for the slot that is written, and
   -- for others as many go uncounted as before and references came
   pub referred : {less less' : Name → ℕ} → AreReferred less slots
@@ -187,17 +156,51 @@ module _ {T : Type 0} {slots after : List (Entry T)} {i : ℕ} {t : Entry T}
     pub state_same : (start peak : ℕ) → state_of start peak after ≡ state_of start peak slots
     state_same start peak = rw (cells_same, given_same start) refl
 
-    pub slotted_same : {free : set.FinSet nat_cmp} {rooms start usable peak : ℕ}
-        → length after ≡ length slots → IsSlotted free rooms start usable peak slots
-        → IsSlotted free rooms start usable peak after
-    slotted_same {free} {rooms} {start} {usable} {peak} long s =
-        let spent : is_spent t ≡ is_spent e = λ j. not (is_live (own j))
-        && nat_lt (gen j) last_generation in
-        let lives : is_live t.kept ≡ is_live e.kept = ap is_live own in
-        slotted s free rooms usable peak
-        (contains_own free i (s.pooled i ∙ rw (there, spent) refl))
-        (rw (there, spent) refl) (rw (there, spent, lives) refl) (let r = s.roomy in omega arith)
-        (rw gen (rw there at (s.begun i))) s.few (let b = s.bounded in omega arith)
+-- ---- what holds of the slots holds after a write
+
+module _ {T : Type 0} {p : Inventory T} (s : IsSlotted p) {after : List (Entry T)} {i : ℕ}
+    {t : Entry T} (w : IsWritten p.slots after i t) where
+  -- where the counts are right
+  pub slotted : (free : set.FinSet nat_cmp) (rooms : ℕ) (counts : Count)
+      → ((k : ℕ) → set.contains free k ≡ cond (nat_eq k i) (is_spent t) (set.contains p.free k))
+      → set.len free + bit (is_reusable (slice_get p.slots i)) ≡ set.len p.free + bit (is_spent t)
+      → counts.usable + bit (passes (λ e. is_live e.kept) (slice_get p.slots i))
+      + bit (is_reusable (slice_get p.slots i))
+      ≡ p.counts.usable + bit (is_live t.kept) + bit (is_spent t)
+      → length after ≤ rooms → p.start ≤ t.generation → counts.usable ≤ counts.peak
+      → counts.peak ≤ length after
+      → IsSlotted (record p { free = free; rooms = rooms; counts = counts; slots = after })
+  slotted free rooms counts pooled stocked counted roomy begun few bounded =
+      record {
+        pooled = λ k. pooled k ∙ rw (w.at k) (by k (nat_eq k i));
+        roomy = roomy;
+        begun = λ k. rw (w.at k) (since k (nat_eq k i));
+        counted = let e = w.count (λ e. is_live e.kept) in let c = s.counted in omega arith;
+        stocked = let e = w.count is_spent in let c = s.stocked in omega arith;
+        few = few;
+        bounded = bounded;
+      }
+    where
+      by : (k : ℕ) (b : Bool) → cond b (is_spent t) (set.contains p.free k)
+          ≡ is_reusable (cond b (Some t) (slice_get p.slots k))
+      by k true = refl
+      by k false = s.pooled k
+
+      since : (k : ℕ) (b : Bool) → HasBegun p.start (cond b (Some t) (slice_get p.slots k))
+      since k true = begun
+      since k false = s.begun k
+
+  -- where the slot is live, or free, as before
+  pub slotted_still : {e : Entry T} → slice_get p.slots i ≡ Some e
+      → t.generation ≡ e.generation → is_live t.kept ≡ is_live e.kept
+      → length after ≡ length p.slots → IsSlotted (record p { slots = after })
+  slotted_still {e} there gen lives long =
+      let spent : is_spent t ≡ is_spent e = λ j. not (lives j)
+      && nat_lt (gen j) last_generation in
+      slotted p.free p.rooms p.counts
+      (contains_own p.free i (s.pooled i ∙ rw (there, spent) refl))
+      (rw (there, spent) refl) (rw (there, spent, lives) refl) (let r = s.roomy in omega arith)
+      (rw gen (rw there at (s.begun i))) s.few (let b = s.bounded in omega arith)
 
 -- ---- the slot of a live cell
 
@@ -345,15 +348,6 @@ module _ {T : Type 0} {slots : List (Entry T)} {n : Name} (f : IsHeld slots n) w
       refill_live f.kind f.content (h f.content) f.created,
     ) refl
 
-    pub slotted_changed : {free : set.FinSet nat_cmp} {rooms start usable peak : ℕ}
-        → IsSlotted free rooms start usable peak slots → IsSlotted free rooms start usable peak changed
-    slotted_changed {free} {rooms} {start} {usable} {peak} s =
-        let same : length changed ≡ length slots = rw (f.there, length-set) refl in
-        slotted written s free rooms usable peak (contains_own free n.slot
-        (s.pooled n.slot ∙ rw f.there refl))
-        (rw f.there refl) (rw f.there refl) (let r = s.roomy in omega arith)
-        (rw f.there at (s.begun n.slot)) s.few (let b = s.bounded in omega arith)
-
     pub referred_changed : {less : Name → ℕ} → AreReferred less slots → AreReferred less changed
     referred_changed r =
         referred_still written r
@@ -390,43 +384,61 @@ module _ {T : Type 0} {slots : List (Entry T)} {n : Name} (f : IsFound slots n) 
   pub ended_length : length ended ≡ length slots
   ended_length = rw (f.there, length-set) refl
 
-  module _ {free : set.FinSet nat_cmp} {rooms start usable peak : ℕ}
-      (s : IsSlotted free rooms start usable peak slots) where
-    pub some_live : 1 ≤ usable
+-- ---- what holds of the slots holds after these changes
+
+module _ {T : Type 0} {p : Inventory T} (s : IsSlotted p) where
+  pub slotted_changed : {n : Name} (f : IsHeld p.slots n) (h : Content T → Content T)
+      → IsSlotted (record p { slots = changed f h })
+  slotted_changed f h = slotted_still s (written f h) f.there refl refl (changed_length f h)
+
+  -- the counts with one slot less
+  abbrev pub lowered : Count
+  lowered = record p.counts { usable = p.counts.usable - 1 }
+
+  module _ {n : Name} (f : IsFound p.slots n) where
+    pub some_live : 1 ≤ p.counts.usable
     some_live =
-        let c = rw (f.there, f.live) at (emptied.count (λ e. is_live e.kept)) in
+        let c = rw (f.there, f.live) at ((emptied f).count (λ e. is_live e.kept)) in
         let l = s.counted in omega arith
 
-    pub not_pooled : set.contains free n.slot ≡ false
+    pub not_pooled : set.contains p.free n.slot ≡ false
     not_pooled = s.pooled n.slot ∙ rw (f.there, f.live) refl
 
-    slotted_by : (now : set.FinSet nat_cmp) (left : ℕ) (spent : Bool) → is_spent ended_entry ≡ spent
-        → ((k : ℕ) → set.contains now k ≡ cond (nat_eq k n.slot) spent (set.contains free k))
-        → set.len now ≡ set.len free + bit spent → left + 1 ≡ usable + bit spent → left ≤ usable
-        → IsSlotted now rooms start left peak ended
+    slotted_by : (now : set.FinSet nat_cmp) (left : ℕ) (spent : Bool)
+        → is_spent (ended_entry f) ≡ spent
+        → ((k : ℕ) → set.contains now k ≡ cond (nat_eq k n.slot) spent (set.contains p.free k))
+        → set.len now ≡ set.len p.free + bit spent → left + 1 ≡ p.counts.usable + bit spent
+        → left ≤ p.counts.usable
+        → IsSlotted (record p {
+          free = now;
+          counts = record p.counts { usable = left };
+          slots = ended f;
+        })
     slotted_by now left spent is pooled stocked counted fewer =
-        let same = ended_length in
-        slotted emptied s now rooms left peak (λ k. rw is (pooled k))
+        let same = ended_length f in
+        slotted s (emptied f) now p.rooms (record p.counts { usable = left })
+        (λ k. rw is (pooled k))
         (rw (f.there, f.live, is) (omega arith)) (rw (f.there, f.live, is) (omega arith))
         (let r = s.roomy in omega arith)
         (rw f.there at (s.begun n.slot)) (let few = s.few in omega arith)
         (let b = s.bounded in omega arith)
 
     pub slotted_freed : n.generation < last_generation
-        → IsSlotted (set.insert free n.slot) rooms start usable peak ended
+        → IsSlotted (record p { free = set.insert p.free n.slot; slots = ended f })
     slotted_freed below =
-        let more : set.len (set.insert free n.slot) ≡ set.len free + 1 =
-        set.len-insert nat_cmp_total free n.slot ∙ rw not_pooled refl in
-        slotted_by (set.insert free n.slot) usable true (lt-ltb n.generation last_generation below)
-        (contains-insert_at free n.slot) more refl (omega arith)
+        let more : set.len (set.insert p.free n.slot) ≡ set.len p.free + 1 =
+        set.len-insert nat_cmp_total p.free n.slot ∙ rw not_pooled refl in
+        slotted_by (set.insert p.free n.slot) p.counts.usable true
+        (lt-ltb n.generation last_generation below)
+        (contains-insert_at p.free n.slot) more refl (omega arith)
 
     -- a slot whose cell had the last generation is retired
     pub slotted_retired : last_generation ≤ n.generation
-        → IsSlotted free rooms start (usable - 1) peak ended
+        → IsSlotted (record p { counts = lowered; slots = ended f })
     slotted_retired last =
         let one = some_live in
-        slotted_by free (usable - 1) false (le-ltb n.generation last_generation last)
-        (contains_own free n.slot not_pooled) (omega arith) (omega arith) (omega arith)
+        slotted_by p.free (p.counts.usable - 1) false (le-ltb n.generation last_generation last)
+        (contains_own p.free n.slot not_pooled) (omega arith) (omega arith) (omega arith)
 
 -- ---- the same of the state that contracts see
 

@@ -8,8 +8,6 @@ use Rattle.std.proofs.lemmas.Bool.{true≢false, false≢true, eq-eqb, lt-ltb, n
 use Rattle.std.proofs.lemmas.List.{length-set}
 use Rattle.std.proofs.lemmas.Option.{slice_get_within}
 use Rattle.std.specs.FinMap as map
-use Rattle.std.specs.FinSet as set
-use Rattle.std.specs.Ordering.{nat_cmp}
 use Rattle.generational_core.proofs.maps.Maps.{named_gives}
 use Rattle.generational_box.specs.declared.entry.Kind.TheVariants as kind
 use Rattle.generational_box.specs.declared.entry.StorageEntryData.{StorageEntryData}
@@ -17,7 +15,8 @@ use Rattle.generational_box.specs.declared.entry.StorageEntryData.TheVariants as
 use Rattle.generational_box.specs.Entries.{IsUnborrowed, kept_data, target_of}
 use Rattle.generational_box.specs.Slotted.{change_entry_if}
 use Rattle.generational_box.proofs.Common.{AreReferred, Cell, CellName, Empty, Entry, HasTargets}
-use Rattle.generational_box.proofs.Common.{IsReferred, IsSlotted, Kept, Live, Location, Name, Ref}
+use Rattle.generational_box.proofs.Common.{Inventory, IsReferred, IsSlotted, Kept, Live, Location}
+use Rattle.generational_box.proofs.Common.{Name, Ref}
 use Rattle.generational_box.proofs.Common.{IsRefused, Kind, OutOfMemory, Owners, Shared, Slotted}
 use Rattle.generational_box.proofs.Common.{StoreError, UnknownOwner, Value, cell_in, free}
 use Rattle.generational_box.proofs.Common.{knows_any}
@@ -31,7 +30,7 @@ use Rattle.generational_box.proofs.Common.{is_named, is_shared, name_of_cell, na
 use Rattle.generational_box.proofs.Common.{refers, refers_to, shared_target, state_of, name_test}
 use Rattle.generational_box.proofs.lists.Lists.{IsWritten, bit, many_some, passes, set_written}
 use Rattle.generational_box.proofs.states.Changes.{IsFound, emptied, ended}
-use Rattle.generational_box.proofs.states.Changes.{found, referred, slotted_same, state_same}
+use Rattle.generational_box.proofs.states.Changes.{found, referred, slotted_still, state_same}
 use Rattle.generational_box.proofs.states.Entries.{less_all}
 use Rattle.generational_box.proofs.states.References.{named_count}
 use Rattle.generational_box.proofs.states.States.{get_cells}
@@ -77,17 +76,6 @@ module _ {T : Type 0} where
         at None there = rw there refl
         at (Some e) there = state_same (recounted_written e there) there refl refl start peak
 
-    pub recounted_slotted : {free : set.FinSet nat_cmp} {rooms start usable peak : ℕ}
-        → IsSlotted free rooms start usable peak slots
-        → IsSlotted free rooms start usable peak recounted
-    recounted_slotted {free} {rooms} {start} {usable} {peak} s = at (slice_get slots i) refl
-      where
-        at : (o : Option (Entry T)) → slice_get slots i ≡ o
-            → IsSlotted free rooms start usable peak recounted
-        at None there = rw there s
-        at (Some e) there =
-            slotted_same (recounted_written e there) there refl refl recounted_length s
-
     -- no slot refers to another cell than before
     pub recounted_many : (q : Name) → how_many (refers q) recounted ≡ how_many (refers q) slots
     recounted_many q = at (slice_get slots i) refl
@@ -98,6 +86,26 @@ module _ {T : Type 0} where
         at (Some e) there =
             let c = (recounted_written e there).count (refers q) in
             let p = ap (λ o. bit (passes (refers q) o)) there in omega (arith, c, p)
+
+  -- what holds of the slots holds with other counts
+  module _ {p : Inventory T} (s : IsSlotted p) where
+    recounted_slotted : (i : ℕ) (f : Entry T → ℕ)
+        → IsSlotted (record p { slots = recounted p.slots i f })
+    recounted_slotted i f = at (slice_get p.slots i) refl
+      where
+        at : (o : Option (Entry T)) → slice_get p.slots i ≡ o
+            → IsSlotted (record p { slots = recounted p.slots i f })
+        at None there = rw there s
+        at (Some e) there = slotted_still s (recounted_written p.slots i f e there) there refl refl
+            (recounted_length p.slots i f)
+
+    pub more_slotted : (o : Option Name) → IsSlotted (record p { slots = count_more p.slots o })
+    more_slotted None = s
+    more_slotted (Some m) = recounted_slotted m.slot (λ e. e.references + 1)
+
+    pub less_slotted : (o : Option Name) → IsSlotted (record p { slots = count_less p.slots o })
+    less_slotted None = s
+    less_slotted (Some m) = recounted_slotted m.slot (λ e. e.references - 1)
 
   -- the slot of a live cell, told by the machine's map
   pub slot_of : (slots : List (Entry T)) (n : Name) (test : Option (Cell T) → Bool)
@@ -305,15 +313,6 @@ module _ {T : Type 0} where
         at None = refl
         at (Some m) = recounted_state slots m.slot (λ e. e.references + 1) start peak
 
-    pub more_slotted : {free : set.FinSet nat_cmp} {rooms start usable peak : ℕ}
-        → IsSlotted free rooms start usable peak slots
-        → IsSlotted free rooms start usable peak (count_more slots o)
-    more_slotted {free} {rooms} {start} {usable} {peak} s = at o
-      where
-        at : (o : Option Name) → IsSlotted free rooms start usable peak (count_more slots o)
-        at None = s
-        at (Some m) = recounted_slotted slots m.slot (λ e. e.references + 1) s
-
 -- an entry that isn't live, and one past the last, are no cell of a name
 pub new_fresh : {T : Type 0} (slots : List (Entry T)) (i g : ℕ)
     → passes (λ e. is_live e.kept) (slice_get slots i) ≡ false
@@ -368,15 +367,6 @@ module _ {T : Type 0} (slots : List (Entry T)) where
             → state_of start peak (count_less slots o) ≡ state_of start peak slots
         at None = refl
         at (Some m) = recounted_state slots m.slot (λ e. e.references - 1) start peak
-
-    pub less_slotted : {free : set.FinSet nat_cmp} {rooms start usable peak : ℕ}
-        → IsSlotted free rooms start usable peak slots
-        → IsSlotted free rooms start usable peak (count_less slots o)
-    less_slotted {free} {rooms} {start} {usable} {peak} s = at o
-      where
-        at : (o : Option Name) → IsSlotted free rooms start usable peak (count_less slots o)
-        at None = s
-        at (Some m) = recounted_slotted slots m.slot (λ e. e.references - 1) s
 
   module _ (r : AreReferred (λ m. 0) slots) (n m : Name) (l : Location)
       (there : cell_at slots n ≡ Some (Ref m l)) where

@@ -15,66 +15,77 @@ use Rattle.generational_core.specs.Machine.{add_cell}
 use Rattle.generational_box.proofs.Common.{Cell, IsNew, free, last_generation, Empty}
 use Rattle.generational_box.proofs.Common.{Live, Refers, Kept, Entry, cell_of, cell_in, cells_of}
 use Rattle.generational_box.proofs.Common.{given_in, how_many, is_live, is_spent, is_reusable}
-use Rattle.generational_box.proofs.Common.{IsSlotted}
-use Rattle.generational_box.proofs.Common.{state_of}
+use Rattle.generational_box.proofs.Common.{Count, Inventory, IsSlotted, State, state_of}
 use Rattle.generational_box.proofs.lists.Lists.{IsWritten, set_written, push_written, passes}
 use Rattle.generational_box.proofs.lists.Lists.{cond_same, contains-remove_at, not_left, put_back}
 use Rattle.generational_box.proofs.states.States.{len_cells, live_cell, free_are, new_first}
 use Rattle.generational_box.proofs.states.States.{new_next}
 use Rattle.generational_box.proofs.states.Changes.{cells_put, given_put, slotted}
 
-module _ {T : Type 0} {pool : set.FinSet nat_cmp} {rooms start usable peak : ℕ}
-    {slots : List (Entry T)} (s : IsSlotted pool rooms start usable peak slots) where
+module _ {T : Type 0} {p : Inventory T} (s : IsSlotted p) where
+  -- the state for which the slots stand
+  abbrev before : State T
+  before = state_of p.start p.counts.peak p.slots
+
   -- how many cells are live
   abbrev many : ℕ
-  many = how_many (λ e. is_live e.kept) slots
+  many = how_many (λ e. is_live e.kept) p.slots
+
+  -- the counts with one slot more
+  abbrev pub raised : Count
+  raised = record {
+    usable = p.counts.usable + 1;
+    peak = max p.counts.peak (p.counts.usable + 1);
+  }
 
   -- ---- a slot that is free
 
-  module _ (i : ℕ) (member : set.contains pool i ≡ true) where
-    free_entry : (e : Entry T) × (slice_get slots i ≡ Some e) × (is_spent e ≡ true)
+  module _ (i : ℕ) (member : set.contains p.free i ≡ true) where
+    free_entry : (e : Entry T) × (slice_get p.slots i ≡ Some e) × (is_spent e ≡ true)
         × (e.kept ≡ Empty) × (e.generation < last_generation)
-    free_entry = at (slice_get slots i) refl (sym (s.pooled i) ∙ member)
+    free_entry = at (slice_get p.slots i) refl (sym (s.pooled i) ∙ member)
       where
         dead : (k : Kept T) → not (is_live k) ≡ true → k ≡ Empty
         dead Empty h = refl
         dead (Live kd c l) h = absurd (false≢true h)
         dead (Refers m l) h = absurd (false≢true h)
 
-        at : (o : Option (Entry T)) → slice_get slots i ≡ o → is_reusable o ≡ true
-            → (e : Entry T) × (slice_get slots i ≡ Some e) × (is_spent e ≡ true) × (e.kept ≡ Empty)
-            × (e.generation < last_generation)
+        at : (o : Option (Entry T)) → slice_get p.slots i ≡ o → is_reusable o ≡ true
+            → (e : Entry T) × (slice_get p.slots i ≡ Some e) × (is_spent e ≡ true)
+            × (e.kept ≡ Empty) × (e.generation < last_generation)
         at None there h = absurd (false≢true h)
         at (Some e) there h =
             let parts = and_parts (not (is_live e.kept)) (nat_lt e.generation last_generation) h in
             (e, there, h, dead e.kept parts.0, ltb-true e.generation last_generation parts.1)
 
-    pub taken_within : i < length slots
-    taken_within = slice_get_within slots i free_entry.0 free_entry.1
+    pub taken_within : i < length p.slots
+    taken_within = slice_get_within p.slots i free_entry.0 free_entry.1
 
-    pub taken_empty : IfSome (slice_get slots i) (λ e. e.kept ≡ Empty)
+    pub taken_empty : IfSome (slice_get p.slots i) (λ e. e.kept ≡ Empty)
     taken_empty = rw free_entry.1 free_entry.3
 
-    pub taken_below : IfSome (slice_get slots i) (λ e. e.generation < last_generation)
+    pub taken_below : IfSome (slice_get p.slots i) (λ e. e.generation < last_generation)
     taken_below = rw free_entry.1 free_entry.4
 
     -- one free slot less
-    pub taken_less : set.len (set.remove pool i) + 1 ≡ set.len pool
+    pub taken_less : set.len (set.remove p.free i) + 1 ≡ set.len p.free
     taken_less =
-        let less : set.len (set.remove pool i) ≡ set.len pool - 1 =
-        set.len-remove nat_cmp_total pool i ∙ rw member refl in
-        let more : set.len (set.insert (set.remove pool i) i) ≡ set.len (set.remove pool i) + 1 =
-        set.len-insert nat_cmp_total (set.remove pool i) i ∙ rw (not_left pool i member) refl in
-        let same = ap set.len (put_back pool i member) in omega arith
+        let less : set.len (set.remove p.free i) ≡ set.len p.free - 1 =
+        set.len-remove nat_cmp_total p.free i ∙ rw member refl in
+        let more : set.len (set.insert (set.remove p.free i) i)
+        ≡ set.len (set.remove p.free i) + 1 =
+        set.len-insert nat_cmp_total (set.remove p.free i) i
+        ∙ rw (not_left p.free i member) refl in
+        let same = ap set.len (put_back p.free i member) in omega arith
 
     -- a free slot is none of the live ones
-    pub peak_stays : max peak (many + 1) ≡ peak
+    pub peak_stays : max p.counts.peak (many + 1) ≡ p.counts.peak
     peak_stays =
         let less = taken_less in let counted = s.counted in let few = s.few in omega arith
 
     -- the generation that is told before is the one that is given
-    pub same_generation : (g h : ℕ) → IfSome (slice_get slots i) (λ e. g ≡ e.generation + 1)
-        → IfSome (slice_get slots i) (λ e. h ≡ e.generation + 1) → h ≡ g
+    pub same_generation : (g h : ℕ) → IfSome (slice_get p.slots i) (λ e. g ≡ e.generation + 1)
+        → IfSome (slice_get p.slots i) (λ e. h ≡ e.generation + 1) → h ≡ g
     same_generation g h is are =
         let a = rw free_entry.1 at is in let b = rw free_entry.1 at are in b ∙ sym a
 
@@ -86,118 +97,123 @@ module _ {T : Type 0} {pool : set.FinSet nat_cmp} {rooms start usable peak : ℕ
 
     -- the state with a cell more, in a slot that had none
     with_cell : (slots' : List (Entry T)) (i g : ℕ)
-        → IsWritten slots slots' i (record { generation = g; kept = kept; references = 0 })
-        → ((h : ℕ) → cell_in (slice_get slots i) h ≡ None)
-        → passes (λ e. is_live e.kept) (slice_get slots i) ≡ false
-        → ((h : ℕ) → (leb start h && leb h g)
-        ≡ (nat_eq h g || given_in start (slice_get slots i) h))
-        → state_of start (max peak (many + 1)) slots'
-        ≡ add_cell (state_of start peak slots) (record { slot = i; generation = g }) c
+        → IsWritten p.slots slots' i (record { generation = g; kept = kept; references = 0 })
+        → ((h : ℕ) → cell_in (slice_get p.slots i) h ≡ None)
+        → passes (λ e. is_live e.kept) (slice_get p.slots i) ≡ false
+        → ((h : ℕ) → (leb p.start h && leb h g)
+        ≡ (nat_eq h g || given_in p.start (slice_get p.slots i) h))
+        → state_of p.start (max p.counts.peak (many + 1)) slots'
+        ≡ add_cell before (record { slot = i; generation = g }) c
     with_cell slots' i g w empty dead more =
         let e = rw (dead, lives) at (w.count (λ e. is_live e.kept)) in
         let n = len_cells slots' in
         let same : many + 1 ≡ map.len (cells_of slots') = omega arith in
         let cells = cells_put w (λ h e. empty h) c cell in
-        rw (same, cells, given_put w start more) refl
+        rw (same, cells, given_put w p.start more) refl
 
     -- in a slot that is used again
-    module _ (i : ℕ) (member : set.contains pool i ≡ true)
-        (g : ℕ) (is : IfSome (slice_get slots i) (λ e. g ≡ e.generation + 1)) where
+    module _ (i : ℕ) (member : set.contains p.free i ≡ true)
+        (g : ℕ) (is : IfSome (slice_get p.slots i) (λ e. g ≡ e.generation + 1)) where
       next_is : g ≡ (free_entry i member).0.generation + 1
       next_is = rw (free_entry i member).1 at is
 
       abbrev next_entry : Entry T
       next_entry = record { generation = g; kept = kept; references = 0 }
 
-      pub reused : IsWritten slots (slice_set slots i next_entry) i next_entry
+      pub reused : IsWritten p.slots (slice_set p.slots i next_entry) i next_entry
       reused =
-          set_written slots i next_entry (free_entry i member).0 (free_entry i member).1
+          set_written p.slots i next_entry (free_entry i member).0 (free_entry i member).1
 
-      since : start ≤ g
+      since : p.start ≤ g
       since =
           let le = rw (free_entry i member).1 at (s.begun i) in let n = next_is in omega arith
 
-      pub new_reused : IsNew (state_of start peak slots) (record { slot = i; generation = g })
+      pub new_reused : IsNew before (record { slot = i; generation = g })
       new_reused = rw next_is
           (new_next s i (free_entry i member).0 (free_entry i member).1 (free_entry i member).2)
 
-      pub state_reused : state_of start peak (slice_set slots i next_entry)
-          ≡ add_cell (state_of start peak slots) (record { slot = i; generation = g }) c
+      pub state_reused : state_of p.start p.counts.peak (slice_set p.slots i next_entry)
+          ≡ add_cell before (record { slot = i; generation = g }) c
       state_reused =
           let f = free_entry i member in
-          ap (λ most. state_of start most (slice_set slots i next_entry)) (sym (peak_stays i member))
-          ∙ with_cell (slice_set slots i next_entry) i g reused
+          ap (λ most. state_of p.start most (slice_set p.slots i next_entry))
+          (sym (peak_stays i member))
+          ∙ with_cell (slice_set p.slots i next_entry) i g reused
           (λ h. rw (f.1, f.3) (cond_same _ None)) (rw (f.1, f.3) refl)
           (λ h. rw f.1 (at_next h f.0.generation g next_is since))
         where
-          at_next : (h last g : ℕ) → g ≡ last + 1 → start ≤ g
-              → (leb start h && leb h g) ≡ (nat_eq h g || (leb start h && leb h last))
+          at_next : (h last g : ℕ) → g ≡ last + 1 → p.start ≤ g
+              → (leb p.start h && leb h g) ≡ (nat_eq h g || (leb p.start h && leb h last))
           at_next h last g is le = grind (arith, nat_tests)
 
-      pub slotted_reused : IsSlotted (set.remove pool i) rooms start usable peak
-          (slice_set slots i next_entry)
+      pub slotted_reused : IsSlotted (record p {
+        free = set.remove p.free i;
+        slots = slice_set p.slots i next_entry;
+      })
       slotted_reused =
           let f = free_entry i member in
-          let same : length (slice_set slots i next_entry) ≡ length slots =
-          length-set slots i next_entry in
+          let same : length (slice_set p.slots i next_entry) ≡ length p.slots =
+          length-set p.slots i next_entry in
           let less = taken_less i member in
           let some = rw (f.1, f.2, lives) at (reused.count is_spent) in
           let stocked = s.stocked in let b = s.bounded in let r = s.roomy in
-          slotted reused s (set.remove pool i) rooms usable peak
-          (λ k. rw lives (contains-remove_at pool i k)) (rw (f.1, f.2, lives) (omega arith))
+          slotted s reused (set.remove p.free i) p.rooms p.counts
+          (λ k. rw lives (contains-remove_at p.free i k)) (rw (f.1, f.2, lives) (omega arith))
           (rw (f.1, f.2, f.3, lives) (omega arith)) (omega arith) since s.few (omega arith)
 
       -- the slot had no cell
-      pub none_before : passes (λ e. is_live e.kept) (slice_get slots i) ≡ false
+      pub none_before : passes (λ e. is_live e.kept) (slice_get p.slots i) ≡ false
       none_before = rw ((free_entry i member).1, (free_entry i member).3) refl
 
     -- in a slot more
-    module _ (none : pool ≡ set.empty) where
-      none_free : free (state_of start peak slots) ≡ 0
+    module _ (none : p.free ≡ set.empty) where
+      none_free : free before ≡ 0
       none_free = sym (free_are s) ∙ (ap set.len none ∙ set.len-empty nat_cmp)
 
       abbrev first_entry : Entry T
-      first_entry = record { generation = start; kept = kept; references = 0 }
+      first_entry = record { generation = p.start; kept = kept; references = 0 }
 
-      pub new_pushed : IsNew (state_of start peak slots)
-          (record { slot = length slots; generation = start })
+      pub new_pushed : IsNew before (record { slot = length p.slots; generation = p.start })
       new_pushed = new_first s none_free
 
-      past : slice_get slots (length slots) ≡ None
-      past = slice_get_past slots (length slots) (omega arith)
+      past : slice_get p.slots (length p.slots) ≡ None
+      past = slice_get_past p.slots (length p.slots) (omega arith)
 
-      pub pushed : IsWritten slots (slots ++ first_entry ∷ []) (length slots) first_entry
-      pushed = push_written slots first_entry
+      pub pushed : IsWritten p.slots (p.slots ++ first_entry ∷ []) (length p.slots) first_entry
+      pushed = push_written p.slots first_entry
 
-      all_live : usable ≡ many
+      all_live : p.counts.usable ≡ many
       all_live =
-          let empty : set.len pool ≡ 0 = ap set.len none ∙ set.len-empty nat_cmp in
+          let empty : set.len p.free ≡ 0 = ap set.len none ∙ set.len-empty nat_cmp in
           let counted = s.counted in omega arith
 
-      pub state_pushed : state_of start (max peak (usable + 1)) (slots ++ first_entry ∷ [])
-          ≡ add_cell (state_of start peak slots)
-          (record { slot = length slots; generation = start }) c
+      pub state_pushed : state_of p.start raised.peak (p.slots ++ first_entry ∷ [])
+          ≡ add_cell before (record { slot = length p.slots; generation = p.start }) c
       state_pushed =
-          ap (λ n. state_of start (max peak (n + 1)) (slots ++ first_entry ∷ [])) all_live
-          ∙ with_cell (slots ++ first_entry ∷ []) (length slots) start pushed
+          ap (λ n. state_of p.start (max p.counts.peak (n + 1)) (p.slots ++ first_entry ∷ []))
+          all_live
+          ∙ with_cell (p.slots ++ first_entry ∷ []) (length p.slots) p.start pushed
           (λ h. rw past refl) (rw past refl) (λ h. rw past (at_first h))
         where
-          at_first : (h : ℕ) → (leb start h && leb h start) ≡ (nat_eq h start || false)
+          at_first : (h : ℕ) → (leb p.start h && leb h p.start) ≡ (nat_eq h p.start || false)
           at_first h = grind (arith, nat_tests)
 
-      pub slotted_pushed : (more : ℕ) → length slots < more
-          → IsSlotted pool more start (usable + 1) (max peak (usable + 1)) (slots ++ first_entry ∷ [])
+      pub slotted_pushed : (more : ℕ) → length p.slots < more → IsSlotted (record p {
+        rooms = more;
+        counts = raised;
+        slots = p.slots ++ first_entry ∷ [];
+      })
       slotted_pushed more room =
-          let one : length (slots ++ first_entry ∷ []) ≡ length slots + 1 =
-          length-append slots _ in
+          let one : length (p.slots ++ first_entry ∷ []) ≡ length p.slots + 1 =
+          length-append p.slots _ in
           let few = s.few in let b = s.bounded in
-          let empty : set.len pool ≡ 0 = ap set.len none ∙ set.len-empty nat_cmp in
+          let empty : set.len p.free ≡ 0 = ap set.len none ∙ set.len-empty nat_cmp in
           let counted = s.counted in
-          slotted pushed s pool more (usable + 1) (max peak (usable + 1))
+          slotted s pushed p.free more raised
           (λ k. rw (lives, none, set.contains-empty nat_cmp k)
-          (sym (cond_same (nat_eq k (length slots)) false))) (rw (past, lives) refl)
+          (sym (cond_same (nat_eq k (length p.slots)) false))) (rw (past, lives) refl)
           (rw (past, lives) (omega arith))
           (omega arith) (omega arith) (omega arith) (omega arith)
 
-      pub none_after : passes (λ e. is_live e.kept) (slice_get slots (length slots)) ≡ false
+      pub none_after : passes (λ e. is_live e.kept) (slice_get p.slots (length p.slots)) ≡ false
       none_after = rw past refl

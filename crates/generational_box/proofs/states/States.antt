@@ -25,7 +25,7 @@ use Rattle.generational_box.proofs.Common.{get_lasts, one_last, by_number, name_
 use Rattle.generational_box.proofs.Common.{name_test, Empty, Live, Refers, names_up, how_many}
 use Rattle.generational_box.proofs.Common.{cell_of, with_cell, live_from, cells_of, given_from}
 use Rattle.generational_box.proofs.Common.{given_of, state_of, cell_in, cell_at, given_in, is_spent}
-use Rattle.generational_box.proofs.Common.{HasBegun, IsSlotted, Entry, Kept, is_live}
+use Rattle.generational_box.proofs.Common.{HasBegun, Inventory, IsSlotted, Entry, Kept, is_live}
 use Rattle.generational_box.specs.declared.entry.Kind.TheVariants as kind
 use Rattle.generational_box.proofs.lists.Lists.{cond_same, bit, passes, count_all, len_passing}
 
@@ -172,93 +172,92 @@ module _ {T : Type 0} (start : ℕ) where
       set.contains-from_list name_total (given_from start 0 slots) q
       ∙ any_at 0 slots q q.slot (omega arith)
 
-module _ {T : Type 0} {free' : set.FinSet nat_cmp} {rooms start usable peak : ℕ}
-    {entries : List (Entry T)} (s : IsSlotted free' rooms start usable peak entries) where
+module _ {T : Type 0} {p : Inventory T} (s : IsSlotted p) where
   abbrev here : State T
-  here = state_of start peak entries
+  here = state_of p.start p.counts.peak p.slots
 
-  last_of : (k : ℕ) (o : Option (Entry T)) → slice_get entries k ≡ o
+  last_of : (k : ℕ) (o : Option (Entry T)) → slice_get p.slots k ≡ o
       → IsLast (set.items here.given) k (option_map (λ e. e.generation) o)
   last_of k None none = λ n h is. true≢false
-      (sym h ∙ (sym (set.contains-items here.given n) ∙ get_given start entries n
+      (sym h ∙ (sym (set.contains-items here.given n) ∙ get_given p.start p.slots n
       ∙ rw (is, none) refl))
   last_of k (Some e) there = (
     sym (set.contains-items here.given (record { slot = k; generation = e.generation }))
-        ∙ get_given start entries (record { slot = k; generation = e.generation })
-        ∙ rw there (and_from _ _ (le-leb start e.generation (rw there at (s.begun k)))
+        ∙ get_given p.start p.slots (record { slot = k; generation = e.generation })
+        ∙ rw there (and_from _ _ (le-leb p.start e.generation (rw there at (s.begun k)))
         (le-leb e.generation e.generation (omega arith))),
     λ n h is.
         let given = sym h ∙ (sym (set.contains-items here.given n)
-        ∙ (get_given start entries n ∙ rw (is, there) refl)) in
+        ∙ (get_given p.start p.slots n ∙ rw (is, there) refl)) in
         leb-true n.generation e.generation
-        (and_parts (leb start n.generation) (leb n.generation e.generation) (sym given)).1,
+        (and_parts (leb p.start n.generation) (leb n.generation e.generation) (sym given)).1,
   )
 
   get_last : (k : ℕ)
-      → map.get (slots_of here) k ≡ option_map (λ e. e.generation) (slice_get entries k)
+      → map.get (slots_of here) k ≡ option_map (λ e. e.generation) (slice_get p.slots k)
   get_last k =
       one_last (set.items here.given) (set.items here.given) k (λ n h. h) (λ n h. h) _ _
-      (get_lasts (set.items here.given) k) (last_of k (slice_get entries k) refl)
+      (get_lasts (set.items here.given) k) (last_of k (slice_get p.slots k) refl)
 
-  -- a test of the machine's slots that says of each what p says of its entry
-  len_kept : (p : Entry T → Bool) (test : ℕ → Bool)
-      → ((k : ℕ) (e : Entry T) → slice_get entries k ≡ Some e → test k ≡ p e)
-      → map.len (map.retain_keys (slots_of here) test) ≡ how_many p entries
-  len_kept p test same =
-      len_passing p 0 entries _ (λ k h. absurd (omega arith))
+  -- a test of the machine's slots that says of each what q says of its entry
+  len_kept : (q : Entry T → Bool) (test : ℕ → Bool)
+      → ((k : ℕ) (e : Entry T) → slice_get p.slots k ≡ Some e → test k ≡ q e)
+      → map.len (map.retain_keys (slots_of here) test) ≡ how_many q p.slots
+  len_kept q test same =
+      len_passing q 0 p.slots _ (λ k h. absurd (omega arith))
       (λ k. ap (map.contains_key (map.retain_keys (slots_of here) test)) (omega arith)
       ∙ (ap is_some (get-keep by_number (slots_of here) test k
-      ∙ ap (λ o. cond (test k) o None) (get_last k)) ∙ at k (slice_get entries k) refl))
+      ∙ ap (λ o. cond (test k) o None) (get_last k)) ∙ at k (slice_get p.slots k) refl))
     where
       some_if : (b : Bool) (g : ℕ) → is_some (cond b (Some g) None) ≡ b
       some_if true g = refl
       some_if false g = refl
 
-      at : (k : ℕ) (o : Option (Entry T)) → slice_get entries k ≡ o
-          → is_some (cond (test k) (option_map (λ e. e.generation) o) None) ≡ passes p o
+      at : (k : ℕ) (o : Option (Entry T)) → slice_get p.slots k ≡ o
+          → is_some (cond (test k) (option_map (λ e. e.generation) o) None) ≡ passes q o
       at k None there = ap is_some (cond_same (test k) None)
       at k (Some e) there = some_if (test k) e.generation ∙ same k e there
 
-  is_own : (k : ℕ) (e : Entry T) → slice_get entries k ≡ Some e
+  is_own : (k : ℕ) (e : Entry T) → slice_get p.slots k ≡ Some e
       → last_name here k ≡ record { slot = k; generation = e.generation }
   is_own k e there =
       let last : map.get (slots_of here) k ≡ Some e.generation = get_last k ∙ rw there refl in
       λ i. record { slot = k; generation = unwrap_or (last i) 0 }
 
-  live_is : (k : ℕ) (e : Entry T) → slice_get entries k ≡ Some e
+  live_is : (k : ℕ) (e : Entry T) → slice_get p.slots k ≡ Some e
       → is_some (map.get here.cells (last_name here k)) ≡ is_live e.kept
   live_is k e there =
       ap (λ n. is_some (map.get here.cells n)) (is_own k e there)
-      ∙ ap is_some (get_cells entries (record { slot = k; generation = e.generation }))
+      ∙ ap is_some (get_cells p.slots (record { slot = k; generation = e.generation }))
       ∙ rw (there, eq-eqb e.generation e.generation refl) (live_cell e.kept)
 
-  free_is : (k : ℕ) (e : Entry T) → slice_get entries k ≡ Some e → is_free here k ≡ is_spent e
+  free_is : (k : ℕ) (e : Entry T) → slice_get p.slots k ≡ Some e → is_free here k ≡ is_spent e
   free_is k e there =
       λ i. not (live_is k e there i) && nat_lt (is_own k e there i).generation last_generation
 
-  slots_are : slots here ≡ length entries
+  slots_are : slots here ≡ length p.slots
   slots_are =
-      len_passing (λ e. true) 0 entries _ (λ k h. absurd (omega arith))
+      len_passing (λ e. true) 0 p.slots _ (λ k h. absurd (omega arith))
       (λ k. ap (map.contains_key (slots_of here)) (omega arith)
-      ∙ (ap is_some (get_last k) ∙ at (slice_get entries k)))
-      ∙ count_all entries
+      ∙ (ap is_some (get_last k) ∙ at (slice_get p.slots k)))
+      ∙ count_all p.slots
     where
       at : (o : Option (Entry T))
           → is_some (option_map (λ e. e.generation) o) ≡ passes (λ e. true) o
       at None = refl
       at (Some e) = refl
 
-  pub free_are : set.len free' ≡ free here
+  pub free_are : set.len p.free ≡ free here
   free_are = s.stocked ∙ sym (len_kept is_spent (is_free here) free_is)
 
   -- every slot is live, free or retired
-  all_slots : length entries ≡ usable + retired here
+  all_slots : length p.slots ≡ p.counts.usable + retired here
   all_slots =
       let lost : retired here ≡ how_many
-      (λ e. not (is_live e.kept) && not (nat_lt e.generation last_generation)) entries =
+      (λ e. not (is_live e.kept) && not (nat_lt e.generation last_generation)) p.slots =
       len_kept _ (is_retired here) (λ k e there. λ i. not (live_is k e there i)
       && not (nat_lt (is_own k e there i).generation last_generation)) in
-      let counted = s.counted in let stocked = s.stocked in let all = parts entries in omega arith
+      let counted = s.counted in let stocked = s.stocked in let all = parts p.slots in omega arith
     where
       one : (a b : Bool) → 1 ≡ bit a + bit (not a && b) + bit (not a && not b)
       one true b = refl
@@ -274,19 +273,20 @@ module _ {T : Type 0} {free' : set.FinSet nat_cmp} {rooms start usable peak : �
           let this = one (is_live e.kept) (nat_lt e.generation last_generation) in omega arith
 
   -- a new slot's first name, where no slot is free
-  pub new_first : free here ≡ 0 → IsNew here (record { slot = length entries; generation = start })
+  pub new_first : free here ≡ 0
+      → IsNew here (record { slot = length p.slots; generation = p.start })
   new_first none = record {
-    fresh = get_given start entries (record { slot = length entries; generation = start })
-        ∙ rw (slice_get_past entries (length entries) (omega arith)) refl;
+    fresh = get_given p.start p.slots (record { slot = length p.slots; generation = p.start })
+        ∙ rw (slice_get_past p.slots (length p.slots) (omega arith)) refl;
     fits = inl (none, sym slots_are, refl);
   }
 
   -- the next name of a free slot
-  pub new_next : (i : ℕ) (e : Entry T) → slice_get entries i ≡ Some e → is_spent e ≡ true
+  pub new_next : (i : ℕ) (e : Entry T) → slice_get p.slots i ≡ Some e → is_spent e ≡ true
       → IsNew here (record { slot = i; generation = e.generation + 1 })
   new_next i e there spent = record {
-    fresh = get_given start entries (record { slot = i; generation = e.generation + 1 })
-        ∙ rw there (above start e.generation);
+    fresh = get_given p.start p.slots (record { slot = i; generation = e.generation + 1 })
+        ∙ rw there (above p.start e.generation);
     fits = inr (
       ap is_some (get_last i) ∙ rw there refl,
       free_is i e there ∙ spent,
@@ -300,20 +300,20 @@ module _ {T : Type 0} {free' : set.FinSet nat_cmp} {rooms start usable peak : �
   -- ---- the same of the state that contracts see
 
   module _ {S : State T} (view : here ≡ S) where
-    pub slots_seen : length entries ≡ slots S
+    pub slots_seen : length p.slots ≡ slots S
     slots_seen = sym slots_are ∙ ap slots view
 
-    pub free_seen : set.len free' ≡ free S
+    pub free_seen : set.len p.free ≡ free S
     free_seen = free_are ∙ ap free view
 
-    pub all_seen : length entries ≡ usable + retired S
-    all_seen = all_slots ∙ ap (λ X. usable + retired X) view
+    pub all_seen : length p.slots ≡ p.counts.usable + retired S
+    all_seen = all_slots ∙ ap (λ X. p.counts.usable + retired X) view
 
     -- a slot is made only where none is free
     pub bound_seen : slots S ≤ S.peak + retired S
     bound_seen =
         let few = s.few in let all = all_seen in let seen = slots_seen in
-        let most : peak ≡ S.peak = ap (λ (X : State T). X.peak) view in omega arith
+        let most : p.counts.peak ≡ S.peak = ap (λ (X : State T). X.peak) view in omega arith
 
 module _ {T : Type 0} where
   pub new_state : (start : ℕ) (slots : List (Entry T)) → slots ≡ []
@@ -321,17 +321,18 @@ module _ {T : Type 0} where
   unfolding cells_of given_of
   new_state start slots none = rw none refl
 
-  pub slotted_new : (free : set.FinSet nat_cmp) (rooms start : ℕ) (slots : List (Entry T))
-      → free ≡ set.empty → slots ≡ [] → IsSlotted free rooms start 0 0 slots
-  slotted_new free rooms start slots unused none = rw none (record {
-    pooled = λ k. rw unused (set.contains-empty nat_cmp k);
-    roomy = omega arith;
-    begun = λ k. tt;
-    counted = let none = ap set.len unused ∙ set.len-empty nat_cmp in omega arith;
-    stocked = ap set.len unused ∙ set.len-empty nat_cmp;
-    few = omega arith;
-    bounded = omega arith;
-  })
+  pub slotted_new : (p : Inventory T) → p.free ≡ set.empty
+      → p.counts ≡ record { usable = 0; peak = 0 } → p.slots ≡ [] → IsSlotted p
+  slotted_new p unused uncounted none = record {
+    pooled = λ k. rw (unused, none) (set.contains-empty nat_cmp k);
+    roomy = rw none (omega arith);
+    begun = λ k. rw none tt;
+    counted = rw (uncounted, none)
+        (let empty = ap set.len unused ∙ set.len-empty nat_cmp in omega arith);
+    stocked = rw none (ap set.len unused ∙ set.len-empty nat_cmp);
+    few = rw uncounted (omega arith);
+    bounded = rw uncounted (omega arith);
+  }
 
   module _ {S : State T} (start peak : ℕ) (slots : List (Entry T))
       (view : state_of start peak slots ≡ S) where

@@ -3,18 +3,18 @@ use Rattle.std.proofs.Common.{◌≡◌, ℕ, ◌+◌, ◌<◌, ◌&&◌, true, 
 use Rattle.std.proofs.Common.{Some, IfSome, refl, sym, ap, ◌∙◌, arith, is_some, slice_get, nat_eq}
 use Rattle.std.proofs.lemmas.Bool.{eq-eqb, false≢true, ne_eqb, true≢false}
 use Rattle.std.specs.FinMap as map
-use Rattle.std.specs.FinSet as set
-use Rattle.std.specs.Ordering.{nat_cmp}
 use Rattle.generational_box.specs.Entry.{referring, target_in}
 use Rattle.generational_box.specs.declared.entry.Kind.TheVariants as kind
-use Rattle.generational_box.proofs.Common.{AreReferred, Cell, Empty, Entry, IsSlotted, Kept, Live}
+use Rattle.generational_box.proofs.Common.{AreReferred, Cell, Empty, Entry, Inventory, IsSlotted}
+use Rattle.generational_box.proofs.Common.{Kept, Live}
 use Rattle.generational_box.proofs.Common.{Location, Name, Ref, Refers, cell_at, cell_of, cells_of}
 use Rattle.generational_box.proofs.Common.{change_entry, count_more, how_many, is_name, is_shared}
 use Rattle.generational_box.proofs.Common.{Content, Kind, by_name, get-insert_apart, name_test, refers, refers_to, state_of}
 use Rattle.generational_box.proofs.states.States.{get_cells}
-use Rattle.generational_box.proofs.lists.Lists.{IsWritten, bit, contains_own, many_within, passes}
+use Rattle.generational_box.proofs.lists.Lists.{IsWritten, bit, many_within, passes}
 use Rattle.generational_box.proofs.lists.Lists.{set_written}
-use Rattle.generational_box.proofs.states.Changes.{cells_put, found, given_kept, referred, slotted}
+use Rattle.generational_box.proofs.states.Changes.{cells_put, found, given_kept, referred}
+use Rattle.generational_box.proofs.states.Changes.{slotted_still}
 use Rattle.generational_box.proofs.states.Counting.{is_own, recounted_many, recounted_written}
 use Rattle.std.proofs.lemmas.List.{length-set}
 
@@ -118,15 +118,6 @@ module _ {T : Type 0} where
       given_kept turned_written start (λ g. rw f.there refl),
     ) refl
 
-    pub turned_slotted : {free : set.FinSet nat_cmp} {rooms start usable peak : ℕ}
-        → IsSlotted free rooms start usable peak slots → IsSlotted free rooms start usable peak turned
-    turned_slotted {free} {rooms} {start} {usable} {peak} s =
-        let same = turned_length in
-        slotted turned_written s free rooms usable peak (contains_own free n.slot
-        (s.pooled n.slot ∙ rw f.there refl))
-        (rw f.there refl) (rw f.there refl) (let r = s.roomy in omega arith)
-        (rw f.there at (s.begun n.slot)) s.few (let b = s.bounded in omega arith)
-
     -- where the old target counts it no more, the new one doesn't count it yet
     pub turned_referred : AreReferred (λ q. bit (refers_to q (cell_at slots n))) slots
         → AreReferred (λ q. bit (is_name q new)) turned
@@ -157,3 +148,9 @@ module _ {T : Type 0} where
         ap (λ x. is_shared (map.get x new)) cells
         ∙ (ap is_shared (get-insert_apart by_name (cells_of slots) n (Ref new f.created) new apart)
         ∙ shared)
+
+  -- what holds of the slots holds then
+  pub turned_slotted : {p : Inventory T} → IsSlotted p → {n old : Name}
+      (f : HasReference p.slots n old) (new : Name) → IsSlotted (record p { slots = turned f new })
+  turned_slotted s f new =
+      slotted_still s (turned_written f new) f.there refl refl (turned_length f new)

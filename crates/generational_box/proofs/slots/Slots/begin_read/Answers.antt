@@ -31,7 +31,7 @@ invariant_of-self g c =
     let inv = c.self.invariant in
     let read = c.begin_read.ensures in (
       either c.begin_read.result read.ok read.err
-          (λ e. rw e (slotted_changed f (one_read c.args.borrow) inv.0))
+          (λ e. rw e (slotted_changed inv.0 f (one_read c.args.borrow)))
           (λ e. rw (ap (λ x. x.slots) e) inv.0),
       rw read.rooms inv.1,
       either c.begin_read.result read.ok read.err

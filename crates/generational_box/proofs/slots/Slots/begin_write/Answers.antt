@@ -20,7 +20,7 @@ invariant_of-self g c =
     (unborrowed_there _ c.requires) in
     let inv = c.self.invariant in
     let written = c.begin_write.ensures in (
-      rw written.after (slotted_changed f (λ d. Lent c.args.writer) inv.0),
+      rw written.after (slotted_changed inv.0 f (λ d. Lent c.args.writer)),
       rw written.rooms inv.1,
       rw written.after (referred_changed f (λ d. Lent c.args.writer) inv.2),
     )

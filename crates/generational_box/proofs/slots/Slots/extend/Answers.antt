@@ -11,8 +11,8 @@ use Rattle.generational_box.proofs.states.Counting.{if_named, made_few, made_ref
 use Rattle.generational_box.proofs.states.Counting.{more_length, more_slotted, more_state}
 use Rattle.generational_box.proofs.states.Counting.{new_fresh}
 use Rattle.generational_box.proofs.states.Counting.{unborrowed_cell}
-use Rattle.generational_box.proofs.states.Makings.{new_pushed, none_after, pushed, slotted_pushed}
-use Rattle.generational_box.proofs.states.Makings.{state_pushed}
+use Rattle.generational_box.proofs.states.Makings.{new_pushed, none_after, pushed, raised}
+use Rattle.generational_box.proofs.states.Makings.{slotted_pushed, state_pushed}
 use Rattle.generational_box.proofs.states.States.{free_seen}
 use Rattle.generational_box.proofs.slots.Slots.extend.Goals as goal
 
@@ -88,9 +88,11 @@ invariant_of-self g c =
     let spare = ap (λ x. x.spare) c.self.view_is in
     let room = inv.0.roomy in
     let one = c.add_one.ensures in
-    rw (c.refer.ensures.slots, c.push.ensures.pushed, c.target-target.ensures, one.peak, one.usable) (
-      more_slotted _ (target_of d) (slotted_pushed inv.0 (kept_data [] l d) cell.0 cell.1 none _
-          (omega (arith, c.requires.room, c.requires.none))),
+    let counts : c.add_one.new.self ≡ raised inv.0 =
+    λ j. record { usable = one.usable j; peak = one.peak j } in
+    rw (c.refer.ensures.slots, c.push.ensures.pushed, c.target-target.ensures, counts) (
+      more_slotted (slotted_pushed inv.0 (kept_data [] l d) cell.0 cell.1 none _
+          (omega (arith, c.requires.room, c.requires.none))) (target_of d),
       rw (c.refer.ensures.rooms, c.push.ensures.rooms) inv.1,
       made_referred d l w dead inv.2 targets fresh c.requires.unborrowed there,
     )

@@ -140,8 +140,8 @@ invariant_of-self-2 g c =
       c.in-Some.ensures.taken,
       c.take.ensures.rooms,
     ) (
-      more_slotted _ (target_of d) (slotted_reused inv.0 (kept_data [] l d) cell.0 cell.1 _ m _
-          c.refill.ensures.generation),
+      more_slotted (slotted_reused inv.0 (kept_data [] l d) cell.0 cell.1 _ m _
+          c.refill.ensures.generation) (target_of d),
       rw (c.refer.ensures.rooms, c.refill.ensures.rooms) inv.1,
       made_referred d l w dead inv.2 targets fresh c.requires.unborrowed there,
     )

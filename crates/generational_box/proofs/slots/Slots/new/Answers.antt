@@ -7,7 +7,7 @@ use Rattle.generational_box.proofs.slots.Slots.new.Goals as goal
 pub invariant_of-result : goal.invariant_of-result
 invariant_of-result g c =
     let none = ap (λ s. s.slots) c.new-2.ensures in (
-      rw c.new.ensures (slotted_new _ _ c.args.start _ c.new-3.ensures.empty none),
+      slotted_new _ c.new-3.ensures.empty c.new.ensures none,
       omega (arith, c.new-3.ensures.rooms),
       rw none (record { each = λ k. tt }),
     )

@@ -173,7 +173,7 @@ invariant_of-self g c =
     (subst (λ t. AreReferred (λ q. bit (refers_to q (cell_at slots n)))
     (count_less slots (shared_target slots t))) refers (referred_forgotten slots inv.2 n))) in
     rw (c.refer.ensures.slots, now) (
-      more_slotted (turned f m) (Some m) (turned_slotted f m (less_slotted slots gone inv.0)),
+      more_slotted (turned_slotted (less_slotted inv.0 gone) f m) (Some m),
       rw (c.refer.ensures.rooms, c.redirect.ensures.rooms, c.forget.ensures.rooms) inv.1,
       turn_counted m r t'.0 t'.1 t'.2 t'.3,
     )

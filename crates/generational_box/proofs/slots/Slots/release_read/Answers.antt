@@ -16,7 +16,7 @@ invariant_of-self g c =
     let f = held_in (state_is c.self.view_is) (name_of_cell c.args.name) c.requires in
     let inv = c.self.invariant in
     let released = c.release_read.ensures in (
-      rw released.after (slotted_changed f (less_read c.args.ticket) inv.0),
+      rw released.after (slotted_changed inv.0 f (less_read c.args.ticket)),
       rw released.rooms inv.1,
       rw released.after (referred_changed f (less_read c.args.ticket) inv.2),
     )

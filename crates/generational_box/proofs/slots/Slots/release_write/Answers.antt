@@ -17,7 +17,7 @@ invariant_of-self g c =
     let inv = c.self.invariant in
     let back = c.release_write.ensures in (
       returned c.args.value c.release_write.result back.ok back.err
-          (λ e. rw e (slotted_changed f (λ d. Here c.args.value []) inv.0))
+          (λ e. rw e (slotted_changed inv.0 f (λ d. Here c.args.value [])))
           (λ e. rw (ap (λ x. x.slots) e) inv.0),
       rw back.rooms inv.1,
       returned c.args.value c.release_write.result back.ok back.err

@@ -9,7 +9,7 @@ use Rattle.generational_box.proofs.lists.Lists.{bit}
 use Rattle.generational_box.proofs.states.Changes.{cell_seen, found, found_within, heard_in}
 use Rattle.generational_box.proofs.states.Changes.{held_in, unborrowed_there}
 use Rattle.generational_box.proofs.states.Changes.{not_pooled, slotted_freed, slotted_retired}
-use Rattle.generational_box.proofs.states.Changes.{some_live, state_ended, state_is}
+use Rattle.generational_box.proofs.states.Changes.{lowered, some_live, state_ended, state_is}
 use Rattle.generational_box.proofs.states.Counting.{less_length, less_slotted, less_state}
 use Rattle.generational_box.proofs.states.Counting.{referred_ended, referred_forgotten, target_some}
 use Rattle.generational_box.proofs.states.States.{get_cells}
@@ -64,7 +64,7 @@ retire_one-requires g c =
     ∙ state_is c.self.view_is in
     let f = found (count_less slots o) n (ap (λ S. is_some (map.get S.cells n)) same ∙ c.requires.there)
     in
-    some_live f (less_slotted slots o inv.0)
+    some_live (less_slotted inv.0 o) f
 
 pub put-requires-clause-room : goal.put-requires-clause-room
 put-requires-clause-room g c =
@@ -89,7 +89,7 @@ put-requires-clause-absent g c =
     ∙ state_is c.self.view_is in
     let f = found (count_less slots o) n (ap (λ S. is_some (map.get S.cells n)) same ∙ c.requires.there)
     in
-    not_pooled f (less_slotted slots o inv.0)
+    not_pooled (less_slotted inv.0 o) f
 
 pub invariant_of-self : goal.invariant_of-self
 invariant_of-self g c =
@@ -111,7 +111,7 @@ invariant_of-self g c =
     let r = subst (λ x. AreReferred (λ q. bit (refers_to q x)) (count_less slots o)) (sym own)
     (referred_forgotten slots inv.2 n) in
     rw (c.end.ensures.slots, after, c.put.ensures.added, c.put.ensures.rooms) (
-      slotted_freed f (less_slotted slots o inv.0) (omega arith),
+      slotted_freed (less_slotted inv.0 o) f (omega arith),
       rw (c.end.ensures.rooms, c.forget.ensures.rooms) inv.1,
       referred_ended f r,
     )
@@ -136,8 +136,11 @@ invariant_of-self-else-name-lt18446744073709551615 g c =
     (less_state slots o c.self.inside.start c.self.inside.counts.peak) ∙ get_cells slots n) in
     let r = subst (λ x. AreReferred (λ q. bit (refers_to q x)) (count_less slots o)) (sym own)
     (referred_forgotten slots inv.2 n) in
-    rw (c.end.ensures.slots, after, c.retire_one.ensures.peak, c.retire_one.ensures.usable) (
-      slotted_retired f (less_slotted slots o inv.0) (omega arith),
+    let one = c.retire_one.ensures in
+    let counts : c.retire_one.new.self ≡ lowered inv.0 =
+    λ j. record { usable = one.usable j; peak = one.peak j } in
+    rw (c.end.ensures.slots, after, counts) (
+      slotted_retired (less_slotted inv.0 o) f (omega arith),
       rw (c.end.ensures.rooms, c.forget.ensures.rooms) inv.1,
       referred_ended f r,
     )

@@ -24,7 +24,7 @@ invariant_of-self g c =
     (unborrowed_there _ c.requires) in
     let inv = c.self.invariant in
     let written = c.replace.ensures in (
-      rw written.after (slotted_changed f (λ d. Here c.args.value []) inv.0),
+      rw written.after (slotted_changed inv.0 f (λ d. Here c.args.value [])),
       rw written.rooms inv.1,
       rw written.after (referred_changed f (λ d. Here c.args.value []) inv.2),
     )
