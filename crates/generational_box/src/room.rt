@@ -8,7 +8,9 @@ use std::alloc::Global;
 
 // For so many slots there is room at first, then for more, and then for many.
 const FEW: usize = 4;
+
 const MORE: usize = 64;
+
 const MANY: usize = 1152;
 
 // By how many slots the room for so many grows: in great steps while they are few, so that a slot

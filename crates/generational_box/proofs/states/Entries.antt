@@ -7,7 +7,7 @@ use Rattle.std.proofs.Common.{subst, inl, inr, ◌⊎◌, slice_get, slice_set, 
 use Rattle.std.specs.Ordering.{nat_cmp}
 use Rattle.std.specs.Cmp.{nat_cmp_total}
 use Rattle.std.proofs.Math.ListN.{get_or, get_or-eq_default}
-use Rattle.std.proofs.lemmas.Bool.{true≢false, false≢true, cases_eq, eq-eqb, ne_eqb}
+use Rattle.std.proofs.lemmas.Bool.{true≢false, false≢true, eq-eqb, ne_eqb}
 use Rattle.std.proofs.lemmas.Bool.{eqb-true}
 use Rattle.std.proofs.lemmas.Option.{none-some, slice_get_cases, slice_get_read, slice_get_within}
 use Rattle.std.proofs.lemmas.List.{get_or-set_same, length-set}

@@ -193,8 +193,8 @@ returns-in_default g c =
         kept = kept;
         references = l.references;
       }) (reader_kept c.args.borrow
-      (list_at c.self.inside.borrows.lists (index_of c.index_mut.result.now.content)) l.created_at
-      c.index_mut.result.now.content c.in_default.not-Data c.in_default.not-Read));
+          (list_at c.self.inside.borrows.lists (index_of c.index_mut.result.now.content)) l.created_at
+          c.index_mut.result.now.content c.in_default.not-Data c.in_default.not-Read));
       err = tt;
       beside = tt;
       rooms = ap (λ (x : EntryList _). x.rooms) c.self.view_is;
