@@ -22,9 +22,12 @@ invariant_of-self-2 g c =
     elim c.if-self-slot.branch [
       | then-self-slot w ↦ rw w.self-inside-is (λ is. absurd (false≢true is))
       | else-self-slot w ↦
-          rw (w.self-inside-is, c.end-2.ensures.slots
-          ∙ ap (λ x. change_entry x.settled.slots c.args.slot (λ e. record e { kept = Empty }))
-          w.self-inside-is)
+          rw (
+            w.self-inside-is,
+            c.end-2.ensures.slots
+                ∙ ap (λ x. change_entry x.settled.slots c.args.slot (λ e. record e { kept = Empty }))
+                w.self-inside-is,
+          )
           (alone_apart last slots c.args.slot (λ e. record e { kept = Empty }) c.self.invariant
           (λ is same. w.if-self-slot.false same))
     ]
