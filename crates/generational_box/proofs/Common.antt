@@ -14,7 +14,7 @@ pub use Rattle.generational_box.specs.OwnerRecords.{IsListed, IsRefused, knows_a
 pub use Rattle.generational_box.specs.OwnerRecords.{one_relisted, relist_in}
 pub use Rattle.generational_box.specs.Pools.{IsPool}
 pub use Rattle.generational_box.specs.Slotted.{AreReferred, HasBegun, IsMade, IsReferred, IsSlotted}
-pub use Rattle.generational_box.specs.Slotted.{Count, Inventory, Slotted}
+pub use Rattle.generational_box.specs.Slotted.{Count, Inventory, Retirements, Slotted, count_of}
 pub use Rattle.generational_box.specs.Slotted.{cell_at, cell_in, change_entry, given_from, refers}
 pub use Rattle.generational_box.specs.Slotted.{given_in, how_many, is_reusable, is_spent}
 pub use Rattle.generational_box.specs.Slotted.{count_less, count_more, doomed_by, live_from}

@@ -2,7 +2,7 @@
 use Rattle.std.specs.Prelude.{◌≡◌, ℕ, ◌+◌, ◌-◌, ◌≤◌, suc, zero, Bool, true, false, ◌&&◌, nat_eq}
 use Rattle.std.specs.Prelude.{nat_le, nat_lt, not, if◌then◌else◌, length, List, [], ◌∷◌, ◌++◌}
 use Rattle.std.specs.Prelude.{Option, None, Some, IfSome, IsTrue, Result, is_ok, slice_get}
-use Rattle.std.specs.Prelude.{slice_set}
+use Rattle.std.specs.Prelude.{slice_set, max}
 use Rattle.std.specs.List.{count_by}
 use Rattle.std.specs.Option.{option_or}
 use Rattle.std.specs.Ordering.{nat_cmp}
@@ -31,6 +31,17 @@ pub record Slotted (T : Type 0) : Type 0 where
 pub record Count : Type 0 where
   pub usable : ℕ
   pub peak : ℕ
+
+-- How many slots were retired, and the most that were live or free at once before the last of them
+-- was.
+pub record Retirements : Type 0 where
+  pub retired : ℕ
+  pub before : ℕ
+
+-- what follows for the slots, where so many were made
+abbrev pub count_of : Retirements → ℕ → Count
+count_of r made =
+    record { usable = made - r.retired; peak = max r.before (made - r.retired) }
 
 -- What a store has of slots: the free ones, for how many there is room, the first generation of
 -- each, how many are in use, and the slots themselves.

@@ -1,73 +1,65 @@
-//! How many slots of a store are in use.
+//! How many slots of a store were retired.
 
-ghost use Rattle.std.specs.Prelude.{◌≡◌, ◌+◌, ◌-◌, ◌<◌, max};
+ghost use Rattle.std.specs.Prelude.{◌≡◌, ◌+◌, ◌<◌, ◌≤◌};
+ghost use Rattle.generational_box.specs.Slotted.{count_of};
 
 use std::marker::Model;
 
-/// How many slots are live or free, and the most that were so at once. A slot more is only made
-/// where none is free, so that is also the most cells that were live at once.
+/// How many slots of a store were retired, and the most that were usable at once before the last
+/// of them was. A slot is usable while it is live or free. A slot more is only made where none is
+/// free, so the most usable ones are also the most cells that were live at once.
 #[derive(Drop)]
 pub(crate) struct Counts {
-    usable: usize,
+    retired: usize,
     // the most before a slot was last retired
     before: usize,
 }
 
 impl Model for Counts {
-    ghost use Rattle.std.specs.Prelude.{max};
-    ghost use Rattle.generational_box.specs.Slotted.{Count};
+    ghost use Rattle.generational_box.specs.Slotted.{Retirements};
 
-    ghost Value = { Count };
+    ghost Value = { Retirements };
 
-    ghost view = { λ c. record { usable = c.usable; peak = max c.before c.usable } };
+    ghost view = { λ c. record { retired = c.retired; before = c.before } };
 }
 
 impl Counts {
     // None.
     #[inline(always)]
     pub(crate) fn new() -> Counts
-        ensures { result ≡ record { usable = 0; peak = 0 } }
+        ensures { result ≡ record { retired = 0; before = 0 } }
     {
         Counts {
-            usable: 0,
+            retired: 0,
             before: 0,
         }
     }
 
-    // How many are live or free.
+    // How many were retired.
     #[inline(always)]
-    pub(crate) fn usable(&self) -> usize
-        ensures { result ≡ self.now.usable }
+    pub(crate) fn retired(&self) -> usize
+        ensures { result ≡ self.now.retired }
     {
-        self.usable
+        self.retired
     }
 
-    // The most that were.
+    // The most that were usable at once, where so many were made.
     #[inline(always)]
-    pub(crate) fn peak(&self) -> usize
-        ensures { result ≡ self.now.peak }
+    pub(crate) fn peak(&self, made: usize) -> usize
+        requires { self.now.retired ≤ made }
+        ensures { result ≡ (count_of self.now made).peak }
     {
-        self.before.max(self.usable)
+        self.before.max(made - self.retired)
     }
 
-    // One more is.
+    // One more of those that were made is retired.
     #[inline(always)]
-    pub(crate) fn add_one(&mut self)
-        requires { self.old.usable < 18446744073709551615 }
-        ensures usable { self.new.usable ≡ self.old.usable + 1 }
-        ensures peak { self.new.peak ≡ max self.old.peak (self.old.usable + 1) }
+    pub(crate) fn retire_one(&mut self, made: usize)
+        requires { self.old.retired < made }
+        ensures retired { self.new.retired ≡ self.old.retired + 1 }
+        ensures before { self.new.before ≡ (count_of self.old made).peak }
     {
-        self.usable += 1;
-    }
-
-    // One less is.
-    #[inline(always)]
-    pub(crate) fn retire_one(&mut self)
-        requires { 0 < self.old.usable }
-        ensures usable { self.new.usable ≡ self.old.usable - 1 }
-        ensures peak { self.new.peak ≡ self.old.peak }
-    {
-        self.before = self.peak();
-        self.usable -= 1;
+        self.before = self.peak(made);
+        self.retired += 1;
     }
 }

@@ -15,14 +15,14 @@ use std::marker::Model;
 #[derive(Drop)]
 pub(crate) struct FreeList {
     // where a slot is in the list and isn't its last, its link is the next slot
-    links: Vec<usize>,
+    links: Vec<u32>,
     // where the list isn't empty, its first slot
     first: usize,
     count: usize,
 }
 
 impl Model for FreeList {
-    ghost use Rattle.std.specs.Prelude.{length};
+    ghost use Rattle.std.specs.Prelude.{◌≤◌, length};
     ghost use Rattle.generational_box.specs.Pools.{chain, IsPool, Pool};
 
     ghost Value = { Pool };
@@ -32,7 +32,8 @@ impl Model for FreeList {
       rooms = length l.links.items;
     } };
 
-    ghost invariant = { λ l. IsPool (chain l.links.items l.first l.count) (length l.links.items) };
+    ghost invariant = { λ l. IsPool (chain l.links.items l.first l.count) (length l.links.items)
+        × (length l.links.items ≤ 4294967295) };
 }
 
 impl FreeList {
@@ -61,8 +62,11 @@ impl FreeList {
         if room <= self.links.len() {
             return Ok(());
         }
+        if room > u32::MAX as usize {
+            return Err(StoreError::OutOfMemory);
+        }
         // the new links lead past the last slot
-        match self.links.resize(room, room) {
+        match self.links.resize(room, room as u32) {
             Ok(()) => Ok(()),
             Err(_) => Err(StoreError::OutOfMemory),
         }
@@ -82,12 +86,15 @@ impl FreeList {
             return None;
         }
         let slot = self.first;
-        self.first = self.links[slot];
+        if self.count > 1 {
+            self.first = self.links[slot] as usize;
+        }
         self.count -= 1;
         Some(slot)
     }
 
-    // Puts a slot in before the others. Takes no memory.
+    // Puts a slot in before the others. Takes no memory. Where there are none, its link means nothing
+    // and isn't written: most often the slot is the next that is taken.
     #[inline(always)]
     pub(crate) fn put_first(&mut self, slot: usize)
         requires room { slot < self.old.rooms }
@@ -95,9 +102,12 @@ impl FreeList {
         ensures slots { self.new.slots ≡ slot ∷ self.old.slots }
         ensures rooms { self.new.rooms ≡ self.old.rooms }
     {
-        self.links[slot] = self.first;
+        let second = self.first;
         self.first = slot;
         self.count += 1;
+        if self.count > 1 {
+            self.links[slot] = second as u32;
+        }
     }
 
     // Puts a slot in behind the others, of which one that is named is the last. Takes no memory.
@@ -114,7 +124,7 @@ impl FreeList {
             self.put_first(slot);
             return;
         }
-        self.links[last] = slot;
+        self.links[last] = slot as u32;
         self.count += 1;
     }
 

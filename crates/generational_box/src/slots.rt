@@ -57,13 +57,14 @@ impl<T, P: SlotPool> Model for Slots<T, P> {
     ghost use Rattle.std.specs.FinMap as map;
     ghost use Rattle.std.specs.FinSet as set;
     ghost use Rattle.generational_box.specs.Slotted.{Slotted, state_of, IsSlotted, AreReferred};
+    ghost use Rattle.generational_box.specs.Slotted.{count_of};
 
     ghost Value = { Slotted T };
 
     ghost coded = { Prim.hlevel (codes, map.code) };
 
     ghost view = { λ s. record {
-      state = state_of s.start s.counts.peak s.entries.slots;
+      state = state_of s.start (count_of s.counts (length s.entries.slots)).peak s.entries.slots;
       spare = set.len (P.members s.pool) + (P.rooms s.pool - length s.entries.slots);
     } };
 
@@ -72,10 +73,11 @@ impl<T, P: SlotPool> Model for Slots<T, P> {
           free = P.members s.pool;
           rooms = P.rooms s.pool;
           start = s.start;
-          counts = s.counts;
+          counts = count_of s.counts (length s.entries.slots);
           slots = s.entries.slots;
         })
-        × (P.rooms s.pool ≤ s.entries.rooms) × AreReferred (λ m. 0) s.entries.slots };
+        × (P.rooms s.pool ≤ s.entries.rooms) × AreReferred (λ m. 0) s.entries.slots
+        × (s.counts.retired ≤ length s.entries.slots) };
 }
 
 impl<T, P: SlotPool> Slots<T, P> {
@@ -121,14 +123,14 @@ impl<T: Drop, P: SlotPool> Slots<T, P> {
     pub(crate) fn retired(&self) -> usize
         ensures { result ≡ retired self.now.state }
     {
-        self.entries.len() - self.counts.usable()
+        self.counts.retired()
     }
 
     // The most cells that were live at once.
     pub(crate) fn peak_live(&self) -> usize
         ensures { result ≡ self.now.state.peak }
     {
-        self.counts.peak()
+        self.counts.peak(self.entries.len())
     }
 
     // What a box of this name reaches.
@@ -461,7 +463,6 @@ impl<T: Drop, P: SlotPool> Slots<T, P> {
         let target = content.target();
         self.entries.push(name.generation, content, created_at);
         refer(&mut self.entries, target);
-        self.counts.add_one();
         Ok(name)
     }
 
@@ -483,7 +484,7 @@ impl<T: Drop, P: SlotPool> Slots<T, P> {
         if name.generation < u64::MAX {
             self.pool.put(name.slot);
         } else {
-            self.counts.retire_one();
+            self.counts.retire_one(self.entries.len());
         }
     }
 

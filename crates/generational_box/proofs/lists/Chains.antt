@@ -18,13 +18,16 @@ pub first_within : (links : List ℕ) (first n : ℕ) → 0 < n
 first_within links first zero some p = absurd (omega arith)
 first_within links first (suc n) some p = p.below first (rw (eq-eqb first first refl) refl)
 
+-- where there are others, what is read of its link is their first
 pub chain_read : (links : List ℕ) (first n x : ℕ) → 0 < n
-    → IsPool (chain links first n) (length links) → x ≡ get_or links first x
+    → IsPool (chain links first n) (length links) → (1 < n → x ≡ get_or links first x)
     → chain links first n ≡ first ∷ chain links x (n - 1)
 chain_read links first zero x some p at = absurd (omega arith)
-chain_read links first (suc n) x some p at =
-    let e : suc n - 1 ≡ n = omega arith in
-    rw (e, get_or_read links first x (first_within links first (suc n) some p) at 0) refl
+chain_read links first (suc zero) x some p at = refl
+chain_read links first (suc (suc n)) x some p at =
+    let e : suc (suc n) - 1 ≡ suc n = omega arith in
+    let read = at (omega arith) in
+    rw (e, get_or_read links first x (first_within links first (suc (suc n)) some p) read 0) refl
 
 -- where the links of its slots are the same, it is the same
 chain_same : (links others : List ℕ) (first n : ℕ)
@@ -93,14 +96,17 @@ chain_extended links first (suc n) last slot p ends =
         ∙ (sym (members-holds (chain links (get_or links first 0) (suc n)) first)
         ∙ head_absent p)))
 
--- a slot before the first one, to which its link leads
-pub chain_put : (links : List ℕ) (first n slot : ℕ) → slot < length links
+-- a slot before the first one, to which its link leads, unless there was none
+pub chain_put : (links after : List ℕ) (first n slot : ℕ) → slot < length links
     → set.contains (members (chain links first n)) slot ≡ false
-    → chain (slice_set links slot first) slot (n + 1) ≡ slot ∷ chain links first n
-chain_put links first n slot within absent =
-    let e : n + 1 ≡ suc n = omega arith in
-    rw (e, get_or-set_same links slot first 0 within)
-    (ap (λ rest. slot ∷ rest) (chain_apart links slot first first n absent))
+    → (0 < n → after ≡ slice_set links slot first)
+    → chain after slot (n + 1) ≡ slot ∷ chain links first n
+chain_put links after first zero slot within absent linked = refl
+chain_put links after first (suc n) slot within absent linked =
+    let e : suc n + 1 ≡ suc (suc n) = omega arith in
+    ap (λ l. chain l slot (suc n + 1)) (linked (omega arith))
+    ∙ rw (e, get_or-set_same links slot first 0 within)
+    (ap (λ rest. slot ∷ rest) (chain_apart links slot first first (suc n) absent))
 
 -- so many slots as are there have a link each
 pub chain_length : (links : List ℕ) (first n : ℕ) → length (chain links first n) ≡ n
@@ -152,6 +158,12 @@ resized true n links more after first count is few p =
       chain_grown links more first count p,
     )
 resized false n links more after first count is few p = rw is (p, refl)
+
+-- nor are there too many of them
+pub resized_few : (ok : Bool) (n links after most : ℕ) → after ≡ (if ok then n else links)
+    → n ≤ most → links ≤ most → after ≤ most
+resized_few true n links after most is less few = omega arith
+resized_few false n links after most is less few = omega arith
 
 pub last_taken : (x : ℕ) (xs : List ℕ) → last_of x xs ≡ x → last_of x (drop 1 xs) ≡ x
 last_taken x [] ends = refl

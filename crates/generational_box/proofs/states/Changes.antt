@@ -22,7 +22,7 @@ use Rattle.generational_box.proofs.Common.{given_in, is_spent, is_reusable, HasB
 use Rattle.generational_box.proofs.Common.{IsReferred, AreReferred, refers, how_many, change_entry}
 use Rattle.generational_box.proofs.Common.{is_live, with_content, content_in, content_at, State}
 use Rattle.generational_box.proofs.Common.{has_no_borrow}
-use Rattle.generational_box.proofs.Common.{Count, Inventory, Slotted}
+use Rattle.generational_box.proofs.Common.{Count, Inventory, Retirements, Slotted, count_of}
 use Rattle.generational_box.specs.declared.entry.Kind.TheVariants as kind
 use Rattle.generational_box.proofs.lists.Lists.{IsWritten, set_written, bit, passes}
 use Rattle.generational_box.proofs.lists.Lists.{contains_own, contains-insert_at}
@@ -391,7 +391,7 @@ module _ {T : Type 0} {p : Inventory T} (s : IsSlotted p) where
       → IsSlotted (record p { slots = changed f h })
   slotted_changed f h = slotted_still s (written f h) f.there refl refl (changed_length f h)
 
-  -- the counts with one slot less
+  -- the counts with one usable slot less
   abbrev pub lowered : Count
   lowered = record p.counts { usable = p.counts.usable - 1 }
 
@@ -439,6 +439,16 @@ module _ {T : Type 0} {p : Inventory T} (s : IsSlotted p) where
         let one = some_live in
         slotted_by p.free (p.counts.usable - 1) false (le-ltb n.generation last_generation last)
         (contains_own p.free n.slot not_pooled) (omega arith) (omega arith) (omega arith)
+
+-- one more of the slots that were made is retired
+pub one_retired : (r now : Retirements) (made : ℕ) → now.retired ≡ r.retired + 1
+    → now.before ≡ (count_of r made).peak
+    → count_of now made
+    ≡ record { usable = (count_of r made).usable - 1; peak = (count_of r made).peak }
+one_retired r now made more most =
+    let usable : (count_of now made).usable ≡ (count_of r made).usable - 1 = omega arith in
+    let peak : (count_of now made).peak ≡ (count_of r made).peak = omega arith in
+    λ j. record { usable = usable j; peak = peak j }
 
 -- ---- the same of the state that contracts see
 

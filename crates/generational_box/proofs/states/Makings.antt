@@ -15,12 +15,25 @@ use Rattle.generational_core.specs.Machine.{add_cell}
 use Rattle.generational_box.proofs.Common.{Cell, IsNew, free, last_generation, Empty}
 use Rattle.generational_box.proofs.Common.{Live, Refers, Kept, Entry, cell_of, cell_in, cells_of}
 use Rattle.generational_box.proofs.Common.{given_in, how_many, is_live, is_spent, is_reusable}
-use Rattle.generational_box.proofs.Common.{Count, Inventory, IsSlotted, State, state_of}
+use Rattle.generational_box.proofs.Common.{Count, Inventory, IsSlotted, Retirements, State}
+use Rattle.generational_box.proofs.Common.{count_of, state_of}
 use Rattle.generational_box.proofs.lists.Lists.{IsWritten, set_written, push_written, passes}
 use Rattle.generational_box.proofs.lists.Lists.{cond_same, contains-remove_at, not_left, put_back}
 use Rattle.generational_box.proofs.states.States.{len_cells, live_cell, free_are, new_first}
 use Rattle.generational_box.proofs.states.States.{new_next}
 use Rattle.generational_box.proofs.states.Changes.{cells_put, given_put, slotted}
+
+-- one slot more is made
+pub one_made : (r : Retirements) (made : ℕ) → r.retired ≤ made → count_of r (made + 1)
+    ≡ record {
+      usable = (count_of r made).usable + 1;
+      peak = max (count_of r made).peak ((count_of r made).usable + 1);
+    }
+one_made r made few =
+    let one : (count_of r (made + 1)).usable ≡ (count_of r made).usable + 1 = omega arith in
+    let most : (count_of r (made + 1)).peak
+    ≡ max (count_of r made).peak ((count_of r made).usable + 1) = omega arith in
+    λ j. record { usable = one j; peak = most j }
 
 module _ {T : Type 0} {p : Inventory T} (s : IsSlotted p) where
   -- the state for which the slots stand
@@ -31,7 +44,7 @@ module _ {T : Type 0} {p : Inventory T} (s : IsSlotted p) where
   abbrev many : ℕ
   many = how_many (λ e. is_live e.kept) p.slots
 
-  -- the counts with one slot more
+  -- the counts with one usable slot more
   abbrev pub raised : Count
   raised = record {
     usable = p.counts.usable + 1;

@@ -7,4 +7,4 @@ pub returns : goal.returns
 returns c =
     let l = c.self.inside in
     rw (← c.self.view_is)
-    (sym (pool_count _ c.self.invariant ∙ chain_length l.links.items l.first l.count))
+    (sym (pool_count _ c.self.invariant.0 ∙ chain_length l.links.items l.first l.count))

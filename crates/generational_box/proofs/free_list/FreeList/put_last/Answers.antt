@@ -11,7 +11,7 @@ index_mut-requires c =
     let l = c.self.inside in
     let some : 0 < l.count = omega (arith, c.if-self-eq0.false) in
     let ends = rw (← c.self.view_is) at c.requires.last in
-    let within = last_within l.links.items l.first l.count _ some c.self.invariant ends in
+    let within = last_within l.links.items l.first l.count _ some c.self.invariant.0 ends in
     omega (arith, within, l.links.ok.0)
 
 pub overflow_add-self : goal.overflow_add-self
@@ -19,7 +19,7 @@ overflow_add-self c =
     let l = c.self.inside in
     let room = rw (← c.self.view_is) at c.requires.room in
     let absent = rw (← c.self.view_is) at c.requires.absent in
-    let more = chain_room l.links.items l.first l.count _ c.self.invariant room absent in
+    let more = chain_room l.links.items l.first l.count _ c.self.invariant.0 room absent in
     omega (arith, more, l.links.ok.0, l.links.small)
 
 pub invariant_of-self : goal.invariant_of-self
@@ -30,9 +30,9 @@ invariant_of-self c =
     let absent = rw (← c.self.view_is) at c.requires.absent in
     let ends = rw (← c.self.view_is) at c.requires.last in
     rw (
-      chain_put_last l.links.items l.first l.count _ c.args.slot some c.self.invariant ends,
+      chain_put_last l.links.items l.first l.count _ c.args.slot some c.self.invariant.0 ends,
       length-set l.links.items c.args.last c.args.slot,
-    ) (pool_push c.self.invariant room absent)
+    ) (pool_push c.self.invariant.0 room absent, c.self.invariant.1)
 
 pub returns-clause-slots : goal.returns-clause-slots
 returns-clause-slots c =
@@ -40,7 +40,7 @@ returns-clause-slots c =
     let some : 0 < l.count = omega (arith, c.if-self-eq0.false) in
     let ends = rw (← c.self.view_is) at c.requires.last in
     rw (← c.self.view_is)
-    (chain_put_last l.links.items l.first l.count _ c.args.slot some c.self.invariant ends)
+    (chain_put_last l.links.items l.first l.count _ c.args.slot some c.self.invariant.0 ends)
 
 pub returns-clause-added : goal.returns-clause-added
 returns-clause-added c =
@@ -49,5 +49,5 @@ returns-clause-added c =
     let ends = rw (← c.self.view_is) at c.requires.last in
     rw (
       ← c.self.view_is,
-      chain_put_last l.links.items l.first l.count _ c.args.slot some c.self.invariant ends,
+      chain_put_last l.links.items l.first l.count _ c.args.slot some c.self.invariant.0 ends,
     ) (set.from_list_push nat_cmp_total set.nat_cmp-IsAntisymmetric _ c.args.slot)

@@ -1,9 +1,10 @@
-use Rattle.std.proofs.Common.{◌≡◌, ◌∙◌, ap, is_some, true, None, refl}
+use Rattle.std.proofs.Common.{◌≡◌, ◌∙◌, ap, is_some, length, true, None, refl}
 use Rattle.generational_box.specs.Borrows.{AreBelow}
 use Rattle.generational_box.specs.Entry.{one_read, readers_of}
-use Rattle.generational_box.proofs.Common.{name_of_cell, state_of, write_refusal}
+use Rattle.generational_box.proofs.Common.{count_of, name_of_cell, state_of, write_refusal}
 use Rattle.generational_box.proofs.states.Entries.{ok_then, err_from}
-use Rattle.generational_box.proofs.states.Changes.{either, filled_in, heard_in, held_in}
+use Rattle.generational_box.proofs.states.Changes.{changed, changed_length, either}
+use Rattle.generational_box.proofs.states.Changes.{filled_in, heard_in, held_in}
 use Rattle.generational_box.proofs.states.Changes.{referred_changed, seen_in}
 use Rattle.generational_box.proofs.states.Changes.{slotted_changed, state_is}
 use Rattle.generational_core.specs.Borrowing.{read_refusal}
@@ -31,12 +32,16 @@ invariant_of-self g c =
     let inv = c.self.invariant in
     let read = c.begin_read.ensures in (
       either c.begin_read.result read.ok read.err
-          (λ e. rw e (slotted_changed inv.0 f (one_read c.args.borrow)))
+          (λ e. rw (e, changed_length f (one_read c.args.borrow))
+          (slotted_changed inv.0 f (one_read c.args.borrow)))
           (λ e. rw (ap (λ x. x.slots) e) inv.0),
       rw read.rooms inv.1,
       either c.begin_read.result read.ok read.err
           (λ e. rw e (referred_changed f (one_read c.args.borrow) inv.2))
           (λ e. rw (ap (λ x. x.slots) e) inv.2),
+      either c.begin_read.result read.ok read.err
+          (λ e. rw (e, changed_length f (one_read c.args.borrow)) inv.3)
+          (λ e. rw (ap (λ x. x.slots) e) inv.3),
     )
 
 pub returns-clause-ok : goal.returns-clause-ok
@@ -44,13 +49,17 @@ returns-clause-ok g c =
     let view = state_is c.self.view_is in
     let n = name_of_cell c.args.name in
     let f = held_in view n c.requires.there in
-    ok_then c.begin_read.result (λ e. rw e (filled_in view n f (one_read c.args.borrow)))
+    ok_then c.begin_read.result
+    (λ (e : c.begin_read.new.self.slots ≡ changed f (one_read c.args.borrow)).
+    rw (e, changed_length f (one_read c.args.borrow))
+    (filled_in view n f (one_read c.args.borrow)))
     c.begin_read.ensures.ok
 
 pub returns-clause-err : goal.returns-clause-err
 returns-clause-err g c =
     err_from c.begin_read.result
-    (λ e. ap (λ x. state_of c.self.inside.start c.self.inside.counts.peak x.slots) e
+    (λ e. ap (λ x. state_of c.self.inside.start
+    (count_of c.self.inside.counts (length x.slots)).peak x.slots) e
     ∙ state_is c.self.view_is) c.begin_read.ensures.err
 
 pub returns-clause-beside : goal.returns-clause-beside

@@ -5,11 +5,11 @@ use Rattle.std.proofs.lemmas.List.{at_drop_more, at_drop_all}
 use Rattle.generational_core.proofs.machine.Closing.{close_each, close_nothing}
 use Rattle.generational_core.proofs.machine.Linking.{closing_linked}
 use Rattle.generational_box.proofs.Common.{CellName, IsLinked, NameMap, Cell, close, name_of_cell}
-use Rattle.generational_box.proofs.Common.{state_of}
+use Rattle.generational_box.proofs.Common.{count_of, state_of}
 use Rattle.generational_box.proofs.Common.{cells_after, first_hindrance}
 use Rattle.generational_box.specs.Entry.{FoundBorrowed}
 use Rattle.generational_box.proofs.states.Endings.{hindrance_is}
-use Rattle.std.proofs.Common.{Err}
+use Rattle.std.proofs.Common.{Err, length}
 use Rattle.generational_box.proofs.states.Changes.{state_is}
 use Rattle.generational_box.proofs.slots.Slots.end_all.Goals as goal
 
@@ -23,7 +23,8 @@ returns-in-Err-clause-found g c =
 
 pub loop-name-init : goal.loop-name-init
 loop-name-init g c =
-    let same = ap (λ e. state_of c.self.inside.start c.self.inside.counts.peak e.slots)
+    let same = ap (λ e. state_of c.self.inside.start
+    (count_of c.self.inside.counts (length e.slots)).peak e.slots)
     c.find_hindrance.ensures.same ∙ state_is c.self.view_is in (
       subst (λ X. IsLinked X.cells) (sym same) c.requires.linked,
       ap (λ X. close X (list_map name_of_cell c.args.names.now)) same,

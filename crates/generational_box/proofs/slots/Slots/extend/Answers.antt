@@ -11,7 +11,7 @@ use Rattle.generational_box.proofs.states.Counting.{if_named, made_few, made_ref
 use Rattle.generational_box.proofs.states.Counting.{more_length, more_slotted, more_state}
 use Rattle.generational_box.proofs.states.Counting.{new_fresh}
 use Rattle.generational_box.proofs.states.Counting.{unborrowed_cell}
-use Rattle.generational_box.proofs.states.Makings.{new_pushed, none_after, pushed, raised}
+use Rattle.generational_box.proofs.states.Makings.{new_pushed, none_after, one_made, pushed}
 use Rattle.generational_box.proofs.states.Makings.{slotted_pushed, state_pushed}
 use Rattle.generational_box.proofs.states.States.{free_seen}
 use Rattle.generational_box.proofs.slots.Slots.extend.Goals as goal
@@ -63,12 +63,6 @@ refer-requires-clause-few g c =
     (rw (c.target-target.ensures, c.push.ensures.pushed)
     (made_few d l w dead inv.2 targets fresh there))
 
-pub add_one-requires : goal.add_one-requires
-add_one-requires g c =
-    let inv = c.self.invariant in
-    let few = inv.0.few in let bounded = inv.0.bounded in
-    omega (arith, c.push.ensures.few)
-
 pub invariant_of-self : goal.invariant_of-self
 invariant_of-self g c =
     let inv = c.self.invariant in
@@ -87,14 +81,15 @@ invariant_of-self g c =
     let empty = free_seen inv.0 view in
     let spare = ap (λ x. x.spare) c.self.view_is in
     let room = inv.0.roomy in
-    let one = c.add_one.ensures in
-    let counts : c.add_one.new.self ≡ raised inv.0 =
-    λ j. record { usable = one.usable j; peak = one.peak j } in
-    rw (c.refer.ensures.slots, c.push.ensures.pushed, c.target-target.ensures, counts) (
+    let long = ap length c.refer.ensures.slots ∙ (more_length c.push.new.self.slots _
+    ∙ (ap length c.push.ensures.pushed ∙ length-append slots _)) in
+    let counts = one_made c.self.inside.counts (length slots) inv.3 in
+    rw (long, counts, c.refer.ensures.slots, c.push.ensures.pushed, c.target-target.ensures) (
       more_slotted (slotted_pushed inv.0 (kept_data [] l d) cell.0 cell.1 none _
           (omega (arith, c.requires.room, c.requires.none))) (target_of d),
       rw (c.refer.ensures.rooms, c.push.ensures.rooms) inv.1,
       made_referred d l w dead inv.2 targets fresh c.requires.unborrowed there,
+      omega (arith, inv.3),
     )
 
 pub returns-clause-ok : goal.returns-clause-ok
@@ -106,16 +101,17 @@ returns-clause-ok g c =
     let l = c.args.created_at in
     let slots = c.self.inside.entries.slots in
     let cell = unborrowed_cell d l c.requires.unborrowed in
-    let one = c.add_one.ensures in
+    let most = ap (λ k. k.peak) (one_made c.self.inside.counts (length slots) inv.3) in
     let spare = ap (λ x. x.spare) c.self.view_is in
     let more = ap length c.refer.ensures.slots ∙ (more_length c.push.new.self.slots _
     ∙ (ap length c.push.ensures.pushed ∙ length-append slots _)) in (
       record {
         fits = rw (c.len.ensures, ← view) (new_pushed inv.0 (kept_data [] l d) cell.0 cell.1 none);
         added = rw cell.1 (rw (
+          more,
+          most,
           c.refer.ensures.slots,
           c.push.ensures.pushed,
-          one.peak,
           c.len.ensures,
           ← view,
         ) (more_state _ _ _ _ ∙ state_pushed inv.0 (kept_data [] l d) cell.0 cell.1 none));

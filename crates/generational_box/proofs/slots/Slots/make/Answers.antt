@@ -65,6 +65,7 @@ invariant_of-self-in-Err g c =
           (rw (c.put.ensures.rooms, c.take.ensures.rooms) inv.0),
       rw (c.put.ensures.rooms, c.take.ensures.rooms) inv.1,
       inv.2,
+      inv.3,
     )
 
 pub refill-requires-clause-within : goal.refill-requires-clause-within
@@ -133,7 +134,10 @@ invariant_of-self-2 g c =
     let there = subst (λ S. IfSome (target_of d) (λ m. is_shared (map.get S.cells m) ≡ true))
     (sym view) c.requires.target in
     let fresh = new_fresh slots c.in-Some.slot c.refill.result dead in
+    let long = ap length c.refer.ensures.slots ∙ (more_length c.refill.new.self.slots _
+    ∙ (ap length c.refill.ensures.filled ∙ length-set slots c.in-Some.slot _)) in
     rw (
+      long,
       c.refer.ensures.slots,
       c.refill.ensures.filled,
       c.target-target.ensures,
@@ -144,6 +148,7 @@ invariant_of-self-2 g c =
           c.refill.ensures.generation) (target_of d),
       rw (c.refer.ensures.rooms, c.refill.ensures.rooms) inv.1,
       made_referred d l w dead inv.2 targets fresh c.requires.unborrowed there,
+      inv.3,
     )
 
 pub returns-clause-ok : goal.returns-clause-ok
@@ -166,6 +171,7 @@ returns-clause-ok g c =
         fits = rw (← view)
             (new_reused inv.0 (kept_data [] l d) cell.0 cell.1 _ m (c.generation.result + 1) next);
         added = rw cell.1 (rw (
+          long,
           c.refer.ensures.slots,
           c.refill.ensures.filled,
           same,

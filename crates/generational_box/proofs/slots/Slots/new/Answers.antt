@@ -1,19 +1,25 @@
-use Rattle.std.proofs.Common.{arith, ap, ◌∙◌, ◌≡◌, length}
+use Rattle.std.proofs.Common.{arith, ap, ◌∙◌, ◌≡◌, length, refl}
 use Rattle.std.specs.FinSet as set
 use Rattle.std.specs.Ordering.{nat_cmp}
+use Rattle.generational_box.proofs.Common.{count_of}
 use Rattle.generational_box.proofs.states.States.{new_state, slotted_new}
 use Rattle.generational_box.proofs.slots.Slots.new.Goals as goal
 
 pub invariant_of-result : goal.invariant_of-result
 invariant_of-result g c =
     let none = ap (λ s. s.slots) c.new-2.ensures in (
-      slotted_new _ c.new-3.ensures.empty c.new.ensures none,
+      slotted_new _ c.new-3.ensures.empty (rw (c.new.ensures, none) refl) none,
       omega (arith, c.new-3.ensures.rooms),
       rw none (record { each = λ k. tt }),
+      rw c.new.ensures (omega arith),
     )
 
 pub returns-clause-state : goal.returns-clause-state
-returns-clause-state g c = rw c.new.ensures (new_state c.args.start _ (ap (λ s. s.slots) c.new-2.ensures))
+returns-clause-state g c =
+    let none = ap (λ s. s.slots) c.new-2.ensures in
+    let unused : (count_of c.new.result (length c.new-2.result.slots)).peak ≡ 0 =
+    rw (c.new.ensures, none) refl in
+    rw unused (new_state c.args.start _ none)
 
 pub returns-clause-spare : goal.returns-clause-spare
 returns-clause-spare g c =

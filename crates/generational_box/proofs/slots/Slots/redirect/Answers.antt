@@ -1,21 +1,23 @@
 -- A reference that names another shared value.
 use Rattle.std.proofs.Common.{ap, sym, ◌≡◌, ◌∙◌, ◌<◌, IfSome, Some, subst}
-use Rattle.std.proofs.Common.{slice_get, refl}
+use Rattle.std.proofs.Common.{length, slice_get, refl}
 use Rattle.std.proofs.lemmas.Option.{slice_get_within}
 use Rattle.std.specs.FinMap as map
 use Rattle.generational_box.specs.Entry.{referring, target_in}
-use Rattle.generational_box.proofs.Common.{AreReferred, State, cell_at, count_less}
+use Rattle.generational_box.proofs.Common.{AreReferred, State, cell_at, count_less, count_of}
 use Rattle.generational_box.proofs.Common.{is_shared, name_of_cell, refers_to}
 use Rattle.generational_box.proofs.Common.{Ref, change_entry, shared_target}
 use Rattle.generational_box.proofs.lists.Lists.{bit}
 use Rattle.generational_box.proofs.states.Changes.{state_is}
-use Rattle.generational_box.proofs.states.Counting.{less_slotted, less_state}
+use Rattle.generational_box.proofs.states.Counting.{less_length, less_slotted}
+use Rattle.generational_box.proofs.states.Counting.{less_state, more_length}
 use Rattle.generational_box.proofs.states.Counting.{more_slotted, more_state, referred_forgotten}
 use Rattle.generational_box.proofs.states.Counting.{slot_of, target_some}
 use Rattle.generational_box.proofs.states.States.{get_cells}
 use Rattle.generational_box.proofs.states.Turning.{has_reference, turn_counted, turn_few, turned}
 use Rattle.generational_box.proofs.states.Turning.{turned_referred, turned_slotted}
-use Rattle.generational_box.proofs.states.Turning.{reference_there, turned_state, turned_target}
+use Rattle.generational_box.proofs.states.Turning.{reference_there, turned_length}
+use Rattle.generational_box.proofs.states.Turning.{turned_state, turned_target}
 use Rattle.generational_box.proofs.slots.Slots.redirect.Goals as goal
 
 pub forget-requires : goal.forget-requires
@@ -40,7 +42,7 @@ redirect-requires-clause-within g c =
     let slots = c.self.inside.entries.slots in
     let view = state_is c.self.view_is in
     let start = c.self.inside.start in
-    let peak = c.self.inside.counts.peak in
+    let peak = (count_of c.self.inside.counts (length slots)).peak in
     let gone = shared_target slots (Some o) in
     let less = count_less slots gone in
     let same = less_state slots gone start peak ∙ view in
@@ -59,7 +61,7 @@ redirect-requires-clause-target g c =
     let slots = c.self.inside.entries.slots in
     let view = state_is c.self.view_is in
     let start = c.self.inside.start in
-    let peak = c.self.inside.counts.peak in
+    let peak = (count_of c.self.inside.counts (length slots)).peak in
     let gone = shared_target slots (Some o) in
     let less = count_less slots gone in
     let same = less_state slots gone start peak ∙ view in
@@ -78,7 +80,7 @@ redirect-requires-clause-refers g c =
     let slots = c.self.inside.entries.slots in
     let view = state_is c.self.view_is in
     let start = c.self.inside.start in
-    let peak = c.self.inside.counts.peak in
+    let peak = (count_of c.self.inside.counts (length slots)).peak in
     let gone = shared_target slots (Some o) in
     let less = count_less slots gone in
     let same = less_state slots gone start peak ∙ view in
@@ -97,7 +99,7 @@ refer-requires-clause-within g c =
     let slots = c.self.inside.entries.slots in
     let view = state_is c.self.view_is in
     let start = c.self.inside.start in
-    let peak = c.self.inside.counts.peak in
+    let peak = (count_of c.self.inside.counts (length slots)).peak in
     let gone = shared_target slots (Some o) in
     let less = count_less slots gone in
     let same = less_state slots gone start peak ∙ view in
@@ -121,7 +123,7 @@ refer-requires-clause-few g c =
     let slots = c.self.inside.entries.slots in
     let view = state_is c.self.view_is in
     let start = c.self.inside.start in
-    let peak = c.self.inside.counts.peak in
+    let peak = (count_of c.self.inside.counts (length slots)).peak in
     let gone = shared_target slots (Some o) in
     let less = count_less slots gone in
     let same = less_state slots gone start peak ∙ view in
@@ -152,7 +154,7 @@ invariant_of-self g c =
     let slots = c.self.inside.entries.slots in
     let view = state_is c.self.view_is in
     let start = c.self.inside.start in
-    let peak = c.self.inside.counts.peak in
+    let peak = (count_of c.self.inside.counts (length slots)).peak in
     let gone = shared_target slots (Some o) in
     let less = count_less slots gone in
     let same = less_state slots gone start peak ∙ view in
@@ -172,10 +174,14 @@ invariant_of-self g c =
     let r = turned_referred f m (subst (λ x. AreReferred (λ q. bit (refers_to q x)) less) (sym own)
     (subst (λ t. AreReferred (λ q. bit (refers_to q (cell_at slots n)))
     (count_less slots (shared_target slots t))) refers (referred_forgotten slots inv.2 n))) in
-    rw (c.refer.ensures.slots, now) (
+    let long : length c.refer.new.entries.slots ≡ length slots =
+    ap length c.refer.ensures.slots ∙ (more_length c.redirect.new.self.slots (Some m)
+    ∙ (ap length now ∙ (turned_length f m ∙ less_length slots gone))) in
+    rw (long, c.refer.ensures.slots, now) (
       more_slotted (turned_slotted (less_slotted inv.0 gone) f m) (Some m),
       rw (c.refer.ensures.rooms, c.redirect.ensures.rooms, c.forget.ensures.rooms) inv.1,
       turn_counted m r t'.0 t'.1 t'.2 t'.3,
+      inv.3,
     )
 
 pub returns : goal.returns
@@ -187,7 +193,7 @@ returns g c =
     let slots = c.self.inside.entries.slots in
     let view = state_is c.self.view_is in
     let start = c.self.inside.start in
-    let peak = c.self.inside.counts.peak in
+    let peak = (count_of c.self.inside.counts (length slots)).peak in
     let gone = shared_target slots (Some o) in
     let less = count_less slots gone in
     let same = less_state slots gone start peak ∙ view in
@@ -201,6 +207,9 @@ returns g c =
     let t' = slot_of (turned f m) m is_shared refl
     (turned_target f m (ap (λ S. is_shared (map.get S.cells m)) same ∙ c.requires.shared)) in
     let there = sym (ap (λ S. map.get S.cells n) same) ∙ reference_there f m in
-    rw there (rw (c.refer.ensures.slots, now) (more_state (turned f m) (Some m) start peak
+    let long : length c.refer.new.entries.slots ≡ length slots =
+    ap length c.refer.ensures.slots ∙ (more_length c.redirect.new.self.slots (Some m)
+    ∙ (ap length now ∙ (turned_length f m ∙ less_length slots gone))) in
+    rw there (rw (long, c.refer.ensures.slots, now) (more_state (turned f m) (Some m) start peak
     ∙ (turned_state f m start peak
     ∙ ap (λ (X : State _). record X { cells = map.insert X.cells n (Ref m f.created) }) same)))

@@ -1,15 +1,16 @@
 -- A cell that goes.
-use Rattle.std.proofs.Common.{arith, ap, sym, ◌≡◌, ◌∙◌, is_some, subst, true}
+use Rattle.std.proofs.Common.{arith, ap, sym, ◌≡◌, ◌∙◌, is_some, length, subst, true}
 use Rattle.std.specs.FinMap as map
 use Rattle.generational_box.specs.Entry.{has_no_borrow, target_in}
-use Rattle.generational_box.proofs.Common.{AreReferred, cell_at, count_less, name_of_cell}
+use Rattle.generational_box.proofs.Common.{AreReferred, cell_at, count_less, count_of, name_of_cell}
 use Rattle.generational_box.proofs.Common.{refers_to}
 use Rattle.generational_box.proofs.Common.{State, shared_target}
 use Rattle.generational_box.proofs.lists.Lists.{bit}
 use Rattle.generational_box.proofs.states.Changes.{cell_seen, found, found_within, heard_in}
 use Rattle.generational_box.proofs.states.Changes.{held_in, unborrowed_there}
 use Rattle.generational_box.proofs.states.Changes.{not_pooled, slotted_freed, slotted_retired}
-use Rattle.generational_box.proofs.states.Changes.{lowered, some_live, state_ended, state_is}
+use Rattle.generational_box.proofs.states.Changes.{ended_length, one_retired, some_live}
+use Rattle.generational_box.proofs.states.Changes.{state_ended, state_is}
 use Rattle.generational_box.proofs.states.Counting.{less_length, less_slotted, less_state}
 use Rattle.generational_box.proofs.states.Counting.{referred_ended, referred_forgotten, target_some}
 use Rattle.generational_box.proofs.states.States.{get_cells}
@@ -29,7 +30,7 @@ end-requires-clause-within g c =
     let n = name_of_cell c.args.name in
     let slots = c.self.inside.entries.slots in
     let o = shared_target slots (target_in (cell_at slots n)) in
-    let same = less_state slots o c.self.inside.start c.self.inside.counts.peak
+    let same = less_state slots o c.self.inside.start _
     ∙ state_is c.self.view_is in
     let f = found (count_less slots o) n (ap (λ S. is_some (map.get S.cells n)) same ∙ c.requires.there)
     in
@@ -44,7 +45,7 @@ end-requires-clause-alone g c is =
     let n = name_of_cell c.args.name in
     let slots = c.self.inside.entries.slots in
     let o = shared_target slots (target_in (cell_at slots n)) in
-    let same = less_state slots o c.self.inside.start c.self.inside.counts.peak
+    let same = less_state slots o c.self.inside.start _
     ∙ state_is c.self.view_is in
     let told = c.requires.target
     ∙ ap target_in (sym (cell_seen slots (state_is c.self.view_is) n)) in
@@ -60,11 +61,18 @@ retire_one-requires g c =
     let n = name_of_cell c.args.name in
     let slots = c.self.inside.entries.slots in
     let o = shared_target slots (target_in (cell_at slots n)) in
-    let same = less_state slots o c.self.inside.start c.self.inside.counts.peak
+    let same = less_state slots o c.self.inside.start _
     ∙ state_is c.self.view_is in
     let f = found (count_less slots o) n (ap (λ S. is_some (map.get S.cells n)) same ∙ c.requires.there)
     in
-    some_live (less_slotted inv.0 o) f
+    let told = c.requires.target
+    ∙ ap target_in (sym (cell_seen slots (state_is c.self.view_is) n)) in
+    let after = c.forget.ensures.slots
+    ∙ ap (λ t. count_less slots (shared_target slots t)) told in
+    let long : length c.end.new.self.slots ≡ length slots =
+    rw (c.end.ensures.slots, after) (ended_length f ∙ less_length slots o) in
+    let some = some_live (less_slotted inv.0 o) f in
+    omega (arith, some, long, c.len.ensures)
 
 pub put-requires-clause-room : goal.put-requires-clause-room
 put-requires-clause-room g c =
@@ -72,7 +80,7 @@ put-requires-clause-room g c =
     let n = name_of_cell c.args.name in
     let slots = c.self.inside.entries.slots in
     let o = shared_target slots (target_in (cell_at slots n)) in
-    let same = less_state slots o c.self.inside.start c.self.inside.counts.peak
+    let same = less_state slots o c.self.inside.start _
     ∙ state_is c.self.view_is in
     let f = found (count_less slots o) n (ap (λ S. is_some (map.get S.cells n)) same ∙ c.requires.there)
     in
@@ -85,7 +93,7 @@ put-requires-clause-absent g c =
     let n = name_of_cell c.args.name in
     let slots = c.self.inside.entries.slots in
     let o = shared_target slots (target_in (cell_at slots n)) in
-    let same = less_state slots o c.self.inside.start c.self.inside.counts.peak
+    let same = less_state slots o c.self.inside.start _
     ∙ state_is c.self.view_is in
     let f = found (count_less slots o) n (ap (λ S. is_some (map.get S.cells n)) same ∙ c.requires.there)
     in
@@ -97,7 +105,7 @@ invariant_of-self g c =
     let n = name_of_cell c.args.name in
     let slots = c.self.inside.entries.slots in
     let o = shared_target slots (target_in (cell_at slots n)) in
-    let same = less_state slots o c.self.inside.start c.self.inside.counts.peak
+    let same = less_state slots o c.self.inside.start _
     ∙ state_is c.self.view_is in
     let f = found (count_less slots o) n (ap (λ S. is_some (map.get S.cells n)) same ∙ c.requires.there)
     in
@@ -107,13 +115,16 @@ invariant_of-self g c =
     ∙ ap (λ t. count_less slots (shared_target slots t)) told in
     let own : cell_at (count_less slots o) n ≡ cell_at slots n =
     sym (get_cells (count_less slots o) n) ∙ (ap (λ S. map.get S.cells n)
-    (less_state slots o c.self.inside.start c.self.inside.counts.peak) ∙ get_cells slots n) in
+    (less_state slots o c.self.inside.start 0) ∙ get_cells slots n) in
     let r = subst (λ x. AreReferred (λ q. bit (refers_to q x)) (count_less slots o)) (sym own)
     (referred_forgotten slots inv.2 n) in
-    rw (c.end.ensures.slots, after, c.put.ensures.added, c.put.ensures.rooms) (
+    let long : length c.end.new.self.slots ≡ length slots =
+    rw (c.end.ensures.slots, after) (ended_length f ∙ less_length slots o) in
+    rw (long, c.end.ensures.slots, after, c.put.ensures.added, c.put.ensures.rooms) (
       slotted_freed (less_slotted inv.0 o) f (omega arith),
       rw (c.end.ensures.rooms, c.forget.ensures.rooms) inv.1,
       referred_ended f r,
+      inv.3,
     )
 
 pub invariant_of-self-else-name-lt18446744073709551615
@@ -123,7 +134,7 @@ invariant_of-self-else-name-lt18446744073709551615 g c =
     let n = name_of_cell c.args.name in
     let slots = c.self.inside.entries.slots in
     let o = shared_target slots (target_in (cell_at slots n)) in
-    let same = less_state slots o c.self.inside.start c.self.inside.counts.peak
+    let same = less_state slots o c.self.inside.start _
     ∙ state_is c.self.view_is in
     let f = found (count_less slots o) n (ap (λ S. is_some (map.get S.cells n)) same ∙ c.requires.there)
     in
@@ -133,16 +144,20 @@ invariant_of-self-else-name-lt18446744073709551615 g c =
     ∙ ap (λ t. count_less slots (shared_target slots t)) told in
     let own : cell_at (count_less slots o) n ≡ cell_at slots n =
     sym (get_cells (count_less slots o) n) ∙ (ap (λ S. map.get S.cells n)
-    (less_state slots o c.self.inside.start c.self.inside.counts.peak) ∙ get_cells slots n) in
+    (less_state slots o c.self.inside.start 0) ∙ get_cells slots n) in
     let r = subst (λ x. AreReferred (λ q. bit (refers_to q x)) (count_less slots o)) (sym own)
     (referred_forgotten slots inv.2 n) in
+    let long : length c.end.new.self.slots ≡ length slots =
+    rw (c.end.ensures.slots, after) (ended_length f ∙ less_length slots o) in
     let one = c.retire_one.ensures in
-    let counts : c.retire_one.new.self ≡ lowered inv.0 =
-    λ j. record { usable = one.usable j; peak = one.peak j } in
-    rw (c.end.ensures.slots, after, counts) (
+    let counts = one_retired c.self.inside.counts c.retire_one.new.self (length slots) one.retired
+    (one.before ∙ ap (λ made. (count_of c.self.inside.counts made).peak) (c.len.ensures ∙ long)) in
+    let some = some_live (less_slotted inv.0 o) f in
+    rw (long, counts, c.end.ensures.slots, after) (
       slotted_retired (less_slotted inv.0 o) f (omega arith),
       rw (c.end.ensures.rooms, c.forget.ensures.rooms) inv.1,
       referred_ended f r,
+      omega (arith, one.retired, some),
     )
 
 pub returns-then-name-lt18446744073709551615 : goal.returns-then-name-lt18446744073709551615
@@ -151,7 +166,7 @@ returns-then-name-lt18446744073709551615 g c =
     let n = name_of_cell c.args.name in
     let slots = c.self.inside.entries.slots in
     let o = shared_target slots (target_in (cell_at slots n)) in
-    let same = less_state slots o c.self.inside.start c.self.inside.counts.peak
+    let same = less_state slots o c.self.inside.start _
     ∙ state_is c.self.view_is in
     let f = found (count_less slots o) n (ap (λ S. is_some (map.get S.cells n)) same ∙ c.requires.there)
     in
@@ -159,8 +174,10 @@ returns-then-name-lt18446744073709551615 g c =
     ∙ ap target_in (sym (cell_seen slots (state_is c.self.view_is) n)) in
     let after = c.forget.ensures.slots
     ∙ ap (λ t. count_less slots (shared_target slots t)) told in
-    rw (c.end.ensures.slots, after)
-    (state_ended f c.self.inside.start c.self.inside.counts.peak
+    let long : length c.end.new.self.slots ≡ length slots =
+    rw (c.end.ensures.slots, after) (ended_length f ∙ less_length slots o) in
+    rw (long, c.end.ensures.slots, after)
+    (state_ended f c.self.inside.start _
     ∙ ap (λ (S : State _). record S { cells = map.remove S.cells n }) same)
 
 pub returns-else-name-lt18446744073709551615 : goal.returns-else-name-lt18446744073709551615
@@ -169,7 +186,7 @@ returns-else-name-lt18446744073709551615 g c =
     let n = name_of_cell c.args.name in
     let slots = c.self.inside.entries.slots in
     let o = shared_target slots (target_in (cell_at slots n)) in
-    let same = less_state slots o c.self.inside.start c.self.inside.counts.peak
+    let same = less_state slots o c.self.inside.start _
     ∙ state_is c.self.view_is in
     let f = found (count_less slots o) n (ap (λ S. is_some (map.get S.cells n)) same ∙ c.requires.there)
     in
@@ -177,6 +194,12 @@ returns-else-name-lt18446744073709551615 g c =
     ∙ ap target_in (sym (cell_seen slots (state_is c.self.view_is) n)) in
     let after = c.forget.ensures.slots
     ∙ ap (λ t. count_less slots (shared_target slots t)) told in
-    rw (c.end.ensures.slots, after, c.retire_one.ensures.peak)
-    (state_ended f c.self.inside.start c.self.inside.counts.peak
+    let long : length c.end.new.self.slots ≡ length slots =
+    rw (c.end.ensures.slots, after) (ended_length f ∙ less_length slots o) in
+    let one = c.retire_one.ensures in
+    let counts = one_retired c.self.inside.counts c.retire_one.new.self (length slots) one.retired
+    (one.before ∙ ap (λ made. (count_of c.self.inside.counts made).peak) (c.len.ensures ∙ long)) in
+    let most = ap (λ k. k.peak) counts in
+    rw (long, most, c.end.ensures.slots, after)
+    (state_ended f c.self.inside.start _
     ∙ ap (λ (S : State _). record S { cells = map.remove S.cells n }) same)

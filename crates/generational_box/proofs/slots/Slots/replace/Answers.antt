@@ -1,7 +1,7 @@
 use Rattle.std.proofs.Common.{◌≡◌, true, Some, []}
 use Rattle.generational_box.specs.Entry.{has_no_borrow}
 use Rattle.generational_box.proofs.Common.{name_of_cell, Here}
-use Rattle.generational_box.proofs.states.Changes.{heard_in, held_in, held_within}
+use Rattle.generational_box.proofs.states.Changes.{changed_length, heard_in, held_in, held_within}
 use Rattle.generational_box.proofs.states.Changes.{referred_changed, seen_in, slotted_changed}
 use Rattle.generational_box.proofs.states.Changes.{state_changed, state_is, unborrowed_there}
 use Rattle.generational_box.proofs.slots.Slots.replace.Goals as goal
@@ -24,9 +24,11 @@ invariant_of-self g c =
     (unborrowed_there _ c.requires) in
     let inv = c.self.invariant in
     let written = c.replace.ensures in (
-      rw written.after (slotted_changed inv.0 f (λ d. Here c.args.value [])),
+      rw (written.after, changed_length f (λ d. Here c.args.value []))
+          (slotted_changed inv.0 f (λ d. Here c.args.value [])),
       rw written.rooms inv.1,
       rw written.after (referred_changed f (λ d. Here c.args.value []) inv.2),
+      rw (written.after, changed_length f (λ d. Here c.args.value [])) inv.3,
     )
 
 pub returns-clause-value : goal.returns-clause-value
@@ -41,5 +43,5 @@ returns-clause-after g c =
     let view = state_is c.self.view_is in
     let n = name_of_cell c.args.name in
     let f = held_in view n (unborrowed_there _ c.requires) in
-    rw (c.replace.ensures.after, ← view)
-    (state_changed f (λ d. Here c.args.value []) c.self.inside.start c.self.inside.counts.peak)
+    rw (c.replace.ensures.after, changed_length f (λ d. Here c.args.value []), ← view)
+    (state_changed f (λ d. Here c.args.value []) _ _)
