@@ -44,7 +44,7 @@ count_of r made =
     record { usable = made - r.retired; peak = max r.before (made - r.retired) }
 
 -- What a store has of slots: the free ones, for how many there is room, the first generation of
--- each, how many are in use, and the slots themselves.
+-- each, how many are live or free, with the most that were, and the slots themselves.
 pub record Inventory (T : Type 0) : Type 0 where
   pub free : set.FinSet nat_cmp
   pub rooms : ℕ

@@ -49,7 +49,6 @@ use std::mem;
 ///
 /// What every call asks for stands together in `entries`; what is seldom asked of a cell stands
 /// apart, and so do borrows, in a table that stays as small as the most that stood at once.
-#[derive(Drop)]
 pub(crate) struct Entries<T> {
     alloc: Global,
     entries: Vec<StorageEntry<T>>,
@@ -74,6 +73,23 @@ impl<T> Model for Entries<T> {
         × (length e.details.items ≡ length e.entries.items)
         × AreRoomy e.room (length e.entries.items) (vec_capacity e.entries)
         (vec_capacity e.details) e.borrows.rooms };
+}
+
+// In which order the buffers go decides how much of their memory glibc's malloc keeps for the next
+// store, and how much it gives back to the system: `docs/PERFORMANCE.md` tells of it.
+impl<T: Drop> Drop for Entries<T> {
+    fn drop(self) {
+        let Entries {
+            alloc: _,
+            entries,
+            details,
+            borrows,
+            room: _,
+        } = self;
+        drop(entries);
+        drop(borrows);
+        drop(details);
+    }
 }
 
 impl<T> Entries<T> {

@@ -1,4 +1,4 @@
-//! The slots of a store, with the read that began last.
+//! The slots of a store, with the borrow that began last.
 
 ghost use Rattle.std.specs.Prelude.{◌≡◌, ◌≢◌, ◌+◌, ◌-◌, ◌<◌, ◌≤◌, ◌∷◌, ◌++◌, [], true, Some, Err};
 ghost use Rattle.std.specs.Prelude.{IsTrue};

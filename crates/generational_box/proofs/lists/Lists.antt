@@ -113,6 +113,58 @@ module _ {A : Type 0} where
       by true rest = omega arith
       by false rest = omega arith
 
+  -- fewer pass than there are, where one doesn't
+  pub fewer_within : (p : A → Bool) (xs : List A) (i : ℕ) (x : A)
+      → slice_get xs i ≡ Some x → p x ≡ false → how_many p xs < length xs
+  fewer_within p [] i x there fails = absurd (none-some x there)
+  fewer_within p (y ∷ xs) zero x there fails =
+      let same : y ≡ x = cc in let most = many_within p xs in rw (same, fails) (omega arith)
+  fewer_within p (y ∷ xs) (suc i) x there fails =
+      by (p y) (fewer_within p xs i x there fails)
+    where
+      by : (b : Bool) → how_many p xs < length xs → bit b + how_many p xs < suc (length xs)
+      by true rest = omega arith
+      by false rest = omega arith
+
+-- ---- elements that are written
+
+pub set_twice : {A : Type 0} (xs : List A) (i : ℕ) (x y : A)
+    → slice_set (slice_set xs i x) i y ≡ slice_set xs i y
+set_twice [] i x y = refl
+set_twice (z ∷ zs) zero x y = refl
+set_twice (z ∷ zs) (suc i) x y = ap (λ rest. z ∷ rest) (set_twice zs i x y)
+
+pub set_apart : {A : Type 0} (xs : List A) (i j : ℕ) (x y : A) → (i ≡ j → ⊥)
+    → slice_set (slice_set xs i x) j y ≡ slice_set (slice_set xs j y) i x
+set_apart [] i j x y other = refl
+set_apart (z ∷ zs) zero zero x y other = absurd (other refl)
+set_apart (z ∷ zs) zero (suc j) x y other = refl
+set_apart (z ∷ zs) (suc i) zero x y other = refl
+set_apart (z ∷ zs) (suc i) (suc j) x y other =
+    ap (λ rest. z ∷ rest) (set_apart zs i j x y (λ e. other (ap suc e)))
+
+pub get_left : {A : Type 0} (xs ys : List A) (i : ℕ) (e : A) → slice_get xs i ≡ Some e
+    → slice_get (xs ++ ys) i ≡ Some e
+get_left [] ys i e there = absurd (none-some e there)
+get_left (x ∷ xs) ys zero e there = there
+get_left (x ∷ xs) ys (suc i) e there = get_left xs ys i e there
+
+pub set_left : {A : Type 0} (xs ys : List A) (i : ℕ) (e y : A) → slice_get xs i ≡ Some e
+    → slice_set (xs ++ ys) i y ≡ slice_set xs i y ++ ys
+set_left [] ys i e y there = absurd (none-some e there)
+set_left (x ∷ xs) ys zero e y there = refl
+set_left (x ∷ xs) ys (suc i) e y there = ap (λ rest. x ∷ rest) (set_left xs ys i e y there)
+
+pub get_other : {A : Type 0} (xs : List A) (i j : ℕ) (x : A) → (i ≡ j → ⊥)
+    → slice_get (slice_set xs i x) j ≡ slice_get xs j
+get_other [] i j x other = refl
+get_other (z ∷ zs) zero zero x other = absurd (other refl)
+get_other (z ∷ zs) zero (suc j) x other = refl
+get_other (z ∷ zs) (suc i) zero x other = refl
+get_other (z ∷ zs) (suc i) (suc j) x other = get_other zs i j x (λ e. other (ap suc e))
+
+-- ---- how many keys a map has
+
 len_step : {X : Type 0} (m : map.FinMap nat_cmp X) (i n : ℕ) (b : Bool) → map.contains_key m i ≡ b
     → map.len (map.remove m i) ≡ n → map.len m ≡ bit b + n
 len_step m i n false here rest =

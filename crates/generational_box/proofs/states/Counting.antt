@@ -31,7 +31,7 @@ use Rattle.generational_box.proofs.Common.{refers, refers_to, shared_target, sta
 use Rattle.generational_box.proofs.lists.Lists.{IsWritten, bit, many_some, passes, set_written}
 use Rattle.generational_box.proofs.states.Changes.{IsFound, emptied, ended}
 use Rattle.generational_box.proofs.states.Changes.{found, referred, slotted_still, state_same}
-use Rattle.generational_box.proofs.states.Entries.{less_all}
+use Rattle.generational_box.proofs.lists.Lists.{fewer_within}
 use Rattle.generational_box.proofs.states.References.{named_count}
 use Rattle.generational_box.proofs.states.States.{get_cells}
 
@@ -207,7 +207,7 @@ module _ {T : Type 0} where
           at_entry =
               let q : Name = record { slot = m.slot; generation = target_slot.0.generation } in
               let own = shared_refers q (cell_of target_slot.0.kept) target_slot.3 in
-              let less = less_all (refers q) after m.slot target_slot.0 target_after own in
+              let less = fewer_within (refers q) after m.slot target_slot.0 target_after own in
               let count = rw target_slot.1 at (r.each m.slot) in
               let before = count target_slot.3 in
               let c = count_added q in omega arith

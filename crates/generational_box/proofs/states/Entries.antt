@@ -1,52 +1,38 @@
--- The slots of a store with the table of their borrows, and what a slot that is written leaves of
--- the others.
-use Rattle.std.proofs.Common.{◌≡◌, ◌≢◌, ℕ, zero, suc, ◌+◌, ◌<◌, ◌≤◌, Bool, true, false, cond}
-use Rattle.std.proofs.Common.{List, [], ◌∷◌, ◌++◌, length, Option, None, Some, refl, sym, ap}
-use Rattle.std.proofs.Common.{◌∙◌, arith, IfSome, OnOk, OnErr, Result, Ok, Err, is_none, is_some}
-use Rattle.std.proofs.Common.{subst, inl, inr, ◌⊎◌, slice_get, slice_set, nat_eq}
-use Rattle.std.specs.Ordering.{nat_cmp}
-use Rattle.std.specs.Cmp.{nat_cmp_total}
+-- The slots of a store with the table of their borrows, as their methods find them.
+use Rattle.std.proofs.Common.{◌≡◌, ◌≢◌, ℕ, zero, suc, ◌+◌, ◌<◌, ◌≤◌, Bool, true, false, cond, List}
+use Rattle.std.proofs.Common.{[], ◌∷◌, ◌++◌, length, Option, None, Some, refl, sym, ap, ◌∙◌, arith}
+use Rattle.std.proofs.Common.{IfSome, OnOk, OnErr, Result, Ok, Err, is_none, is_some, subst, inl}
+use Rattle.std.proofs.Common.{inr, ◌⊎◌, slice_get, slice_set, nat_eq}
 use Rattle.std.proofs.Math.ListN.{get_or, get_or-eq_default}
-use Rattle.std.proofs.lemmas.Bool.{true≢false, false≢true, eq-eqb, ne_eqb}
-use Rattle.std.proofs.lemmas.Bool.{eqb-true}
-use Rattle.std.proofs.lemmas.Option.{none-some, slice_get_cases, slice_get_read, slice_get_within}
-use Rattle.std.proofs.lemmas.List.{get_or-set_same, length-set}
+use Rattle.std.proofs.lemmas.Bool.{false≢true}
+use Rattle.std.proofs.lemmas.Option.{slice_get_cases, slice_get_read, slice_get_within}
+use Rattle.std.specs.Cmp.{nat_eq_equiv}
 use Rattle.generational_core.specs.declared.borrow.Borrow.{Borrow}
-use Rattle.generational_box.specs.declared.entry.EntryDetails.{EntryDetails}
-use Rattle.generational_box.specs.declared.entry.StorageEntry.{StorageEntry}
-use Rattle.generational_box.specs.declared.entry.StorageEntryData.{StorageEntryData}
 use Rattle.generational_core.specs.Borrowing.{leads_to, read_refusal, write_refusal}
 use Rattle.generational_core.specs.Cells.Content.{Here, Lent}
-use Rattle.generational_box.specs.Entry.{Entry, with_reader, without_reader_in, content_in}
-use Rattle.generational_box.specs.Entry.{has_no_borrow, is_lent, cell_of, kind_in, target_in}
-use Rattle.generational_box.specs.Entry.{is_unborrowed_value}
 use Rattle.generational_core.specs.Answers.{value_of}
 use Rattle.generational_core.specs.Machine.{has_reader, has_writer}
-use Rattle.generational_box.specs.Entries.{EntryList, AreRoomy, IsUnborrowed, kept_data}
-use Rattle.generational_box.specs.Entries.{is_unborrowed_data, kind_of, lead_of, target_of}
-use Rattle.generational_box.specs.Table.{Releases}
-use Rattle.generational_box.specs.Entries.{index_in, index_of, has_index, entry_of, writer_in}
-use Rattle.generational_box.specs.Table.{no_index}
-use Rattle.generational_box.specs.Entries.{AreIndexed, IsListed, IsListedIn, unread_data}
-use Rattle.generational_box.specs.Table.{IsUsed}
-use Rattle.generational_box.specs.Entry.Kept.{Empty, Live, Refers}
-use Rattle.generational_box.specs.declared.entry.Kind.{Kind}
-use Rattle.generational_box.specs.declared.entry.Kind.TheVariants as kind
 use Rattle.generational_core.specs.Names.{Name}
 use Rattle.generational_core.specs.declared.error.Location.{Location}
 use Rattle.generational_core.specs.Cells.{Content, Cell, location_of}
-use Rattle.std.specs.Cmp.{nat_eq_equiv}
+use Rattle.generational_box.specs.declared.entry.EntryDetails.{EntryDetails}
+use Rattle.generational_box.specs.declared.entry.StorageEntry.{StorageEntry}
+use Rattle.generational_box.specs.declared.entry.StorageEntryData.{StorageEntryData}
+use Rattle.generational_box.specs.Entry.{Entry, with_reader, without_reader_in, content_in}
+use Rattle.generational_box.specs.Entry.{has_no_borrow, is_lent, cell_of, kind_in, target_in}
+use Rattle.generational_box.specs.Entry.{is_unborrowed_value}
+use Rattle.generational_box.specs.Entries.{EntryList, AreRoomy, IsUnborrowed, kept_data}
+use Rattle.generational_box.specs.Entries.{is_unborrowed_data, kind_of, lead_of, target_of}
+use Rattle.generational_box.specs.Entries.{index_in, index_of, entry_of, writer_in, AreIndexed}
+use Rattle.generational_box.specs.Entries.{IsListed}
+use Rattle.generational_box.specs.Table.{Releases, no_index, IsUsed, Table, list_at, IsClosed}
+use Rattle.generational_box.specs.Entry.Kept.{Empty, Live, Refers}
+use Rattle.generational_box.specs.declared.entry.Kind.{Kind}
+use Rattle.generational_box.specs.Slotted.{cell_in, change_entry, change_entry_if}
+use Rattle.generational_box.specs.declared.entry.Kind.TheVariants as kind
 unfoldable use Rattle.generational_box.specs.Entries.{entries_of}
-use Rattle.generational_box.specs.Table.{Table, list_at, IsVacant, IsClosed, IsJoined}
-use Rattle.generational_box.specs.Slotted.{how_many, cell_in, change_entry, change_entry_if}
-use Rattle.generational_box.proofs.lists.Lists.{IsWritten, set-own, set_written, bit, passes}
-use Rattle.generational_box.proofs.lists.TableChanges.{Changes, Opens, closed, closed_count}
-use Rattle.generational_box.proofs.lists.TableChanges.{list_changed, none_some, opened}
-use Rattle.generational_box.proofs.lists.TableChanges.{opened_count, opened_few, opened_list}
-use Rattle.generational_box.proofs.lists.TableChanges.{opened_used, used_still}
-use Rattle.generational_box.proofs.lists.Tables.{removed_none}
-use Rattle.std.specs.FinSet as set
 use Rattle.generational_box.specs.declared.entry.StorageEntryData.TheVariants as slot
+use Rattle.generational_box.proofs.lists.Lists.{set-own}
 
 module _ {T : Type 0} where
   -- ---- the slots as contracts see them
@@ -123,59 +109,7 @@ module _ {T : Type 0} where
   entries_push lists (x ∷ es) [] e l same = absurd (omega (arith, same))
   entries_push lists (x ∷ es) (y ∷ ls) e l same =
       ap (λ rest. entry_of lists x y ∷ rest) (entries_push lists es ls e l (omega (arith, same)))
-
   -- ---- what holds of the slots and the table
-
-  module _ {es es' : List (StorageEntry T)} {i : ℕ} {e : StorageEntry T}
-      (w : IsWritten es es' i e) where
-    -- what holds of the slot that was written and of the others holds of all
-    over : (P : ℕ → Option (StorageEntry T) → Type 0) → P i (Some e)
-        → ((k : ℕ) → k ≢ i → P k (slice_get es k)) → (k : ℕ) → P k (slice_get es' k)
-    over P here others k = subst (P k) (sym (w.at k)) (at (nat_eq k i) refl)
-      where
-        at : (b : Bool) → nat_eq k i ≡ b → P k (cond b (Some e) (slice_get es k))
-        at true same = subst (λ n. P n (Some e)) (sym (eqb-true k i same)) here
-        at false other = others k (λ z. false≢true (sym other ∙ eq-eqb k i z))
-
-    pub indexed : {t t' : Table} → AreIndexed t es → IsListed e.content
-        → ((k : ℕ) → k ≢ i → index_in (slice_get es k) ≢ no_index
-        → IsUsed t' (index_in (slice_get es k)))
-        → (index_of e.content ≢ no_index → IsUsed t' (index_of e.content))
-        → (index_of e.content ≢ no_index → (k : ℕ) → k ≢ i
-        → index_in (slice_get es k) ≢ index_of e.content)
-        → set.len t'.free + how_many has_index es' ≡ length t'.lists → length t'.lists ≤ length es'
-        + 1
-        → AreIndexed t' es'
-    indexed {t} {t'} s fits others here alone counted few =
-        record {
-          listed = over (λ k o. IsListedIn o) fits (λ k other. s.listed k);
-          used = over (λ k o. index_in o ≢ no_index → IsUsed t' (index_in o)) here others;
-          apart = λ j k. over (λ j o. index_in o ≢ no_index → index_in o ≡ index_in (slice_get es'
-              k)
-              → j ≡ k) (written k) (rest k) j;
-          counted = counted;
-          few = few;
-        }
-      where
-        written : (k : ℕ) → index_of e.content ≢ no_index
-            → index_of e.content ≡ index_in (slice_get es' k) → i ≡ k
-        written k some = over (λ k o. index_of e.content ≡ index_in o → i ≡ k) (λ same. refl)
-            (λ k other same. absurd (alone some k other (sym same))) k
-
-        rest : (k j : ℕ) → j ≢ i → index_in (slice_get es j) ≢ no_index
-            → index_in (slice_get es j) ≡ index_in (slice_get es' k) → j ≡ k
-        rest k j other some =
-            over (λ k o. index_in (slice_get es j) ≡ index_in o → j ≡ k)
-            (λ same. absurd (alone (λ z. some (same ∙ z)) j other same))
-            (λ k at same. s.apart j k some same) k
-
--- a slot with an index has listed readers, if it has readers
-has_listed : {T : Type 0} (d : StorageEntryData T) → index_of d ≢ no_index → IsListed d
-has_listed slot.Empty some = tt
-has_listed (slot.Data kd v) some = tt
-has_listed (slot.Read kd x v) some = some
-has_listed (slot.Lent kd x) some = tt
-has_listed (slot.Reference m g) some = tt
 
 -- ---- a store's slots, as their methods find them
 
@@ -199,24 +133,6 @@ kept view v =
       made = v.1;
       small = let few = v.2.filled in let most = v.2.indexes in omega arith;
     }
-
-at_most_one : (b : Bool) → bit b ≤ 1
-at_most_one true = omega arith
-at_most_one false = omega arith
-
-most_all : {A : Type 0} (p : A → Bool) (xs : List A) → how_many p xs ≤ length xs
-most_all p [] = omega arith
-most_all p (x ∷ xs) =
-    let rest = most_all p xs in let one = at_most_one (p x) in omega arith
-
-pub less_all : {A : Type 0} (p : A → Bool) (xs : List A) (i : ℕ) (x : A)
-    → slice_get xs i ≡ Some x → p x ≡ false → how_many p xs < length xs
-less_all p [] i x there fails = absurd (none-some x there)
-less_all p (y ∷ xs) zero x there fails =
-    let same : y ≡ x = cc in let most = most_all p xs in rw (same, fails) (omega arith)
-less_all p (y ∷ xs) (suc i) x there fails =
-    let less = less_all p xs i x there fails in
-    let one = at_most_one (p y) in omega arith
 
 pub ok_then : {A E : Type 0} (r : Result A E) {P Q : Type 0} → (P → Q) → OnOk r P → OnOk r Q
 ok_then (Ok a) f p = f p
@@ -567,270 +483,6 @@ module _ {T : Type 0} {t : Table} {es : List (StorageEntry T)} {ls : List EntryD
         at (slot.Lent kd x) is h = absurd (none kd
             (Lent (writer_in (list_at t.lists x) location.0.created_at)) location.0.created_at h)
 
-    -- ---- a slot that changes with the table
-
-    -- the slots with the one at the index written, as contracts see them
-    pub view_changed : (lists : List (List Borrow)) (e' : StorageEntry T) (f : Entry T → Entry T)
-        → SameLists t.lists lists es i
-        → ((l : EntryDetails) → entry_of lists e' l ≡ f (entry_of t.lists e l))
-        → entries_of lists (slice_set es i e') ls ≡ change_entry now.slots i f
-    view_changed lists e' f same becomes =
-        let within = slice_get_within es i e there in let long = s.made in
-        ap (entries_of lists (slice_set es i e')) (sym (set-own ls i location.0 location.1))
-        ∙ (entries_set t.lists lists es ls i e' location.0 within (omega arith) same
-        ∙ (ap (slice_set (entries_of t.lists es ls) i) (becomes location.0)
-        ∙ (ap (λ slots. slice_set slots i (f (entry_of t.lists e location.0))) s.slots
-        ∙ ap (change_entry_if now.slots i f) (sym slot_seen))))
-
-    -- the table changes at an index that no other slot has
-    module _ {t' : Table} {x : ℕ} (c : Changes t t' x) (below : x < no_index)
-        (alone : (k : ℕ) → k ≢ i → index_in (slice_get es k) ≢ x) where
-      pub same_lists : SameLists t.lists t'.lists es i
-      same_lists k other = c.lists (index_in (slice_get es k)) (alone k other)
-
-      pub step_indexed : (e' : StorageEntry T) → IsListed e'.content
-          → (index_of e'.content ≢ no_index → (index_of e'.content ≡ x) × IsUsed t' x)
-          → set.len t'.free + bit (has_index e') + length t.lists
-          ≡ set.len t.free + bit (has_index e) + length t'.lists
-          → length t'.lists ≤ length es + 1 → AreIndexed t' (slice_set es i e')
-      step_indexed e' fits here counts few =
-          let w = set_written es i e' e there in
-          let count = rw there at (w.count has_index) in
-          let counted = s.indexed.counted in
-          let long = length-set es i e' in
-          indexed w s.indexed fits
-          (λ k other some. used_still c _ (alone k other) (s.indexed.used k some))
-          (λ some. subst (IsUsed t') (sym (here some).0) (here some).1)
-          (λ some k other same. alone k other (same ∙ (here some).0))
-          (omega arith) (omega arith)
-
-    -- an index that is used by no slot
-    vacant_alone : (x : ℕ) → (IsUsed t x → ⊥) → x ≢ no_index
-        → (k : ℕ) → k ≢ i → index_in (slice_get es k) ≢ x
-    vacant_alone x unused some k other same =
-        unused (subst (IsUsed t) same (s.indexed.used k (λ z. some (sym same ∙ z))))
-
-    pub used_alone : (x : ℕ) → index_of e.content ≡ x → x ≢ no_index
-        → (k : ℕ) → k ≢ i → index_in (slice_get es k) ≢ x
-    used_alone x is some k other same =
-        let own : index_in (slice_get es i) ≡ x = rw there is in
-        other (s.indexed.apart k i (λ z. some (sym same ∙ z)) (same ∙ sym own))
-
-    module _ (none : index_of e.content ≡ no_index) where
-      has_none : has_index e ≡ false
-      has_none = rw none refl
-
-      fewer : how_many has_index es < length es
-      fewer = less_all has_index es i e there has_none
-
-      pub small_left : length t.lists < no_index
-      small_left = let few = s.indexed.few in let small = s.small in omega arith
-
-      pub room_left : length es ≤ t.rooms → t.free ≡ set.empty → length t.lists ≤ t.rooms
-      room_left roomy empty =
-          let full : set.len t.free ≡ 0 = ap set.len empty ∙ set.len-empty nat_cmp in
-          let counted = s.indexed.counted in let less = fewer in omega arith
-
-      -- the slot gets an index
-      module _ {t' : Table} {x : ℕ} {list : List Borrow} (o : Opens t t' x list) where
-        pub open_below : x < no_index
-        open_below = at o.vacant
-          where
-            at : IsVacant t x → x < no_index
-            at (inl v) = let low = v.1 in let small = small_left in omega arith
-            at (inr v) = let end = v.1 in let small = small_left in omega arith
-
-        open_alone : (k : ℕ) → k ≢ i → index_in (slice_get es k) ≢ x
-        open_alone = vacant_alone x (λ u. at u o.vacant) (let below = open_below in λ z. omega
-            (arith, z))
-          where
-            at : IsUsed t x → IsVacant t x → ⊥
-            at u (inl v) = true≢false (sym v.0 ∙ u.used)
-            at u (inr v) = let low = u.within in omega (arith, v.1)
-
-        pub open_lists : SameLists t.lists t'.lists es i
-        open_lists = same_lists (opened o) open_below open_alone
-
-        pub open_indexed : (e' : StorageEntry T) → index_of e'.content ≡ x
-            → AreIndexed t' (slice_set es i e')
-        open_indexed e' at =
-            let below = open_below in
-            let has : has_index e' ≡ true = rw (at, ne_eqb x no_index (λ z. omega (arith, z))) refl
-            in
-            let counts = opened_count o in let few = s.indexed.few in
-            let counted = s.indexed.counted in let less = fewer in
-            step_indexed (opened o) open_below open_alone e'
-            (has_listed e'.content (λ z. omega (arith, sym at ∙ z, below)))
-            (λ some. (at, opened_used o))
-            (rw (has, has_none) (omega arith))
-            (opened_few o (length es + 1) few (λ z. omega arith))
-
-    -- the list at index 0 is the slot's, and stands elsewhere with a borrow more
-    module _ (is : index_of e.content ≡ 0) where
-      zero_used : IsUsed t 0
-      zero_used = subst (IsUsed t) is (used_here (λ z. omega (arith, is, z)))
-
-      join_few : length t.lists ≤ length es + set.len t.free
-      join_few = let most = most_all has_index es in let counted = s.indexed.counted in omega arith
-
-      pub join_room : length es ≤ t.rooms → t.free ≡ set.empty → length t.lists ≤ t.rooms
-      join_room roomy empty =
-          let full : set.len t.free ≡ 0 = ap set.len empty ∙ set.len-empty nat_cmp in
-          let few = join_few in omega arith
-
-      module _ {t' : Table} {y : ℕ} {list : List Borrow} (j : IsJoined t t' y list)
-          (some : list ≢ []) where
-        -- the table before index 0 is given back
-        abbrev before : Table
-        before = record { lists = t'.lists; free = set.remove t.free y; rooms = t'.rooms }
-
-        opens : Opens t before y list
-        opens = record { vacant = j.vacant; some = some; lists = j.lists; free = refl }
-
-        closes : IsClosed before t' 0
-        closes = record {
-          others = λ q other. refl;
-          same = refl;
-          rooms = refl;
-          freed = j.free;
-        }
-
-        zero_kept : set.contains before.free 0 ≡ false
-        zero_kept = removed_none t.free y 0 zero_used.used
-
-        pub join_below : y < no_index
-        join_below = at j.vacant
-          where
-            at : IsVacant t y → y < no_index
-            at (inl v) =
-                let low = v.1 in let few = s.indexed.few in let small = s.small in omega arith
-            at (inr v) =
-                let end = v.1 in
-                let full : set.len t.free ≡ 0 = ap set.len v.0 ∙ set.len-empty nat_cmp in
-                let few = join_few in let small = s.small in omega arith
-
-        join_alone : (k : ℕ) → k ≢ i → index_in (slice_get es k) ≢ y
-        join_alone = vacant_alone y (λ u. unused u j.vacant)
-            (let below = join_below in λ z. omega (arith, z))
-          where
-            unused : IsUsed t y → IsVacant t y → ⊥
-            unused u (inl v) = true≢false (sym v.0 ∙ u.used)
-            unused u (inr v) = let low = u.within in omega (arith, v.1)
-
-        zero_alone : (k : ℕ) → k ≢ i → index_in (slice_get es k) ≢ 0
-        zero_alone = used_alone 0 is (λ z. omega (arith, z))
-
-        pub join_list : list_at t'.lists y ≡ list
-        join_list = opened_list opens
-
-        pub join_lists : SameLists t.lists t'.lists es i
-        join_lists k other = (opened opens).lists (index_in (slice_get es k)) (join_alone k other)
-
-        pub join_indexed : (e' : StorageEntry T) → index_of e'.content ≡ y
-            → AreIndexed t' (slice_set es i e')
-        join_indexed e' at =
-            let w = set_written es i e' e there in
-            let above = j.above in let below = join_below in
-            let has : has_index e ≡ true = rw is refl in
-            let has' : has_index e' ≡ true =
-            rw (at, ne_eqb y no_index (λ z. omega (arith, z))) refl in
-            let count = rw (there, has, has') at (w.count has_index) in
-            let counted = s.indexed.counted in let opens_one = opened_count opens in
-            let closes_one = closed_count closes zero_kept in
-            let long = length-set es i e' in let many = join_few in
-            let few = opened_few opens (length es + 1) s.indexed.few
-            (λ none. omega (arith, none)) in
-            indexed w s.indexed (has_listed e'.content (λ z. omega (arith, sym at ∙ z, below)))
-            (λ k other some. used_still (closed closes) _ (zero_alone k other)
-            (used_still (opened opens) _ (join_alone k other) (s.indexed.used k some)))
-            (λ z. subst (IsUsed t') (sym at) (used_still (closed closes) y
-            (λ z. omega (arith, z)) (opened_used opens)))
-            (λ z k other same. join_alone k other (same ∙ at))
-            (omega arith) (omega arith)
-
-    module _ (x : ℕ) (is : index_of e.content ≡ x) (some : x ≢ no_index) where
-      pub used_x : IsUsed t x
-      used_x = subst (IsUsed t) is (used_here (λ z. some (sym is ∙ z)))
-
-      used_below : x < no_index
-      used_below = let low = used_x.within in let few = s.indexed.few in
-          let small = s.small in omega arith
-
-      has_some : has_index e ≡ true
-      has_some = rw (is, ne_eqb x no_index some) refl
-
-      -- another list stands at the slot's index
-      module _ {t' : Table} (left : List Borrow) (b : left ≢ [])
-          (now' : t' ≡ record t { lists = slice_set t.lists x left }) where
-        pub list_lists : SameLists t.lists t'.lists es i
-        list_lists =
-            same_lists (list_changed t t' x left now') used_below (used_alone x is some)
-
-        pub list_indexed : (e' : StorageEntry T) → index_of e'.content ≡ x
-            → AreIndexed t' (slice_set es i e')
-        list_indexed e' at =
-            let has : has_index e' ≡ true = rw (at, ne_eqb x no_index some) refl in
-            let long : length t'.lists ≡ length t.lists = rw now' (length-set t.lists x left) in
-            let free : set.len t'.free ≡ set.len t.free = rw now' refl in
-            let few = s.indexed.few in
-            step_indexed (list_changed t t' x left now') used_below (used_alone x is some) e'
-            (has_listed e'.content (λ z. some (sym at ∙ z)))
-            (λ z. (at, list_used)) (rw (has, has_some) (omega arith)) (omega arith)
-          where
-            list_used : IsUsed t' x
-            list_used = rw now' (record {
-              within = let long = length-set t.lists x left in let low = used_x.within in omega
-                  arith;
-              used = used_x.used;
-              some = λ z. b (sym (get_or-set_same t.lists x left [] used_x.within) ∙ z);
-            })
-
-      -- the slot's index is given back
-      module _ {t' : Table} (c : IsClosed t t' x) where
-        pub close_lists : SameLists t.lists t'.lists es i
-        close_lists = same_lists (closed c) used_below (used_alone x is some)
-
-        pub close_indexed : (e' : StorageEntry T) → IsListed e'.content
-            → index_of e'.content ≡ no_index → AreIndexed t' (slice_set es i e')
-        close_indexed e' fits none =
-            let has : has_index e' ≡ false = rw none refl in
-            let free = closed_count c used_x.used in let long = c.same in
-            let few = s.indexed.few in
-            step_indexed (closed c) used_below (used_alone x is some) e' fits
-            (λ z. absurd (z none)) (rw (has, has_some) (omega arith)) (omega arith)
-
-    -- a reader is taken away from a value
-    module _ (kd : Kind) (x : ℕ) (v : T) (is : e.content ≡ slot.Read kd x v) where
-      own : index_of e.content ≡ x
-      own = rw is refl
-
-      some : x ≢ no_index
-      some = has_place kd x v is
-
-      pub release_lists : (t' : Table) (y : ℕ) (left : List Borrow) → Releases t t' x y left
-          → SameLists t.lists t'.lists es i
-      release_lists t' y [] r = close_lists x own some r.1
-      release_lists t' y (b ∷ bs) r = list_lists x own some (b ∷ bs) (λ z. none_some b bs z) r.1
-
-      pub release_indexed : (t' : Table) (y : ℕ) (left : List Borrow) → Releases t t' x y left
-          → (g : ℕ) → AreIndexed t' (slice_set es i
-          (record { generation = g; content = unread_data (slot.Read kd y v) }))
-      release_indexed t' y [] r g =
-          rw (eq-eqb y no_index r.0) (close_indexed x own some r.1 _ tt refl)
-      release_indexed t' y (b ∷ bs) r g =
-          rw (ne_eqb y no_index (λ z. some (sym r.0 ∙ z)))
-          (list_indexed x own some (b ∷ bs) (λ z. none_some b bs z) r.1 _ r.0)
-
-      -- what is left of the cell
-      pub release_kept : (t' : Table) (y : ℕ) (left : List Borrow) → Releases t t' x y left
-          → (l : Location) → kept_data (list_at t'.lists (index_of (unread_data (slot.Read kd y v))))
-          l (unread_data (slot.Read kd y v)) ≡ Live kd (Here v left) l
-      release_kept t' y [] r l = rw (eq-eqb y no_index r.0) refl
-      release_kept t' y (b ∷ bs) r l =
-          rw (ne_eqb y no_index (λ z. some (sym r.0 ∙ z)), r.0, r.1)
-          (ap (λ left. Live kd (Here v left) l)
-          (get_or-set_same t.lists x (b ∷ bs) [] (used_x x own some).within))
-
 module _ {T : Type 0} where
   -- a cell has the location where it was made
   pub created_there : (bs : List Borrow) (l : Location) (d : StorageEntryData T)
@@ -925,64 +577,6 @@ pub room_for_one : {T : Type 0} {t : Table} {es : List (StorageEntry T)} (ls : L
 room_for_one ls {now} {room} view v left =
     let same = many (kept view v) in
     let rooms : room ≡ now.rooms = ap (λ (x : EntryList _). x.rooms) view in omega arith
-
--- ---- slots without borrows
-
-module _ {T : Type 0} where
-  pub unborrowed_none : (d : StorageEntryData T) → IsUnborrowed d → index_of d ≡ no_index
-  unborrowed_none (slot.Data kd v) free = refl
-  unborrowed_none (slot.Read kd x v) free = absurd free
-  unborrowed_none (slot.Reference m g) free = refl
-  unborrowed_none slot.Empty free = absurd free
-  unborrowed_none (slot.Lent kd x) free = absurd free
-
-  pub unborrowed_listed : (d : StorageEntryData T) → IsUnborrowed d → IsListed d
-  unborrowed_listed (slot.Data kd v) free = tt
-  unborrowed_listed (slot.Read kd x v) free = absurd free
-  unborrowed_listed (slot.Reference m g) free = tt
-  unborrowed_listed slot.Empty free = tt
-  unborrowed_listed (slot.Lent kd x) free = tt
-
-pub indexed_none : {T : Type 0} {t : Table} {es : List (StorageEntry T)} → es ≡ []
-    → length t.lists ≡ 1 → t.free ≡ set.insert set.empty 0 → AreIndexed t es
-indexed_none none one free = rw none (record {
-  used = λ k some. absurd (some refl);
-  apart = λ j k some same. absurd (some refl);
-  listed = λ k. tt;
-  counted = rw (
-    free,
-    one,
-    set.len-insert nat_cmp_total set.empty 0,
-    set.contains-empty nat_cmp 0,
-    set.len-empty nat_cmp,
-  ) refl;
-  few = omega arith;
-})
-
-module _ {T : Type 0} where
-  no_index_test : (o : Option (StorageEntry T)) → index_in o ≡ no_index
-      → passes has_index o ≡ false
-  no_index_test None none = refl
-  no_index_test (Some e) none = rw (eq-eqb (index_of e.content) no_index none) refl
-
-  pub set_no_shorter : (es : List (StorageEntry T)) (i : ℕ) (e : StorageEntry T)
-      → length es ≤ length (slice_set es i e)
-  set_no_shorter es i e = let same = length-set es i e in omega arith
-
-  -- a slot without borrows that is written where none stood
-  pub indexed_free : {t : Table} {es es' : List (StorageEntry T)} {i : ℕ} {e : StorageEntry T}
-      → IsWritten es es' i e → AreIndexed t es → IsListed e.content → length es ≤ length es'
-      → index_in (slice_get es i) ≡ no_index → index_of e.content ≡ no_index
-      → AreIndexed t es'
-  indexed_free {t} {es} {es'} {i} {e} w s fits longer before none =
-      indexed w s fits (λ k other. s.used k) (λ some. absurd (some none))
-      (λ some. absurd (some none)) counted (let few = s.few in omega arith)
-    where
-      counted : set.len t.free + how_many has_index es' ≡ length t.lists
-      counted =
-          let count = rw (no_index_test (slice_get es i) before, no_index_test (Some e) none)
-          at (w.count has_index) in
-          let all = s.counted in omega (arith, count)
 
 module _ {T : Type 0} {t : Table} {es : List (StorageEntry T)} {ls : List EntryDetails}
     {now : EntryList T} (s : IsKept t es ls now) where

@@ -1,54 +1,45 @@
--- The slots with the read that began last.
+-- The slots with the borrow that began last.
 use Rattle.std.proofs.Common.{◌≡◌, ℕ, Bool, true, false, List, [], ◌∷◌, Option, None, Some, refl}
-use Rattle.std.proofs.Common.{sym, ap, ◌∙◌, slice_get, nat_eq, zero, suc, slice_set, IfSome}
-use Rattle.std.proofs.Common.{cond, if◌then◌else◌}
+use Rattle.std.proofs.Common.{sym, ap, ◌∙◌, slice_get, nat_eq, slice_set, IfSome, cond}
+use Rattle.std.proofs.Common.{if◌then◌else◌, is_some, ◌++◌, ◌||◌, ◌<◌, length, subst, Err}
 use Rattle.std.proofs.lemmas.Bool.{eqb-true, eq-eqb, false≢true, ne_eqb}
-use Rattle.std.proofs.Common.{is_some}
+use Rattle.std.specs.List.{list_any}
+use Rattle.std.proofs.lemmas.Option.{none-some, slice_get_within}
 use Rattle.generational_core.specs.Answers.{value_of}
 use Rattle.generational_core.specs.Machine.{has_reader}
-use Rattle.std.specs.List.{list_any}
-use Rattle.generational_core.specs.Cells.{content_of}
+use Rattle.generational_core.specs.Cells.{content_of, Content, Cell}
 use Rattle.generational_core.specs.Cells.Cell.{Value, Shared, Ref}
-use Rattle.generational_box.specs.Entry.{value_for}
 use Rattle.generational_core.specs.declared.borrow.Borrow.{Borrow}
-use Rattle.generational_core.specs.Borrowing.{read_refusal, write_refusal}
-use Rattle.generational_core.specs.Cells.{Content, Cell}
+use Rattle.generational_core.specs.Borrowing.{read_refusal, write_refusal, leads_to}
 use Rattle.generational_core.specs.Cells.Content.{Here, Lent}
-use Rattle.generational_box.specs.declared.entry.Kind.TheVariants as kind
-use Rattle.generational_box.specs.declared.latest.LastBorrow.{LastBorrow}
-use Rattle.generational_box.specs.Entry.{Entry, Kept, cell_of, content_in, has_no_borrow, with_reader}
-use Rattle.generational_box.specs.Entry.{without_reader_in, kind_in, target_in}
-use Rattle.generational_core.specs.Borrowing.{leads_to}
-use Rattle.generational_box.specs.Entry.Kept.{Empty, Live, Refers}
-use Rattle.generational_box.specs.Latest.{noted, HasApart, IsAlone, IsNoted, IsReadable, is_apart}
-use Rattle.generational_box.specs.Latest.{is_reader}
-use Rattle.generational_box.specs.Latest.{is_writer, joined, may_join}
-use Rattle.generational_box.specs.declared.latest.Standing.{Standing}
-use Rattle.generational_box.specs.declared.latest.Standing.TheVariants as standing
-use Rattle.generational_box.specs.Entries.{taken}
-use Rattle.generational_box.specs.Entry.{is_lent, lend_to, referring, with_content, with_value}
-use Rattle.std.proofs.Common.{◌++◌, ◌||◌, ◌<◌, length}
-use Rattle.generational_core.specs.declared.error.BorrowMutError.TheVariants as writes
-use Rattle.generational_box.specs.Slotted.{cell_at, cell_in, change_entry, change_entry_if}
-use Rattle.generational_box.proofs.lists.Lists.{set_written, set-own}
 use Rattle.generational_core.specs.Names.{Name}
-use Rattle.std.proofs.Common.{subst, Err}
-use Rattle.std.proofs.lemmas.Option.{none-some, slice_get_within}
 use Rattle.generational_core.specs.declared.error.BorrowMutError.{BorrowMutError}
 use Rattle.generational_core.specs.declared.error.Refused.{Refused}
-use Rattle.generational_core.specs.declared.error.Refused.TheVariants as refused
 use Rattle.generational_core.specs.declared.error.StoreError.TheVariants.{OutOfMemory}
 use Rattle.generational_core.specs.declared.error.StoreError.TheVariants.{NumbersExhausted}
 use Rattle.generational_core.specs.declared.error.StoreError.TheVariants.{UnknownOwner}
+use Rattle.generational_core.specs.declared.error.BorrowMutError.TheVariants as writes
+use Rattle.generational_core.specs.declared.error.Refused.TheVariants as refused
+use Rattle.generational_box.specs.Entry.{value_for, Entry, Kept, cell_of, content_in, has_no_borrow}
+use Rattle.generational_box.specs.Entry.{with_reader, without_reader_in, kind_in, target_in}
+use Rattle.generational_box.specs.Entry.{is_lent, lend_to, referring, with_content, with_value}
 use Rattle.generational_box.specs.Entry.{FoundBorrowed, FoundReaders}
+use Rattle.generational_box.specs.declared.latest.LastBorrow.{LastBorrow}
+use Rattle.generational_box.specs.Entry.Kept.{Empty, Live, Refers}
+use Rattle.generational_box.specs.Latest.{noted, HasApart, IsAlone, IsNoted, IsReadable, is_apart}
+use Rattle.generational_box.specs.Latest.{is_reader, is_writer, joined, may_join}
+use Rattle.generational_box.specs.declared.latest.Standing.{Standing}
+use Rattle.generational_box.specs.Entries.{taken}
+use Rattle.generational_box.specs.Slotted.{cell_at, cell_in, change_entry, change_entry_if}
+use Rattle.generational_box.specs.declared.entry.Kind.TheVariants as kind
+use Rattle.generational_box.specs.declared.latest.Standing.TheVariants as standing
+use Rattle.generational_box.proofs.lists.Lists.{get_left, get_other, set_apart, set_left}
+use Rattle.generational_box.proofs.lists.Lists.{set_written}
+use Rattle.generational_box.proofs.states.EntryChanges.{change_own, change_here, change_away}
+use Rattle.generational_box.proofs.states.EntryChanges.{change_twice, change_alike, change_none}
+use Rattle.generational_box.proofs.states.EntryChanges.{change_apart, change_order}
 
-set_twice : {A : Type 0} (xs : List A) (i : ℕ) (x y : A)
-    → slice_set (slice_set xs i x) i y ≡ slice_set xs i y
-set_twice [] i x y = refl
-set_twice (z ∷ zs) zero x y = refl
-set_twice (z ∷ zs) (suc i) x y = ap (λ rest. z ∷ rest) (set_twice zs i x y)
-
-same_number : (n : ℕ) → nat_eq n n ≡ true
+pub same_number : (n : ℕ) → nat_eq n n ≡ true
 same_number n = eq-eqb n n refl
 
 any_last : (t : ℕ) (rs : List Borrow) (b : Borrow) → b.ticket ≡ t
@@ -59,160 +50,6 @@ any_last t (r ∷ rs) b same = at (nat_eq r.ticket t) (any_last t rs b same)
     at : (x : Bool) {y : Bool} → y ≡ true → (x || y) ≡ true
     at true h = refl
     at false h = h
-
--- ---- a slot that changes
-
-module _ {T : Type 0} where
-  pub change_own : (slots : List (Entry T)) (i : ℕ) (f : Entry T → Entry T) {e : Entry T}
-      → slice_get slots i ≡ Some e → slice_get (change_entry slots i f) i ≡ Some (f e)
-  change_own slots i f {e} there =
-      rw there ((set_written slots i (f e) e there).at i
-      ∙ ap (λ b. cond b (Some (f e)) (slice_get slots i)) (same_number i))
-
-  -- what holds of the slot that changed
-  pub change_here : (slots : List (Entry T)) (i : ℕ) (f : Entry T → Entry T)
-      (P : Entry T → Type 0) → IfSome (slice_get slots i) (λ e. P (f e))
-      → IfSome (slice_get (change_entry slots i f) i) P
-  change_here slots i f P h = at (slice_get slots i) refl h
-    where
-      at : (o : Option (Entry T)) → slice_get slots i ≡ o → IfSome o (λ e. P (f e))
-          → IfSome (slice_get (change_entry slots i f) i) P
-      at None empty h = rw (ap (change_entry_if slots i f) empty) (rw empty h)
-      at (Some e) there h = subst (λ o. IfSome o P) (sym (change_own slots i f there)) h
-
-  -- the others are as they were
-  pub change_away : (slots : List (Entry T)) (i k : ℕ) (f : Entry T → Entry T) → (i ≡ k → ⊥)
-      → slice_get (change_entry slots i f) k ≡ slice_get slots k
-  change_away slots i k f away = at (slice_get slots i) refl
-    where
-      here : (e : Entry T) → (b : Bool) → nat_eq k i ≡ b
-          → cond b (Some (f e)) (slice_get slots k) ≡ slice_get slots k
-      here e true at = absurd (away (sym (eqb-true k i at)))
-      here e false at = refl
-
-      at : (o : Option (Entry T)) → slice_get slots i ≡ o
-          → slice_get (change_entry_if slots i f o) k ≡ slice_get slots k
-      at None empty = refl
-      at (Some e) found = (set_written slots i (f e) e found).at k ∙ here e (nat_eq k i) refl
-
-  -- two changes are one
-  pub change_twice : (slots : List (Entry T)) (i : ℕ) (f h : Entry T → Entry T)
-      → change_entry (change_entry slots i f) i h ≡ change_entry slots i (λ e. h (f e))
-  change_twice slots i f h = at (slice_get slots i) refl
-    where
-      at : (o : Option (Entry T)) → slice_get slots i ≡ o
-          → change_entry (change_entry_if slots i f o) i h
-          ≡ change_entry_if slots i (λ e. h (f e)) o
-      at None empty = ap (change_entry_if slots i h) empty
-      at (Some e) there =
-          ap (change_entry_if (slice_set slots i (f e)) i h)
-          ((set_written slots i (f e) e there).at i
-          ∙ ap (λ b. cond b (Some (f e)) (slice_get slots i)) (same_number i))
-          ∙ set_twice slots i (f e) (h (f e))
-
-  -- changes that do the same there
-  pub change_alike : (slots : List (Entry T)) (i : ℕ) (f h : Entry T → Entry T)
-      → IfSome (slice_get slots i) (λ e. f e ≡ h e)
-      → change_entry slots i f ≡ change_entry slots i h
-  change_alike slots i f h same = at (slice_get slots i) same
-    where
-      at : (o : Option (Entry T)) → IfSome o (λ e. f e ≡ h e)
-          → change_entry_if slots i f o ≡ change_entry_if slots i h o
-      at None same = refl
-      at (Some e) same = ap (slice_set slots i) same
-
-  -- a change that does nothing there
-  pub change_none : (slots : List (Entry T)) (i : ℕ) (f : Entry T → Entry T)
-      → IfSome (slice_get slots i) (λ e. f e ≡ e) → change_entry slots i f ≡ slots
-  change_none slots i f same = at (slice_get slots i) refl same
-    where
-      at : (o : Option (Entry T)) → slice_get slots i ≡ o → IfSome o (λ e. f e ≡ e)
-          → change_entry_if slots i f o ≡ slots
-      at None empty same = refl
-      at (Some e) there same = ap (slice_set slots i) same ∙ set-own slots i e there
-
-set_apart : {A : Type 0} (xs : List A) (i j : ℕ) (x y : A) → (i ≡ j → ⊥)
-    → slice_set (slice_set xs i x) j y ≡ slice_set (slice_set xs j y) i x
-set_apart [] i j x y other = refl
-set_apart (z ∷ zs) zero zero x y other = absurd (other refl)
-set_apart (z ∷ zs) zero (suc j) x y other = refl
-set_apart (z ∷ zs) (suc i) zero x y other = refl
-set_apart (z ∷ zs) (suc i) (suc j) x y other =
-    ap (λ rest. z ∷ rest) (set_apart zs i j x y (λ e. other (ap suc e)))
-
-get_left : {A : Type 0} (xs ys : List A) (i : ℕ) (e : A) → slice_get xs i ≡ Some e
-    → slice_get (xs ++ ys) i ≡ Some e
-get_left [] ys i e there = absurd (none-some e there)
-get_left (x ∷ xs) ys zero e there = there
-get_left (x ∷ xs) ys (suc i) e there = get_left xs ys i e there
-
-set_left : {A : Type 0} (xs ys : List A) (i : ℕ) (e y : A) → slice_get xs i ≡ Some e
-    → slice_set (xs ++ ys) i y ≡ slice_set xs i y ++ ys
-set_left [] ys i e y there = absurd (none-some e there)
-set_left (x ∷ xs) ys zero e y there = refl
-set_left (x ∷ xs) ys (suc i) e y there = ap (λ rest. x ∷ rest) (set_left xs ys i e y there)
-
-get_other : {A : Type 0} (xs : List A) (i j : ℕ) (x : A) → (i ≡ j → ⊥)
-    → slice_get (slice_set xs i x) j ≡ slice_get xs j
-get_other [] i j x other = refl
-get_other (z ∷ zs) zero zero x other = absurd (other refl)
-get_other (z ∷ zs) zero (suc j) x other = refl
-get_other (z ∷ zs) (suc i) zero x other = refl
-get_other (z ∷ zs) (suc i) (suc j) x other = get_other zs i j x (λ e. other (ap suc e))
-
-module _ {T : Type 0} where
-  away : (slots : List (Entry T)) (i k : ℕ) (x e : Entry T) → slice_get slots i ≡ Some e
-      → (i ≡ k → ⊥) → slice_get (slice_set slots i x) k ≡ slice_get slots k
-  away slots i k x e there other = (set_written slots i x e there).at k ∙ by (nat_eq k i) refl
-    where
-      by : (b : Bool) → nat_eq k i ≡ b → cond b (Some x) (slice_get slots k) ≡ slice_get slots k
-      by true same = absurd (other (sym (eqb-true k i same)))
-      by false differ = refl
-
-  -- changes of two slots
-  pub change_apart : (slots : List (Entry T)) (i j : ℕ) (f h : Entry T → Entry T) → (i ≡ j → ⊥)
-      → change_entry (change_entry slots i f) j h ≡ change_entry (change_entry slots j h) i f
-  change_apart slots i j f h other = at (slice_get slots i) (slice_get slots j) refl refl
-    where
-      at : (o p : Option (Entry T)) → slice_get slots i ≡ o → slice_get slots j ≡ p
-          → change_entry (change_entry_if slots i f o) j h
-          ≡ change_entry (change_entry_if slots j h p) i f
-      at None None here there =
-          ap (change_entry_if slots j h) there ∙ sym (ap (change_entry_if slots i f) here)
-      at None (Some d) here there =
-          ap (change_entry_if slots j h) there
-          ∙ sym (ap (change_entry_if (slice_set slots j (h d)) i f)
-          (away slots j i (h d) d there (λ e. other (sym e)) ∙ here))
-      at (Some e) None here there =
-          ap (change_entry_if (slice_set slots i (f e)) j h)
-          (away slots i j (f e) e here other ∙ there)
-          ∙ sym (ap (change_entry_if slots i f) here)
-      at (Some e) (Some d) here there =
-          ap (change_entry_if (slice_set slots i (f e)) j h)
-          (away slots i j (f e) e here other ∙ there)
-          ∙ (set_apart slots i j (f e) (h d) other
-          ∙ sym (ap (change_entry_if (slice_set slots j (h d)) i f)
-          (away slots j i (h d) d there (λ e. other (sym e)) ∙ here)))
-
-  -- changes that don't mind each other
-  pub change_order : (slots : List (Entry T)) (i j : ℕ) (f h : Entry T → Entry T)
-      → ((e : Entry T) → f (h e) ≡ h (f e))
-      → change_entry (change_entry slots i f) j h ≡ change_entry (change_entry slots j h) i f
-  change_order slots i j f h same = by (nat_eq i j) refl
-    where
-      all : (o : Option (Entry T)) → IfSome o (λ e. h (f e) ≡ f (h e))
-      all None = tt
-      all (Some e) = sym (same e)
-
-      by : (b : Bool) → nat_eq i j ≡ b
-          → change_entry (change_entry slots i f) j h ≡ change_entry (change_entry slots j h) i f
-      by true own =
-          let one : i ≡ j = eqb-true i j own in
-          rw (← one) (change_twice slots i f h
-          ∙ (change_alike slots i (λ e. h (f e)) (λ e. f (h e)) (all (slice_get slots i))
-          ∙ sym (change_twice slots i h f)))
-      by false differ =
-          change_apart slots i j f h (λ e. false≢true (sym differ ∙ eq-eqb i j e))
 
 -- ---- which borrow stands apart
 

@@ -2,16 +2,16 @@ use Rattle.std.proofs.Common.{arith, refl, sym, ◌≡◌, subst, ap, ◌∙◌,
 use Rattle.std.proofs.lemmas.List.{length-set}
 use Rattle.generational_box.specs.Entry.{content_in, readers_of}
 use Rattle.generational_box.proofs.states.Entries.{kept, many, says, has_place, used_at, read_slot}
-use Rattle.generational_box.proofs.states.Entries.{room_left, small_left, open_lists, open_indexed}
+use Rattle.generational_box.proofs.states.Entries.{roomy_still, hears, location, ok_then, err_then}
+use Rattle.generational_box.proofs.states.Entries.{read_beside, reader_kept}
+use Rattle.generational_box.proofs.states.SlotWrites.{room_left, small_left, open_lists}
+use Rattle.generational_box.proofs.states.SlotWrites.{open_indexed, list_lists, join_room}
+use Rattle.generational_box.proofs.states.SlotWrites.{join_indexed, join_lists, join_list}
+use Rattle.generational_box.proofs.states.SlotWrites.{view_changed}
 use Rattle.generational_box.proofs.lists.TableChanges.{none_some}
 use Rattle.generational_box.proofs.lists.TableChanges.{Opens}
-use Rattle.generational_box.proofs.states.Entries.{list_lists, join_room, join_indexed, join_lists}
-use Rattle.generational_box.proofs.states.Entries.{join_list}
 use Rattle.generational_box.proofs.lists.TableChanges.{opened_list}
-use Rattle.generational_box.proofs.states.Entries.{view_changed, roomy_still, hears}
-use Rattle.generational_box.proofs.states.Entries.{location, ok_then}
 use Rattle.generational_box.proofs.lists.TableChanges.{not_empty}
-use Rattle.generational_box.proofs.states.Entries.{err_then, read_beside, reader_kept}
 use Rattle.generational_box.specs.Entries.{kept_data, index_of, EntryList}
 use Rattle.generational_box.specs.Table.{list_at}
 use Rattle.generational_box.specs.Borrows.{AreBelow}

@@ -18,8 +18,8 @@ use Rattle.generational_box.specs.declared.entry.StorageEntryData.TheVariants as
 use Rattle.generational_box.specs.Entries.{index_of, kept_data, writer_in}
 use Rattle.generational_box.specs.Entry.{FoundBorrowed, FoundReaders, content_in}
 use Rattle.generational_box.specs.Table.{list_at}
-use Rattle.generational_box.proofs.states.Entries.{kept, many, says, lent_used, used_at}
-use Rattle.generational_box.proofs.states.Entries.{no_trouble, read_slot, list_none, says_of, read_details}
+use Rattle.generational_box.proofs.states.Entries.{kept, many, says, lent_used, used_at, no_trouble}
+use Rattle.generational_box.proofs.states.Entries.{read_slot, list_none, says_of, read_details}
 use Rattle.generational_box.proofs.entries.Entries.borrow_mut_error.Goals as goal
 
 module _ {T : Type 0} (lists : List (List Borrow)) (d : StorageEntryData T) (l : Location) where

@@ -1,12 +1,11 @@
 use Rattle.std.proofs.Common.{arith, refl, sym, ap, ◌∙◌}
 use Rattle.std.proofs.lemmas.List.{length-set}
-use Rattle.generational_box.proofs.states.Entries.{kept, many, read_slot}
-use Rattle.generational_box.proofs.states.Entries.{view_changed, roomy_still}
+use Rattle.generational_box.proofs.states.Entries.{kept, many, read_slot, roomy_still, one_slot}
+use Rattle.generational_box.proofs.states.Indexes.{indexed_free, set_no_shorter}
+use Rattle.generational_box.proofs.states.SlotWrites.{view_changed, used_x, close_indexed}
+use Rattle.generational_box.proofs.states.SlotWrites.{close_lists}
 use Rattle.generational_box.specs.Entries.{index_of}
-use Rattle.generational_box.proofs.states.Entries.{one_slot, used_x}
 use Rattle.generational_box.proofs.lists.Lists.{set_written}
-use Rattle.generational_box.proofs.states.Entries.{indexed_free, set_no_shorter}
-use Rattle.generational_box.proofs.states.Entries.{close_indexed, close_lists}
 use Rattle.generational_box.proofs.entries.Entries.end.Goals as goal
 
 pub index-requires : goal.index-requires

@@ -1,7 +1,6 @@
 use Rattle.std.proofs.Common.{arith, refl, sym, ◌≡◌, true, false}
 use Rattle.generational_box.specs.Entry.{content_in, has_no_borrow}
-use Rattle.generational_box.proofs.states.Entries.{kept, many, not_alone, read_slot}
-use Rattle.generational_box.proofs.states.Entries.{says}
+use Rattle.generational_box.proofs.states.Entries.{kept, many, not_alone, read_slot, says}
 use Rattle.generational_box.proofs.entries.Entries.has_no_borrow.Goals as goal
 
 pub index-requires : goal.index-requires

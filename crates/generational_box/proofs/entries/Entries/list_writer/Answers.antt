@@ -3,10 +3,11 @@ use Rattle.std.proofs.Common.{arith, refl, sym, ap, ◌≡◌, ◌∙◌, true, 
 use Rattle.std.proofs.lemmas.List.{length-set, get_or-set_same}
 use Rattle.generational_box.specs.Entry.{content_in, is_lent}
 use Rattle.generational_box.proofs.lists.TableChanges.{none_some, opened_list, Opens}
-use Rattle.generational_box.proofs.states.Entries.{hears, kept, lent_is, lent_used, list_indexed}
-use Rattle.generational_box.proofs.states.Entries.{list_lists, many, open_indexed, open_lists}
-use Rattle.generational_box.proofs.states.Entries.{read_slot, room_left, roomy_still, small_left}
-use Rattle.generational_box.proofs.states.Entries.{view_changed}
+use Rattle.generational_box.proofs.states.Entries.{hears, kept, lent_is, lent_used, many, read_slot}
+use Rattle.generational_box.proofs.states.Entries.{roomy_still}
+use Rattle.generational_box.proofs.states.SlotWrites.{list_indexed, list_lists, open_indexed}
+use Rattle.generational_box.proofs.states.SlotWrites.{open_lists, room_left, small_left}
+use Rattle.generational_box.proofs.states.SlotWrites.{view_changed}
 use Rattle.generational_box.proofs.entries.Entries.list_writer.Goals as goal
 
 pub index_mut-requires : goal.index_mut-requires

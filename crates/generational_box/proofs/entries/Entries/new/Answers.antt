@@ -1,7 +1,7 @@
 -- A store's first slots: there are none.
 use Rattle.std.proofs.Common.{arith, refl, ap, length}
 unfoldable use Rattle.generational_box.specs.Entries.{entries_of}
-use Rattle.generational_box.proofs.states.Entries.{indexed_none}
+use Rattle.generational_box.proofs.states.Indexes.{indexed_none}
 use Rattle.generational_box.proofs.entries.Entries.new.Goals as goal
 
 pub invariant_of-result : goal.invariant_of-result

@@ -2,9 +2,9 @@
 use Rattle.std.proofs.Common.{arith, refl, ap, ◌∙◌, ◌++◌, ◌∷◌, [], length, length-append}
 use Rattle.std.proofs.lemmas.Option.{slice_get_past}
 use Rattle.generational_box.proofs.lists.Lists.{push_written}
-use Rattle.generational_box.proofs.states.Entries.{kept, many, room_for_one, indexed_free}
-use Rattle.generational_box.proofs.states.Entries.{slots_pushed}
-use Rattle.generational_box.proofs.states.Entries.{free_entry, unborrowed_listed, unborrowed_none}
+use Rattle.generational_box.proofs.states.Entries.{kept, many, room_for_one, slots_pushed}
+use Rattle.generational_box.proofs.states.Entries.{free_entry}
+use Rattle.generational_box.proofs.states.Indexes.{indexed_free, unborrowed_listed, unborrowed_none}
 use Rattle.generational_box.proofs.entries.Entries.push.Goals as goal
 
 pub push_reserved-requires : goal.push_reserved-requires

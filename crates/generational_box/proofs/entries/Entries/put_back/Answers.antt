@@ -3,10 +3,10 @@ use Rattle.std.proofs.Common.{arith, refl, sym, ap, ◌≡◌, ◌∙◌, true}
 use Rattle.std.proofs.lemmas.List.{length-set}
 use Rattle.generational_box.specs.Entry.{content_in, is_lent}
 use Rattle.generational_box.proofs.lists.Lists.{set_written}
-use Rattle.generational_box.proofs.states.Entries.{close_indexed, close_lists, hears}
-use Rattle.generational_box.proofs.states.Entries.{indexed_free, kept, lent_is, lent_used}
-use Rattle.generational_box.proofs.states.Entries.{many, one_slot, read_slot}
-use Rattle.generational_box.proofs.states.Entries.{roomy_still, set_no_shorter, view_changed}
+use Rattle.generational_box.proofs.states.Entries.{hears, kept, lent_is, lent_used, many, one_slot}
+use Rattle.generational_box.proofs.states.Entries.{read_slot, roomy_still}
+use Rattle.generational_box.proofs.states.Indexes.{indexed_free, set_no_shorter}
+use Rattle.generational_box.proofs.states.SlotWrites.{close_indexed, close_lists, view_changed}
 use Rattle.generational_box.proofs.entries.Entries.put_back.Goals as goal
 
 pub index-requires : goal.index-requires

@@ -4,9 +4,9 @@ use Rattle.std.proofs.lemmas.Bool.{false≢true}
 use Rattle.generational_core.specs.Answers.{value_of}
 use Rattle.generational_box.specs.Entry.{content_in}
 use Rattle.generational_box.proofs.states.Entries.{kept, many, hears, no_value, says, read_slot}
+use Rattle.generational_box.proofs.states.Entries.{location}
 use Rattle.generational_box.specs.Entries.{index_of}
 use Rattle.generational_box.specs.Table.{list_at}
-use Rattle.generational_box.proofs.states.Entries.{location}
 use Rattle.generational_box.proofs.entries.Entries.read_value.Goals as goal
 
 pub index-requires : goal.index-requires

@@ -5,8 +5,9 @@ use Rattle.generational_box.specs.Entry.{Entry}
 use Rattle.generational_box.specs.declared.entry.StorageEntryData.TheVariants as content
 use Rattle.generational_box.proofs.lists.Lists.{set_written}
 use Rattle.generational_box.proofs.states.Entries.{kept, many, read_slot, refers_none, found_slot}
-use Rattle.generational_box.proofs.states.Entries.{indexed_free, roomy_still, set_no_shorter}
-use Rattle.generational_box.proofs.states.Entries.{slot_seen, view_changed}
+use Rattle.generational_box.proofs.states.Entries.{roomy_still, slot_seen}
+use Rattle.generational_box.proofs.states.Indexes.{indexed_free, set_no_shorter}
+use Rattle.generational_box.proofs.states.SlotWrites.{view_changed}
 use Rattle.generational_box.proofs.entries.Entries.redirect.Goals as goal
 
 pub index_mut-requires : goal.index_mut-requires

@@ -4,8 +4,8 @@ use Rattle.std.proofs.lemmas.List.{length-set}
 use Rattle.generational_core.specs.Slots.{last_generation}
 use Rattle.generational_box.proofs.lists.Lists.{set_written}
 use Rattle.generational_box.proofs.states.Entries.{kept, many, says, hears, read_slot, empty_slot}
-use Rattle.generational_box.proofs.states.Entries.{indexed_free, slots_set, free_entry}
-use Rattle.generational_box.proofs.states.Entries.{unborrowed_listed, unborrowed_none}
+use Rattle.generational_box.proofs.states.Entries.{slots_set, free_entry}
+use Rattle.generational_box.proofs.states.Indexes.{indexed_free, unborrowed_listed, unborrowed_none}
 use Rattle.generational_box.proofs.entries.Entries.refill.Goals as goal
 
 pub index_mut-requires : goal.index_mut-requires

@@ -1,10 +1,10 @@
 use Rattle.std.proofs.Common.{arith, refl, sym, ap, ◌∙◌}
 use Rattle.std.proofs.lemmas.List.{length-set}
 use Rattle.generational_box.proofs.states.Entries.{kept, many, says, used_at, read_slot}
-use Rattle.generational_box.proofs.states.Entries.{release_lists, release_rooms, release_indexed}
-use Rattle.generational_box.proofs.states.Entries.{release_kept}
-use Rattle.generational_box.proofs.states.Entries.{view_changed, roomy_still}
-use Rattle.generational_box.proofs.states.Entries.{reader_left, no_reader}
+use Rattle.generational_box.proofs.states.Entries.{release_rooms, roomy_still, reader_left}
+use Rattle.generational_box.proofs.states.Entries.{no_reader}
+use Rattle.generational_box.proofs.states.SlotWrites.{release_lists, release_indexed, release_kept}
+use Rattle.generational_box.proofs.states.SlotWrites.{view_changed}
 use Rattle.generational_box.specs.Entries.{EntryList}
 use Rattle.generational_box.specs.Entries.{index_of}
 use Rattle.generational_box.specs.Table.{list_at}

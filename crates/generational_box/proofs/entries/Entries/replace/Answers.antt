@@ -3,9 +3,10 @@ use Rattle.std.proofs.Common.{arith, refl, sym, ◌≡◌, ◌∙◌, true}
 use Rattle.std.proofs.lemmas.List.{length-set}
 use Rattle.generational_box.specs.Entry.{content_in, has_no_borrow}
 use Rattle.generational_box.proofs.lists.Lists.{set_written}
-use Rattle.generational_box.proofs.states.Entries.{alone, hears, indexed_free, kept, many}
-use Rattle.generational_box.proofs.states.Entries.{read_slot, roomy_still, says}
-use Rattle.generational_box.proofs.states.Entries.{set_no_shorter, view_changed}
+use Rattle.generational_box.proofs.states.Entries.{alone, hears, kept, many, read_slot, roomy_still}
+use Rattle.generational_box.proofs.states.Entries.{says}
+use Rattle.generational_box.proofs.states.Indexes.{indexed_free, set_no_shorter}
+use Rattle.generational_box.proofs.states.SlotWrites.{view_changed}
 use Rattle.generational_box.proofs.entries.Entries.replace.Goals as goal
 
 pub index_mut-requires : goal.index_mut-requires

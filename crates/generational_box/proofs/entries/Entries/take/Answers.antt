@@ -5,9 +5,10 @@ use Rattle.generational_core.specs.Cells.Content.{Here}
 use Rattle.generational_box.specs.Entry.{content_in, has_no_borrow}
 use Rattle.generational_box.specs.Entries.{unread_in}
 use Rattle.generational_box.proofs.lists.Lists.{set_written}
-use Rattle.generational_box.proofs.states.Entries.{alone, hears, indexed_free, kept}
-use Rattle.generational_box.proofs.states.Entries.{list_none, many, read_slot, roomy_still, says}
-use Rattle.generational_box.proofs.states.Entries.{set_no_shorter, view_changed}
+use Rattle.generational_box.proofs.states.Entries.{alone, hears, kept, list_none, many, read_slot}
+use Rattle.generational_box.proofs.states.Entries.{roomy_still, says}
+use Rattle.generational_box.proofs.states.Indexes.{indexed_free, set_no_shorter}
+use Rattle.generational_box.proofs.states.SlotWrites.{view_changed}
 use Rattle.generational_box.proofs.entries.Entries.take.Goals as goal
 
 pub index_mut-requires : goal.index_mut-requires

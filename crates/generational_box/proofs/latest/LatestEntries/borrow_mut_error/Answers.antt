@@ -1,7 +1,8 @@
 -- The borrows that stand in the way of a write or an end.
 use Rattle.std.proofs.Common.{sym, ◌∙◌}
 use Rattle.std.proofs.lemmas.Bool.{false≢true}
-use Rattle.generational_box.proofs.states.Latest.{change_here, joining, noted_away}
+use Rattle.generational_box.proofs.states.EntryChanges.{change_here}
+use Rattle.generational_box.proofs.states.Latest.{joining, noted_away}
 use Rattle.generational_box.proofs.latest.LatestEntries.borrow_mut_error.Goals as goal
 use Rattle.generational_box.proofs.latest.LatestEntries.borrow_mut_error.Goals.{else-is_apart-via-then-is_apart+else-self-slot}
 use Rattle.generational_box.proofs.latest.LatestEntries.borrow_mut_error.Goals.{else-is_apart-via-else-is_apart}

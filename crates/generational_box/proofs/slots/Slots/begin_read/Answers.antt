@@ -3,12 +3,12 @@ use Rattle.generational_box.specs.Borrows.{AreBelow}
 use Rattle.generational_box.specs.Entry.{one_read, readers_of}
 use Rattle.generational_box.proofs.Common.{count_of, name_of_cell, state_of, write_refusal}
 use Rattle.generational_box.proofs.states.Entries.{ok_then, err_from}
+use Rattle.generational_box.proofs.states.Latest.{readable, unrefused}
 use Rattle.generational_box.proofs.states.Changes.{changed, changed_length, either}
 use Rattle.generational_box.proofs.states.Changes.{filled_in, heard_in, held_in}
 use Rattle.generational_box.proofs.states.Changes.{referred_changed, seen_in}
 use Rattle.generational_box.proofs.states.Changes.{slotted_changed, state_is}
 use Rattle.generational_core.specs.Borrowing.{read_refusal}
-use Rattle.generational_box.proofs.states.Latest.{readable, unrefused}
 use Rattle.generational_box.proofs.slots.Slots.begin_read.Goals as goal
 
 pub begin_read-requires-clause-there : goal.begin_read-requires-clause-there
