@@ -1,5 +1,3 @@
 pub mod Common
-pub mod calls
-pub mod lists
 pub mod records
-pub mod states
+pub mod calls

@@ -1,4 +1,3 @@
--- The calls of a store as steps of the machine.
 pub mod Calls
 pub mod EndCalls
 pub mod Frees

@@ -13,25 +13,12 @@
 //! `docs/machine.md` at the repository's root.
 #![tactic(auto)]
 
-mod borrows;
-mod counts;
-mod entries;
-mod entry;
-mod free_list;
-mod hindrance;
-mod indexes;
-mod latest;
-mod owners;
 mod parts;
-mod pool;
-mod room;
-mod slots;
-mod table;
 mod unsync;
 
 pub use crate::parts::Numbers;
-pub use crate::pool::{LastFirst, OldestFirst, SlotPool};
 pub use crate::unsync::{Store, UnsyncStorage};
+pub use generational_containers::pool::{LastFirst, OldestFirst, SlotPool};
 pub use generational_core::{
     AlreadyBorrowedError, AlreadyBorrowedMutError, AnyStorage, BorrowError, BorrowMutError,
     BorrowMutResult, BorrowResult, BoxAt, Call, GenerationalBox, GenerationalBoxId,

@@ -27,15 +27,15 @@ ghost use Rattle.generational_core.specs.Slots.{slots, free, retired};
 ghost use Rattle.generational_core.specs.State.{IsSound, content_at};
 ghost use Rattle.generational_core.specs.StepCalls.{is_ready};
 ghost use Rattle.generational_core.specs.Steps.{Meets, last_ticket};
-ghost use Rattle.generational_box.specs.Entry.{cell_of, is_unborrowed_value, name_of_cell};
-ghost use Rattle.generational_box.specs.Entry.{target_in};
-ghost use Rattle.generational_box.specs.Entries.{IsUnborrowed, kept_data, target_of};
-ghost use Rattle.generational_box.specs.Slotted.{IsMade};
+ghost use Rattle.generational_entries.specs.Entry.{cell_of, is_unborrowed_value};
+ghost use Rattle.generational_containers.specs.CellNames.{name_of_cell};
+ghost use Rattle.generational_entries.specs.Entry.{target_in};
+ghost use Rattle.generational_entries.specs.Entries.{IsUnborrowed, kept_data, target_of};
+ghost use Rattle.generational_slots.specs.Slotted.{IsMade};
 
-use crate::entry::{CellName, Kind, StorageEntryData};
-use crate::owners::OwnerRecords;
-use crate::pool::SlotPool;
-use crate::slots::Slots;
+use generational_containers::names::CellName;
+use generational_containers::owners::OwnerRecords;
+use generational_containers::pool::SlotPool;
 use generational_core::parts::{
     Borrow, id_at, id_read, into_reader, into_writer, key_of, owner_at, pointer_at, reader_at,
     writer_at,
@@ -45,6 +45,8 @@ use generational_core::{
     GenerationalBoxId, GenerationalPointer, GenerationalRef, GenerationalRefMut, Location, Owner,
     Refusal, Refused, StepCall, StoreError, ValueDroppedError,
 };
+use generational_entries::entry::{Kind, StorageEntryData};
+use generational_slots::slots::Slots;
 use std::alloc::Global;
 use std::marker::Model;
 
@@ -70,8 +72,8 @@ impl<T, P: SlotPool> Model for Parts<T, P> {
     ghost use Rattle.std.specs.Coded.{codes};
     ghost use Rattle.std.specs.FinMap as map;
     ghost use Rattle.generational_core.specs.State.{State};
-    ghost use Rattle.generational_box.specs.Slotted.{with_records};
-    ghost use Rattle.generational_box.specs.OwnerRecords.{AreCounted};
+    ghost use Rattle.generational_slots.specs.Slotted.{with_records};
+    ghost use Rattle.generational_containers.specs.OwnerRecords.{AreCounted};
 
     ghost Value = { State T };
 

@@ -5,7 +5,7 @@ ghost use Rattle.generational_core.specs.Conditions.{IsBounded};
 ghost use Rattle.generational_core.specs.Sound.{IsSound-prop, IsBounded-prop};
 
 use crate::parts::{Numbers, Parts};
-use crate::pool::{LastFirst, SlotPool};
+use generational_containers::pool::{LastFirst, SlotPool};
 use generational_core::{
     AnyStorage, BorrowMutError, BorrowMutResult, BorrowResult, GenerationalPointer,
     GenerationalRef, GenerationalRefMut, Location, Owner, Refusal, Refused, StepCall, Storage,

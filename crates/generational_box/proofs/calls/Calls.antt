@@ -15,9 +15,10 @@ use Rattle.generational_core.specs.Machine.Answer.{Reads, Writes, Flag, Back, Tr
 use Rattle.generational_core.specs.Machine.Answer.{Refused as refuses}
 use Rattle.generational_core.specs.Boxes.{id_of}
 use Rattle.generational_core.specs.State.{tickets_of}
-use Rattle.generational_box.specs.Borrows.{AreBelow}
-use Rattle.generational_box.specs.Entry.{FoundBorrowed, is_unborrowed_value, less_read, one_read}
-use Rattle.generational_box.specs.Entry.{readers_of}
+use Rattle.generational_containers.specs.Borrows.{AreBelow}
+use Rattle.generational_entries.specs.Entry.{FoundBorrowed, is_unborrowed_value, less_read}
+use Rattle.generational_entries.specs.Entry.{one_read}
+use Rattle.generational_entries.specs.Entry.{readers_of}
 use Rattle.generational_box.proofs.Common.{Borrow, GenerationalBoxId, GenerationalPointer}
 use Rattle.generational_box.proofs.Common.{BorrowMutError, Location, OutOfMemory, NumbersExhausted}
 use Rattle.generational_box.proofs.Common.{end_refused, back_answer, WriteGuard, IsSound, Owners}

@@ -10,7 +10,7 @@ use Rattle.generational_core.specs.declared.steps.StepCall.TheVariants.{Read as 
 use Rattle.generational_core.specs.Answers.{end_answer}
 use Rattle.generational_core.specs.Ending.{hindrance_at}
 use Rattle.generational_core.specs.Machine.Answer.{Done}
-use Rattle.generational_box.specs.Entry.{FoundBorrowed}
+use Rattle.generational_entries.specs.Entry.{FoundBorrowed}
 use Rattle.generational_box.proofs.Common.{BorrowMutError, Cell, Content, End, GenerationalPointer}
 use Rattle.generational_box.proofs.Common.{Here, IsLinked, IsSound, Lent, Location, ManuallyDrop}
 use Rattle.generational_box.proofs.Common.{Meets, Name, NameMap, Owners, Ref, Shared, State}

@@ -23,9 +23,9 @@ use Rattle.generational_box.proofs.Common.{names_under, needs_memory, no_names, 
 use Rattle.generational_box.proofs.Common.{with_records}
 use Rattle.generational_core.specs.Machine.Answer.{Made, Refused, Troubled}
 use Rattle.generational_core.specs.State.{IsBoxed}
-use Rattle.generational_box.specs.declared.entry.StorageEntryData.{StorageEntryData}
-use Rattle.generational_box.specs.declared.entry.StorageEntryData.TheVariants as slot
-use Rattle.generational_box.specs.Entries.{kept_data, target_of}
+use Rattle.generational_entries.specs.declared.entry.StorageEntryData.{StorageEntryData}
+use Rattle.generational_entries.specs.declared.entry.StorageEntryData.TheVariants as slot
+use Rattle.generational_entries.specs.Entries.{kept_data, target_of}
 use Rattle.generational_box.proofs.calls.Calls.{Reaches}
 use Rattle.generational_box.proofs.records.Counts.{counted_listed, relisted}
 

@@ -7,7 +7,7 @@ use Rattle.std.specs.FinMap as map
 use Rattle.generational_core.specs.declared.error.Refused.{Refused as Refusing}
 use Rattle.generational_core.specs.Machine.{OwnerName, Outcome, act, ownership, unless}
 use Rattle.generational_core.specs.Machine.Answer.{Owned, Done, Refused}
-use Rattle.generational_box.specs.Entry.{FoundBorrowed}
+use Rattle.generational_entries.specs.Entry.{FoundBorrowed}
 use Rattle.generational_box.proofs.Common.{BorrowMutError, OutOfMemory, UnknownOwner}
 use Rattle.generational_box.proofs.Common.{NumbersExhausted, end_refused, close, NewOwner}
 use Rattle.generational_box.proofs.Common.{CloneOwner, ReleaseOwner, Name, Owners, change, one_more}

@@ -9,8 +9,8 @@ use Rattle.generational_core.specs.Boxes.{has_same_id}
 use Rattle.generational_core.specs.Ending.{hindrance_at}
 use Rattle.generational_core.specs.Machine.{act, own_cell, point, turn, unless}
 use Rattle.generational_core.specs.Machine.Answer.{Done, Troubled}
-use Rattle.generational_box.specs.Entry.{target_in}
-use Rattle.generational_box.specs.Slotted.{Turns}
+use Rattle.generational_entries.specs.Entry.{target_in}
+use Rattle.generational_slots.specs.Slotted.{Turns}
 use Rattle.generational_box.proofs.Common.{BorrowMutError, Cell, Dropped, GenerationalPointer}
 use Rattle.generational_box.proofs.Common.{Location, Meets, Name, NameMap, Owners, Point, Ref}
 use Rattle.generational_box.proofs.Common.{Shared, State, Trouble, Value, content_at, content_of}

@@ -3,7 +3,7 @@ use Rattle.generational_core.specs.Borrowing.{read_refusal}
 use Rattle.generational_core.specs.State.{content_at}
 use Rattle.generational_box.proofs.calls.Calls.{reaches, has_content, read_exhausted}
 use Rattle.generational_box.proofs.calls.Calls.{readers_below, read_begins, read_lacks}
-use Rattle.generational_box.specs.Entry.{name_of_cell}
+use Rattle.generational_containers.specs.CellNames.{name_of_cell}
 use Rattle.generational_box.proofs.parts.Parts.begin_read.Goals as goal
 
 pub returns-then-ticket : goal.returns-then-ticket

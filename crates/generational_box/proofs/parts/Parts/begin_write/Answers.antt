@@ -2,7 +2,7 @@ use Rattle.std.proofs.Common.{arith, sym, subst, None, ◌≡◌}
 use Rattle.generational_core.specs.Borrowing.{write_refusal}
 use Rattle.generational_core.specs.State.{content_at}
 use Rattle.generational_box.proofs.calls.Calls.{reaches, write_exhausted, unborrowed, write_begins}
-use Rattle.generational_box.specs.Entry.{name_of_cell}
+use Rattle.generational_containers.specs.CellNames.{name_of_cell}
 use Rattle.generational_box.proofs.parts.Parts.begin_write.Goals as goal
 
 pub returns-then-ticket : goal.returns-then-ticket

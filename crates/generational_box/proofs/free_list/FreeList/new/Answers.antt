@@ -1,6 +1,0 @@
-use Rattle.std.proofs.Common.{arith}
-use Rattle.generational_box.proofs.lists.Lists.{pool_empty}
-use Rattle.generational_box.proofs.free_list.FreeList.new.Goals as goal
-
-pub invariant_of-result : goal.invariant_of-result
-invariant_of-result c = (pool_empty _, omega arith)

@@ -1,0 +1,3 @@
+pub mod Common
+pub mod lists
+pub mod records

@@ -1,0 +1,53 @@
+use Rattle.std.proofs.Common.{arith, ◌<◌}
+use Rattle.std.specs.Cmp.{nat_cmp_total}
+use Rattle.std.specs.FinSet as set
+use Rattle.std.proofs.lemmas.List.{length-set}
+use Rattle.generational_containers.proofs.lists.Chains.{chain_put_last, chain_room, last_within}
+use Rattle.generational_containers.proofs.lists.Lists.{pool_push}
+use Rattle.generational_containers.proofs.free_list.FreeList.put_last.Goals as goal
+
+pub index_mut-requires : goal.index_mut-requires
+index_mut-requires c =
+    let l = c.self.inside in
+    let some : 0 < l.count = omega (arith, c.if-self-eq0.false) in
+    let ends = rw (← c.self.view_is) at c.requires.last in
+    let within = last_within l.links.items l.first l.count _ some c.self.invariant.0 ends in
+    omega (arith, within, l.links.ok.0)
+
+pub overflow_add-self : goal.overflow_add-self
+overflow_add-self c =
+    let l = c.self.inside in
+    let room = rw (← c.self.view_is) at c.requires.room in
+    let absent = rw (← c.self.view_is) at c.requires.absent in
+    let more = chain_room l.links.items l.first l.count _ c.self.invariant.0 room absent in
+    omega (arith, more, l.links.ok.0, l.links.small)
+
+pub invariant_of-self : goal.invariant_of-self
+invariant_of-self c =
+    let l = c.self.inside in
+    let some : 0 < l.count = omega (arith, c.if-self-eq0.false) in
+    let room = rw (← c.self.view_is) at c.requires.room in
+    let absent = rw (← c.self.view_is) at c.requires.absent in
+    let ends = rw (← c.self.view_is) at c.requires.last in
+    rw (
+      chain_put_last l.links.items l.first l.count _ c.args.slot some c.self.invariant.0 ends,
+      length-set l.links.items c.args.last c.args.slot,
+    ) (pool_push c.self.invariant.0 room absent, c.self.invariant.1)
+
+pub returns-clause-slots : goal.returns-clause-slots
+returns-clause-slots c =
+    let l = c.self.inside in
+    let some : 0 < l.count = omega (arith, c.if-self-eq0.false) in
+    let ends = rw (← c.self.view_is) at c.requires.last in
+    rw (← c.self.view_is)
+    (chain_put_last l.links.items l.first l.count _ c.args.slot some c.self.invariant.0 ends)
+
+pub returns-clause-added : goal.returns-clause-added
+returns-clause-added c =
+    let l = c.self.inside in
+    let some : 0 < l.count = omega (arith, c.if-self-eq0.false) in
+    let ends = rw (← c.self.view_is) at c.requires.last in
+    rw (
+      ← c.self.view_is,
+      chain_put_last l.links.items l.first l.count _ c.args.slot some c.self.invariant.0 ends,
+    ) (set.from_list_push nat_cmp_total set.nat_cmp-IsAntisymmetric _ c.args.slot)

@@ -1,0 +1,24 @@
+use Rattle.std.proofs.Common.{arith}
+use Rattle.std.proofs.lemmas.List.{length-reverse}
+use Rattle.generational_containers.proofs.lists.Lists.{pool_put, pool_length, reverse_pushed}
+use Rattle.generational_containers.proofs.indexes.FreeIndexes.put.Goals as goal
+
+pub push_reserved-requires : goal.push_reserved-requires
+push_reserved-requires c =
+    let p = pool_put c.self.invariant.0 (rw (← c.self.view_is) at c.requires.room)
+    (rw (← c.self.view_is) at c.requires.absent) in
+    omega (
+      arith,
+      pool_length p,
+      c.self.invariant.1,
+      length-reverse c.self.inside.indexes.items,
+      c.self.inside.indexes.ok.0,
+    )
+
+pub invariant_of-self : goal.invariant_of-self
+invariant_of-self c =
+    rw (c.push_reserved.ensures.capacity, reverse_pushed _ _ _ c.push_reserved.ensures.items) (
+      pool_put c.self.invariant.0 (rw (← c.self.view_is) at c.requires.room)
+          (rw (← c.self.view_is) at c.requires.absent),
+      c.self.invariant.1,
+    )

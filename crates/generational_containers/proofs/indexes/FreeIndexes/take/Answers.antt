@@ -1,0 +1,20 @@
+use Rattle.std.proofs.Common.{refl, ◌∙◌}
+use Rattle.std.proofs.lemmas.Bool.{eq-eqb}
+use Rattle.generational_containers.proofs.lists.Lists.{contains-insert_at, pool_take, members_take}
+use Rattle.generational_containers.proofs.lists.Lists.{reverse_pushed}
+use Rattle.generational_containers.proofs.indexes.FreeIndexes.take.Goals as goal
+
+pub invariant_of-self-2 : goal.invariant_of-self-2
+invariant_of-self-2 c =
+    let all = rw (reverse_pushed _ _ _ c.in_ok-index.ensures.items) at c.self.invariant in
+    rw c.pop.ensures.capacity (pool_take all.0, all.1)
+
+pub returns-clause-member : goal.returns-clause-member
+returns-clause-member c =
+    rw (← c.self.view_is, reverse_pushed _ _ _ c.in_ok-index.ensures.items)
+    (contains-insert_at _ _ _ ∙ rw (eq-eqb c.in_ok-index.index c.in_ok-index.index refl) refl)
+
+pub returns-clause-taken : goal.returns-clause-taken
+returns-clause-taken c =
+    let all = rw (reverse_pushed _ _ _ c.in_ok-index.ensures.items) at c.self.invariant in
+    rw (← c.self.view_is, reverse_pushed _ _ _ c.in_ok-index.ensures.items) (members_take all.0)

@@ -1,0 +1,4 @@
+pub mod Chains
+pub mod Lists
+pub mod Tables
+pub mod Tickets

@@ -1,0 +1,172 @@
+-- Slots to which links lead, one after the other.
+use Rattle.std.proofs.Common.{◌≡◌, ◌≢◌, ℕ, zero, suc, ◌<◌, Bool, true, false, List, [], ◌∷◌}
+use Rattle.std.proofs.Common.{◌++◌, length, refl, sym, ap, ◌∙◌, arith, slice_set, nat_eq, ◌||◌}
+use Rattle.std.proofs.Common.{drop, get_or, ◌-◌, ◌+◌, ◌≤◌, length-append, take}
+use Rattle.std.proofs.Common.{if◌then◌else◌}
+use Rattle.std.specs.FinSet as set
+use Rattle.std.proofs.lemmas.Bool.{true≢false, eq-eqb}
+use Rattle.std.proofs.lemmas.List.{get_or-set_same, get_or-set_other, get_or_append_left}
+use Rattle.std.proofs.lemmas.List.{get_or_read}
+use Rattle.std.proofs.lemmas.List.{take_all}
+use Rattle.generational_containers.specs.Pools.{chain, last_of}
+use Rattle.generational_containers.proofs.Common.{IsPool}
+use Rattle.generational_containers.proofs.lists.Lists.{holds, members, members-holds, pool_take}
+use Rattle.generational_containers.proofs.lists.Lists.{head_absent, pool_length, pool_put}
+
+-- the first of them has a link, which leads to the others
+pub first_within : (links : List ℕ) (first n : ℕ) → 0 < n
+    → IsPool (chain links first n) (length links) → first < length links
+first_within links first zero some p = absurd (omega arith)
+first_within links first (suc n) some p = p.below first (rw (eq-eqb first first refl) refl)
+
+-- where there are others, what is read of its link is their first
+pub chain_read : (links : List ℕ) (first n x : ℕ) → 0 < n
+    → IsPool (chain links first n) (length links) → (1 < n → x ≡ get_or links first x)
+    → chain links first n ≡ first ∷ chain links x (n - 1)
+chain_read links first zero x some p at = absurd (omega arith)
+chain_read links first (suc zero) x some p at = refl
+chain_read links first (suc (suc n)) x some p at =
+    let e : suc (suc n) - 1 ≡ suc n = omega arith in
+    let read = at (omega arith) in
+    rw (e, get_or_read links first x (first_within links first (suc (suc n)) some p) read 0) refl
+
+-- where the links of its slots are the same, it is the same
+chain_same : (links others : List ℕ) (first n : ℕ)
+    → ((q : ℕ) → holds (chain links first n) q ≡ true → get_or others q 0 ≡ get_or links q 0)
+    → chain others first n ≡ chain links first n
+chain_same links others first zero same = refl
+chain_same links others first (suc n) same =
+    let here : get_or others first 0 ≡ get_or links first 0 =
+    same first (rw (eq-eqb first first refl) refl) in
+    rw here (ap (λ rest. first ∷ rest)
+    (chain_same links others (get_or links first 0) n (λ q there. same q (behind q there))))
+  where
+    behind : (q : ℕ) → holds (chain links (get_or links first 0) n) q ≡ true
+        → holds (chain links first (suc n)) q ≡ true
+    behind q there = either (nat_eq q first) there
+      where
+        either : {b : Bool} (a : Bool) → b ≡ true → (a || b) ≡ true
+        either true h = refl
+        either false h = h
+
+-- more links at the end
+pub chain_grown : (links more : List ℕ) (first n : ℕ) → IsPool (chain links first n) (length links)
+    → chain (links ++ more) first n ≡ chain links first n
+chain_grown links more first n p =
+    chain_same links _ first n (λ q there. get_or_append_left links _ 0 q (p.below q there))
+
+-- another link of a slot that isn't there
+pub chain_apart : (links : List ℕ) (slot x first n : ℕ)
+    → set.contains (members (chain links first n)) slot ≡ false
+    → chain (slice_set links slot x) first n ≡ chain links first n
+chain_apart links slot x first n absent = chain_same links _ first n (λ q there.
+    get_or-set_other links slot q x 0 (λ e. true≢false
+    (sym there ∙ (ap (holds (chain links first n)) e
+    ∙ (sym (members-holds (chain links first n) slot) ∙ absent)))))
+
+last_there : (x : ℕ) (xs : List ℕ) → holds (x ∷ xs) (last_of x xs) ≡ true
+last_there x [] = rw (eq-eqb x x refl) refl
+last_there x (y ∷ ys) = either (nat_eq (last_of y ys) x) (last_there y ys)
+  where
+    either : {b : Bool} (a : Bool) → b ≡ true → (a || b) ≡ true
+    either true h = refl
+    either false h = h
+
+pub last_pushed : (x : ℕ) (xs : List ℕ) (y : ℕ) → last_of x (xs ++ y ∷ []) ≡ y
+last_pushed x [] y = refl
+last_pushed x (z ∷ zs) y = last_pushed z zs y
+
+-- the last slot's link leads to one more
+pub chain_extended : (links : List ℕ) (first n last slot : ℕ)
+    → IsPool (chain links first (suc n)) (length links)
+    → last_of last (chain links first (suc n)) ≡ last
+    → chain (slice_set links last slot) first (suc (suc n))
+    ≡ chain links first (suc n) ++ slot ∷ []
+chain_extended links first zero last slot p ends =
+    let within = first_within links first 1 (omega arith) p in
+    rw (sym ends) (ap (λ x. first ∷ x ∷ []) (get_or-set_same links first slot 0 within))
+chain_extended links first (suc n) last slot p ends =
+    rw (get_or-set_other links last first slot 0 apart)
+    (ap (λ rest. first ∷ rest)
+    (chain_extended links (get_or links first 0) n last slot (pool_take p) ends))
+  where
+    apart : first ≢ last
+    apart e = true≢false
+        (sym (last_there (get_or links first 0) (chain links (get_or links (get_or links first 0) 0) n))
+        ∙ (ap (holds (chain links (get_or links first 0) (suc n))) (ends ∙ sym e)
+        ∙ (sym (members-holds (chain links (get_or links first 0) (suc n)) first)
+        ∙ head_absent p)))
+
+-- a slot before the first one, to which its link leads, unless there was none
+pub chain_put : (links after : List ℕ) (first n slot : ℕ) → slot < length links
+    → set.contains (members (chain links first n)) slot ≡ false
+    → (0 < n → after ≡ slice_set links slot first)
+    → chain after slot (n + 1) ≡ slot ∷ chain links first n
+chain_put links after first zero slot within absent linked = refl
+chain_put links after first (suc n) slot within absent linked =
+    let e : suc n + 1 ≡ suc (suc n) = omega arith in
+    ap (λ l. chain l slot (suc n + 1)) (linked (omega arith))
+    ∙ rw (e, get_or-set_same links slot first 0 within)
+    (ap (λ rest. slot ∷ rest) (chain_apart links slot first first (suc n) absent))
+
+-- so many slots as are there have a link each
+pub chain_length : (links : List ℕ) (first n : ℕ) → length (chain links first n) ≡ n
+chain_length links first zero = refl
+chain_length links first (suc n) = ap suc (chain_length links (get_or links first 0) n)
+
+-- where a slot more is in it, there is one link more than were
+pub chain_room : (links : List ℕ) (first n slot : ℕ) → IsPool (chain links first n) (length links)
+    → slot < length links → set.contains (members (chain links first n)) slot ≡ false
+    → n < length links
+chain_room links first n slot p within absent =
+    omega (arith, pool_length (pool_put p within absent), chain_length links first n)
+
+-- a slot behind the last one, whose link leads to it
+pub chain_put_last : (links : List ℕ) (first n last slot : ℕ) → 0 < n
+    → IsPool (chain links first n) (length links) → last_of last (chain links first n) ≡ last
+    → chain (slice_set links last slot) first (n + 1) ≡ chain links first n ++ slot ∷ []
+chain_put_last links first zero last slot some p ends = absurd (omega arith)
+chain_put_last links first (suc n) last slot some p ends =
+    let e : suc n + 1 ≡ suc (suc n) = omega arith in
+    rw e (chain_extended links first n last slot p ends)
+
+-- the last of them has a link
+pub last_within : (links : List ℕ) (first n last : ℕ) → 0 < n
+    → IsPool (chain links first n) (length links) → last_of last (chain links first n) ≡ last
+    → last < length links
+last_within links first zero last some p ends = absurd (omega arith)
+last_within links first (suc n) last some p ends =
+    let there = last_there first (chain links (get_or links first 0) n) in
+    p.below last (sym (ap (holds (chain links first (suc n))) ends) ∙ there)
+
+pub pool_grown : (links more : List ℕ) (first n : ℕ) → IsPool (chain links first n) (length links)
+    → IsPool (chain (links ++ more) first n) (length (links ++ more))
+pool_grown links more first n p = rw (chain_grown links more first n p) record {
+  distinct = p.distinct;
+  below = λ slot there.
+      let low = p.below slot there in omega (arith, low, length-append links more);
+}
+
+-- links that were added, where memory was found, change no slot of the list
+pub resized : (ok : Bool) (n : ℕ) (links more after : List ℕ) (first count : ℕ)
+    → after ≡ (if ok then take n links ++ more else links) → length links ≤ n
+    → IsPool (chain links first count) (length links)
+    → IsPool (chain after first count) (length after)
+    × (chain after first count ≡ chain links first count)
+resized true n links more after first count is few p =
+    rw (is, take_all n links few) (
+      pool_grown links more first count p,
+      chain_grown links more first count p,
+    )
+resized false n links more after first count is few p = rw is (p, refl)
+
+-- nor are there too many of them
+pub resized_few : (ok : Bool) (n links after most : ℕ) → after ≡ (if ok then n else links)
+    → n ≤ most → links ≤ most → after ≤ most
+resized_few true n links after most is less few = omega arith
+resized_few false n links after most is less few = omega arith
+
+pub last_taken : (x : ℕ) (xs : List ℕ) → last_of x xs ≡ x → last_of x (drop 1 xs) ≡ x
+last_taken x [] ends = refl
+last_taken x (y ∷ []) ends = refl
+last_taken x (y ∷ z ∷ zs) ends = ends

@@ -1,0 +1,28 @@
+use Rattle.std.proofs.Common.{arith}
+use Rattle.generational_containers.proofs.Common.{one_more}
+use Rattle.generational_containers.proofs.records.Places.{holds_there, record_within}
+use Rattle.generational_containers.proofs.records.Places.{changed_owners}
+use Rattle.generational_containers.proofs.records.Places.{changed_placed, missing_kept}
+use Rattle.generational_containers.proofs.owners.OwnerRecords.count_up.Goals as goal
+
+pub count_up_at-requires-clause-within : goal.count_up_at-requires-clause-within
+count_up_at-requires-clause-within c =
+    let within = record_within c.self.invariant _ _ c.in-Some.ensures.found in
+    omega (arith, within, c.self.inside.places.ok.0)
+
+pub count_up_at-requires-clause-below : goal.count_up_at-requires-clause-below
+count_up_at-requires-clause-below c =
+    holds_there c.self.invariant _ _ c.in-Some.ensures.found _ (rw c.self.view_is c.requires)
+
+pub invariant_of-self : goal.invariant_of-self
+invariant_of-self c =
+    rw c.count_up_at.ensures
+    (changed_placed c.self.invariant _ _ c.in-Some.ensures.found one_more)
+
+pub returns-in-Some : goal.returns-in-Some
+returns-in-Some c =
+    rw (c.count_up_at.ensures, ← c.self.view_is)
+    (changed_owners c.self.invariant _ _ c.in-Some.ensures.found one_more)
+
+pub returns-in-None : goal.returns-in-None
+returns-in-None c = missing_kept _ _ _ c.self.view_is c.in-None.ensures.none one_more

@@ -1,0 +1,29 @@
+use Rattle.std.proofs.Common.{arith, length, refl, sym, ◌∙◌}
+use Rattle.std.proofs.lemmas.Bool.{false≢true}
+use Rattle.std.proofs.lemmas.Option.{slice_get_read}
+use Rattle.generational_containers.proofs.records.Places.{owners_vacant, not_empty, vacant_through}
+use Rattle.generational_containers.proofs.owners.are_vacant.Goals as goal
+
+pub loop-place-preserved : goal.loop-place-preserved
+loop-place-preserved c =
+    vacant_through c.args.places.now c.loop-place.place-index c.place-item.result
+    c.loop-place.invariant
+    (slice_get_read c.args.places.now (length c.args.places.now) c.loop-place.place-index
+    c.place-item.result refl c.loop-place-test.true c.place-item.is)
+    (sym c.is_some.ensures ∙ c.if-is_some.false)
+
+pub returns-then-is_some : goal.returns-then-is_some
+returns-then-is_some c = (
+  λ t. absurd (false≢true t),
+  λ empty. absurd (not_empty c.args.places.now c.loop-place.place-index c.place-item.result
+      (slice_get_read c.args.places.now (length c.args.places.now) c.loop-place.place-index
+      c.place-item.result refl c.loop-place-test.true c.place-item.is)
+      (sym c.is_some.ensures ∙ c.if-is_some.true) empty),
+)
+
+pub returns : goal.returns
+returns c = (
+  λ t. owners_vacant c.args.places.now (λ k h. c.loop-place.invariant k
+      (omega (arith, c.loop-place-test.false))),
+  λ e. refl,
+)

@@ -1,0 +1,8 @@
+use Rattle.std.proofs.Common.{◌≡◌, ℕ, ◌<◌, None, slice_get}
+use Rattle.generational_containers.specs.OwnerPlaces.{record_at}
+use Rattle.generational_containers.proofs.owners.search_place.Given as goal
+
+-- no place so far has a record of the key
+abbrev pub invariant-loop-place : goal.invariant-loop-place
+invariant-loop-place l =
+    (k : ℕ) → k < l.place → record_at l.key (slice_get l.places.items k) ≡ None

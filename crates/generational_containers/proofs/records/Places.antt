@@ -1,0 +1,495 @@
+-- The map for which places of records stand, and what is written to them.
+use Rattle.std.proofs.Common.{◌≡◌, ◌≢◌, ℕ, zero, suc, ◌+◌, ◌<◌, ◌≤◌, Bool, true, false, cond, List}
+use Rattle.std.proofs.Common.{[], ◌∷◌, ◌++◌, length, Option, None, Some, refl, sym, ap, ◌∙◌, arith}
+use Rattle.std.proofs.Common.{⊎_elim, slice_get, slice_set, nat_eq, is_some, subst, IfSome}
+use Rattle.std.proofs.Common.{option_map}
+use Rattle.std.proofs.lemmas.Bool.{true≢false, false≢true, cases_eq, cases_lt, eq-eqb, ne_eqb}
+use Rattle.std.proofs.lemmas.Bool.{eqb-true}
+use Rattle.std.proofs.lemmas.Option.{none-some, slice_get_past, slice_get_within}
+use Rattle.std.proofs.lemmas.List.{length-set, length-append}
+use Rattle.std.specs.Ordering.{nat_cmp, eq_by_cmp}
+use Rattle.std.specs.Cmp.{nat_cmp_total}
+use Rattle.std.specs.Option.{option_or}
+use Rattle.std.specs.FinMap as map
+use Rattle.std.specs.FinSet as set
+use Rattle.generational_containers.proofs.Common.{by_number, key_here, key_apart, changed_there}
+use Rattle.generational_containers.proofs.Common.{change}
+use Rattle.generational_containers.proofs.Common.{Ownership, Owners, Keyed, Place, entries_of}
+use Rattle.generational_containers.proofs.Common.{owners_of}
+use Rattle.generational_containers.proofs.Common.{record_in, record_at, HasRecord, AreApart}
+use Rattle.generational_containers.proofs.Common.{is_vacant}
+use Rattle.generational_core.specs.Machine.{OwnerName}
+use Rattle.generational_containers.proofs.Common.{get-changed_none, get-remove_here}
+use Rattle.generational_containers.proofs.Common.{get-remove_apart}
+use Rattle.generational_containers.proofs.Common.{names_under, names_in, knows}
+use Rattle.generational_containers.proofs.Common.{record_of, ArePlaced, change_place}
+use Rattle.generational_containers.proofs.Common.{change_place_if}
+use Rattle.generational_containers.proofs.Common.{with_ownership}
+use Rattle.generational_containers.proofs.lists.Lists.{IsWritten, set_written, push_written}
+use Rattle.generational_containers.proofs.lists.Lists.{number_test}
+use Rattle.generational_containers.proofs.lists.Lists.{set-own}
+use Rattle.generational_containers.proofs.lists.Lists.{contains-insert_at, contains-remove_at}
+use Rattle.generational_containers.proofs.lists.Lists.{contains_own}
+
+-- ---- what stands under a key
+
+-- the first record under a key
+abbrev find_in : ℕ → List Place → Option Ownership
+find_in q [] = None
+find_in q (x ∷ xs) = option_or (record_in q x) (find_in q xs)
+
+find_is : (q : ℕ) (xs : List Place) → map.find nat_cmp q (entries_of xs) ≡ find_in q xs
+find_is q [] = refl
+find_is q (None ∷ xs) = find_is q xs
+find_is q (Some r ∷ xs) =
+    ap (λ b. cond b (Some r.ownership) (map.find nat_cmp q (entries_of xs))) (number_test q r.key)
+    ∙ at (nat_eq q r.key) (find_is q xs)
+  where
+    at : (b : Bool) → map.find nat_cmp q (entries_of xs) ≡ find_in q xs
+        → cond b (Some r.ownership) (map.find nat_cmp q (entries_of xs))
+        ≡ option_or (cond b (Some r.ownership) None) (find_in q xs)
+    at true rest = refl
+    at false rest = rest
+
+-- what the machine's map has under a key
+get_first : (xs : List Place) (q : ℕ) → map.get (owners_of xs) q ≡ find_in q xs
+unfolding owners_of
+get_first xs q = map.get-from_entries nat_cmp_total (entries_of xs) q ∙ find_is q xs
+
+apart_rest : {x : Place} {xs : List Place} → AreApart (x ∷ xs) → AreApart xs
+apart_rest apart = record {
+  one = λ key i j hi hj.
+      let same : suc i ≡ suc j = apart.one key (suc i) (suc j) hi hj in omega arith;
+}
+
+find_one : (xs : List Place) → AreApart xs → (q i : ℕ) (h : Ownership)
+    → record_at q (slice_get xs i) ≡ Some h → find_in q xs ≡ Some h
+find_one [] apart q i h is = absurd (none-some h is)
+find_one (x ∷ xs) apart q zero h is = rw is refl
+find_one (x ∷ xs) apart q (suc i) h is =
+    at (record_in q x) refl (find_one xs (apart_rest apart) q i h is)
+  where
+    at : (o : Option Ownership) → record_in q x ≡ o → find_in q xs ≡ Some h
+        → option_or o (find_in q xs) ≡ Some h
+    at None first rest = rest
+    at (Some g) first rest =
+        let same : 0 ≡ suc i = apart.one q 0 (suc i) (ap is_some first) (ap is_some is) in
+        absurd (omega arith)
+
+find_none : (xs : List Place) (q : ℕ) → ((i : ℕ) → record_at q (slice_get xs i) ≡ None)
+    → find_in q xs ≡ None
+find_none [] q none = refl
+find_none (x ∷ xs) q none = rw (none 0) (find_none xs q (λ i. none (suc i)))
+
+pub get_one : {xs : List Place} → AreApart xs → (q i : ℕ) (h : Ownership)
+    → record_at q (slice_get xs i) ≡ Some h → map.get (owners_of xs) q ≡ Some h
+get_one {xs} apart q i h is = get_first xs q ∙ find_one xs apart q i h is
+
+pub get_none : (xs : List Place) (q : ℕ) → ((i : ℕ) → record_at q (slice_get xs i) ≡ None)
+    → map.get (owners_of xs) q ≡ None
+get_none xs q none = get_first xs q ∙ find_none xs q none
+
+-- a write to a place passes over the keys that stand neither there nor in what is written
+find_set : (xs : List Place) (i q : ℕ) (x : Place) → record_at q (slice_get xs i) ≡ None
+    → record_in q x ≡ None → find_in q (slice_set xs i x) ≡ find_in q xs
+find_set [] i q x old new = refl
+find_set (z ∷ zs) zero q x old new = rw (old, new) refl
+find_set (z ∷ zs) (suc i) q x old new =
+    ap (option_or (record_in q z)) (find_set zs i q x old new)
+
+find_push : (xs : List Place) (q : ℕ) (x : Place) → record_in q x ≡ None
+    → find_in q (xs ++ x ∷ []) ≡ find_in q xs
+find_push [] q x new = rw new refl
+find_push (z ∷ zs) q x new = ap (option_or (record_in q z)) (find_push zs q x new)
+
+-- ---- records and their keys
+
+own_key : (r : Keyed) → record_in r.key (Some r) ≡ Some r.ownership
+own_key r = ap (λ b. cond b (Some r.ownership) None) (eq-eqb r.key r.key refl)
+
+other_key : (q : ℕ) (r : Keyed) → q ≢ r.key → record_in q (Some r) ≡ None
+other_key q r ne = ap (λ b. cond b (Some r.ownership) None) (ne_eqb q r.key ne)
+
+key_is : (q : ℕ) (r : Keyed) → is_some (record_in q (Some r)) ≡ true → q ≡ r.key
+key_is q r has = at (nat_eq q r.key) refl has
+  where
+    at : (b : Bool) → nat_eq q r.key ≡ b → is_some (cond b (Some r.ownership) None) ≡ true
+        → q ≡ r.key
+    at true same has = eqb-true q r.key same
+    at false other has = absurd (false≢true has)
+
+pub standing : (q : ℕ) (o : Option Place) → HasRecord q o
+    → (r : Keyed) × (o ≡ Some (Some r)) × (q ≡ r.key)
+standing q None has = absurd (false≢true has)
+standing q (Some None) has = absurd (false≢true has)
+standing q (Some (Some r)) has = (r, refl, key_is q r has)
+
+vacant_is : (o : Option Place) → is_vacant o ≡ true → o ≡ Some None
+vacant_is None is = absurd (false≢true is)
+vacant_is (Some None) is = refl
+vacant_is (Some (Some r)) is = absurd (false≢true is)
+
+-- ---- what is written
+
+-- ys is xs with v under a key
+updated : (xs ys : List Place) (k : ℕ) (v : Option Ownership) → find_in k ys ≡ v
+    → ((q : ℕ) → q ≢ k → find_in q ys ≡ find_in q xs) → (q : ℕ)
+    → map.get (owners_of ys) q ≡ cond (eq_by_cmp nat_cmp q k) v (map.get (owners_of xs) q)
+updated xs ys k v here others q =
+    get_first ys q
+    ∙ ⊎_elim
+    (λ e. ap (λ j. find_in j ys) e ∙ here
+    ∙ sym (ap (λ b. cond b v (map.get (owners_of xs) q))
+    (ap (λ j. eq_by_cmp nat_cmp j k) e ∙ key_here by_number k)))
+    (λ ne. others q ne ∙ sym (get_first xs q)
+    ∙ sym (ap (λ b. cond b v (map.get (owners_of xs) q)) (key_apart by_number q k ne)))
+    (cases_eq q k)
+
+apart_written : {xs ys : List Place} {i : ℕ} {x : Place} → IsWritten xs ys i x → AreApart xs
+    → ((q j : ℕ) → is_some (record_in q x) ≡ true → HasRecord q (slice_get xs j) → j ≡ i)
+    → AreApart ys
+apart_written {xs} {ys} {i} {x} w apart alone = record {
+  one = λ q a b ha hb.
+      at q a b (nat_eq a i) refl (nat_eq b i) refl
+      (subst (HasRecord q) (w.at a) ha) (subst (HasRecord q) (w.at b) hb);
+}
+  where
+    at : (q a b : ℕ) (c : Bool) → nat_eq a i ≡ c → (d : Bool) → nat_eq b i ≡ d
+        → HasRecord q (cond c (Some x) (slice_get xs a))
+        → HasRecord q (cond d (Some x) (slice_get xs b)) → a ≡ b
+    at q a b true ea true eb ha hb = eqb-true a i ea ∙ sym (eqb-true b i eb)
+    at q a b true ea false eb ha hb = eqb-true a i ea ∙ sym (alone q b ha hb)
+    at q a b false ea true eb ha hb = alone q a hb ha ∙ sym (eqb-true b i eb)
+    at q a b false ea false eb ha hb = apart.one q a b ha hb
+
+-- the vacant places after a write
+pooled_written : {xs ys : List Place} {i : ℕ} {x : Place} (v w : set.FinSet nat_cmp)
+    → IsWritten xs ys i x → ((k : ℕ) → set.contains v k ≡ is_vacant (slice_get xs k))
+    → ((k : ℕ) → set.contains w k ≡ cond (nat_eq k i) (is_vacant (Some x)) (set.contains v k))
+    → (k : ℕ) → set.contains w k ≡ is_vacant (slice_get ys k)
+pooled_written {xs} {ys} {i} {x} v w wr pooled new k =
+    new k ∙ at (nat_eq k i) ∙ sym (ap is_vacant (wr.at k))
+  where
+    at : (b : Bool) → cond b (is_vacant (Some x)) (set.contains v k)
+        ≡ is_vacant (cond b (Some x) (slice_get xs k))
+    at true = refl
+    at false = pooled k
+
+-- a record is written where no other of its key stands
+module _ {xs ys : List Place} {i : ℕ} (r : Keyed) (w : IsWritten xs ys i (Some r))
+    (apart : AreApart xs) (alone : (j : ℕ) → HasRecord r.key (slice_get xs j) → j ≡ i)
+    (others : (q : ℕ) → q ≢ r.key → find_in q ys ≡ find_in q xs) where
+  record_apart : AreApart ys
+  record_apart = apart_written w apart
+      (λ q j hq hj. alone j (subst (λ k. HasRecord k (slice_get xs j)) (key_is q r hq) hj))
+
+  record_written : owners_of ys ≡ map.insert (owners_of xs) r.key r.ownership
+  record_written =
+      let here : slice_get ys i ≡ Some (Some r) =
+      w.at i ∙ ap (λ b. cond b (Some (Some r)) (slice_get xs i)) (eq-eqb i i refl) in
+      map.same_map nat_cmp_total map.nat_cmp-IsAntisymmetric _ _ (λ q.
+      updated xs ys r.key (Some r.ownership)
+      (find_one ys record_apart r.key i r.ownership (ap (record_at r.key) here ∙ own_key r))
+      others q
+      ∙ sym (map.get-insert nat_cmp_total (owners_of xs) r.key r.ownership q))
+
+module _ {vacant : set.FinSet nat_cmp} {rooms : ℕ} {xs : List Place}
+    (placed : ArePlaced vacant rooms xs) where
+  pub none_apart : (q i : ℕ) → map.get (owners_of xs) q ≡ None → HasRecord q (slice_get xs i) → ⊥
+  none_apart q i absent has = at (record_at q (slice_get xs i)) refl has
+    where
+      at : (o : Option Ownership) → record_at q (slice_get xs i) ≡ o → is_some o ≡ true → ⊥
+      at None is has = false≢true has
+      at (Some h) is has = none-some h (sym absent ∙ get_one placed.apart q i h is)
+
+  -- a record under a key that has none, at a vacant place
+  module _ (i : ℕ) (member : set.contains vacant i ≡ true) (r : Keyed)
+      (absent : map.get (owners_of xs) r.key ≡ None) where
+    was : slice_get xs i ≡ Some None
+    was = vacant_is (slice_get xs i) (sym (placed.pooled i) ∙ member)
+
+    w : IsWritten xs (slice_set xs i (Some r)) i (Some r)
+    w = set_written xs i (Some r) None was
+
+    alone : (j : ℕ) → HasRecord r.key (slice_get xs j) → j ≡ i
+    alone j has = absurd (none_apart r.key j absent has)
+
+    others : (q : ℕ) → q ≢ r.key → find_in q (slice_set xs i (Some r)) ≡ find_in q xs
+    others q ne = find_set xs i q (Some r) (ap (record_at q) was) (other_key q r ne)
+
+    pub vacant_within : i < length xs
+    vacant_within = slice_get_within xs i None was
+
+    pub filled_owners : owners_of (slice_set xs i (Some r))
+        ≡ map.insert (owners_of xs) r.key r.ownership
+    filled_owners = record_written r w placed.apart alone others
+
+    pub filled_placed : ArePlaced (set.remove vacant i) rooms (slice_set xs i (Some r))
+    filled_placed = record {
+      pooled = pooled_written vacant (set.remove vacant i) w placed.pooled
+          (contains-remove_at vacant i);
+      roomy = rw (length-set xs i (Some r)) placed.roomy;
+      apart = record_apart r w placed.apart alone others;
+    }
+
+  -- the same at a new place
+  module _ (r : Keyed) (absent : map.get (owners_of xs) r.key ≡ None) where
+    new_others : (q : ℕ) → q ≢ r.key → find_in q (xs ++ Some r ∷ []) ≡ find_in q xs
+    new_others q ne = find_push xs q (Some r) (other_key q r ne)
+
+    new_alone : (j : ℕ) → HasRecord r.key (slice_get xs j) → j ≡ length xs
+    new_alone j has = absurd (none_apart r.key j absent has)
+
+    pub pushed_owners : owners_of (xs ++ Some r ∷ [])
+        ≡ map.insert (owners_of xs) r.key r.ownership
+    pushed_owners = record_written r (push_written xs (Some r)) placed.apart new_alone new_others
+
+    pub pushed_placed : (more : ℕ) → length xs < more
+        → ArePlaced vacant more (xs ++ Some r ∷ [])
+    pushed_placed more room = record {
+      pooled = pooled_written vacant vacant (push_written xs (Some r)) placed.pooled
+          (contains_own vacant (length xs)
+          (placed.pooled (length xs) ∙ ap is_vacant (slice_get_past xs (length xs) (omega arith))));
+      roomy = let long = length-append xs (Some r ∷ []) in omega arith;
+      apart = record_apart r (push_written xs (Some r)) placed.apart new_alone new_others;
+    }
+
+  -- the place of the record under a key
+  module _ (k i : ℕ) (has : HasRecord k (slice_get xs i)) where
+    abbrev there : (r : Keyed) × (slice_get xs i ≡ Some (Some r)) × (k ≡ r.key)
+    there = standing k (slice_get xs i) has
+
+    pub record_within : i < length xs
+    record_within = slice_get_within xs i (Some there.0) there.1
+
+    pub get_there : map.get (owners_of xs) k ≡ Some there.0.ownership
+    get_there = get_one placed.apart k i there.0.ownership
+        (ap (record_at k) there.1 ∙ subst (λ q. record_in q (Some there.0) ≡ Some
+        there.0.ownership) (sym there.2)
+        (own_key there.0))
+
+    at_key : {q : ℕ} → q ≢ k → record_at q (slice_get xs i) ≡ None
+    at_key {q} ne = ap (record_at q) there.1
+        ∙ other_key q there.0 (λ e. ne (e ∙ sym there.2))
+
+    -- what holds of the machine's record holds of it
+    pub holds_there : (P : Ownership → Type 0) → IfSome (map.get (owners_of xs) k) P
+        → IfSome (slice_get xs i) (λ place. IfSome place (λ r. P r.ownership))
+    holds_there P holds =
+        rw there.1 (subst (λ o. IfSome o P) get_there holds)
+
+    module _ (f : Ownership → Ownership) where
+      abbrev r : Keyed
+      r = with_ownership f there.0
+
+      changed_is : change_place xs i f ≡ slice_set xs i (Some r)
+      changed_is = ap (change_place_if xs i f) there.1
+
+      changed_written : IsWritten xs (slice_set xs i (Some r)) i (Some r)
+      changed_written = set_written xs i (Some r) (Some there.0) there.1
+
+      changed_alone : (j : ℕ) → HasRecord r.key (slice_get xs j) → j ≡ i
+      changed_alone j hj =
+          placed.apart.one r.key j i hj (subst (λ q. HasRecord q (slice_get xs i)) there.2 has)
+
+      changed_others : (q : ℕ) → q ≢ r.key → find_in q (slice_set xs i (Some r)) ≡ find_in q xs
+      changed_others q ne =
+          find_set xs i q (Some r) (at_key (λ e. ne (e ∙ there.2))) (other_key q r ne)
+
+      pub changed_owners : owners_of (change_place xs i f) ≡ change (owners_of xs) k f
+      changed_owners =
+          ap owners_of changed_is
+          ∙ record_written r changed_written placed.apart changed_alone changed_others
+          ∙ ap (λ q. map.insert (owners_of xs) q r.ownership) (sym there.2)
+          ∙ sym (changed_there by_number (owners_of xs) k f there.0.ownership get_there)
+
+      pub changed_placed : ArePlaced vacant rooms (change_place xs i f)
+      changed_placed = rw changed_is (record {
+        pooled = pooled_written vacant vacant changed_written placed.pooled
+            (contains_own vacant i (placed.pooled i ∙ ap is_vacant there.1));
+        roomy = rw (length-set xs i (Some r)) placed.roomy;
+        apart = record_apart r changed_written placed.apart changed_alone changed_others;
+      })
+
+    w_taken : IsWritten xs (slice_set xs i None) i None
+    w_taken = set_written xs i None (Some there.0) there.1
+
+    none_left : (j : ℕ) → record_at k (slice_get (slice_set xs i None) j) ≡ None
+    none_left j = ap (record_at k) (w_taken.at j) ∙ at (nat_eq j i) refl
+      where
+        none_of : (o : Option Ownership) → (is_some o ≡ true → ⊥) → o ≡ None
+        none_of None here = refl
+        none_of (Some h) here = absurd (here refl)
+
+        at : (b : Bool) → nat_eq j i ≡ b
+            → record_at k (cond b (Some None) (slice_get xs j)) ≡ None
+        at true same = refl
+        at false other = none_of (record_at k (slice_get xs j))
+            (λ hj. true≢false (sym (eq-eqb j i (placed.apart.one k j i hj has)) ∙ other))
+
+    pub taken_owners : owners_of (slice_set xs i None) ≡ map.remove (owners_of xs) k
+    taken_owners = map.same_map nat_cmp_total map.nat_cmp-IsAntisymmetric _ _ (λ q.
+        updated xs (slice_set xs i None) k None (find_none _ k none_left)
+        (λ p ne. find_set xs i p None (at_key ne) refl) q
+        ∙ sym (map.get-remove nat_cmp_total (owners_of xs) k q))
+
+    pub taken_absent : set.contains vacant i ≡ false
+    taken_absent = placed.pooled i ∙ ap is_vacant there.1
+
+    pub taken_placed : ArePlaced (set.insert vacant i) rooms (slice_set xs i None)
+    taken_placed = record {
+      pooled = pooled_written vacant (set.insert vacant i) w_taken placed.pooled
+          (contains-insert_at vacant i);
+      roomy = rw (length-set xs i None) placed.roomy;
+      apart = apart_written w_taken placed.apart (λ q j hq hj. absurd (false≢true hq));
+    }
+
+-- ---- no records
+
+pub placed_new : (v : set.FinSet nat_cmp) (rooms : ℕ) (xs : List Place) → v ≡ set.empty → xs ≡ []
+    → ArePlaced v rooms xs
+placed_new v rooms xs empty none = rw (empty, none) (record {
+  pooled = λ k. set.contains-empty nat_cmp k;
+  roomy = omega arith;
+  apart = record { one = λ key i j hi hj. absurd (false≢true hi) };
+})
+
+pub owners_new : (xs : List Place) → xs ≡ [] → owners_of xs ≡ map.empty
+unfolding owners_of
+owners_new xs none = rw none refl
+
+-- where all places are vacant the map is empty, and elsewhere it isn't
+pub owners_vacant : (xs : List Place) → ((i : ℕ) → i < length xs → slice_get xs i ≡ Some None)
+    → owners_of xs ≡ map.empty
+owners_vacant xs vacant = map.same_map nat_cmp_total map.nat_cmp-IsAntisymmetric _ _ (λ q.
+    get_none xs q (none q) ∙ sym (map.get-empty nat_cmp q))
+  where
+    none : (q i : ℕ) → record_at q (slice_get xs i) ≡ None
+    none q i = ⊎_elim (λ h. ap (record_at q) (vacant i h))
+        (λ le. ap (record_at q) (slice_get_past xs i le)) (cases_lt i (length xs))
+
+find_some : (xs : List Place) (q i : ℕ) → HasRecord q (slice_get xs i)
+    → is_some (find_in q xs) ≡ true
+find_some [] q i has = absurd (false≢true has)
+find_some (x ∷ xs) q zero has = at (record_in q x) has
+  where
+    at : (o : Option Ownership) → is_some o ≡ true → is_some (option_or o (find_in q xs)) ≡ true
+    at None has = absurd (false≢true has)
+    at (Some h) has = refl
+find_some (x ∷ xs) q (suc i) has = at (record_in q x) (find_some xs q i has)
+  where
+    at : (o : Option Ownership) → is_some (find_in q xs) ≡ true
+        → is_some (option_or o (find_in q xs)) ≡ true
+    at None rest = rest
+    at (Some h) rest = refl
+
+pub not_empty : (xs : List Place) (i : ℕ) (x : Place) → slice_get xs i ≡ Some x
+    → is_some x ≡ true → owners_of xs ≡ map.empty → ⊥
+not_empty xs i None is some empty = false≢true some
+not_empty xs i (Some r) is some empty = false≢true
+    (sym (ap is_some (ap (λ m. map.get m r.key) empty ∙ map.get-empty nat_cmp r.key))
+    ∙ ap is_some (get_first xs r.key)
+    ∙ find_some xs r.key i (ap is_some (ap (record_at r.key) is ∙ own_key r)))
+
+none_of : {A : Type 0} (o : Option A) → is_some o ≡ false → o ≡ None
+none_of None here = refl
+none_of (Some h) here = absurd (true≢false here)
+
+-- vacant places that come first, and one more
+pub vacant_through : (xs : List Place) (n : ℕ) (x : Place)
+    → ((i : ℕ) → i < n → slice_get xs i ≡ Some None) → slice_get xs n ≡ Some x
+    → is_some x ≡ false → (i : ℕ) → i < n + 1 → slice_get xs i ≡ Some None
+vacant_through xs n x before there vacant i within =
+    ⊎_elim (before i)
+    (λ le. let same : i ≡ n = omega arith in
+    ap (slice_get xs) same ∙ there ∙ ap Some (none_of x vacant))
+    (cases_lt i n)
+
+-- a change where there is no record changes nothing
+pub change_vacant : (xs : List Place) (i : ℕ) (x : Place) (f : Ownership → Ownership)
+    → slice_get xs i ≡ Some x → x ≡ None → slice_set xs i x ≡ change_place xs i f
+change_vacant xs i x f there vacant =
+    set-own xs i x there ∙ sym (ap (change_place_if xs i f) (there ∙ ap Some vacant))
+
+-- no record of a key at any place that comes first, and at this one
+pub none_through : (xs : List Place) (q n : ℕ)
+    → ((i : ℕ) → i < n → record_at q (slice_get xs i) ≡ None)
+    → is_some (record_at q (slice_get xs n)) ≡ false
+    → (i : ℕ) → i < n + 1 → record_at q (slice_get xs i) ≡ None
+none_through xs q n before here i within =
+    ⊎_elim (before i)
+    (λ le. let same : i ≡ n = omega arith in
+    ap (λ j. record_at q (slice_get xs j)) same ∙ none_of (record_at q (slice_get xs n)) here)
+    (cases_lt i n)
+
+pub none_of_all : (xs : List Place) (q n : ℕ)
+    → ((i : ℕ) → i < n → record_at q (slice_get xs i) ≡ None) → length xs ≤ n
+    → (i : ℕ) → record_at q (slice_get xs i) ≡ None
+none_of_all xs q n none all i =
+    ⊎_elim (none i) (λ le. ap (record_at q) (slice_get_past xs i (omega arith))) (cases_lt i n)
+
+-- ---- the record of an owner
+
+module _ (number : ℕ) (S : Owners) (o : OwnerName) where
+  own : o.store ≡ number → record_of number S o ≡ map.get S o.key
+  own is = ap (λ b. cond b (map.get S o.key) None) (eq-eqb o.store number is)
+
+  pub record_strange : o.store ≢ number → record_of number S o ≡ None
+  record_strange strange =
+      ap (λ b. cond b (map.get S o.key) None) (ne_eqb o.store number strange)
+
+  -- S is the map that contracts see
+  module _ (xs : List Place) (view : owners_of xs ≡ S) (is : o.store ≡ number) where
+    seen : record_of number S o ≡ map.get (owners_of xs) o.key
+    seen = own is ∙ ap (λ m. map.get m o.key) (sym view)
+
+    module _ (none : (i : ℕ) → record_at o.key (slice_get xs i) ≡ None) where
+      pub record_missing : record_of number S o ≡ None
+      record_missing = seen ∙ get_none xs o.key none
+
+      pub known_missing : knows number S o ≡ false
+      known_missing = ap is_some record_missing
+
+    module _ {vacant : set.FinSet nat_cmp} {rooms : ℕ} (placed : ArePlaced vacant rooms xs)
+        (i : ℕ) (has : HasRecord o.key (slice_get xs i)) where
+      pub record_found : (x : Place) → slice_get xs i ≡ Some x
+          → option_map (λ r. r.ownership) x ≡ record_of number S o
+      record_found x there =
+          let r = standing o.key (slice_get xs i) has in
+          let same : x ≡ Some r.0 = cc (there, r.1) in
+          ap (option_map (λ (r : Keyed). r.ownership)) same
+          ∙ sym (seen ∙ get_there placed o.key i has)
+
+      pub known_found : knows number S o ≡ true
+      known_found = ap is_some (seen ∙ get_there placed o.key i has)
+
+remove_absent : (S : Owners) (k : ℕ) → map.get S k ≡ None → map.remove S k ≡ S
+remove_absent S k absent = map.same_map nat_cmp_total map.nat_cmp-IsAntisymmetric _ _ (λ q.
+    ⊎_elim (λ e. subst (λ j. map.get (map.remove S k) j ≡ map.get S j) (sym e)
+    (get-remove_here by_number S k ∙ sym absent)) (get-remove_apart by_number S k q)
+    (cases_eq q k))
+
+-- S is the map that contracts see
+module _ (xs : List Place) (S : Owners) (k : ℕ) (view : owners_of xs ≡ S) where
+  -- where no place has a record of the key
+  module _ (none : (i : ℕ) → record_at k (slice_get xs i) ≡ None) where
+    missing : map.get S k ≡ None
+    missing = ap (λ m. map.get m k) (sym view) ∙ get_none xs k none
+
+    pub missing_kept : (f : Ownership → Ownership) → S ≡ change S k f
+    missing_kept f = sym (get-changed_none by_number S k f missing)
+
+    pub missing_removed : S ≡ map.remove S k
+    missing_removed = sym (remove_absent S k missing)
+
+    pub missing_names : names_under S k ≡ []
+    missing_names = ap names_in missing
+
+  pub taken_names : {vacant : set.FinSet nat_cmp} {rooms : ℕ} → ArePlaced vacant rooms xs
+      → (i : ℕ) → HasRecord k (slice_get xs i)
+      → names_in (record_at k (slice_get xs i)) ≡ names_under S k
+  taken_names placed i has =
+      let r = standing k (slice_get xs i) has in
+      ap names_in (ap (record_at k) r.1
+      ∙ subst (λ q. record_in q (Some r.0) ≡ Some r.0.ownership) (sym r.2) (own_key r.0)
+      ∙ sym (get_there placed k i has) ∙ ap (λ m. map.get m k) view)

@@ -1,0 +1,61 @@
+-- The records of owners that a store keeps, as the machine sees them.
+use Rattle.std.specs.Prelude.{◌≡◌, Bool, true, false, nat_eq, if◌then◌else◌, is_some, IsSome, ℕ}
+use Rattle.std.specs.Prelude.{◌<◌, ◌≤◌, ◌-◌, ◌⊎◌, Option, None, Some, length, slice_set}
+use Rattle.std.specs.List.{IsDistinct}
+use Rattle.std.specs.FinMap as map
+use Rattle.generational_core.specs.declared.error.StoreError.{StoreError}
+use Rattle.generational_core.specs.declared.error.StoreError.TheVariants.{UnknownOwner, OutOfMemory}
+use Rattle.generational_core.specs.declared.error.StoreError.TheVariants.{NumbersExhausted}
+use Rattle.generational_core.specs.Names.{Name, change, is_name}
+use Rattle.generational_core.specs.Machine.{OwnerName}
+use Rattle.generational_core.specs.Slots.{free}
+use Rattle.generational_core.specs.State.{Ownership, Owners}
+use Rattle.generational_core.specs.Conditions.{one_listed}
+
+-- the record of an owner, if it is of a store with this number and these records
+abbrev pub record_of : ℕ → Owners → OwnerName → Option Ownership
+record_of number owners o = if nat_eq o.store number then map.get owners o.key else None
+
+-- whether there is one
+abbrev pub knows : ℕ → Owners → OwnerName → Bool
+knows number owners o = is_some (record_of number owners o)
+
+-- the same of an owner, if there is one
+abbrev pub knows_any : ℕ → Owners → Option OwnerName → Bool
+knows_any number owners None = true
+knows_any number owners (Some o) = knows number owners o
+
+-- why a box isn't put on a list: the owner isn't known, or there is no memory for one that is
+abbrev pub IsRefusal : ℕ → Owners → Option OwnerName → StoreError → Type 0
+IsRefusal number owners o UnknownOwner = knows_any number owners o ≡ false
+IsRefusal number owners o OutOfMemory =
+    IsSome o × (knows_any number owners o ≡ true)
+IsRefusal number owners o NumbersExhausted = ⊥
+
+-- the records with a name at the end of the owner's list
+abbrev pub add_to_list_in : Owners → Option OwnerName → Name → Owners
+add_to_list_in owners None n = owners
+add_to_list_in owners (Some o) n = change owners o.key (one_listed n)
+
+-- another box in the place of the last one, and the records with it on the owner's list
+abbrev pub one_relisted : Name → Ownership → Ownership
+one_relisted n h = record h { names = slice_set h.names (length h.names - 1) n }
+
+abbrev pub relist_in : Owners → Option OwnerName → Name → Owners
+relist_in owners None n = owners
+relist_in owners (Some o) n = change owners o.key (one_relisted n)
+
+-- a name more on the list of an owner that is known, if there is an owner
+abbrev pub IsListed : ℕ → Owners → Owners → Option OwnerName → Name → Type 0
+IsListed number old new o n =
+    (knows_any number old o ≡ true) × (new ≡ add_to_list_in old o n)
+
+-- Each record stands for an owner value at least, and for no more than tickets were given. Its key
+-- was one of them. No box stands twice on its list.
+abbrev pub IsCounted : ℕ → ℕ → Option Ownership → Type 0
+IsCounted next key None = Unit {0}
+IsCounted next key (Some h) =
+    (0 < h.count) × (h.count ≤ next) × (key < next) × IsDistinct is_name h.names
+
+pub record AreCounted (next : ℕ) (owners : Owners) : Type 0 where
+  pub each : (key : ℕ) → IsCounted next key (map.get owners key)

@@ -1,0 +1,1 @@
+-- The names of machine and store that most proofs here cite, passed on from one place.

@@ -1,0 +1,48 @@
+-- A reader that begins is noted, and listed first where it isn't alone.
+use Rattle.std.proofs.Common.{ap, sym, subst, ◌≡◌, ◌∙◌, slice_get}
+use Rattle.generational_entries.specs.Entry.{with_reader}
+use Rattle.generational_entries.specs.Entries.{EntryList}
+use Rattle.generational_entries.specs.Latest.{IsAlone, IsReadable}
+use Rattle.generational_entries.specs.Entry.{change_entry}
+use Rattle.generational_entries.proofs.states.Latest.{first_apart, first_noted, listed_apart}
+use Rattle.generational_entries.proofs.states.Latest.{listed_noted}
+use Rattle.generational_entries.proofs.latest.LatestEntries.begin_read.Goals as goal
+use Rattle.generational_entries.proofs.latest.LatestEntries.begin_read.Goals.{then-not-is_alone+in_ok-list_reader}
+use Rattle.generational_entries.proofs.latest.LatestEntries.begin_read.Goals.{else-not-is_alone}
+
+pub invariant_of-self-2 : goal.invariant_of-self-2
+invariant_of-self-2 g c =
+    let slots = c.settle.new.settled.slots in
+    let same : slots ≡ c.args.self.now.slots =
+    c.settle.ensures.slots ∙ ap (λ (x : EntryList _). x.slots) c.self.view_is in
+    let i = c.args.name.slot in
+    let generation = c.args.name.generation in
+    elim c.if-not-is_alone.branch [
+      | then-not-is_alone+in_ok-list_reader w ↦
+          rw (w.self-inside-is, w.in_ok-list_reader.ensures.ok)
+          (listed_apart slots i generation c.args.borrow
+          (subst (λ s. IsReadable generation (slice_get s i)) (sym same) c.requires.there))
+      | else-not-is_alone w ↦
+          rw w.self-inside-is (first_apart slots i generation c.args.borrow
+          (subst (λ s. IsAlone generation (slice_get s i)) (sym same)
+          (c.requires.alone w.if-not-is_alone.false)))
+    ]
+
+pub returns-clause-ok : goal.returns-clause-ok
+returns-clause-ok g c =
+    let slots = c.settle.new.settled.slots in
+    let same : slots ≡ c.args.self.now.slots =
+    c.settle.ensures.slots ∙ ap (λ (x : EntryList _). x.slots) c.self.view_is in
+    let i = c.args.name.slot in
+    let generation = c.args.name.generation in
+    let after = ap (λ s. change_entry s i
+    (λ e. record e { kept = with_reader c.args.borrow e.kept })) same in
+    elim c.if-not-is_alone.branch [
+      | then-not-is_alone+in_ok-list_reader w ↦
+          rw (w.self-inside-is, w.in_ok-list_reader.ensures.ok)
+          (listed_noted slots i c.args.borrow ∙ after)
+      | else-not-is_alone w ↦
+          rw w.self-inside-is (first_noted slots i generation c.args.borrow
+          (subst (λ s. IsAlone generation (slice_get s i)) (sym same)
+          (c.requires.alone w.if-not-is_alone.false)) ∙ after)
+    ]

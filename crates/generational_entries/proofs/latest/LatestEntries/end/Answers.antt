@@ -1,0 +1,55 @@
+use Rattle.std.proofs.Common.{refl, ap, ◌∙◌}
+use Rattle.std.proofs.lemmas.Bool.{false≢true}
+use Rattle.generational_entries.specs.Entry.Kept.{Empty}
+use Rattle.generational_entries.specs.Entries.{EntryList}
+use Rattle.generational_entries.specs.Latest.{noted}
+use Rattle.generational_entries.specs.Entry.{change_entry}
+use Rattle.generational_entries.proofs.states.Latest.{alone_apart, ended, noted_order}
+use Rattle.generational_entries.proofs.latest.LatestEntries.end.Goals as goal
+use Rattle.generational_entries.proofs.latest.LatestEntries.end.Goals.{then-self-slot}
+use Rattle.generational_entries.proofs.latest.LatestEntries.end.Goals.{else-self-slot}
+
+pub returns-then-is_alone-clause-slots : goal.returns-then-is_alone-clause-slots
+returns-then-is_alone-clause-slots g c =
+    rw c.end.ensures.slots (noted_order c.self.inside.last c.self.inside.settled.slots c.args.slot
+    (λ e. record e { kept = Empty }) (λ e. refl))
+    ∙ ap (λ (x : EntryList _). change_entry x.slots c.args.slot (λ e. record e { kept = Empty }))
+    c.self.view_is
+
+pub invariant_of-self-2 : goal.invariant_of-self-2
+invariant_of-self-2 g c =
+    let last = c.self.inside.last in
+    let slots = c.self.inside.settled.slots in
+    elim c.if-self-slot.branch [
+      | then-self-slot w ↦ rw w.self-inside-is (λ is. absurd (false≢true is))
+      | else-self-slot w ↦
+          rw (
+            w.self-inside-is,
+            c.end-2.ensures.slots
+                ∙ ap (λ x. change_entry x.settled.slots c.args.slot (λ e. record e { kept = Empty }))
+                w.self-inside-is,
+          )
+          (alone_apart last slots c.args.slot (λ e. record e { kept = Empty }) c.self.invariant
+          (λ is same. w.if-self-slot.false same))
+    ]
+
+pub returns-clause-slots : goal.returns-clause-slots
+returns-clause-slots g c =
+    let last = c.self.inside.last in
+    let slots = c.self.inside.settled.slots in
+    elim c.if-self-slot.branch [
+      | then-self-slot w ↦
+          rw (w.self-inside-is) (
+          c.end-2.ensures.slots
+          ∙ (rw (w.self-inside-is, ← w.if-self-slot.true) (ended last slots)
+          ∙ ap (λ (x : EntryList _). change_entry x.slots c.args.slot
+          (λ e. record e { kept = Empty })) c.self.view_is))
+      | else-self-slot w ↦
+          ap (λ x. noted x.last c.end-2.new.self.slots) w.self-inside-is
+          ∙ (ap (noted last) (c.end-2.ensures.slots
+          ∙ ap (λ x. change_entry x.settled.slots c.args.slot (λ e. record e { kept = Empty }))
+          w.self-inside-is)
+          ∙ (noted_order last slots c.args.slot (λ e. record e { kept = Empty }) (λ e. refl)
+          ∙ ap (λ (x : EntryList _). change_entry x.slots c.args.slot
+          (λ e. record e { kept = Empty })) c.self.view_is))
+    ]

@@ -1,0 +1,26 @@
+use Rattle.std.proofs.Common.{sym, ◌≡◌, ◌∙◌, option_copied, true}
+use Rattle.std.proofs.lemmas.Bool.{false≢true}
+use Rattle.generational_entries.specs.Entry.{content_in, value_for}
+use Rattle.generational_entries.specs.Latest.{is_reader}
+use Rattle.generational_entries.proofs.states.Latest.{joined_says, opens_same}
+use Rattle.generational_entries.proofs.latest.LatestEntries.open.Goals as goal
+use Rattle.generational_entries.proofs.latest.LatestEntries.open.Goals.{else-is_reader-via-then-is_reader+then-self-slot+else-self-ticket}
+use Rattle.generational_entries.proofs.latest.LatestEntries.open.Goals.{else-is_reader-via-then-is_reader+else-self-slot}
+use Rattle.generational_entries.proofs.latest.LatestEntries.open.Goals.{else-is_reader-via-else-is_reader}
+
+pub returns : goal.returns
+returns g c =
+    let last = c.self.inside.last in
+    let other : is_reader last.standing ≡ true → last.slot ≡ c.args.slot
+    → last.borrow.ticket ≡ c.args.ticket → ⊥ = elim c.else-is_reader.branch [
+      | else-is_reader-via-then-is_reader+then-self-slot+else-self-ticket w ↦
+          λ is at same. w.if-self-ticket.false same
+      | else-is_reader-via-then-is_reader+else-self-slot w ↦
+          λ is at same. w.if-self-slot.false at
+      | else-is_reader-via-else-is_reader w ↦
+          λ is at same. absurd (false≢true (sym w.if-is_reader.false ∙ (c.is_reader.ensures ∙ is)))
+    ] in
+    rw (← c.self.view_is) (joined_says last c.self.inside.settled.slots c.self.invariant
+    c.args.slot (λ e. option_copied c.open.result ≡ value_for c.args.ticket (content_in e.kept))
+    (λ apart at e fits h. h ∙ opens_same last.standing last.borrow c.args.ticket e.kept apart
+    (λ is same. other is at same) fits) c.open.ensures)

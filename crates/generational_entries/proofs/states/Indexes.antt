@@ -1,0 +1,130 @@
+-- At which indexes of the table the borrows of a store's slots stand, and what is left of that
+-- where a slot is written.
+use Rattle.std.proofs.Common.{◌≡◌, ◌≢◌, ℕ, ◌+◌, ◌≤◌, Bool, true, false, cond, List, [], length}
+use Rattle.std.proofs.Common.{Option, None, Some, refl, sym, ◌∙◌, arith, subst, slice_get}
+use Rattle.std.proofs.Common.{slice_set, nat_eq}
+use Rattle.std.specs.Ordering.{nat_cmp}
+use Rattle.std.specs.Cmp.{nat_cmp_total}
+use Rattle.std.proofs.lemmas.Bool.{false≢true, eq-eqb, eqb-true}
+use Rattle.std.proofs.lemmas.List.{length-set}
+use Rattle.std.specs.FinSet as set
+use Rattle.generational_entries.specs.declared.entry.StorageEntry.{StorageEntry}
+use Rattle.generational_entries.specs.declared.entry.StorageEntryData.{StorageEntryData}
+use Rattle.generational_entries.specs.Entries.{IsUnborrowed, index_in, index_of, has_index}
+use Rattle.generational_entries.specs.Entries.{AreIndexed}
+use Rattle.generational_entries.specs.Entries.{IsListed, IsListedIn}
+use Rattle.generational_containers.specs.Table.{no_index, IsUsed, Table}
+use Rattle.generational_containers.specs.Lists.{how_many}
+unfoldable use Rattle.generational_entries.specs.Entries.{entries_of}
+use Rattle.generational_entries.specs.declared.entry.StorageEntryData.TheVariants as slot
+use Rattle.generational_containers.proofs.lists.Lists.{IsWritten, passes}
+
+module _ {T : Type 0} where
+  module _ {es es' : List (StorageEntry T)} {i : ℕ} {e : StorageEntry T}
+      (w : IsWritten es es' i e) where
+    -- what holds of the slot that was written and of the others holds of all
+    over : (P : ℕ → Option (StorageEntry T) → Type 0) → P i (Some e)
+        → ((k : ℕ) → k ≢ i → P k (slice_get es k)) → (k : ℕ) → P k (slice_get es' k)
+    over P here others k = subst (P k) (sym (w.at k)) (at (nat_eq k i) refl)
+      where
+        at : (b : Bool) → nat_eq k i ≡ b → P k (cond b (Some e) (slice_get es k))
+        at true same = subst (λ n. P n (Some e)) (sym (eqb-true k i same)) here
+        at false other = others k (λ z. false≢true (sym other ∙ eq-eqb k i z))
+
+    pub indexed : {t t' : Table} → AreIndexed t es → IsListed e.content
+        → ((k : ℕ) → k ≢ i → index_in (slice_get es k) ≢ no_index
+        → IsUsed t' (index_in (slice_get es k)))
+        → (index_of e.content ≢ no_index → IsUsed t' (index_of e.content))
+        → (index_of e.content ≢ no_index → (k : ℕ) → k ≢ i
+        → index_in (slice_get es k) ≢ index_of e.content)
+        → set.len t'.free + how_many has_index es' ≡ length t'.lists → length t'.lists ≤ length es'
+        + 1
+        → AreIndexed t' es'
+    indexed {t} {t'} s fits others here alone counted few =
+        record {
+          listed = over (λ k o. IsListedIn o) fits (λ k other. s.listed k);
+          used = over (λ k o. index_in o ≢ no_index → IsUsed t' (index_in o)) here others;
+          apart = λ j k. over (λ j o. index_in o ≢ no_index → index_in o ≡ index_in (slice_get es'
+              k)
+              → j ≡ k) (written k) (rest k) j;
+          counted = counted;
+          few = few;
+        }
+      where
+        written : (k : ℕ) → index_of e.content ≢ no_index
+            → index_of e.content ≡ index_in (slice_get es' k) → i ≡ k
+        written k some = over (λ k o. index_of e.content ≡ index_in o → i ≡ k) (λ same. refl)
+            (λ k other same. absurd (alone some k other (sym same))) k
+
+        rest : (k j : ℕ) → j ≢ i → index_in (slice_get es j) ≢ no_index
+            → index_in (slice_get es j) ≡ index_in (slice_get es' k) → j ≡ k
+        rest k j other some =
+            over (λ k o. index_in (slice_get es j) ≡ index_in o → j ≡ k)
+            (λ same. absurd (alone (λ z. some (same ∙ z)) j other same))
+            (λ k at same. s.apart j k some same) k
+
+-- a slot with an index has listed readers, if it has readers
+pub has_listed : {T : Type 0} (d : StorageEntryData T) → index_of d ≢ no_index → IsListed d
+has_listed slot.Empty some = tt
+has_listed (slot.Data kd v) some = tt
+has_listed (slot.Read kd x v) some = some
+has_listed (slot.Lent kd x) some = tt
+has_listed (slot.Reference m g) some = tt
+
+-- ---- slots without borrows
+
+module _ {T : Type 0} where
+  pub unborrowed_none : (d : StorageEntryData T) → IsUnborrowed d → index_of d ≡ no_index
+  unborrowed_none (slot.Data kd v) free = refl
+  unborrowed_none (slot.Read kd x v) free = absurd free
+  unborrowed_none (slot.Reference m g) free = refl
+  unborrowed_none slot.Empty free = absurd free
+  unborrowed_none (slot.Lent kd x) free = absurd free
+
+  pub unborrowed_listed : (d : StorageEntryData T) → IsUnborrowed d → IsListed d
+  unborrowed_listed (slot.Data kd v) free = tt
+  unborrowed_listed (slot.Read kd x v) free = absurd free
+  unborrowed_listed (slot.Reference m g) free = tt
+  unborrowed_listed slot.Empty free = tt
+  unborrowed_listed (slot.Lent kd x) free = tt
+
+pub indexed_none : {T : Type 0} {t : Table} {es : List (StorageEntry T)} → es ≡ []
+    → length t.lists ≡ 1 → t.free ≡ set.insert set.empty 0 → AreIndexed t es
+indexed_none none one free = rw none (record {
+  used = λ k some. absurd (some refl);
+  apart = λ j k some same. absurd (some refl);
+  listed = λ k. tt;
+  counted = rw (
+    free,
+    one,
+    set.len-insert nat_cmp_total set.empty 0,
+    set.contains-empty nat_cmp 0,
+    set.len-empty nat_cmp,
+  ) refl;
+  few = omega arith;
+})
+
+module _ {T : Type 0} where
+  no_index_test : (o : Option (StorageEntry T)) → index_in o ≡ no_index
+      → passes has_index o ≡ false
+  no_index_test None none = refl
+  no_index_test (Some e) none = rw (eq-eqb (index_of e.content) no_index none) refl
+
+  pub set_no_shorter : (es : List (StorageEntry T)) (i : ℕ) (e : StorageEntry T)
+      → length es ≤ length (slice_set es i e)
+  set_no_shorter es i e = let same = length-set es i e in omega arith
+
+  -- a slot without borrows that is written where none stood
+  pub indexed_free : {t : Table} {es es' : List (StorageEntry T)} {i : ℕ} {e : StorageEntry T}
+      → IsWritten es es' i e → AreIndexed t es → IsListed e.content → length es ≤ length es'
+      → index_in (slice_get es i) ≡ no_index → index_of e.content ≡ no_index
+      → AreIndexed t es'
+  indexed_free {t} {es} {es'} {i} {e} w s fits longer before none =
+      indexed w s fits (λ k other. s.used k) (λ some. absurd (some none))
+      (λ some. absurd (some none)) counted (let few = s.few in omega arith)
+    where
+      counted : set.len t.free + how_many has_index es' ≡ length t.lists
+      counted =
+          let count = rw (no_index_test (slice_get es i) before, no_index_test (Some e) none)
+          at (w.count has_index) in
+          let all = s.counted in omega (arith, count)

@@ -1,0 +1,301 @@
+-- A slot that changes with the table of borrows, and what is left of the other slots.
+use Rattle.std.proofs.Common.{◌≡◌, ◌≢◌, ℕ, ◌+◌, ◌<◌, ◌≤◌, true, false, List, [], ◌∷◌, length, Some}
+use Rattle.std.proofs.Common.{refl, sym, ap, ◌∙◌, arith, subst, inl, inr, slice_get, slice_set}
+use Rattle.std.specs.Ordering.{nat_cmp}
+use Rattle.std.proofs.lemmas.Bool.{true≢false, eq-eqb, ne_eqb}
+use Rattle.std.proofs.lemmas.Option.{slice_get_within}
+use Rattle.std.proofs.lemmas.List.{get_or-set_same, length-set}
+use Rattle.std.specs.FinSet as set
+use Rattle.generational_core.specs.declared.borrow.Borrow.{Borrow}
+use Rattle.generational_core.specs.Cells.Content.{Here}
+use Rattle.generational_core.specs.declared.error.Location.{Location}
+use Rattle.generational_entries.specs.declared.entry.EntryDetails.{EntryDetails}
+use Rattle.generational_entries.specs.declared.entry.StorageEntry.{StorageEntry}
+use Rattle.generational_entries.specs.Entry.{Entry}
+use Rattle.generational_entries.specs.Entries.{EntryList, kept_data, index_in, index_of, has_index}
+use Rattle.generational_entries.specs.Entries.{entry_of, AreIndexed, IsListed, unread_data}
+use Rattle.generational_containers.specs.Table.{Releases, no_index, IsUsed, Table, list_at}
+use Rattle.generational_containers.specs.Table.{IsVacant}
+use Rattle.generational_containers.specs.Table.{IsClosed, IsJoined}
+use Rattle.generational_entries.specs.Entry.Kept.{Live}
+use Rattle.generational_entries.specs.declared.entry.Kind.{Kind}
+use Rattle.generational_containers.specs.Lists.{how_many}
+use Rattle.generational_entries.specs.Entry.{change_entry, change_entry_if}
+unfoldable use Rattle.generational_entries.specs.Entries.{entries_of}
+use Rattle.generational_entries.specs.declared.entry.StorageEntryData.TheVariants as slot
+use Rattle.generational_containers.proofs.lists.Lists.{set-own, set_written, bit, fewer_within}
+use Rattle.generational_containers.proofs.lists.Lists.{many_within}
+use Rattle.generational_entries.proofs.lists.TableChanges.{Changes, Opens, closed, closed_count}
+use Rattle.generational_entries.proofs.lists.TableChanges.{list_changed, none_some, opened}
+use Rattle.generational_entries.proofs.lists.TableChanges.{opened_count, opened_few, opened_list}
+use Rattle.generational_entries.proofs.lists.TableChanges.{opened_used, used_still}
+use Rattle.generational_containers.proofs.lists.Tables.{removed_none}
+use Rattle.generational_entries.proofs.states.Indexes.{has_listed, indexed}
+use Rattle.generational_entries.proofs.states.Entries.{IsKept, SameLists, entries_set, has_place}
+use Rattle.generational_entries.proofs.states.Entries.{location, slot_seen, used_here}
+
+module _ {T : Type 0} {t : Table} {es : List (StorageEntry T)} {ls : List EntryDetails}
+    {now : EntryList T} (s : IsKept t es ls now) (i : ℕ) (e : StorageEntry T)
+    (there : slice_get es i ≡ Some e) where
+  -- the slots with the one at the index written, as contracts see them
+  pub view_changed : (lists : List (List Borrow)) (e' : StorageEntry T) (f : Entry T → Entry T)
+      → SameLists t.lists lists es i
+      → ((l : EntryDetails) → entry_of lists e' l ≡ f (entry_of t.lists e l))
+      → entries_of lists (slice_set es i e') ls ≡ change_entry now.slots i f
+  view_changed lists e' f same becomes =
+      let within = slice_get_within es i e there in let long = s.made in
+      let l = location s i e there in
+      ap (entries_of lists (slice_set es i e')) (sym (set-own ls i l.0 l.1))
+      ∙ (entries_set t.lists lists es ls i e' l.0 within (omega arith) same
+      ∙ (ap (slice_set (entries_of t.lists es ls) i) (becomes l.0)
+      ∙ (ap (λ slots. slice_set slots i (f (entry_of t.lists e l.0))) s.slots
+      ∙ ap (change_entry_if now.slots i f) (sym (slot_seen s i e there)))))
+
+  -- the table changes at an index that no other slot has
+  module _ {t' : Table} {x : ℕ} (c : Changes t t' x) (below : x < no_index)
+      (alone : (k : ℕ) → k ≢ i → index_in (slice_get es k) ≢ x) where
+    pub same_lists : SameLists t.lists t'.lists es i
+    same_lists k other = c.lists (index_in (slice_get es k)) (alone k other)
+
+    pub step_indexed : (e' : StorageEntry T) → IsListed e'.content
+        → (index_of e'.content ≢ no_index → (index_of e'.content ≡ x) × IsUsed t' x)
+        → set.len t'.free + bit (has_index e') + length t.lists
+        ≡ set.len t.free + bit (has_index e) + length t'.lists
+        → length t'.lists ≤ length es + 1 → AreIndexed t' (slice_set es i e')
+    step_indexed e' fits here counts few =
+        let w = set_written es i e' e there in
+        let count = rw there at (w.count has_index) in
+        let counted = s.indexed.counted in
+        let long = length-set es i e' in
+        indexed w s.indexed fits
+        (λ k other some. used_still c _ (alone k other) (s.indexed.used k some))
+        (λ some. subst (IsUsed t') (sym (here some).0) (here some).1)
+        (λ some k other same. alone k other (same ∙ (here some).0))
+        (omega arith) (omega arith)
+
+  -- an index that is used by no slot
+  vacant_alone : (x : ℕ) → (IsUsed t x → ⊥) → x ≢ no_index
+      → (k : ℕ) → k ≢ i → index_in (slice_get es k) ≢ x
+  vacant_alone x unused some k other same =
+      unused (subst (IsUsed t) same (s.indexed.used k (λ z. some (sym same ∙ z))))
+
+  pub used_alone : (x : ℕ) → index_of e.content ≡ x → x ≢ no_index
+      → (k : ℕ) → k ≢ i → index_in (slice_get es k) ≢ x
+  used_alone x is some k other same =
+      let own : index_in (slice_get es i) ≡ x = rw there is in
+      other (s.indexed.apart k i (λ z. some (sym same ∙ z)) (same ∙ sym own))
+
+  module _ (none : index_of e.content ≡ no_index) where
+    has_none : has_index e ≡ false
+    has_none = rw none refl
+
+    fewer : how_many has_index es < length es
+    fewer = fewer_within has_index es i e there has_none
+
+    pub small_left : length t.lists < no_index
+    small_left = let few = s.indexed.few in let small = s.small in omega arith
+
+    pub room_left : length es ≤ t.rooms → t.free ≡ set.empty → length t.lists ≤ t.rooms
+    room_left roomy empty =
+        let full : set.len t.free ≡ 0 = ap set.len empty ∙ set.len-empty nat_cmp in
+        let counted = s.indexed.counted in let less = fewer in omega arith
+
+    -- the slot gets an index
+    module _ {t' : Table} {x : ℕ} {list : List Borrow} (o : Opens t t' x list) where
+      pub open_below : x < no_index
+      open_below = at o.vacant
+        where
+          at : IsVacant t x → x < no_index
+          at (inl v) = let low = v.1 in let small = small_left in omega arith
+          at (inr v) = let end = v.1 in let small = small_left in omega arith
+
+      open_alone : (k : ℕ) → k ≢ i → index_in (slice_get es k) ≢ x
+      open_alone = vacant_alone x (λ u. at u o.vacant) (let below = open_below in λ z. omega
+          (arith, z))
+        where
+          at : IsUsed t x → IsVacant t x → ⊥
+          at u (inl v) = true≢false (sym v.0 ∙ u.used)
+          at u (inr v) = let low = u.within in omega (arith, v.1)
+
+      pub open_lists : SameLists t.lists t'.lists es i
+      open_lists = same_lists (opened o) open_below open_alone
+
+      pub open_indexed : (e' : StorageEntry T) → index_of e'.content ≡ x
+          → AreIndexed t' (slice_set es i e')
+      open_indexed e' at =
+          let below = open_below in
+          let has : has_index e' ≡ true = rw (at, ne_eqb x no_index (λ z. omega (arith, z))) refl
+          in
+          let counts = opened_count o in let few = s.indexed.few in
+          let counted = s.indexed.counted in let less = fewer in
+          step_indexed (opened o) open_below open_alone e'
+          (has_listed e'.content (λ z. omega (arith, sym at ∙ z, below)))
+          (λ some. (at, opened_used o))
+          (rw (has, has_none) (omega arith))
+          (opened_few o (length es + 1) few (λ z. omega arith))
+
+  -- the list at index 0 is the slot's, and stands elsewhere with a borrow more
+  module _ (is : index_of e.content ≡ 0) where
+    zero_used : IsUsed t 0
+    zero_used = subst (IsUsed t) is (used_here s i e there (λ z. omega (arith, is, z)))
+
+    join_few : length t.lists ≤ length es + set.len t.free
+    join_few = let most = many_within has_index es in let counted = s.indexed.counted in omega arith
+
+    pub join_room : length es ≤ t.rooms → t.free ≡ set.empty → length t.lists ≤ t.rooms
+    join_room roomy empty =
+        let full : set.len t.free ≡ 0 = ap set.len empty ∙ set.len-empty nat_cmp in
+        let few = join_few in omega arith
+
+    module _ {t' : Table} {y : ℕ} {list : List Borrow} (j : IsJoined t t' y list)
+        (some : list ≢ []) where
+      -- the table before index 0 is given back
+      abbrev before : Table
+      before = record { lists = t'.lists; free = set.remove t.free y; rooms = t'.rooms }
+
+      opens : Opens t before y list
+      opens = record { vacant = j.vacant; some = some; lists = j.lists; free = refl }
+
+      closes : IsClosed before t' 0
+      closes = record {
+        others = λ q other. refl;
+        same = refl;
+        rooms = refl;
+        freed = j.free;
+      }
+
+      zero_kept : set.contains before.free 0 ≡ false
+      zero_kept = removed_none t.free y 0 zero_used.used
+
+      pub join_below : y < no_index
+      join_below = at j.vacant
+        where
+          at : IsVacant t y → y < no_index
+          at (inl v) =
+              let low = v.1 in let few = s.indexed.few in let small = s.small in omega arith
+          at (inr v) =
+              let end = v.1 in
+              let full : set.len t.free ≡ 0 = ap set.len v.0 ∙ set.len-empty nat_cmp in
+              let few = join_few in let small = s.small in omega arith
+
+      join_alone : (k : ℕ) → k ≢ i → index_in (slice_get es k) ≢ y
+      join_alone = vacant_alone y (λ u. unused u j.vacant)
+          (let below = join_below in λ z. omega (arith, z))
+        where
+          unused : IsUsed t y → IsVacant t y → ⊥
+          unused u (inl v) = true≢false (sym v.0 ∙ u.used)
+          unused u (inr v) = let low = u.within in omega (arith, v.1)
+
+      zero_alone : (k : ℕ) → k ≢ i → index_in (slice_get es k) ≢ 0
+      zero_alone = used_alone 0 is (λ z. omega (arith, z))
+
+      pub join_list : list_at t'.lists y ≡ list
+      join_list = opened_list opens
+
+      pub join_lists : SameLists t.lists t'.lists es i
+      join_lists k other = (opened opens).lists (index_in (slice_get es k)) (join_alone k other)
+
+      pub join_indexed : (e' : StorageEntry T) → index_of e'.content ≡ y
+          → AreIndexed t' (slice_set es i e')
+      join_indexed e' at =
+          let w = set_written es i e' e there in
+          let above = j.above in let below = join_below in
+          let has : has_index e ≡ true = rw is refl in
+          let has' : has_index e' ≡ true =
+          rw (at, ne_eqb y no_index (λ z. omega (arith, z))) refl in
+          let count = rw (there, has, has') at (w.count has_index) in
+          let counted = s.indexed.counted in let opens_one = opened_count opens in
+          let closes_one = closed_count closes zero_kept in
+          let long = length-set es i e' in let many = join_few in
+          let few = opened_few opens (length es + 1) s.indexed.few
+          (λ none. omega (arith, none)) in
+          indexed w s.indexed (has_listed e'.content (λ z. omega (arith, sym at ∙ z, below)))
+          (λ k other some. used_still (closed closes) _ (zero_alone k other)
+          (used_still (opened opens) _ (join_alone k other) (s.indexed.used k some)))
+          (λ z. subst (IsUsed t') (sym at) (used_still (closed closes) y
+          (λ z. omega (arith, z)) (opened_used opens)))
+          (λ z k other same. join_alone k other (same ∙ at))
+          (omega arith) (omega arith)
+
+  module _ (x : ℕ) (is : index_of e.content ≡ x) (some : x ≢ no_index) where
+    pub used_x : IsUsed t x
+    used_x = subst (IsUsed t) is (used_here s i e there (λ z. some (sym is ∙ z)))
+
+    used_below : x < no_index
+    used_below = let low = used_x.within in let few = s.indexed.few in
+        let small = s.small in omega arith
+
+    has_some : has_index e ≡ true
+    has_some = rw (is, ne_eqb x no_index some) refl
+
+    -- another list stands at the slot's index
+    module _ {t' : Table} (left : List Borrow) (b : left ≢ [])
+        (now' : t' ≡ record t { lists = slice_set t.lists x left }) where
+      pub list_lists : SameLists t.lists t'.lists es i
+      list_lists =
+          same_lists (list_changed t t' x left now') used_below (used_alone x is some)
+
+      pub list_indexed : (e' : StorageEntry T) → index_of e'.content ≡ x
+          → AreIndexed t' (slice_set es i e')
+      list_indexed e' at =
+          let has : has_index e' ≡ true = rw (at, ne_eqb x no_index some) refl in
+          let long : length t'.lists ≡ length t.lists = rw now' (length-set t.lists x left) in
+          let free : set.len t'.free ≡ set.len t.free = rw now' refl in
+          let few = s.indexed.few in
+          step_indexed (list_changed t t' x left now') used_below (used_alone x is some) e'
+          (has_listed e'.content (λ z. some (sym at ∙ z)))
+          (λ z. (at, list_used)) (rw (has, has_some) (omega arith)) (omega arith)
+        where
+          list_used : IsUsed t' x
+          list_used = rw now' (record {
+            within = let long = length-set t.lists x left in let low = used_x.within in omega
+                arith;
+            used = used_x.used;
+            some = λ z. b (sym (get_or-set_same t.lists x left [] used_x.within) ∙ z);
+          })
+
+    -- the slot's index is given back
+    module _ {t' : Table} (c : IsClosed t t' x) where
+      pub close_lists : SameLists t.lists t'.lists es i
+      close_lists = same_lists (closed c) used_below (used_alone x is some)
+
+      pub close_indexed : (e' : StorageEntry T) → IsListed e'.content
+          → index_of e'.content ≡ no_index → AreIndexed t' (slice_set es i e')
+      close_indexed e' fits none =
+          let has : has_index e' ≡ false = rw none refl in
+          let free = closed_count c used_x.used in let long = c.same in
+          let few = s.indexed.few in
+          step_indexed (closed c) used_below (used_alone x is some) e' fits
+          (λ z. absurd (z none)) (rw (has, has_some) (omega arith)) (omega arith)
+
+  -- a reader is taken away from a value
+  module _ (kd : Kind) (x : ℕ) (v : T) (is : e.content ≡ slot.Read kd x v) where
+    own : index_of e.content ≡ x
+    own = rw is refl
+
+    some : x ≢ no_index
+    some = has_place s i e there kd x v is
+
+    pub release_lists : (t' : Table) (y : ℕ) (left : List Borrow) → Releases t t' x y left
+        → SameLists t.lists t'.lists es i
+    release_lists t' y [] r = close_lists x own some r.1
+    release_lists t' y (b ∷ bs) r = list_lists x own some (b ∷ bs) (λ z. none_some b bs z) r.1
+
+    pub release_indexed : (t' : Table) (y : ℕ) (left : List Borrow) → Releases t t' x y left
+        → (g : ℕ) → AreIndexed t' (slice_set es i
+        (record { generation = g; content = unread_data (slot.Read kd y v) }))
+    release_indexed t' y [] r g =
+        rw (eq-eqb y no_index r.0) (close_indexed x own some r.1 _ tt refl)
+    release_indexed t' y (b ∷ bs) r g =
+        rw (ne_eqb y no_index (λ z. some (sym r.0 ∙ z)))
+        (list_indexed x own some (b ∷ bs) (λ z. none_some b bs z) r.1 _ r.0)
+
+    -- what is left of the cell
+    pub release_kept : (t' : Table) (y : ℕ) (left : List Borrow) → Releases t t' x y left
+        → (l : Location) → kept_data (list_at t'.lists (index_of (unread_data (slot.Read kd y v))))
+        l (unread_data (slot.Read kd y v)) ≡ Live kd (Here v left) l
+    release_kept t' y [] r l = rw (eq-eqb y no_index r.0) refl
+    release_kept t' y (b ∷ bs) r l =
+        rw (ne_eqb y no_index (λ z. some (sym r.0 ∙ z)), r.0, r.1)
+        (ap (λ left. Live kd (Here v left) l)
+        (get_or-set_same t.lists x (b ∷ bs) [] (used_x x own some).within))

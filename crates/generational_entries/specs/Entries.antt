@@ -1,0 +1,161 @@
+-- The slots of a store with the table of their borrows, and what holds of the two.
+use Rattle.std.specs.Prelude.{◌≡◌, ◌≢◌, ◌≤◌, ◌<◌, ◌+◌, ℕ, List, [], ◌∷◌, Bool, not}
+use Rattle.std.specs.Prelude.{true, false, nat_eq, length, slice_get, Option, None, Some}
+use Rattle.std.specs.Prelude.{if◌then◌else◌}
+use Rattle.std.specs.FinSet as set
+use Rattle.generational_core.specs.declared.borrow.Borrow.{Borrow}
+use Rattle.generational_core.specs.declared.error.Location.{Location}
+use Rattle.generational_core.specs.Cells.Content.{Here, Lent}
+use Rattle.generational_entries.specs.declared.entry.StorageEntry.{StorageEntry}
+use Rattle.generational_entries.specs.declared.entry.StorageEntryData.{StorageEntryData}
+use Rattle.generational_entries.specs.declared.entry.StorageEntryData.TheVariants as slot
+use Rattle.generational_entries.specs.declared.entry.Kind.TheVariants as kind
+use Rattle.generational_entries.specs.declared.entry.Kind.{Kind}
+use Rattle.generational_entries.specs.declared.entry.EntryDetails.{EntryDetails}
+use Rattle.generational_core.specs.Names.{Name}
+use Rattle.generational_entries.specs.Entry.{Entry, Kept}
+use Rattle.generational_entries.specs.Entry.Kept.{Empty, Live, Refers}
+use Rattle.generational_containers.specs.Lists.{how_many}
+use Rattle.generational_containers.specs.Table.{Table, list_at, no_index, IsUsed}
+
+-- nobody's borrow of a cell that was made at a location
+abbrev pub nobody : Location → Borrow
+nobody l = record { ticket = 0; location = l }
+
+-- the writer that stands first, or nobody
+abbrev pub writer_in : List Borrow → Location → Borrow
+writer_in [] l = nobody l
+writer_in (w ∷ bs) l = w
+
+-- the slots, and for how many there is room
+pub record EntryList (T : Type 0) : Type 0 where
+  pub slots : List (Entry T)
+  pub rooms : ℕ
+
+module _ {T : Type 0} where
+  -- where the borrows of a slot's cell stand in the table
+  abbrev pub index_of : StorageEntryData T → ℕ
+  index_of (slot.Read k i v) = i
+  index_of (slot.Lent k i) = i
+  index_of _ = no_index
+
+  -- whose the value is, also one that is lent
+  abbrev pub kind_of : StorageEntryData T → Option Kind
+  kind_of (slot.Data k v) = Some k
+  kind_of (slot.Read k i v) = Some k
+  kind_of (slot.Lent k i) = Some k
+  kind_of _ = None
+
+  -- whether it is a value of its own without borrows
+  abbrev pub is_unborrowed_data : StorageEntryData T → Bool
+  is_unborrowed_data (slot.Data kind.Value v) = true
+  is_unborrowed_data _ = false
+
+  -- the value, unless it's lent
+  abbrev pub value_in : StorageEntryData T → Option T
+  value_in (slot.Data k v) = Some v
+  value_in (slot.Read k i v) = Some v
+  value_in _ = None
+
+  -- the value at which no reader is listed
+  abbrev pub unread_in : StorageEntryData T → Option T
+  unread_in (slot.Data k v) = Some v
+  unread_in _ = None
+
+  -- such a value, lent to nobody
+  abbrev pub lent_data : StorageEntryData T → StorageEntryData T
+  lent_data (slot.Data k v) = slot.Lent k no_index
+  lent_data d = d
+
+  -- such a value, with readers at an index
+  abbrev pub read_data : ℕ → StorageEntryData T → StorageEntryData T
+  read_data x (slot.Data k v) = slot.Read k x v
+  read_data x d = d
+
+  -- a value without readers, where their index is none
+  abbrev pub unread_data : StorageEntryData T → StorageEntryData T
+  unread_data (slot.Read k i v) = if nat_eq i no_index then slot.Data k v else slot.Read k i v
+  unread_data d = d
+
+  -- listed readers have an index
+  abbrev pub IsListed : StorageEntryData T → Type 0
+  IsListed (slot.Read k i v) = i ≢ no_index
+  IsListed _ = Unit {0}
+
+  -- what a reference names
+  abbrev pub target_of : StorageEntryData T → Option Name
+  target_of (slot.Reference s g) = Some (record { slot = s; generation = g })
+  target_of _ = None
+
+  -- what a box of this name reaches where its cell is such
+  abbrev pub lead_of : StorageEntryData T → Name → Option Name
+  lead_of (slot.Data kind.Value v) n = Some n
+  lead_of (slot.Read kind.Value i v) n = Some n
+  lead_of (slot.Lent kind.Value i) n = Some n
+  lead_of (slot.Reference s g) n = Some (record { slot = s; generation = g })
+  lead_of _ n = None
+
+  -- a cell without borrows
+  abbrev pub IsUnborrowed : StorageEntryData T → Type 0
+  IsUnborrowed (slot.Data k v) = Unit {0}
+  IsUnborrowed (slot.Reference s g) = Unit {0}
+  IsUnborrowed _ = ⊥
+
+  -- what a slot has whose cell has these borrows; nobody stands for a writer who isn't among them
+  abbrev pub kept_data : List Borrow → Location → StorageEntryData T → Kept T
+  kept_data bs l slot.Empty = Empty
+  kept_data bs l (slot.Data k v) = Live k (Here v []) l
+  kept_data bs l (slot.Read k i v) = Live k (Here v bs) l
+  kept_data bs l (slot.Lent k i) = Live k (Lent (writer_in bs l)) l
+  kept_data bs l (slot.Reference s g) = Refers (record { slot = s; generation = g }) l
+
+  -- the cell with nobody as its writer
+  abbrev pub taken : Kept T → Kept T
+  taken (Live k c l) = Live k (Lent (nobody l)) l
+  taken kept = kept
+
+  abbrev pub entry_of : List (List Borrow) → StorageEntry T → EntryDetails → Entry T
+  entry_of lists e d =
+      record {
+        generation = e.generation;
+        kept = kept_data (list_at lists (index_of e.content)) d.created_at e.content;
+        references = d.references;
+      }
+
+  -- the slots, each with its borrows and its details
+  unfoldable pub entries_of : List (List Borrow) → List (StorageEntry T) → List EntryDetails
+      → List (Entry T)
+  entries_of lists (e ∷ es) (d ∷ ds) = entry_of lists e d ∷ entries_of lists es ds
+  entries_of lists _ _ = []
+
+  -- the index of a slot, if there is one
+  abbrev pub index_in : Option (StorageEntry T) → ℕ
+  index_in None = no_index
+  index_in (Some e) = index_of e.content
+
+  abbrev pub IsListedIn : Option (StorageEntry T) → Type 0
+  IsListedIn None = Unit {0}
+  IsListedIn (Some e) = IsListed e.content
+
+  abbrev pub has_index : StorageEntry T → Bool
+  has_index e = not (nat_eq (index_of e.content) no_index)
+
+-- What holds of a store's slots and the table of their borrows.
+pub record AreIndexed {T : Type 0} (t : Table) (es : List (StorageEntry T)) : Type 0 where
+  -- borrows stand at each index of a slot, and no two slots have the same
+  pub used : (k : ℕ) → index_in (slice_get es k) ≢ no_index → IsUsed t (index_in (slice_get es k))
+  pub apart : (j k : ℕ) → index_in (slice_get es j) ≢ no_index
+      → index_in (slice_get es j) ≡ index_in (slice_get es k) → j ≡ k
+  -- a slot whose value has listed readers has an index
+  pub listed : (k : ℕ) → IsListedIn (slice_get es k)
+  -- the indexes of slots and the free ones are all that there are, one more than slots at most
+  pub counted : set.len t.free + how_many has_index es ≡ length t.lists
+  pub few : length t.lists ≤ length es + 1
+
+-- there is room for this many slots, but for no index beyond the last
+pub record AreRoomy (room count capacity detailed borrowed : ℕ) : Type 0 where
+  pub filled : count ≤ room
+  pub entries : room ≤ capacity
+  pub details : room ≤ detailed
+  pub borrows : room ≤ borrowed
+  pub indexes : room + 1 < no_index

@@ -1,0 +1,60 @@
+-- The end of a name.
+use Rattle.std.proofs.Common.{is_some}
+use Rattle.generational_entries.specs.Entry.{target_in}
+use Rattle.generational_slots.proofs.states.Endings.{target_there}
+use Rattle.std.proofs.Common.{ap, sym, ◌≡◌, ◌∙◌, option_map, refl}
+use Rattle.std.proofs.lemmas.Bool.{false≢true}
+use Rattle.std.specs.FinMap as map
+use Rattle.generational_slots.specs.Slotted.{Slotted}
+use Rattle.generational_slots.proofs.Common.{State, name_of_cell}
+use Rattle.generational_slots.proofs.states.Endings.{reference_closes, reference_left, value_closes}
+use Rattle.generational_slots.proofs.states.Endings.{without}
+use Rattle.generational_slots.proofs.states.Changes.{has_target}
+use Rattle.generational_slots.proofs.slots.Slots.close_any.Goals as goal
+use Rattle.generational_slots.proofs.slots.Slots.close_any.Goals.{in-Some, in_default}
+
+pub remove-requires-then-is_reference : goal.remove-requires-then-is_reference
+remove-requires-then-is_reference g c =
+    let S = c.args.self.now.state in
+    let n = name_of_cell c.args.name in
+    let gone : c.match-doomed.self.state ≡ without S (option_map name_of_cell c.doomed.result) =
+    elim c.match-doomed.branch [
+      | in-Some w ↦ ap (λ (x : Slotted _). x.state) w.self-is ∙ rw w.in-Some.is w.remove.ensures
+      | in_default w ↦ ap (λ (x : Slotted _). x.state) w.self-is ∙ rw w.in_default.is refl
+    ] in
+    let names = has_target name_of_cell c.target-target.result c.target-target.ensures
+    (sym c.is_some-is_reference.ensures ∙ c.if-is_reference.true) in
+    let left = reference_left S n c.requires _ c.doomed.ensures names in
+    rw gone (record {
+      there = ap is_some left ∙ target_there (map.get S.cells n) names;
+      target = c.target-target.ensures ∙ ap target_in (sym left);
+      alone = λ is. absurd (false≢true is);
+    })
+
+pub returns-then-is_reference : goal.returns-then-is_reference
+returns-then-is_reference g c =
+    let S = c.args.self.now.state in
+    let n = name_of_cell c.args.name in
+    let gone : c.match-doomed.self.state ≡ without S (option_map name_of_cell c.doomed.result) =
+    elim c.match-doomed.branch [
+      | in-Some w ↦ ap (λ (x : Slotted _). x.state) w.self-is ∙ rw w.in-Some.is w.remove.ensures
+      | in_default w ↦ ap (λ (x : Slotted _). x.state) w.self-is ∙ rw w.in_default.is refl
+    ] in
+    c.remove-then-is_reference.ensures
+    ∙ (ap (λ (X : State _). record X { cells = map.remove X.cells n }) gone
+    ∙ reference_closes S n c.requires _ c.doomed.ensures
+    (has_target name_of_cell c.target-target.result c.target-target.ensures
+    (sym c.is_some-is_reference.ensures ∙ c.if-is_reference.true)))
+
+pub returns-else-is_reference : goal.returns-else-is_reference
+returns-else-is_reference g c =
+    let S = c.args.self.now.state in
+    let n = name_of_cell c.args.name in
+    let gone : c.match-doomed.self.state ≡ without S (option_map name_of_cell c.doomed.result) =
+    elim c.match-doomed.branch [
+      | in-Some w ↦ ap (λ (x : Slotted _). x.state) w.self-is ∙ rw w.in-Some.is w.remove.ensures
+      | in_default w ↦ ap (λ (x : Slotted _). x.state) w.self-is ∙ rw w.in_default.is refl
+    ] in
+    gone ∙ value_closes S n c.requires _ c.doomed.ensures
+    (has_target name_of_cell c.target-target.result c.target-target.ensures
+    (sym c.is_some-is_reference.ensures ∙ c.if-is_reference.false))

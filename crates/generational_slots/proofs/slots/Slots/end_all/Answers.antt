@@ -1,0 +1,70 @@
+-- The end of a list of names.
+use Rattle.std.proofs.Common.{◌≡◌, List, ap, sym, subst, ◌∙◌, ◌+◌, ◌∷◌, [], drop}
+use Rattle.std.proofs.Common.{slice_index_or, map as list_map}
+use Rattle.std.proofs.lemmas.List.{at_drop_more, at_drop_all}
+use Rattle.generational_core.proofs.machine.Closing.{close_each, close_nothing}
+use Rattle.generational_core.proofs.machine.Linking.{closing_linked}
+use Rattle.generational_slots.proofs.Common.{CellName, IsLinked, NameMap, Cell, close, name_of_cell}
+use Rattle.generational_slots.proofs.Common.{count_of, state_of}
+use Rattle.generational_slots.proofs.Common.{cells_after, first_hindrance}
+use Rattle.generational_entries.specs.Entry.{FoundBorrowed}
+use Rattle.generational_slots.proofs.states.Endings.{hindrance_is}
+use Rattle.std.proofs.Common.{Err, length}
+use Rattle.generational_slots.proofs.states.Changes.{state_is}
+use Rattle.generational_slots.proofs.slots.Slots.end_all.Goals as goal
+
+pub returns-in-Err-clause-found : goal.returns-in-Err-clause-found
+returns-in-Err-clause-found g c =
+    let S = c.args.self.now.state in
+    let names = list_map name_of_cell c.args.names.now in
+    subst (λ t. FoundBorrowed t (Err c.in-Err.refused))
+    (ap (λ X. first_hindrance X.cells (cells_after X.cells names) names) (state_is c.self.view_is)
+    ∙ sym (hindrance_is S names)) c.in-Err.ensures.found
+
+pub loop-name-init : goal.loop-name-init
+loop-name-init g c =
+    let same = ap (λ e. state_of c.self.inside.start
+    (count_of c.self.inside.counts (length e.slots)).peak e.slots)
+    c.find_hindrance.ensures.same ∙ state_is c.self.view_is in (
+      subst (λ X. IsLinked X.cells) (sym same) c.requires.linked,
+      ap (λ X. close X (list_map name_of_cell c.args.names.now)) same,
+    )
+
+pub close-requires : goal.close-requires
+close-requires g c = c.loop-name.invariant.0
+
+pub loop-name-preserved : goal.loop-name-preserved
+loop-name-preserved g c =
+    let S = c.loop-name.self.state in
+    let linked = c.loop-name.invariant.0 in
+    let names = c.args.names.now in
+    let i = c.loop-name.name-index in
+    let none : CellName = record { slot = 0; generation = 0 } in
+    let n = name_of_cell (slice_index_or names i none) in
+    let rest = list_map name_of_cell (drop (i + 1) names) in
+    let closed = λ (names : List CellName). close S (list_map name_of_cell names) in
+    let ended : c.close.new.self.state ≡ close S (n ∷ []) = c.close.ensures in (
+      subst (λ R. IsLinked R.cells) (sym ended) (closing_linked S.cells (n ∷ []) linked),
+      ap (λ R. close R rest) ended
+          ∙ (ap (λ (cells : NameMap (Cell _)). record S { cells = cells })
+          (sym (close_each S.cells n rest))
+          ∙ (sym (at_drop_more closed names i none c.loop-name-test.true)
+          ∙ c.loop-name.invariant.1)),
+    )
+
+pub returns-clause-found : goal.returns-clause-found
+returns-clause-found g c =
+    let S = c.args.self.now.state in
+    let names = list_map name_of_cell c.args.names.now in
+    hindrance_is S names
+    ∙ (sym (ap (λ X. first_hindrance X.cells (cells_after X.cells names) names)
+    (state_is c.self.view_is)) ∙ c.in-Ok.ensures.found)
+
+pub returns-clause-ok : goal.returns-clause-ok
+returns-clause-ok g c =
+    let S = c.loop-name.self.state in
+    ap (λ (cells : NameMap (Cell _)). record S { cells = cells })
+    (sym (close_nothing S.cells c.loop-name.invariant.0))
+    ∙ (sym (at_drop_all (λ names. close S (list_map name_of_cell names)) c.args.names.now
+    c.loop-name.name-index c.loop-name-test.false)
+    ∙ c.loop-name.invariant.1)

@@ -1,0 +1,25 @@
+-- The end of a name, unless a borrow stands in the way.
+use Rattle.std.proofs.Common.{sym, ◌∙◌, Err, subst}
+use Rattle.generational_entries.specs.Entry.{FoundBorrowed}
+use Rattle.generational_slots.proofs.Common.{name_of_cell}
+use Rattle.generational_slots.proofs.states.Endings.{doomed_hinders}
+use Rattle.generational_slots.proofs.slots.Slots.end_any.Goals as goal
+use Rattle.generational_slots.proofs.slots.Slots.end_any.Goals.{in-Some+in-Ok, in_default}
+
+pub returns-in-Err-clause-found : goal.returns-in-Err-clause-found
+returns-in-Err-clause-found g c =
+    let S = c.args.self.now.state in
+    subst (λ t. FoundBorrowed t (Err c.in-Err.refused))
+    (sym (doomed_hinders S (name_of_cell c.args.name) c.requires _ c.in-Some.ensures))
+    c.in-Err.ensures
+
+pub returns-clause-found : goal.returns-clause-found
+returns-clause-found g c =
+    let S = c.args.self.now.state in
+    elim c.match-doomed.branch [
+      | in-Some+in-Ok w ↦
+          doomed_hinders S (name_of_cell c.args.name) c.requires _ w.in-Some.ensures
+          ∙ w.in-Ok.ensures
+      | in_default w ↦
+          doomed_hinders S (name_of_cell c.args.name) c.requires _ w.in_default.ensures
+    ]

@@ -1,0 +1,12 @@
+use Rattle.generational_slots.proofs.Common.{name_of_cell}
+use Rattle.generational_slots.proofs.states.Changes.{found_in, found_within, state_is}
+use Rattle.generational_slots.proofs.slots.Slots.reference_to.Goals as goal
+
+pub reference_to-requires : goal.reference_to-requires
+reference_to-requires g c =
+    found_within (found_in (state_is c.self.view_is) (name_of_cell c.args.name) c.requires)
+
+pub returns : goal.returns
+returns g c =
+    let f = found_in (state_is c.self.view_is) (name_of_cell c.args.name) c.requires in
+    rw f.there at c.reference_to.ensures

@@ -1,0 +1,57 @@
+use Rattle.std.proofs.Common.{◌≡◌, ◌∙◌, ◌↔◌, ap, length, true, [], IsTrue, is_ok}
+use Rattle.generational_core.specs.Machine.{has_writer}
+use Rattle.generational_slots.proofs.Common.{count_of, fill, name_of_cell, state_of, Here}
+use Rattle.generational_entries.proofs.states.Entries.{ok_then}
+use Rattle.generational_slots.proofs.states.Changes.{back_then, changed}
+use Rattle.generational_slots.proofs.states.Changes.{changed_length, held_in, held_within}
+use Rattle.generational_slots.proofs.states.Changes.{referred_changed, returned, seen_in}
+use Rattle.generational_slots.proofs.states.Changes.{slotted_changed, state_changed, state_is}
+use Rattle.generational_slots.proofs.slots.Slots.release_write.Goals as goal
+
+pub release_write-requires : goal.release_write-requires
+release_write-requires g c =
+    held_within (held_in (state_is c.self.view_is) (name_of_cell c.args.name) c.requires)
+
+pub invariant_of-self : goal.invariant_of-self
+invariant_of-self g c =
+    let f = held_in (state_is c.self.view_is) (name_of_cell c.args.name) c.requires in
+    let inv = c.self.invariant in
+    let back = c.release_write.ensures in (
+      returned c.args.value c.release_write.result back.ok back.err
+          (λ e. rw (e, changed_length f (λ d. Here c.args.value []))
+          (slotted_changed inv.0 f (λ d. Here c.args.value [])))
+          (λ e. rw (ap (λ x. x.slots) e) inv.0),
+      rw back.rooms inv.1,
+      returned c.args.value c.release_write.result back.ok back.err
+          (λ e. rw e (referred_changed f (λ d. Here c.args.value []) inv.2))
+          (λ e. rw (ap (λ x. x.slots) e) inv.2),
+      returned c.args.value c.release_write.result back.ok back.err
+          (λ e. rw (e, changed_length f (λ d. Here c.args.value [])) inv.3)
+          (λ e. rw (ap (λ x. x.slots) e) inv.3),
+    )
+
+pub returns-clause-known : goal.returns-clause-known
+returns-clause-known g c =
+    let view = state_is c.self.view_is in
+    let n = name_of_cell c.args.name in
+    seen_in view n (held_in view n c.requires) (λ o. has_writer o c.args.ticket)
+    (λ b. IsTrue (is_ok c.release_write.result) ↔ (b ≡ true)) c.release_write.ensures.known
+
+pub returns-clause-ok : goal.returns-clause-ok
+returns-clause-ok g c =
+    let view = state_is c.self.view_is in
+    let n = name_of_cell c.args.name in
+    let f = held_in view n c.requires in
+    ok_then c.release_write.result
+    (λ (e : c.release_write.new.self.slots ≡ changed f (λ d. Here c.args.value [])).
+    rw (e, changed_length f (λ d. Here c.args.value []))
+    (state_changed f (λ d. Here c.args.value []) _ _
+    ∙ ap (λ S. fill S n (Here c.args.value [])) view))
+    c.release_write.ensures.ok
+
+pub returns-clause-err : goal.returns-clause-err
+returns-clause-err g c =
+    back_then c.args.value c.release_write.result
+    (λ e. ap (λ x. state_of c.self.inside.start
+    (count_of c.self.inside.counts (length x.slots)).peak x.slots) e
+    ∙ state_is c.self.view_is) c.release_write.ensures.err

@@ -1,0 +1,10 @@
+pub mod Changes
+pub mod Counting
+pub mod Endings
+pub mod Hindrance
+pub mod Makings
+pub mod Recounts
+pub mod References
+pub mod States
+pub mod Turning
+pub mod Turns

@@ -1,0 +1,233 @@
+-- A cell more: in a free slot, or in a new one.
+use Rattle.std.proofs.Common.{◌≡◌, ℕ, ◌+◌, ◌-◌, ◌<◌, ◌≤◌, true, false, ◌&&◌, ◌||◌, List, []}
+use Rattle.std.proofs.Common.{◌∷◌, ◌++◌, length, Option, None, Some, IfSome, refl, sym, ap, ◌∙◌}
+use Rattle.std.proofs.Common.{arith, slice_get, slice_set, leb, length-append, not, nat_eq, nat_lt}
+use Rattle.std.proofs.Common.{max, is_some}
+use Rattle.std.specs.Ordering.{nat_cmp}
+use Rattle.std.specs.Cmp.{nat_cmp_total}
+use Rattle.std.proofs.lemmas.Bool.{false≢true, ltb-true, and_parts}
+use Rattle.std.proofs.lemmas.Bool.Decides.{nat_tests}
+use Rattle.std.proofs.lemmas.List.{length-set}
+use Rattle.std.proofs.lemmas.Option.{slice_get_past, slice_get_within}
+use Rattle.std.specs.FinMap as map
+use Rattle.std.specs.FinSet as set
+use Rattle.generational_core.specs.Machine.{add_cell}
+use Rattle.generational_slots.proofs.Common.{Cell, IsNew, free, last_generation, Empty}
+use Rattle.generational_slots.proofs.Common.{Live, Refers, Kept, Entry, cell_of, cell_in, cells_of}
+use Rattle.generational_slots.proofs.Common.{given_in, how_many, is_live, is_spent, is_reusable}
+use Rattle.generational_slots.proofs.Common.{Count, Inventory, IsSlotted, Retirements, State}
+use Rattle.generational_slots.proofs.Common.{count_of, state_of}
+use Rattle.generational_containers.proofs.lists.Lists.{IsWritten, set_written, push_written, passes}
+use Rattle.generational_containers.proofs.lists.Lists.{cond_same, contains-remove_at, not_left}
+use Rattle.generational_containers.proofs.lists.Lists.{put_back}
+use Rattle.generational_slots.proofs.states.States.{len_cells, live_cell, free_are, new_first}
+use Rattle.generational_slots.proofs.states.States.{new_next}
+use Rattle.generational_slots.proofs.states.Changes.{cells_put, given_put, slotted}
+
+-- one slot more is made
+pub one_made : (r : Retirements) (made : ℕ) → r.retired ≤ made → count_of r (made + 1)
+    ≡ record {
+      usable = (count_of r made).usable + 1;
+      peak = max (count_of r made).peak ((count_of r made).usable + 1);
+    }
+one_made r made few =
+    let one : (count_of r (made + 1)).usable ≡ (count_of r made).usable + 1 = omega arith in
+    let most : (count_of r (made + 1)).peak
+    ≡ max (count_of r made).peak ((count_of r made).usable + 1) = omega arith in
+    λ j. record { usable = one j; peak = most j }
+
+module _ {T : Type 0} {p : Inventory T} (s : IsSlotted p) where
+  -- the state for which the slots stand
+  abbrev before : State T
+  before = state_of p.start p.counts.peak p.slots
+
+  -- how many cells are live
+  abbrev many : ℕ
+  many = how_many (λ e. is_live e.kept) p.slots
+
+  -- the counts with one usable slot more
+  abbrev pub raised : Count
+  raised = record {
+    usable = p.counts.usable + 1;
+    peak = max p.counts.peak (p.counts.usable + 1);
+  }
+
+  -- ---- a slot that is free
+
+  module _ (i : ℕ) (member : set.contains p.free i ≡ true) where
+    free_entry : (e : Entry T) × (slice_get p.slots i ≡ Some e) × (is_spent e ≡ true)
+        × (e.kept ≡ Empty) × (e.generation < last_generation)
+    free_entry = at (slice_get p.slots i) refl (sym (s.pooled i) ∙ member)
+      where
+        dead : (k : Kept T) → not (is_live k) ≡ true → k ≡ Empty
+        dead Empty h = refl
+        dead (Live kd c l) h = absurd (false≢true h)
+        dead (Refers m l) h = absurd (false≢true h)
+
+        at : (o : Option (Entry T)) → slice_get p.slots i ≡ o → is_reusable o ≡ true
+            → (e : Entry T) × (slice_get p.slots i ≡ Some e) × (is_spent e ≡ true)
+            × (e.kept ≡ Empty) × (e.generation < last_generation)
+        at None there h = absurd (false≢true h)
+        at (Some e) there h =
+            let parts = and_parts (not (is_live e.kept)) (nat_lt e.generation last_generation) h in
+            (e, there, h, dead e.kept parts.0, ltb-true e.generation last_generation parts.1)
+
+    pub taken_within : i < length p.slots
+    taken_within = slice_get_within p.slots i free_entry.0 free_entry.1
+
+    pub taken_empty : IfSome (slice_get p.slots i) (λ e. e.kept ≡ Empty)
+    taken_empty = rw free_entry.1 free_entry.3
+
+    pub taken_below : IfSome (slice_get p.slots i) (λ e. e.generation < last_generation)
+    taken_below = rw free_entry.1 free_entry.4
+
+    -- one free slot less
+    pub taken_less : set.len (set.remove p.free i) + 1 ≡ set.len p.free
+    taken_less =
+        let less : set.len (set.remove p.free i) ≡ set.len p.free - 1 =
+        set.len-remove nat_cmp_total p.free i ∙ rw member refl in
+        let more : set.len (set.insert (set.remove p.free i) i)
+        ≡ set.len (set.remove p.free i) + 1 =
+        set.len-insert nat_cmp_total (set.remove p.free i) i
+        ∙ rw (not_left p.free i member) refl in
+        let same = ap set.len (put_back p.free i member) in omega arith
+
+    -- a free slot is none of the live ones
+    pub peak_stays : max p.counts.peak (many + 1) ≡ p.counts.peak
+    peak_stays =
+        let less = taken_less in let counted = s.counted in let few = s.few in omega arith
+
+    -- the generation that is told before is the one that is given
+    pub same_generation : (g h : ℕ) → IfSome (slice_get p.slots i) (λ e. g ≡ e.generation + 1)
+        → IfSome (slice_get p.slots i) (λ e. h ≡ e.generation + 1) → h ≡ g
+    same_generation g h is are =
+        let a = rw free_entry.1 at is in let b = rw free_entry.1 at are in b ∙ sym a
+
+  -- ---- a cell more
+
+  module _ (kept : Kept T) (c : Cell T) (cell : cell_of kept ≡ Some c) where
+    lives : is_live kept ≡ true
+    lives = sym (live_cell kept) ∙ ap is_some cell
+
+    -- the state with a cell more, in a slot that had none
+    with_cell : (slots' : List (Entry T)) (i g : ℕ)
+        → IsWritten p.slots slots' i (record { generation = g; kept = kept; references = 0 })
+        → ((h : ℕ) → cell_in (slice_get p.slots i) h ≡ None)
+        → passes (λ e. is_live e.kept) (slice_get p.slots i) ≡ false
+        → ((h : ℕ) → (leb p.start h && leb h g)
+        ≡ (nat_eq h g || given_in p.start (slice_get p.slots i) h))
+        → state_of p.start (max p.counts.peak (many + 1)) slots'
+        ≡ add_cell before (record { slot = i; generation = g }) c
+    with_cell slots' i g w empty dead more =
+        let e = rw (dead, lives) at (w.count (λ e. is_live e.kept)) in
+        let n = len_cells slots' in
+        let same : many + 1 ≡ map.len (cells_of slots') = omega arith in
+        let cells = cells_put w (λ h e. empty h) c cell in
+        rw (same, cells, given_put w p.start more) refl
+
+    -- in a slot that is used again
+    module _ (i : ℕ) (member : set.contains p.free i ≡ true)
+        (g : ℕ) (is : IfSome (slice_get p.slots i) (λ e. g ≡ e.generation + 1)) where
+      next_is : g ≡ (free_entry i member).0.generation + 1
+      next_is = rw (free_entry i member).1 at is
+
+      abbrev next_entry : Entry T
+      next_entry = record { generation = g; kept = kept; references = 0 }
+
+      pub reused : IsWritten p.slots (slice_set p.slots i next_entry) i next_entry
+      reused =
+          set_written p.slots i next_entry (free_entry i member).0 (free_entry i member).1
+
+      since : p.start ≤ g
+      since =
+          let le = rw (free_entry i member).1 at (s.begun i) in let n = next_is in omega arith
+
+      pub new_reused : IsNew before (record { slot = i; generation = g })
+      new_reused = rw next_is
+          (new_next s i (free_entry i member).0 (free_entry i member).1 (free_entry i member).2)
+
+      pub state_reused : state_of p.start p.counts.peak (slice_set p.slots i next_entry)
+          ≡ add_cell before (record { slot = i; generation = g }) c
+      state_reused =
+          let f = free_entry i member in
+          ap (λ most. state_of p.start most (slice_set p.slots i next_entry))
+          (sym (peak_stays i member))
+          ∙ with_cell (slice_set p.slots i next_entry) i g reused
+          (λ h. rw (f.1, f.3) (cond_same _ None)) (rw (f.1, f.3) refl)
+          (λ h. rw f.1 (at_next h f.0.generation g next_is since))
+        where
+          at_next : (h last g : ℕ) → g ≡ last + 1 → p.start ≤ g
+              → (leb p.start h && leb h g) ≡ (nat_eq h g || (leb p.start h && leb h last))
+          at_next h last g is le = grind (arith, nat_tests)
+
+      pub slotted_reused : IsSlotted (record p {
+        free = set.remove p.free i;
+        slots = slice_set p.slots i next_entry;
+      })
+      slotted_reused =
+          let f = free_entry i member in
+          let same : length (slice_set p.slots i next_entry) ≡ length p.slots =
+          length-set p.slots i next_entry in
+          let less = taken_less i member in
+          let some = rw (f.1, f.2, lives) at (reused.count is_spent) in
+          let stocked = s.stocked in let b = s.bounded in let r = s.roomy in
+          slotted s reused (set.remove p.free i) p.rooms p.counts
+          (λ k. rw lives (contains-remove_at p.free i k)) (rw (f.1, f.2, lives) (omega arith))
+          (rw (f.1, f.2, f.3, lives) (omega arith)) (omega arith) since s.few (omega arith)
+
+      -- the slot had no cell
+      pub none_before : passes (λ e. is_live e.kept) (slice_get p.slots i) ≡ false
+      none_before = rw ((free_entry i member).1, (free_entry i member).3) refl
+
+    -- in a slot more
+    module _ (none : p.free ≡ set.empty) where
+      none_free : free before ≡ 0
+      none_free = sym (free_are s) ∙ (ap set.len none ∙ set.len-empty nat_cmp)
+
+      abbrev first_entry : Entry T
+      first_entry = record { generation = p.start; kept = kept; references = 0 }
+
+      pub new_pushed : IsNew before (record { slot = length p.slots; generation = p.start })
+      new_pushed = new_first s none_free
+
+      past : slice_get p.slots (length p.slots) ≡ None
+      past = slice_get_past p.slots (length p.slots) (omega arith)
+
+      pub pushed : IsWritten p.slots (p.slots ++ first_entry ∷ []) (length p.slots) first_entry
+      pushed = push_written p.slots first_entry
+
+      all_live : p.counts.usable ≡ many
+      all_live =
+          let empty : set.len p.free ≡ 0 = ap set.len none ∙ set.len-empty nat_cmp in
+          let counted = s.counted in omega arith
+
+      pub state_pushed : state_of p.start raised.peak (p.slots ++ first_entry ∷ [])
+          ≡ add_cell before (record { slot = length p.slots; generation = p.start }) c
+      state_pushed =
+          ap (λ n. state_of p.start (max p.counts.peak (n + 1)) (p.slots ++ first_entry ∷ []))
+          all_live
+          ∙ with_cell (p.slots ++ first_entry ∷ []) (length p.slots) p.start pushed
+          (λ h. rw past refl) (rw past refl) (λ h. rw past (at_first h))
+        where
+          at_first : (h : ℕ) → (leb p.start h && leb h p.start) ≡ (nat_eq h p.start || false)
+          at_first h = grind (arith, nat_tests)
+
+      pub slotted_pushed : (more : ℕ) → length p.slots < more → IsSlotted (record p {
+        rooms = more;
+        counts = raised;
+        slots = p.slots ++ first_entry ∷ [];
+      })
+      slotted_pushed more room =
+          let one : length (p.slots ++ first_entry ∷ []) ≡ length p.slots + 1 =
+          length-append p.slots _ in
+          let few = s.few in let b = s.bounded in
+          let empty : set.len p.free ≡ 0 = ap set.len none ∙ set.len-empty nat_cmp in
+          let counted = s.counted in
+          slotted s pushed p.free more raised
+          (λ k. rw (lives, none, set.contains-empty nat_cmp k)
+          (sym (cond_same (nat_eq k (length p.slots)) false))) (rw (past, lives) refl)
+          (rw (past, lives) (omega arith))
+          (omega arith) (omega arith) (omega arith) (omega arith)
+
+      pub none_after : passes (λ e. is_live e.kept) (slice_get p.slots (length p.slots)) ≡ false
+      none_after = rw past refl

@@ -1,0 +1,120 @@
+-- What becomes of a reference's old target where it names another, as the machine says it.
+use Rattle.std.proofs.Common.{◌≡◌, Bool, true, false, cond, Err, Ok, Option, None, Some, refl}
+use Rattle.std.proofs.Common.{sym, ap, ◌∙◌, is_some, subst}
+use Rattle.std.proofs.lemmas.Bool.{false≢true, true≢false}
+use Rattle.std.specs.FinMap as map
+use Rattle.generational_core.proofs.machine.Closing.{turn_hindered, turn_sweep}
+use Rattle.generational_core.specs.Ending.{hindrance_at}
+use Rattle.generational_core.specs.Machine.{turn}
+use Rattle.generational_core.specs.declared.error.Refused.{Refused}
+use Rattle.generational_core.specs.declared.error.Refused.TheVariants as refused
+use Rattle.generational_entries.specs.Entry.{FoundBorrowed, target_in}
+use Rattle.generational_slots.specs.Slotted.{Turns, refusal_of}
+use Rattle.generational_slots.proofs.Common.{BorrowMutError, Cell, IsLinked, Location, Name}
+use Rattle.generational_slots.proofs.Common.{NameMap}
+use Rattle.generational_slots.proofs.Common.{OutOfMemory, Ref, State, Trouble, Value, Shared}
+use Rattle.generational_slots.proofs.Common.{content_of}
+use Rattle.generational_slots.proofs.Common.{by_name, doomed_by, get-insert_apart, is_name}
+use Rattle.generational_slots.proofs.Common.{is_named}
+use Rattle.generational_slots.proofs.Common.{is_shared, write_refusal}
+unfoldable use Rattle.generational_slots.proofs.Common.{sweep}
+use Rattle.generational_slots.proofs.states.Endings.{without}
+
+-- the trouble that a refusal tells is there
+troubled : (t : Option Trouble) (e : Refused BorrowMutError) → FoundBorrowed t (Err e)
+    → (x : Trouble) × (t ≡ Some x)
+troubled (Some x) e found = (x, refl)
+troubled None (refused.Borrow e) found = absurd cc
+troubled None (refused.Store OutOfMemory) found = absurd found
+troubled None (refused.Store _) found = absurd found
+
+module _ {T : Type 0} where
+  -- the cell of a reference
+  pub reference_cell : (c : Option (Cell T)) (m : Name) → target_in c ≡ Some m
+      → (l : Location) × (c ≡ Some (Ref m l))
+  reference_cell (Some (Ref k l)) m h = let same : k ≡ m = cc in (l, ap (λ x. Some (Ref x l)) same)
+  reference_cell None m h = absurd cc
+  reference_cell (Some (Value c l)) m h = absurd cc
+  reference_cell (Some (Shared c l)) m h = absurd cc
+
+  module _ (S : State T) (n old new : Name) (l : Location) (linked : IsLinked S.cells)
+      (there : map.get S.cells n ≡ Some (Ref old l)) where
+    abbrev left : NameMap (Cell T)
+    left = sweep (map.insert S.cells n (Ref new l))
+
+    pub turns_same : is_name old new ≡ true → Turns S S (Ok tt) (turn S n old new l)
+    turns_same same = rw same (refl, refl)
+
+    module _ (other : is_name old new ≡ false) (d : Option Name)
+        (doomed : d ≡ doomed_by (is_named (map.remove S.cells n)) (map.get S.cells n) n) where
+      target_doomed : d ≡ cond (is_named (map.remove S.cells n) old) None (Some old)
+      target_doomed = doomed ∙ ap (λ c. doomed_by (is_named (map.remove S.cells n)) c n) there
+
+      -- the old target hinders it where it would go
+      hinders : hindrance_at S.cells left old ≡ refusal_of S.cells d
+      hinders =
+          turn_hindered S.cells n old new l linked there other
+          ∙ (at (is_named (map.remove S.cells n) old)
+          ∙ ap (refusal_of S.cells) (sym target_doomed))
+        where
+          at : (b : Bool) → cond b None (write_refusal (content_of (map.get S.cells old)))
+              ≡ refusal_of S.cells (cond b None (Some old))
+          at true = refl
+          at false = refl
+
+      -- it's there still when the reference has turned, and names nothing
+      pub doomed_left : (x : Name) → d ≡ Some x
+          → (is_some (map.get (map.insert S.cells n (Ref new l)) x) ≡ true)
+          × (None ≡ target_in (map.get (map.insert S.cells n (Ref new l)) x))
+      doomed_left x is = at (is_named (map.remove S.cells n) old) (sym is ∙ target_doomed)
+        where
+          apart : old ≡ n → ⊥
+          apart z = true≢false (sym (linked.targets n old l there)
+              ∙ (ap (λ x. is_shared (map.get S.cells x)) z ∙ ap is_shared there))
+
+          value : (c : Option (Cell T)) → is_shared c ≡ true
+              → (is_some c ≡ true) × (None ≡ target_in c)
+          value (Some (Shared c l)) h = (refl, refl)
+          value None h = absurd (false≢true h)
+          value (Some (Value c l)) h = absurd (false≢true h)
+          value (Some (Ref m l)) h = absurd (false≢true h)
+
+          at : (b : Bool) → Some x ≡ cond b None (Some old)
+              → (is_some (map.get (map.insert S.cells n (Ref new l)) x) ≡ true)
+              × (None ≡ target_in (map.get (map.insert S.cells n (Ref new l)) x))
+          at true is = absurd cc
+          at false is =
+              let same : x ≡ old = cc in
+              let kept = ap (map.get (map.insert S.cells n (Ref new l))) same
+              ∙ get-insert_apart by_name S.cells n (Ref new l) old apart in
+              let v = value (map.get S.cells old) (linked.targets n old l there) in
+              (ap is_some kept ∙ v.0, v.1 ∙ ap target_in (sym kept))
+
+      pub turns_refused : (e : Refused BorrowMutError) → FoundBorrowed (refusal_of S.cells d) (Err e)
+          → Turns S S (Err e) (turn S n old new l)
+      turns_refused e found =
+          let t = troubled (refusal_of S.cells d) e found in
+          rw (other, hinders ∙ t.1) (subst (λ x. FoundBorrowed x (Err e)) t.1 found, refl)
+
+      pub turns_done : (R : State T) → refusal_of S.cells d ≡ None
+          → R ≡ without (record S { cells = map.insert S.cells n (Ref new l) }) d
+          → Turns S R (Ok tt) (turn S n old new l)
+      turns_done R free after =
+          rw (other, hinders ∙ free) (
+            refl,
+            after
+                ∙ (ap (without (record S { cells = map.insert S.cells n (Ref new l) })) target_doomed
+                ∙ (at (is_named (map.remove S.cells n) old)
+                ∙ ap (λ cells. record S { cells = cells })
+                (sym (turn_sweep S.cells n old new l linked there other)))),
+          )
+        where
+          at : (b : Bool)
+              → without (record S { cells = map.insert S.cells n (Ref new l) })
+              (cond b None (Some old))
+              ≡ record S {
+                cells = cond b (map.insert S.cells n (Ref new l))
+                    (map.remove (map.insert S.cells n (Ref new l)) old);
+              }
+          at true = refl
+          at false = refl
