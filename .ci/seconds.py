@@ -7,20 +7,25 @@
 Parts are a crate's proofs, its tests and each of its edits. The dearest twenty stand first, then
 the sums of the crates. Times are read from /proc five times a second, so a part may lack a fifth
 of a second for each of its processes. What the linker and the tests themselves take isn't counted.
-The exit status is that of the command.
+What the command prints comes as it prints it. Its last line is repeated below the report, and the
+exit status is that of the command, whatever becomes of the report.
 """
+import contextlib
 import os
 import signal
 import subprocess
 import sys
 import threading
 import time
+import traceback
 
 TICKS = os.sysconf("SC_CLK_TCK")
 PAUSE = 0.2
 # What the system calls a checking process, and one that it has forked to check a part.
 CHECKING = ("(rattle", "(antt-kernel")
 DEAREST = 20
+# For how many seconds output is awaited when the command has ended.
+TAIL = 10
 
 
 def read_process(pid, session):
@@ -101,20 +106,65 @@ def report(parts, clock):
     print(f"\n{whole:.0f} seconds, {whole / 60:.1f} minutes; {clock / 60:.1f} minutes by the clock")
 
 
+class Output(threading.Thread):
+    """Prints what comes from a command as it comes, and keeps its last line that isn't empty."""
+
+    def __init__(self, source):
+        super().__init__(daemon=True)
+        self.source, self.line, self.ended = source, b"", b""
+
+    def run(self):
+        with self.source:
+            while chunk := os.read(self.source.fileno(), 65536):
+                sys.stdout.buffer.write(chunk)
+                sys.stdout.buffer.flush()
+                *ended, self.line = (self.line + chunk).split(b"\n")
+                self.ended = next((it for it in reversed(ended) if it.strip()), self.ended)
+
+    def last(self):
+        return self.line if self.line.strip() else self.ended
+
+
+def pass_signals_on(group):
+    """Has a signal to end sent to all that the command started."""
+
+    def send(number, _):
+        with contextlib.suppress(ProcessLookupError):
+            os.killpg(group, number)
+
+    for number in (signal.SIGINT, signal.SIGTERM, signal.SIGHUP):
+        signal.signal(number, send)
+
+
+def run(command, seen):
+    """Runs the command while its processes are watched; returns its status and its last line."""
+    is_over, variables = threading.Event(), {**os.environ, "PYTHONUNBUFFERED": "1"}
+    running = subprocess.Popen(
+        command, start_new_session=True, stdout=subprocess.PIPE, env=variables
+    )
+    pass_signals_on(running.pid)
+    output = Output(running.stdout)
+    watcher = threading.Thread(target=watch, args=(running.pid, seen, is_over), daemon=True)
+    output.start()
+    watcher.start()
+    status = running.wait()
+    is_over.set()
+    watcher.join()
+    # what the command left behind may hold the pipe open
+    output.join(TAIL)
+    return status if status >= 0 else 128 - status, output.last()
+
+
 def main(command):
-    seen, is_over = {}, threading.Event()
-    began = time.time()
-    with subprocess.Popen(command, start_new_session=True) as running:
-        watcher = threading.Thread(target=watch, args=(running.pid, seen, is_over))
-        watcher.start()
-        try:
-            status = running.wait()
-        except KeyboardInterrupt:
-            os.killpg(running.pid, signal.SIGTERM)
-            status = running.wait()
-        is_over.set()
-        watcher.join()
-    report(parts_in(seen), time.time() - began)
+    seen, began = {}, time.time()
+    status, last = run(command, seen)
+    try:
+        report(parts_in(seen), time.time() - began)
+    except Exception:  # the status and the last line come all the same
+        traceback.print_exc()
+    sys.stdout.flush()
+    sys.stdout.buffer.write(b"\n" + last + b"\n" if last else b"")
+    sys.stdout.buffer.flush()
     return status
 
 
