@@ -21,7 +21,8 @@ pub use crate::unsync::{Store, UnsyncStorage};
 pub use generational_containers::pool::{LastFirst, OldestFirst, SlotPool};
 pub use generational_core::{
     AlreadyBorrowedError, AlreadyBorrowedMutError, AnyStorage, BorrowError, BorrowMutError,
-    BorrowMutResult, BorrowResult, BoxAt, Call, GenerationalBox, GenerationalBoxId,
-    GenerationalPointer, GenerationalRef, GenerationalRefMut, Location, Mut, MutPart, Owner, Ref,
-    Refusal, Refused, Reply, Session, StepCall, Storage, StoreError, ValueDroppedError, laws,
+    BorrowMutResult, BorrowResult, GenerationalBox, GenerationalBoxId, GenerationalPointer,
+    GenerationalRef, GenerationalRefMut, Location, Mut, MutPart, Owner, Ref, Refusal, Refused,
+    StepCall, Storage, StoreError, ValueDroppedError,
 };
+pub use generational_sessions::{BoxAt, Call, Reply, Session, laws};

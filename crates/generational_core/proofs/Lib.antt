@@ -1,4 +1,2 @@
-pub mod carrying
 pub mod machine
 pub mod maps
-pub mod sessions

@@ -1,12 +1,13 @@
 -- A step of the machine: the names that it may take, the end of tickets, and want of memory.
 use Rattle.generational_core.specs.Borrowing.{write_refusal, reach}
 use Rattle.std.specs.Prelude.{is_some, ◌≡◌, ℕ, ◌-◌, ◌^◌, Bool, true, false, if◌then◌else◌, ◌&&◌}
-use Rattle.std.specs.Prelude.{◌⊎◌, nat_eq, nat_lt, [], None}
+use Rattle.std.specs.Prelude.{◌⊎◌, nat_eq, nat_lt, [], Option, None, Some}
 use Rattle.generational_core.specs.Machine.{cell_at, Action, Answer, Fresh, Outcome, act, add_cell}
 use Rattle.generational_core.specs.Cells.{content_of}
 use Rattle.std.specs.FinSet as set
+use Rattle.generational_core.specs.declared.error.StoreError.{StoreError}
 use Rattle.generational_core.specs.declared.error.StoreError.TheVariants.{NumbersExhausted}
-use Rattle.generational_core.specs.declared.error.StoreError.TheVariants.{OutOfMemory}
+use Rattle.generational_core.specs.declared.error.StoreError.TheVariants.{OutOfMemory, UnknownOwner}
 use Rattle.generational_core.specs.Names.{Name}
 use Rattle.generational_core.specs.Cells.Content.{Here}
 use Rattle.generational_core.specs.Cells.Cell.{Shared}
@@ -18,6 +19,11 @@ use Rattle.generational_core.specs.Slots.{Fits, free}
 
 abbrev pub last_ticket : ℕ  -- the last number of all, which is never given as a ticket
 last_ticket = 2 ^ 64 - 1
+
+-- the refusal of a store that can't go on, which the machine doesn't know of itself
+abbrev pub want : StoreError → Option StoreError
+want UnknownOwner = None
+want e = Some e
 
 abbrev pub no_names : Fresh  -- names for calls that take none
 no_names =

@@ -1,33 +1,28 @@
 //! What every storage of generational boxes has in common: boxes, guards and owners, their errors,
-//! the traits of storages, and sessions over any storage.
+//! and the traits of storages.
 //!
 //! Its definitions, in `specs/`, are those of the abstract machine that `docs/machine.md` tells of
 //! at the repository's root. The clauses of [`AnyStorage`] and [`Storage`] say that each call is a
-//! step of that machine, and [`laws`] has what holds of all steps. Who uses boxes takes the crate
-//! `generational_box`, which exports all of this but [`parts`], and has a store.
+//! step of that machine; what holds of all steps is said in the crate `generational_sessions`. Who
+//! uses boxes takes the crate `generational_box`, which exports all of this but [`parts`], and has
+//! a store.
 #![tactic(auto)]
 
 mod borrow;
 mod boxes;
-mod calls;
 mod error;
-pub mod laws;
 mod owner;
 pub mod parts;
-mod places;
 mod references;
-mod session;
 mod steps;
 mod storage;
 
 pub use crate::boxes::{GenerationalBox, GenerationalBoxId, GenerationalPointer};
-pub use crate::calls::{BoxAt, Call, Reply};
 pub use crate::error::{
     AlreadyBorrowedError, AlreadyBorrowedMutError, BorrowError, BorrowMutError, BorrowMutResult,
     BorrowResult, Location, Refusal, Refused, StoreError, ValueDroppedError,
 };
 pub use crate::owner::Owner;
 pub use crate::references::{GenerationalRef, GenerationalRefMut, Mut, MutPart, Ref};
-pub use crate::session::Session;
 pub use crate::steps::StepCall;
 pub use crate::storage::{AnyStorage, Storage};

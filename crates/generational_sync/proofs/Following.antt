@@ -28,7 +28,7 @@ use Rattle.generational_core.specs.Machine.Answer.{Back, Troubled, Refused}
 use Rattle.generational_core.specs.Steps.{IsNew, Meets, Takes, limit_tickets, takes_ticket}
 use Rattle.generational_core.specs.Steps.{last_ticket}
 use Rattle.generational_core.specs.StepCalls.{is_ready, recorded_as, is_hindered}
-use Rattle.generational_core.specs.History.{plain, plain_call, plain_answer}
+use Rattle.generational_sessions.specs.History.{plain, plain_call, plain_answer}
 use Rattle.generational_sync.specs.declared.step.StepReply.{StepReply}
 use Rattle.generational_sync.specs.declared.step.StepReply.TheVariants as reply
 use Rattle.generational_sync.specs.Replies.{reply_to}

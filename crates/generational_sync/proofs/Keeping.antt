@@ -27,7 +27,7 @@ use Rattle.generational_core.specs.Machine.Answer.{Made, Reads, Done, Flag}
 use Rattle.generational_core.specs.Steps.{Meets}
 use Rattle.generational_core.specs.Answers.{read_refused, end_answer}
 use Rattle.generational_core.specs.StepCalls.{recorded_as}
-use Rattle.generational_core.specs.History.{plain}
+use Rattle.generational_sessions.specs.History.{plain}
 use Rattle.generational_sync.specs.declared.step.Step.{Step}
 use Rattle.generational_sync.specs.declared.step.StepReply.{StepReply}
 use Rattle.generational_sync.specs.declared.step.StepReply.TheVariants as reply

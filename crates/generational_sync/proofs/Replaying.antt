@@ -14,7 +14,7 @@ use Rattle.generational_core.specs.Machine.Action.{Make, Read as ReadBox, Releas
 use Rattle.generational_core.specs.Machine.Answer.{Made}
 use Rattle.generational_core.specs.Steps.{AreNew, Takes, Meets, limit_tickets}
 use Rattle.generational_core.specs.StepCalls.{is_ready}
-use Rattle.generational_core.specs.History.{plain}
+use Rattle.generational_sessions.specs.History.{plain}
 use Rattle.generational_sync.specs.declared.step.Step.{Step}
 use Rattle.generational_sync.specs.declared.step.StepReply.{StepReply}
 use Rattle.generational_sync.specs.declared.step.StepReply.TheVariants as reply

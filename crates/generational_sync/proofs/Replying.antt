@@ -15,7 +15,7 @@ use Rattle.generational_core.specs.Borrowing.Trouble.{Dropped, BeingRead, BeingW
 use Rattle.generational_core.specs.Machine.{Answer}
 use Rattle.generational_core.specs.Machine.Answer.{Made, Owned, Reads, Writes, Done, Old, Flag}
 use Rattle.generational_core.specs.Machine.Answer.{Back, Troubled, Refused}
-use Rattle.generational_core.specs.History.{plain_answer}
+use Rattle.generational_sessions.specs.History.{plain_answer}
 use Rattle.generational_sync.specs.declared.step.StepReply.{StepReply}
 use Rattle.generational_sync.specs.declared.step.StepReply.TheVariants as reply
 use Rattle.generational_sync.specs.Replies.{reply_to, same_reply, same_error, is_recorded}

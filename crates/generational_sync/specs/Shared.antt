@@ -14,7 +14,7 @@ use Rattle.generational_core.specs.State.{State}
 use Rattle.generational_core.specs.Machine.{Action, Answer}
 use Rattle.generational_core.specs.Machine.Answer.{Refused as refuses}
 use Rattle.generational_core.specs.Steps.{Meets}
-use Rattle.generational_core.specs.History.{plain}
+use Rattle.generational_sessions.specs.History.{plain}
 use Rattle.generational_sync.specs.declared.step.Step.{Step}
 use Rattle.generational_sync.specs.Counts.{Counts}
 use Rattle.generational_sync.specs.Replies.{reply_to, recorded, tallied}

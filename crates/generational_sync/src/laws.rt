@@ -7,7 +7,7 @@ ghost use Rattle.generational_core.specs.declared.steps.StepCall.{StepCall};
 ghost use Rattle.generational_core.specs.Machine.{Action, Answer};
 ghost use Rattle.generational_core.specs.Steps.{Meets};
 ghost use Rattle.generational_core.specs.StepCalls.{recorded_as};
-ghost use Rattle.generational_core.specs.History.{plain};
+ghost use Rattle.generational_sessions.specs.History.{plain};
 ghost use Rattle.generational_sync.specs.declared.step.Step.{Step};
 ghost use Rattle.generational_sync.specs.declared.step.StepReply.{StepReply};
 ghost use Rattle.generational_sync.specs.Replies.{reply_to};

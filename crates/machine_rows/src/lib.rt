@@ -9,7 +9,7 @@ ghost use Rattle.generational_core.specs.Slots.{Fits};
 ghost use Rattle.machine_rows.specs.Rows.{TellsFrom, ◌#◌};
 ghost use Rattle.machine_rows.specs.Histories as row;
 
-use generational_core::laws;
+use generational_sessions::laws;
 
 /// Owners, slots, strangers, and numbers that run out.
 pub fn owners<T>()

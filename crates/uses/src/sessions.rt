@@ -6,12 +6,12 @@ ghost use Rattle.generational_core.specs.declared.boxes.GenerationalPointer.{Gen
 ghost use Rattle.generational_core.specs.Boxes.{name_of};
 ghost use Rattle.generational_core.specs.Conditions.{IsFresh, IsEnded};
 ghost use Rattle.generational_core.specs.Borrowing.Trouble.{Dropped};
-ghost use Rattle.generational_core.specs.Session.{at_place, SessionReply, SessionStep};
-ghost use Rattle.generational_core.specs.Session.Held.{Boxed};
-ghost use Rattle.generational_core.specs.Session.SessionReply.{Error};
-ghost use Rattle.generational_core.specs.Places.{as_reply, as_replies};
-ghost use Rattle.generational_core.specs.Numbered.{answers, erase, refusal_in, empty_session};
-ghost use Rattle.generational_core.specs.Replies.{refuses};
+ghost use Rattle.generational_sessions.specs.Session.{at_place, SessionReply, SessionStep};
+ghost use Rattle.generational_sessions.specs.Session.Held.{Boxed};
+ghost use Rattle.generational_sessions.specs.Session.SessionReply.{Error};
+ghost use Rattle.generational_sessions.specs.Places.{as_reply, as_replies};
+ghost use Rattle.generational_sessions.specs.Numbered.{answers, erase, refusal_in, empty_session};
+ghost use Rattle.generational_sessions.specs.Replies.{refuses};
 
 use generational_box::{BoxAt, Call, Location, Reply, Session, Storage};
 use std::alloc::Global;

@@ -26,11 +26,10 @@ use Rattle.generational_core.specs.Machine.Action.{ReleaseOwner, Read, Write, Re
 use Rattle.generational_core.specs.Machine.Action.{ReleaseWriter, SetValue, End, Point}
 use Rattle.generational_core.specs.Machine.Answer.{Made, Owned, Reads, Writes, Done, Flag, Refused}
 use Rattle.generational_core.specs.Names.{change, Name, Names, is_name}
-use Rattle.generational_core.specs.Numbered.{want}
 use Rattle.generational_core.specs.State.{State, Ownership, Owners, IsGiven, IsBoxed, content_at}
 use Rattle.generational_core.specs.State.{tickets_of}
 use Rattle.generational_core.specs.Seeing.{ending, Turns, Lends, Borrows}
-use Rattle.generational_core.specs.Steps.{IsNew, AreNew}
+use Rattle.generational_core.specs.Steps.{IsNew, AreNew, want}
 use Rattle.generational_core.specs.declared.borrow.Borrow.{Borrow}
 use Rattle.generational_core.specs.declared.boxes.GenerationalPointer.{GenerationalPointer}
 use Rattle.generational_core.specs.declared.error.Location.{Location}

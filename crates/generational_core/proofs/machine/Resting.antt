@@ -4,7 +4,7 @@ use Rattle.std.specs.FinMap as map
 use Rattle.std.proofs.Common.{◌≡◌, ℕ, ◌+◌, Bool, true, false, cond, List, [], ◌∷◌, ◌++◌}
 use Rattle.std.proofs.Common.{Option, None, Some, refl, sym, ap, subst, ◌∙◌, ⊎_elim, inl, inr, arith}
 use Rattle.std.specs.List.{list_any}
-use Rattle.std.specs.Prelude.{is_some, is_none, nat_eq, ◌⊎◌, map as list_map}
+use Rattle.std.specs.Prelude.{is_some, is_none, nat_eq, map as list_map}
 use Rattle.std.specs.Option.{option_or}
 use Rattle.std.specs.Cmp.{nat_eq_equiv}
 use Rattle.std.proofs.lemmas.Bool.{true≢false, false_from_ne_true, or_left, or_right}

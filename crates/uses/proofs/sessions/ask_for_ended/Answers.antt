@@ -1,5 +1,5 @@
 use Rattle.std.proofs.Common.{ap, slice_get}
-use Rattle.generational_core.specs.Session.{box_held}
+use Rattle.generational_sessions.specs.Session.{box_held}
 use Rattle.uses.proofs.sessions.ask_for_ended.Goals as goal
 
 pub returns : goal.returns

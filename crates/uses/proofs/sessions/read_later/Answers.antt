@@ -2,7 +2,7 @@ use Rattle.std.proofs.Common.{◌≡◌, Result, Ok, Err, Some, IfOk, ap, subst,
 use Rattle.std.proofs.lemmas.Option.{none-some}
 use Rattle.std.specs.Result.{result_ok}
 use Rattle.generational_core.specs.Boxes.{name_of}
-use Rattle.generational_core.specs.Session.{box_held}
+use Rattle.generational_sessions.specs.Session.{box_held}
 use Rattle.uses.proofs.sessions.read_later.Goals as goal
 
 -- what holds of the value of a result holds of what is taken out of it

@@ -1,9 +1,0 @@
-use Rattle.generational_core.proofs.machine.Stepping.{ended_read, ended_write, meets_ended}
-use Rattle.generational_core.proofs.laws.ended_names_stay_ended.Goals as goal
-
-pub returns : goal.returns
-returns g c = record {
-  step = λ S R call answer n m. meets_ended S R call answer m n;
-  read = ended_read;
-  write = ended_write;
-}

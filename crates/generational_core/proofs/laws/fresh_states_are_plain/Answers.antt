@@ -1,5 +1,0 @@
-use Rattle.generational_core.proofs.carrying.Plain.{plain_fresh}
-use Rattle.generational_core.proofs.laws.fresh_states_are_plain.Goals as goal
-
-pub returns : goal.returns
-returns g c = plain_fresh _

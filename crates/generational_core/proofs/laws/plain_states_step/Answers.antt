@@ -1,8 +1,0 @@
-use Rattle.generational_core.proofs.carrying.Plain.{plain_act, plain_meets}
-use Rattle.generational_core.proofs.laws.plain_states_step.Goals as goal
-
-pub returns : goal.returns
-returns g c = record {
-  step = plain_act;
-  meets = plain_meets;
-}

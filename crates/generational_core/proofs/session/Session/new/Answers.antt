@@ -1,9 +1,0 @@
-use Rattle.generational_core.proofs.carrying.NumberedCalls.{new_matches}
-use Rattle.generational_core.proofs.sessions.SessionCalls.{new_kept}
-use Rattle.generational_core.proofs.session.Session.new.Goals as goal
-
-pub invariant_of-result : goal.invariant_of-result
-invariant_of-result g c = new_kept _ _ c.requires c.new.ensures.items
-
-pub returns-clause-matches : goal.returns-clause-matches
-returns-clause-matches g c = new_matches _ _ c.requires c.new.ensures.items

@@ -1,0 +1,2 @@
+pub mod carrying
+pub mod sessions

@@ -1,0 +1,451 @@
+-- A call is answered alike where one state carries another, and the states after it carry again.
+use Rattle.std.proofs.Common.{◌≡◌, ℕ, ◌+◌, ◌-◌, ◌≤◌, Bool, true, false, cond, ◌&&◌, List, [], ◌∷◌}
+use Rattle.std.proofs.Common.{◌++◌, Option, None, Some, refl, sym, ap, subst, ◌∙◌, arith, unwrap_or}
+use Rattle.std.proofs.Common.{⊎_elim, inl, inr}
+use Rattle.std.specs.Prelude.{max, nat_eq, nat_lt, is_some, option_map, map as list_map}
+use Rattle.std.specs.Prelude.{not, ◌⊎◌}
+use Rattle.std.specs.Ordering.{nat_cmp, eq_by_cmp}
+use Rattle.std.specs.Cmp.{nat_cmp_total, nat_eq_equiv}
+use Rattle.std.specs.List.{AllByRecursion, filter}
+use Rattle.std.specs.FinMap as map
+use Rattle.std.proofs.lemmas.Bool.{true≢false, eqb-true, eq-eqb, cond-true, cond_both, cases_Bool}
+use Rattle.std.proofs.lemmas.List.{map-append}
+use Rattle.generational_sessions.proofs.carrying.CarriedCells.{cond_map, ticket_moved, key_moved, cell_moved}
+use Rattle.generational_sessions.proofs.carrying.CarriedCells.{refusals_moved, reader_moved, others_moved}
+use Rattle.generational_sessions.proofs.carrying.CarriedCells.{IfThere, KnowsTarget, known_target, same_test}
+use Rattle.generational_sessions.proofs.carrying.CarriedCells.{same_size, cells_insert, cells_refilled}
+use Rattle.generational_sessions.proofs.carrying.CarriedCells.{cells_swept, cells_left, hindrance_at_moved}
+use Rattle.generational_sessions.proofs.carrying.CarriedCells.{first_moved}
+use Rattle.generational_core.specs.declared.error.Location.{Location}
+use Rattle.generational_core.specs.declared.error.StoreError.TheVariants.{UnknownOwner}
+use Rattle.generational_core.specs.declared.boxes.GenerationalPointer.{GenerationalPointer}
+use Rattle.generational_core.specs.Names.{Name, NameMap}
+use Rattle.generational_core.specs.Cells.{Content, Cell, content_of, location_of}
+use Rattle.generational_core.specs.Cells.Content.{Here, Lent}
+use Rattle.generational_core.specs.Cells.Cell.{Value, Shared, Ref}
+use Rattle.generational_core.specs.State.{State, Ownership, Owners, content_at}
+use Rattle.generational_core.specs.Boxes.{name_of, box_of, has_same_id}
+use Rattle.generational_core.specs.Borrowing.{leads_to, read_trouble, write_trouble}
+use Rattle.generational_core.specs.Borrowing.{Trouble, can_read, can_write, fill, reach}
+use Rattle.generational_core.specs.Borrowing.{take_ticket}
+use Rattle.generational_core.specs.Borrowing.Trouble.{Dropped}
+use Rattle.generational_core.specs.Ending.{close, hindrance_to}
+use Rattle.generational_core.specs.Machine.{set_ownership, release_owner, remove_reader}
+use Rattle.generational_core.specs.Machine.{add_to_list, make, clone_owner, next_borrow, has_reader}
+use Rattle.generational_core.specs.Machine.{OwnerName, ownership, is_known, add_cell, has_writer}
+use Rattle.generational_core.specs.Machine.{Action, Outcome, read_at, write_at, own_cell, Answer}
+use Rattle.generational_core.specs.Machine.{Fresh, act, unless, refer, set_at, point}
+use Rattle.generational_core.specs.Machine.Answer.{Owned, Done, Flag, Back, Troubled, Refused}
+use Rattle.generational_sessions.specs.Carrying.{rename_ownership, rename_content, rename_action}
+use Rattle.generational_sessions.specs.Carrying.{CarriesCells, KnowsAnswer, rename_answer, shift_owner}
+use Rattle.generational_sessions.specs.Carrying.{shift_borrow, rename_cell, rename_fresh, Carries}
+use Rattle.generational_sessions.specs.Carrying.{KnowsBox, KnowsCall, KnowsFresh, rename_box}
+use Rattle.generational_core.proofs.maps.Maps.{name_test, by_number, key_same, contains-insert_name}
+use Rattle.generational_core.proofs.maps.Maps.{changed_there}
+
+-- two outcomes, the first of which is the second one, renamed
+pub record Matched {T U : Type 0} (f : Name → Name) (d : ℕ) (g : T → U)
+    (Knows : Name → Type 0) (number : ℕ) (out : Outcome U) (was : Outcome T) : Type 0 where
+  pub answer : out.0 ≡ rename_answer f d g number was.0
+  pub state : Carries f d g Knows out.1 was.1
+  pub same : was.1.number ≡ number
+  pub known : KnowsAnswer Knows number was.0
+
+-- what holds of a list and of one element more holds of both together
+pub all_push : {X : Type 0} (P : X → Type 0) (xs : List X) (x : X)
+    → AllByRecursion P xs → P x → AllByRecursion P (xs ++ x ∷ [])
+all_push P [] x h k = (k, tt)
+all_push P (y ∷ xs) x h k = (h.0, all_push P xs x h.1 k)
+
+-- two boxes are the same as before
+pub same_box_moved : (f : Name → Name) (d : ℕ) {Knows : Name → Type 0}
+    (apart : (j k : Name) → Knows j → Knows k → f j ≡ f k → j ≡ k)
+    (number : ℕ) (a b : GenerationalPointer) → KnowsBox Knows number a → KnowsBox Knows number b
+    → has_same_id (rename_box f d number a) (rename_box f d number b) ≡ has_same_id a b
+same_box_moved f d apart number a b ka kb =
+    let own_a = box_of number (f (name_of a)) a.created_at in
+    let own_b = box_of number (f (name_of b)) b.created_at in
+    cond_both _ own_a a (λ x. has_same_id x (rename_box f d number b) ≡ has_same_id a b)
+    (λ own. let e = eqb-true a.id.store number own in
+    cond_both _ own_b b (λ y. has_same_id own_a y ≡ has_same_id a b)
+    (λ mine. let h = eqb-true b.id.store number mine in
+    let names = sym (name_test (f (name_of a)) (f (name_of b))) ∙ (same_test apart (name_of a)
+    (name_of b) (ka own) (kb mine) ∙ name_test (name_of a) (name_of b)) in
+    λ i. nat_eq (sym e i) (sym h i) && names i)
+    (λ strange. let other = nat_eq_equiv.symm number b.id.store ∙ strange in
+    let apart = ap (λ n. nat_eq n b.id.store) e ∙ other in rw (other, apart) refl))
+    (λ strange. cond_both _ own_b b (λ y. has_same_id a y ≡ has_same_id a b)
+    (λ mine. let apart = ap (nat_eq a.id.store) (eqb-true b.id.store number mine) ∙ strange in
+    rw (strange, apart) refl) (λ _. refl))
+
+module _ {T U : Type 0} {f : Name → Name} {d : ℕ} {g : T → U}
+    {Knows : Name → Type 0} {S : State U} {A : State T} (c : Carries f d g Knows S A) where
+  -- what is renamed, and an owner that is of this store
+  abbrev box : GenerationalPointer → GenerationalPointer
+  box = rename_box f d A.number
+
+  abbrev owner : OwnerName → OwnerName
+  owner = shift_owner f d A.number
+
+  abbrev own_owner : OwnerName → OwnerName
+  own_owner o = record { store = A.number; key = o.key + d }
+
+  abbrev owner_record : Ownership → Ownership
+  owner_record = rename_ownership f d
+
+  abbrev cell : Cell T → Cell U
+  cell = rename_cell f d g
+
+  abbrev content : Content T → Content U
+  content = rename_content f d g
+
+  abbrev Alike : Outcome U → Outcome T → Type 0
+  Alike out was = Matched f d g Knows A.number out was
+
+  matches : {a : Answer U} {b : Answer T} {R : State U} {B : State T}
+      → a ≡ rename_answer f d g A.number b → KnowsAnswer Knows A.number b
+      → B.number ≡ A.number → Carries f d g Knows R B → Alike (a, R) (b, B)
+  matches e k n s = record { answer = e; state = s; same = n; known = k }
+
+  -- nothing changes, and the answers are alike
+  stays : {a : Answer U} (b : Answer T)
+      → a ≡ rename_answer f d g A.number b → KnowsAnswer Knows A.number b → Alike (a, S) (b, A)
+  stays b e k = matches e k refl c
+
+  -- two outcomes by the same test, and by the same trouble
+  if_alike : {b e : Bool} {x y : Outcome U} {v w : Outcome T}
+      → b ≡ e → (e ≡ true → Alike x v) → Alike y w → Alike (cond b x y) (cond e v w)
+  if_alike {e = e} {x = x} {y = y} {v = v} {w = w} is h k =
+      rw is ((elim e as (λ e. (e ≡ true → Alike x v) → Alike (cond e x y) (cond e v w))
+      [ true ↦ λ h. h refl | false ↦ λ h. k ]) h)
+
+  unless_alike : {t u : Option Trouble} {x : Outcome U} {v : Outcome T}
+      → t ≡ u → Alike x v → Alike (unless t S x) (unless u A v)
+  unless_alike {u = u} {x = x} {v = v} e h =
+      rw e (elim u as (λ u. Alike (unless u S x) (unless u A v))
+      [ None ↦ h | Some t ↦ stays (Troubled t) refl tt ])
+
+  -- what is of this store has its number in both states, and what is of another in neither
+  own_number : nat_eq A.number S.number ≡ true
+  own_number = eq-eqb A.number S.number (sym c.number)
+
+  by_store : {X : Type 0} (store : ℕ) → (nat_eq store A.number ≡ true → X)
+      → (nat_eq store A.number ≡ false → nat_eq store S.number ≡ false → X) → X
+  by_store store own other = ⊎_elim own (λ e. other e (ap (nat_eq store) c.number ∙ e))
+      (cases_Bool (nat_eq store A.number))
+
+  -- a box keeps its location
+  pub created_moved : (b : GenerationalPointer) → (box b).created_at ≡ b.created_at
+  created_moved b = by_store b.id.store (λ e. rw e refl) (λ e _. rw e refl)
+
+  -- a box reaches nothing in both states, or a known name
+  pub reach_cases : (b : GenerationalPointer) → KnowsBox Knows A.number b
+      → ((reach S (box b) ≡ None) × (reach A b ≡ None))
+      ⊎ ((n : Name) × Knows n × (reach S (box b) ≡ Some (f n)) × (reach A b ≡ Some n))
+  unfolding reach
+  reach_cases b k = by_store b.id.store (λ own. rw (own, own_number, c.cells.at (name_of b) (k own))
+      (at (map.get A.cells (name_of b)) (known_target _ (c.cells.leads (name_of b))) (k own)))
+      (λ s t. rw (s, t) (inl (refl, refl)))
+    where
+      at : (x : Option (Cell T)) → IfThere x (KnowsTarget Knows) → Knows (name_of b)
+          → (let to = leads_to (option_map cell x) (f (name_of b)) in
+          let from = leads_to x (name_of b) in ((to ≡ None) × (from ≡ None))
+          ⊎ ((n : Name) × Knows n × (to ≡ Some (f n)) × (from ≡ Some n)))
+      at (Some (Value o l)) t kn = inr (name_of b, kn, refl, refl)
+      at (Some (Ref m l)) t kn = inr (m, t, refl, refl)
+      at _ t kn = inl (refl, refl)
+
+  pub content_there : (n : Name)
+      → Knows n → content_at S (f n) ≡ option_map content (content_at A n)
+  content_there n kn = ap content_of (c.cells.at n kn) ∙ (cell_moved f d g (map.get A.cells n)).0
+
+  -- an owner, and its record
+  by_owner : (o : OwnerName) → (P : OwnerName → Option Ownership → Option Ownership → Type 0)
+      → ((x : OwnerName) → P x None None)
+      → ((h : Ownership) → map.get A.owners o.key ≡ Some h → own_owner o ≡ owner o
+      → P (own_owner o) (Some (owner_record h)) (Some h))
+      → P (owner o) (ownership S (owner o)) (ownership A o)
+  by_owner o P none some = by_store o.store
+      (λ own. rw (own, own_number, c.owners o.key) (at own (map.get A.owners o.key) refl))
+      (λ s t. rw (s, t) (none o))
+    where
+      at : nat_eq o.store A.number ≡ true → (h : Option Ownership)
+          → map.get A.owners o.key ≡ h → P (own_owner o) (option_map owner_record h) h
+      at own None is = none (own_owner o)
+      at own (Some h) is = some h is (sym (cond-true _ _ _ own))
+
+  known_moved : (o : Option OwnerName) → is_known S (option_map owner o) ≡ is_known A o
+  known_moved None = refl
+  known_moved (Some o) =
+      by_owner o (λ _ x y. is_some x ≡ is_some y) (λ _. refl) (λ h _ _. refl)
+
+  with_cells : {new : NameMap (Cell U)} {old : NameMap (Cell T)}
+      → CarriesCells f d g Knows new old
+      → Carries f d g Knows (record S { cells = new }) (record A { cells = old })
+  with_cells cells = assumption (cells, c)
+
+  -- a ticket more in both
+  next_moved : Carries f d g Knows (take_ticket S) (take_ticket A)
+  next_moved =
+      let next : S.next + 1 ≡ A.next + 1 + d = (let e = c.next in omega arith) in
+      assumption (next, c)
+
+  -- another content in a known cell
+  with_content : (n : Name) (x : Content U) (y : Content T)
+      → Knows n → x ≡ content y → Carries f d g Knows (fill S (f n) x) (fill A n y)
+  with_content n x y kn e =
+      with_cells (rw e (cells_refilled c.apart c.cells n y kn))
+
+  -- a new cell at a known name
+  pub with_born : (n : Name) (x : Cell T) → Knows n → KnowsTarget Knows x
+      → Carries f d g Knows (add_cell S (f n) (cell x)) (add_cell A n x)
+  with_born n x kn target = let more = cells_insert c.apart c.cells n x kn target in record {
+    number = c.number;
+    next = c.next;
+    peak = λ i. max (c.peak i) (same_size c.apart more i);
+    cells = more;
+    given = λ k kk. contains-insert_name S.given (f n) (f k)
+        ∙ rw (contains-insert_name A.given n k, same_test c.apart k n kk kn, c.given k kk) refl;
+    owners = c.owners;
+    keys = c.keys;
+    listed = c.listed;
+    apart = c.apart;
+  }
+
+  -- a record put in, or taken away
+  with_record : (key : ℕ) (h : Option Ownership) → IfThere h (λ h. AllByRecursion Knows h.names)
+      → (owners held : Owners)
+      → ((q : ℕ) → map.get owners q
+      ≡ cond (eq_by_cmp nat_cmp q (key + d)) (option_map owner_record h) (map.get S.owners q))
+      → ((q : ℕ) → map.get held q ≡ cond (eq_by_cmp nat_cmp q key) h (map.get A.owners q))
+      → Carries f d g Knows (record S { owners = owners }) (record A { owners = held })
+  with_record key h k owners held s a = record {
+    number = c.number;
+    next = c.next;
+    peak = c.peak;
+    cells = c.cells;
+    given = c.given;
+    apart = c.apart;
+    owners = λ q. rw (s (q + d), a q, key_moved d q key, c.owners q)
+        (cond_map (option_map owner_record) (eq_by_cmp nat_cmp q key) h (map.get A.owners q));
+    keys = λ q live. cond_both (eq_by_cmp nat_cmp q (key + d)) _ _ (λ o. is_some o ≡ true → d ≤ q)
+        (λ e _. let is = key_same by_number q (key + d) e in omega arith) (λ _. c.keys q)
+        (sym (ap is_some (s q)) ∙ live);
+    listed = λ q x is. cond_both (eq_by_cmp nat_cmp q key) h (map.get A.owners q)
+        (λ o. o ≡ Some x → AllByRecursion Knows x.names)
+        (λ _ e. subst (λ o. IfThere o (λ (h : Ownership). AllByRecursion Knows h.names)) e k)
+        (λ _. c.listed q x) (sym (a q) ∙ is);
+  }
+
+  record_put : (key : ℕ) (h : Ownership) → AllByRecursion Knows h.names
+      → Carries f d g Knows (set_ownership S (key + d) (owner_record h)) (set_ownership A key h)
+  record_put key h k = with_record key (Some h) k _ _
+      (map.get-insert nat_cmp_total S.owners (key + d) (owner_record h))
+      (map.get-insert nat_cmp_total A.owners key h)
+
+  -- a name at the end of an owner's list
+  listed_alike : (o : Option OwnerName) (n : Name) → is_known A o ≡ true → Knows n
+      → Carries f d g Knows (add_to_list S (option_map owner o) (f n)) (add_to_list A o n)
+      × ((add_to_list A o n).number ≡ A.number)
+  listed_alike None n live k = (c, refl)
+  listed_alike (Some o) n live k = (
+    by_owner o (λ x y z. is_some z ≡ true
+        → Carries f d g Knows (add_to_list S (Some x) (f n)) (add_to_list A (Some o) n))
+        (λ x e. absurd (true≢false (sym e))) (λ h is _ _.
+        let mine = changed_there by_number A.owners o.key (grow n) h is in
+        let other = changed_there by_number S.owners (o.key + d) (grow (f n)) (owner_record h)
+        (c.owners o.key ∙ ap (option_map owner_record) is) in
+        rw (mine, other, sym (map-append f h.names (n ∷ [])))
+        (record_put o.key (grow n h) (all_push Knows h.names n (c.listed o.key h is) k))) live,
+    refl,
+  )
+    where
+      grow : Name → Ownership → Ownership
+      grow m h = record h { names = h.names ++ m ∷ [] }
+
+  -- known names end, and are hindered alike
+  end_names : (names : List Name) → AllByRecursion Knows names
+      → Carries f d g Knows (close S (list_map f names)) (close A names)
+      × (hindrance_to S (list_map f names) ≡ hindrance_to A names)
+  unfolding hindrance_to
+  end_names names k = let left = cells_left c.apart c.cells names k in
+      (with_cells left, first_moved c.apart c.cells left names k)
+
+  unknown_alike : Alike (Refused UnknownOwner, S) (Refused UnknownOwner, A)
+  unknown_alike = stays (Refused UnknownOwner) refl tt
+
+  -- a box whose value is gone is told its own location in both
+  drop_alike : (b : GenerationalPointer)
+      → Alike (Troubled (Dropped (box b).created_at), S) (Troubled (Dropped b.created_at), A)
+  drop_alike b = stays (Troubled (Dropped b.created_at))
+      (ap (λ l. Troubled (Dropped l)) (created_moved b)) tt
+
+  end_alike : (names : List Name) → AllByRecursion Knows names
+      → Alike (unless (hindrance_to S (list_map f names)) S (Done, close S (list_map f names)))
+      (unless (hindrance_to A names) A (Done, close A names))
+  end_alike names k =
+      let end = end_names names k in unless_alike end.1 (matches refl tt refl end.0)
+
+  set_alike : (b : GenerationalPointer) (v : T) (n : Name) (x : Option (Content T)) → Knows n
+      → Alike (set_at S (box b) (g v) (Some (f n)) (option_map content x))
+      (set_at A b v (Some n) x)
+  set_alike b v n (Some (Here old [])) k =
+      matches refl tt refl (with_content n _ (Here v []) k refl)
+  set_alike b v n _ k = stays (Back v) refl tt
+
+  reader_alike : (n : Name) (t : ℕ) (y : Option (Content T)) → Knows n → Alike
+      (cond (has_reader (option_map content y) (t + d))
+      (Flag true, remove_reader S (f n) (t + d) (option_map content y)) (Flag false, S))
+      (cond (has_reader y t) (Flag true, remove_reader A n t y) (Flag false, A))
+  reader_alike n t (Some (Here v readers)) k = if_alike (reader_moved f d g readers t)
+      (λ _. matches refl tt refl (with_content n _ (Here v (filter
+      (λ r. not (nat_eq r.ticket t)) readers)) k (ap (Here (g v)) (others_moved f d g readers t))))
+      (stays (Flag false) refl tt)
+  reader_alike n t _ k = stays (Flag false) refl tt
+
+  writer_alike : (v : T) (n : Name) (t : ℕ) (y : Option (Content T)) → Knows n → Alike
+      (cond (has_writer (option_map content y) (t + d)) (Done, fill S (f n) (Here (g v) []))
+      (Back (g v), S)) (cond (has_writer y t) (Done, fill A n (Here v [])) (Back v, A))
+  writer_alike v n t (Some (Lent w)) k = if_alike (ticket_moved d w.ticket t) (λ _.
+      matches refl tt refl (with_content n _ (Here v []) k refl)) (stays (Back v) refl tt)
+  writer_alike v n t _ k = stays (Back v) refl tt
+
+  point_alike : (a b : GenerationalPointer) (new : Name) (y : Option (Cell T))
+      → KnowsBox Knows A.number a → Knows new
+      → Alike (point S (box a) (box b) (own_cell S (box a).id) (Some (f new))
+      (option_map cell y)) (point A a b (own_cell A a.id) (Some new) y)
+  point_alike a b new y ka k = by_store a.id.store
+      (λ own. rw (own, own_number, c.cells.at (name_of a) (ka own))
+      (at (map.get A.cells (name_of a)) y (known_target _ (c.cells.leads (name_of a))) (ka own)))
+      (λ s t. rw (s, t) (stays (Troubled (Dropped a.created_at)) refl tt))
+    where
+      at : (x y : Option (Cell T)) → IfThere x (KnowsTarget Knows) → Knows (name_of a)
+          → Alike (point S (box_of A.number (f (name_of a)) a.created_at) (box b)
+          (option_map cell x) (Some (f new)) (option_map cell y)) (point A a b x (Some new) y)
+      at None y kx kn = stays (Troubled (Dropped a.created_at)) refl tt
+      at (Some (Ref old l)) (Some (Shared y j)) kx kn =
+          let cells = cells_swept c.apart
+          (cells_insert c.apart c.cells (name_of a) (Ref new l) kn k) in
+          if_alike (same_test c.apart old new kx k) (λ _. stays Done refl tt)
+          (unless_alike (hindrance_at_moved c.apart c.cells cells old kx)
+          (matches refl tt refl (with_cells cells)))
+      at x y kx kn = stays (Troubled (Dropped (unwrap_or (location_of y) b.created_at)))
+          (λ i. Troubled (Dropped (unwrap_or ((cell_moved f d g y).2 i) (created_moved b i)))) tt
+
+module _ {T U : Type 0} {f : Name → Name} {d : ℕ} {g : T → U}
+    {Knows : Name → Type 0} {S : State U} {A : State T} (c : Carries f d g Knows S A) where
+  make_alike : (o : Option OwnerName) (n : Name) (x : Cell T) (l : Location)
+      → KnowsTarget Knows x → Knows n → is_known A o ≡ true
+      → Alike c (make S (option_map (owner c) o) (f n) (cell c x) l) (make A o n x l)
+  make_alike o n x l target kn ko =
+      let listed = listed_alike (with_born c n x kn target) o n ko kn in
+      matches c (rw (nat_eq_equiv.refl A.number, c.number) refl) (λ _. kn) listed.1 listed.0
+
+  refer_alike : (o : Option OwnerName) (b : GenerationalPointer) (n : Name) → Knows n
+      → is_known A o ≡ true → (m : Name) (x : Option (Cell T)) → Knows m → Alike c (refer S
+      (option_map (owner c) o) (box c b) (Some (f m)) (option_map (cell c) x) (f n))
+      (refer A o b (Some m) x n)
+  refer_alike o b n kn ko m (Some (Shared y l)) km = make_alike o n (Ref m l) l km kn ko
+  refer_alike o b n kn ko m _ km = drop_alike c b
+
+  read_alike : (l : Location) (n : Name) (x : Option (Content T)) → Knows n
+      → Alike c (read_at S l (Some (f n)) (option_map (content c) x)) (read_at A l (Some n) x)
+  read_alike l n (Some (Here v readers)) k =
+      matches c (rw (nat_eq_equiv.refl A.number, c.number, c.next) refl) (λ _. k) refl (next_moved
+      (with_content c n _ (Here v (readers ++ next_borrow A l ∷ [])) k
+      (rw (map-append (shift_borrow f d) readers (next_borrow A l ∷ []), c.next) refl)))
+  read_alike l n _ k = stays c Done refl tt
+
+  write_alike : (l : Location) (n : Name) (x : Option (Content T)) → Knows n
+      → Alike c (write_at S l (Some (f n)) (option_map (content c) x)) (write_at A l (Some n) x)
+  write_alike l n (Some (Here v readers)) k =
+      matches c (rw (nat_eq_equiv.refl A.number, c.number, c.next) refl) (λ _. k) refl
+      (next_moved (with_content c n _ (Lent (next_borrow A l)) k (rw c.next refl)))
+  write_alike l n _ k = stays c Done refl tt
+
+  -- a box that may be read, or written, may be so in both
+  pub read_moved : (b : GenerationalPointer) → KnowsBox Knows A.number b
+      → can_read S (rename_box f d A.number b) ≡ can_read A b
+  unfolding read_trouble
+  read_moved b k = ⊎_elim (λ e. rw (e.0, e.1) refl) (λ e. rw (
+    e.2,
+    e.3,
+    content_there c e.0 e.1,
+    (refusals_moved f d g (content_at A e.0)).0,
+  ) refl) (reach_cases c b k)
+
+  pub write_moved : (b : GenerationalPointer) → KnowsBox Knows A.number b
+      → can_write S (rename_box f d A.number b) ≡ can_write A b
+  unfolding write_trouble
+  write_moved b k = ⊎_elim (λ e. rw (e.0, e.1) refl) (λ e. rw (
+    e.2,
+    e.3,
+    content_there c e.0 e.1,
+    (refusals_moved f d g (content_at A e.0)).1,
+  ) refl) (reach_cases c b k)
+
+  -- each call of a carried state matches the call of the state that carries it
+  pub act_matched : (call : Action T) (new : Fresh)
+      → KnowsCall Knows A.number call → KnowsFresh Knows call new
+      → Alike c (act S (rename_action f d g A.number call) (rename_fresh f new)) (act A call new)
+  unfolding read_trouble write_trouble
+  act_matched (Action.Make o v l) new k kn = if_alike c (known_moved c o)
+      (make_alike o new.first (Value (Here v []) l) l tt kn) (unknown_alike c)
+  act_matched (Action.MakeShared o v l) new k kn = if_alike c (known_moved c o) (λ ko.
+      let listed = listed_alike (with_born (with_born c new.first (Shared (Here v []) l) kn.0 tt)
+      new.second (Ref new.first l) kn.1 kn.0) o new.second ko kn.1 in
+      matches c (rw (nat_eq_equiv.refl A.number, c.number) refl) (λ _. kn.1) listed.1 listed.0)
+      (unknown_alike c)
+  act_matched (Action.Refer o b) new k kn = if_alike c (known_moved c o) (λ ko. ⊎_elim
+      (λ e. rw (e.0, e.1) (drop_alike c b)) (λ e. rw (e.2, e.3, c.cells.at e.0 e.1)
+      (unless_alike c ((cell_moved f d g (map.get A.cells e.0)).3)
+      (refer_alike o b new.first kn ko e.0 (map.get A.cells e.0) e.1)))
+      (reach_cases c b k)) (unknown_alike c)
+  act_matched Action.NewOwner new k kn =
+      matches c (rw (nat_eq_equiv.refl A.number, c.number, c.next) refl) tt refl
+      (next_moved (rw (sym c.next) at (record_put c A.next (record { names = []; count = 1 }) tt)))
+  act_matched (Action.CloneOwner o) new k kn =
+      by_owner c o (λ x y z. Alike c (clone_owner S x y) (clone_owner A o z)) (λ x. unknown_alike c)
+      (λ h is same. matches c (ap Owned same) tt refl (next_moved
+      (record_put c o.key (record h { count = h.count + 1 }) (c.listed o.key h is))))
+  act_matched (Action.ReleaseOwner o) new k kn =
+      by_owner c o (λ x y z. Alike c (release_owner S x y) (release_owner A o z))
+      (λ x. unknown_alike c)
+      (λ h is _. let names = c.listed o.key h is in let end = end_names c h.names names in
+      if_alike c {b = nat_lt 1 h.count} {e = nat_lt 1 h.count} refl (λ _. matches c refl tt refl
+      (record_put c o.key (record h { count = h.count - 1 }) names))
+      (unless_alike c end.1 (matches c refl tt refl (with_record end.0 o.key None tt _ _
+      (map.get-remove nat_cmp_total S.owners (o.key + d))
+      (map.get-remove nat_cmp_total A.owners o.key)))))
+  act_matched (Action.LeakOwner o) new k kn = stays c Done refl tt
+  act_matched (Action.Read b l) new k kn = ⊎_elim (λ e. rw (e.0, e.1) (drop_alike c b))
+      (λ e. rw (e.2, e.3, content_there c e.0 e.1)
+      (unless_alike c (refusals_moved f d g (content_at A e.0)).0
+      (read_alike l e.0 (content_at A e.0) e.1))) (reach_cases c b k)
+  act_matched (Action.Write b l) new k kn = ⊎_elim (λ e. rw (e.0, e.1) (drop_alike c b))
+      (λ e. rw (e.2, e.3, content_there c e.0 e.1)
+      (unless_alike c (refusals_moved f d g (content_at A e.0)).1
+      (write_alike l e.0 (content_at A e.0) e.1))) (reach_cases c b k)
+  act_matched (Action.ReleaseReader x) new k kn = by_store c x.store
+      (λ own. rw (own, own_number c, content_there c x.cell (k own))
+      (reader_alike c x.cell x.ticket (content_at A x.cell) (k own)))
+      (λ s t. rw (s, t) (stays c (Flag false) refl tt))
+  act_matched (Action.ReleaseWriter x v) new k kn = by_store c x.store
+      (λ own. rw (own, own_number c, content_there c x.cell (k own))
+      (writer_alike c v x.cell x.ticket (content_at A x.cell) (k own)))
+      (λ s t. rw (s, t) (stays c (Back v) refl tt))
+  act_matched (Action.SetValue b v) new k kn = ⊎_elim (λ e. rw (e.0, e.1) (drop_alike c b))
+      (λ e. rw (e.2, e.3, content_there c e.0 e.1) (set_alike c b v e.0 (content_at A e.0) e.1))
+      (reach_cases c b k)
+  act_matched (Action.End b) new k kn = by_store c b.id.store
+      (λ own. rw (own, own_number c) (end_alike c (name_of b ∷ []) (k own, tt)))
+      (λ s t. rw (s, t) (end_alike c [] tt))
+  act_matched (Action.Point a b) new k kn =
+      if_alike c (same_box_moved f d c.apart A.number a b k.0 k.1) (λ _. stays c Done refl tt)
+      (⊎_elim (λ e. rw (e.0, e.1) (drop_alike c b)) (λ e. rw (e.2, e.3, c.cells.at e.0 e.1)
+      (unless_alike c ((cell_moved f d g (map.get A.cells e.0)).3)
+      (point_alike c a b e.0 (map.get A.cells e.0) k.0 e.1))) (reach_cases c b k.1))
+  act_matched (Action.CanRead b) new k kn =
+      rw (read_moved b k) (stays c (Flag (can_read A b)) refl tt)
+  act_matched (Action.CanWrite b) new k kn =
+      rw (write_moved b k) (stays c (Flag (can_write A b)) refl tt)

@@ -1,0 +1,289 @@
+-- What is asked of cells that are carried is answered alike, and what is done to them is carried.
+use Rattle.std.proofs.Common.{◌≡◌, ℕ, Bool, true, cond, not, ◌||◌, List, [], ◌∷◌, Option, None}
+use Rattle.std.proofs.Common.{Some, refl, sym, ap, subst, ◌∙◌, ⊎_elim, inl, inr, arith, ◌+◌, ◌≤◌}
+use Rattle.std.proofs.Common.{false, length}
+use Rattle.std.specs.Prelude.{is_some, option_map, ◌⊎◌, map as list_map, nat_eq}
+use Rattle.std.specs.Cmp.{both_ways, unsigned_tied}
+use Rattle.std.specs.List.{AllByRecursion, list_any, filter, IsDistinct}
+use Rattle.std.specs.FinMap as map
+use Rattle.generational_core.specs.declared.error.Location.{Location}
+use Rattle.generational_core.specs.Names.{Name, is_name, change, change_if, among, NameMap}
+use Rattle.generational_core.specs.Names.{name_cmp}
+use Rattle.generational_core.specs.Cells.{Content, Cell, content_of, is_shared, refill, location_of}
+use Rattle.generational_core.specs.Cells.Cell.{Value, Shared, Ref}
+use Rattle.generational_core.specs.State.{is_named}
+use Rattle.generational_core.specs.Borrowing.{write_refusal, Trouble, read_refusal}
+use Rattle.generational_core.specs.Ending.{sweep, take_away, cells_after, hindrance_at}
+use Rattle.generational_core.specs.Ending.{hindrance_of, first_hindrance}
+use Rattle.generational_sessions.specs.Carrying.{CarriesCells, rename_content, rename_cell}
+use Rattle.generational_sessions.specs.Carrying.{shift_borrow}
+use Rattle.generational_core.proofs.maps.Maps.{by_name, name_cases, name_here, name_apart, get-keep}
+use Rattle.generational_core.proofs.maps.Maps.{keep_view, get-insert_name, get-insert_here}
+use Rattle.generational_core.proofs.maps.Maps.{get-insert_apart, name_total, key_here, get-remove_apart}
+use Rattle.generational_core.proofs.maps.Maps.{keys_apart, len_keys, named_gives, named_from}
+use Rattle.generational_core.proofs.machine.Ends.{none≢some, some_live}
+use Rattle.std.specs.Ordering.{nat_cmp, eq_by_cmp}
+use Rattle.std.proofs.lemmas.Bool.{true≢false, eqb-true, eq-eqb, or_left, or_right, cond-true}
+use Rattle.std.proofs.lemmas.Bool.{cases_eq}
+use Rattle.generational_core.specs.declared.borrow.Borrow.{Borrow}
+use Rattle.generational_core.specs.Cells.Content.{Here, Lent}
+
+pub cond_map : {A B : Type 0} (h : A → B) (b : Bool) (x y : A)
+    → cond b (h x) (h y) ≡ h (cond b x y)
+cond_map h true x y = refl
+cond_map h false x y = refl
+
+pub some_map : {A B : Type 0} (h : A → B) (o : Option A) → is_some (option_map h o) ≡ is_some o
+some_map h None = refl
+some_map h (Some x) = refl
+
+-- tickets and keys compare as before
+pub ticket_moved : (d a t : ℕ) → nat_eq (a + d) (t + d) ≡ nat_eq a t
+ticket_moved d a t =
+    both_ways _ _ (λ h. let e = eqb-true (a + d) (t + d) h in eq-eqb a t (omega arith))
+    (λ h. let e = eqb-true a t h in eq-eqb (a + d) (t + d) (omega arith))
+
+pub key_moved : (d a b : ℕ) → eq_by_cmp nat_cmp (a + d) (b + d) ≡ eq_by_cmp nat_cmp a b
+key_moved d a b = unsigned_tied (a + d) (b + d) ∙ (ticket_moved d a b ∙ sym (unsigned_tied a b))
+
+module _ {T U : Type 0} (f : Name → Name) (d : ℕ) (g : T → U) where
+  abbrev content : Content T → Content U
+  content = rename_content f d g
+
+  -- a cell's content, whether it is Shared, its location, and how a read of it is refused
+  pub cell_moved : (o : Option (Cell T)) → (let moved = option_map (rename_cell f d g) o in
+      (content_of moved ≡ option_map content (content_of o))
+      × (is_shared moved ≡ is_shared o) × (location_of moved ≡ location_of o)
+      × (read_refusal (content_of moved) ≡ read_refusal (content_of o)))
+  cell_moved (Some (Value (Lent w) l)) = (refl, refl, refl, refl)
+  cell_moved (Some (Shared (Lent w) l)) = (refl, refl, refl, refl)
+  cell_moved _ = (refl, refl, refl, refl)
+
+  -- how a read, and a write, of a content is refused
+  pub refusals_moved : (c : Option (Content T)) → (let moved = option_map content c in
+      (read_refusal moved ≡ read_refusal c) × (write_refusal moved ≡ write_refusal c))
+  refusals_moved (Some (Here v (r ∷ readers))) =
+      (refl, ap (λ ls. Some (Trouble.BeingRead (r.location ∷ ls))) (locations readers))
+    where
+      locations : (readers : List Borrow)
+          → list_map (λ (b : Borrow). b.location) (list_map (shift_borrow f d) readers)
+          ≡ list_map (λ b. b.location) readers
+      locations [] = refl
+      locations (r ∷ readers) = ap (λ ls. r.location ∷ ls) (locations readers)
+  refusals_moved _ = (refl, refl)
+
+  -- whether a ticket is a reader's, and the readers without it
+  pub reader_moved : (readers : List Borrow) (t : ℕ)
+      → list_any (λ r. nat_eq r.ticket (t + d)) (list_map (shift_borrow f d) readers)
+      ≡ list_any (λ r. nat_eq r.ticket t) readers
+  reader_moved [] t = refl
+  reader_moved (r ∷ readers) t = λ i. ticket_moved d r.ticket t i || reader_moved readers t i
+
+  pub others_moved : (readers : List Borrow) (t : ℕ)
+      → filter (λ r. not (nat_eq r.ticket (t + d))) (list_map (shift_borrow f d) readers)
+      ≡ list_map (shift_borrow f d) (filter (λ r. not (nat_eq r.ticket t)) readers)
+  others_moved [] t = refl
+  others_moved (r ∷ readers) t =
+      let rest = filter (λ r. not (nat_eq r.ticket t)) readers in
+      (λ i. cond (not (ticket_moved d r.ticket t i))
+      (shift_borrow f d r ∷ others_moved readers t i) (others_moved readers t i))
+      ∙ cond_map (list_map (shift_borrow f d)) (not (nat_eq r.ticket t)) (r ∷ rest) rest
+
+  -- a Ref comes from a Ref
+  pub was_ref : (o : Option (Cell T)) (n : Name) (l : Location)
+      → option_map (rename_cell f d g) o ≡ Some (Ref n l)
+      → (m : Name) × (o ≡ Some (Ref m l)) × (f m ≡ n)
+  was_ref (Some (Ref m k)) n l h = (m, (let e : k ≡ l = cc in ap (λ x. Some (Ref m x)) e), cc)
+  was_ref _ n l h = cc
+
+not_among : (n : Name) (names : List Name)
+    → AllByRecursion (λ m. eq_by_cmp name_cmp n m ≡ false) names
+    → list_any (eq_by_cmp name_cmp n) names ≡ false
+not_among n [] d = refl
+not_among n (m ∷ names) d = λ i. d.0 i || not_among n names d.1 i
+
+-- a map is no larger than one in which each of its names has a partner, and no two have the same
+pub no_larger : {X Y : Type 0} (R : Name → Name → Type 0)
+    → ((p q k : Name) → R p k → R q k → p ≡ q) → (S : NameMap X) (A : NameMap Y)
+    → ((q : Name) → is_some (map.get S q) ≡ true
+    → (k : Name) × R q k × (is_some (map.get A k) ≡ true)) → map.len S ≤ map.len A
+unfolding IsDistinct
+no_larger {Y = Y} R one S A h =
+    let apart = keys_apart name_cmp S in
+    let le = go (map.keys S) A apart (λ q e. h q (map.contains_key-keys S q ∙ e)) in
+    let len = len_keys name_cmp S in omega arith
+  where
+    go : (names : List Name) (A : NameMap Y) → IsDistinct (eq_by_cmp name_cmp) names
+        → ((q : Name) → list_any (eq_by_cmp name_cmp q) names ≡ true
+        → (k : Name) × R q k × (is_some (map.get A k) ≡ true)) → length names ≤ map.len A
+    go [] A d h = omega arith
+    go (n ∷ names) A d h =
+        let it = h n (or_left _ _ (key_here by_name n)) in
+        let le = go names (map.remove A it.0) d.1 (λ q e. let k = h q (or_right _ _ e) in (
+          k.0,
+          k.1,
+          ap is_some (get-remove_apart by_name A it.0 k.0 (λ is. true≢false
+              (sym (subst (λ x. list_any (eq_by_cmp name_cmp x) names ≡ true)
+              (one q n it.0 (subst (R q) is k.1) it.1) e) ∙ not_among n names d.0))) ∙ k.2,
+        )) in
+        let fewer = map.len-remove name_total A it.0 ∙ cond-true _ _ _ it.2 in
+        let some : 1 ≤ map.len A = ⊎_elim (λ e. absurd (true≢false
+        (sym it.2 ∙ (ap (λ m. is_some (map.get m it.0)) (map.empty_of_len A e)
+        ∙ ap is_some (map.get-empty name_cmp it.0))))) (λ ne. omega arith)
+        (cases_eq (map.len A) 0) in omega arith
+
+-- P of what is there
+abbrev pub IfThere : {A : Type 0} → Option A → (A → Type 0) → Type 0
+IfThere None P = Unit {0}
+IfThere (Some x) P = P x
+
+-- what a Ref names is known
+abbrev pub KnowsTarget : {T : Type 0} → (Name → Type 0) → Cell T → Type 0
+KnowsTarget Knows (Ref m l) = Knows m
+KnowsTarget Knows _ = Unit {0}
+
+pub known_target : {T : Type 0} {Knows : Name → Type 0} (x : Option (Cell T))
+    → ((m : Name) (l : Location) → x ≡ Some (Ref m l) → Knows m) → IfThere x (KnowsTarget Knows)
+known_target (Some (Ref m l)) leads = leads m l refl
+known_target _ leads = tt
+
+-- what is there after a cut was there before it
+kept_cell : {X : Type 0} (m : NameMap X) (p : Name → Bool) (n : Name) (x : X)
+    → map.get (map.retain_keys m p) n ≡ Some x → map.get m n ≡ Some x
+kept_cell m p n x h = ⊎_elim (λ e. sym e.0 ∙ h)
+    (λ e. absurd (none≢some _ x e.0 h)) (keep_view by_name m p n)
+
+kept_live : {X : Type 0} (m : NameMap X) (p : Name → Bool) (n : Name)
+    → is_some (map.get (map.retain_keys m p) n) ≡ true → is_some (map.get m n) ≡ true
+kept_live m p n h = let it = some_live _ h in ap is_some (kept_cell m p n it.0 it.1)
+
+-- the one name that an insert changes
+insert_view : {X : Type 0} (m : NameMap X) (n : Name) (x : X) (q : Name)
+    → ((q ≡ n) × (map.get (map.insert m n x) q ≡ Some x))
+    ⊎ (map.get (map.insert m n x) q ≡ map.get m q)
+insert_view m n x q = ⊎_elim
+    (λ is. inl (is, ap (map.get (map.insert m n x)) is ∙ get-insert_here by_name m n x))
+    (λ ne. inr (get-insert_apart by_name m n x q ne)) (name_cases q n)
+
+module _ {f : Name → Name} {Knows : Name → Type 0}
+    (apart : (j k : Name) → Knows j → Knows k → f j ≡ f k → j ≡ k) where
+  -- known names are told apart as before
+  pub same_test : (j k : Name) → Knows j → Knows k → is_name (f j) (f k) ≡ is_name j k
+  same_test j k kj kk = ⊎_elim (λ is. rw is (name_here (f k) ∙ sym (name_here k)))
+      (λ ne. name_apart (f j) (f k) (λ e. ne (apart j k kj kk e)) ∙ sym (name_apart j k ne))
+      (name_cases j k)
+
+  among_moved : (names : List Name) (k : Name)
+      → AllByRecursion Knows names → Knows k → among (list_map f names) (f k) ≡ among names k
+  among_moved [] k h kk = refl
+  among_moved (n ∷ names) k h kk = λ i. same_test k n kk h.0 i || among_moved names k h.1 kk i
+
+module _ {T U : Type 0} {f : Name → Name} {d : ℕ} {g : T → U} {Knows : Name → Type 0}
+    (apart : (j k : Name) → Knows j → Knows k → f j ≡ f k → j ≡ k) where
+  module _ {S : NameMap (Cell U)} {A : NameMap (Cell T)} (c : CarriesCells f d g Knows S A) where
+    abbrev cell : Cell T → Cell U
+    cell = rename_cell f d g
+
+    live_at : (k : Name) → Knows k → is_some (map.get S (f k)) ≡ is_some (map.get A k)
+    live_at k kk = ap is_some (c.at k kk) ∙ some_map cell (map.get A k)
+
+    -- as many cells are live
+    pub same_size : map.len S ≡ map.len A
+    same_size =
+        let less = no_larger (λ q k. f k ≡ q) (λ p q k a b. sym a ∙ b) S A (λ q live.
+        let it = c.from q live in
+        (it.0, it.2, sym (live_at it.0 it.1) ∙ (ap (λ n. is_some (map.get S n)) it.2 ∙ live))) in
+        let more = no_larger (λ k q. Knows k × (f k ≡ q))
+        (λ j k q a b. apart j k a.0 b.0 (a.1 ∙ sym b.1)) A S (λ k live.
+        let kk = c.known k live in (f k, (kk, refl), live_at k kk ∙ live)) in omega arith
+
+    pub shared_at : (k : Name) → Knows k → is_shared (map.get S (f k)) ≡ is_shared (map.get A k)
+    shared_at k kk = ap is_shared (c.at k kk) ∙ (cell_moved f d g (map.get A k)).1
+
+    pub named_moved : (m : Name) → Knows m → is_named S (f m) ≡ is_named A m
+    named_moved m km = both_ways (is_named S (f m)) (is_named A m)
+        (λ h. let it = named_gives S (f m) h in
+        let k = c.from it.0 (ap is_some it.2) in
+        let was = was_ref f d g
+        (map.get A k.0) (f m) it.1 (sym (c.at k.0 k.1) ∙ (ap (map.get S) k.2 ∙ it.2)) in
+        let same = apart was.0 m (c.leads k.0 was.0 it.1 was.1) km was.2 in
+        named_from A m (k.0, it.1, was.1 ∙ ap (λ x. Some (Ref x it.1)) same))
+        (λ h. let it = named_gives A m h in named_from S (f m)
+        (f it.0, it.1, c.at it.0 (c.known it.0 (ap is_some it.2)) ∙ ap (option_map cell) it.2))
+
+    cells_keep : (p q : Name → Bool) → ((k : Name) → Knows k → p (f k) ≡ q k)
+        → CarriesCells f d g Knows (map.retain_keys S p) (map.retain_keys A q)
+    cells_keep p q same = record {
+      at = λ k kk. rw (get-keep by_name S p (f k), get-keep by_name A q k, same k kk, c.at k kk)
+          (cond_map (option_map cell) (q k) (map.get A k) None);
+      from = λ n h. c.from n (kept_live S p n h);
+      known = λ k h. c.known k (kept_live A q k h);
+      leads = λ k m l h. c.leads k m l (kept_cell A q k _ h);
+    }
+
+    pub cells_swept : CarriesCells f d g Knows (sweep S) (sweep A)
+    unfolding sweep
+    cells_swept = cells_keep _ _ (λ k kk i. not (shared_at k kk i) || named_moved k kk i)
+
+    cells_without : (names : List Name) → AllByRecursion Knows names
+        → CarriesCells f d g Knows (take_away S (list_map f names)) (take_away A names)
+    unfolding take_away
+    cells_without names h =
+        cells_keep _ _ (λ k kk i. shared_at k kk i || not (among_moved apart names k h kk i))
+
+    -- one cell more, at a known name
+    pub cells_insert : (n : Name) (x : Cell T) → Knows n → KnowsTarget Knows x
+        → CarriesCells f d g Knows (map.insert S (f n) (cell x)) (map.insert A n x)
+    cells_insert n x kn target = record {
+      at = λ k kk. let after = get-insert_name S (f n) (cell x) (f k) in
+          rw (after, get-insert_name A n x k, same_test apart k n kk kn, c.at k kk)
+          (cond_map (option_map cell) (is_name k n) (Some x) (map.get A k));
+      from = λ q h. ⊎_elim (λ e. (n, kn, sym e.0))
+          (λ e. c.from q (sym (ap is_some e) ∙ h)) (insert_view S (f n) (cell x) q);
+      known = λ k h. ⊎_elim (λ e. subst Knows (sym e.0) kn)
+          (λ e. c.known k (sym (ap is_some e) ∙ h)) (insert_view A n x k);
+      leads = λ k m l h. ⊎_elim
+          (λ e. subst (λ o. IfThere o (KnowsTarget Knows)) (sym e.1 ∙ h) target)
+          (λ e. c.leads k m l (sym e ∙ h)) (insert_view A n x k);
+    }
+
+    -- another content in a known cell
+    pub cells_refilled : (n : Name) (x : Content T) → Knows n → CarriesCells f d g Knows
+        (change S (f n) (refill (rename_content f d g x))) (change A n (refill x))
+    unfolding change
+    cells_refilled n x kn =
+        rw (c.at n kn) (at (map.get A n) (known_target _ (c.leads n)))
+      where
+        at : (y : Option (Cell T)) → IfThere y (KnowsTarget Knows) → CarriesCells f d g Knows
+            (change_if S (f n) (refill (rename_content f d g x)) (option_map cell y))
+            (change_if A n (refill x) y)
+        at None k = c
+        at (Some (Value o l)) k = cells_insert n (Value x l) kn tt
+        at (Some y) k = cells_insert n (refill x y) kn k
+
+  -- what is left when known names end
+  pub cells_left : {S : NameMap (Cell U)} {A : NameMap (Cell T)}
+      (c : CarriesCells f d g Knows S A) (names : List Name) → AllByRecursion Knows names
+      → CarriesCells f d g Knows (cells_after S (list_map f names)) (cells_after A names)
+  cells_left c names h = cells_swept (cells_without c names h)
+
+  module _ {S L : NameMap (Cell U)} {A M : NameMap (Cell T)}
+      (c : CarriesCells f d g Knows S A) (e : CarriesCells f d g Knows L M) where
+    pub hindrance_at_moved : (n : Name) → Knows n → hindrance_at S L (f n) ≡ hindrance_at A M n
+    hindrance_at_moved n kn =
+        let x = map.get A n in
+        let refused = (refusals_moved f d g (content_of x)).1 in
+        rw (live_at e n kn, c.at n kn, (cell_moved f d g x).0, refused) refl
+
+    pub first_moved : (names : List Name) → AllByRecursion Knows names
+        → first_hindrance S L (list_map f names) ≡ first_hindrance A M names
+    first_moved [] h = refl
+    first_moved (n ∷ names) h =
+        let own = of (map.get A n) (known_target _ (c.leads n)) in
+        rw (c.at n h.0, own, first_moved names h.1) refl
+      where
+        of : (x : Option (Cell T)) → IfThere x (KnowsTarget Knows)
+            → hindrance_of S L (option_map (rename_cell f d g) x) (f n) ≡ hindrance_of A M x n
+        of (Some (Value o l)) k = hindrance_at_moved n h.0
+        of (Some (Ref m l)) k = hindrance_at_moved m k
+        of _ k = refl

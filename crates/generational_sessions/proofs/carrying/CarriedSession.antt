@@ -1,0 +1,439 @@
+-- Sessions that carry others: calls come to the same, ids aside, and new names are numbered behind
+-- the old ones.
+use Rattle.std.proofs.Common.{zero, Bool, true, false, cond, length, Option, subst, ⊎_elim, arith}
+use Rattle.std.proofs.Common.{◌≡◌, ◌≢◌, suc, ◌+◌, ◌||◌, List, ◌∷◌, ◌++◌, None, Some, refl, sym, ◌∙◌}
+use Rattle.std.proofs.Common.{ℕ, [], ap}
+use Rattle.std.specs.Prelude.{nat_eq, is_some, option_map, slice_set, map as list_map}
+use Rattle.std.specs.List.{AllByRecursion}
+use Rattle.std.proofs.Math.Bool.{or_comm}
+use Rattle.std.proofs.lemmas.Bool.{true≢false, false_from_ne_true, cases_lt, cond_both, cond-false}
+use Rattle.std.proofs.lemmas.List.{length_push, get_or_push, get_or_append_left, map-append}
+use Rattle.std.proofs.lemmas.List.{map-set}
+use Rattle.std.proofs.lemmas.List.Folds.{list_any-append, list_any_at}
+use Rattle.std.specs.FinMap as map
+use Rattle.std.specs.FinSet as set
+use Rattle.generational_core.specs.declared.error.Location.{Location}
+use Rattle.generational_core.specs.declared.boxes.GenerationalPointer.{GenerationalPointer}
+use Rattle.generational_sessions.specs.declared.calls.BoxAt.{BoxAt}
+use Rattle.generational_sessions.specs.declared.calls.BoxAt.TheVariants.{Place, Foreign}
+use Rattle.generational_sessions.specs.declared.calls.Call.{Call}
+use Rattle.generational_sessions.specs.declared.calls.Call.TheVariants as call
+use Rattle.generational_core.specs.Names.{Name, Names, is_name, among}
+use Rattle.generational_core.specs.Cells.{Cell}
+use Rattle.generational_core.specs.State.{Ownership}
+use Rattle.generational_core.specs.Boxes.{name_of, box_of}
+use Rattle.generational_core.specs.Answers.{pointer_of}
+use Rattle.generational_core.specs.Borrowing.{Guard}
+use Rattle.generational_core.specs.Machine.{Action, Answer, OwnerName, Outcome}
+use Rattle.generational_core.specs.Machine.Action.{NewOwner, CloneOwner, ReleaseOwner, LeakOwner}
+use Rattle.generational_sessions.specs.Carrying.{KnowsAnswer, rename_action, rename_answer}
+use Rattle.generational_sessions.specs.Carrying.{rename_ownership, KnowsGuard, rename_guard}
+use Rattle.generational_sessions.specs.Carrying.{shift_owner, rename_cell, KnowsBox, KnowsCall}
+use Rattle.generational_sessions.specs.Carrying.{rename_box}
+use Rattle.generational_sessions.specs.Session.{SessionState, SessionReply, owner_held, with_owner, ask}
+use Rattle.generational_sessions.specs.Session.{Held, at_place, box_held, owner_in, with_box, add_place}
+use Rattle.generational_sessions.specs.Session.{Request, box_in, if_ready, release, replace, reply_of}
+use Rattle.generational_sessions.specs.Session.{gives, settle, spend, swap}
+use Rattle.generational_sessions.specs.Session.Held.{Boxed, Reading, Writing, Owning, Nothing}
+use Rattle.generational_sessions.specs.Session.Request.{Asks, Tells, Swaps}
+use Rattle.generational_sessions.specs.Session.SessionReply.{Yes, Created, NoSuch}
+use Rattle.generational_sessions.specs.Numbered.{CarriesSession, IsNumberBelow, AreNumbersBelow, number}
+use Rattle.generational_sessions.specs.Numbered.{rename_held, KnowsHeld, refusal_in, named_by}
+use Rattle.generational_sessions.specs.Numbered.{AreListed, erase}
+use Rattle.generational_core.proofs.maps.Maps.{name_total, contains-insert_here, contains-insert_apart}
+use Rattle.generational_core.proofs.maps.Maps.{name_cases, contains-insert_old, contains-insert_name}
+use Rattle.generational_core.proofs.maps.Maps.{by_name, name_here}
+use Rattle.generational_sessions.proofs.carrying.CarriedCalls.{Matched, same_box_moved, all_push, created_moved}
+use Rattle.generational_sessions.proofs.carrying.CarriedCalls.{read_moved, write_moved}
+
+-- what the calls of two sessions come to
+pub data AskedAlike {T : Type 0} (f : Name → Name)
+    (d : ℕ) (Knows : Name → Type 0) (number : ℕ) : Request T → Request T → Type 0 where
+  both_ask : (x : Action T) → KnowsCall Knows number x
+      → AskedAlike f d Knows number (Asks (rename_action f d (λ (v : T). v) number x)) (Asks x)
+  both_tell : (x y : SessionReply T)
+      → erase x ≡ erase y → refusal_in x ≡ None → AskedAlike f d Knows number (Tells x) (Tells y)
+  both_swap : (p : ℕ) (g : Guard) (v old : T) → KnowsGuard Knows number g
+      → AskedAlike f d Knows number (Swaps p (rename_guard f d number g) v old) (Swaps p g v old)
+
+-- ---- tables
+
+module _ {T : Type 0} (f : Name → Name) (d : ℕ) (Knows : Name → Type 0) (store : ℕ) where
+  abbrev moved : Held T → Held T
+  moved = rename_held f d store
+
+  abbrev rename_reply : Answer T → Answer T
+  rename_reply = rename_answer f d (λ (v : T). v) store
+
+  abbrev IsKnown : Held T → Type 0
+  IsKnown = KnowsHeld Knows store
+
+  -- a table is another one moved, of which all is known
+  abbrev Tables : List (Held T) → List (Held T) → Type 0
+  Tables t u = (t ≡ list_map moved u) × AllByRecursion IsKnown u
+
+  -- a place that holds something else
+  tables_set : (t u : List (Held T)) (p : ℕ) (x : Held T)
+      → Tables t u → IsKnown x → Tables (slice_set t p (moved x)) (slice_set u p x)
+  tables_set t u p x h k =
+      (ap (λ t. slice_set t p (moved x)) h.0 ∙ sym (map-set moved u p x), known u p h.1)
+    where
+      known : (u : List (Held T)) (p : ℕ)
+          → AllByRecursion IsKnown u → AllByRecursion IsKnown (slice_set u p x)
+      known [] p h = tt
+      known (y ∷ u) zero h = (k, h.1)
+      known (y ∷ u) (suc p) h = (h.0, known u p h.1)
+
+  -- a place more
+  tables_push : (t u : List (Held T)) (x : Held T)
+      → Tables t u → IsKnown x → Tables (t ++ moved x ∷ []) (u ++ x ∷ [])
+  tables_push t u x h k =
+      (rw h.0 (sym (map-append moved u (x ∷ []))), all_push IsKnown u x h.1 k)
+
+  -- what an answer gives, what it spends, and what is said
+  tables_give : (t u : List (Held T)) (answer : Answer T) → Tables t u
+      → KnowsAnswer Knows store answer
+      → Tables (t ++ gives (rename_reply answer) ∷ []) (u ++ gives answer ∷ [])
+  tables_give t u (Answer.Made b) h k = tables_push t u (Boxed b) h k
+  tables_give t u (Answer.Reads g) h k = tables_push t u (Reading g) h k
+  tables_give t u (Answer.Writes g v) h k = tables_push t u (Writing g v) h k
+  tables_give t u answer h k = tables_push t u (gives answer) h tt
+
+  tables_spend : (t u : List (Held T)) (x : Call T) (answer : Answer T)
+      → Tables t u → Tables (spend x (rename_reply answer) t) (spend x answer u)
+  tables_spend t u (call.Release p) answer h = tables_set t u p Nothing h tt
+  tables_spend t u (call.ReleaseOwner p) Answer.Done h = tables_set t u p Nothing h tt
+  tables_spend t u (call.LeakOwner p) answer h = tables_set t u p Nothing h tt
+  tables_spend t u x answer h = h
+
+  said_moved : (x : Call T) (answer : Answer T)
+      → erase (reply_of x (rename_reply answer)) ≡ erase (reply_of x answer)
+  said_moved x (Answer.Made b) = cond_both (nat_eq b.id.store store) _ _
+      (λ c. erase (reply_of x (Answer.Made c)) ≡ erase (reply_of x (Answer.Made b)))
+      (λ _. refl) (λ _. refl)
+  said_moved x _ = refl
+
+-- ---- sessions that are carried
+
+module _ {T : Type 0} {f : Name → Name} {d : ℕ} {Knows : Name → Type 0} {s a : SessionState T}
+    (c : CarriesSession f d Knows s a) where
+  abbrev store : ℕ
+  store = a.state.number
+
+  abbrev Alike : Request T → Request T → Type 0
+  Alike x y = AskedAlike f d Knows store x y
+
+  no_such : (back : Option T) → Alike (Tells (NoSuch back)) (Tells (NoSuch back))
+  no_such back = both_tell _ _ refl refl
+
+  -- what depends on what a place holds
+  place_alike : (x y : Held T → Request T) → ((h : Held T)
+      → KnowsHeld Knows store h → Alike (x (rename_held f d store h)) (y h))
+      → (p : ℕ) → Alike (x (at_place s.table p)) (y (at_place a.table p))
+  place_alike x y alike p = rw c.table (at a.table p c.known)
+    where
+      at : (u : List (Held T)) (p : ℕ) → AllByRecursion (KnowsHeld Knows store) u
+          → Alike (x (at_place (list_map (rename_held f d store) u) p)) (y (at_place u p))
+      at [] zero k = alike Nothing tt
+      at [] (suc p) k = alike Nothing tt
+      at (h ∷ u) zero k = alike h k.0
+      at (h ∷ u) (suc p) k = at u p k.1
+
+  -- a call of a box
+  with_box_alike : (b : BoxAt T) (back : Option T) (x y : GenerationalPointer → Request T)
+      → ((b : GenerationalPointer) → KnowsBox Knows store b
+      → Alike (x (rename_box f d store b)) (y b))
+      → Alike (with_box (box_in s b) back x) (with_box (box_in a b) back y)
+  with_box_alike (Place p) back x y alike =
+      place_alike (λ h. with_box (box_held h) back x) _ at p
+    where
+      at : (h : Held T) → KnowsHeld Knows store h → Alike
+          (with_box (box_held (rename_held f d store h)) back x) (with_box (box_held h) back y)
+      at (Boxed b) k = alike b k
+      at _ k = no_such back
+  with_box_alike (Foreign foreign) back x y alike =
+      let b = pointer_of foreign in
+      let own = nat_eq b.id.store store in
+      rw c.state.number
+      (cond_both own None (Some b) (λ o. Alike (with_box o back x) (with_box o back y))
+      (λ _. no_such back) (λ e. subst (λ z. Alike (x z) (y b))
+      (cond-false own (box_of store (f (name_of b)) b.created_at) b e)
+      (alike b (λ k. absurd (true≢false (sym k ∙ e))))))
+
+  -- a call of an owner
+  with_owner_alike : (p : ℕ) (back : Option T) (x y : OwnerName → Request T)
+      → ((o : OwnerName) → Alike (x (shift_owner f d store o)) (y o))
+      → Alike (with_owner (owner_in s p) back x) (with_owner (owner_in a p) back y)
+  with_owner_alike p back x y alike =
+      place_alike (λ h. with_owner (owner_held h) back x) _ at p
+    where
+      at : (h : Held T) → KnowsHeld Knows store h → Alike (with_owner
+          (owner_held (rename_held f d store h)) back x) (with_owner (owner_held h) back y)
+      at (Owning o) k = alike o
+      at _ k = no_such back
+
+  -- a call with a condition, where it holds in both or in none
+  ready_alike : {p q : Bool} (back : Option T) (x y : Request T)
+      → p ≡ q → Alike x y → Alike (if_ready p back x) (if_ready q back y)
+  ready_alike {q = true} back x y same alike = rw same alike
+  ready_alike {q = false} back x y same alike = rw same (both_tell _ _ refl refl)
+
+  released_alike : (h : Held T)
+      → KnowsHeld Knows store h → Alike (release (rename_held f d store h)) (release h)
+  released_alike (Reading g) k = both_ask (Action.ReleaseReader g) k
+  released_alike (Writing g v) k = both_ask (Action.ReleaseWriter g v) k
+  released_alike _ k = no_such None
+
+  replaced_alike : (p : ℕ) (v : T) (h : Held T)
+      → KnowsHeld Knows store h → Alike (replace p (rename_held f d store h) v) (replace p h v)
+  replaced_alike p v (Writing g old) k = both_swap p g v old k
+  replaced_alike p v _ k = no_such (Some v)
+
+  -- each call comes to the same
+  pub asked_alike : (x : Call T) → Alike (ask s x) (ask a x)
+  asked_alike (call.Leak v l) = both_ask (Action.Make None v l) tt
+  asked_alike (call.LeakRc v l) = both_ask (Action.MakeShared None v l) tt
+  asked_alike (call.LeakReference b) =
+      with_box_alike b None _ _ (λ b k. both_ask (Action.Refer None b) k)
+  asked_alike (call.Insert p v l) =
+      with_owner_alike p (Some v) _ _ (λ o. both_ask (Action.Make (Some o) v l) tt)
+  asked_alike (call.InsertRc p v l) =
+      with_owner_alike p (Some v) _ _ (λ o. both_ask (Action.MakeShared (Some o) v l) tt)
+  asked_alike (call.InsertReference p b) = with_owner_alike p None _ _
+      (λ o. with_box_alike b None _ _ (λ b k. both_ask (Action.Refer (Some o) b) k))
+  asked_alike call.Owner = both_ask NewOwner tt
+  asked_alike (call.CloneOwner p) = with_owner_alike p None _ _ (λ o. both_ask (CloneOwner o) tt)
+  asked_alike (call.ReleaseOwner p) =
+      with_owner_alike p None _ _ (λ o. both_ask (ReleaseOwner o) tt)
+  asked_alike (call.LeakOwner p) = with_owner_alike p None _ _ (λ o. both_ask (LeakOwner o) tt)
+  asked_alike (call.TryRead b l) = with_box_alike b None _ _ (λ b k. both_ask (Action.Read b l) k)
+  asked_alike (call.TryWrite b l) = with_box_alike b None _ _ (λ b k. both_ask (Action.Write b l) k)
+  asked_alike (call.Read b l) = with_box_alike b None _ _ (λ b k. ready_alike None _ _
+      (read_moved c.state b k) (both_ask (Action.Read b l) k))
+  asked_alike (call.Write b l) = with_box_alike b None _ _ (λ b k. ready_alike None _ _
+      (write_moved c.state b k) (both_ask (Action.Write b l) k))
+  asked_alike (call.Set b v) = with_box_alike b (Some v) _ _ (λ b k. ready_alike (Some v) _ _
+      (write_moved c.state b k) (both_ask (Action.SetValue b v) k))
+  asked_alike (call.CanRead b) = with_box_alike b None _ _ (λ b k. both_ask (Action.CanRead b) k)
+  asked_alike (call.CanWrite b) = with_box_alike b None _ _ (λ b k. both_ask (Action.CanWrite b) k)
+  asked_alike (call.Replace p v) =
+      place_alike (λ h. replace p h v) (λ h. replace p h v) (replaced_alike p v) p
+  asked_alike (call.Release p) = place_alike release release released_alike p
+  asked_alike (call.ManuallyDrop b) = with_box_alike b None _ _ (λ b k. both_ask (Action.End b) k)
+  asked_alike (call.PointTo a b) = with_box_alike a None _ _
+      (λ a h. with_box_alike b None _ _ (λ b k. both_ask (Action.Point a b) (h, k)))
+  asked_alike (call.PtrEq b e) = with_box_alike b None _ _ (λ b k. with_box_alike e None _ _
+      (λ e h. both_tell _ _ (ap Yes (same_box_moved f d c.state.apart store b e k h)) refl))
+  asked_alike (call.Id b) = with_box_alike b None _ _ (λ b k. both_tell _ _ refl refl)
+  asked_alike (call.RawPtr b) = with_box_alike b None _ _ (λ b k. both_tell _ _ refl refl)
+  asked_alike (call.CreatedAt b) = with_box_alike b None _ _
+      (λ b k. both_tell _ _ (ap Created (created_moved c.state b)) refl)
+
+  -- ---- after a call
+
+  -- a reply by the table alone
+  pub placed_alike : CarriesSession f d Knows (add_place s Nothing) (add_place a Nothing)
+  placed_alike =
+      assumption (c, tables_push f d Knows store s.table a.table Nothing (c.table, c.known) tt)
+
+  -- another value for a writer
+  pub swapped_alike : (p : ℕ) (g : Guard) (v : T) → KnowsGuard Knows store g
+      → CarriesSession f d Knows (swap s p (rename_guard f d store g) v) (swap a p g v)
+  swapped_alike p g v k =
+      assumption (c, tables_set f d Knows store _ _ p (Writing g v) (c.table, c.known) k)
+
+  -- an answer of the machine
+  pub settled_alike : (x : Call T) (out was : Outcome T)
+      → Matched f d (λ (v : T). v) Knows store out was
+      → (erase (reply_of x out.0) ≡ erase (reply_of x was.0))
+      × CarriesSession f d Knows (settle s x out).1 (settle a x was).1
+  settled_alike x out was m =
+      let t = tables_give f d Knows store _ _ was.0
+      (tables_spend f d Knows store s.table a.table x was.0 (c.table, c.known)) m.known in (
+        rw m.answer (said_moved f d Knows store x was.0),
+        record { state = m.state; table = rw (m.same, m.answer) t.0; known = rw m.same t.1 },
+      )
+
+-- ---- a renaming that agrees with another one on the names known, where more are known
+
+all_agree : {X Y : Type 0} (P Q : X → Type 0) (u w : X → Y)
+    → ((x : X) → P x → (u x ≡ w x) × Q x) → (xs : List X) → AllByRecursion P xs
+    → (list_map u xs ≡ list_map w xs) × AllByRecursion Q xs
+all_agree P Q u w same [] k = (refl, tt)
+all_agree P Q u w same (x ∷ xs) k =
+    let here = same x k.0 in
+    let rest = all_agree P Q u w same xs k.1 in (λ i. here.0 i ∷ rest.0 i, (here.1, rest.1))
+
+module _ (f h : Name → Name) (d n : ℕ) (Knows More : Name → Type 0)
+    (agree : (k : Name) → Knows k → (h k ≡ f k) × More k) where
+  cell_agrees : {T : Type 0} (c : Option (Cell T))
+      → ((m : Name) (l : Location) → c ≡ Some (Cell.Ref m l) → Knows m)
+      → option_map (rename_cell h d (λ (v : T). v)) c ≡ option_map (rename_cell f d (λ v. v)) c
+  cell_agrees (Some (Cell.Ref m l)) leads = rw ((agree m (leads m l refl)).0) refl
+  cell_agrees _ leads = refl
+
+  holding_agrees : (x : Option Ownership)
+      → ((y : Ownership) → x ≡ Some y → AllByRecursion Knows y.names)
+      → option_map (rename_ownership h d) x ≡ option_map (rename_ownership f d) x
+  holding_agrees None k = refl
+  holding_agrees (Some y) k = ap (λ ns. Some (record y { names = ns }))
+      (all_agree Knows More h f agree y.names (k y refl)).0
+
+  -- what is moved where it is of this store
+  own_agrees : {X : Type 0} (own : Bool) (u : Name → X) (x : X) (k : Name)
+      → (own ≡ true → Knows k) → cond own (u (h k)) x ≡ cond own (u (f k)) x
+  own_agrees true u x k known = ap u (agree k (known refl)).0
+  own_agrees false u x k known = refl
+
+  pub box_agrees : (b : GenerationalPointer)
+      → KnowsBox Knows n b → rename_box h d n b ≡ rename_box f d n b
+  box_agrees b = own_agrees (nat_eq b.id.store n) (λ m. box_of n m b.created_at) b (name_of b)
+
+  guard_agrees : (g : Guard) → KnowsGuard Knows n g → rename_guard h d n g ≡ rename_guard f d n g
+  guard_agrees g = own_agrees (nat_eq g.store n)
+      (λ m. record { store = n; cell = m; ticket = g.ticket + d }) g g.cell
+
+  held_agrees : {T : Type 0} (x : Held T) → KnowsHeld Knows n x
+      → (rename_held h d n x ≡ rename_held f d n x) × KnowsHeld More n x
+  held_agrees (Boxed b) k = (ap Boxed (box_agrees b k), λ own. (agree _ (k own)).1)
+  held_agrees (Reading g) k = (ap Reading (guard_agrees g k), λ own. (agree _ (k own)).1)
+  held_agrees (Writing g v) k =
+      (ap (λ g. Writing g v) (guard_agrees g k), λ own. (agree _ (k own)).1)
+  held_agrees _ k = (refl, tt)
+
+-- ---- one more name
+
+module _ (order : List Name) (y : Name) {n : ℕ} (is : n ≡ length order) where
+  -- what holds of the numbers below n and of n holds of those below the next one
+  each : (P : Name → Type 0) → ((k : Name) → IsNumberBelow (length order) k → P k)
+      → P (number n) → (k : Name) → IsNumberBelow (length (order ++ y ∷ [])) k → P k
+  each P old last k b = ⊎_elim (λ lt. old k (b.0, lt))
+      (λ ge. let at : k.slot ≡ n =
+      (let lt = b.1 in let long = length_push order y in omega arith) in
+      subst P (λ i. record { slot = sym at i; generation = sym b.0 i }) last)
+      (cases_lt k.slot (length order))
+
+  -- the names before keep their numbers, and the last number stands for the new name
+  pub older : (k : Name) → IsNumberBelow (length order) k
+      → (named_by (order ++ y ∷ []) k ≡ named_by order k)
+      × IsNumberBelow (length (order ++ y ∷ [])) k
+  older k b = (
+    get_or_append_left order (y ∷ []) k k.slot b.1,
+    (b.0, let lt = b.1 in let long = length_push order y in omega arith),
+  )
+
+  pub back : named_by (order ++ y ∷ []) (number n) ≡ y
+  back = get_or_push order y (number n) n (sym is)
+
+  pub last_known : IsNumberBelow (length (order ++ y ∷ [])) (number n)
+  last_known = (refl, let long = length_push order y in omega arith)
+
+not_there : {X : Type 0} (o : Option X) → (is_some o ≡ true → ⊥) → o ≡ None
+not_there None h = refl
+not_there (Some x) h = absurd (h refl)
+
+-- a list carries one session into another; its names are those given, and some not given yet
+pub record Reserves {T : Type 0} (s a : SessionState T)
+    (d : ℕ) (order : List Name) (given_s given_a : Names) : Type 0 where
+  pub carries : CarriesSession (named_by order) d (IsNumberBelow (length order)) s a
+  pub names : AreListed order given_s
+  pub numbers : AreNumbersBelow (length order) given_a
+  pub more_s : (n : Name) → set.contains s.state.given n ≡ true → set.contains given_s n ≡ true
+  pub more_a : (n : Name) → set.contains a.state.given n ≡ true → set.contains given_a n ≡ true
+
+module _ {T : Type 0} {s a : SessionState T} {d : ℕ} {order : List Name} {given_s given_a : Names}
+    (r : Reserves s a d order given_s given_a) (y : Name) (new : set.contains given_s y ≡ false)
+    {n : ℕ} (is : n ≡ length order) where
+  abbrev renamed : Name → Name
+  renamed = named_by (order ++ y ∷ [])
+
+  abbrev IsBelow : Name → Type 0
+  IsBelow = IsNumberBelow (length order)
+
+  -- no number below stands for the new name, since the names of the list were given
+  other : (k : Name) → IsBelow k → named_by order k ≢ y
+  other k b e = true≢false (sym (r.names.all (named_by order k)
+      ∙ list_any_at (is_name (named_by order k)) order k.slot k b.1 (name_here (named_by order k)))
+      ∙ (ap (set.contains given_s) e ∙ new))
+
+  not_below : IsBelow (number n) → ⊥
+  not_below b = let low = b.1 in absurd (omega arith)
+
+  -- a name more, which was never given, at the end of the list
+  pub reserve : Reserves s a d
+      (order ++ y ∷ []) (set.insert given_s y) (set.insert given_a (number n))
+  reserve =
+      let c = r.carries.state in
+      let old = older order y is in
+      let last = back order y is in
+      let held = all_agree (KnowsHeld IsBelow a.state.number) _ _ _ (held_agrees (named_by order)
+      renamed d a.state.number IsBelow _ old) a.table r.carries.known in
+      let moved = option_map (rename_cell renamed d (λ (v : T). v)) in
+      let unborn_s = not_there (map.get s.state.cells y)
+      (λ live. let it = c.cells.from y live in other it.0 it.1 it.2) in
+      let unborn_a = not_there (map.get a.state.cells (number n))
+      (λ live. not_below (c.cells.known (number n) live)) in
+      let fresh_a = false_from_ne_true (set.contains given_a (number n))
+      (λ e. not_below (r.numbers.only (number n) e)) in
+      record {
+        carries = record {
+          state = record {
+            number = c.number;
+            next = c.next;
+            peak = c.peak;
+            cells = record {
+              at = each order y is
+                  (λ k. map.get s.state.cells (renamed k) ≡ moved (map.get a.state.cells k))
+                  (λ k b. ap (map.get s.state.cells) (old k b).0
+                  ∙ (c.cells.at k b ∙ sym (cell_agrees (named_by order) renamed d n IsBelow _
+                  old (map.get a.state.cells k) (c.cells.leads k))))
+                  (ap (map.get s.state.cells) last ∙ (unborn_s ∙ sym (ap moved unborn_a)));
+              from = λ m e. let it = c.cells.from m e in
+                  (it.0, (old it.0 it.1).1, (old it.0 it.1).0 ∙ it.2);
+              known = λ k e. (old k (c.cells.known k e)).1;
+              leads = λ k m l e. (old m (c.cells.leads k m l e)).1;
+            };
+            given = each order y is
+                (λ k. set.contains s.state.given (renamed k) ≡ set.contains a.state.given k)
+                (λ k b. ap (set.contains s.state.given) (old k b).0 ∙ c.given k b)
+                (ap (set.contains s.state.given) last ∙ (false_from_ne_true _
+                (λ e. true≢false (sym (r.more_s y e) ∙ new))
+                ∙ sym (false_from_ne_true _
+                (λ e. not_below (r.numbers.only (number n) (r.more_a (number n) e))))));
+            owners = λ key. c.owners key ∙ sym (holding_agrees (named_by order) renamed d n
+                IsBelow _ old (map.get a.state.owners key) (c.listed key));
+            keys = c.keys;
+            listed = λ key x e. (all_agree IsBelow _ renamed (named_by order)
+                old x.names (c.listed key x e)).1;
+            apart = λ j k bj bk. each order y is (λ j. renamed j ≡ renamed k → j ≡ k)
+                (λ j bj. each order y is (λ k. renamed j ≡ renamed k → j ≡ k)
+                (λ k bk e. c.apart j k bj bk (sym (old j bj).0 ∙ (e ∙ (old k bk).0)))
+                (λ e. absurd (other j bj (sym (old j bj).0 ∙ (e ∙ last)))) k bk)
+                (each order y is (λ k. renamed (number n) ≡ renamed k → number n ≡ k)
+                (λ k bk e. absurd (other k bk (sym (old k bk).0 ∙ (sym e ∙ last))))
+                (λ e. refl) k bk) j bj;
+          };
+          table = r.carries.table ∙ sym held.0;
+          known = held.1;
+        };
+        names = record {
+          count = rw (set.len-insert name_total given_s y, new, r.names.count)
+              (sym (length_push order y));
+          all = λ m. rw (contains-insert_name given_s y m, r.names.all m)
+              (or_comm (is_name m y) (among order m) ∙ (ap (λ b. among order m || b)
+              (or_comm false (is_name m y)) ∙ sym (list_any-append (is_name m) order (y ∷ []))));
+        };
+        numbers = record {
+          count = rw (set.len-insert name_total given_a (number n), fresh_a, r.numbers.count)
+              (sym (length_push order y));
+          all = each order y is (λ k. set.contains (set.insert given_a (number n)) k ≡ true)
+              (λ k b. contains-insert_old by_name given_a (number n) k (r.numbers.all k b))
+              (contains-insert_here by_name given_a (number n));
+          only = λ k e. ⊎_elim (λ at. subst (IsNumberBelow (length (order ++ y ∷ []))) (sym at)
+              (last_known order y is)) (λ ne. (old k (r.numbers.only k
+              (sym (contains-insert_apart by_name given_a (number n) k ne) ∙ e))).1)
+              (name_cases k (number n));
+        };
+        more_s = λ m e. contains-insert_old by_name given_s y m (r.more_s m e);
+        more_a = λ m e. contains-insert_old by_name given_a (number n) m (r.more_a m e);
+      }

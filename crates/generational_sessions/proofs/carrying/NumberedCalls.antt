@@ -1,0 +1,394 @@
+-- Each call of a session, and each run, is answered as the numbered machine does it, ids aside.
+use Rattle.std.proofs.Common.{Bool, true, false, cond, List, length, Option, subst, arith, ⊎_elim}
+use Rattle.std.proofs.Common.{◌≡◌, ◌≢◌, ◌+◌, ◌-◌, ◌≤◌, ◌<◌, ◌∷◌, ◌++◌, None, Some, refl, sym, ◌∙◌}
+use Rattle.std.proofs.Common.{ℕ, [], ap, inl, inr}
+use Rattle.std.specs.Prelude.{nat_eq, ◌&&◌, is_some, option_map}
+use Rattle.std.specs.Ordering.{nat_cmp, eq_by_cmp}
+use Rattle.std.specs.List.{list_any}
+use Rattle.std.proofs.lemmas.Bool.{true≢false, false_from_ne_true, or_cases, cond_both}
+use Rattle.std.proofs.lemmas.List.{length_push}
+use Rattle.std.specs.FinMap as map
+use Rattle.std.specs.FinSet as set
+use Rattle.generational_core.specs.declared.error.StoreError.{StoreError}
+use Rattle.generational_core.specs.declared.error.StoreError.TheVariants as error
+use Rattle.generational_core.specs.declared.boxes.GenerationalPointer.{GenerationalPointer}
+use Rattle.generational_sessions.specs.declared.calls.Call.{Call}
+use Rattle.generational_sessions.specs.declared.places.Thing.{Thing}
+use Rattle.generational_core.specs.Names.{Name, Names, name_cmp}
+use Rattle.generational_core.specs.Cells.{Cell}
+use Rattle.generational_core.specs.State.{State, IsSound}
+use Rattle.generational_core.specs.Conditions.{IsFresh, fresh}
+use Rattle.generational_core.specs.Borrowing.{Trouble, reach, read_trouble}
+use Rattle.generational_core.specs.Machine.{OwnerName, act, add_to_list}
+use Rattle.generational_core.specs.Machine.{Action, Answer, Outcome, is_known, cell_at, unless}
+use Rattle.generational_core.specs.Machine.{Fresh, refer}
+use Rattle.generational_core.specs.Machine.Action.{Make, MakeShared, Refer}
+use Rattle.generational_core.specs.Machine.Answer.{Made, Troubled, Refused}
+use Rattle.generational_core.specs.Steps.{Meets, Takes, takes_ticket, last_ticket}
+use Rattle.generational_sessions.specs.Carrying.{KnowsAnswer, rename_ownership, rename_action}
+use Rattle.generational_sessions.specs.Carrying.{rename_answer, KnowsCall, rename_guard, shift_owner}
+use Rattle.generational_sessions.specs.Session.{SessionState, SessionReply, SessionStep, add_place}
+use Rattle.generational_sessions.specs.Session.{Held, Request, Settles, settle, refusal, Run, ask, swap}
+use Rattle.generational_sessions.specs.Session.Request.{Asks, Tells, Swaps}
+use Rattle.generational_sessions.specs.Places.{session_in}
+use Rattle.generational_sessions.specs.Numbered.{IsNumberBelow, AreNumbersBelow, number, CarriesSession}
+use Rattle.generational_sessions.specs.Numbered.{empty_session, refusal_in, next_numbers, numbered_act}
+use Rattle.generational_sessions.specs.Numbered.{Matches, AreListed, named_by, numbered, AnswersAs}
+use Rattle.generational_sessions.specs.Numbered.{erase}
+use Rattle.generational_core.specs.Steps.{want}
+use Rattle.generational_sessions.proofs.carrying.CarriedCells.{some_map}
+use Rattle.generational_core.proofs.maps.Maps.{by_name, key_same, contains-insert_apart}
+use Rattle.generational_core.proofs.machine.Ends.{none≢some}
+use Rattle.generational_core.proofs.machine.Changes.{AreFresh, new_fresh, act_says, is_making}
+use Rattle.generational_core.proofs.machine.Stepping.{act_start, is_refusal, takes_new}
+use Rattle.generational_sessions.proofs.sessions.Sessions.{session_sound}
+use Rattle.generational_sessions.proofs.sessions.Refusals.{unspent, refusal_told, tell}
+use Rattle.generational_sessions.proofs.carrying.CarriedCalls.{Matched, act_matched}
+use Rattle.generational_sessions.proofs.carrying.CarriedSession.{swapped_alike, settled_alike, placed_alike}
+use Rattle.generational_sessions.proofs.carrying.CarriedSession.{AskedAlike, asked_alike, box_agrees, last_known}
+use Rattle.generational_sessions.proofs.carrying.CarriedSession.{Reserves, reserve, older, back}
+use Rattle.generational_sessions.proofs.carrying.CarriedSession.AskedAlike.{both_ask, both_tell, both_swap}
+
+-- a slot behind those of all names in a list
+slot_behind : (names : List Name)
+    → (s : ℕ) × ((n : Name) → list_any (eq_by_cmp name_cmp n) names ≡ true → n.slot < s)
+slot_behind [] = (0, λ n h. absurd (true≢false (sym h)))
+slot_behind (m ∷ names) =
+    let rest = slot_behind names in (
+      m.slot + rest.0 + 1,
+      λ n h. ⊎_elim
+          (λ e. let same = ap (λ (x : Name). x.slot) (key_same by_name n m e) in omega arith)
+          (λ e. let below = rest.1 n e in omega arith) (or_cases _ _ h),
+    )
+
+module _ {T : Type 0} where
+  -- there are always names that were never given
+  fresh_names : (S : State T) (call : Action T) → (new : Fresh) × AreFresh S call new
+  fresh_names S call =
+      let behind = slot_behind (set.items S.given) in
+      let new : (n : Name) → behind.0 ≤ n.slot → set.contains S.given n ≡ false =
+      λ n from. false_from_ne_true _ (λ h.
+      let below = behind.1 n (sym (set.contains-items S.given n) ∙ h) in omega arith) in
+      let both : Fresh = record { first = number behind.0; second = number (behind.0 + 1) } in (
+        both,
+        are_fresh call both (new both.first (omega arith)) (new both.second (omega arith))
+            (λ e. let same = ap (λ (n : Name). n.slot) e in omega arith),
+      )
+    where
+      are_fresh : (call : Action T) (new : Fresh) → set.contains S.given new.first ≡ false
+          → set.contains S.given new.second ≡ false → new.first ≢ new.second → AreFresh S call new
+      are_fresh (Make o v l) new one two apart = one
+      are_fresh (MakeShared o v l) new one two apart = (one, two, apart)
+      are_fresh (Refer o b) new one two apart = one
+      are_fresh _ new one two apart = tt
+
+  -- nothing changes, or names were given
+  abbrev Left : Bool → State T → Names → State T → Type 0
+  Left true S given R = R ≡ S
+  Left false S given R = R.given ≡ given
+
+  -- a making is refused whichever names it takes, or takes its names
+  record Making (S : State T) (given : Fresh → Names) (out : Fresh → Outcome T) : Type 0 where
+    left : (new : Fresh) → Left (is_refusal (out new).0) S (given new) (out new).1
+    unnamed : (f h : Fresh) → is_refusal (out f).0 ≡ true → out f ≡ out h
+
+  making_if : {S : State T} {given : Fresh → Names} {f : Fresh → Outcome T} (b : Bool)
+      → Making S given f → Making S given (λ new. cond b (f new) (Refused error.UnknownOwner, S))
+  making_if true h = h
+  making_if false h = record { left = λ new. refl; unnamed = λ f h k. refl }
+
+  making_unless : {S : State T} {given : Fresh → Names} {out : Fresh → Outcome T}
+      (o : Option Trouble) → Making S given out → Making S given (λ new. unless o S (out new))
+  making_unless None h = h
+  making_unless (Some t) h = record { left = λ new. refl; unnamed = λ f h k. refl }
+
+  listed_given : (S : State T) (o : Option OwnerName) (n : Name)
+      → (add_to_list S o n).given ≡ S.given
+  listed_given S None n = refl
+  listed_given S (Some o) n = refl
+
+  making_referred : (S : State T) (o : Option OwnerName) (b : GenerationalPointer)
+      (to : Option Name) (x : Option (Cell T)) → Making S
+      (λ new. set.insert S.given new.first) (λ new. refer S o b to x new.first)
+  making_referred S o b (Some m) (Some (Cell.Shared c l)) =
+      record { left = λ new. listed_given _ o _; unnamed = λ f h k. cc }
+  making_referred S o b to x = record { left = λ new. refl; unnamed = λ f h k. refl }
+
+  -- the names given after a making
+  abbrev given_after : State T → Action T → Fresh → Names
+  given_after S (MakeShared o v l) new = set.insert (set.insert S.given new.first) new.second
+  given_after S _ new = set.insert S.given new.first
+
+  making : (S : State T) (call : Action T)
+      → is_making call ≡ true → Making S (given_after S call) (act S call)
+  making S (Make o v l) h = making_if (is_known S o)
+      (record { left = λ new. listed_given _ o _; unnamed = λ f h k. cc })
+  making S (MakeShared o v l) h = making_if (is_known S o)
+      (record { left = λ new. listed_given _ o _; unnamed = λ f h k. cc })
+  making S (Refer o b) h = making_if (is_known S o) (making_unless
+      (read_trouble S b) (making_referred S o b (reach S b) (cell_at S (reach S b))))
+  making S _ h = absurd (true≢false (sym h))
+
+  -- a call that is refused doesn't depend on the names
+  unnamed : (S : State T) (call : Action T) (f h : Fresh)
+      → is_refusal (act S call f).0 ≡ true → act S call f ≡ act S call h
+  unnamed S (Make o v l) f h k = (making S (Make o v l) refl).unnamed f h k
+  unnamed S (MakeShared o v l) f h k = (making S (MakeShared o v l) refl).unnamed f h k
+  unnamed S (Refer o b) f h k = (making S (Refer o b) refl).unnamed f h k
+  unnamed S _ f h k = refl
+
+  -- a call wants memory or tickets, or does what the machine does with names that were never given
+  meets_fresh : {P : Type 0} (S R : State T) (call : Action T) (answer : Answer T)
+      → ((e : StoreError) → want e ≡ Some e → ◌≡◌ {A = Outcome T} (answer, R) (Refused e, S) → P)
+      → ((new : Fresh) → AreFresh S call new → (answer, R) ≡ act S call new → P)
+      → Meets S call answer R → P
+  meets_fresh {P} S R call answer wanting acting (inl m) =
+      cond_both (takes_ticket (act S call m.0).0 && nat_eq S.next last_ticket)
+      (Refused error.NumbersExhausted, S) (act S call m.0) (λ out. (answer, R) ≡ out → P)
+      (λ _. wanting error.NumbersExhausted refl)
+      (λ _ e. ⊎_elim (λ new. acting m.0 (new_fresh S call m.0 new) e)
+      (λ same. let other = fresh_names S call in
+      acting other.0 other.1 (e ∙ unnamed S call m.0 other.0 same.0))
+      (takes_new S call m.0 (subst (λ (o : Outcome T). Takes S call o.0 m.0) e m.1))) m.2
+  meets_fresh S R call answer wanting acting (inr m) =
+      wanting error.OutOfMemory refl (λ i. (m.1 i, m.2 i))
+
+  refusal_moved : (f : Name → Name) (d n : ℕ) (answer : Answer T)
+      → is_refusal (rename_answer f d (λ (v : T). v) n answer) ≡ is_refusal answer
+  refusal_moved f d n (Made b) = refl
+  refusal_moved f d n _ = refl
+
+  -- a refusal has no names
+  refusal_same : (f h : Name → Name) (d n : ℕ) (Knows : Name → Type 0) (answer : Answer T)
+      → is_refusal answer ≡ true → KnowsAnswer Knows n answer
+      × (rename_answer h d (λ (v : T). v) n answer ≡ rename_answer f d (λ (v : T). v) n answer)
+  refusal_same f h d n Knows (Troubled t) r = (tt, refl)
+  refusal_same f h d n Knows (Refused e) r = (tt, refl)
+  refusal_same f h d n Knows _ r = absurd (true≢false (sym r))
+
+  -- the replies are the same, ids aside, and the sessions after them match
+  record StepMatches (s a : SessionReply T × SessionState T) : Type 0 where
+    pub said : erase s.0 ≡ erase a.0
+    pub after : Matches s.1 a.1
+
+module _ {T : Type 0} {s a : SessionState T} (m : Matches s a) where
+  abbrev mine : Action T → Action T
+  mine action = rename_action (named_by m.order) m.difference (λ (v : T). v) a.state.number action
+
+  -- two outcomes, carried by a list
+  abbrev Alike : List Name → Outcome T → Outcome T → Type 0
+  Alike order = Matched (named_by order)
+      m.difference (λ (v : T). v) (IsNumberBelow (length order)) a.state.number
+
+  abbrev Settled : Call T → Outcome T → Outcome T → Type 0
+  Settled x out was = StepMatches (settle s x out) (settle a x was)
+
+  start : Reserves s a m.difference m.order s.state.given a.state.given
+  start = assumption m
+
+  -- sessions that are carried match where the names of the list are those given
+  matched : {order : List Name} {given_s given_a : Names} {x y : SessionReply T × SessionState T}
+      → Reserves s a m.difference order given_s given_a
+      → (erase x.0 ≡ erase y.0) × CarriesSession (named_by order)
+      m.difference (IsNumberBelow (length order)) x.1 y.1
+      → x.1.state.given ≡ given_s → y.1.state.given ≡ given_a → StepMatches x y
+  matched {order} r both h k = record {
+    said = both.0;
+    after = record {
+      order = order;
+      difference = m.difference;
+      carries = both.1;
+      names = subst (AreListed order) (sym h) r.names;
+      numbers = subst (AreNumbersBelow (length order)) (sym k) r.numbers;
+    };
+  }
+
+  -- a making, once the new names are numbered behind the others
+  making_step : (x : Call T) {order : List Name} {given_s given_a : Names}
+      {moved out was : Outcome T} → Reserves s a m.difference order given_s given_a
+      → moved ≡ out → Alike order moved was → Left (is_refusal out.0) s.state given_s out.1
+      → Left (is_refusal was.0) a.state given_a was.1 → Settled x out was
+  making_step x {order} {given_s} {given_a} {out = out} {was} r e alike left_s left_a =
+      at (is_refusal was.0) refl (subst (λ b. Left b s.state given_s out.1) (ap is_refusal h.answer
+      ∙ refusal_moved (named_by order) m.difference a.state.number was.0) left_s) left_a
+    where
+      h : Alike order out was
+      h = subst (λ o. Alike order o was) e alike
+
+      at : (b : Bool) → is_refusal was.0 ≡ b → Left b s.state given_s out.1
+          → Left b a.state given_a was.1 → Settled x out was
+      at false is kept_s kept_a = matched r (settled_alike r.carries x out was h) kept_s kept_a
+      at true is kept_s kept_a =
+          let same = refusal_same (named_by m.order)
+          (named_by order) m.difference a.state.number (IsNumberBelow (length m.order)) was.0 is in
+          matched start (settled_alike m.carries x out was (record {
+            answer = h.answer ∙ same.1;
+            state = rw (kept_s, kept_a) m.carries.state;
+            same = h.same;
+            known = same.0;
+          })) (ap (λ (R : State T). R.given) kept_s) (ap (λ (R : State T). R.given) kept_a)
+
+  asks_step : (x : Call T) (action : Action T) (new : Fresh)
+      → KnowsCall (IsNumberBelow (length m.order)) a.state.number action
+      → AreFresh s.state (mine action) new
+      → Settled x (act s.state (mine action) new) (act a.state action (next_numbers a))
+  asks_step x (Make o v l) new k unused =
+      let is = m.numbers.count in
+      let r = reserve start new.first unused is in
+      making_step x r (ap (λ y. act s.state (mine (Make o v l)) (record new { first = y }))
+      (back m.order new.first is)) (act_matched r.carries.state (Make o v l) (next_numbers a)
+      tt (last_known m.order new.first is)) ((making s.state (mine (Make o v l)) refl).left new)
+      ((making a.state (Make o v l) refl).left (next_numbers a))
+  asks_step x (Refer o b) new k unused =
+      let is = m.numbers.count in
+      let r = reserve start new.first unused is in
+      let owner = option_map (shift_owner (named_by m.order) m.difference a.state.number) o in
+      let same = box_agrees (named_by m.order) (named_by (m.order ++ new.first ∷ []))
+      m.difference a.state.number _ _ (older m.order new.first is) b k in
+      making_step x r (λ i. act s.state (Refer owner (same i))
+      (record new { first = back m.order new.first is i }))
+      (act_matched r.carries.state (Refer o b) (next_numbers a)
+      (λ own. (older m.order new.first is _ (k own)).1) (last_known m.order new.first is))
+      ((making s.state (mine (Refer o b)) refl).left new)
+      ((making a.state (Refer o b) refl).left (next_numbers a))
+  asks_step x (MakeShared o v l) new k unused =
+      let is = m.numbers.count in
+      let one = m.order ++ new.first ∷ [] in
+      let two : set.len a.state.given + 1 ≡ length one =
+      let long = length_push m.order new.first in omega arith in
+      let r = reserve (reserve start new.first unused.0 is) new.second
+      (contains-insert_apart by_name s.state.given new.first new.second
+      (λ e. unused.2 (sym e)) ∙ unused.1) two in
+      let old = older one new.second two _ (last_known m.order new.first is) in
+      making_step x r (λ i. act s.state (mine (MakeShared o v l)) (record {
+        first = (old.0 ∙ back m.order new.first is) i;
+        second = back one new.second two i;
+      })) (act_matched r.carries.state (MakeShared o v l) (next_numbers a) tt
+      (old.1, last_known one new.second two))
+      ((making s.state (mine (MakeShared o v l)) refl).left new)
+      ((making a.state (MakeShared o v l) refl).left (next_numbers a))
+  asks_step x action new k unused = matched start (settled_alike m.carries x _ _
+      (act_matched m.carries.state action (next_numbers a) k tt))
+      ((act_start s.state (mine action) new).given refl)
+      ((act_start a.state action (next_numbers a)).given refl)
+
+  answered : (c : Call T) (q : Request T) {x : SessionReply T} {r : SessionState T}
+      (out : SessionReply T × SessionState T) {e : Option StoreError} → (x, r) ≡ out
+      → refusal_in out.0 ≡ e → StepMatches out (numbered a c q e)
+      → StepMatches (x, r) (numbered a c q (refusal_in x))
+  answered c q out is told step = subst (λ (o : SessionReply T × SessionState T).
+      StepMatches o (numbered a c q (refusal_in o.0))) (sym is) (rw told step)
+
+  settles_step : (c : Call T) (x : SessionReply T) (r : SessionState T) (p q : Request T)
+      → ask s c ≡ p → AskedAlike (named_by m.order)
+      m.difference (IsNumberBelow (length m.order)) a.state.number p q
+      → Settles s c p x r → StepMatches (x, r) (numbered a c q (refusal_in x))
+  settles_step c x r p q asked (both_ask action k) step =
+      meets_fresh s.state step.1 (mine action) step.0 (λ e is same.
+      let after : List (Held T) → SessionReply T × SessionState T =
+      λ table. (refusal c e, add_place (record s { table = table }) Held.Nothing) in
+      let met : Meets s.state (mine action) (Refused e) s.state =
+      subst (λ (o : Outcome T). Meets s.state (mine action) o.0 o.1) same step.2 in
+      answered c (Asks action) (after s.table) (step.3 ∙ (ap (settle s c) same
+      ∙ ap after (unspent s c (mine action) (Refused e) s.state asked met refl))) ((refusal_told c e).0 ∙ is)
+      (matched start (refl, placed_alike m.carries) refl refl)) (λ new unused is.
+      let out = act s.state (mine action) new in
+      answered c (Asks action) (settle s c out) (step.3 ∙ ap (settle s c) is)
+      ((tell c out.0).0 ∙ (act_says s.state (mine action) new unused).able)
+      (asks_step c action new k unused)) step.2
+  settles_step c x r p q asked (both_tell y z e able) step =
+      answered c (Tells z) (y, add_place s Held.Nothing) (λ i. (step.0 i, step.1 i)) able
+      (matched start (e, placed_alike m.carries) refl refl)
+  settles_step c x r p q asked (both_swap place g v old known) step =
+      let guard = rename_guard (named_by m.order) m.difference a.state.number g in
+      answered c (Swaps place g v old)
+      (SessionReply.TheOld old, add_place (swap s place guard v) Held.Nothing)
+      (λ i. (step.0 i, step.1 i)) refl
+      (matched start (refl, placed_alike (swapped_alike m.carries place g v known)) refl refl)
+
+  -- whichever names are taken, the numbered machine answers the same, ids aside
+  step_matches : (c : Call T) (x : SessionReply T) (r : SessionState T)
+      → SessionStep s c x r → StepMatches (x, r) (numbered_act a c (refusal_in x))
+  step_matches c x r step =
+      settles_step c x r (ask s c) (ask a c) refl (asked_alike m.carries c) step
+
+dead : {X : Type 0} {o : Option X} → o ≡ None → is_some o ≡ true → ⊥
+dead none live = true≢false (sym live ∙ ap is_some none)
+
+module _ {T : Type 0} where
+  -- so a run is answered as by the numbered machine, ids aside, and the sessions left match
+  pub run_answers : (calls : List (Call T)) (replies : List (SessionReply T))
+      (s r a : SessionState T)
+      → Matches s a → IsSound s.state → Run s calls replies r → AnswersAs a calls replies r
+  run_answers [] [] s r a m sound run =
+      record { same = refl; matches = subst (λ r. Matches r a) (sym run) m }
+  run_answers (c ∷ calls) (x ∷ replies) s r a m sound run =
+      let one = step_matches m c x run.0 run.1 in
+      let rest = run_answers calls replies run.0 r (numbered_act a c (refusal_in x)).1
+      one.after (session_sound s run.0 c x sound run.1) run.2 in
+      record { same = λ i. one.said i ∷ rest.same i; matches = rest.matches }
+  run_answers _ _ s r a m sound run = absurd run
+
+  -- and one call is a run
+  pub call_answers : (c : Call T) (x : SessionReply T) (s r a : SessionState T) → Matches s a
+      → IsSound s.state → SessionStep s c x r → AnswersAs a (c ∷ []) (x ∷ []) r
+  call_answers c x s r a m sound step =
+      run_answers (c ∷ []) (x ∷ []) s r a m sound (r, step, refl)
+
+  -- an owner of a session that matches is the other's
+  pub owner_matched : {s a : SessionState T} (m : Matches s a) (key : ℕ)
+      → is_some (map.get s.state.owners key) ≡ true
+      → (k : ℕ) × (key + a.state.next ≡ k + s.state.next)
+      × (is_some (map.get a.state.owners k) ≡ true)
+  owner_matched {s} {a} m key live =
+      let low = m.carries.state.keys key live in
+      let next = m.carries.state.next in
+      let k = key - m.difference in
+      let same : key ≡ k + m.difference = omega arith in (
+        k,
+        omega arith,
+        sym (some_map (rename_ownership (named_by m.order) m.difference) _)
+            ∙ (sym (ap is_some (m.carries.state.owners k)) ∙ rw (sym same) live),
+      )
+
+  -- a fresh store matches the numbered machine where nothing was called
+  pub fresh_matches : (store start next : ℕ)
+      → (let s : SessionState T = record { state = fresh store start next; table = [] } in
+      Matches s (empty_session store))
+  fresh_matches store start next = record {
+    order = [];
+    difference = next;
+    carries = record {
+      state = record {
+        number = refl;
+        next = omega arith;
+        peak = refl;
+        cells = record {
+          at = λ k b. let lt = b.1 in absurd (omega arith);
+          from = λ n live. absurd (dead (map.get-empty name_cmp n) live);
+          known = λ k live. absurd (dead (map.get-empty name_cmp k) live);
+          leads = λ k m l is. absurd (none≢some _ _ (map.get-empty name_cmp k) is);
+        };
+        given = λ k b. let lt = b.1 in absurd (omega arith);
+        owners = λ key. rw (map.get-empty nat_cmp (key + next), map.get-empty nat_cmp key) refl;
+        keys = λ key live. absurd (dead (map.get-empty nat_cmp key) live);
+        listed = λ key h is. absurd (none≢some _ h (map.get-empty nat_cmp key) is);
+        apart = λ j k b. let lt = b.1 in absurd (omega arith);
+      };
+      table = refl;
+      known = tt;
+    };
+    names = record { count = set.len-empty name_cmp; all = λ n. set.contains-empty name_cmp n };
+    numbers = record {
+      count = set.len-empty name_cmp;
+      all = λ k b. let lt = b.1 in absurd (omega arith);
+      only = λ k h. absurd (true≢false (sym h ∙ set.contains-empty name_cmp k));
+    };
+  }
+
+  -- so a session of a fresh store matches it
+  pub new_matches : (S : State T) (items : List (Thing T))
+      → IsFresh S → items ≡ [] → Matches (session_in S items) (empty_session S.number)
+  new_matches S items f none =
+      rw none (subst (λ X. Matches (record { state = X; table = [] }) (empty_session S.number))
+      (sym f) (fresh_matches S.number S.start S.next))

@@ -1,0 +1,8 @@
+use Rattle.generational_sessions.proofs.carrying.Plain.{plain_act, plain_meets}
+use Rattle.generational_sessions.proofs.laws.plain_states_step.Goals as goal
+
+pub returns : goal.returns
+returns g c = record {
+  step = plain_act;
+  meets = plain_meets;
+}

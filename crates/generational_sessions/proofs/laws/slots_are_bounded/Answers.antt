@@ -1,0 +1,9 @@
+use Rattle.generational_core.proofs.machine.Bounding.{fresh_bounded, meets_bounded}
+use Rattle.generational_sessions.proofs.laws.slots_are_bounded.Goals as goal
+
+pub returns : goal.returns
+returns g c = record {
+  fresh = fresh_bounded;
+  step = meets_bounded;
+  few = λ S bounded. bounded.few;
+}

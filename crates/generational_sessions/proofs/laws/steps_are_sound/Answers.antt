@@ -1,0 +1,9 @@
+use Rattle.generational_core.proofs.machine.Soundness.{fresh_sound}
+use Rattle.generational_core.proofs.machine.Stepping.{meets_sound}
+use Rattle.generational_sessions.proofs.laws.steps_are_sound.Goals as goal
+
+pub returns : goal.returns
+returns g c = record {
+  fresh = fresh_sound;
+  step = meets_sound;
+}

@@ -1,0 +1,7 @@
+use Rattle.std.proofs.Common.{refl, inl}
+use Rattle.generational_core.specs.Steps.{no_names}
+use Rattle.generational_sessions.proofs.places.can_read.Goals as goal
+
+pub returns-in-Some : goal.returns-in-Some
+returns-in-Some g c =
+    rw (← c.in-Some.ensures, c.can_read.ensures) (_, inl (no_names, tt, refl), refl, refl, refl)

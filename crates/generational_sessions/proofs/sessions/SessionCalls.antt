@@ -1,0 +1,453 @@
+-- What each call of a session leaves and promises, in the code and in the machine.
+use Rattle.std.proofs.Common.{◌≡◌, ◌≢◌, ℕ, zero, suc, Bool, true, false, cond, List, [], ◌∷◌, ◌++◌}
+use Rattle.std.proofs.Common.{slice_get, slice_set, Option, None, Some, refl, sym, ap, subst, ◌∙◌}
+use Rattle.std.proofs.Common.{inl, inr, ⊎_elim, reverse, Result, Ok, Err, append_assoc}
+use Rattle.std.specs.Prelude.{OnOk, is_err, is_none, nat_eq, nat_lt, map as list_map}
+use Rattle.std.proofs.lemmas.Bool.{true≢false}
+use Rattle.generational_core.specs.declared.boxes.GenerationalPointer.{GenerationalPointer}
+use Rattle.generational_sessions.specs.declared.calls.BoxAt.{BoxAt}
+use Rattle.generational_sessions.specs.declared.calls.BoxAt.TheVariants.{Place, Foreign}
+use Rattle.generational_sessions.specs.declared.calls.Call.{Call}
+use Rattle.generational_sessions.specs.declared.calls.Call.TheVariants as call
+use Rattle.generational_core.specs.State.{State, Ownership, IsSound, IsGiven}
+use Rattle.generational_core.specs.Boxes.{name_of, name_in}
+use Rattle.generational_core.specs.Answers.{pointer_of, back_answer, end_refused}
+use Rattle.generational_core.specs.Borrowing.{Trouble, can_read, can_write}
+use Rattle.generational_core.specs.Ending.{hindrance_to}
+use Rattle.generational_core.specs.Machine.{Action, Answer, Fresh, Outcome, OwnerName, act, unless}
+use Rattle.generational_core.specs.Machine.{ownership, release_owner}
+use Rattle.generational_core.specs.Machine.Answer.{Made, Flag, Done, Troubled, Refused as refuses}
+use Rattle.generational_core.specs.Steps.{Meets, limit_tickets, may_lack, needs_memory, no_names}
+use Rattle.generational_core.specs.Conditions.{IsReleased, IsFresh}
+use Rattle.generational_sessions.specs.Session.{SessionState, Held, SessionReply, Request, Settles, Run}
+use Rattle.generational_sessions.specs.Session.{SessionStep, at_place, box_in, box_held, owner_held}
+use Rattle.generational_sessions.specs.Session.{with_box, with_owner, ask, reply_of, gives, spend}
+use Rattle.generational_sessions.specs.Session.{add_place, if_ready, replace}
+use Rattle.generational_sessions.specs.Session.Held.{Boxed, Writing, Owning, Nothing}
+use Rattle.generational_sessions.specs.Session.SessionReply.{ABox, IsDone, Error, Unready}
+use Rattle.generational_sessions.specs.SoundSession.{IsSoundSession}
+use Rattle.generational_sessions.specs.Replies.{NeedsBox, TellsEnds, GivesNewBox, EndsOwned}
+use Rattle.generational_sessions.specs.Replies.{AllTellEnds}
+use Rattle.generational_sessions.specs.Replies.{AllKeepPromises, KeepBoxes, GiveBoxesApart, ended_reply}
+use Rattle.generational_core.proofs.machine.Stepping.{ended_read, ended_write, meets_says, meets_given}
+use Rattle.generational_core.proofs.machine.Stepping.{meets_number}
+use Rattle.generational_core.proofs.machine.Releasing.{box_ends, box_stays, shared_ends, shared_stays}
+use Rattle.generational_core.proofs.machine.Releasing.{listed_boxed, last_cells}
+use Rattle.generational_sessions.proofs.sessions.Sessions.{ComesTo, comes_to, held_changed, session_kept, by_run}
+use Rattle.generational_sessions.proofs.sessions.Sessions.{takes_no_box, session_ended, by_step, fresh_kept}
+use Rattle.generational_sessions.proofs.sessions.Sessions.{is_own}
+use Rattle.generational_sessions.proofs.sessions.Sessions.ComesTo.{tells, swaps, asks}
+use Rattle.generational_sessions.proofs.sessions.Refusals.{refusals}
+use Rattle.generational_core.proofs.machine.Changes.{IsNewBox}
+use Rattle.std.proofs.lemmas.List.{map-append, map-set, reverse-append, reverse-reverse, append-nil}
+use Rattle.std.proofs.lemmas.List.{set-get_or}
+use Rattle.std.proofs.lemmas.Option.{none-some}
+use Rattle.generational_sessions.specs.declared.calls.Reply.{Reply}
+use Rattle.generational_sessions.specs.declared.places.Thing.{Thing}
+use Rattle.generational_core.specs.declared.error.BorrowMutError.{BorrowMutError}
+use Rattle.generational_core.specs.declared.error.Refused.{Refused}
+use Rattle.generational_core.specs.declared.error.Refused.TheVariants as refused
+use Rattle.generational_sessions.specs.Places.{as_held, as_reply, as_replies, session_in, as_refusal}
+use Rattle.generational_sessions.specs.Places.{exchange, GivesAsked, Gives}
+
+-- what is put back to where it was taken from
+set_back : {X : Type 0} (xs : List X) (p : ℕ) (x y : X) → slice_get xs p ≡ Some x
+    → slice_set (slice_set xs p y) p x ≡ xs
+set_back [] p x y h = refl
+set_back (z ∷ xs) zero x y h = cc
+set_back (z ∷ xs) (suc p) x y h = ap (λ xs. z ∷ xs) (set_back xs p x y h)
+
+pub put_back : {X : Type 0} {xs taken after : List X} (p : ℕ) {x z : X} (y : X)
+    → slice_get xs p ≡ Some x → taken ≡ slice_set xs p y → after ≡ slice_set taken p z → z ≡ x
+    → after ≡ xs
+put_back {xs = xs} p {x} y there takes puts is =
+    puts ∙ ((λ i. slice_set (takes i) p (is i)) ∙ set_back xs p x y there)
+
+-- what holds of a result that is no error
+pub went : {A E P : Type 0} (r : Result A E) → false ≡ is_err r → OnOk r P → P
+went (Ok a) ok p = p
+went (Err e) ok p = absurd (true≢false (sym ok))
+
+module _ {T : Type 0} where
+  -- the reply to a call that is asked of the machine
+  reply_is : (s r : SessionState T) (c : Call T) (x : SessionReply T) (action : Action T)
+      (answer : Answer T) (step : Settles s c (Request.Asks action) x r)
+      → step.0 ≡ answer → x ≡ reply_of c answer
+  reply_is s r c x action answer step is =
+      ap (λ (out : SessionReply T × SessionState T). out.0) step.3 ∙ ap (reply_of c) is
+
+  -- a call of an ended box is answered so, whatever names it takes
+  answers_ended : (s r : SessionState T) (c : Call T) (x : SessionReply T)
+      (o : Option GenerationalPointer) (action : GenerationalPointer → Action T)
+      (b : GenerationalPointer)
+      → ((new : Fresh)
+      → act s.state (action b) new ≡ (Troubled (Trouble.Dropped b.created_at), s.state))
+      → o ≡ Some b → Settles s c (with_box o None (λ b. Request.Asks (action b))) x r
+      → x ≡ Error (Trouble.Dropped b.created_at)
+  unfolding may_lack
+  answers_ended s r c x o action b acts is step =
+      let it : Settles s c (Request.Asks (action b)) x r =
+      subst (λ o. Settles s c (with_box o None (λ b. Request.Asks (action b))) x r) is step in
+      reply_is s r c x (action b) _ it (answer_is it.0 it.1 it.2)
+    where
+      answer_is : (answer : Answer T) (R : State T) → Meets s.state (action b) answer R
+          → answer ≡ Troubled (Trouble.Dropped b.created_at)
+      answer_is answer R (inl m) =
+          ap (λ (out : Outcome T). out.0) (m.2 ∙ ap (limit_tickets s.state) (acts m.0))
+      answer_is answer R (inr m) = absurd (true≢false (sym m.0 ∙ ap (λ (out : Outcome T).
+          needs_memory s.state (limit_tickets s.state out).0 (action b)) (acts no_names)))
+
+  -- a call whose condition doesn't hold is told so
+  told_unready : (s r : SessionState T) (c : Call T) (x : SessionReply T)
+      (o : Option GenerationalPointer) (ready : GenerationalPointer → Bool) (back : Option T)
+      (next : GenerationalPointer → Request T) (b : GenerationalPointer) → ready b ≡ false
+      → o ≡ Some b → Settles s c (with_box o back (λ b. if_ready (ready b) back (next b))) x r
+      → x ≡ Unready back
+  told_unready s r c x o ready back next b unready is step =
+      let it : Settles s c (if_ready (ready b) back (next b)) x r =
+      subst (λ o. Settles s c (with_box o back (λ b. if_ready (ready b) back (next b))) x r) is step
+      in (subst (λ q. Settles s c (if_ready q back (next b)) x r) unready it).0
+
+  pub tells_ends : (s r : SessionState T) (c : Call T) (x : SessionReply T)
+      → SessionStep s c x r → TellsEnds s c x
+  tells_ends s r (call.LeakReference p) x step b needed ended =
+      answers_ended s r (call.LeakReference p) x (box_in s p) (λ b. Action.Refer None b) b
+      (λ new. rw (ended_read s.state b ended, unless) refl) needed step
+  tells_ends s r (call.TryRead p l) x step b needed ended =
+      answers_ended s r (call.TryRead p l) x (box_in s p) (λ b. Action.Read b l) b
+      (λ new. rw (ended_read s.state b ended, unless) refl) needed step
+  tells_ends s r (call.TryWrite p l) x step b needed ended =
+      answers_ended s r (call.TryWrite p l) x (box_in s p) (λ b. Action.Write b l) b
+      (λ new. rw (ended_write s.state b ended, unless) refl) needed step
+  tells_ends s r (call.Read p l) x step b needed ended = told_unready s r (call.Read p l) x
+      (box_in s p) (can_read s.state) None (λ b. Request.Asks (Action.Read b l)) b
+      (ap is_none (ended_read s.state b ended)) needed step
+  tells_ends s r (call.Write p l) x step b needed ended = told_unready s r (call.Write p l) x
+      (box_in s p) (can_write s.state) None (λ b. Request.Asks (Action.Write b l)) b
+      (ap is_none (ended_write s.state b ended)) needed step
+  tells_ends s r (call.Set p v) x step b needed ended = told_unready s r (call.Set p v) x
+      (box_in s p) (can_write s.state) (Some v) (λ b. Request.Asks (Action.SetValue b v)) b
+      (ap is_none (ended_write s.state b ended)) needed step
+  tells_ends s r c x step b needed ended = absurd needed
+
+  -- a reply gives the box that the machine made
+  made_by : (answer : Answer T) (c : Call T) (b : GenerationalPointer)
+      → reply_of c answer ≡ ABox b → answer ≡ Made b
+  made_by (refuses e) (call.Leak v l) b h = cc
+  made_by (refuses e) (call.LeakRc v l) b h = cc
+  made_by (refuses e) (call.Insert p v l) b h = cc
+  made_by (refuses e) (call.InsertRc p v l) b h = cc
+  made_by (Flag f) (call.Release p) b h = cc
+  made_by answer c b h = cc
+
+  -- a box that is given was never given before, and is given from then on
+  session_new : (s r : SessionState T) (c : Call T) (x : SessionReply T) → SessionStep s c x r
+      → (b : GenerationalPointer) → x ≡ ABox b → IsNewBox s.state r.state b
+  session_new s r c x step b is = at (ask s c) (comes_to s c) step
+    where
+      at : (q : Request T) → ComesTo s c q → Settles s c q x r → IsNewBox s.state r.state b
+      at q (asks action empties) step =
+          let made = made_by step.0 c b (sym (reply_is s r c x action step.0 step refl) ∙ is) in
+          let after = ap (λ (out : SessionReply T × SessionState T). out.1.state) step.3 in
+          subst (λ (S : State T). IsNewBox s.state S b) (sym after)
+          (meets_says s.state step.1 action
+          (Made b) (subst (λ a. Meets s.state action a step.1) made step.2))
+      at q (tells y own) step = absurd (true≢false (sym own ∙ ap is_own (sym step.0 ∙ is)))
+      at q (swaps p g v old there) step = let e = sym step.0 ∙ is in cc
+
+  pub gives_new_box : (s r : SessionState T) (c : Call T) (x : SessionReply T)
+      → SessionStep s c x r → GivesNewBox s x
+  gives_new_box s r c x step b is =
+      let it = session_new s r c x step b is in record { number = it.number; fresh = it.fresh }
+
+  -- no reply gives a box of a name that was given before the run
+  run_new : (calls : List (Call T)) (replies : List (SessionReply T)) (s r : SessionState T)
+      → Run s calls replies r → (i : ℕ) (b : GenerationalPointer)
+      → slice_get replies i ≡ Some (ABox b) → IsGiven s.state (name_of b) → ⊥
+  run_new [] [] s r run i b is given = cc
+  run_new (c ∷ calls) (x ∷ replies) s r run zero b is given =
+      true≢false (sym given ∙ (session_new s run.0 c x run.1 b cc).fresh)
+  run_new (c ∷ calls) (x ∷ replies) s r run (suc i) b is given =
+      run_new calls replies run.0 r run.2 i b is (by_step s run.0 c x
+      (λ S. IsGiven S (name_of b))
+      (λ S R action answer h meets. meets_given S R action answer meets (name_of b) h) run.1 given)
+  run_new calls replies s r run i b is given = absurd run
+
+  pub boxes_apart : (calls : List (Call T)) (replies : List (SessionReply T)) (s r : SessionState T)
+      → Run s calls replies r → GiveBoxesApart replies
+  boxes_apart [] [] s r run i j b c is at same = cc
+  boxes_apart (k ∷ calls) (x ∷ replies) s r run zero zero b c is at same = refl
+  boxes_apart (k ∷ calls) (x ∷ replies) s r run zero (suc j) b c is at same =
+      absurd (run_new calls replies run.0 r run.2 j c at
+      (subst (λ id. IsGiven run.0.state (name_in id)) same
+      (session_new s run.0 k x run.1 b cc).given))
+  boxes_apart (k ∷ calls) (x ∷ replies) s r run (suc i) zero b c is at same =
+      absurd (run_new calls replies run.0 r run.2 i b is
+      (subst (λ id. IsGiven run.0.state (name_in id)) (sym same)
+      (session_new s run.0 k x run.1 c cc).given))
+  boxes_apart (k ∷ calls) (x ∷ replies) s r run (suc i) (suc j) b c is at same =
+      ap suc (boxes_apart calls replies run.0 r run.2 i j b c is at same)
+  boxes_apart calls replies s r run i j b c is at same = absurd run
+
+  -- a place more leaves what stands before it
+  held_before : (table : List (Held T)) (y : Held T) (p : ℕ) (b : GenerationalPointer)
+      → at_place table p ≡ Boxed b → at_place (table ++ y ∷ []) p ≡ Boxed b
+  held_before [] y p b is = cc
+  held_before (x ∷ table) y zero b is = is
+  held_before (x ∷ table) y (suc p) b is = held_before table y p b is
+
+  -- another thing at a place that held no box
+  held_beside : (table : List (Held T)) (q : ℕ) (y : Held T) (p : ℕ) (b : GenerationalPointer)
+      → at_place table q ≢ Boxed b → at_place table p ≡ Boxed b
+      → at_place (slice_set table q y) p ≡ Boxed b
+  held_beside table q y p b other is = ⊎_elim (λ e. e ∙ is)
+      (λ e. absurd (other (sym (ap (at_place table) e.0) ∙ is))) (held_changed table q y p)
+
+  -- each call, and so each run, leaves the boxes at their places
+  pub keep_boxes : (s r : SessionState T) (c : Call T) (x : SessionReply T)
+      → SessionStep s c x r → KeepBoxes s r
+  keep_boxes s r c x step p b is = at (ask s c) (comes_to s c) step
+    where
+      at : (q : Request T) → ComesTo s c q → Settles s c q x r → at_place r.table p ≡ Boxed b
+      at q (asks action empties) step =
+          let it = empties step.0 in
+          ap (λ (out : SessionReply T × SessionState T). at_place out.1.table p) step.3
+          ∙ held_before (spend c step.0 s.table) (gives step.0) p b
+          (ap (λ table. at_place table p) it.1 ∙ held_beside s.table it.0 Nothing p b
+          (λ e. takes_no_box action step.0 b (sym it.2 ∙ e)) is)
+      at q (tells y own) step =
+          ap (λ (s : SessionState T). at_place s.table p) step.1 ∙ held_before s.table _ p b is
+      at q (swaps k g v old there) step =
+          ap (λ (r : SessionState T). at_place r.table p) step.1
+          ∙ held_before (slice_set s.table k (Writing g v)) Nothing p b
+          (held_beside s.table k (Writing g v) p b (λ e. let x = sym there ∙ e in cc) is)
+
+  pub run_keep_boxes : (calls : List (Call T)) (replies : List (SessionReply T))
+      (s r : SessionState T) → Run s calls replies r → KeepBoxes s r
+  run_keep_boxes calls replies s r run p b is = by_run (λ s. at_place s.table p ≡ Boxed b)
+      (λ s r c x h step. keep_boxes s r c x step p b h) calls replies s r is run
+
+  -- so a call names the same box after another call
+  box_in_kept : (s r : SessionState T) (c : Call T) (x : SessionReply T) → SessionStep s c x r
+      → (a : BoxAt T) (b : GenerationalPointer) → box_in s a ≡ Some b → box_in r a ≡ Some b
+  box_in_kept s r c x step (Place p) b is =
+      ap box_held (keep_boxes s r c x step p b (boxed (at_place s.table p) is))
+    where
+      boxed : (h : Held T) → box_held h ≡ Some b → h ≡ Boxed b
+      boxed (Boxed d) e = let same : d ≡ b = cc in ap Boxed same
+      boxed h e = cc
+  box_in_kept s r c x step (Foreign d) b is =
+      ap (λ n. cond (nat_eq (pointer_of d).id.store n) None (Some (pointer_of d)))
+      (by_step s r c x (λ S. S.number ≡ s.state.number)
+      (λ S R action answer e meets. meets_number S R action answer meets ∙ e) step refl)
+      ∙ is
+
+  need_kept : (s r : SessionState T) (c : Call T) (x : SessionReply T) → SessionStep s c x r
+      → (k : Call T) (b : GenerationalPointer) → NeedsBox s k b → NeedsBox r k b
+  need_kept s r c x step (call.LeakReference a) b is = box_in_kept s r c x step a b is
+  need_kept s r c x step (call.TryRead a l) b is = box_in_kept s r c x step a b is
+  need_kept s r c x step (call.TryWrite a l) b is = box_in_kept s r c x step a b is
+  need_kept s r c x step (call.Read a l) b is = box_in_kept s r c x step a b is
+  need_kept s r c x step (call.Write a l) b is = box_in_kept s r c x step a b is
+  need_kept s r c x step (call.Set a v) b is = box_in_kept s r c x step a b is
+  need_kept s r c x step k b is = absurd is
+
+  pub all_tell_ends : (calls : List (Call T)) (replies : List (SessionReply T))
+      (s r : SessionState T) → Run s calls replies r → AllTellEnds s calls replies
+  all_tell_ends [] [] s r run i k b there needed ended = cc
+  all_tell_ends (c ∷ calls) (x ∷ replies) s r run zero k b there needed ended =
+      let same : k ≡ c = cc in
+      ap Some (tells_ends s run.0 c x run.1 b (subst (λ k. NeedsBox s k b) same needed) ended
+      ∙ ap (λ c. ended_reply c b) (sym same))
+  all_tell_ends (c ∷ calls) (x ∷ replies) s r run (suc i) k b there needed ended =
+      all_tell_ends calls replies run.0 r run.2 i k b there
+      (need_kept s run.0 c x run.1 k b needed)
+      (session_ended s run.0 c x run.1 (name_of b) ended)
+  all_tell_ends calls replies s r run i k b there needed ended = absurd run
+
+  -- an owner's release that is told as done is done
+  release_done : (S : State T) (o : OwnerName) (h : Option Ownership) (p : ℕ)
+      → reply_of (call.ReleaseOwner p) (limit_tickets S (release_owner S o h)).0 ≡ IsDone
+      → (limit_tickets S (release_owner S o h)).0 ≡ Done
+  release_done S o None p e = cc
+  release_done S o (Some h) p e = split (nat_lt 1 h.count) (hindrance_to S h.names) _ _ e
+    where
+      split : (b : Bool) (t : Option Trouble) (less left : State T)
+          → let out = limit_tickets S (cond b (Done, less) (unless t S (Done, left))) in
+          reply_of (call.ReleaseOwner p) out.0 ≡ IsDone → out.0 ≡ Done
+      split true t less left e = refl
+      split false None less left e = refl
+      split false (Some t) less left e = cc
+
+  -- an owner at a place whose release is answered done was released by the store
+  pub session_released : (s r : SessionState T) (p : ℕ) (o : OwnerName) (h : Ownership)
+      → SessionStep s (call.ReleaseOwner p) IsDone r → at_place s.table p ≡ Owning o
+      → ownership s.state o ≡ Some h → IsReleased s.state o h r.state
+  session_released s r p o h step is there = record {
+    held = there;
+    done = subst (Meets s.state (Action.ReleaseOwner o) Done)
+        (sym (ap (λ (out : SessionReply T × SessionState T). out.1.state) release.3))
+        (subst (λ answer. Meets s.state (Action.ReleaseOwner o) answer release.1)
+        (answer_is release.0 release.1 release.2 (sym (reply_is s r (call.ReleaseOwner p) IsDone
+        (Action.ReleaseOwner o) _ release refl))) release.2);
+  }
+    where
+      release : Settles s (call.ReleaseOwner p) (Request.Asks (Action.ReleaseOwner o)) IsDone r
+      release = subst (λ x. Settles s (call.ReleaseOwner p)
+          (with_owner (owner_held x) None (λ o. Request.Asks (Action.ReleaseOwner o))) IsDone r) is
+          step
+
+      answer_is : (answer : Answer T) (R : State T) → Meets s.state (Action.ReleaseOwner o) answer R
+          → reply_of (call.ReleaseOwner p) answer ≡ IsDone → answer ≡ Done
+      answer_is answer R (inl m) told = let e = ap (λ (out : Outcome T). out.0) m.2 in
+          e ∙ release_done s.state o (ownership s.state o) p
+          (sym (ap (reply_of (call.ReleaseOwner p)) e) ∙ told)
+      answer_is answer R (inr m) told =
+          let e = sym (ap (reply_of (call.ReleaseOwner p)) m.1) ∙ told in cc
+
+  pub ends_owned : (s r : SessionState T) (c : Call T) (x : SessionReply T)
+      → IsSound s.state → SessionStep s c x r → EndsOwned s c x r
+  ends_owned s r c x sound step h it done =
+      let cells = s.state.cells in
+      let release = session_released s r it.place it.owner h
+      (subst (λ c. SessionStep s c IsDone r) it.releases
+      (subst (λ x. SessionStep s c x r) done step)) it.there it.known in
+      let left = last_cells release it.last in
+      record {
+        boxes = λ n there. rw left (box_ends cells h.names n
+            (listed_boxed s.state it.owner h n sound release.held there) there);
+        others = λ n apart box. rw left (box_stays cells h.names n box apart);
+        unnamed = λ n shared. rw left (shared_ends cells h.names n shared);
+        named = λ n shared. rw left (shared_stays cells h.names n shared);
+      }
+
+  pub all_keep_promises : (calls : List (Call T)) (replies : List (SessionReply T))
+      (s r : SessionState T) → IsSoundSession s → (run : Run s calls replies r)
+      → AllKeepPromises s calls replies r run
+  all_keep_promises [] [] s r kept run = tt
+  all_keep_promises (c ∷ calls) (x ∷ replies) s r kept run =
+      let after = session_kept s run.0 c x kept run.1 in
+      let told = refusals s run.0 c x run.1 in (
+        record {
+          tells_ends = tells_ends s run.0 c x run.1;
+          new_box = gives_new_box s run.0 c x run.1;
+          ends_owned = ends_owned s run.0 c x kept.sound run.1;
+          tells_lack = told.lack;
+          tells_exhaustion = told.exhaustion;
+          refusal_leaves_all = told.leaves_all;
+          kept = after;
+          bounded = after.bounded.few;
+        },
+        all_keep_promises calls replies run.0 r after run.2,
+      )
+  all_keep_promises calls replies s r kept run = absurd run
+
+  -- a session over a fresh store
+  pub new_kept : (S : State T) (items : List (Thing T))
+      → IsFresh S → items ≡ [] → IsSoundSession (session_in S items)
+  new_kept S items f none =
+      rw none (subst (λ X. IsSoundSession (record { state = X; table = [] })) (sym f)
+      (fresh_kept S.number S.start S.next))
+
+  -- what a call gives, once it has its place, is a step of the session
+  asked_step : (s m : SessionState T) (c : Call T) (a : Request T) (x : SessionReply T) (h : Held T)
+      → GivesAsked s c a x h m → Settles s c a x (add_place m h)
+  asked_step s m c (Request.Asks action) x h g =
+      let S = m.state in
+      (g.0, S, g.1, λ i. (g.2 i, add_place (record { state = S; table = g.4 i }) (g.3 i)))
+  asked_step s m c a x h g = (g.0, λ i. add_place (g.2 i) (g.1 i))
+
+  pub call_step : {s : SessionState T} (S R : State T) (items kept after : List (Thing T))
+      (c : Call T) (x : SessionReply T) (t : Thing T)
+      → session_in S items ≡ s → Gives (session_in S items) c x (as_held t) (session_in R kept)
+      → after ≡ kept ++ t ∷ [] → SessionStep s c x (session_in R after)
+  call_step {s} S R items kept after c x t view gives more =
+      subst (λ q. SessionStep q c x (session_in R after)) view
+      (subst (λ table. SessionStep (session_in S items) c x (record { state = R; table = table }))
+      (sym (ap (list_map as_held) more ∙ map-append as_held kept (t ∷ [])))
+      (asked_step (session_in S items) (session_in R kept) c (ask (session_in S items) c) x
+      (as_held t) gives))
+
+  -- what stands at a place, and what is put there
+  pub held_there : (items : List (Thing T)) (p : ℕ) (t : Thing T) → slice_get items p ≡ Some t
+      → at_place (list_map as_held items) p ≡ as_held t
+  held_there [] p t h = absurd (none-some t h)
+  held_there (z ∷ items) zero t h = cc
+  held_there (z ∷ items) (suc p) t h = held_there items p t h
+
+  pub set_there : (items after : List (Thing T)) (p : ℕ) (u : Thing T) → after ≡ slice_set items p u
+      → list_map as_held after ≡ slice_set (list_map as_held items) p (as_held u)
+  set_there items after p u changes = ap (list_map as_held) changes ∙ map-set as_held items p u
+
+  -- whatever the store answers to a writer's release, the reply is the same
+  pub back_reply : {U : Type 0} (p : ℕ) (back : Result U T)
+      → (IsDone ≡ reply_of (call.Release p) (back_answer back))
+      × (Nothing ≡ gives (back_answer back))
+  back_reply p (Ok u) = (refl, refl)
+  back_reply p (Err v) = (refl, refl)
+
+  -- a refusal of an owner's release spends nothing
+  pub refusal_reply : (p : ℕ) (e : Refused BorrowMutError) (table : List (Held T))
+      → (◌≡◌ {A = SessionReply T} (as_refusal e) (reply_of (call.ReleaseOwner p) (end_refused e)))
+      × (◌≡◌ {A = Held T} Nothing (gives (end_refused e)))
+      × (table ≡ spend (call.ReleaseOwner p) (end_refused e) table)
+  refusal_reply p (refused.Borrow b) table = (refl, refl, refl)
+  refusal_reply p (refused.Store cause) table = (refl, refl, refl)
+
+  -- another value for the writer at a place
+  pub exchange_gives : (S : State T) (items after : List (Thing T)) (p : ℕ) (v : T)
+      (x : SessionReply T) (u : Thing T) (h : Held T) → at_place (list_map as_held items) p ≡ h
+      → list_map as_held after ≡ slice_set (list_map as_held items) p (as_held u)
+      → x ≡ (exchange h v).0 → as_held u ≡ (exchange h v).1
+      → GivesAsked (session_in S items) (call.Replace p v) (replace p h v) x Nothing
+      (session_in S after)
+  exchange_gives S items after p v x u (Writing g old) is set reply put =
+      let now = set ∙ ap (slice_set (list_map as_held items) p) put in
+      (reply, refl, λ i. record { state = S; table = now i })
+  exchange_gives S items after p v x u h is set reply put =
+      let now = set ∙ (ap (slice_set (list_map as_held items) p) (put ∙ sym is)
+      ∙ set-get_or (list_map as_held items) p Nothing) in
+      (reply, refl, λ i. record { state = S; table = now i })
+
+  -- a run of the calls that are left, behind the replies so far, is a run of all
+  abbrev Continues : SessionState T → List (Call T) → State T → List (Thing T) → List (Call T)
+      → List (Reply T) → Type 0
+  Continues s all S items calls replies = (rs : List (SessionReply T)) (last : SessionState T)
+      → Run (session_in S items) (reverse calls) rs last
+      → Run s all (as_replies replies ++ rs) last
+
+  -- a run before its first call
+  pub run_starts : {s : SessionState T} (S : State T) (items kept : List (Thing T))
+      (all calls : List (Call T)) (replies : List (Reply T))
+      → session_in S items ≡ s → kept ≡ items → calls ≡ reverse all → replies ≡ []
+      → Continues s all S kept calls replies
+  run_starts S items kept all calls replies view same turned none =
+      λ rs last run. rw (none, ← view) (rw (same, turned, reverse-reverse all) at run)
+
+  -- one call more of a run
+  pub run_goes : (s : SessionState T) (S R : State T) (items kept after : List (Thing T))
+      (all calls rest : List (Call T)) (c : Call T)
+      (x : Reply T) (t : Thing T) (replies more : List (Reply T))
+      → calls ≡ rest ++ c ∷ []
+      → Gives (session_in S items) c (as_reply x) (as_held t) (session_in R kept)
+      → after ≡ kept ++ t ∷ [] → more ≡ replies ++ x ∷ []
+      → Continues s all S items calls replies → Continues s all R after rest more
+  run_goes s S R items kept after all calls rest c x t replies more front gives place told so_far =
+      λ rs last run. rw (
+        told,
+        map-append as_reply replies (x ∷ []),
+        append_assoc (as_replies replies) (as_reply x ∷ []) rs,
+      ) (so_far (as_reply x ∷ rs) last
+      (rw (front, reverse-append rest (c ∷ [])) (
+        session_in R after,
+        call_step S R items kept after c (as_reply x) t refl gives place,
+        run,
+      )))
+
+  -- a run to its end
+  pub run_ends : (s : SessionState T) (S : State T) (items : List (Thing T))
+      (all calls : List (Call T)) (replies : List (Reply T))
+      → calls ≡ [] → Continues s all S items calls replies
+      → Run s all (as_replies replies) (session_in S items)
+  run_ends s S items all calls replies none so_far =
+      rw (← append-nil (as_replies replies)) (so_far [] (session_in S items) (rw none refl))

@@ -1,0 +1,539 @@
+-- Each call of a session keeps what holds of every session, and so does a whole run.
+use Rattle.std.proofs.Common.{◌≡◌, ◌≢◌, ℕ, zero, suc, ◌+◌, ◌≤◌, ◌<◌, Bool, true, false, cond, List}
+use Rattle.std.proofs.Common.{[], ap}
+use Rattle.std.proofs.Common.{◌∷◌, ◌++◌, length, slice_set, Option, None, Some, refl, sym, subst}
+use Rattle.std.proofs.Common.{◌∙◌, inl, inr, ⊎_elim, arith}
+use Rattle.std.specs.Prelude.{◌⊎◌, ◌||◌, is_some, nat_eq, map as list_map}
+use Rattle.std.specs.List.{count_by, list_any}
+use Rattle.std.specs.Cmp.{nat_eq_equiv}
+use Rattle.std.specs.FinMap as map
+use Rattle.std.specs.FinSet as set
+use Rattle.std.proofs.lemmas.Bool.{true≢false, and_parts, or_left, eq-eqb, eqb-true}
+use Rattle.std.proofs.lemmas.Bool.{false_from_ne_true}
+use Rattle.std.proofs.lemmas.List.Sums.{sum_by-cons, sum_by_push}
+use Rattle.generational_core.specs.declared.borrow.Borrow.{Borrow}
+use Rattle.generational_core.specs.declared.boxes.GenerationalPointer.{GenerationalPointer}
+use Rattle.generational_core.specs.declared.error.Location.{Location}
+use Rattle.generational_sessions.specs.declared.calls.Call.{Call}
+use Rattle.generational_sessions.specs.declared.calls.Call.TheVariants as call
+use Rattle.generational_core.specs.Names.{Name}
+use Rattle.generational_core.specs.Boxes.{name_of}
+use Rattle.generational_core.specs.Cells.{Content, Cell, is_shared}
+use Rattle.generational_core.specs.State.{State, Ownership, IsSound, tickets_of, content_at}
+use Rattle.generational_core.specs.Conditions.{count_in, count_under, IsBounded, IsEnded, fresh}
+use Rattle.generational_core.specs.Borrowing.{Guard, can_read, can_write, reach}
+use Rattle.generational_core.specs.Machine.{Action, Answer, OwnerName, is_known, has_reader}
+use Rattle.generational_core.specs.Machine.{has_writer, knows_reader, knows_writer}
+use Rattle.generational_core.specs.Machine.Answer.{Made, Owned, Reads, Writes, Done}
+use Rattle.generational_core.specs.Steps.{Meets}
+use Rattle.generational_sessions.specs.Session.{SessionState, Held, SessionReply, Request, Settles, Run}
+use Rattle.generational_sessions.specs.Session.{SessionStep, at_place, add_place, gives, spend, ask}
+use Rattle.generational_sessions.specs.Session.{box_in, owner_in, owner_held, with_box, with_owner}
+use Rattle.generational_sessions.specs.Session.{if_ready, release, replace, swap}
+use Rattle.generational_sessions.specs.Session.Held.{Boxed, Reading, Writing, Owning, Nothing}
+use Rattle.generational_sessions.specs.SoundSession.{IsSoundSession, IsOwn, AreOne, holds_owner}
+use Rattle.generational_core.specs.Answers.{value_at}
+use Rattle.generational_sessions.specs.Disturbance.{AskedSets, IsUndisturbed, Undisturbed}
+use Rattle.generational_core.proofs.machine.Bounding.{meets_bounded, fresh_bounded}
+use Rattle.generational_core.proofs.machine.Soundness.{fresh_sound, ref_reaches}
+use Rattle.generational_sessions.proofs.sessions.OwnerValues.{owners_in, takes, meets_counts}
+use Rattle.generational_core.proofs.machine.Stepping.{meets_sound, meets_ended, meets_number, meets_given}
+use Rattle.generational_core.proofs.machine.Stepping.{made_new, reads_known, writes_known, reader_stays}
+use Rattle.generational_core.proofs.machine.Stepping.{writer_stays, ends_reader, ends_writer, meets_value}
+
+module _ {T : Type 0} where
+  -- ---- places of a table
+
+  -- a place at the end, and those before it
+  pub held_pushed : (table : List (Held T)) (x : Held T) (p : ℕ)
+      → (at_place (table ++ x ∷ []) p ≡ at_place table p)
+      ⊎ ((p ≡ length table) × (at_place (table ++ x ∷ []) p ≡ x))
+  held_pushed [] x zero = inr (refl, refl)
+  held_pushed [] x (suc p) = inl refl
+  held_pushed (h ∷ table) x zero = inl refl
+  held_pushed (h ∷ table) x (suc p) =
+      ⊎_elim inl (λ e. inr (ap suc e.0, e.1)) (held_pushed table x p)
+
+  -- a place that holds another thing, and the others
+  pub held_changed : (table : List (Held T)) (p : ℕ) (x : Held T) (q : ℕ)
+      → (at_place (slice_set table p x) q ≡ at_place table q)
+      ⊎ ((q ≡ p) × (at_place (slice_set table p x) q ≡ x))
+  held_changed [] p x q = inl refl
+  held_changed (h ∷ table) zero x zero = inr (refl, refl)
+  held_changed (h ∷ table) zero x (suc q) = inl refl
+  held_changed (h ∷ table) (suc p) x zero = inl refl
+  held_changed (h ∷ table) (suc p) x (suc q) =
+      ⊎_elim inl (λ e. inr (ap suc e.0, e.1)) (held_changed table p x q)
+
+  -- a place that was emptied, and the others
+  held_emptied : (table : List (Held T)) (p q : ℕ)
+      → (at_place (slice_set table p Nothing) q ≡ Nothing)
+      ⊎ ((at_place (slice_set table p Nothing) q ≡ at_place table q) × (q ≢ p))
+  held_emptied [] p q = inl refl
+  held_emptied (h ∷ table) zero zero = inl refl
+  held_emptied (h ∷ table) zero (suc q) = inr (refl, λ e. cc)
+  held_emptied (h ∷ table) (suc p) zero = inr (refl, λ e. cc)
+  held_emptied (h ∷ table) (suc p) (suc q) =
+      ⊎_elim inl (λ e. inr (e.0, λ same. e.1 cc)) (held_emptied table p q)
+
+  -- a place that isn't given yet is empty already
+  beyond : (table : List (Held T))
+      → (p : ℕ) × (table ≡ slice_set table p Nothing) × (at_place table p ≡ Nothing)
+  beyond [] = (0, refl, refl)
+  beyond (h ∷ table) = let b = beyond table in (suc b.0, ap (λ rest. h ∷ rest) b.1, b.2)
+
+  -- how many owner values are held, with another thing at a place
+  count_changed : (key : ℕ) (table : List (Held T)) (i : ℕ) (x : Held T)
+      → count_by (holds_owner key) (slice_set table i x) + owners_in key (at_place table i)
+      ≤ count_by (holds_owner key) table + owners_in key x
+  count_changed key [] i x = omega arith
+  count_changed key (h ∷ table) zero x =
+      let new = sum_by-cons (owners_in key) x table in
+      let old = sum_by-cons (owners_in key) h table in
+      omega arith
+  count_changed key (h ∷ table) (suc i) x =
+      let new = sum_by-cons (owners_in key) h (slice_set table i x) in
+      let old = sum_by-cons (owners_in key) h table in
+      let rest = count_changed key table i x in
+      omega arith
+
+  -- ---- things that are one
+
+  same_as : {a b x y : Held T} → a ≡ x → b ≡ y → AreOne a b → AreOne x y
+  same_as {a} {b} {x} {y} e k one = subst (λ z. AreOne z y) e (subst (AreOne a) k one)
+
+  same_turned : (x y : Held T) → AreOne x y → AreOne y x
+  unfolding AreOne
+  same_turned (Boxed b) (Boxed c) one = sym one
+  same_turned (Reading g) (Reading h) one = sym one
+  same_turned (Writing g v) (Writing h w) one = sym one
+  same_turned x y one = absurd one
+
+  none_one : (x : Held T) → AreOne x Nothing → ⊥
+  unfolding AreOne
+  none_one (Boxed b) one = one
+  none_one x one = one
+
+  -- no two places of a table hold one thing
+  abbrev AreApart : List (Held T) → Type 0
+  AreApart table = (p q : ℕ) → AreOne (at_place table p) (at_place table q) → p ≡ q
+
+  -- nor of a table in which one place alone changes, if what it holds then is new there
+  still_apart : (old new : List (Held T)) (k : ℕ) (x : Held T) → AreApart old
+      → ((q : ℕ) → (at_place new q ≡ at_place old q) ⊎ ((q ≡ k) × (at_place new q ≡ x)))
+      → ((q : ℕ) → AreOne x (at_place old q) → k ≡ q) → AreApart new
+  still_apart old new k x apart changes alone p q one = ⊎_elim
+      (λ e. ⊎_elim (λ f. apart p q (same_as e f one))
+      (λ f. sym (f.0 ∙ alone p (same_turned (at_place old p) x (same_as e f.1 one)))) (changes q))
+      (λ e. ⊎_elim (λ f. e.0 ∙ alone q (same_as e.1 f one)) (λ f. e.0 ∙ sym f.0) (changes q))
+      (changes p)
+
+  -- ---- sessions with one place more, and with another thing at a place
+
+  kept_pushed : (s : SessionState T) (x : Held T) → IsSoundSession s → IsOwn s.state x
+      → ((q : ℕ) → AreOne x (at_place s.table q) → ⊥)
+      → ((key : ℕ) → count_by (holds_owner key) s.table + owners_in key x
+      ≤ count_under s.state.owners key)
+      → IsSoundSession (add_place s x)
+  kept_pushed s x kept own new room = record {
+    sound = kept.sound;
+    bounded = kept.bounded;
+    own = λ p. ⊎_elim (λ e. subst (IsOwn s.state) (sym e) (kept.own p))
+        (λ e. subst (IsOwn s.state) (sym e.1) own) (held_pushed s.table x p);
+    apart = still_apart s.table (s.table ++ x ∷ []) (length s.table) x kept.apart
+        (held_pushed s.table x) (λ q one. absurd (new q one));
+    counted = λ key. let pushed = sum_by_push (owners_in key) s.table x in
+        let before = room key in omega arith;
+  }
+
+  kept_told : (s : SessionState T) → IsSoundSession s → IsSoundSession (add_place s Nothing)
+  unfolding AreOne IsOwn
+  kept_told s kept = kept_pushed s Nothing kept tt (λ q one. one)
+      (λ key. let before = kept.counted key in omega arith)
+
+  -- a writer that owns another value
+  kept_swapped : (s : SessionState T) (p : ℕ) (g : Guard) (v old : T)
+      → IsSoundSession s → at_place s.table p ≡ Writing g old → IsSoundSession (swap s p g v)
+  unfolding IsOwn AreOne
+  kept_swapped s p g v old kept there = record {
+    sound = kept.sound;
+    bounded = kept.bounded;
+    own = λ q. ⊎_elim (λ e. subst (IsOwn s.state) (sym e) (kept.own q))
+        (λ e. subst (IsOwn s.state) (sym e.1) (subst (IsOwn s.state) there (kept.own p)))
+        (held_changed s.table p (Writing g v) q);
+    apart = still_apart s.table (swap s p g v).table p (Writing g v) kept.apart
+        (held_changed s.table p (Writing g v))
+        (λ q one. kept.apart p q (same_as (sym there) refl (writer (at_place s.table q) one)));
+    counted = λ key. let change = count_changed key s.table p (Writing g v) in
+        let before = kept.counted key in omega arith;
+  }
+    where
+      writer : (y : Held T) → AreOne (Writing g v) y → AreOne (Writing g old) y
+      writer (Writing h w) one = one
+      writer y one = one
+
+  -- ---- what a call of the machine leaves
+
+  -- tickets of known guards are below the next one
+  reader_stands : (c : Option (Content T)) (t : ℕ)
+      → has_reader c t ≡ true → list_any (nat_eq t) (tickets_of c) ≡ true
+  reader_stands None t h = h
+  reader_stands (Some (Content.Lent w)) t h = absurd (true≢false (sym h))
+  reader_stands (Some (Content.Here v readers)) t h = turn readers ∙ h
+    where
+      turn : (readers : List Borrow)
+          → list_any (nat_eq t) (list_map (λ (r : Borrow). r.ticket) readers)
+          ≡ list_any (λ r. nat_eq r.ticket t) readers
+      turn [] = refl
+      turn (r ∷ readers) = λ i. nat_eq_equiv.symm t r.ticket i || turn readers i
+
+  writer_stands : (c : Option (Content T)) (t : ℕ)
+      → has_writer c t ≡ true → list_any (nat_eq t) (tickets_of c) ≡ true
+  writer_stands (Some (Content.Lent w)) t h = or_left _ _ (nat_eq_equiv.symm t w.ticket ∙ h)
+  writer_stands c t h = absurd (true≢false (sym h))
+
+  reader_below : (S : State T) (g : Guard) → IsSound S → knows_reader S g ≡ true → g.ticket < S.next
+  reader_below S g sound known = sound.below g.cell g.ticket
+      (reader_stands (content_at S g.cell) g.ticket (and_parts _ _ known).1)
+
+  writer_below : (S : State T) (g : Guard) → IsSound S → knows_writer S g ≡ true → g.ticket < S.next
+  writer_below S g sound known = sound.below g.cell g.ticket
+      (writer_stands (content_at S g.cell) g.ticket (and_parts _ _ known).1)
+
+  -- what is taken of guards and boxes
+  takes_reader : (action : Action T) (answer : Answer T) (g : Guard)
+      → ends_reader action g.ticket ≡ true → AreOne (takes action answer) (Reading g)
+  unfolding AreOne
+  takes_reader (Action.ReleaseReader h) answer g e = eqb-true h.ticket g.ticket e
+  takes_reader action answer g e = absurd (true≢false (sym e))
+
+  takes_writer : (action : Action T) (answer : Answer T) (g : Guard) (v : T)
+      → ends_writer action g.ticket ≡ true → AreOne (takes action answer) (Writing g v)
+  unfolding AreOne
+  takes_writer (Action.ReleaseWriter h w) answer g v e = eqb-true h.ticket g.ticket e
+  takes_writer action answer g v e = absurd (true≢false (sym e))
+
+  pub takes_no_box : (action : Action T) (answer : Answer T) (b : GenerationalPointer)
+      → takes action answer ≢ Boxed b
+  takes_no_box (Action.ReleaseOwner o) Done b e = cc
+  takes_no_box action answer b e = cc
+
+  -- what is left, where a call of the machine takes a thing from a place that holds it
+  module _ (s : SessionState T) (action : Action T) (R : State T) (p : ℕ)
+      (kept : IsSoundSession s) where
+    -- what is given is the store's own
+    given_own : (a : Answer T) → Meets s.state action a R → IsOwn R (gives a)
+    unfolding IsOwn
+    given_own (Made b) m = let it = made_new s.state R action b m in
+        (it.0 ∙ sym (meets_number s.state R action (Made b) m), it.2)
+    given_own (Owned o) m = (meets_counts s.state R action (Owned o) kept.sound m).own o refl
+        ∙ sym (meets_number s.state R action (Owned o) m)
+    given_own (Reads g) m = (reads_known s.state R action g m).0
+    given_own (Writes g v) m = (writes_known s.state R action g v m).0
+    given_own a m = tt
+
+    -- and is none of the things that were held
+    given_new : (a : Answer T) → Meets s.state action a R → (x : Held T) → IsOwn s.state x
+        → AreOne (gives a) x → ⊥
+    unfolding IsOwn AreOne
+    given_new (Made b) m (Boxed c) own one = true≢false (sym own.1
+        ∙ (ap (set.contains s.state.given) (sym one) ∙ (made_new s.state R action b m).1))
+    given_new (Reads g) m (Reading h) own one =
+        let new = (reads_known s.state R action g m).1 in
+        let low = reader_below s.state h kept.sound own in
+        omega arith
+    given_new (Writes g v) m (Writing h w) own one =
+        let new = (writes_known s.state R action g v m).1 in
+        let low = writer_below s.state h kept.sound own in
+        omega arith
+    given_new a m x own one = one
+
+    module _ (answer : Answer T) (meets : Meets s.state action answer R)
+        (there : at_place s.table p ≡ takes action answer) where
+      -- what isn't taken stays the store's own
+      stays_own : (y : Held T) → (AreOne (takes action answer) y → ⊥) → IsOwn s.state y → IsOwn R y
+      unfolding IsOwn
+      stays_own (Boxed b) other own = (
+        own.0 ∙ sym (meets_number s.state R action answer meets),
+        meets_given s.state R action answer meets (name_of b) own.1,
+      )
+      stays_own (Reading g) other own = reader_stays s.state R action answer kept.sound meets g own
+          (false_from_ne_true _ (λ e. other (takes_reader action answer g e)))
+      stays_own (Writing g v) other own =
+          writer_stays s.state R action answer kept.sound meets g own
+          (false_from_ne_true _ (λ e. other (takes_writer action answer g v e)))
+      stays_own (Owning o) other own = own ∙ sym (meets_number s.state R action answer meets)
+      stays_own Nothing other own = tt
+
+      abbrev left : SessionState T
+      left = record { state = R; table = slice_set s.table p Nothing }
+
+      room : (key : ℕ) → count_by (holds_owner key) left.table + owners_in key (gives answer)
+          ≤ count_under R.owners key
+      room key =
+          let emptied = count_changed key s.table p Nothing in
+          let takes = ap (owners_in key) there in
+          let before = kept.counted key in
+          let by = (meets_counts s.state R action answer kept.sound meets).counted key in
+          omega arith
+
+      left_kept : IsSoundSession left
+      unfolding IsOwn AreOne
+      left_kept = record {
+        sound = meets_sound s.state R action answer kept.sound meets;
+        bounded = meets_bounded s.state R action answer kept.sound kept.bounded meets;
+        own = λ q. ⊎_elim (λ e. subst (IsOwn R) (sym e) tt) (λ e. subst (IsOwn R) (sym e.0)
+            (stays_own (at_place s.table q)
+            (λ one. e.1 (sym (kept.apart p q (same_as (sym there) refl one)))) (kept.own q)))
+            (held_emptied s.table p q);
+        apart = still_apart s.table left.table p Nothing kept.apart
+            (held_changed s.table p Nothing) (λ q one. absurd one);
+        counted = λ key. let here = room key in omega arith;
+      }
+
+      kept_after : IsSoundSession (add_place left (gives answer))
+      kept_after = kept_pushed left (gives answer) left_kept (given_own answer meets)
+          (λ q one. ⊎_elim (λ e. none_one (gives answer) (same_as refl e one))
+          (λ e. given_new answer meets (at_place s.table q) (kept.own q) (same_as refl e.0 one))
+          (held_emptied s.table p q)) room
+
+  -- a call empties a place of what it takes
+  abbrev pub Empties : SessionState T → Call T → Action T → Answer T → Type 0
+  Empties s c action answer = (p : ℕ) × (spend c answer s.table ≡ slice_set s.table p Nothing)
+      × (at_place s.table p ≡ takes action answer)
+
+  -- a reply that needs no machine: it gives no box, and isn't a refusal of the store
+  abbrev pub is_own : SessionReply T → Bool
+  is_own (SessionReply.ABox b) = false
+  is_own (SessionReply.Lacking e) = false
+  is_own (SessionReply.HandedBack v e) = false
+  is_own _ = true
+
+  -- What a call comes to: a reply that needs no machine, another value for a writer that is there,
+  -- or a call of the machine.
+  pub data ComesTo (s : SessionState T) (c : Call T) : Request T → Type 0 where
+    tells : (x : SessionReply T) → is_own x ≡ true → ComesTo s c (Request.Tells x)
+    swaps : (p : ℕ) (g : Guard) (v old : T) → at_place s.table p ≡ Writing g old
+        → ComesTo s c (Request.Swaps p g v old)
+    asks : (action : Action T)
+        → ((answer : Answer T) → Empties s c action answer) → ComesTo s c (Request.Asks action)
+
+  comes_box : {s : SessionState T} {c : Call T} (o : Option GenerationalPointer) (back : Option T)
+      (next : GenerationalPointer → Request T) → ((b : GenerationalPointer) → ComesTo s c (next b))
+      → ComesTo s c (with_box o back next)
+  comes_box None back next h = tells _ refl
+  comes_box (Some b) back next h = h b
+
+  comes_owner : {s : SessionState T} {c : Call T} (p : ℕ) (back : Option T)
+      (next : OwnerName → Request T)
+      → ((o : OwnerName) → at_place s.table p ≡ Owning o → ComesTo s c (next o))
+      → ComesTo s c (with_owner (owner_in s p) back next)
+  comes_owner {s} {c} p back next h = at (at_place s.table p) refl
+    where
+      at : (x : Held T) → at_place s.table p ≡ x → ComesTo s c (with_owner (owner_held x) back next)
+      at (Owning o) is = h o is
+      at x is = tells _ refl
+
+  comes_ready : {s : SessionState T} {c : Call T} (ready : Bool) (back : Option T)
+      (next : Request T) → ComesTo s c next → ComesTo s c (if_ready ready back next)
+  comes_ready true back next h = h
+  comes_ready false back next h = tells _ refl
+
+  comes_release : (s : SessionState T) (p : ℕ) (x : Held T) → at_place s.table p ≡ x
+      → ComesTo s (call.Release p) (release x)
+  comes_release s p (Reading g) is = asks (Action.ReleaseReader g) (λ answer. (p, refl, is))
+  comes_release s p (Writing g v) is = asks (Action.ReleaseWriter g v) (λ answer. (p, refl, is))
+  comes_release s p x is = tells _ refl
+
+  comes_replace : (s : SessionState T) (p : ℕ) (v : T) (x : Held T) → at_place s.table p ≡ x
+      → ComesTo s (call.Replace p v) (replace p x v)
+  comes_replace s p v (Writing g old) is = swaps p g v old is
+  comes_replace s p v x is = tells _ refl
+
+  -- what each call comes to
+  pub comes_to : (s : SessionState T) (c : Call T) → ComesTo s c (ask s c)
+  comes_to s (call.Leak v l) = asks (Action.Make None v l) (λ a. beyond s.table)
+  comes_to s (call.LeakRc v l) = asks (Action.MakeShared None v l) (λ a. beyond s.table)
+  comes_to s (call.LeakReference b) =
+      comes_box (box_in s b) None _ (λ b. asks (Action.Refer None b) (λ a. beyond s.table))
+  comes_to s (call.Insert p v l) =
+      comes_owner p (Some v) _ (λ o is. asks (Action.Make (Some o) v l) (λ a. beyond s.table))
+  comes_to s (call.InsertRc p v l) =
+      comes_owner p (Some v) _ (λ o is. asks (Action.MakeShared (Some o) v l) (λ a. beyond s.table))
+  comes_to s (call.InsertReference p b) = comes_owner p None _ (λ o is.
+      comes_box (box_in s b) None _ (λ b. asks (Action.Refer (Some o) b) (λ a. beyond s.table)))
+  comes_to s call.Owner = asks Action.NewOwner (λ a. beyond s.table)
+  comes_to s (call.CloneOwner p) =
+      comes_owner p None _ (λ o is. asks (Action.CloneOwner o) (λ a. beyond s.table))
+  comes_to s (call.ReleaseOwner p) =
+      comes_owner p None _ (λ o is. asks (Action.ReleaseOwner o) (released o is))
+    where
+      released : (o : OwnerName) → at_place s.table p ≡ Owning o → (answer : Answer T)
+          → Empties s (call.ReleaseOwner p) (Action.ReleaseOwner o) answer
+      released o is Done = (p, refl, is)
+      released o is answer = beyond s.table
+  comes_to s (call.LeakOwner p) =
+      comes_owner p None _ (λ o is. asks (Action.LeakOwner o) (λ answer. (p, refl, is)))
+  comes_to s (call.TryRead b l) =
+      comes_box (box_in s b) None _ (λ b. asks (Action.Read b l) (λ a. beyond s.table))
+  comes_to s (call.TryWrite b l) =
+      comes_box (box_in s b) None _ (λ b. asks (Action.Write b l) (λ a. beyond s.table))
+  comes_to s (call.Read b l) = comes_box (box_in s b) None _ (λ b. comes_ready
+      (can_read s.state b) None _ (asks (Action.Read b l) (λ a. beyond s.table)))
+  comes_to s (call.Write b l) = comes_box (box_in s b) None _ (λ b. comes_ready
+      (can_write s.state b) None _ (asks (Action.Write b l) (λ a. beyond s.table)))
+  comes_to s (call.Set b v) = comes_box (box_in s b) (Some v) _ (λ b. comes_ready
+      (can_write s.state b) (Some v) _ (asks (Action.SetValue b v) (λ a. beyond s.table)))
+  comes_to s (call.CanRead b) =
+      comes_box (box_in s b) None _ (λ b. asks (Action.CanRead b) (λ a. beyond s.table))
+  comes_to s (call.CanWrite b) =
+      comes_box (box_in s b) None _ (λ b. asks (Action.CanWrite b) (λ a. beyond s.table))
+  comes_to s (call.Replace p v) = comes_replace s p v (at_place s.table p) refl
+  comes_to s (call.Release p) = comes_release s p (at_place s.table p) refl
+  comes_to s (call.ManuallyDrop b) =
+      comes_box (box_in s b) None _ (λ b. asks (Action.End b) (λ a. beyond s.table))
+  comes_to s (call.PointTo a b) = comes_box (box_in s a) None _ (λ x.
+      comes_box (box_in s b) None _ (λ y. asks (Action.Point x y) (λ a. beyond s.table)))
+  comes_to s (call.PtrEq a b) = comes_box (box_in s a) None _
+      (λ x. comes_box (box_in s b) None _ (λ y. tells _ refl))
+  comes_to s (call.Id b) = comes_box (box_in s b) None _ (λ b. tells _ refl)
+  comes_to s (call.RawPtr b) = comes_box (box_in s b) None _ (λ b. tells _ refl)
+  comes_to s (call.CreatedAt b) = comes_box (box_in s b) None _ (λ b. tells _ refl)
+
+  module _ (s r : SessionState T) (c : Call T) (x : SessionReply T) where
+    -- each call of a session keeps what holds of every session
+    pub session_kept : IsSoundSession s → SessionStep s c x r → IsSoundSession r
+    session_kept kept step = at (ask s c) (comes_to s c) step
+      where
+        at : (q : Request T) → ComesTo s c q → Settles s c q x r → IsSoundSession r
+        at q (asks action spends) step =
+            let it = spends step.0 in
+            subst (λ (o : SessionReply T × SessionState T). IsSoundSession o.1) (sym step.3)
+            (subst (λ table. IsSoundSession (add_place (record { state = step.1; table = table })
+            (gives step.0))) (sym it.1)
+            (kept_after s action step.1 it.0 kept step.0 step.2 it.2))
+        at q (tells y own) step = subst IsSoundSession (sym step.1) (kept_told s kept)
+        at q (swaps p g v old there) step = subst IsSoundSession
+            (sym step.1) (kept_told (swap s p g v) (kept_swapped s p g v old kept there))
+
+    -- what each call of the machine keeps, each call of a session keeps
+    pub by_step : (P : State T → Type 0) → ((S R : State T) (action : Action T) (answer : Answer T)
+        → P S → Meets S action answer R → P R) → SessionStep s c x r → P s.state → P r.state
+    by_step P each step h = at (ask s c) step
+      where
+        at : (q : Request T) → Settles s c q x r → P r.state
+        at (Request.Asks action) step = subst (λ (o : SessionReply T × SessionState T). P o.1.state)
+            (sym step.3) (each s.state step.1 action step.0 h step.2)
+        at q step = subst (λ (r : SessionState T). P r.state) (sym step.1) h
+
+    -- an ended name is never live again
+    pub session_ended : SessionStep s c x r → (n : Name) → IsEnded s.state n → IsEnded r.state n
+    session_ended step n = by_step (λ S. IsEnded S n)
+        (λ S R action answer e meets. meets_ended S R action answer meets n e) step
+
+    pub session_sound : IsSound s.state → SessionStep s c x r → IsSound r.state
+    session_sound sound step = by_step IsSound meets_sound step sound
+
+    -- each call keeps the bound on slots
+    pub session_bounded : IsSound s.state → IsBounded s.state → SessionStep s c x r
+        → IsBounded r.state
+    session_bounded sound bounded step = (by_step (λ S. IsSound S × IsBounded S)
+        (λ S R action answer h meets. (
+          meets_sound S R action answer h.0 meets,
+          meets_bounded S R action answer h.0 h.1 meets,
+        )) step (sound, bounded)).1
+
+    -- a value that nothing disturbs stays
+    settles_value : (a : Request T) (m : Name) → IsSound s.state → Settles s c a x r
+        → (AskedSets s.state a m → ⊥) → is_some (value_at s.state m) ≡ true
+        → is_some (value_at r.state m) ≡ true → value_at r.state m ≡ value_at s.state m
+    settles_value (Request.Asks action) m sound step unset here after =
+        let same = ap (λ (o : SessionReply T × SessionState T). o.1.state) step.3 in
+        meets_value s.state r.state action step.0 m sound
+        (subst (Meets s.state action step.0) (sym same) step.2) unset here after
+    settles_value a m sound step unset here after =
+        ap (λ (r : SessionState T). value_at r.state m) step.1
+
+    pub session_value : (b : GenerationalPointer) (m : Name) → IsSound s.state
+        → SessionStep s c x r → IsUndisturbed b m s c r → value_at r.state m ≡ value_at s.state m
+    session_value b m sound step u =
+        settles_value (ask s c) m sound step u.unset u.before.here u.after.here
+
+  -- a store knows the owners that are held
+  pub owner_known : (s : SessionState T) (p : ℕ) (o : OwnerName) → IsSoundSession s
+      → at_place s.table p ≡ Owning o → is_known s.state (Some o) ≡ true
+  unfolding IsOwn
+  owner_known s p o kept is =
+      ap (λ b. is_some (cond b (map.get s.state.owners o.key) None))
+      (eq-eqb o.store s.state.number (subst (IsOwn s.state) is (kept.own p)))
+      ∙ recorded (map.get s.state.owners o.key) refl
+    where
+      recorded : (h : Option Ownership) → map.get s.state.owners o.key ≡ h → is_some h ≡ true
+      recorded None e =
+          let none = ap count_in e in
+          let without = count_changed o.key s.table p Nothing in
+          let here = ap (owners_in o.key) is
+          ∙ ap (λ (b : Bool). cond {A = ℕ} b 1 0) (nat_eq_equiv.refl o.key) in
+          let counted = kept.counted o.key in
+          absurd (omega arith)
+      recorded (Some h) e = refl
+
+  -- a box that a place holds, and whose cell is a Ref, reaches a live Shared cell
+  pub held_reaches : (s : SessionState T) (p : ℕ) (b : GenerationalPointer) (m : Name)
+      (l : Location) → IsSoundSession s → at_place s.table p ≡ Boxed b
+      → map.get s.state.cells (name_of b) ≡ Some (Cell.Ref m l)
+      → (reach s.state b ≡ Some m) × (is_shared (map.get s.state.cells m) ≡ true)
+  unfolding IsOwn
+  held_reaches s p b m l kept is =
+      ref_reaches s.state b m l kept.sound (subst (IsOwn s.state) is (kept.own p)).0
+
+  -- a session of a fresh store, in which nothing was called
+  pub fresh_kept : (number start next : ℕ)
+      → IsSoundSession (let s : SessionState T =
+      record { state = fresh number start next; table = [] } in s)
+  unfolding IsOwn AreOne
+  fresh_kept number start next = record {
+    sound = fresh_sound number start next;
+    bounded = fresh_bounded number start next;
+    own = λ p. tt;
+    apart = λ p q one. absurd one;
+    counted = λ key. omega arith;
+  }
+
+  -- what each call keeps, a run keeps
+  pub by_run : (P : SessionState T → Type 0)
+      → ((s r : SessionState T) (c : Call T) (x : SessionReply T) → P s → SessionStep s c x r → P r)
+      → (calls : List (Call T)) (replies : List (SessionReply T)) (s r : SessionState T)
+      → P s → Run s calls replies r → P r
+  by_run P each [] [] s r h run = subst P (sym run) h
+  by_run P each (c ∷ calls) (x ∷ replies) s r h run =
+      by_run P each calls replies run.0 r (each s run.0 c x h run.1) run.2
+  by_run P each calls replies s r h run = absurd run
+
+  pub run_kept : (calls : List (Call T)) (replies : List (SessionReply T)) (s r : SessionState T)
+      → IsSoundSession s → Run s calls replies r → IsSoundSession r
+  run_kept = by_run IsSoundSession session_kept
+
+  -- a name that has ended is ended after each run
+  pub run_ended : (calls : List (Call T)) (replies : List (SessionReply T)) (s r : SessionState T)
+      → Run s calls replies r → (n : Name) → IsEnded s.state n → IsEnded r.state n
+  run_ended calls replies s r run n ended = by_run (λ s. IsEnded s.state n)
+      (λ s r c x h step. session_ended s r c x step n h) calls replies s r ended run
+
+  -- a value that nothing disturbs in a run stays
+  pub run_value : (calls : List (Call T)) (replies : List (SessionReply T)) (s r : SessionState T)
+      (b : GenerationalPointer) (m : Name) → IsSound s.state → (run : Run s calls replies r)
+      → Undisturbed b m s calls replies r run → value_at r.state m ≡ value_at s.state m
+  run_value [] [] s r b m sound run u = ap (λ (r : SessionState T). value_at r.state m) run
+  run_value (c ∷ calls) (x ∷ replies) s r b m sound run u =
+      run_value calls replies run.0 r b m (session_sound s run.0 c x sound run.1) run.2 u.2
+      ∙ settles_value s run.0 c x (ask s c) m sound run.1 u.1 u.0.here
+      (first_here calls replies run.0 run.2 u.2)
+    where
+      first_here : (calls : List (Call T)) (replies : List (SessionReply T)) (s : SessionState T)
+          (run : Run s calls replies r) → Undisturbed b m s calls replies r run
+          → is_some (value_at s.state m) ≡ true
+      first_here [] [] s run u = u.here
+      first_here (c ∷ calls) (x ∷ replies) s run u = u.0.here
+      first_here calls replies s run u = absurd u
+  run_value calls replies s r b m sound run u = absurd u
