@@ -2,7 +2,7 @@
 //! still has when it goes itself. Each is counted by what std's `Rc` counts.
 
 use crate::expected::{
-    begin_write, end, insert, leak, made, made_later, new_owner, recycle, release, written,
+    begin_write, end, insert, leak, made, made_later, new_owner, release, written,
 };
 use crate::fresh::{Scenario, play};
 use crate::sessions::call;
@@ -39,7 +39,7 @@ fn ends<S: Storage<Counted>>(rt: &impl Abort, alloc: Global, store: &mut S) {
     assert_count(rt, &value, 3);
     end(rt, store, first);
     assert_count(rt, &value, 2);
-    recycle(rt, store, second);
+    end(rt, store, second);
     assert_count(rt, &value, 1);
 }
 

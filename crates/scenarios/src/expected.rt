@@ -2,9 +2,8 @@
 //! must answer.
 
 use generational_box::{
-    AlreadyBorrowedError, AlreadyBorrowedMutError, AnyStorage, BorrowError, BorrowMutError,
-    GenerationalBox, GenerationalRef, GenerationalRefMut, Location, Owner, Refused, Storage,
-    ValueDroppedError,
+    AlreadyBorrowedError, AnyStorage, BorrowError, BorrowMutError, GenerationalBox,
+    GenerationalRef, GenerationalRefMut, Location, Owner, Refused, Storage, ValueDroppedError,
 };
 use std::alloc::Global;
 use std::fmt::{Debug, Display};
@@ -141,11 +140,6 @@ pub(crate) fn borrowed(
     Refused::Borrow(BorrowMutError::AlreadyBorrowed(AlreadyBorrowedError::new(began)))
 }
 
-/// The refusal of an end while a writer stands that began at a location.
-pub(crate) fn borrowed_mut(began: Location) -> Refused<BorrowMutError> {
-    Refused::Borrow(BorrowMutError::AlreadyBorrowedMut(AlreadyBorrowedMutError::new(began)))
-}
-
 /// Asserts that a read gives this number.
 pub(crate) fn assert_reads<S: Storage<u32>>(
     rt: &impl Abort,
@@ -194,18 +188,9 @@ pub(crate) fn assert_released<T, S: Storage<T>>(
     assert_eq!(rt; guard.release(store), is_known);
 }
 
-/// Ends a write.
-pub(crate) fn put_back<S: Storage<u32>>(
-    rt: &impl Abort,
-    store: &mut S,
-    guard: GenerationalRefMut<u32>,
-) {
-    assert_eq!(rt; guard.release(store), Ok(()));
-}
-
 /// Ends a box's cell.
 pub(crate) fn end<T, S: Storage<T>>(rt: &impl Abort, store: &mut S, asked: GenerationalBox<T>) {
-    assert_eq!(rt; asked.manually_drop(store), Ok(()));
+    assert!(rt; asked.manually_drop(store).is_ok());
 }
 
 /// Asserts that the end of a box's cell is refused so.
@@ -216,26 +201,6 @@ pub(crate) fn assert_stays<T, S: Storage<T>>(
     refusal: Refused<BorrowMutError>,
 ) {
     assert_eq!(rt; asked.manually_drop(store), Err(refusal));
-}
-
-/// Ends the cell of a box's pointer.
-pub(crate) fn recycle<T, S: Storage<T>>(rt: &impl Abort, store: &mut S, asked: GenerationalBox<T>) {
-    assert_eq!(rt; store.recycle(asked.pointer()), Ok(()));
-}
-
-/// Asserts that the end of the cell of a box's pointer is refused so.
-pub(crate) fn assert_not_recycled<T, S: Storage<T>>(
-    rt: &impl Abort,
-    store: &mut S,
-    asked: GenerationalBox<T>,
-    refusal: Refused<BorrowMutError>,
-) {
-    assert_eq!(rt; store.recycle(asked.pointer()), Err(refusal));
-}
-
-/// Asserts what a store counts.
-pub(crate) fn assert_counts<T, S: AnyStorage<T>>(rt: &impl Abort, store: &S, counted: Counts) {
-    assert_eq!(rt; counts_of(store), counted);
 }
 
 /// Asserts that a value is printed so.

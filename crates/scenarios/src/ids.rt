@@ -1,6 +1,6 @@
 //! Ids: what tells boxes apart that had one slot, also once their values are gone.
 
-use crate::expected::{assert_shows, insert, leak, made, made_later, new_owner, release};
+use crate::expected::{assert_shows, end, insert, leak, made, made_later, new_owner, release};
 use crate::fresh::{Scenario, TwoStoreScenario, play, play_in_two_stores};
 use generational_box::{
     AnyStorage, GenerationalBox, GenerationalBoxId, Location, Storage, Store, UnsyncStorage,
@@ -100,7 +100,7 @@ fn boxes_of_several_slots(rt: HostRuntime) {
 fn id_of_next<S: Storage<u32>>(rt: &impl Abort, store: &mut S, is_kept: bool) -> GenerationalBoxId {
     let given = leak(rt, store, 1, made());
     if !is_kept {
-        assert_eq!(rt; given.manually_drop(store), Ok(()));
+        end(rt, store, given);
     }
     given.id()
 }

@@ -3,7 +3,7 @@
 #![tactic(auto)]
 
 #[cfg(test)]
-mod borrows;
+mod callers;
 #[cfg(test)]
 mod drops;
 #[cfg(test)]
@@ -19,11 +19,7 @@ mod growth;
 #[cfg(test)]
 mod ids;
 #[cfg(test)]
-mod living;
-#[cfg(test)]
 mod memory;
-#[cfg(test)]
-mod owners;
 #[cfg(test)]
 mod plenty;
 #[cfg(test)]
@@ -36,8 +32,6 @@ mod sharing;
 mod strangers;
 #[cfg(test)]
 mod texts;
-#[cfg(test)]
-mod turning;
 #[cfg(test)]
 mod values;
 #[cfg(test)]

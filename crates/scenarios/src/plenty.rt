@@ -28,11 +28,16 @@ impl Scenario<u32> for BoxesOfAStore {
     }
 }
 
-/// Makes owners that have no boxes.
+/// Makes owners that have no boxes. Those that are released leave no record.
 struct OwnersOfAStore;
 
 impl Scenario<u32> for OwnersOfAStore {
     fn play<R: Abort, S: Storage<u32>>(rt: &R, _: Global, store: &mut S) {
+        for _ in 0..2_000 {
+            let owner = new_owner(rt, store);
+            release(rt, store, owner);
+        }
+        assert!(rt; store.is_fresh());
         for _ in 0..2_000 {
             new_owner(rt, store).leak();
         }

@@ -102,7 +102,7 @@ impl Scenario<(u32, u32)> for PartsOfAWriter {
         let mut guard = begin_write(rt, store, pair, written());
         write_parts(rt, &mut guard);
         write_part_of_part(rt, &mut guard);
-        assert_eq!(rt; guard.release(store), Ok(()));
+        assert!(rt; guard.release(store).is_ok());
         let reader = begin(rt, store, pair, read());
         assert_eq!(rt; view(rt, store, &reader).cloned(), Ok((11, 22)));
         assert!(rt; reader.release(store));

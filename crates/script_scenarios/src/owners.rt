@@ -232,3 +232,20 @@ fn a_read_value_stays_while_others_are_made(rt: HostRuntime) {
         ],
     );
 }
+
+#[test]
+fn owners_come_and_go(rt: HostRuntime) {
+    assert_answers(
+        &rt,
+        rt.alloc(),
+        &[
+            ("owner", "owner"),
+            ("owner", "owner"),
+            ("release 1", "ok"),
+            ("release 2", "ok"),
+            ("release 1", "no such"),
+            ("owner", "owner"),
+            ("counts", "slots 0 free 0 retired 0 peak 0 next 3"),
+        ],
+    );
+}

@@ -279,6 +279,8 @@ fn a_written_value_is_not_led_to(rt: HostRuntime) {
             ("point_to 1 3", "ok"),
             ("try_read 1", "reader"),
             ("show 9", "value new"),
+            ("try_read 2", "reader"),
+            ("show 11", "value old"),
         ],
     );
 }

@@ -66,3 +66,24 @@ fn the_second_reader_is_released(rt: HostRuntime) {
         ],
     );
 }
+
+// The guards began in the other order than the boxes, and one box ends while the other is read.
+#[test]
+fn guards_open_their_own_values(rt: HostRuntime) {
+    assert_answers(
+        &rt,
+        rt.alloc(),
+        &[
+            ("leak 10", "box 0@1"),
+            ("leak 20", "box 1@1"),
+            ("try_read 2", "reader"),
+            ("try_read 1", "reader"),
+            ("show 3", "value 20"),
+            ("show 4", "value 10"),
+            ("release 3", "ok"),
+            ("end 2", "ok"),
+            ("show 4", "value 10"),
+            ("release 4", "ok"),
+        ],
+    );
+}

@@ -24,6 +24,9 @@ fn own_values_have_no_references(rt: HostRuntime) {
             ("insert_reference 1 2", "written: script:9:1"),
             ("show 9", "value 1"),
             ("counts", "slots 1 free 0 retired 0 peak 1 next 3"),
+            ("release 9", "ok"),
+            ("release 1", "ok"),
+            ("counts", "slots 1 free 1 retired 0 peak 1 next 3"),
         ],
     );
 }
@@ -157,6 +160,8 @@ fn boxes_of_other_stores(rt: HostRuntime) {
             ("point_to #1 *1", "no such"),
             ("point_to *1 #1", "no such"),
             ("counts", "slots 2 free 0 retired 0 peak 2 next 1"),
+            ("try_read #1", "reader"),
+            ("view 11", "value 1"),
         ],
     );
 }

@@ -1,5 +1,6 @@
-//! Scenarios of stores that threads share: what calls answer, what the audited history has, and
-//! that each call that waits is answered. The expected values are worked out by hand.
+//! Scenarios of threads: stores that they share, with what calls answer, what the audited history
+//! has, and that each call that waits is answered; and boxes and guards of a sequential store that
+//! they hand each other. The expected values are worked out by hand.
 #![tactic(auto)]
 
 #[cfg(test)]
@@ -10,6 +11,8 @@ mod passing;
 mod places;
 #[cfg(test)]
 mod reading;
+#[cfg(test)]
+mod sending;
 #[cfg(test)]
 mod stages;
 #[cfg(test)]
