@@ -15,9 +15,9 @@ use std::marker::Model;
 /// tickets ascend. Contracts see them as that list.
 ///
 /// One borrow stands in place, so that a cell's first borrow takes no memory. Where there are more,
-/// all stand in a queue apart. There the one with a ticket is found by binary search, and then taken
-/// away in constant time if it is the first or the last. Once one borrow is left, the queue's memory
-/// is given back.
+/// all stand in a queue apart. There the one with a ticket is found by binary search, and then
+/// taken away in constant time if it is the first or the last. Once one borrow is left, the queue's
+/// memory is given back.
 #[derive(Drop)]
 pub struct Borrows {
     standing: OneOrSeveral,

@@ -93,8 +93,8 @@ impl FreeList {
         Some(slot)
     }
 
-    /// Puts a slot in before the others. Takes no memory. Where there are none, its link means nothing
-    /// and isn't written: most often the slot is the next that is taken.
+    /// Puts a slot in before the others. Takes no memory. Where there are none, its link means
+    /// nothing and isn't written: most often the slot is the next that is taken.
     #[inline(always)]
     pub fn put_first(&mut self, slot: usize)
         requires room { slot < self.old.rooms }

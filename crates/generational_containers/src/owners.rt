@@ -213,7 +213,8 @@ impl OwnerRecords {
         }
     }
 
-    /// Puts a box at the end of the owner's list, if there is an owner. A refusal changes no record.
+    /// Puts a box at the end of the owner's list, if there is an owner. A refusal changes no
+    /// record.
     #[inline(always)]
     pub fn list_for(
         &mut self,

@@ -212,7 +212,8 @@ impl BorrowTable {
         &self.rest[index as usize - 1]
     }
 
-    /// Adds a borrow at the end of a list, at an index that isn't 0. Want of memory changes nothing.
+    /// Adds a borrow at the end of a list, at an index that isn't 0. Want of memory changes
+    /// nothing.
     #[inline(always)]
     pub fn push(&mut self, index: u32, borrow: Borrow) -> Result<(), AllocError>
         requires beside { 0 < index }

@@ -37,8 +37,8 @@ pub struct EntryDetails {
     pub references: usize,
 }
 
-/// A live cell: a value, a value with the index of its readers in the table of borrows, the index of
-/// its writer while the value is lent, or a reference, by its target's slot and generation. Or
+/// A live cell: a value, a value with the index of its readers in the table of borrows, the index
+/// of its writer while the value is lent, or a reference, by its target's slot and generation. Or
 /// nothing.
 #[derive(Drop)]
 pub enum StorageEntryData<T> {

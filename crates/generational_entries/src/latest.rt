@@ -454,8 +454,8 @@ impl<T: Drop> LatestEntries<T> {
         self.settled.replace(slot, value)
     }
 
-    /// Ends the slot's cell, with the borrows that stand there. The caller may know that it is a value
-    /// without borrows.
+    /// Ends the slot's cell, with the borrows that stand there. The caller may know that it is a
+    /// value without borrows.
     #[inline(always)]
     pub fn end(&mut self, slot: usize, is_alone: bool)
         requires within { slot < length self.old.slots }

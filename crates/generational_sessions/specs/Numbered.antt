@@ -12,7 +12,8 @@ use Rattle.generational_core.specs.Boxes.{id_of}
 use Rattle.generational_core.specs.Conditions.{fresh}
 use Rattle.generational_core.specs.Machine.{Fresh, act}
 use Rattle.generational_core.specs.Steps.{want}
-use Rattle.generational_sessions.specs.Session.{SessionState, SessionReply, Request, add_place, refusal}
+use Rattle.generational_sessions.specs.Session.{SessionState, SessionReply, Request, add_place}
+use Rattle.generational_sessions.specs.Session.{refusal}
 use Rattle.generational_sessions.specs.Session.{Held, ask, settle, swap}
 use Rattle.generational_sessions.specs.Session.Request.{Asks, Tells, Swaps}
 use Rattle.generational_sessions.specs.Session.Held.{Boxed, Reading, Writing, Owning, Nothing}

@@ -15,11 +15,13 @@ use Rattle.generational_sessions.specs.declared.calls.Call.{Call}
 use Rattle.generational_core.specs.State.{State}
 use Rattle.generational_core.specs.Machine.{Answer}
 use Rattle.generational_core.specs.Steps.{Meets}
-use Rattle.generational_sessions.specs.Session.{Held, SessionReply, SessionState, Request, ask, gives}
+use Rattle.generational_sessions.specs.Session.{Held, SessionReply, SessionState, Request, ask}
+use Rattle.generational_sessions.specs.Session.{gives}
 use Rattle.generational_sessions.specs.Session.{reply_of, spend, swap}
 use Rattle.generational_sessions.specs.Session.Request.{Asks, Tells, Swaps}
 use Rattle.generational_sessions.specs.Session.Held.{Boxed, Reading, Writing, Owning, Nothing}
-use Rattle.generational_sessions.specs.Session.SessionReply.{ABox, AnOwner, AReader, AWriter, IsDone}
+use Rattle.generational_sessions.specs.Session.SessionReply.{ABox, AnOwner, AReader, AWriter}
+use Rattle.generational_sessions.specs.Session.SessionReply.{IsDone}
 use Rattle.generational_sessions.specs.Session.SessionReply.{TheOld, Yes, TheId, TheSlot, Created}
 use Rattle.generational_sessions.specs.Session.SessionReply.{Error, Lacking, HandedBack, Unready}
 use Rattle.generational_sessions.specs.Session.SessionReply.{NoSuch}

@@ -13,11 +13,13 @@ use Rattle.generational_core.specs.Boxes.{name_of}
 use Rattle.generational_core.specs.Borrowing.Trouble.{Dropped}
 use Rattle.generational_core.specs.Machine.{Action, OwnerName, act, ownership}
 use Rattle.generational_sessions.specs.Numbered.{refusal_in}
-use Rattle.generational_sessions.specs.Session.{SessionState, SessionReply, Run, box_in, at_place, ask}
+use Rattle.generational_sessions.specs.Session.{SessionState, SessionReply, Run, box_in, at_place}
+use Rattle.generational_sessions.specs.Session.{ask}
 use Rattle.generational_sessions.specs.Session.{add_place}
 use Rattle.generational_sessions.specs.Session.Held.{Boxed, Owning, Nothing}
 use Rattle.generational_sessions.specs.Session.Request.{Asks}
-use Rattle.generational_sessions.specs.Session.SessionReply.{ABox, IsDone, Error, Lacking, HandedBack}
+use Rattle.generational_sessions.specs.Session.SessionReply.{ABox, IsDone, Error, Lacking}
+use Rattle.generational_sessions.specs.Session.SessionReply.{HandedBack}
 use Rattle.generational_sessions.specs.Session.SessionReply.{Unready, NoSuch}
 use Rattle.generational_core.specs.Slots.{slots, retired}
 use Rattle.generational_sessions.specs.SoundSession.{IsSoundSession}

@@ -387,7 +387,8 @@ impl<T: Drop, P: SlotPool> Slots<T, P> {
 
     /// Makes a cell without borrows, at the end of the owner's list, if there is an owner. What a
     /// reference names counts it from then on. A refusal changes no cell and no record, and hands
-    /// the content back; without an owner it means that there was no room for a cell, and no memory.
+    /// the content back; without an owner it means that there was no room for a cell, and no
+    /// memory.
     #[inline(always)]
     pub fn make(
         &mut self,

@@ -23,9 +23,11 @@ use Rattle.generational_core.specs.Steps.{Meets, AreNew}
 use Rattle.std.specs.FinMap as map
 use Rattle.std.specs.FinSet as set
 use Rattle.generational_core.proofs.machine.Changes.{Change, IsLawful, after, act_leads}
-use Rattle.generational_core.proofs.maps.Maps.{keys_apart, len_keys, len_three, len_within, kept_key}
+use Rattle.generational_core.proofs.maps.Maps.{keys_apart, len_keys, len_three, len_within}
+use Rattle.generational_core.proofs.maps.Maps.{kept_key}
 use Rattle.generational_core.proofs.maps.Maps.{by_name, by_number, name_total, key_same, key_here}
-use Rattle.generational_core.proofs.maps.Maps.{key_cases, get-insert_here, get-insert_apart, keep_view}
+use Rattle.generational_core.proofs.maps.Maps.{key_cases, get-insert_here, get-insert_apart}
+use Rattle.generational_core.proofs.maps.Maps.{keep_view}
 use Rattle.generational_core.proofs.machine.Stepping.{meets_cases, meets_sound}
 use Rattle.generational_core.proofs.machine.Soundness.{last, change_follows, live_before, absent}
 use Rattle.generational_core.proofs.machine.Soundness.{absent_beside}

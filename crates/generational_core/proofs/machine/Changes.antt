@@ -37,7 +37,8 @@ use Rattle.generational_core.specs.declared.error.StoreError.{StoreError}
 use Rattle.generational_core.specs.declared.error.StoreError.TheVariants.{UnknownOwner}
 use Rattle.std.specs.FinMap as map
 use Rattle.std.specs.FinSet as set
-use Rattle.generational_core.proofs.maps.Maps.{by_name, by_number, get-insert_here, get-insert_apart}
+use Rattle.generational_core.proofs.maps.Maps.{by_name, by_number, get-insert_here}
+use Rattle.generational_core.proofs.maps.Maps.{get-insert_apart}
 use Rattle.generational_core.proofs.maps.Maps.{get-remove_here, get-remove_apart, changed_view}
 use Rattle.generational_core.proofs.maps.Maps.{key_cases, name_here, contains-insert_name}
 use Rattle.generational_core.proofs.maps.Maps.{contains-insert_here, get-changed_name}

@@ -17,7 +17,8 @@ use Rattle.generational_core.specs.Machine.Answer.{Done}
 use Rattle.generational_core.specs.Names.{Name, NameMap, among}
 use Rattle.generational_core.specs.State.{State, Ownership, IsSound, IsBoxed, is_named, content_at}
 use Rattle.generational_core.specs.Steps.{Meets, takes_ticket, last_ticket}
-use Rattle.generational_core.proofs.maps.Maps.{by_name, by_number, name_same, get-keep, get-remove_here}
+use Rattle.generational_core.proofs.maps.Maps.{by_name, by_number, name_same, get-keep}
+use Rattle.generational_core.proofs.maps.Maps.{get-remove_here}
 use Rattle.generational_core.proofs.maps.Maps.{get-remove_apart, get-insert_here, get-insert_apart}
 use Rattle.generational_core.proofs.maps.Maps.{named_gives, named_from}
 use Rattle.generational_core.proofs.machine.Ends.{swept_ref, swept_was, by_cond}

@@ -24,7 +24,8 @@ use Rattle.generational_core.specs.declared.boxes.GenerationalPointer.{Generatio
 use Rattle.generational_core.proofs.maps.Maps.{by_name, get-insert_apart, changed_view}
 use Rattle.generational_core.proofs.maps.Maps.{name_apart}
 use Rattle.generational_core.proofs.machine.Changes.{Change, Filling, IsFilling, IsLawful, after}
-use Rattle.generational_core.proofs.machine.Changes.{old_content, new_content, act_leads, second_fresh}
+use Rattle.generational_core.proofs.machine.Changes.{old_content, new_content, act_leads}
+use Rattle.generational_core.proofs.machine.Changes.{second_fresh}
 use Rattle.generational_core.proofs.machine.Changes.Change.{Stay, Birth, Pair, Fill, Close, Turn}
 use Rattle.generational_core.proofs.machine.Changes.Filling.{Writer, Return, Replace}
 use Rattle.generational_core.proofs.machine.Ends.{by_cond, none≢some, swept_view}

@@ -26,8 +26,10 @@ use Rattle.generational_core.specs.declared.boxes.GenerationalPointer.{Generatio
 use Rattle.generational_core.specs.declared.error.Location.{Location}
 use Rattle.std.specs.FinMap as map
 use Rattle.std.specs.FinSet as set
-use Rattle.generational_core.proofs.machine.Changes.{Change, Filling, IsFilling, IsLawful, Leads, after}
-use Rattle.generational_core.proofs.machine.Changes.{AreRecords, old_content, new_content, second_fresh}
+use Rattle.generational_core.proofs.machine.Changes.{Change, Filling, IsFilling, IsLawful, Leads}
+use Rattle.generational_core.proofs.machine.Changes.{after}
+use Rattle.generational_core.proofs.machine.Changes.{AreRecords, old_content, new_content}
+use Rattle.generational_core.proofs.machine.Changes.{second_fresh}
 use Rattle.generational_core.proofs.machine.Changes.{refilled_content}
 use Rattle.generational_core.proofs.machine.Changes.Change.{Stay, Birth, Pair, Fill, Close, Turn}
 use Rattle.generational_core.proofs.machine.Changes.Filling.{Reader, Writer, Leave}
@@ -36,8 +38,10 @@ use Rattle.generational_core.proofs.machine.Ends.{by_cond, closed_linked, turned
 use Rattle.generational_core.proofs.machine.Ends.{IsBorrowed, closed_view, turned_view}
 use Rattle.generational_core.proofs.machine.Linking.{sound_linked, born_linked, pair_linked}
 use Rattle.generational_core.proofs.machine.Linking.{refilled_linked, refilled_shared}
-use Rattle.generational_core.proofs.maps.Maps.{by_name, name_cases, get-insert_here, get-insert_apart}
-use Rattle.generational_core.proofs.maps.Maps.{changed_view, contains-insert_here, contains-insert_old}
+use Rattle.generational_core.proofs.maps.Maps.{by_name, name_cases, get-insert_here}
+use Rattle.generational_core.proofs.maps.Maps.{get-insert_apart}
+use Rattle.generational_core.proofs.maps.Maps.{changed_view, contains-insert_here}
+use Rattle.generational_core.proofs.maps.Maps.{contains-insert_old}
 use Rattle.generational_core.proofs.maps.Maps.{named_from}
 
 -- ---- lists of tickets

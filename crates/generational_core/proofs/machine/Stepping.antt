@@ -30,13 +30,16 @@ use Rattle.generational_core.specs.Steps.{AreNew, Takes, Meets, takes_ticket, la
 use Rattle.generational_core.specs.declared.borrow.Borrow.{Borrow}
 use Rattle.generational_core.specs.declared.boxes.GenerationalPointer.{GenerationalPointer}
 use Rattle.generational_core.specs.declared.error.StoreError.TheVariants.{NumbersExhausted}
-use Rattle.generational_core.proofs.machine.Changes.{new_fresh, act_leads, is_making, IsLawful, Change}
-use Rattle.generational_core.proofs.machine.Changes.{after, Filling, IsFilling, Says, act_says, unread}
+use Rattle.generational_core.proofs.machine.Changes.{new_fresh, act_leads, is_making, IsLawful}
+use Rattle.generational_core.proofs.machine.Changes.{Change}
+use Rattle.generational_core.proofs.machine.Changes.{after, Filling, IsFilling, Says, act_says}
+use Rattle.generational_core.proofs.machine.Changes.{unread}
 use Rattle.generational_core.proofs.machine.Changes.{old_content, new_content}
 use Rattle.generational_core.proofs.machine.Changes.Change.{Birth, Pair}
 use Rattle.generational_core.proofs.machine.Changes.Filling.{Reader, Writer, Leave, Return, Replace}
 use Rattle.generational_core.proofs.machine.Ends.{by_cond, borrowed_live}
-use Rattle.generational_core.proofs.machine.Soundness.{keep_each, leads_sound, Follows, follows_same}
+use Rattle.generational_core.proofs.machine.Soundness.{keep_each, leads_sound, Follows}
+use Rattle.generational_core.proofs.machine.Soundness.{follows_same}
 use Rattle.generational_core.proofs.machine.Soundness.{leads_follows, ended_still, same_store}
 
 -- a reader stays when another ticket goes

@@ -15,9 +15,11 @@ use Rattle.generational_core.specs.Cells.Cell.{Value, Shared, Ref}
 use Rattle.generational_core.specs.Cells.Content.{Here, Lent}
 use Rattle.generational_core.specs.Ending.{sweep, take_away, cells_after, close, hindrance_to}
 use Rattle.generational_core.specs.Ending.{hindrance_at}
-use Rattle.generational_core.specs.Machine.{Action, Answer, Fresh, Outcome, OwnerName, act, add_cell}
+use Rattle.generational_core.specs.Machine.{Action, Answer, Fresh, Outcome, OwnerName, act}
+use Rattle.generational_core.specs.Machine.{add_cell}
 use Rattle.generational_core.specs.Machine.{own_name, add_to_list, is_known, unless, refer, cell_at}
-use Rattle.generational_core.specs.Machine.{read_at, write_at, knows_writer, has_writer, make, point}
+use Rattle.generational_core.specs.Machine.{read_at, write_at, knows_writer, has_writer, make}
+use Rattle.generational_core.specs.Machine.{point}
 use Rattle.generational_core.specs.Machine.{next_borrow}
 use Rattle.generational_core.specs.Conditions.{one_listed}
 use Rattle.generational_core.specs.Machine.{ownership}
@@ -32,7 +34,8 @@ use Rattle.generational_core.specs.Steps.{Meets}
 use Rattle.generational_core.specs.declared.boxes.GenerationalBoxId.{GenerationalBoxId}
 use Rattle.generational_core.specs.declared.boxes.GenerationalPointer.{GenerationalPointer}
 use Rattle.generational_core.specs.declared.error.Location.{Location}
-use Rattle.generational_core.proofs.maps.Maps.{by_name, by_number, get-insert_here, get-insert_apart}
+use Rattle.generational_core.proofs.maps.Maps.{by_name, by_number, get-insert_here}
+use Rattle.generational_core.proofs.maps.Maps.{get-insert_apart}
 use Rattle.generational_core.proofs.maps.Maps.{get-changed_here}
 use Rattle.generational_core.proofs.maps.Maps.{changed_view, name_here, name_same, same_ids}
 use Rattle.generational_core.proofs.machine.Changes.{filled_content, AreFresh, new_fresh}

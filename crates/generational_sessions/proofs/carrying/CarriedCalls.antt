@@ -10,11 +10,16 @@ use Rattle.std.specs.List.{AllByRecursion, filter}
 use Rattle.std.specs.FinMap as map
 use Rattle.std.proofs.lemmas.Bool.{true≢false, eqb-true, eq-eqb, cond-true, cond_both, cases_Bool}
 use Rattle.std.proofs.lemmas.List.{map-append}
-use Rattle.generational_sessions.proofs.carrying.CarriedCells.{cond_map, ticket_moved, key_moved, cell_moved}
-use Rattle.generational_sessions.proofs.carrying.CarriedCells.{refusals_moved, reader_moved, others_moved}
-use Rattle.generational_sessions.proofs.carrying.CarriedCells.{IfThere, KnowsTarget, known_target, same_test}
-use Rattle.generational_sessions.proofs.carrying.CarriedCells.{same_size, cells_insert, cells_refilled}
-use Rattle.generational_sessions.proofs.carrying.CarriedCells.{cells_swept, cells_left, hindrance_at_moved}
+use Rattle.generational_sessions.proofs.carrying.CarriedCells.{cond_map, ticket_moved, key_moved}
+use Rattle.generational_sessions.proofs.carrying.CarriedCells.{cell_moved}
+use Rattle.generational_sessions.proofs.carrying.CarriedCells.{refusals_moved, reader_moved}
+use Rattle.generational_sessions.proofs.carrying.CarriedCells.{others_moved}
+use Rattle.generational_sessions.proofs.carrying.CarriedCells.{IfThere, KnowsTarget, known_target}
+use Rattle.generational_sessions.proofs.carrying.CarriedCells.{same_test}
+use Rattle.generational_sessions.proofs.carrying.CarriedCells.{same_size, cells_insert}
+use Rattle.generational_sessions.proofs.carrying.CarriedCells.{cells_refilled}
+use Rattle.generational_sessions.proofs.carrying.CarriedCells.{cells_swept, cells_left}
+use Rattle.generational_sessions.proofs.carrying.CarriedCells.{hindrance_at_moved}
 use Rattle.generational_sessions.proofs.carrying.CarriedCells.{first_moved}
 use Rattle.generational_core.specs.declared.error.Location.{Location}
 use Rattle.generational_core.specs.declared.error.StoreError.TheVariants.{UnknownOwner}
@@ -37,7 +42,8 @@ use Rattle.generational_core.specs.Machine.{Action, Outcome, read_at, write_at, 
 use Rattle.generational_core.specs.Machine.{Fresh, act, unless, refer, set_at, point}
 use Rattle.generational_core.specs.Machine.Answer.{Owned, Done, Flag, Back, Troubled, Refused}
 use Rattle.generational_sessions.specs.Carrying.{rename_ownership, rename_content, rename_action}
-use Rattle.generational_sessions.specs.Carrying.{CarriesCells, KnowsAnswer, rename_answer, shift_owner}
+use Rattle.generational_sessions.specs.Carrying.{CarriesCells, KnowsAnswer, rename_answer}
+use Rattle.generational_sessions.specs.Carrying.{shift_owner}
 use Rattle.generational_sessions.specs.Carrying.{shift_borrow, rename_cell, rename_fresh, Carries}
 use Rattle.generational_sessions.specs.Carrying.{KnowsBox, KnowsCall, KnowsFresh, rename_box}
 use Rattle.generational_core.proofs.maps.Maps.{name_test, by_number, key_same, contains-insert_name}

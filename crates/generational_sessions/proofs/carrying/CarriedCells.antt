@@ -19,7 +19,8 @@ use Rattle.generational_sessions.specs.Carrying.{CarriesCells, rename_content, r
 use Rattle.generational_sessions.specs.Carrying.{shift_borrow}
 use Rattle.generational_core.proofs.maps.Maps.{by_name, name_cases, name_here, name_apart, get-keep}
 use Rattle.generational_core.proofs.maps.Maps.{keep_view, get-insert_name, get-insert_here}
-use Rattle.generational_core.proofs.maps.Maps.{get-insert_apart, name_total, key_here, get-remove_apart}
+use Rattle.generational_core.proofs.maps.Maps.{get-insert_apart, name_total, key_here}
+use Rattle.generational_core.proofs.maps.Maps.{get-remove_apart}
 use Rattle.generational_core.proofs.maps.Maps.{keys_apart, len_keys, named_gives, named_from}
 use Rattle.generational_core.proofs.machine.Ends.{none≢some, some_live}
 use Rattle.std.specs.Ordering.{nat_cmp, eq_by_cmp}

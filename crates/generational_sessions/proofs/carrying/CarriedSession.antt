@@ -30,20 +30,27 @@ use Rattle.generational_sessions.specs.Carrying.{KnowsAnswer, rename_action, ren
 use Rattle.generational_sessions.specs.Carrying.{rename_ownership, KnowsGuard, rename_guard}
 use Rattle.generational_sessions.specs.Carrying.{shift_owner, rename_cell, KnowsBox, KnowsCall}
 use Rattle.generational_sessions.specs.Carrying.{rename_box}
-use Rattle.generational_sessions.specs.Session.{SessionState, SessionReply, owner_held, with_owner, ask}
-use Rattle.generational_sessions.specs.Session.{Held, at_place, box_held, owner_in, with_box, add_place}
-use Rattle.generational_sessions.specs.Session.{Request, box_in, if_ready, release, replace, reply_of}
+use Rattle.generational_sessions.specs.Session.{SessionState, SessionReply, owner_held, with_owner}
+use Rattle.generational_sessions.specs.Session.{ask}
+use Rattle.generational_sessions.specs.Session.{Held, at_place, box_held, owner_in, with_box}
+use Rattle.generational_sessions.specs.Session.{add_place}
+use Rattle.generational_sessions.specs.Session.{Request, box_in, if_ready, release, replace}
+use Rattle.generational_sessions.specs.Session.{reply_of}
 use Rattle.generational_sessions.specs.Session.{gives, settle, spend, swap}
 use Rattle.generational_sessions.specs.Session.Held.{Boxed, Reading, Writing, Owning, Nothing}
 use Rattle.generational_sessions.specs.Session.Request.{Asks, Tells, Swaps}
 use Rattle.generational_sessions.specs.Session.SessionReply.{Yes, Created, NoSuch}
-use Rattle.generational_sessions.specs.Numbered.{CarriesSession, IsNumberBelow, AreNumbersBelow, number}
+use Rattle.generational_sessions.specs.Numbered.{CarriesSession, IsNumberBelow, AreNumbersBelow}
+use Rattle.generational_sessions.specs.Numbered.{number}
 use Rattle.generational_sessions.specs.Numbered.{rename_held, KnowsHeld, refusal_in, named_by}
 use Rattle.generational_sessions.specs.Numbered.{AreListed, erase}
-use Rattle.generational_core.proofs.maps.Maps.{name_total, contains-insert_here, contains-insert_apart}
-use Rattle.generational_core.proofs.maps.Maps.{name_cases, contains-insert_old, contains-insert_name}
+use Rattle.generational_core.proofs.maps.Maps.{name_total, contains-insert_here}
+use Rattle.generational_core.proofs.maps.Maps.{contains-insert_apart}
+use Rattle.generational_core.proofs.maps.Maps.{name_cases, contains-insert_old}
+use Rattle.generational_core.proofs.maps.Maps.{contains-insert_name}
 use Rattle.generational_core.proofs.maps.Maps.{by_name, name_here}
-use Rattle.generational_sessions.proofs.carrying.CarriedCalls.{Matched, same_box_moved, all_push, created_moved}
+use Rattle.generational_sessions.proofs.carrying.CarriedCalls.{Matched, same_box_moved, all_push}
+use Rattle.generational_sessions.proofs.carrying.CarriedCalls.{created_moved}
 use Rattle.generational_sessions.proofs.carrying.CarriedCalls.{read_moved, write_moved}
 
 -- what the calls of two sessions come to

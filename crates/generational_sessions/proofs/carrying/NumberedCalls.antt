@@ -26,13 +26,17 @@ use Rattle.generational_core.specs.Machine.Action.{Make, MakeShared, Refer}
 use Rattle.generational_core.specs.Machine.Answer.{Made, Troubled, Refused}
 use Rattle.generational_core.specs.Steps.{Meets, Takes, takes_ticket, last_ticket}
 use Rattle.generational_sessions.specs.Carrying.{KnowsAnswer, rename_ownership, rename_action}
-use Rattle.generational_sessions.specs.Carrying.{rename_answer, KnowsCall, rename_guard, shift_owner}
+use Rattle.generational_sessions.specs.Carrying.{rename_answer, KnowsCall, rename_guard}
+use Rattle.generational_sessions.specs.Carrying.{shift_owner}
 use Rattle.generational_sessions.specs.Session.{SessionState, SessionReply, SessionStep, add_place}
-use Rattle.generational_sessions.specs.Session.{Held, Request, Settles, settle, refusal, Run, ask, swap}
+use Rattle.generational_sessions.specs.Session.{Held, Request, Settles, settle, refusal, Run, ask}
+use Rattle.generational_sessions.specs.Session.{swap}
 use Rattle.generational_sessions.specs.Session.Request.{Asks, Tells, Swaps}
 use Rattle.generational_sessions.specs.Places.{session_in}
-use Rattle.generational_sessions.specs.Numbered.{IsNumberBelow, AreNumbersBelow, number, CarriesSession}
-use Rattle.generational_sessions.specs.Numbered.{empty_session, refusal_in, next_numbers, numbered_act}
+use Rattle.generational_sessions.specs.Numbered.{IsNumberBelow, AreNumbersBelow, number}
+use Rattle.generational_sessions.specs.Numbered.{CarriesSession}
+use Rattle.generational_sessions.specs.Numbered.{empty_session, refusal_in, next_numbers}
+use Rattle.generational_sessions.specs.Numbered.{numbered_act}
 use Rattle.generational_sessions.specs.Numbered.{Matches, AreListed, named_by, numbered, AnswersAs}
 use Rattle.generational_sessions.specs.Numbered.{erase}
 use Rattle.generational_core.specs.Steps.{want}
@@ -44,10 +48,13 @@ use Rattle.generational_core.proofs.machine.Stepping.{act_start, is_refusal, tak
 use Rattle.generational_sessions.proofs.sessions.Sessions.{session_sound}
 use Rattle.generational_sessions.proofs.sessions.Refusals.{unspent, refusal_told, tell}
 use Rattle.generational_sessions.proofs.carrying.CarriedCalls.{Matched, act_matched}
-use Rattle.generational_sessions.proofs.carrying.CarriedSession.{swapped_alike, settled_alike, placed_alike}
-use Rattle.generational_sessions.proofs.carrying.CarriedSession.{AskedAlike, asked_alike, box_agrees, last_known}
+use Rattle.generational_sessions.proofs.carrying.CarriedSession.{swapped_alike, settled_alike}
+use Rattle.generational_sessions.proofs.carrying.CarriedSession.{placed_alike}
+use Rattle.generational_sessions.proofs.carrying.CarriedSession.{AskedAlike, asked_alike}
+use Rattle.generational_sessions.proofs.carrying.CarriedSession.{box_agrees, last_known}
 use Rattle.generational_sessions.proofs.carrying.CarriedSession.{Reserves, reserve, older, back}
-use Rattle.generational_sessions.proofs.carrying.CarriedSession.AskedAlike.{both_ask, both_tell, both_swap}
+use Rattle.generational_sessions.proofs.carrying.CarriedSession.AskedAlike.{both_ask, both_tell}
+use Rattle.generational_sessions.proofs.carrying.CarriedSession.AskedAlike.{both_swap}
 
 -- a slot behind those of all names in a list
 slot_behind : (names : List Name)

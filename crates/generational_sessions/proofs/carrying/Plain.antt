@@ -22,14 +22,17 @@ use Rattle.generational_core.specs.Machine.Answer.{Made, Owned, Reads, Done, Tro
 use Rattle.generational_core.specs.Slots.{Fits, free, is_free, slots_of, last_name}
 use Rattle.generational_core.specs.Steps.{IsNew, AreNew, Takes, Meets, limit_tickets, takes_ticket}
 use Rattle.generational_core.specs.Steps.{last_ticket, answer_to, may_lack, needs_memory, no_names}
-use Rattle.generational_sessions.specs.Carrying.{Carries, KnowsCall, KnowsFresh, map_action, map_answer}
-use Rattle.generational_sessions.specs.Carrying.{renaming, rename_cell, rename_ownership, rename_box}
+use Rattle.generational_sessions.specs.Carrying.{Carries, KnowsCall, KnowsFresh, map_action}
+use Rattle.generational_sessions.specs.Carrying.{map_answer}
+use Rattle.generational_sessions.specs.Carrying.{renaming, rename_cell, rename_ownership}
+use Rattle.generational_sessions.specs.Carrying.{rename_box}
 use Rattle.generational_sessions.specs.Carrying.{rename_guard, shift_owner}
 use Rattle.generational_sessions.specs.History.{bare, bare_cells, plain, plain_call, plain_answer}
 use Rattle.generational_sessions.specs.History.{without_values}
 use Rattle.generational_core.proofs.maps.Maps.{name_exact, name_total}
 use Rattle.generational_sessions.proofs.carrying.CarriedCells.{cond_map, some_map, refusals_moved}
-use Rattle.generational_sessions.proofs.carrying.CarriedCalls.{Matched, act_matched, with_born, reach_cases}
+use Rattle.generational_sessions.proofs.carrying.CarriedCalls.{Matched, act_matched, with_born}
+use Rattle.generational_sessions.proofs.carrying.CarriedCalls.{reach_cases}
 use Rattle.generational_sessions.proofs.carrying.CarriedCalls.{content_there}
 use Rattle.generational_core.proofs.machine.Stepping.{act_start}
 

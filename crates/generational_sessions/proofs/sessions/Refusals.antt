@@ -30,9 +30,12 @@ use Rattle.generational_core.specs.Machine.Action.{Point, CanRead, CanWrite}
 use Rattle.generational_core.specs.Machine.Answer.{Done, Flag, Back, Troubled, Refused}
 use Rattle.generational_sessions.specs.Numbered.{refusal_in}
 use Rattle.generational_core.specs.Steps.{want}
-use Rattle.generational_sessions.specs.Replies.{TellsLack, TellsExhaustion, RefusalLeavesAll, refuses}
-use Rattle.generational_sessions.specs.Session.{Held, Request, SessionReply, SessionState, SessionStep}
-use Rattle.generational_sessions.specs.Session.{Settles, add_place, ask, at_place, gives, is_release}
+use Rattle.generational_sessions.specs.Replies.{TellsLack, TellsExhaustion, RefusalLeavesAll}
+use Rattle.generational_sessions.specs.Replies.{refuses}
+use Rattle.generational_sessions.specs.Session.{Held, Request, SessionReply, SessionState}
+use Rattle.generational_sessions.specs.Session.{SessionStep}
+use Rattle.generational_sessions.specs.Session.{Settles, add_place, ask, at_place, gives}
+use Rattle.generational_sessions.specs.Session.{is_release}
 use Rattle.generational_sessions.specs.Session.{owner_in, refusal, release, reply_of, settle, spend}
 use Rattle.generational_sessions.specs.Session.{with_owner}
 use Rattle.generational_sessions.specs.Session.Held.{Nothing}

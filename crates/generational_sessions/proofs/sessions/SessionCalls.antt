@@ -19,7 +19,8 @@ use Rattle.generational_core.specs.Machine.{ownership, release_owner}
 use Rattle.generational_core.specs.Machine.Answer.{Made, Flag, Done, Troubled, Refused as refuses}
 use Rattle.generational_core.specs.Steps.{Meets, limit_tickets, may_lack, needs_memory, no_names}
 use Rattle.generational_core.specs.Conditions.{IsReleased, IsFresh}
-use Rattle.generational_sessions.specs.Session.{SessionState, Held, SessionReply, Request, Settles, Run}
+use Rattle.generational_sessions.specs.Session.{SessionState, Held, SessionReply, Request, Settles}
+use Rattle.generational_sessions.specs.Session.{Run}
 use Rattle.generational_sessions.specs.Session.{SessionStep, at_place, box_in, box_held, owner_held}
 use Rattle.generational_sessions.specs.Session.{with_box, with_owner, ask, reply_of, gives, spend}
 use Rattle.generational_sessions.specs.Session.{add_place, if_ready, replace}
@@ -28,13 +29,18 @@ use Rattle.generational_sessions.specs.Session.SessionReply.{ABox, IsDone, Error
 use Rattle.generational_sessions.specs.SoundSession.{IsSoundSession}
 use Rattle.generational_sessions.specs.Replies.{NeedsBox, TellsEnds, GivesNewBox, EndsOwned}
 use Rattle.generational_sessions.specs.Replies.{AllTellEnds}
-use Rattle.generational_sessions.specs.Replies.{AllKeepPromises, KeepBoxes, GiveBoxesApart, ended_reply}
-use Rattle.generational_core.proofs.machine.Stepping.{ended_read, ended_write, meets_says, meets_given}
+use Rattle.generational_sessions.specs.Replies.{AllKeepPromises, KeepBoxes, GiveBoxesApart}
+use Rattle.generational_sessions.specs.Replies.{ended_reply}
+use Rattle.generational_core.proofs.machine.Stepping.{ended_read, ended_write, meets_says}
+use Rattle.generational_core.proofs.machine.Stepping.{meets_given}
 use Rattle.generational_core.proofs.machine.Stepping.{meets_number}
-use Rattle.generational_core.proofs.machine.Releasing.{box_ends, box_stays, shared_ends, shared_stays}
+use Rattle.generational_core.proofs.machine.Releasing.{box_ends, box_stays, shared_ends}
+use Rattle.generational_core.proofs.machine.Releasing.{shared_stays}
 use Rattle.generational_core.proofs.machine.Releasing.{listed_boxed, last_cells}
-use Rattle.generational_sessions.proofs.sessions.Sessions.{ComesTo, comes_to, held_changed, session_kept, by_run}
-use Rattle.generational_sessions.proofs.sessions.Sessions.{takes_no_box, session_ended, by_step, fresh_kept}
+use Rattle.generational_sessions.proofs.sessions.Sessions.{ComesTo, comes_to, held_changed}
+use Rattle.generational_sessions.proofs.sessions.Sessions.{session_kept, by_run}
+use Rattle.generational_sessions.proofs.sessions.Sessions.{takes_no_box, session_ended, by_step}
+use Rattle.generational_sessions.proofs.sessions.Sessions.{fresh_kept}
 use Rattle.generational_sessions.proofs.sessions.Sessions.{is_own}
 use Rattle.generational_sessions.proofs.sessions.Sessions.ComesTo.{tells, swaps, asks}
 use Rattle.generational_sessions.proofs.sessions.Refusals.{refusals}
@@ -47,7 +53,8 @@ use Rattle.generational_sessions.specs.declared.places.Thing.{Thing}
 use Rattle.generational_core.specs.declared.error.BorrowMutError.{BorrowMutError}
 use Rattle.generational_core.specs.declared.error.Refused.{Refused}
 use Rattle.generational_core.specs.declared.error.Refused.TheVariants as refused
-use Rattle.generational_sessions.specs.Places.{as_held, as_reply, as_replies, session_in, as_refusal}
+use Rattle.generational_sessions.specs.Places.{as_held, as_reply, as_replies, session_in}
+use Rattle.generational_sessions.specs.Places.{as_refusal}
 use Rattle.generational_sessions.specs.Places.{exchange, GivesAsked, Gives}
 
 -- what is put back to where it was taken from

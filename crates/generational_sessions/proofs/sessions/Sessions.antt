@@ -26,7 +26,8 @@ use Rattle.generational_core.specs.Machine.{Action, Answer, OwnerName, is_known,
 use Rattle.generational_core.specs.Machine.{has_writer, knows_reader, knows_writer}
 use Rattle.generational_core.specs.Machine.Answer.{Made, Owned, Reads, Writes, Done}
 use Rattle.generational_core.specs.Steps.{Meets}
-use Rattle.generational_sessions.specs.Session.{SessionState, Held, SessionReply, Request, Settles, Run}
+use Rattle.generational_sessions.specs.Session.{SessionState, Held, SessionReply, Request, Settles}
+use Rattle.generational_sessions.specs.Session.{Run}
 use Rattle.generational_sessions.specs.Session.{SessionStep, at_place, add_place, gives, spend, ask}
 use Rattle.generational_sessions.specs.Session.{box_in, owner_in, owner_held, with_box, with_owner}
 use Rattle.generational_sessions.specs.Session.{if_ready, release, replace, swap}
@@ -37,9 +38,12 @@ use Rattle.generational_sessions.specs.Disturbance.{AskedSets, IsUndisturbed, Un
 use Rattle.generational_core.proofs.machine.Bounding.{meets_bounded, fresh_bounded}
 use Rattle.generational_core.proofs.machine.Soundness.{fresh_sound, ref_reaches}
 use Rattle.generational_sessions.proofs.sessions.OwnerValues.{owners_in, takes, meets_counts}
-use Rattle.generational_core.proofs.machine.Stepping.{meets_sound, meets_ended, meets_number, meets_given}
-use Rattle.generational_core.proofs.machine.Stepping.{made_new, reads_known, writes_known, reader_stays}
-use Rattle.generational_core.proofs.machine.Stepping.{writer_stays, ends_reader, ends_writer, meets_value}
+use Rattle.generational_core.proofs.machine.Stepping.{meets_sound, meets_ended, meets_number}
+use Rattle.generational_core.proofs.machine.Stepping.{meets_given}
+use Rattle.generational_core.proofs.machine.Stepping.{made_new, reads_known, writes_known}
+use Rattle.generational_core.proofs.machine.Stepping.{reader_stays}
+use Rattle.generational_core.proofs.machine.Stepping.{writer_stays, ends_reader, ends_writer}
+use Rattle.generational_core.proofs.machine.Stepping.{meets_value}
 
 module _ {T : Type 0} where
   -- ---- places of a table

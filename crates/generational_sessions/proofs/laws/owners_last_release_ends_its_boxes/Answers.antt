@@ -1,5 +1,7 @@
-use Rattle.generational_core.proofs.machine.Releasing.{box_ends, box_stays, shared_ends, shared_stays}
-use Rattle.generational_core.proofs.machine.Releasing.{listed_boxed, last_cells, earlier_cells, last_record}
+use Rattle.generational_core.proofs.machine.Releasing.{box_ends, box_stays, shared_ends}
+use Rattle.generational_core.proofs.machine.Releasing.{shared_stays}
+use Rattle.generational_core.proofs.machine.Releasing.{listed_boxed, last_cells, earlier_cells}
+use Rattle.generational_core.proofs.machine.Releasing.{last_record}
 use Rattle.generational_core.proofs.machine.Releasing.{earlier_record, other_records, rest_stays}
 use Rattle.generational_core.proofs.machine.Releasing.{refused_release, leak_changes_nothing}
 use Rattle.generational_sessions.proofs.sessions.SessionCalls.{session_released}

@@ -1,7 +1,8 @@
 use Rattle.std.proofs.Common.{refl, ap, ◌∙◌, map}
 use Rattle.generational_sessions.specs.declared.places.Thing.TheVariants.{Owner}
 use Rattle.generational_sessions.specs.Places.{as_held}
-use Rattle.generational_sessions.proofs.sessions.SessionCalls.{held_there, set_there, put_back, refusal_reply}
+use Rattle.generational_sessions.proofs.sessions.SessionCalls.{held_there, set_there, put_back}
+use Rattle.generational_sessions.proofs.sessions.SessionCalls.{refusal_reply}
 use Rattle.generational_sessions.proofs.places.release_owner.Goals as goal
 
 pub returns-in-Ok-clause-step : goal.returns-in-Ok-clause-step

@@ -1,10 +1,12 @@
 use Rattle.std.proofs.Common.{rules, subst}
 use Rattle.generational_sessions.specs.SoundSession.{IsSoundSession}
 use Rattle.generational_sessions.proofs.carrying.NumberedCalls.{call_answers}
-use Rattle.generational_sessions.proofs.sessions.SessionCalls.{tells_ends, gives_new_box, ends_owned, keep_boxes}
+use Rattle.generational_sessions.proofs.sessions.SessionCalls.{tells_ends, gives_new_box}
+use Rattle.generational_sessions.proofs.sessions.SessionCalls.{ends_owned, keep_boxes}
 use Rattle.generational_sessions.proofs.sessions.SessionCalls.{call_step}
 use Rattle.generational_sessions.proofs.sessions.Refusals.{refusals}
-use Rattle.generational_sessions.proofs.sessions.Sessions.{session_kept, session_ended, session_value}
+use Rattle.generational_sessions.proofs.sessions.Sessions.{session_kept, session_ended}
+use Rattle.generational_sessions.proofs.sessions.Sessions.{session_value}
 use Rattle.generational_sessions.proofs.session.Session.call.Goals as goal
 
 pub invariant_of-self-2 : goal.invariant_of-self-2
