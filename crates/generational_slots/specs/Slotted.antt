@@ -2,7 +2,7 @@
 use Rattle.std.specs.Prelude.{◌≡◌, ℕ, ◌+◌, ◌-◌, ◌≤◌, suc, zero, Bool, true, false, ◌&&◌, nat_eq}
 use Rattle.std.specs.Prelude.{nat_le, nat_lt, not, if◌then◌else◌, length, List, [], ◌∷◌, ◌++◌}
 use Rattle.std.specs.Prelude.{Option, None, Some, IfSome, IsTrue, Result, is_ok, slice_get}
-use Rattle.std.specs.Prelude.{slice_set, max}
+use Rattle.std.specs.Prelude.{max, IsSome, ◌⊎◌}
 use Rattle.std.specs.List.{count_by}
 use Rattle.std.specs.Option.{option_or}
 use Rattle.std.specs.Ordering.{nat_cmp}
@@ -16,12 +16,17 @@ use Rattle.generational_core.specs.State.{State, Owners}
 use Rattle.generational_core.specs.Machine.{add_cell, Outcome}
 use Rattle.generational_core.specs.Machine.Answer.{Done, Troubled}
 use Rattle.generational_core.specs.declared.error.BorrowMutError.{BorrowMutError}
+use Rattle.generational_core.specs.Machine.{OwnerName}
+use Rattle.generational_core.specs.Slots.{free}
+use Rattle.generational_core.specs.declared.error.StoreError.{StoreError}
+use Rattle.generational_core.specs.declared.error.StoreError.TheVariants.{UnknownOwner, OutOfMemory}
+use Rattle.generational_core.specs.declared.error.StoreError.TheVariants.{NumbersExhausted}
 use Rattle.generational_core.specs.declared.error.Refused.{Refused}
 use Rattle.generational_core.specs.Slots.{last_generation}
 use Rattle.generational_core.specs.Steps.{IsNew}
 use Rattle.generational_entries.specs.Entry.{Entry, FoundBorrowed, cell_of, is_live}
 use Rattle.generational_containers.specs.Lists.{how_many}
-use Rattle.generational_entries.specs.Entry.{cell_at, cell_in, change_entry}
+use Rattle.generational_entries.specs.Entry.{cell_at, change_entry}
 use Rattle.generational_containers.specs.OwnerRecords.{knows_any}
 
 -- The slots of a store: the state for which they stand, without owners and numbers, and how many
