@@ -14,6 +14,7 @@ use Rattle.generational_core.specs.Machine.{next_guard, has_reader, has_writer, 
 use Rattle.generational_core.specs.Machine.Answer.{Reads, Writes, Flag, Back, Troubled}
 use Rattle.generational_core.specs.Machine.Answer.{Refused as refuses}
 use Rattle.generational_core.specs.Boxes.{id_of}
+use Rattle.generational_core.specs.Sound.{SoundState}
 use Rattle.generational_core.specs.State.{tickets_of}
 use Rattle.generational_containers.specs.Borrows.{AreBelow}
 use Rattle.generational_entries.specs.Entry.{FoundBorrowed, is_unborrowed_value, less_read}
@@ -45,6 +46,10 @@ nothing_left t (r ∷ rs) h = at (nat_eq r.ticket t) h (nothing_left t rs)
         (filter (λ r. not (nat_eq r.ticket t)) rs) ≡ r ∷ rs
     at true h rest = absurd (true≢false h)
     at false h rest = ap (λ xs. r ∷ xs) (rest h)
+
+-- the states of equal values of a store
+pub state_is : {T : Type 0} {s r : SoundState T} → s ≡ r → s.state ≡ r.state
+state_is same = ap (λ s. s.state) same
 
 -- the guard of a ticket at the cell of an id
 abbrev guard_at : GenerationalBoxId → ℕ → Guard
