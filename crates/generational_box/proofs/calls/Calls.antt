@@ -52,7 +52,7 @@ pub state_is : {T : Type 0} {s r : SoundState T} → s ≡ r → s.state ≡ r.s
 state_is same = ap (λ s. s.state) same
 
 -- the guard of a ticket at the cell of an id
-abbrev guard_at : GenerationalBoxId → ℕ → Guard
+abbrev pub guard_at : GenerationalBoxId → ℕ → Guard
 guard_at id t = record { store = id.store; cell = name_in id; ticket = t }
 
 module _ {T : Type 0} where

@@ -126,6 +126,11 @@ module _ {T : Type 0} where
           at (Some (Ref n l)) plain = refl
           at None plain = refl
 
+  -- an owner that isn't known
+  pub refer_strange : (S : State T) (o : Option OwnerName) (b : GenerationalPointer)
+      → is_known S o ≡ false → Meets S (Refer o b) (Refused UnknownOwner) S
+  refer_strange S o b strange = inl (no_names, tt, rw strange refl)
+
   -- a shared value that a box reaches, and that isn't lent
   abbrev ReachesShared : State T → GenerationalPointer → Name → Type 0
   ReachesShared S b m =
@@ -353,12 +358,6 @@ module _ {T : Type 0} where
         rw (← view, same.0, same.1) (refused (Refer o inner) _ _
         (refers V inner m l o no_names (shared_here inner m reached) at) e
         (refuses _ (reference_lacks V (box_of number no_names.first l) inner o) e is))
-
-    -- an owner that isn't known
-    pub refer_unknown : (inner : GenerationalPointer) → false ≡ knows_any number owners o
-        → Meets S (Refer o inner) (Refused UnknownOwner) S
-    refer_unknown inner unknown =
-        rw (← view) (inl (no_names, tt, rw (sym known ∙ sym unknown) refl))
 
     -- a making of a shared value, where there is no memory for its two cells or for an owner's list
     pub shared_lacks : (v : T) (l : Location) (e : StoreError) (Y : State T)

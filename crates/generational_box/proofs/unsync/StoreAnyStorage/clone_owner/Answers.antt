@@ -2,6 +2,8 @@ use Rattle.std.proofs.Common.{arith, refl, sym, ◌∙◌}
 use Rattle.generational_box.proofs.records.Counts.{counted_up}
 use Rattle.generational_box.proofs.calls.OwnerCalls.{clone_unknown, clone_exhausted, clone_made}
 use Rattle.generational_box.proofs.calls.Calls.{state_is}
+use Rattle.generational_box.proofs.Common.{CloneOwner, meets_kept}
+use Rattle.generational_core.specs.Sound.{IsSound-prop, IsBounded-prop}
 use Rattle.generational_box.proofs.unsync.StoreAnyStorage.clone_owner.Goals as goal
 
 pub returns-then-not-knows : goal.returns-then-not-knows
@@ -23,3 +25,22 @@ returns g c =
     clone_made (state_is c.self.view_is) c.args.owner.now (sym c.knows.ensures ∙ c.if-not-knows.false)
     c.owner_at.result _ (omega arith) (rw (← c.key_of.ensures) c.owner_at.ensures)
     (rw c.count_up-place.ensures refl)
+
+pub invariant_of-self-inside-2 : goal.invariant_of-self-inside-2
+invariant_of-self-inside-2 g c =
+    meets_kept _ _ (CloneOwner c.args.owner.now) _ c.args.self.now.sound c.args.self.now.bounded
+    (clone_made (state_is c.self.view_is) c.args.owner.now (sym c.knows.ensures ∙ c.if-not-knows.false)
+    _ _ (omega arith) refl
+    (rw c.count_up-place.ensures refl))
+
+pub same-self : goal.same-self
+same-self g c = λ i. record c.self.inside {
+  sound = IsSound-prop _ _ c.self.inside.sound i;
+  bounded = IsBounded-prop _ _ c.self.inside.bounded i;
+}
+
+pub same-self-then-self : goal.same-self-then-self
+same-self-then-self g c = λ i. record c.self.inside {
+  sound = IsSound-prop _ _ c.self.inside.sound i;
+  bounded = IsBounded-prop _ _ c.self.inside.bounded i;
+}

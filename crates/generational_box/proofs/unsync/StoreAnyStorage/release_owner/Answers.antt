@@ -4,6 +4,8 @@ use Rattle.generational_box.proofs.calls.EndCalls.{are_linked}
 use Rattle.generational_box.proofs.calls.OwnerCalls.{release_unknown, release_one, last_refused}
 use Rattle.generational_box.proofs.calls.OwnerCalls.{last_done}
 use Rattle.generational_box.proofs.calls.Calls.{state_is}
+use Rattle.generational_box.proofs.Common.{ReleaseOwner, meets_kept}
+use Rattle.generational_core.specs.Sound.{IsSound-prop, IsBounded-prop}
 use Rattle.generational_box.proofs.unsync.StoreAnyStorage.release_owner.Goals as goal
 
 pub returns-in-None-clause-step : goal.returns-in-None-clause-step
@@ -40,3 +42,22 @@ returns-clause-step g c =
     last_done c.self.inside.slots.state (state_is c.self.view_is) c.args.owner _ c.in-Some.ensures
     (omega (arith, c.count.ensures, c.if-count-gt1.false)) _ c.boxes.ensures _ _
     c.in-Ok.ensures.found c.in-Ok.ensures.ok c.take.ensures.after
+
+pub invariant_of-self-inside-in-Some : goal.invariant_of-self-inside-in-Some
+invariant_of-self-inside-in-Some g c =
+    meets_kept _ _ (ReleaseOwner c.args.owner) _ c.args.self.now.sound c.args.self.now.bounded
+    (release_one (state_is c.self.view_is) c.args.owner _ c.in-Some.ensures _
+    (omega (arith, c.count.ensures, c.if-count-gt1.true)) (rw c.count_down.ensures refl))
+
+pub invariant_of-self-inside-2 : goal.invariant_of-self-inside-2
+invariant_of-self-inside-2 g c =
+    meets_kept _ _ (ReleaseOwner c.args.owner) _ c.args.self.now.sound c.args.self.now.bounded
+    (last_done c.self.inside.slots.state (state_is c.self.view_is) c.args.owner _ c.in-Some.ensures
+    (omega (arith, c.count.ensures, c.if-count-gt1.false)) _ c.boxes.ensures _ _
+    c.in-Ok.ensures.found c.in-Ok.ensures.ok c.take.ensures.after)
+
+pub same-self : goal.same-self
+same-self g c = λ i. record c.self.inside {
+  sound = IsSound-prop _ _ c.self.inside.sound i;
+  bounded = IsBounded-prop _ _ c.self.inside.bounded i;
+}

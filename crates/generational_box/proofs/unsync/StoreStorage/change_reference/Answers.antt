@@ -3,6 +3,7 @@ use Rattle.generational_box.proofs.calls.EndCalls.{are_linked}
 use Rattle.generational_box.proofs.calls.Points.{point_same, point_gone, point_lent, is_live}
 use Rattle.generational_box.proofs.calls.Points.{point_none, point_value, point_plain, point_turns}
 use Rattle.generational_box.proofs.calls.Calls.{state_is}
+use Rattle.generational_box.proofs.Common.{Point, meets_kept}
 use Rattle.generational_box.proofs.unsync.StoreStorage.change_reference.Goals as goal
 
 pub returns-then-eq : goal.returns-then-eq
@@ -66,3 +67,11 @@ returns g c =
     c.self.inside.slots.state (state_is c.self.view_is) (reaches (state_is c.self.view_is) c.args.self.now.sound c.in-Some.ensures)
     c.in_default-borrow_error.ensures _ _ _ _ c.cell_name.ensures c.in-Some-target.ensures
     c.if-not-is_shared.ensures c.turn.ensures
+
+pub invariant_of-self-inside : goal.invariant_of-self-inside
+invariant_of-self-inside g c =
+    meets_kept _ _ (Point c.args.pointer c.args.other) _ c.args.self.now.sound c.args.self.now.bounded
+    (point_turns c.args.pointer c.args.other c.if-eq.ensures
+    c.self.inside.slots.state (state_is c.self.view_is) (reaches (state_is c.self.view_is) c.args.self.now.sound c.in-Some.ensures)
+    c.in_default-borrow_error.ensures _ _ _ _ c.cell_name.ensures c.in-Some-target.ensures
+    c.if-not-is_shared.ensures c.turn.ensures)

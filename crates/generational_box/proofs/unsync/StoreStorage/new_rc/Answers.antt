@@ -3,6 +3,7 @@ use Rattle.generational_box.proofs.calls.Makings.{of_refusal, shared_lacks, shar
 use Rattle.generational_box.proofs.calls.Makings.{pair_some, pair_target, pair_targets}
 use Rattle.generational_box.proofs.calls.Makings.{pair_counted, shared_made}
 use Rattle.generational_box.proofs.calls.Calls.{state_is}
+use Rattle.generational_box.proofs.Common.{MakeShared, meets_kept}
 use Rattle.generational_box.proofs.unsync.StoreStorage.new_rc.Goals as goal
 
 pub returns-then-is_err-clause-step : goal.returns-then-is_err-clause-step
@@ -57,3 +58,15 @@ returns-clause-step g c =
     c.relist_for.new.self c.reference_to-content.ensures
     reference.made c.in_default.ensures.ok shared.unlisted reference.unlisted
     c.relist_for.ensures c.pointer_in.result c.in_default.ensures.known c.pointer_in.ensures
+
+pub invariant_of-self-inside-2 : goal.invariant_of-self-inside-2
+invariant_of-self-inside-2 g c =
+    let shared = c.make_alone-shared.ensures in let reference = c.make_alone-reference.ensures in
+    meets_kept _ _ (MakeShared (option_copied c.args.owner) c.args.value c.args.location) _ c.args.self.now.sound c.args.self.now.bounded
+    (shared_made c.self.inside.slots (state_is c.self.view_is) (option_copied c.args.owner)
+    c.reserve_two.new.self c.make_alone-shared.new.slots c.reserve_two.ensures.state _ _ _
+    shared.made c.make_alone-reference.new.slots c.reference_to-content.result _ _
+    c.list_for.new.self c.make_alone-shared.new.owners c.make_alone-reference.new.owners
+    c.relist_for.new.self c.reference_to-content.ensures
+    reference.made c.in_default.ensures.ok shared.unlisted reference.unlisted
+    c.relist_for.ensures _ c.in_default.ensures.known refl)
