@@ -1,9 +1,8 @@
 use Rattle.std.proofs.Common.{arith, refl, sym, ◌∙◌}
 use Rattle.generational_box.proofs.records.Counts.{counted_up}
 use Rattle.generational_box.proofs.calls.OwnerCalls.{clone_unknown, clone_exhausted, clone_made}
-use Rattle.generational_box.proofs.calls.Calls.{state_is}
+use Rattle.generational_box.proofs.calls.Calls.{both, state_is}
 use Rattle.generational_box.proofs.Common.{CloneOwner, meets_kept}
-use Rattle.generational_core.specs.Sound.{IsSound-prop, IsBounded-prop}
 use Rattle.generational_box.proofs.unsync.StoreAnyStorage.clone_owner.Goals as goal
 
 pub returns-then-not-knows : goal.returns-then-not-knows
@@ -34,13 +33,7 @@ invariant_of-self-inside-2 g c =
     (rw c.count_up-place.ensures refl))
 
 pub same-self : goal.same-self
-same-self g c = λ i. record c.self.inside {
-  sound = IsSound-prop _ _ c.self.inside.sound i;
-  bounded = IsBounded-prop _ _ c.self.inside.bounded i;
-}
+same-self g c = both (λ s b. record c.self.inside { sound = s; bounded = b })
 
 pub same-self-then-self : goal.same-self-then-self
-same-self-then-self g c = λ i. record c.self.inside {
-  sound = IsSound-prop _ _ c.self.inside.sound i;
-  bounded = IsBounded-prop _ _ c.self.inside.bounded i;
-}
+same-self-then-self g c = both (λ s b. record c.self.inside { sound = s; bounded = b })

@@ -3,9 +3,8 @@ use Rattle.generational_box.proofs.records.Counts.{counted_down, counted_remove,
 use Rattle.generational_box.proofs.calls.EndCalls.{are_linked}
 use Rattle.generational_box.proofs.calls.OwnerCalls.{release_unknown, release_one, last_refused}
 use Rattle.generational_box.proofs.calls.OwnerCalls.{last_done}
-use Rattle.generational_box.proofs.calls.Calls.{state_is}
+use Rattle.generational_box.proofs.calls.Calls.{both, state_is}
 use Rattle.generational_box.proofs.Common.{ReleaseOwner, meets_kept}
-use Rattle.generational_core.specs.Sound.{IsSound-prop, IsBounded-prop}
 use Rattle.generational_box.proofs.unsync.StoreAnyStorage.release_owner.Goals as goal
 
 pub returns-in-None-clause-step : goal.returns-in-None-clause-step
@@ -57,7 +56,4 @@ invariant_of-self-inside-2 g c =
     c.in-Ok.ensures.found c.in-Ok.ensures.ok c.take.ensures.after)
 
 pub same-self : goal.same-self
-same-self g c = λ i. record c.self.inside {
-  sound = IsSound-prop _ _ c.self.inside.sound i;
-  bounded = IsBounded-prop _ _ c.self.inside.bounded i;
-}
+same-self g c = both (λ s b. record c.self.inside { sound = s; bounded = b })

@@ -1,4 +1,4 @@
-use Rattle.std.proofs.Common.{option_copied}
+use Rattle.std.proofs.Common.{option_copied, refl}
 use Rattle.generational_box.proofs.calls.Makings.{of_refusal, shared_lacks, shared_refused}
 use Rattle.generational_box.proofs.calls.Makings.{pair_some, pair_target, pair_targets}
 use Rattle.generational_box.proofs.calls.Makings.{pair_counted, shared_made}

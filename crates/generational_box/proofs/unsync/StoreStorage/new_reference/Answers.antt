@@ -1,9 +1,8 @@
-use Rattle.std.proofs.Common.{option_copied, refl, sym, ◌∙◌}
-use Rattle.generational_core.specs.Sound.{IsSound-prop, IsBounded-prop}
-use Rattle.generational_box.proofs.Common.{Refer, meets_kept}
+use Rattle.std.proofs.Common.{option_copied, sym, ◌∙◌}
+use Rattle.generational_containers.specs.CellNames.{name_of_cell}
 use Rattle.generational_box.proofs.calls.Calls.{state_is}
 use Rattle.generational_box.proofs.calls.Makings.{made_counted, refer_strange, reference_made}
-use Rattle.generational_box.proofs.calls.Makings.{reference_refused}
+use Rattle.generational_box.proofs.calls.Makings.{reference_kept, reference_refused}
 use Rattle.generational_box.proofs.unsync.StoreStorage.new_reference.Goals as goal
 use Rattle.generational_box.proofs.unsync.StoreStorage.new_reference.Goals.{in-Ok-make, in-Err-make}
 
@@ -22,17 +21,11 @@ invariant_of-self g c = elim c.match-make.branch [
 
 pub invariant_of-self-inside : goal.invariant_of-self-inside
 invariant_of-self-inside g c =
-    meets_kept _ _ (Refer (option_copied c.args.owner) c.args.inner) _
-    c.args.self.now.sound c.args.self.now.bounded (elim c.match-make.branch [
-  | in-Ok-make w ↦ reference_made c.self.inside.slots (state_is c.self.view_is)
-      (option_copied c.args.owner) c.args.inner c.created_at-created_at.result _ _ _ _ _
-      c.reference_to-content.result c.in-Ok.ensures.ok c.created_at-created_at.ensures
-      c.reference_to-content.ensures w.in-Ok-make.ensures.ok.0 w.in-Ok-make.ensures.ok.1 refl
-  | in-Err-make w ↦ reference_refused c.self.inside.slots (state_is c.self.view_is)
-      (option_copied c.args.owner) c.args.inner _ c.created_at-created_at.result
-      w.in-Err-make.cause _ _ c.in-Ok.ensures.ok c.created_at-created_at.ensures
-      w.in-Err-make.ensures.refused w.in-Err-make.ensures.err
-])
+    reference_kept c.self.inside.slots (state_is c.self.view_is) (option_copied c.args.owner)
+    c.args.inner c.created_at-created_at.result _ _ _ c.reference_to-content.result
+    c.in-Ok.ensures.ok c.created_at-created_at.ensures c.reference_to-content.ensures
+    name_of_cell c.make.result c.make.ensures.ok c.make.ensures.err
+    c.args.self.now.sound c.args.self.now.bounded
 
 pub returns : goal.returns
 returns g c = elim c.match-make.branch [
