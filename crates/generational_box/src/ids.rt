@@ -29,11 +29,7 @@ pub(crate) fn id_in(number: u64, name: CellName) -> GenerationalBoxId
 
 // The box of a cell of the store with this number.
 #[inline(always)]
-pub(crate) fn pointer_in(
-    number: u64,
-    name: CellName,
-    created_at: Location,
-) -> GenerationalPointer
+pub(crate) fn pointer_in(number: u64, name: CellName, created_at: Location) -> GenerationalPointer
     ensures { result ≡ box_of number (name_of_cell name) created_at }
 {
     pointer_at(number, name.slot, name.generation, created_at)

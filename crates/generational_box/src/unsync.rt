@@ -48,10 +48,8 @@ pub struct Store<T, P: SlotPool> {
     next: u64,
     slots: Slots<T, P>,
     owners: OwnerRecords,
-    ghost sound: { IsSound (with_records slots.state number owners next) }
-        by { IsSound-prop (with_records slots.state number owners next) },
-    ghost bounded: { IsBounded (with_records slots.state number owners next) }
-        by { IsBounded-prop (with_records slots.state number owners next) },
+    ghost sound: { IsSound (with_records slots.state number owners next) } by { IsSound-prop (with_records slots.state number owners next) },
+    ghost bounded: { IsBounded (with_records slots.state number owners next) } by { IsBounded-prop (with_records slots.state number owners next) },
 }
 
 /// The store that takes the slot that was freed last.
@@ -70,9 +68,9 @@ impl<T, P: SlotPool> Model for Store<T, P> {
     ghost coded = { coded_via (Prim.hlevel (codes, map.code)) (λ s. s.state) same_sound };
 
     ghost view = { λ s. record {
-        state = with_records s.slots.state s.number s.owners s.next;
-        sound = s.sound;
-        bounded = s.bounded;
+      state = with_records s.slots.state s.number s.owners s.next;
+      sound = s.sound;
+      bounded = s.bounded;
     } };
 
     ghost invariant = { λ s. AreCounted s.next s.owners };

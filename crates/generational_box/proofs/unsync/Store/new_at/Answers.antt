@@ -1,4 +1,4 @@
-use Rattle.generational_box.proofs.Common.{IsSound, IsBounded, fresh_sound, fresh_bounded}
+use Rattle.generational_box.proofs.Common.{fresh_sound, fresh_bounded}
 use Rattle.generational_box.proofs.records.Counts.{counted_empty}
 use Rattle.generational_box.proofs.unsync.Store.new_at.Goals as goal
 
