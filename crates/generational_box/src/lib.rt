@@ -13,11 +13,11 @@
 //! `docs/machine.md` at the repository's root.
 #![tactic(auto)]
 
-mod parts;
+mod ids;
+mod refusals;
 mod unsync;
 
-pub use crate::parts::Numbers;
-pub use crate::unsync::{Store, UnsyncStorage};
+pub use crate::unsync::{Numbers, Store, UnsyncStorage};
 pub use generational_containers::pool::{LastFirst, OldestFirst, SlotPool};
 pub use generational_core::{
     AlreadyBorrowedError, AlreadyBorrowedMutError, AnyStorage, BorrowError, BorrowMutError,

@@ -14,6 +14,7 @@ use Rattle.generational_core.specs.Machine.{next_guard, has_reader, has_writer, 
 use Rattle.generational_core.specs.Machine.Answer.{Reads, Writes, Flag, Back, Troubled}
 use Rattle.generational_core.specs.Machine.Answer.{Refused as refuses}
 use Rattle.generational_core.specs.Boxes.{id_of}
+use Rattle.generational_core.specs.Sound.{SoundState, IsSound-prop, IsBounded-prop}
 use Rattle.generational_core.specs.State.{tickets_of}
 use Rattle.generational_containers.specs.Borrows.{AreBelow}
 use Rattle.generational_entries.specs.Entry.{FoundBorrowed, is_unborrowed_value, less_read}
@@ -30,7 +31,7 @@ use Rattle.generational_box.proofs.Common.{Write, ReleaseReader, ReleaseWriter, 
 use Rattle.generational_box.proofs.Common.{content_at, Meets, limit_tickets, may_lack, no_names}
 use Rattle.generational_box.proofs.Common.{last_ticket, needs_memory, takes_ticket, by_name, change}
 use Rattle.generational_box.proofs.Common.{changed_there, insert_there, has_no_borrow, with_records}
-use Rattle.generational_box.proofs.Common.{IsFresh}
+use Rattle.generational_box.proofs.Common.{IsBounded, IsFresh}
 
 -- a list without the ticket stays as it is
 nothing_left : (t : ℕ) (rs : List Borrow) → list_any (λ r. nat_eq r.ticket t) rs ≡ false
@@ -46,8 +47,17 @@ nothing_left t (r ∷ rs) h = at (nat_eq r.ticket t) h (nothing_left t rs)
     at true h rest = absurd (true≢false h)
     at false h rest = ap (λ xs. r ∷ xs) (rest h)
 
+-- the states of equal values of a store
+pub state_is : {T : Type 0} {s r : SoundState T} → s ≡ r → s.state ≡ r.state
+state_is same = ap (λ s. s.state) same
+
+-- what is told by the proofs that a state is sound and bounded is told by any
+pub both : {T A : Type 0} {S : State T} (f : IsSound S → IsBounded S → A) {s r : IsSound S}
+    {b c : IsBounded S} → f s b ≡ f r c
+both f {s} {r} {b} {c} = λ i. f (IsSound-prop _ s r i) (IsBounded-prop _ b c i)
+
 -- the guard of a ticket at the cell of an id
-abbrev guard_at : GenerationalBoxId → ℕ → Guard
+abbrev pub guard_at : GenerationalBoxId → ℕ → Guard
 guard_at id t = record { store = id.store; cell = name_in id; ticket = t }
 
 module _ {T : Type 0} where

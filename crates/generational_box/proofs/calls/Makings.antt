@@ -1,7 +1,7 @@
 -- The makings of cells, as steps of the machine.
 use Rattle.std.proofs.Common.{◌≡◌, ◌≢◌, IfSome, is_some, is_err, OnErr, ⊎_elim, Result, Err, Ok, ℕ}
 use Rattle.std.proofs.Common.{◌<◌, ◌⊎◌, Bool, true, false, cond, ◌||◌, List, [], ◌∷◌, Option, None}
-use Rattle.std.proofs.Common.{Some, IsSome, refl, sym, ap, ◌∙◌, inl, inr, subst}
+use Rattle.std.proofs.Common.{Some, IsSome, IfOk, refl, sym, ap, ◌∙◌, inl, inr, subst}
 use Rattle.std.proofs.lemmas.Bool.{eq-eqb, lt-ltb, false≢true, true≢false}
 use Rattle.std.specs.FinMap as map
 use Rattle.std.specs.FinSet as set
@@ -12,7 +12,7 @@ use Rattle.generational_core.specs.Machine.{make, refer, Fresh}
 use Rattle.generational_box.proofs.Common.{MakeShared, Refer, HasTargets, by_name}
 use Rattle.generational_box.proofs.Common.{contains-insert_name, get-insert_apart, get-insert_here}
 use Rattle.generational_box.proofs.Common.{name_cases, relist_in, cell_of, content_at, location_of}
-use Rattle.generational_box.proofs.Common.{AreCounted, Cell, Dropped, GenerationalPointer, Here}
+use Rattle.generational_box.proofs.Common.{AreCounted, Cell, Dropped, IsBounded, meets_kept, GenerationalPointer, Here}
 use Rattle.generational_box.proofs.Common.{IsListed, IsMade, IsNew, IsRefusal, IsRefused, IsSound}
 use Rattle.generational_box.proofs.Common.{Location, Make, Meets, Name, NumbersExhausted}
 use Rattle.generational_box.proofs.Common.{OutOfMemory, Ownership, Owners, Ref, Shared, Slotted}
@@ -125,6 +125,15 @@ module _ {T : Type 0} where
           at (Some (Value c l)) plain = refl
           at (Some (Ref n l)) plain = refl
           at None plain = refl
+
+  -- a state that is sound and bounded
+  abbrev Kept : State T → Type 0
+  Kept R = IsSound R × (IsBounded R × Unit {0})
+
+  -- an owner that isn't known
+  pub refer_strange : (S : State T) (o : Option OwnerName) (b : GenerationalPointer)
+      → is_known S o ≡ false → Meets S (Refer o b) (Refused UnknownOwner) S
+  refer_strange S o b strange = inl (no_names, tt, rw strange refl)
 
   -- a shared value that a box reaches, and that isn't lent
   abbrev ReachesShared : State T → GenerationalPointer → Name → Type 0
@@ -354,12 +363,6 @@ module _ {T : Type 0} where
         (refers V inner m l o no_names (shared_here inner m reached) at) e
         (refuses _ (reference_lacks V (box_of number no_names.first l) inner o) e is))
 
-    -- an owner that isn't known
-    pub refer_unknown : (inner : GenerationalPointer) → false ≡ knows_any number owners o
-        → Meets S (Refer o inner) (Refused UnknownOwner) S
-    refer_unknown inner unknown =
-        rw (← view) (inl (no_names, tt, rw (sym known ∙ sym unknown) refl))
-
     -- a making of a shared value, where there is no memory for its two cells or for an owner's list
     pub shared_lacks : (v : T) (l : Location) (e : StoreError) (Y : State T)
         → e ≡ cond (knows_any number owners o) OutOfMemory UnknownOwner → free s.state < 2
@@ -386,3 +389,39 @@ module _ {T : Type 0} where
         by UnknownOwner is = is
         by OutOfMemory is = (is.1, pair_lacks V (box_of number no_names.second l) v l o (inl is.0))
         by NumbersExhausted is = is
+
+    -- ---- what is left is sound and bounded
+
+    -- a state that a call leaves as it was
+    unchanged : (r : Slotted T) (after : Owners) → (r.state ≡ s.state) × (after ≡ owners)
+        → IsSound S → IsBounded S → Kept (with_records r.state number after next)
+    unchanged r after same sound bounded =
+        rw (same.0, same.1) (subst Kept (sym view) (sound, (bounded, tt)))
+
+    -- the making of a value
+    pub value_kept : (v : T) (l : Location) (r : Slotted T) (after : Owners) {A E : Type 0}
+        (f : A → Name) (result : Result A E)
+        → IfOk result (λ n. IsMade s r (Some (Value (Here v []) l)) (f n)
+        × IsListed number owners after o (f n))
+        → OnErr result ((r.state ≡ s.state) × (after ≡ owners)) → IsSound S → IsBounded S
+        → Kept (with_records r.state number after next)
+    value_kept v l r after f (Ok n) ok err sound bounded =
+        meets_kept _ _ (Make o v l) _ sound bounded
+        (value_made v l r after (f n) (box_of number (f n) l) ok.0 ok.1 refl)
+    value_kept v l r after f (Err e) ok err sound bounded = unchanged r after err sound bounded
+
+    -- the making of a reference
+    pub reference_kept : (inner : GenerationalPointer) (l : Location) (r : Slotted T)
+        (after : Owners) (m : Name) (d : StorageEntryData T) → ReachesShared S inner m
+        → location_of (map.get V.cells m) ≡ Some l → d ≡ slot.Reference m.slot m.generation
+        → {A E : Type 0} (f : A → Name) (result : Result A E)
+        → IfOk result (λ n. IsMade s r (cell_of (kept_data [] l d)) (f n)
+        × IsListed number owners after o (f n))
+        → OnErr result ((r.state ≡ s.state) × (after ≡ owners)) → IsSound S → IsBounded S
+        → Kept (with_records r.state number after next)
+    reference_kept inner l r after m d reached at content f (Ok n) ok err sound bounded =
+        meets_kept _ _ (Refer o inner) _ sound bounded
+        (reference_made inner l r after m (f n) (box_of number (f n) l) d reached at content
+        ok.0 ok.1 refl)
+    reference_kept inner l r after m d reached at content f (Err e) ok err sound bounded =
+        unchanged r after err sound bounded

@@ -1,6 +1,27 @@
+use Rattle.std.proofs.Common.{arith, refl}
+use Rattle.generational_box.proofs.records.Counts.{counted_new}
+use Rattle.generational_box.proofs.calls.OwnerCalls.{new_exhausted, new_lacks, new_made}
+use Rattle.generational_box.proofs.calls.Calls.{state_is}
 use Rattle.generational_box.proofs.Common.{NewOwner, meets_kept}
 use Rattle.generational_box.proofs.unsync.StoreAnyStorage.owner.Goals as goal
 
+pub returns-then-key : goal.returns-then-key
+returns-then-key g c = new_exhausted (state_is c.self.view_is) (omega arith)
+
+pub invariant_of-self : goal.invariant_of-self
+invariant_of-self g c =
+    rw c.in-Ok.ensures.ok (counted_new c.self.invariant _ refl refl)
+
+pub returns-in-Ok : goal.returns-in-Ok
+returns-in-Ok g c =
+    new_made (state_is c.self.view_is) c.owner_at.result _ (omega arith) c.owner_at.ensures
+    (rw c.in-Ok.ensures.ok refl)
+
+pub returns-in-Err : goal.returns-in-Err
+returns-in-Err g c = new_lacks (state_is c.self.view_is) _ (omega arith) (rw c.in-Err.ensures.err refl)
+
 pub invariant_of-self-inside : goal.invariant_of-self-inside
 invariant_of-self-inside g c =
-    meets_kept _ _ NewOwner _ c.self.inside.sound c.self.inside.bounded c.owner.ensures
+    meets_kept _ _ (NewOwner) _ c.args.self.now.sound c.args.self.now.bounded
+    (new_made (state_is c.self.view_is) _ _ (omega arith) refl
+    (rw c.in-Ok.ensures.ok refl))

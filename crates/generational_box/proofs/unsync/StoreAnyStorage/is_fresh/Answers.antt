@@ -1,0 +1,19 @@
+use Rattle.std.proofs.Common.{refl}
+use Rattle.std.proofs.lemmas.Bool.{false≢true}
+use Rattle.generational_box.proofs.calls.Calls.{fresh_with}
+use Rattle.generational_box.proofs.calls.Calls.{state_is}
+use Rattle.generational_box.proofs.unsync.StoreAnyStorage.is_fresh.Goals as goal
+
+pub returns-then-is_fresh : goal.returns-then-is_fresh
+returns-then-is_fresh g c =
+    let fresh = fresh_with c.self.inside.slots.state (state_is c.self.view_is) in (
+      λ t. fresh.0 (c.if-is_fresh.ensures.0 refl, c.is_empty.ensures.0 t),
+      λ f. c.is_empty.ensures.1 (fresh.1 f).1,
+    )
+
+pub returns-else-is_fresh : goal.returns-else-is_fresh
+returns-else-is_fresh g c =
+    let fresh = fresh_with c.self.inside.slots.state (state_is c.self.view_is) in (
+      λ t. absurd (false≢true (rw c.if-is_fresh.false at t)),
+      λ f. c.is_fresh.ensures.1 (fresh.1 f).0,
+    )
