@@ -1,6 +1,6 @@
 -- The records of owners that a store keeps, as the machine sees them.
 use Rattle.std.specs.Prelude.{◌≡◌, Bool, true, false, nat_eq, if◌then◌else◌, is_some, IsSome, ℕ}
-use Rattle.std.specs.Prelude.{◌<◌, ◌≤◌, ◌-◌, ◌⊎◌, Option, None, Some, length, slice_set}
+use Rattle.std.specs.Prelude.{◌<◌, ◌≤◌, ◌-◌, Option, None, Some, length, slice_set}
 use Rattle.std.specs.List.{IsDistinct}
 use Rattle.std.specs.FinMap as map
 use Rattle.generational_core.specs.declared.error.StoreError.{StoreError}
@@ -8,7 +8,6 @@ use Rattle.generational_core.specs.declared.error.StoreError.TheVariants.{Unknow
 use Rattle.generational_core.specs.declared.error.StoreError.TheVariants.{NumbersExhausted}
 use Rattle.generational_core.specs.Names.{Name, change, is_name}
 use Rattle.generational_core.specs.Machine.{OwnerName}
-use Rattle.generational_core.specs.Slots.{free}
 use Rattle.generational_core.specs.State.{Ownership, Owners}
 use Rattle.generational_core.specs.Conditions.{one_listed}
 

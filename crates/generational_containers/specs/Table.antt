@@ -1,5 +1,5 @@
 -- The table of all standing borrows of a store.
-use Rattle.std.specs.Prelude.{◌-◌, ◌≡◌, ◌≢◌, ◌<◌, ◌≤◌, ℕ, ◌⊎◌, Bool, true, false, nat_eq}
+use Rattle.std.specs.Prelude.{◌≡◌, ◌≢◌, ◌<◌, ◌≤◌, ℕ, ◌⊎◌, true, false, nat_eq}
 use Rattle.std.specs.Prelude.{if◌then◌else◌}
 use Rattle.std.specs.Prelude.{List, [], ◌∷◌, ◌++◌, length, slice_index_or, slice_set}
 use Rattle.std.specs.Ordering.{nat_cmp}
@@ -27,19 +27,13 @@ IsVacant t index =
     ((set.contains t.free index ≡ true) × (index < length t.lists))
     ⊎ ((t.free ≡ set.empty) × (index ≡ length t.lists))
 
--- the free indexes with 0, if that is one
-abbrev pub free_with : Bool → set.FinSet nat_cmp → set.FinSet nat_cmp
-free_with true free = set.insert free 0
-free_with false free = free
-
--- the lists from index 1 on: an index that was given back has one, there is room for each of them
--- and for its index among the free ones
-pub record IsTable (rest : List (List Borrow)) (free : set.FinSet nat_cmp) (rooms capacity : ℕ)
+-- an index that was given back has a list, and there is room for each list and for its index among
+-- the free ones
+pub record IsTable (lists : List (List Borrow)) (free : set.FinSet nat_cmp) (rooms capacity : ℕ)
     : Type 0 where
-  pub within : (index : ℕ) → set.contains free index ≡ true → index ≤ length rest
-  pub beside : set.contains free 0 ≡ false
-  pub roomy : length rest ≤ rooms - 1
-  pub fits : rooms - 1 ≤ capacity
+  pub within : (index : ℕ) → set.contains free index ≡ true → index < length lists
+  pub roomy : length lists ≤ rooms
+  pub fits : rooms ≤ capacity
 
 -- the index of a cell without borrows
 abbrev pub no_index : ℕ
@@ -62,11 +56,3 @@ pub record IsClosed (t t' : Table) (x : ℕ) : Type 0 where
 abbrev pub Releases : Table → Table → ℕ → ℕ → List Borrow → Type 0
 Releases t t' x y [] = (y ≡ no_index) × IsClosed t t' x
 Releases t t' x y left = (y ≡ x) × (t' ≡ record t { lists = slice_set t.lists x left })
-
--- the list at index 0 stands at another index with a borrow more, and index 0 is free
-pub record IsJoined (t t' : Table) (y : ℕ) (list : List Borrow) : Type 0 where
-  pub above : 0 < y
-  pub vacant : IsVacant t y
-  pub lists : t'.lists ≡ put_list t.lists y list
-  pub free : t'.free ≡ set.insert (set.remove t.free y) 0
-  pub rooms : t'.rooms ≡ t.rooms

@@ -62,19 +62,6 @@ impl Borrows {
         }
     }
 
-    /// Two borrows, in order.
-    #[cold]
-    #[inline(never)]
-    pub fn pair(alloc: Global, first: Borrow, second: Borrow) -> Result<Borrows, AllocError>
-        requires { first.ticket < second.ticket }
-        ensures { IfOk result (λ borrows. borrows ≡ first ∷ second ∷ []) }
-    {
-        let queue = queue_of(alloc, first, second)?;
-        Ok(Borrows {
-            standing: OneOrSeveral::Several(queue),
-        })
-    }
-
     /// The borrow that began first.
     #[inline(always)]
     pub fn first(&self) -> Borrow

@@ -148,9 +148,9 @@ pub record AreIndexed {T : Type 0} (t : Table) (es : List (StorageEntry T)) : Ty
       → index_in (slice_get es j) ≡ index_in (slice_get es k) → j ≡ k
   -- a slot whose value has listed readers has an index
   pub listed : (k : ℕ) → IsListedIn (slice_get es k)
-  -- the indexes of slots and the free ones are all that there are, one more than slots at most
+  -- the indexes of slots and the free ones are all that there are, as many as slots at most
   pub counted : set.len t.free + how_many has_index es ≡ length t.lists
-  pub few : length t.lists ≤ length es + 1
+  pub few : length t.lists ≤ length es
 
 -- there is room for this many slots, but for no index beyond the last
 pub record AreRoomy (room count capacity detailed borrowed : ℕ) : Type 0 where
@@ -158,4 +158,4 @@ pub record AreRoomy (room count capacity detailed borrowed : ℕ) : Type 0 where
   pub entries : room ≤ capacity
   pub details : room ≤ detailed
   pub borrows : room ≤ borrowed
-  pub indexes : room + 1 < no_index
+  pub indexes : room < no_index

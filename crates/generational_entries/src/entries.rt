@@ -34,7 +34,6 @@ ghost use Rattle.generational_entries.specs.Entry.{FoundBorrowed, FoundReaders};
 ghost use Rattle.generational_entries.specs.Entry.{cell_at, change_entry};
 
 use crate::entry::{EntryDetails, Kind, StorageEntry, StorageEntryData};
-use generational_containers::borrows::Borrows;
 use generational_containers::names::CellName;
 use generational_containers::room::{more_room, reserve_room};
 use generational_containers::table::{BorrowTable, NO_INDEX};
@@ -361,13 +360,7 @@ impl<T: Drop> Entries<T> {
                 content.list(self.borrows.open(borrow));
                 Ok(())
             }
-            StorageEntryData::Read(_, index, _) => {
-                if *index == 0 {
-                    *index = self.borrows.join(borrow)?;
-                    return Ok(());
-                }
-                self.borrows.push(*index, borrow)
-            }
+            StorageEntryData::Read(_, index, _) => self.borrows.push(*index, borrow),
             _ => Ok(()),
         }
     }
@@ -595,10 +588,10 @@ impl<T: Drop> Entries<T> {
 
 // The next larger number of slots for which room is made.
 fn larger_room(room: usize) -> Result<usize, StoreError>
-    ensures more { IfOk result (λ more. (room < more) × (more + 1 < no_index)) }
+    ensures more { IfOk result (λ more. (room < more) × (more < no_index)) }
     ensures cause { IfErr result (λ error. error ≡ OutOfMemory) }
 {
-    let most = NO_INDEX as usize - 2;
+    let most = NO_INDEX as usize - 1;
     if room >= most {
         return Err(StoreError::OutOfMemory);
     }
@@ -612,12 +605,15 @@ fn readers_error(borrows: &BorrowTable, index: u32, alloc: Global) -> Refused<Bo
     requires { index < length borrows.now.lists }
     ensures { FoundReaders (list_at borrows.now.lists index) result }
 {
-    if index == 0 {
-        return reader_error(borrows.in_place(), alloc);
+    match borrows.borrows_at(index).locations(alloc) {
+        Ok(borrowed_at) => Refused::Borrow(BorrowMutError::AlreadyBorrowed(
+            AlreadyBorrowedError::new(borrowed_at),
+        )),
+        Err(_) => Refused::Store(StoreError::OutOfMemory),
     }
-    readers_error_apart(borrows.beside(index), alloc)
 }
 
+/// The answer to a write or an end where one reader stands.
 #[cold]
 #[inline(never)]
 pub fn reader_error(reader: Borrow, alloc: Global) -> Refused<BorrowMutError>
@@ -628,19 +624,6 @@ pub fn reader_error(reader: Borrow, alloc: Global) -> Refused<BorrowMutError>
             borrowed_at.push_reserved(reader.location);
             Refused::Borrow(BorrowMutError::AlreadyBorrowed(AlreadyBorrowedError::new(borrowed_at)))
         }
-        Err(_) => Refused::Store(StoreError::OutOfMemory),
-    }
-}
-
-#[cold]
-#[inline(never)]
-fn readers_error_apart(readers: &Borrows, alloc: Global) -> Refused<BorrowMutError>
-    ensures { FoundReaders readers.now result }
-{
-    match readers.locations(alloc) {
-        Ok(borrowed_at) => Refused::Borrow(BorrowMutError::AlreadyBorrowed(
-            AlreadyBorrowedError::new(borrowed_at),
-        )),
         Err(_) => Refused::Store(StoreError::OutOfMemory),
     }
 }

@@ -1,5 +1,5 @@
 -- The slots of a store with the table of their borrows, as their methods find them.
-use Rattle.std.proofs.Common.{◌≡◌, ◌≢◌, ℕ, zero, suc, ◌+◌, ◌<◌, ◌≤◌, Bool, true, false, cond, List}
+use Rattle.std.proofs.Common.{◌≡◌, ◌≢◌, ℕ, zero, suc, ◌<◌, ◌≤◌, Bool, true, false, cond, List}
 use Rattle.std.proofs.Common.{[], ◌∷◌, ◌++◌, length, Option, None, Some, refl, sym, ap, ◌∙◌, arith}
 use Rattle.std.proofs.Common.{IfSome, OnOk, OnErr, Result, Ok, Err, is_none, is_some, subst, inl}
 use Rattle.std.proofs.Common.{inr, ◌⊎◌, slice_get, slice_set, nat_eq}
@@ -120,7 +120,7 @@ pub record IsKept {T : Type 0} (t : Table) (es : List (StorageEntry T)) (ls : Li
   pub slots : entries_of t.lists es ls ≡ now.slots
   pub indexed : AreIndexed t es
   pub made : length ls ≡ length es
-  pub small : length es + 1 < no_index
+  pub small : length es < no_index
 
 pub kept : {T : Type 0} {t : Table} {es : List (StorageEntry T)} {ls : List EntryDetails}
     {now : EntryList T} {room entries created : ℕ}

@@ -4,7 +4,6 @@ use Rattle.std.proofs.Common.{◌≡◌, ◌≢◌, ℕ, ◌+◌, ◌≤◌, Boo
 use Rattle.std.proofs.Common.{Option, None, Some, refl, sym, ◌∙◌, arith, subst, slice_get}
 use Rattle.std.proofs.Common.{slice_set, nat_eq}
 use Rattle.std.specs.Ordering.{nat_cmp}
-use Rattle.std.specs.Cmp.{nat_cmp_total}
 use Rattle.std.proofs.lemmas.Bool.{false≢true, eq-eqb, eqb-true}
 use Rattle.std.proofs.lemmas.List.{length-set}
 use Rattle.std.specs.FinSet as set
@@ -38,7 +37,6 @@ module _ {T : Type 0} where
         → (index_of e.content ≢ no_index → (k : ℕ) → k ≢ i
         → index_in (slice_get es k) ≢ index_of e.content)
         → set.len t'.free + how_many has_index es' ≡ length t'.lists → length t'.lists ≤ length es'
-        + 1
         → AreIndexed t' es'
     indexed {t} {t'} s fits others here alone counted few =
         record {
@@ -89,19 +87,13 @@ module _ {T : Type 0} where
   unborrowed_listed (slot.Lent kd x) free = tt
 
 pub indexed_none : {T : Type 0} {t : Table} {es : List (StorageEntry T)} → es ≡ []
-    → length t.lists ≡ 1 → t.free ≡ set.insert set.empty 0 → AreIndexed t es
-indexed_none none one free = rw none (record {
+    → t.lists ≡ [] → t.free ≡ set.empty → AreIndexed t es
+indexed_none none empty free = rw none (record {
   used = λ k some. absurd (some refl);
   apart = λ j k some same. absurd (some refl);
   listed = λ k. tt;
-  counted = rw (
-    free,
-    one,
-    set.len-insert nat_cmp_total set.empty 0,
-    set.contains-empty nat_cmp 0,
-    set.len-empty nat_cmp,
-  ) refl;
-  few = omega arith;
+  counted = rw (free, empty, set.len-empty nat_cmp) refl;
+  few = rw empty (omega arith);
 })
 
 module _ {T : Type 0} where

@@ -16,7 +16,7 @@ use Rattle.generational_entries.specs.Entries.{EntryList, kept_data, index_in, i
 use Rattle.generational_entries.specs.Entries.{entry_of, AreIndexed, IsListed, unread_data}
 use Rattle.generational_containers.specs.Table.{Releases, no_index, IsUsed, Table, list_at}
 use Rattle.generational_containers.specs.Table.{IsVacant}
-use Rattle.generational_containers.specs.Table.{IsClosed, IsJoined}
+use Rattle.generational_containers.specs.Table.{IsClosed}
 use Rattle.generational_entries.specs.Entry.Kept.{Live}
 use Rattle.generational_entries.specs.declared.entry.Kind.{Kind}
 use Rattle.generational_containers.specs.Lists.{how_many}
@@ -24,12 +24,10 @@ use Rattle.generational_entries.specs.Entry.{change_entry, change_entry_if}
 unfoldable use Rattle.generational_entries.specs.Entries.{entries_of}
 use Rattle.generational_entries.specs.declared.entry.StorageEntryData.TheVariants as slot
 use Rattle.generational_containers.proofs.lists.Lists.{set-own, set_written, bit, fewer_within}
-use Rattle.generational_containers.proofs.lists.Lists.{many_within}
 use Rattle.generational_entries.proofs.lists.TableChanges.{Changes, Opens, closed, closed_count}
 use Rattle.generational_entries.proofs.lists.TableChanges.{list_changed, none_some, opened}
-use Rattle.generational_entries.proofs.lists.TableChanges.{opened_count, opened_few, opened_list}
+use Rattle.generational_entries.proofs.lists.TableChanges.{opened_count, opened_few}
 use Rattle.generational_entries.proofs.lists.TableChanges.{opened_used, used_still}
-use Rattle.generational_containers.proofs.lists.Tables.{removed_none}
 use Rattle.generational_entries.proofs.states.Indexes.{has_listed, indexed}
 use Rattle.generational_entries.proofs.states.Entries.{IsKept, SameLists, entries_set, has_place}
 use Rattle.generational_entries.proofs.states.Entries.{location, slot_seen, used_here}
@@ -61,7 +59,7 @@ module _ {T : Type 0} {t : Table} {es : List (StorageEntry T)} {ls : List EntryD
         → (index_of e'.content ≢ no_index → (index_of e'.content ≡ x) × IsUsed t' x)
         → set.len t'.free + bit (has_index e') + length t.lists
         ≡ set.len t.free + bit (has_index e) + length t'.lists
-        → length t'.lists ≤ length es + 1 → AreIndexed t' (slice_set es i e')
+        → length t'.lists ≤ length es → AreIndexed t' (slice_set es i e')
     step_indexed e' fits here counts few =
         let w = set_written es i e' e there in
         let count = rw there at (w.count has_index) in
@@ -95,7 +93,7 @@ module _ {T : Type 0} {t : Table} {es : List (StorageEntry T)} {ls : List EntryD
     pub small_left : length t.lists < no_index
     small_left = let few = s.indexed.few in let small = s.small in omega arith
 
-    pub room_left : length es ≤ t.rooms → t.free ≡ set.empty → length t.lists ≤ t.rooms
+    pub room_left : length es ≤ t.rooms → t.free ≡ set.empty → length t.lists < t.rooms
     room_left roomy empty =
         let full : set.len t.free ≡ 0 = ap set.len empty ∙ set.len-empty nat_cmp in
         let counted = s.indexed.counted in let less = fewer in omega arith
@@ -132,90 +130,7 @@ module _ {T : Type 0} {t : Table} {es : List (StorageEntry T)} {ls : List EntryD
           (has_listed e'.content (λ z. omega (arith, sym at ∙ z, below)))
           (λ some. (at, opened_used o))
           (rw (has, has_none) (omega arith))
-          (opened_few o (length es + 1) few (λ z. omega arith))
-
-  -- the list at index 0 is the slot's, and stands elsewhere with a borrow more
-  module _ (is : index_of e.content ≡ 0) where
-    zero_used : IsUsed t 0
-    zero_used = subst (IsUsed t) is (used_here s i e there (λ z. omega (arith, is, z)))
-
-    join_few : length t.lists ≤ length es + set.len t.free
-    join_few = let most = many_within has_index es in let counted = s.indexed.counted in omega arith
-
-    pub join_room : length es ≤ t.rooms → t.free ≡ set.empty → length t.lists ≤ t.rooms
-    join_room roomy empty =
-        let full : set.len t.free ≡ 0 = ap set.len empty ∙ set.len-empty nat_cmp in
-        let few = join_few in omega arith
-
-    module _ {t' : Table} {y : ℕ} {list : List Borrow} (j : IsJoined t t' y list)
-        (some : list ≢ []) where
-      -- the table before index 0 is given back
-      abbrev before : Table
-      before = record { lists = t'.lists; free = set.remove t.free y; rooms = t'.rooms }
-
-      opens : Opens t before y list
-      opens = record { vacant = j.vacant; some = some; lists = j.lists; free = refl }
-
-      closes : IsClosed before t' 0
-      closes = record {
-        others = λ q other. refl;
-        same = refl;
-        rooms = refl;
-        freed = j.free;
-      }
-
-      zero_kept : set.contains before.free 0 ≡ false
-      zero_kept = removed_none t.free y 0 zero_used.used
-
-      pub join_below : y < no_index
-      join_below = at j.vacant
-        where
-          at : IsVacant t y → y < no_index
-          at (inl v) =
-              let low = v.1 in let few = s.indexed.few in let small = s.small in omega arith
-          at (inr v) =
-              let end = v.1 in
-              let full : set.len t.free ≡ 0 = ap set.len v.0 ∙ set.len-empty nat_cmp in
-              let few = join_few in let small = s.small in omega arith
-
-      join_alone : (k : ℕ) → k ≢ i → index_in (slice_get es k) ≢ y
-      join_alone = vacant_alone y (λ u. unused u j.vacant)
-          (let below = join_below in λ z. omega (arith, z))
-        where
-          unused : IsUsed t y → IsVacant t y → ⊥
-          unused u (inl v) = true≢false (sym v.0 ∙ u.used)
-          unused u (inr v) = let low = u.within in omega (arith, v.1)
-
-      zero_alone : (k : ℕ) → k ≢ i → index_in (slice_get es k) ≢ 0
-      zero_alone = used_alone 0 is (λ z. omega (arith, z))
-
-      pub join_list : list_at t'.lists y ≡ list
-      join_list = opened_list opens
-
-      pub join_lists : SameLists t.lists t'.lists es i
-      join_lists k other = (opened opens).lists (index_in (slice_get es k)) (join_alone k other)
-
-      pub join_indexed : (e' : StorageEntry T) → index_of e'.content ≡ y
-          → AreIndexed t' (slice_set es i e')
-      join_indexed e' at =
-          let w = set_written es i e' e there in
-          let above = j.above in let below = join_below in
-          let has : has_index e ≡ true = rw is refl in
-          let has' : has_index e' ≡ true =
-          rw (at, ne_eqb y no_index (λ z. omega (arith, z))) refl in
-          let count = rw (there, has, has') at (w.count has_index) in
-          let counted = s.indexed.counted in let opens_one = opened_count opens in
-          let closes_one = closed_count closes zero_kept in
-          let long = length-set es i e' in let many = join_few in
-          let few = opened_few opens (length es + 1) s.indexed.few
-          (λ none. omega (arith, none)) in
-          indexed w s.indexed (has_listed e'.content (λ z. omega (arith, sym at ∙ z, below)))
-          (λ k other some. used_still (closed closes) _ (zero_alone k other)
-          (used_still (opened opens) _ (join_alone k other) (s.indexed.used k some)))
-          (λ z. subst (IsUsed t') (sym at) (used_still (closed closes) y
-          (λ z. omega (arith, z)) (opened_used opens)))
-          (λ z k other same. join_alone k other (same ∙ at))
-          (omega arith) (omega arith)
+          (opened_few o (length es) few (λ z. omega arith))
 
   module _ (x : ℕ) (is : index_of e.content ≡ x) (some : x ≢ no_index) where
     pub used_x : IsUsed t x

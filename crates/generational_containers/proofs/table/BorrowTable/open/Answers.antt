@@ -1,12 +1,14 @@
-use Rattle.std.proofs.Common.{arith, sym, inl}
-use Rattle.generational_containers.proofs.lists.Lists.{remove-insert_new}
-use Rattle.generational_containers.proofs.lists.Tables.{inserted}
+-- A list begins at an index.
+use Rattle.std.proofs.Common.{sym, ◌∙◌}
+use Rattle.generational_containers.proofs.lists.Tables.{remove_none, table_opened}
 use Rattle.generational_containers.proofs.table.BorrowTable.open.Goals as goal
 
-pub returns-then-self-clause-vacant : goal.returns-then-self-clause-vacant
-returns-then-self-clause-vacant c =
-    rw (← c.self.view_is, c.if-self.true) (inl (inserted _ 0, omega arith))
+pub invariant_of-self : goal.invariant_of-self
+invariant_of-self c =
+    rw (c.in-Some.ensures.taken, c.take.ensures.rooms)
+    (table_opened c.self.invariant c.in-Some.index c.new-list.result)
 
-pub returns-then-self-clause-free : goal.returns-then-self-clause-free
-returns-then-self-clause-free c =
-    rw (← c.self.view_is, c.if-self.true) (sym (remove-insert_new _ 0 c.self.invariant.beside))
+pub returns-in-None-clause-free : goal.returns-in-None-clause-free
+returns-in-None-clause-free c =
+    rw (← c.self.view_is)
+    (c.in-None.ensures.unchanged ∙ sym (remove_none _ _ c.in-None.ensures.none))

@@ -1,4 +1,4 @@
-use Rattle.std.proofs.Common.{arith, refl, sym, ◌≡◌, subst, ap, ◌∙◌, [], ◌∷◌}
+use Rattle.std.proofs.Common.{arith, refl, sym, subst, ap, ◌∙◌, [], ◌∷◌}
 use Rattle.std.proofs.lemmas.List.{length-set}
 use Rattle.generational_entries.specs.Entry.{content_in, readers_of}
 use Rattle.generational_entries.proofs.states.Entries.{kept, many, says, has_place, used_at}
@@ -7,8 +7,7 @@ use Rattle.generational_entries.proofs.states.Entries.{roomy_still, hears, locat
 use Rattle.generational_entries.proofs.states.Entries.{err_then}
 use Rattle.generational_entries.proofs.states.Entries.{read_beside, reader_kept}
 use Rattle.generational_entries.proofs.states.SlotWrites.{room_left, small_left, open_lists}
-use Rattle.generational_entries.proofs.states.SlotWrites.{open_indexed, list_lists, join_room}
-use Rattle.generational_entries.proofs.states.SlotWrites.{join_indexed, join_lists, join_list}
+use Rattle.generational_entries.proofs.states.SlotWrites.{open_indexed, list_lists}
 use Rattle.generational_entries.proofs.states.SlotWrites.{view_changed}
 use Rattle.generational_entries.proofs.lists.TableChanges.{none_some}
 use Rattle.generational_entries.proofs.lists.TableChanges.{Opens}
@@ -75,71 +74,6 @@ returns-in-Data-clause-ok g c =
     (rw c.in-Data.is refl) o)
     (λ l. rw (c.list.ensures, c.in-Data.is, opened_list o) refl)
 
-pub join-requires-clause-used : goal.join-requires-clause-used
-join-requires-clause-used g c =
-    let s = kept c.self.view_is c.self.invariant in
-    let there = read_slot s c.requires.within _ c.self.inside.entries.ok.0
-    c.index_mut.ensures.value in
-    rw c.if-index-eq0.true at
-    (used_at s c.args.slot _ there _ _ _ c.in-Read.is).used
-
-pub join-requires-clause-room : goal.join-requires-clause-room
-join-requires-clause-room g c =
-    let s = kept c.self.view_is c.self.invariant in
-    let there = read_slot s c.requires.within _ c.self.inside.entries.ok.0
-    c.index_mut.ensures.value in
-    join_room s c.args.slot _ there (rw (c.in-Read.is, c.if-index-eq0.true) refl)
-    (let r = c.self.invariant.2 in let a = r.filled in let b = r.borrows in omega arith)
-
-pub join-requires-clause-ascends : goal.join-requires-clause-ascends
-join-requires-clause-ascends g c =
-    let s = kept c.self.view_is c.self.invariant in
-    let there = read_slot s c.requires.within _ c.self.inside.entries.ok.0
-    c.index_mut.ensures.value in
-    rw c.if-index-eq0.true at
-    (subst (λ d. AreBelow c.args.borrow.ticket (readers_of (content_in (kept_data
-    (list_at c.self.inside.borrows.lists (index_of d))
-    (location s c.args.slot _ there).0.created_at d))))
-    c.in-Read.is
-    (hears s c.args.slot _ there
-    (λ e. AreBelow c.args.borrow.ticket (readers_of (content_in e.kept))) c.requires.ascends))
-
-pub returns-in_err-index-in-Read-clause-beside : goal.returns-in_err-index-in-Read-clause-beside
-returns-in_err-index-in-Read-clause-beside g c =
-    let s = kept c.self.view_is c.self.invariant in
-    let there = read_slot s c.requires.within _ c.self.inside.entries.ok.0
-    c.index_mut.ensures.value in
-    err_then c.from_residual.result (says s c.args.slot _ there _ (λ l. rw c.in-Read.is
-    (read_beside s c.args.slot _ there _ _ _ c.in-Read.is)))
-
-pub invariant_of-self-then-index-eq0 : goal.invariant_of-self-then-index-eq0
-invariant_of-self-then-index-eq0 g c =
-    let s = kept c.self.view_is c.self.invariant in
-    let there = read_slot s c.requires.within _ c.self.inside.entries.ok.0
-    c.index_mut.ensures.value in
-    let j = c.in_ok-index-in-Read.ensures.ok in (
-      join_indexed s c.args.slot _ there (rw (c.in-Read.is, c.if-index-eq0.true) refl) j
-          (not_empty _ _) _ refl,
-      c.self.invariant.1 ∙ sym (length-set c.self.inside.entries.items c.args.slot _),
-      roomy_still c.self.invariant.2 (length-set c.self.inside.entries.items c.args.slot _) j.rooms,
-    )
-
-pub returns-then-index-eq0-clause-ok : goal.returns-then-index-eq0-clause-ok
-returns-then-index-eq0-clause-ok g c =
-    let s = kept c.self.view_is c.self.invariant in
-    let there = read_slot s c.requires.within _ c.self.inside.entries.ok.0
-    c.index_mut.ensures.value in
-    let own : index_of c.index_mut.result.now.content ≡ 0 =
-    rw (c.in-Read.is, c.if-index-eq0.true) refl in
-    let j = c.in_ok-index-in-Read.ensures.ok in
-    view_changed s c.args.slot _ there _ _ _
-    (join_lists s c.args.slot _ there own j (not_empty _ _))
-    (λ l. rw (
-      c.in-Read.is,
-      c.if-index-eq0.true,
-      join_list s c.args.slot _ there own j (not_empty _ _),
-    ) refl)
-
 pub push-requires-clause-within : goal.push-requires-clause-within
 push-requires-clause-within g c =
     let s = kept c.self.view_is c.self.invariant in
@@ -159,8 +93,8 @@ push-requires-clause-ascends g c =
     (hears s c.args.slot _ there
     (λ e. AreBelow c.args.borrow.ticket (readers_of (content_in e.kept))) c.requires.ascends)
 
-pub returns-else-index-eq0-clause-ok : goal.returns-else-index-eq0-clause-ok
-returns-else-index-eq0-clause-ok g c =
+pub returns-in-Read-clause-ok : goal.returns-in-Read-clause-ok
+returns-in-Read-clause-ok g c =
     let s = kept c.self.view_is c.self.invariant in
     let there = read_slot s c.requires.within _ c.self.inside.entries.ok.0
     c.index_mut.ensures.value in
@@ -176,8 +110,8 @@ returns-else-index-eq0-clause-ok g c =
     ) refl))
     c.push.ensures.ok
 
-pub returns-else-index-eq0-clause-beside : goal.returns-else-index-eq0-clause-beside
-returns-else-index-eq0-clause-beside g c =
+pub returns-in-Read-clause-beside : goal.returns-in-Read-clause-beside
+returns-in-Read-clause-beside g c =
     let s = kept c.self.view_is c.self.invariant in
     let there = read_slot s c.requires.within _ c.self.inside.entries.ok.0
     c.index_mut.ensures.value in

@@ -49,19 +49,12 @@ invariant_of-self g c =
           c.open.ensures.rooms,
     )
 
-pub set_only-requires-clause-within : goal.set_only-requires-clause-within
-set_only-requires-clause-within g c =
+pub set_only-requires : goal.set_only-requires
+set_only-requires g c =
     let s = kept c.self.view_is c.self.invariant in
     let there = read_slot s c.requires.within _ c.self.inside.entries.ok.0
     c.index_mut.ensures.value in
     (lent_used s c.args.slot _ there _ _ c.in-Lent.is c.if-index.false).within
-
-pub set_only-requires-clause-used : goal.set_only-requires-clause-used
-set_only-requires-clause-used g c =
-    let s = kept c.self.view_is c.self.invariant in
-    let there = read_slot s c.requires.within _ c.self.inside.entries.ok.0
-    c.index_mut.ensures.value in
-    (lent_used s c.args.slot _ there _ _ c.in-Lent.is c.if-index.false).used
 
 pub invariant_of-self-else-index : goal.invariant_of-self-else-index
 invariant_of-self-else-index g c =
