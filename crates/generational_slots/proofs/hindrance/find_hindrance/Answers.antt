@@ -1,4 +1,4 @@
-use Rattle.std.proofs.Common.{sym, ◌∙◌, map as list_map}
+use Rattle.std.proofs.Common.{map as list_map}
 use Rattle.generational_slots.proofs.Common.{name_of_cell}
 use Rattle.generational_slots.proofs.states.Hindrance.{none_hindered}
 use Rattle.generational_slots.proofs.hindrance.find_hindrance.Goals as goal
