@@ -2,14 +2,14 @@
 use Rattle.std.specs.Prelude.{◌≡◌, ℕ, ◌+◌, ◌-◌, ◌≤◌, suc, zero, Bool, true, false, ◌&&◌, nat_eq}
 use Rattle.std.specs.Prelude.{nat_le, nat_lt, not, if◌then◌else◌, length, List, [], ◌∷◌, ◌++◌}
 use Rattle.std.specs.Prelude.{Option, None, Some, IfSome, IsTrue, Result, is_ok, slice_get}
-use Rattle.std.specs.Prelude.{max, IsSome, ◌⊎◌}
+use Rattle.std.specs.Prelude.{max, is_some, IsSome, ◌⊎◌}
 use Rattle.std.specs.List.{count_by}
 use Rattle.std.specs.Option.{option_or}
 use Rattle.std.specs.Ordering.{nat_cmp}
 use Rattle.std.specs.FinMap as map
 use Rattle.std.specs.FinSet as set
 use Rattle.generational_core.specs.Names.{Name, NameMap, Names}
-use Rattle.generational_core.specs.Borrowing.{Trouble, write_refusal}
+use Rattle.generational_core.specs.Borrowing.{Trouble, leads_to, write_refusal}
 use Rattle.generational_core.specs.Cells.{Cell, content_of, is_shared, refers_to}
 use Rattle.generational_core.specs.Cells.Cell.{Value, Ref}
 use Rattle.generational_core.specs.State.{State, Owners}
@@ -205,6 +205,10 @@ module _ {T : Type 0} where
   abbrev pub refusal_of : NameMap (Cell T) → Option Name → Option Trouble
   refusal_of cells None = None
   refusal_of cells (Some m) = write_refusal (content_of (map.get cells m))
+
+  -- whether a name reaches a borrowed value: its own, or the one that its reference names
+  abbrev pub reaches_borrowed : List (Entry T) → Name → Bool
+  reaches_borrowed slots n = is_some (refusal_of (cells_of slots) (leads_to (cell_at slots n) n))
 
   abbrev pub first_refusal : NameMap (Cell T) → (Name → Bool) → List Name → Option Trouble
   first_refusal cells named [] = None

@@ -1,15 +1,16 @@
 //! What stands in the way of an end.
 
-ghost use Rattle.std.specs.Prelude.{◌≡◌, map as list_map, option_map};
-ghost use Rattle.std.specs.List.{IsDistinct, list_all};
+ghost use Rattle.std.specs.Prelude.{◌≡◌, map as list_map, option_map, Some};
+ghost use Rattle.std.specs.List.{IsDistinct, position};
 ghost use Rattle.generational_core.specs.Conditions.{IsLinked};
 ghost use Rattle.generational_core.specs.Ending.{cells_after, first_hindrance};
 ghost use Rattle.generational_core.specs.Names.{is_name};
-ghost use Rattle.generational_entries.specs.Entry.{FoundBorrowed, is_unborrowed_value};
+ghost use Rattle.generational_entries.specs.Entry.{FoundBorrowed};
 ghost use Rattle.generational_containers.specs.CellNames.{name_of_cell};
 ghost use Rattle.generational_slots.specs.Slotted.{AreReferred, cells_of, doomed_by};
 ghost use Rattle.generational_entries.specs.Entry.{cell_at};
-ghost use Rattle.generational_slots.specs.Slotted.{first_refusal, has_more, refers_among};
+ghost use Rattle.generational_slots.specs.Slotted.{first_refusal, has_more, reaches_borrowed};
+ghost use Rattle.generational_slots.specs.Slotted.{refers_among};
 ghost use Rattle.generational_slots.specs.Slotted.{with_more};
 
 use generational_containers::names::CellName;
@@ -38,7 +39,8 @@ pub fn doomed<T: Drop>(entries: &LatestEntries<T>, name: CellName, last: usize) 
 }
 
 /// What hinders the end of the names of a list, at the first of them that is hindered. Takes no
-/// memory. Where all are values that aren't shared and have no borrow, each is asked once.
+/// memory. What has no borrow hinders no end, so each name is asked for a borrow first, and no count
+/// matters before one is met.
 #[inline(always)]
 pub fn find_hindrance<T: Drop>(
     entries: &mut LatestEntries<T>,
@@ -52,39 +54,68 @@ pub fn find_hindrance<T: Drop>(
         (list_map name_of_cell names.now)) result }
     ensures same { entries.new ≡ entries.old }
 {
-    if are_unborrowed_values(entries, names) {
-        return Ok(());
+    match first_borrowed(entries, names) {
+        None => Ok(()),
+        Some(first) => find_hindrance_from(entries, names, first),
     }
-    find_hindrance_apart(entries, names)
 }
 
-// Whether each of the names is of a value that isn't shared and has no borrow.
+// The first name of a list that reaches a borrowed value. That may live on.
 #[inline(always)]
-fn are_unborrowed_values<T: Drop>(entries: &LatestEntries<T>, names: &[CellName]) -> bool
-    ensures { result ≡ list_all
-        (λ n. is_unborrowed_value (cell_at entries.now.slots (name_of_cell n))) names.now }
+fn first_borrowed<T: Drop>(entries: &LatestEntries<T>, names: &[CellName]) -> Option<usize>
+    requires { IsLinked (cells_of entries.now.slots) }
+    ensures { result ≡ position (reaches_borrowed entries.now.slots)
+        (list_map name_of_cell names.now) }
 {
-    names.iter().all(|name| entries.has_unborrowed_value(*name))
+    for (index, name) in names.iter().enumerate() {
+        if reaches_borrow(entries, *name) {
+            return Some(index);
+        }
+    }
+    None
 }
 
-// The same for every cell. Takes no memory, and asks each name thrice: how many references would be
-// left is found by taking those of the list off the counts for a while.
+// Whether a name reaches a borrowed value: its own, or the one that its reference names.
+#[inline(always)]
+fn reaches_borrow<T: Drop>(entries: &LatestEntries<T>, name: CellName) -> bool
+    requires { IsLinked (cells_of entries.now.slots) }
+    ensures { result ≡ reaches_borrowed entries.now.slots (name_of_cell name) }
+{
+    if entries.has_unborrowed_value(name) {
+        return false;
+    }
+    match entries.reach(name) {
+        Some(value) => !entries.is_unborrowed(value.slot),
+        None => false,
+    }
+}
+
+// What hinders the end of the names of a list, the first of which that reaches a borrowed value is
+// known. A value of its own goes. Whether a shared one does is found by taking the references of
+// the list off the counts for a while: how many are left doesn't depend on one name alone.
 #[cold]
 #[inline(never)]
-fn find_hindrance_apart<T: Drop>(
+fn find_hindrance_from<T: Drop>(
     entries: &mut LatestEntries<T>,
     names: &[CellName],
+    first: usize,
 ) -> BorrowMutResult<()>
     requires linked { IsLinked (cells_of entries.old.slots) }
     requires referred { AreReferred (λ m. 0) entries.old.slots }
     requires apart { IsDistinct is_name (list_map name_of_cell names.now) }
+    requires first { position (reaches_borrowed entries.old.slots)
+        (list_map name_of_cell names.now) ≡ Some first }
     ensures found { FoundBorrowed (first_hindrance (cells_of entries.old.slots)
         (cells_after (cells_of entries.old.slots) (list_map name_of_cell names.now))
         (list_map name_of_cell names.now)) result }
     ensures same { entries.new ≡ entries.old }
 {
+    let name = names[first];
+    if let Some(Kind::Value) = entries.kind(name) {
+        return entries.borrow_mut_error(name.slot);
+    }
     count_off(entries, names);
-    let found = first_hindered(entries, names);
+    let found = first_hindered(entries, &names[first..]);
     count_back(entries, names);
     found
 }

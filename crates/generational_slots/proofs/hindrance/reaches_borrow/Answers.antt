@@ -1,0 +1,25 @@
+use Rattle.std.proofs.Common.{sym, ap, ◌∙◌, not}
+use Rattle.std.proofs.lemmas.Option.{slice_get_within}
+use Rattle.generational_slots.proofs.Common.{name_of_cell}
+use Rattle.generational_slots.proofs.states.Hindrance.{reached_borrow, reached_free, reached_live}
+use Rattle.generational_slots.proofs.hindrance.reaches_borrow.Goals as goal
+
+pub returns-then-has_unborrowed_value : goal.returns-then-has_unborrowed_value
+returns-then-has_unborrowed_value g c =
+    reached_free c.args.entries.now.slots (name_of_cell c.args.name)
+    (sym c.has_unborrowed_value.ensures ∙ c.if-has_unborrowed_value.true)
+
+pub is_unborrowed-requires : goal.is_unborrowed-requires
+is_unborrowed-requires g c =
+    let s = reached_live c.args.entries.now.slots c.requires.targets (name_of_cell c.args.name)
+    (name_of_cell c.in-Some.value) (rw c.in-Some.is at c.reach.ensures) in
+    slice_get_within _ _ s.entry s.there
+
+pub returns-in-Some : goal.returns-in-Some
+returns-in-Some g c =
+    let slots = c.args.entries.now.slots in
+    let m = name_of_cell c.in-Some.value in
+    let leads = rw c.in-Some.is at c.reach.ensures in
+    let s = reached_live slots c.requires.targets (name_of_cell c.args.name) m leads in
+    ap not (rw s.there at c.is_unborrowed.ensures)
+    ∙ reached_borrow slots (name_of_cell c.args.name) m leads s
