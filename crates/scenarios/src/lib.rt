@@ -21,6 +21,8 @@ mod ids;
 #[cfg(test)]
 mod living;
 #[cfg(test)]
+mod many_names;
+#[cfg(test)]
 mod memory;
 #[cfg(test)]
 mod owners;
