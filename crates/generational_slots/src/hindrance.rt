@@ -1,11 +1,11 @@
 //! What stands in the way of an end.
 
 ghost use Rattle.std.specs.Prelude.{◌≡◌, map as list_map, option_map, Some};
-ghost use Rattle.std.specs.List.{IsDistinct, position};
+ghost use Rattle.std.specs.List.{IsDistinct, list_all, position};
 ghost use Rattle.generational_core.specs.Conditions.{IsLinked};
 ghost use Rattle.generational_core.specs.Ending.{cells_after, first_hindrance};
 ghost use Rattle.generational_core.specs.Names.{is_name};
-ghost use Rattle.generational_entries.specs.Entry.{FoundBorrowed};
+ghost use Rattle.generational_entries.specs.Entry.{FoundBorrowed, is_unborrowed_value};
 ghost use Rattle.generational_containers.specs.CellNames.{name_of_cell};
 ghost use Rattle.generational_slots.specs.Slotted.{AreReferred, cells_of, doomed_by};
 ghost use Rattle.generational_entries.specs.Entry.{cell_at};
@@ -40,7 +40,7 @@ pub fn doomed<T: Drop>(entries: &LatestEntries<T>, name: CellName, last: usize) 
 
 /// What hinders the end of the names of a list, at the first of them that is hindered. Takes no
 /// memory. What has no borrow hinders no end, so each name is asked for a borrow first, and no count
-/// matters before one is met.
+/// matters before one is met. Where all are values that aren't shared, a small loop asks them.
 #[inline(always)]
 pub fn find_hindrance<T: Drop>(
     entries: &mut LatestEntries<T>,
@@ -54,14 +54,26 @@ pub fn find_hindrance<T: Drop>(
         (list_map name_of_cell names.now)) result }
     ensures same { entries.new ≡ entries.old }
 {
+    if are_unborrowed_values(entries, names) {
+        return Ok(());
+    }
     match first_borrowed(entries, names) {
         None => Ok(()),
         Some(first) => find_hindrance_from(entries, names, first),
     }
 }
 
-// The first name of a list that reaches a borrowed value. That may live on.
+// Whether each of the names is of a value that isn't shared and has no borrow.
 #[inline(always)]
+fn are_unborrowed_values<T: Drop>(entries: &LatestEntries<T>, names: &[CellName]) -> bool
+    ensures { result ≡ list_all
+        (λ n. is_unborrowed_value (cell_at entries.now.slots (name_of_cell n))) names.now }
+{
+    names.iter().all(|name| entries.has_unborrowed_value(*name))
+}
+
+// The first name of a list that reaches a borrowed value. That may live on.
+#[inline(never)]
 fn first_borrowed<T: Drop>(entries: &LatestEntries<T>, names: &[CellName]) -> Option<usize>
     requires { IsLinked (cells_of entries.now.slots) }
     ensures { result ≡ position (reaches_borrowed entries.now.slots)

@@ -19,6 +19,8 @@ mod growth;
 #[cfg(test)]
 mod ids;
 #[cfg(test)]
+mod many_names;
+#[cfg(test)]
 mod memory;
 #[cfg(test)]
 mod plenty;

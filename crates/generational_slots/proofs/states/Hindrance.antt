@@ -2,8 +2,9 @@
 use Rattle.std.proofs.Common.{◌≡◌, ℕ, suc, ◌+◌, ◌<◌, Bool, true, false, cond, not, List, [], ◌∷◌}
 use Rattle.std.proofs.Common.{Option, None, Some, refl, sym, ap, subst, ◌∙◌, arith, nat_eq, nat_lt}
 use Rattle.std.proofs.Common.{is_none, is_some, length, drop, slice_index_or, ◌≤◌}
-use Rattle.std.specs.List.{IsDistinct, position, position_or_len}
-use Rattle.std.proofs.lemmas.Bool.{false≢true, true≢false}
+use Rattle.std.proofs.Common.{map as list_map}
+use Rattle.std.specs.List.{IsDistinct, list_all, position, position_or_len}
+use Rattle.std.proofs.lemmas.Bool.{and_parts, false≢true, true≢false}
 use Rattle.std.proofs.lemmas.List.{at_drop_all, at_drop_more}
 use Rattle.std.proofs.lemmas.List.Quantifiers.{position-Some}
 use Rattle.std.specs.Option.{option_or}
@@ -12,9 +13,9 @@ use Rattle.std.proofs.lemmas.Bool.Decides.{nat_tests}
 use Rattle.std.proofs.lemmas.Option.{none-some}
 use Rattle.generational_core.proofs.machine.Closing.{borrowed_end, first_borrowed_end}
 use Rattle.generational_core.proofs.machine.Closing.{first_borrowed_end, first_hindered}
-use Rattle.generational_slots.proofs.Common.{AreReferred, Cell, Entry, HasTargets}
+use Rattle.generational_slots.proofs.Common.{AreReferred, Cell, CellName, Entry, HasTargets}
 use Rattle.generational_slots.proofs.Common.{IsLinked}
-use Rattle.generational_slots.proofs.Common.{Name, Trouble, leads_to, take_away}
+use Rattle.generational_slots.proofs.Common.{Name, Trouble, leads_to, name_of_cell, take_away}
 use Rattle.generational_slots.proofs.Common.{NameMap, Ref, Shared, Value, cell_at, cell_of}
 use Rattle.generational_slots.proofs.Common.{cells_after, cells_of, content_in, content_of}
 use Rattle.generational_slots.proofs.Common.{doomed_by}
@@ -62,7 +63,7 @@ module _ {T : Type 0} (cells : NameMap (Cell T)) (named told : Name → Bool)
       λ i. option_or (one_refusal n (map.get cells n) refl i) (list_refusal names i)
 
 -- where a list has no first one that passes a test, and where it has one
-none_before : {X : Type 0} (p : X → Bool) (xs : List X) → None ≡ position p xs
+pub none_before : {X : Type 0} (p : X → Bool) (xs : List X) → None ≡ position p xs
     → length xs ≤ position_or_len p xs
 none_before p xs none = by (nat_lt (position_or_len p xs) (length xs)) refl none
   where
@@ -174,13 +175,12 @@ module _ {T : Type 0} where
 
   -- where no name of a list reaches a borrowed value, nothing hinders their end
   pub none_hindered : (slots : List (Entry T)) (names : List Name) → IsLinked (cells_of slots)
-      → None ≡ position (reaches_borrowed slots) names
+      → length names ≤ position_or_len (reaches_borrowed slots) names
       → first_hindrance (cells_of slots) (cells_after (cells_of slots) names) names ≡ None
   none_hindered slots names linked free =
       let told = is_named (take_away (cells_of slots) names) in
       as_listed (cells_of slots) names linked ∙ (from_first slots told names
-      ∙ at_drop_all (first_refusal (cells_of slots) told) names _
-      (none_before (reaches_borrowed slots) names free))
+      ∙ at_drop_all (first_refusal (cells_of slots) told) names _ free)
 
   -- a value of its own that is the first borrowed one hinders the end of all
   pub own_hindered : (slots : List (Entry T)) (names : List Name) (i : ℕ) (d n : Name)
@@ -326,7 +326,7 @@ module _ {T : Type 0} where
       some None = refl
       some (Some t) = refl
 
-  -- a value of its own without borrows isn't
+  -- the name of a value of its own without borrows reaches no borrowed one
   pub reached_free : (slots : List (Entry T)) (n : Name)
       → is_unborrowed_value (cell_at slots n) ≡ true → false ≡ reaches_borrowed slots n
   reached_free slots n free = by (cell_at slots n) refl free
@@ -343,3 +343,15 @@ module _ {T : Type 0} where
       by (Some (Shared c l)) at free = refl
       by (Some (Ref m l)) at free = absurd (false≢true free)
       by None at free = refl
+
+  -- so none of a list of such names does
+  pub reached_frees : (slots : List (Entry T)) (items : List CellName)
+      → list_all (λ n. is_unborrowed_value (cell_at slots (name_of_cell n))) items ≡ true
+      → length (list_map name_of_cell items)
+      ≤ position_or_len (reaches_borrowed slots) (list_map name_of_cell items)
+  reached_frees slots [] all = omega arith
+  reached_frees slots (item ∷ items) all =
+      let n = name_of_cell item in
+      let both = and_parts (is_unborrowed_value (cell_at slots n)) _ all in
+      let rest = reached_frees slots items both.1 in
+      rw (sym (reached_free slots n both.0)) (omega arith)
