@@ -23,6 +23,33 @@ use std::alloc::Global;
 use std::io;
 use std::io::Write;
 
+/// What a store counts, and its next ticket.
+#[derive(Clone, Copy)]
+struct Counts {
+    slots: usize,
+    free: usize,
+    retired: usize,
+    peak: usize,
+    next: u64,
+}
+
+impl Counts {
+    // Writes the counts.
+    fn write<W: Write>(self, output: &mut W) -> io::Result<()> {
+        let Counts {
+            slots,
+            free,
+            retired,
+            peak,
+            next,
+        } = self;
+        writeln!(
+            output,
+            "slots {slots} free {free} retired {retired} peak {peak} next {next}"
+        )
+    }
+}
+
 /// A script of the dialect.
 ///
 /// It must be spent by `finish`.
@@ -54,7 +81,7 @@ impl<S: Storage<String> + Drop> Dialect<S> {
         match word {
             "counts" => {
                 self.script.pass_line()?;
-                self.counts(output).map_err(|_| Fault::Output)
+                self.counts().write(output).map_err(|_| Fault::Output)
             }
             "view" => {
                 self.script.pass_line()?;
@@ -83,18 +110,16 @@ impl<S: Storage<String> + Drop> Dialect<S> {
         write_with_value(output, reply).map_err(|_| Fault::Output)
     }
 
-    // Writes what the store counts.
-    fn counts<W: Write>(&self, output: &mut W) -> io::Result<()> {
+    // What the store counts.
+    fn counts(&self) -> Counts {
         let store = self.script.session().store();
-        writeln!(
-            output,
-            "slots {} free {} retired {} peak {} next {}",
-            store.slots(),
-            store.free(),
-            store.retired(),
-            store.peak_live(),
-            u64::MAX - store.tickets_left()
-        )
+        Counts {
+            slots: store.slots(),
+            free: store.free(),
+            retired: store.retired(),
+            peak: store.peak_live(),
+            next: u64::MAX - store.tickets_left(),
+        }
     }
 
     // Writes the value that a place lends.

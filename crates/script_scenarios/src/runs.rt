@@ -66,7 +66,7 @@ const ERRORS: [(&str, &str); 3] = [
 ];
 
 /// Writes a reply of a table, with the whole text of an error.
-pub(crate) fn write_reply(rt: &impl Abort, output: &mut Vec<u8>, reply: &str) {
+fn write_reply(rt: &impl Abort, output: &mut Vec<u8>, reply: &str) {
     for (word, error) in ERRORS {
         if let Some(places) = reply.strip_prefix(word) {
             writeln!(output, "{error}{places}").expect(rt, "memory");
@@ -76,15 +76,23 @@ pub(crate) fn write_reply(rt: &impl Abort, output: &mut Vec<u8>, reply: &str) {
     writeln!(output, "{reply}").expect(rt, "memory");
 }
 
+/// The replies of a table, a line each.
+pub(crate) fn replies_of(rt: &impl Abort, alloc: Global, table: &[(&str, &str)]) -> Vec<u8> {
+    let mut replies = Vec::new(alloc);
+    for (_, reply) in table {
+        write_reply(rt, &mut replies, reply);
+    }
+    replies
+}
+
 /// Asserts that the program answers the commands of a table with the replies beside them, and that
 /// its run ends well.
 pub(crate) fn assert_replies(rt: &impl Abort, alloc: Global, table: &[(&str, &str)]) {
     let mut script = Vec::new(alloc);
-    let mut replies = Vec::new(alloc);
-    for (command, reply) in table {
+    for (command, _) in table {
         writeln!(&mut script, "{command}").expect(rt, "memory");
-        write_reply(rt, &mut replies, reply);
     }
+    let replies = replies_of(rt, alloc, table);
     let outcome = run(alloc, &mut script.as_slice());
     assert_ended(rt, &outcome, 0, text(&replies), "");
 }
