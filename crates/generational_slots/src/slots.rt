@@ -38,8 +38,8 @@ use generational_containers::owners::OwnerRecords;
 use generational_containers::pool::SlotPool;
 use generational_core::parts::Borrow;
 use generational_core::{AlreadyBorrowedMutError, BorrowMutResult, Location, Owner, StoreError};
+use generational_entries::entries::Entries;
 use generational_entries::entry::{Kind, StorageEntryData};
-use generational_entries::latest::LatestEntries;
 use std::alloc::{AllocError, Global};
 use std::marker::Model;
 
@@ -51,7 +51,7 @@ pub struct Slots<T, P: SlotPool> {
     // the first generation of a slot
     start: u64,
     counts: Counts,
-    entries: LatestEntries<T>,
+    entries: Entries<T>,
     pool: P,
 }
 
@@ -93,7 +93,7 @@ impl<T, P: SlotPool> Slots<T, P> {
         Slots {
             start,
             counts: Counts::new(),
-            entries: LatestEntries::new(alloc),
+            entries: Entries::new(alloc),
             pool: P::new(alloc),
         }
     }
@@ -649,7 +649,7 @@ impl<T: Drop, P: SlotPool> Slots<T, P> {
 
 // The slot of what a new reference names counts it.
 #[inline(always)]
-fn refer<T: Drop>(entries: &mut LatestEntries<T>, target: Option<CellName>)
+fn refer<T: Drop>(entries: &mut Entries<T>, target: Option<CellName>)
     requires within { IfSome target (λ m. m.slot < length entries.old.slots) }
     requires few { IfSome target (λ m. IfSome (slice_get entries.old.slots m.slot)
         (λ e. e.references < length entries.old.slots)) }
@@ -664,7 +664,7 @@ fn refer<T: Drop>(entries: &mut LatestEntries<T>, target: Option<CellName>)
 
 // The slot of what a reference names counts it no more, if that is live.
 #[inline(always)]
-fn forget<T: Drop>(entries: &mut LatestEntries<T>, target: Option<CellName>)
+fn forget<T: Drop>(entries: &mut Entries<T>, target: Option<CellName>)
     requires some { IfSome (shared_target entries.old.slots (option_map name_of_cell target))
         (λ m. IfSome (slice_get entries.old.slots m.slot) (λ e. 0 < e.references)) }
     ensures slots { entries.new.slots ≡ count_less entries.old.slots

@@ -1,13 +1,15 @@
 -- The slots with the borrow that began last.
 use Rattle.std.proofs.Common.{◌≡◌, ℕ, Bool, true, false, List, [], ◌∷◌, Option, None, Some, refl}
 use Rattle.std.proofs.Common.{sym, ap, ◌∙◌, slice_get, nat_eq, slice_set, IfSome, cond}
-use Rattle.std.proofs.Common.{if◌then◌else◌, is_some, ◌++◌, ◌||◌, ◌<◌, length, subst, Err}
+use Rattle.std.proofs.Common.{if◌then◌else◌, is_some, ◌++◌, ◌||◌, ◌<◌, length, subst, Err, arith}
+use Rattle.std.proofs.lemmas.List.{length-set}
 use Rattle.std.proofs.lemmas.Bool.{eqb-true, eq-eqb, false≢true, ne_eqb}
 use Rattle.std.specs.List.{list_any}
 use Rattle.std.proofs.lemmas.Option.{none-some, slice_get_within}
 use Rattle.generational_core.specs.Answers.{value_of}
 use Rattle.generational_core.specs.Machine.{has_reader}
-use Rattle.generational_core.specs.Cells.{content_of, Content, Cell}
+use Rattle.generational_core.specs.Cells.{content_of, location_of, Content, Cell}
+use Rattle.generational_core.specs.declared.error.Location.{Location}
 use Rattle.generational_core.specs.Cells.Cell.{Value, Shared, Ref}
 use Rattle.generational_core.specs.declared.borrow.Borrow.{Borrow}
 use Rattle.generational_core.specs.Borrowing.{read_refusal, write_refusal, leads_to}
@@ -31,7 +33,12 @@ use Rattle.generational_entries.specs.Latest.{noted, HasApart, IsAlone, IsNoted,
 use Rattle.generational_entries.specs.Latest.{is_apart}
 use Rattle.generational_entries.specs.Latest.{is_reader, is_writer, joined, may_join}
 use Rattle.generational_entries.specs.declared.latest.Standing.{Standing}
-use Rattle.generational_entries.specs.Entries.{taken}
+use Rattle.generational_entries.specs.Entries.{entry_of, taken, EntryList}
+use Rattle.generational_entries.specs.declared.entry.EntryDetails.{EntryDetails}
+use Rattle.generational_entries.specs.declared.entry.StorageEntry.{StorageEntry}
+use Rattle.generational_containers.specs.Table.{Table}
+unfoldable use Rattle.generational_entries.specs.Entries.{entries_of}
+use Rattle.generational_entries.proofs.states.Entries.{IsKept, details_changed}
 use Rattle.generational_entries.specs.Entry.{cell_at, cell_in, change_entry, change_entry_if}
 use Rattle.generational_entries.specs.declared.entry.Kind.TheVariants as kind
 use Rattle.generational_entries.specs.declared.latest.Standing.TheVariants as standing
@@ -135,6 +142,45 @@ module _ {T : Type 0} where
           ≡ G (if b then cell_of e.kept else None)
       own e true = same (joined r.standing r.borrow) e.kept
       own e false = refl
+
+  -- and so is what holds of each slot whatever borrows stand there
+  noted_hears : (r : LastBorrow) (slots : List (Entry T)) (k : ℕ) (P : Entry T → Type 0)
+      → ((e : Entry T) → P (joining r e) → P e)
+      → IfSome (slice_get (noted r slots) k) P → IfSome (slice_get slots k) P
+  noted_hears r slots k P back h = by (is_apart r.standing) h
+    where
+      here : (e : Entry T) → slice_get slots r.slot ≡ Some e → (b : Bool) → nat_eq k r.slot ≡ b
+          → IfSome (cond b (Some (joining r e)) (slice_get slots k)) P
+          → IfSome (slice_get slots k) P
+      here e there true at h =
+          subst (λ o. IfSome o P) (sym (ap (slice_get slots) (eqb-true k r.slot at) ∙ there))
+          (back e h)
+      here e there false at h = h
+
+      there : (o : Option (Entry T)) → slice_get slots r.slot ≡ o
+          → IfSome (slice_get (change_entry_if slots r.slot (joining r) o) k) P
+          → IfSome (slice_get slots k) P
+      there None empty h = h
+      there (Some e) is h = here e is (nat_eq k r.slot) refl
+          (subst (λ o. IfSome o P) ((set_written slots r.slot (joining r e) e is).at k) h)
+
+      by : (b : Bool) → IfSome (slice_get (if b then change_entry slots r.slot (joining r)
+          else slots) k) P → IfSome (slice_get slots k) P
+      by true h = there (slice_get slots r.slot) refl h
+      by false h = h
+
+  noted_length : (r : LastBorrow) (slots : List (Entry T)) → length (noted r slots) ≡ length slots
+  noted_length r slots = by (is_apart r.standing)
+    where
+      at : (o : Option (Entry T)) → length (change_entry_if slots r.slot (joining r) o)
+          ≡ length slots
+      at None = refl
+      at (Some e) = length-set slots r.slot (joining r e)
+
+      by : (b : Bool) → length (if b then change_entry slots r.slot (joining r) else slots)
+          ≡ length slots
+      by true = at (slice_get slots r.slot)
+      by false = refl
 
   pub each_some : (o : Option (Entry T)) {P Q : Entry T → Type 0}
       → ((e : Entry T) → P e → Q e) → IfSome o P → IfSome o Q
@@ -359,6 +405,13 @@ module _ {T : Type 0} where
   lead_same n f (Live kind.Shared c l) = refl
   lead_same n f (Refers m l) = refl
 
+  pub located : (f : Content T → Content T) (k : Kept T) (P : Location → Type 0)
+      → IfSome (location_of (cell_of k)) P → IfSome (location_of (cell_of (with_content f k))) P
+  located f Empty P h = h
+  located f (Live kind.Value c l) P h = h
+  located f (Live kind.Shared c l) P h = h
+  located f (Refers m l) P h = h
+
   -- what holds of the slot at which the borrow stands apart
   pub noted_there : (r : LastBorrow) (slots : List (Entry T)) → IsNoted r slots
       → is_apart r.standing ≡ true → (P : Entry T → Type 0)
@@ -404,6 +457,37 @@ module _ {T : Type 0} where
           → IfSome (slice_get (if b then change_entry slots r.slot (joining r) else slots) k) P
       by true is = at is (nat_eq r.slot k) refl
       by false is = h
+
+  -- ---- what contracts see, where the slots without the borrow that stands apart are known
+
+  module _ (r : LastBorrow) (settled : EntryList T) {now : EntryList T}
+      (view : record { slots = noted r settled.slots; rooms = settled.rooms } ≡ now) where
+    -- there are as many slots
+    pub seen_many : length now.slots ≡ length settled.slots
+    seen_many = ap (λ (x : EntryList T). length x.slots) (sym view) ∙ noted_length r settled.slots
+
+    pub settled_within : {i : ℕ} → i < length now.slots → i < length settled.slots
+    settled_within within = let same = seen_many in omega (arith, within)
+
+    -- what holds of a slot whatever borrows stand there
+    pub seen_says : IsNoted r settled.slots → (k : ℕ) (P : Entry T → Type 0)
+        → ((e : Entry T) → P e → P (joining r e))
+        → IfSome (slice_get settled.slots k) P → IfSome (slice_get now.slots k) P
+    seen_says alone k P stays h =
+        subst (λ (x : EntryList T). IfSome (slice_get x.slots k) P) view
+        (joined_says r settled.slots alone k P (λ apart at e fits. stays e) h)
+
+    pub seen_hears : (k : ℕ) (P : Entry T → Type 0) → ((e : Entry T) → P (joining r e) → P e)
+        → IfSome (slice_get now.slots k) P → IfSome (slice_get settled.slots k) P
+    seen_hears k P back h = noted_hears r settled.slots k P back
+        (subst (λ (x : EntryList T). IfSome (slice_get x.slots k) P) (sym view) h)
+
+    -- what no borrow changes of a cell
+    pub seen_cell : {A : Type 0} (G : Option (Cell T) → A)
+        → ((f : Content T → Content T) (k : Kept T) → G (cell_of (with_content f k)) ≡ G (cell_of k))
+        → (n : Name) → G (cell_at settled.slots n) ≡ G (cell_at now.slots n)
+    seen_cell G same n =
+        sym (cells_keep G same r settled.slots n) ∙ ap (λ (x : EntryList T). G (cell_at x.slots n)) view
 
   -- ---- a slot that changes beside it
 
@@ -455,6 +539,24 @@ module _ {T : Type 0} where
       → IsNoted r (change_entry slots j h)
   alone_apart r slots j h alone other is =
       rw (change_away slots j r.slot h (λ e. other is (sym e))) (alone is)
+
+  -- the details of a slot change, where the note is read as it stands in the store
+  pub details_noted : {t : Table} {es : List (StorageEntry T)} {ls : List EntryDetails}
+      {settled now : EntryList T} (s : IsKept t es ls settled) (r l : LastBorrow) → l ≡ r
+      → record { slots = noted r settled.slots; rooms = settled.rooms } ≡ now
+      → IsNoted r settled.slots → {i : ℕ} (within : i < length settled.slots) {d : EntryDetails}
+      → slice_get ls i ≡ Some d → (d' : EntryDetails) (f : Entry T → Entry T)
+      → ((e : StorageEntry T) → entry_of t.lists e d' ≡ f (entry_of t.lists e d))
+      → ((e : Entry T) → joining r (f e) ≡ f (joining r e))
+      → ((e : Entry T) → HasApart r (Some e) → HasApart r (Some (f e)))
+      → IsNoted l (entries_of t.lists es (slice_set ls i d'))
+      × (noted l (entries_of t.lists es (slice_set ls i d')) ≡ change_entry now.slots i f)
+  details_noted {settled = settled} s r l same view alone {i} within at d' f becomes order keeps =
+      rw (same, details_changed s within at d' f becomes) (
+        alone_order r settled.slots i f alone keeps,
+        noted_order r settled.slots i f order
+            ∙ ap (λ (x : EntryList T). change_entry x.slots i f) view,
+      )
 
   -- one more slot
   pub noted_pushed : (r : LastBorrow) (slots : List (Entry T)) (x : Entry T) → IsNoted r slots

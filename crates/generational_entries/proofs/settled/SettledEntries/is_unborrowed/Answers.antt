@@ -1,0 +1,35 @@
+use Rattle.std.proofs.Common.{arith, refl, ◌≡◌, is_none, true, false}
+use Rattle.generational_core.specs.Borrowing.{write_refusal}
+use Rattle.generational_entries.specs.Entry.{content_in}
+use Rattle.generational_entries.proofs.states.Entries.{kept, many, no_trouble, says, read_test}
+use Rattle.generational_entries.proofs.states.Entries.{read_slot}
+use Rattle.generational_entries.specs.Entries.{index_of}
+use Rattle.generational_containers.specs.Table.{list_at}
+use Rattle.generational_entries.proofs.settled.SettledEntries.is_unborrowed.Goals as goal
+
+pub index-requires : goal.index-requires
+index-requires g c =
+    let same = many (kept c.self.view_is c.self.invariant) in
+    omega (arith, c.requires, c.self.inside.entries.ok.0)
+
+pub returns-in-Read : goal.returns-in-Read
+returns-in-Read g c =
+    let s = kept c.self.view_is c.self.invariant in
+    let there = read_slot s c.requires _ c.self.inside.entries.ok.0 c.index.ensures in
+    says s c.args.slot _ there (λ e. false ≡ is_none (write_refusal (content_in e.kept)))
+    (λ l. rw c.in-Read.is (read_test s c.args.slot _ there _ _ _ c.in-Read.is))
+
+pub returns-in_default : goal.returns-in_default
+returns-in_default g c =
+    let s = kept c.self.view_is c.self.invariant in
+    let there = read_slot s c.requires _ c.self.inside.entries.ok.0 c.index.ensures in
+    says s c.args.slot _ there (λ e. true ≡ is_none (write_refusal (content_in e.kept)))
+    (λ l. rw (no_trouble (list_at c.self.inside.borrows.lists (index_of c.index.result.now.content)) l.created_at c.index.result.now.content c.in_default.not-Read
+    c.in_default.not-Lent) refl)
+
+pub returns-in-Lent : goal.returns-in-Lent
+returns-in-Lent g c =
+    let s = kept c.self.view_is c.self.invariant in
+    let there = read_slot s c.requires _ c.self.inside.entries.ok.0 c.index.ensures in
+    says s c.args.slot _ there (λ e. false ≡ is_none (write_refusal (content_in e.kept)))
+    (λ l. rw c.in-Lent.is refl)

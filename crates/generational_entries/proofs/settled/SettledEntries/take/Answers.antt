@@ -1,0 +1,63 @@
+-- A value that is taken out.
+use Rattle.std.proofs.Common.{arith, refl, sym, ap, ◌≡◌, ◌∙◌, true, [], Some}
+use Rattle.std.proofs.lemmas.List.{length-set}
+use Rattle.generational_core.specs.Cells.Content.{Here}
+use Rattle.generational_entries.specs.Entry.{content_in, has_no_borrow}
+use Rattle.generational_entries.specs.Entries.{unread_in}
+use Rattle.generational_containers.proofs.lists.Lists.{set_written}
+use Rattle.generational_entries.proofs.states.Entries.{alone, hears, kept, list_none, many}
+use Rattle.generational_entries.proofs.states.Entries.{read_slot}
+use Rattle.generational_entries.proofs.states.Entries.{roomy_still, says}
+use Rattle.generational_entries.proofs.states.Indexes.{indexed_free, set_no_shorter}
+use Rattle.generational_entries.proofs.states.SlotWrites.{view_changed}
+use Rattle.generational_entries.proofs.settled.SettledEntries.take.Goals as goal
+
+pub index_mut-requires : goal.index_mut-requires
+index_mut-requires g c =
+    let same = many (kept c.self.view_is c.self.invariant) in
+    omega (arith, c.requires.within, c.self.inside.entries.ok.0)
+
+pub lend-requires : goal.lend-requires
+lend-requires g c =
+    let s = kept c.self.view_is c.self.invariant in
+    let there = read_slot s c.requires.within _ c.self.inside.entries.ok.0
+    c.index_mut.ensures.value in
+    let a = alone s c.args.slot _ there _
+    (hears s c.args.slot _ there (λ e. has_no_borrow (content_in e.kept) ≡ true) c.requires.free) in
+    rw a.2 refl
+
+pub invariant_of-self : goal.invariant_of-self
+invariant_of-self g c =
+    let s = kept c.self.view_is c.self.invariant in
+    let there = read_slot s c.requires.within _ c.self.inside.entries.ok.0
+    c.index_mut.ensures.value in
+    let a = alone s c.args.slot _ there _
+    (hears s c.args.slot _ there (λ e. has_no_borrow (content_in e.kept) ≡ true) c.requires.free) in (
+      indexed_free (set_written _ c.args.slot _ _ there) s.indexed
+          (rw (c.lend.ensures.lent, a.2) tt) (set_no_shorter _ c.args.slot _)
+          (rw (there, a.2) refl) (rw (c.lend.ensures.lent, a.2) refl),
+      c.self.invariant.1 ∙ sym (length-set c.self.inside.entries.items c.args.slot _),
+      roomy_still c.self.invariant.2 (length-set c.self.inside.entries.items c.args.slot _) refl,
+    )
+
+pub returns-clause-value : goal.returns-clause-value
+returns-clause-value g c =
+    let s = kept c.self.view_is c.self.invariant in
+    let there = read_slot s c.requires.within _ c.self.inside.entries.ok.0
+    c.index_mut.ensures.value in
+    let a = alone s c.args.slot _ there _
+    (hears s c.args.slot _ there (λ e. has_no_borrow (content_in e.kept) ≡ true) c.requires.free) in
+    let same : Some a.1 ≡ Some c.lend.result = sym (ap unread_in a.2) ∙ c.lend.ensures.value in
+    let value : c.lend.result ≡ a.1 = cc in
+    says s c.args.slot _ there (λ e. content_in e.kept ≡ Some (Here c.lend.result []))
+    (λ l. rw (a.2, value) refl)
+
+pub returns-clause-after : goal.returns-clause-after
+returns-clause-after g c =
+    let s = kept c.self.view_is c.self.invariant in
+    let there = read_slot s c.requires.within _ c.self.inside.entries.ok.0
+    c.index_mut.ensures.value in
+    let a = alone s c.args.slot _ there _
+    (hears s c.args.slot _ there (λ e. has_no_borrow (content_in e.kept) ≡ true) c.requires.free) in
+    view_changed s c.args.slot _ there _ _ _ (λ k other. refl)
+    (λ l. rw (c.lend.ensures.lent, a.2, list_none s) refl)
