@@ -1,13 +1,13 @@
 //! The proved callers of the crate `uses`, run: docs/CALLING.md shows them.
 
-ghost use Rattle.generational_core.specs.Conditions.{IsFresh};
-
+use crate::expected::leak;
+use crate::fresh::{Scenario, play};
 use generational_box::{
     BoxAt, Call, GenerationalBox, LastFirst, Location, OldestFirst, Reply, Session, Storage, Store,
     UnsyncStorage,
 };
 use std::alloc::Global;
-use std::test::Fail;
+use std::process::Abort;
 use uses::conditions::{exchange, read_free, set_and_read, set_value};
 use uses::kinds::{Entry, toggle};
 use uses::owned::end_owned;
@@ -29,18 +29,32 @@ fn value_by_itself<S: Storage<u64>>(store: &mut S) -> Option<(u64, (u64, u64))> 
     Some((written, replaced))
 }
 
-/// A value is set, read and exchanged under conditions; while a reader stands there, it is neither
-/// set nor exchanged.
-fn value_under_conditions<S: Storage<u64>>(store: &mut S) -> Option<([u64; 3], bool)> {
-    let made = GenerationalBox::leak(store, 3, here()).ok()?;
+/// A value is set and read, and then exchanged for another, under conditions.
+fn value_under_conditions<S: Storage<u64>>(
+    store: &mut S,
+    made: GenerationalBox<u64>,
+) -> Option<(u64, u64)> {
     set_value(store, made, 4)?;
     let set = set_and_read(store, made, 5, here())?;
     let old = exchange(store, made, 6, here())?;
+    Some((set, old))
+}
+
+/// Whether a value is neither set nor exchanged.
+fn stays<S: Storage<u64>>(store: &mut S, made: GenerationalBox<u64>) -> bool {
+    set_value(store, made, 9).is_none() && exchange(store, made, 9, here()).is_none()
+}
+
+/// Whether a value stays while a reader stands there; and the value that is read after that.
+fn value_under_reader<S: Storage<u64>>(
+    store: &mut S,
+    made: GenerationalBox<u64>,
+) -> Option<(bool, u64)> {
     let guard = made.try_read(store, here()).ok()?;
-    let refused = set_value(store, made, 9).is_none() && exchange(store, made, 9, here()).is_none();
+    let stayed = stays(store, made);
     guard.release(store);
     let seen = read_free(store, made, here())?;
-    Some(([set, old, seen], refused))
+    Some((stayed, seen))
 }
 
 /// Whether an owner's value can be read after the owner's release.
@@ -86,32 +100,10 @@ fn turned_flag<S: Storage<Entry>>(store: &mut S) -> Option<bool> {
     on
 }
 
-/// How many of the replies to a read and a write of an ended box are errors.
-fn ended_in_session<S: Storage<u64> + Drop>(alloc: Global, store: S) -> Option<usize>
-    requires { IsFresh (S.state store) }
-{
-    let mut session = Session::new(alloc, store);
-    let made = session.call(Call::Leak(6, here())).is_ok();
-    let ended = session.call(Call::ManuallyDrop(BoxAt::Place(0))).is_ok();
-    let replies = ask_for_ended(alloc, &mut session, 0, here());
-    session.finish();
-    if made && ended {
-        Some(count_errors(&replies?))
-    } else {
-        None
-    }
-}
-
-/// Whether a value is kept and read in a session, and whether it is ended under its reader.
-fn carried_out<S: Storage<u64> + Drop>(alloc: Global, store: S) -> (bool, bool, bool)
-    requires { IsFresh (S.state store) }
-{
-    let mut session = Session::new(alloc, store);
-    let kept = carries_out(&mut session, Call::Leak(6, here()));
-    let read = carries_out(&mut session, Call::TryRead(BoxAt::Place(0), here()));
-    let ended = carries_out(&mut session, Call::ManuallyDrop(BoxAt::Place(0)));
-    session.finish();
-    (kept, read, ended)
+/// How many of the replies to a read and a write of the box at place 0 are errors.
+fn errors_of_ended<S: Storage<u64>>(alloc: Global, session: &mut Session<u64, S>) -> Option<usize> {
+    let replies = ask_for_ended(alloc, session, 0, here())?;
+    Some(count_errors(&replies))
 }
 
 fn count_errors(replies: &Vec<Reply<u64>>) -> usize {
@@ -121,46 +113,88 @@ fn count_errors(replies: &Vec<Reply<u64>>) -> usize {
         .count()
 }
 
-#[test]
-fn values_are_there_and_back(rt: HostRuntime) -> Result<(), Fail> {
-    assert_eq!(rt; there_and_back(rt.alloc(), 7), Some(7));
-    let mut store = UnsyncStorage::new(rt.alloc(), 1);
-    assert_eq!(rt; value_by_itself(&mut store), Some((8, (8, 9))));
-    Ok(())
+/// Asserts whether a call is carried out.
+fn assert_carried_out<S: Storage<u64>>(
+    rt: &impl Abort,
+    session: &mut Session<u64, S>,
+    call: Call<u64>,
+    done: bool,
+) {
+    assert!(rt; carries_out(session, call) == done);
+}
+
+/// A value is kept and read, isn't ended under its reader, and is ended after that.
+fn assert_calls<S: Storage<u64>>(rt: &impl Abort, alloc: Global, session: &mut Session<u64, S>) {
+    assert_carried_out(rt, session, Call::Leak(6, here()), true);
+    assert_carried_out(rt, session, Call::TryRead(BoxAt::Place(0), here()), true);
+    assert_carried_out(rt, session, Call::ManuallyDrop(BoxAt::Place(0)), false);
+    assert_carried_out(rt, session, Call::Release(1), true);
+    assert_carried_out(rt, session, Call::ManuallyDrop(BoxAt::Place(0)), true);
+    assert_eq!(rt; errors_of_ended(alloc, session), Some(2));
+}
+
+struct Values;
+
+impl Scenario<u64> for Values {
+    fn play<R: Abort, S: Storage<u64>>(rt: &R, alloc: Global, store: &mut S) {
+        assert_eq!(rt; there_and_back(alloc, 7), Some(7));
+        assert_eq!(rt; value_by_itself(store), Some((8, (8, 9))));
+        assert_eq!(rt; owned_value(store), Some(None));
+        assert_eq!(rt; shared_values(store), Some((2, 5)));
+    }
 }
 
 #[test]
-fn values_under_conditions(rt: HostRuntime) -> Result<(), Fail> {
-    let mut store = UnsyncStorage::new(rt.alloc(), 1);
-    assert_eq!(rt; value_under_conditions(&mut store), Some(([5, 5, 6], true)));
-    Ok(())
+fn values_are_there_and_back(rt: HostRuntime) {
+    play::<u64, Values>(&rt, rt.alloc());
+}
+
+struct Conditions;
+
+impl Scenario<u64> for Conditions {
+    fn play<R: Abort, S: Storage<u64>>(rt: &R, _: Global, store: &mut S) {
+        let made = leak(rt, store, 3, here());
+        assert_eq!(rt; value_under_conditions(store, made), Some((5, 5)));
+        assert_eq!(rt; value_under_reader(store, made), Some((true, 6)));
+    }
 }
 
 #[test]
-fn tables_over_both_pools(rt: HostRuntime) -> Result<(), Fail> {
-    let rows = Some([Some(3), None, Some(5), None]);
+fn values_under_conditions(rt: HostRuntime) {
+    play::<u64, Conditions>(&rt, rt.alloc());
+}
+
+/// Asserts what the rows of a table show.
+fn assert_rows<S: Storage<u64> + Drop>(rt: &impl Abort, alloc: Global, store: S) {
+    let rows = [Some(3), None, Some(5), None];
+    assert_eq!(rt; rows_of_table(alloc, store), Some(rows));
+}
+
+#[test]
+fn tables_over_both_pools(rt: HostRuntime) {
     let last: Store<u64, LastFirst> = Store::new(rt.alloc(), 1);
-    assert_eq!(rt; rows_of_table(rt.alloc(), last), rows);
+    assert_rows(&rt, rt.alloc(), last);
     let oldest: Store<u64, OldestFirst> = Store::new(rt.alloc(), 1);
-    assert_eq!(rt; rows_of_table(rt.alloc(), oldest), rows);
-    Ok(())
+    assert_rows(&rt, rt.alloc(), oldest);
+}
+
+struct AFlag;
+
+impl Scenario<Entry> for AFlag {
+    fn play<R: Abort, S: Storage<Entry>>(rt: &R, _: Global, store: &mut S) {
+        assert_eq!(rt; turned_flag(store), Some(true));
+    }
 }
 
 #[test]
-fn owned_and_shared_values(rt: HostRuntime) -> Result<(), Fail> {
-    let mut store = UnsyncStorage::new(rt.alloc(), 1);
-    assert_eq!(rt; owned_value(&mut store), Some(None));
-    assert_eq!(rt; shared_values(&mut store), Some((2, 5)));
-    Ok(())
+fn kinds(rt: HostRuntime) {
+    play::<Entry, AFlag>(&rt, rt.alloc());
 }
 
 #[test]
-fn kinds_and_sessions(rt: HostRuntime) -> Result<(), Fail> {
-    let mut store = UnsyncStorage::new(rt.alloc(), 1);
-    assert_eq!(rt; turned_flag(&mut store), Some(true));
-    let fresh = UnsyncStorage::new(rt.alloc(), 2);
-    assert_eq!(rt; ended_in_session(rt.alloc(), fresh), Some(2));
-    let fresh = UnsyncStorage::new(rt.alloc(), 3);
-    assert_eq!(rt; carried_out(rt.alloc(), fresh), (true, true, false));
-    Ok(())
+fn sessions(rt: HostRuntime) {
+    let store: UnsyncStorage<u64> = Store::new(rt.alloc(), 1);
+    let mut session = Session::new(rt.alloc(), store);
+    assert_calls(&rt, rt.alloc(), &mut session);
+    let _store = session.finish();
 }

@@ -98,6 +98,11 @@ fn put_back<S: Storage<Counted>>(
     assert!(rt; guard.release(store).is_ok());
 }
 
+/// Writes a value in the place of a writer's.
+fn overwrite(guard: &mut GenerationalRefMut<Counted>, value: Counted) {
+    *guard.deref_mut() = value;
+}
+
 struct Writes;
 
 impl Scenario<Counted> for Writes {
@@ -112,7 +117,7 @@ impl Scenario<Counted> for Writes {
         assert_count(rt, &second, 2);
 
         let mut guard = begin_write(rt, store, only, written());
-        *guard.deref_mut() = another(rt, &first);
+        overwrite(&mut guard, another(rt, &first));
         assert_count(rt, &second, 1);
         put_back(rt, store, guard);
         assert_count(rt, &first, 2);
@@ -175,20 +180,24 @@ fn a_value_that_was_pointed_away_from(rt: HostRuntime) {
     play::<Counted, Turns>(&rt, rt.alloc());
 }
 
+/// Makes a box by nobody, one by an owner that is leaked, and a shared value with two references.
+fn fill<S: Storage<Counted>>(rt: &impl Abort, store: &mut S, value: &Counted) {
+    leak(rt, store, another(rt, value), made());
+    let owner = new_owner(rt, store);
+    insert(rt, store, &owner, another(rt, value), made());
+    owner.leak();
+    let shared = leak_rc(rt, store, another(rt, value), made());
+    leak_reference(rt, store, shared);
+    assert_count(rt, value, 4);
+}
+
 // What is live, what is shared and what is leaked by its owner goes with the store.
 #[test]
 fn values_of_a_store(rt: HostRuntime) {
-    let alloc = rt.alloc();
-    let value = counted(&rt, alloc);
+    let value = counted(&rt, rt.alloc());
     {
-        let mut store: UnsyncStorage<Counted> = Store::new(alloc, 7);
-        leak(&rt, &mut store, another(&rt, &value), made());
-        let owner = new_owner(&rt, &mut store);
-        insert(&rt, &mut store, &owner, another(&rt, &value), made());
-        owner.leak();
-        let shared = leak_rc(&rt, &mut store, another(&rt, &value), made());
-        leak_reference(&rt, &mut store, shared);
-        assert_count(&rt, &value, 4);
+        let mut store: UnsyncStorage<Counted> = Store::new(rt.alloc(), 7);
+        fill(&rt, &mut store, &value);
     }
     assert_count(&rt, &value, 1);
 }

@@ -3,8 +3,9 @@
 use crate::expected::{leak, made, made_later};
 use crate::fresh::{Scenario, play};
 use generational_box::{
-    AlreadyBorrowedError, AlreadyBorrowedMutError, BorrowError, BorrowMutError, Location, Refused,
-    StepCall, Storage, Store, StoreError, ValueDroppedError,
+    AlreadyBorrowedError, AlreadyBorrowedMutError, BorrowError, BorrowMutError,
+    GenerationalPointer, Location, Refused, StepCall, Storage, Store, StoreError,
+    ValueDroppedError,
 };
 use std::alloc::Global;
 use std::process::Abort;
@@ -12,6 +13,15 @@ use std::process::Abort;
 /// Asserts that two values aren't equal.
 fn assert_differ<T: PartialEq>(rt: &impl Abort, one: &T, other: &T) {
     assert!(rt; *one != *other && *other != *one);
+}
+
+/// Asserts that of several values each is equal to itself alone.
+fn assert_all_differ<T: PartialEq>(rt: &impl Abort, values: &[T]) {
+    for (place, one) in values.iter().enumerate() {
+        for (other_place, other) in values.iter().enumerate() {
+            assert!(rt; (*one == *other) == (place == other_place));
+        }
+    }
 }
 
 #[test]
@@ -30,24 +40,29 @@ fn read_at(rt: &impl Abort, alloc: Global, began: &[Location]) -> AlreadyBorrowe
 
 #[test]
 fn errors_at_other_locations(rt: HostRuntime) {
+    let (one, other) = (made(), made_later());
+    let gone = [ValueDroppedError::new(one), ValueDroppedError::new(other)];
+    assert_all_differ(&rt, &gone);
+    let written = [
+        AlreadyBorrowedMutError::new(one),
+        AlreadyBorrowedMutError::new(other),
+    ];
+    assert_all_differ(&rt, &written);
+}
+
+#[test]
+fn errors_of_other_readers(rt: HostRuntime) {
     let alloc = rt.alloc();
     let (one, other) = (made(), made_later());
-    assert_differ(
-        &rt,
-        &ValueDroppedError::new(one),
-        &ValueDroppedError::new(other),
-    );
-    assert_differ(
-        &rt,
-        &AlreadyBorrowedMutError::new(one),
-        &AlreadyBorrowedMutError::new(other),
-    );
-    let both = read_at(&rt, alloc, &[one, other]);
-    assert_eq!(rt; both, read_at(&rt, alloc, &[one, other]));
-    assert_differ(&rt, &both, &read_at(&rt, alloc, &[other, one]));
-    assert_differ(&rt, &both, &read_at(&rt, alloc, &[one]));
-    assert_differ(&rt, &both, &read_at(&rt, alloc, &[one, one]));
-    assert_differ(&rt, &both, &read_at(&rt, alloc, &[other, other]));
+    let read = [
+        read_at(&rt, alloc, &[one, other]),
+        read_at(&rt, alloc, &[other, one]),
+        read_at(&rt, alloc, &[one]),
+        read_at(&rt, alloc, &[one, one]),
+        read_at(&rt, alloc, &[other, other]),
+    ];
+    assert_all_differ(&rt, &read);
+    assert!(rt; read[0] == read_at(&rt, alloc, &[one, other]));
 }
 
 /// A value that is gone.
@@ -62,26 +77,23 @@ fn written(began: Location) -> BorrowError {
 
 #[test]
 fn errors_of_other_kinds(rt: HostRuntime) {
+    let (one, other) = (made(), made_later());
+    let asked = [gone(one), gone(other), written(one), written(other)];
+    assert_all_differ(&rt, &asked);
+}
+
+#[test]
+fn errors_of_writes_of_other_kinds(rt: HostRuntime) {
     let alloc = rt.alloc();
     let (one, other) = (made(), made_later());
-    assert_differ(&rt, &gone(one), &written(one));
-    assert_differ(&rt, &gone(one), &gone(other));
-    assert_differ(&rt, &written(one), &written(other));
-    let read = BorrowMutError::AlreadyBorrowed(read_at(&rt, alloc, &[one]));
-    assert_differ(&rt, &read, &BorrowMutError::from(gone(one)));
-    assert_differ(&rt, &read, &BorrowMutError::from(written(one)));
-    assert_differ(
-        &rt,
-        &BorrowMutError::from(gone(one)),
-        &BorrowMutError::from(written(one)),
-    );
-    assert_differ(
-        &rt,
-        &BorrowMutError::from(gone(one)),
-        &BorrowMutError::from(gone(other)),
-    );
-    let later = BorrowMutError::AlreadyBorrowed(read_at(&rt, alloc, &[other]));
-    assert_differ(&rt, &read, &later);
+    let asked = [
+        BorrowMutError::AlreadyBorrowed(read_at(&rt, alloc, &[one])),
+        BorrowMutError::AlreadyBorrowed(read_at(&rt, alloc, &[other])),
+        BorrowMutError::from(gone(one)),
+        BorrowMutError::from(gone(other)),
+        BorrowMutError::from(written(one)),
+    ];
+    assert_all_differ(&rt, &asked);
 }
 
 #[test]
@@ -104,30 +116,34 @@ fn refusals(rt: HostRuntime) {
     );
 }
 
-/// Asserts that recorded calls differ in their kind, their box and their location.
-struct AssertSteps;
+/// Asserts that recorded calls differ in their kind, their box, their location and their ticket.
+fn assert_steps(rt: &impl Abort, one: GenerationalPointer, other: GenerationalPointer) {
+    let calls = [
+        StepCall::Read(one, made()),
+        StepCall::Read(other, made()),
+        StepCall::Read(one, made_later()),
+        StepCall::ManuallyDrop(one),
+        StepCall::ManuallyDrop(other),
+        StepCall::Leak(made()),
+        StepCall::Leak(made_later()),
+        StepCall::ReleaseRead(0),
+        StepCall::ReleaseRead(1),
+    ];
+    assert_all_differ(rt, &calls);
+    assert!(rt; calls[0] == StepCall::Read(one, made()));
+}
 
-impl Scenario<u32> for AssertSteps {
+struct Steps;
+
+impl Scenario<u32> for Steps {
     fn play<R: Abort, S: Storage<u32>>(rt: &R, _: Global, store: &mut S) {
-        let one = leak(rt, store, 1, made()).pointer();
-        let other = leak(rt, store, 1, made()).pointer();
-        let read = StepCall::Read(one, made());
-        assert_eq!(rt; read, StepCall::Read(one, made()));
-        assert_differ(rt, &read, &StepCall::Read(other, made()));
-        assert_differ(rt, &read, &StepCall::Read(one, made_later()));
-        assert_differ(rt, &read, &StepCall::ManuallyDrop(one));
-        assert_differ(rt, &read, &StepCall::Leak(made()));
-        assert_differ(
-            rt,
-            &StepCall::ManuallyDrop(one),
-            &StepCall::ManuallyDrop(other),
-        );
-        assert_differ(rt, &StepCall::Leak(made()), &StepCall::Leak(made_later()));
-        assert_differ(rt, &StepCall::ReleaseRead(0), &StepCall::ReleaseRead(1));
+        let one = leak(rt, store, 1, made());
+        let other = leak(rt, store, 1, made());
+        assert_steps(rt, one.pointer(), other.pointer());
     }
 }
 
 #[test]
 fn recorded_calls(rt: HostRuntime) {
-    play::<u32, AssertSteps>(&rt, rt.alloc());
+    play::<u32, Steps>(&rt, rt.alloc());
 }

@@ -169,6 +169,7 @@ fn called<R: Files + AllocGlobal + Abort, S: Storage<u32>>(
     session: &mut Session<u32, S>,
     gauge: &mut Gauge,
 ) -> Result<(), Fail> {
+    let _reply = call(rt, session, Call::Leak(1, made()));
     for _ in 0..1_000 {
         ask(rt, session);
         gauge.look(rt)?;
@@ -182,7 +183,6 @@ fn places(rt: HostRuntime) -> Result<(), Fail> {
     let mut gauge = Gauge::new(&rt)?;
     let store: UnsyncStorage<u32> = Store::new(rt.alloc(), 7);
     let mut session = Session::new(rt.alloc(), store);
-    let _reply = call(&rt, &mut session, Call::Leak(1, made()));
     let looked = called(&rt, &mut session, &mut gauge);
     let _store = session.finish();
     looked?;
