@@ -43,16 +43,20 @@
 //! for want of memory: then a text stands on standard error, and the replies to all earlier lines
 //! were written, unless writing is what failed.
 //!
-//! With the words `fuzz SEED COUNT` no script is read. SEED is a number of 64 bits, and COUNT one up
-//! to 100000, both decimal, without sign or leading zeros. A list of COUNT calls is drawn from SEED,
-//! in which each kind of call can occur, and run over two stores: one takes the slot that was freed
-//! last, the other the one that has been free for the longest. One line tells how the replies
-//! compare, ids and numbers of slots aside:
+//! With the words `fuzz SEED COUNT` no script is read. SEED is a number of 64 bits, and COUNT one
+//! up to 100000, both decimal, without sign or leading zeros. A list of COUNT calls is drawn from
+//! SEED, in which each kind of call can occur. The calls also name places past the end, guards and
+//! owners that are spent, boxes that have ended, and boxes of other stores. The list is run over two
+//! stores: one takes the slot that was freed last, and begins at the first generation; the other
+//! takes the one that has been free for the longest, and begins at the last generation but one. One
+//! line tells how the replies compare, ids and numbers of slots aside. After each call each store
+//! should have no more slots than the most cells that were live at once, and the retired slots:
 //!
 //! | line           | what it says                                              | status |
 //! |----------------|-----------------------------------------------------------|--------|
 //! | `same`         | all replies are the same                                  | 0      |
-//! | `differs at N` | place N is the first whose replies differ, counted from 0 | 4      |
+//! | `differs at N` | place N is the first whose replies differ, or after which | 4      |
+//! |                | a store has too many slots, counted from 0                |        |
 //! | `refused at N` | memory refused a call at place N, and all before are same | 3      |
 #![tactic(auto)]
 

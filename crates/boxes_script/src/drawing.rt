@@ -13,11 +13,12 @@ const LATEST: usize = 16;
 const VALUES: [&str; 5] = ["", "a", "bc", "def", "three words here"];
 
 /// Draws a list of calls, each from eight words. Which calls it has depends on the words, and on
-/// the boxes of another store that may be named.
+/// the boxes of other stores that may be named.
 ///
 /// Every kind of call can occur. Most places that are named gave a box, an owner or a guard, if
 /// memory doesn't refuse it: perhaps one that is stale, or spent, or a reader where a writer is
-/// asked for. Some may have given anything, or lie past the end.
+/// asked for. Some were named by an earlier end or release, so most of them are stale or spent.
+/// Some may have given anything, and some lie past the end.
 pub fn fuzz_calls(
     alloc: Global,
     words: &[u32],
@@ -47,6 +48,10 @@ struct Drawing<'a> {
     boxes: Vec<usize>,
     owners: Vec<usize>,
     guards: Vec<usize>,
+    // the boxes that a call was to end, and the owners and guards that one was to spend
+    ended: Vec<usize>,
+    spent_owners: Vec<usize>,
+    spent_guards: Vec<usize>,
 }
 
 impl<'a> Drawing<'a> {
@@ -64,6 +69,9 @@ impl<'a> Drawing<'a> {
             boxes: Vec::new(alloc),
             owners: Vec::new(alloc),
             guards: Vec::new(alloc),
+            ended: Vec::new(alloc),
+            spent_owners: Vec::new(alloc),
+            spent_guards: Vec::new(alloc),
         }
     }
 
@@ -91,7 +99,7 @@ impl<'a> Drawing<'a> {
             0..=3 => self.leak(location),
             4..=6 => self.insert(location),
             7..=11 => self.borrow(location),
-            12..=14 => Ok(self.end()),
+            12..=14 => self.end(),
             _ => Ok(self.ask()),
         }
     }
@@ -149,20 +157,33 @@ impl<'a> Drawing<'a> {
             return Ok(Call::Set(self.box_at(), self.value()?));
         }
         let guard = self.guard();
-        Ok(match kind {
-            7 => Call::Replace(guard, self.value()?),
-            _ => Call::Release(guard),
-        })
+        if kind == 7 {
+            return Ok(Call::Replace(guard, self.value()?));
+        }
+        self.spent_guards.push(guard)?;
+        Ok(Call::Release(guard))
     }
 
     // An end, or a turn that may end a value.
-    fn end(&mut self) -> Call<String> {
-        match self.below(8) {
-            0 => Call::ReleaseOwner(self.owner()),
-            1 => Call::LeakOwner(self.owner()),
-            2 | 3 => Call::PointTo(self.box_at(), self.box_at()),
-            _ => Call::ManuallyDrop(self.box_at()),
+    fn end(&mut self) -> Result<Call<String>, AllocError> {
+        let kind = self.below(8);
+        if kind < 2 {
+            let owner = self.owner();
+            self.spent_owners.push(owner)?;
+            return Ok(if kind == 0 {
+                Call::ReleaseOwner(owner)
+            } else {
+                Call::LeakOwner(owner)
+            });
         }
+        let asked = self.box_at();
+        if kind < 4 {
+            return Ok(Call::PointTo(asked, self.box_at()));
+        }
+        if let BoxAt::Place(place) = &asked {
+            self.ended.push(*place)?;
+        }
+        Ok(Call::ManuallyDrop(asked))
     }
 
     // A question.
@@ -183,26 +204,28 @@ impl<'a> Drawing<'a> {
         String::from_str(self.alloc, value.unwrap_or(""))
     }
 
-    // A box: seldom a foreign one, or that of any place.
+    // A box: seldom a foreign one, or that of any place, or one that a call was to end.
     fn box_at(&mut self) -> BoxAt<String> {
         let word = self.word();
-        match (word % 16, of(self.strangers, word / 16)) {
+        let rest = word / 16;
+        match (word % 16, of(self.strangers, rest)) {
             (0, Some(stranger)) => BoxAt::Foreign(stranger),
-            (1, _) => BoxAt::Place(any(self.place, word / 16)),
-            _ => BoxAt::Place(latest(&self.boxes, self.place, word / 16)),
+            (1, _) => BoxAt::Place(any(self.place, rest)),
+            (2, _) => BoxAt::Place(latest(&self.ended, self.place, rest)),
+            _ => BoxAt::Place(latest(&self.boxes, self.place, rest)),
         }
     }
 
     // The place of an owner.
     fn owner(&mut self) -> usize {
         let word = self.word();
-        latest(&self.owners, self.place, word)
+        held(&self.owners, &self.spent_owners, self.place, word)
     }
 
     // The place of a guard.
     fn guard(&mut self) -> usize {
         let word = self.word();
-        latest(&self.guards, self.place, word)
+        held(&self.guards, &self.spent_guards, self.place, word)
     }
 }
 
@@ -212,10 +235,14 @@ fn of<X: Copy>(items: &[X], word: u32) -> Option<X> {
     items.get(index).copied()
 }
 
-// A place that a word picks: it may be this one, or the one after it.
+// A place that a word picks: as often one past the end as an earlier one.
 fn any(place: usize, word: u32) -> usize {
-    let end = place.saturating_add(2);
-    (word as usize).checked_rem(end).unwrap_or(0)
+    let picked = (word / 2) as usize;
+    if word % 2 == 0 {
+        place.saturating_add(picked % 4)
+    } else {
+        picked.checked_rem(place).unwrap_or(0)
+    }
 }
 
 // One of the latest places of a list that a word picks, or else any.
@@ -224,4 +251,14 @@ fn latest(places: &Vec<usize>, place: usize, word: u32) -> usize {
     let picked = (word as usize).checked_rem(count);
     let found = picked.and_then(|back| places.iter().rev().nth(back).copied());
     found.unwrap_or(any(place, word))
+}
+
+// One of the latest places of a list that a word picks: seldom of those that were spent, or any.
+fn held(places: &Vec<usize>, spent: &Vec<usize>, place: usize, word: u32) -> usize {
+    let rest = word / 16;
+    match word % 16 {
+        0 => any(place, rest),
+        1 | 2 => latest(spent, place, rest),
+        _ => latest(places, place, rest),
+    }
 }

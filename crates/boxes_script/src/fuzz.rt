@@ -1,57 +1,123 @@
 //! One list of calls over two stores that take free slots in different orders.
 
+ghost use Rattle.std.specs.Prelude.{◌≡◌};
 ghost use Rattle.generational_core.specs.Conditions.{IsFresh};
 
 use crate::drawing::{WORDS, fuzz_calls};
-use crate::verdict::{Verdict, compare};
 use crate::words::fuzz_words;
+use agreement::{Verdict, compare, is_bounded};
 use generational_box::{
-    Call, GenerationalBox, LastFirst, Location, OldestFirst, Reply, Session, Storage, Store,
-    UnsyncStorage,
+    Call, GenerationalBox, LastFirst, Location, Numbers, OldestFirst, Reply, Session, Storage,
+    Store, StoreError, UnsyncStorage,
 };
 use std::alloc::{AllocError, Global};
 
-/// How many boxes of another store there are.
+/// The number of both stores.
+const NUMBER: u64 = 1;
+
+/// Where the second store begins: a slot has two generations, and is never used again.
+const NEAR_THE_END: Numbers = Numbers {
+    generation: u64::MAX - 1,
+    ticket: 0,
+};
+
+/// How many boxes there are of each of the stores that stand beside.
 const STRANGERS: u32 = 4;
 
 /// Draws a list of this many calls from a seed, and compares how two stores of one number answer
-/// it, of which one takes the slot that was freed last, and the other the one that has been free
-/// for the longest.
+/// it. One takes the slot that was freed last, and begins at the first generation; the other takes
+/// the slot that has been free for the longest, and begins at the last generation but one.
 pub(crate) fn fuzz(alloc: Global, seed: u64, count: usize) -> Result<Verdict, AllocError> {
     let words = fuzz_words(alloc, seed, count.saturating_mul(WORDS)).map_err(|_| AllocError)?;
-    let strangers = strangers(alloc)?;
+    let mut strangers = Vec::new(alloc);
+    add_strangers(alloc, NUMBER + 1, &mut strangers)?;
+    add_strangers(alloc, NUMBER, &mut strangers)?;
     let calls = fuzz_calls(alloc, &words, &strangers)?;
-    let store: Store<String, LastFirst> = Store::new(alloc, 1);
-    let ones = replies(alloc, store, calls)?;
-    let calls = fuzz_calls(alloc, &words, &strangers)?;
-    let store: Store<String, OldestFirst> = Store::new(alloc, 1);
-    let others = replies(alloc, store, calls)?;
-    Ok(compare(&ones, &others))
+    let again = fuzz_calls(alloc, &words, &strangers)?;
+    let one: Store<String, LastFirst> = Store::new(alloc, NUMBER);
+    let other: Store<String, OldestFirst> = Store::new_at(alloc, NUMBER, NEAR_THE_END);
+    compare_stores(alloc, (one, calls), (other, again))
 }
 
-// Boxes of a store of number 2.
-fn strangers(alloc: Global) -> Result<Vec<GenerationalBox<String>>, AllocError> {
-    let mut store: UnsyncStorage<String> = Store::new(alloc, 2);
-    let mut boxes = Vec::new(alloc);
+// Adds boxes of a store of this number.
+fn add_strangers(
+    alloc: Global,
+    number: u64,
+    boxes: &mut Vec<GenerationalBox<String>>,
+) -> Result<(), AllocError> {
+    let mut store: UnsyncStorage<String> = Store::new(alloc, number);
     for line in 1..=STRANGERS {
         let value = String::from_str(alloc, "a stranger")?;
         let location = Location::new("stranger", line, 1);
         let made = GenerationalBox::leak(&mut store, value, location);
         boxes.push(made.map_err(|_| AllocError)?)?;
     }
-    Ok(boxes)
+    Ok(())
 }
 
-// How a store in which nothing was made answers the calls.
-fn replies<S: Storage<String> + Drop>(
+/// Compares how two stores in which nothing was made answer their lists of calls. Where a store has
+/// more slots after a call than the most cells that were live at once and the retired slots, it
+/// differs from the other at the place of that call.
+pub fn compare_stores<S: Storage<String> + Drop, R: Storage<String> + Drop>(
     alloc: Global,
-    store: S,
-    calls: Vec<Call<String>>,
-) -> Result<Vec<Reply<String>>, AllocError>
-    requires { IsFresh (S.state store) }
+    one: (S, Vec<Call<String>>),
+    other: (R, Vec<Call<String>>),
+) -> Result<Verdict, AllocError>
+    requires one { IsFresh (S.state one.0) }
+    requires other { IsFresh (R.state other.0) }
 {
-    let mut session = Session::new(alloc, store);
-    let ran = session.run(calls);
-    let _store = session.finish();
-    ran.map_err(|_| AllocError)
+    let ones = Answers::of(alloc, one.0, one.1)?;
+    let others = Answers::of(alloc, other.0, other.1)?;
+    let verdict = compare(&ones.replies, &others.replies);
+    Ok(verdict.or_breach(ones.breach).or_breach(others.breach))
+}
+
+/// How a store answers a list of calls.
+#[derive(Drop)]
+struct Answers {
+    replies: Vec<Reply<String>>,
+    // the first place after which there are too many slots
+    breach: Option<usize>,
+}
+
+impl Answers {
+    // How a store in which nothing was made answers the calls.
+    fn of<S: Storage<String> + Drop>(
+        alloc: Global,
+        store: S,
+        calls: Vec<Call<String>>,
+    ) -> Result<Answers, AllocError>
+        requires { IsFresh (S.state store) }
+    {
+        let mut answers = Answers {
+            replies: Vec::with_capacity(alloc, calls.len())?,
+            breach: None,
+        };
+        let mut session = Session::new(alloc, store);
+        let added = answers.add(&mut session, calls);
+        let _store = session.finish();
+        added?;
+        Ok(answers)
+    }
+
+    // Answers the calls in order. One whose place finds no memory is the last.
+    fn add<S: Storage<String>>(
+        &mut self,
+        session: &mut Session<String, S>,
+        calls: Vec<Call<String>>,
+    ) -> Result<(), AllocError> {
+        for (place, call) in calls.into_iter().enumerate() {
+            let Ok(reply) = session.call(call) else {
+                self.replies
+                    .push(Reply::Store(StoreError::OutOfMemory))
+                    .map_err(|_| AllocError)?;
+                return Ok(());
+            };
+            self.replies.push(reply).map_err(|_| AllocError)?;
+            if self.breach.is_none() && !is_bounded(session.store()) {
+                self.breach = Some(place);
+            }
+        }
+        Ok(())
+    }
 }

@@ -11,12 +11,11 @@ mod fuzz;
 mod lines;
 mod run;
 mod script;
-mod verdict;
 mod words;
 
 pub use crate::drawing::fuzz_calls;
 pub use crate::fault::Fault;
+pub use crate::fuzz::compare_stores;
 pub use crate::run::{boxes_run, report};
 pub use crate::script::{Script, write_reply};
-pub use crate::verdict::{Verdict, compare};
 pub use crate::words::fuzz_words;

@@ -3,7 +3,7 @@ use crate::fault::Fault;
 use crate::fuzz::fuzz;
 use crate::lines::Lines;
 use crate::script::Script;
-use crate::verdict::Verdict;
+use agreement::Verdict;
 use generational_box::{Storage, UnsyncStorage};
 use line_number::MOST_LINES;
 use std::alloc::Global;

@@ -12,7 +12,8 @@
 mod tests;
 
 use gbox_workloads::{
-    answer, churn, insert_and_read, own_and_release, point_often, read_often, write_often,
+    answer, churn, insert_and_read, own_and_release, point_often, read_often, read_together,
+    write_often,
 };
 use generational_box::UnsyncStorage;
 use std::alloc::Global;
@@ -99,4 +100,18 @@ pub extern "C" fn gbox_w6_u64(alloc: Global, n: u64, seed: u64) -> u64 {
 pub extern "C" fn gbox_w6_text(alloc: Global, n: u64, seed: u64) -> u64 {
     let mut store = UnsyncStorage::<String>::new(alloc, 1);
     answer(point_often(alloc, &mut store, n, seed))
+}
+
+/// w8 over numbers: values are read while others are borrowed.
+#[unsafe(no_mangle)]
+pub extern "C" fn gbox_w8_u64(alloc: Global, n: u64, seed: u64) -> u64 {
+    let mut store = UnsyncStorage::<u64>::new(alloc, 1);
+    answer(read_together(alloc, &mut store, n, seed))
+}
+
+/// w8 over texts.
+#[unsafe(no_mangle)]
+pub extern "C" fn gbox_w8_text(alloc: Global, n: u64, seed: u64) -> u64 {
+    let mut store = UnsyncStorage::<String>::new(alloc, 1);
+    answer(read_together(alloc, &mut store, n, seed))
 }

@@ -1,7 +1,7 @@
 //! The checksums that generational-box 0.7.10 and slotmap answer for the same workloads.
 use crate::{
     gbox_w1_text, gbox_w1_u64, gbox_w2_text, gbox_w2_u64, gbox_w3_text, gbox_w3_u64, gbox_w4_text,
-    gbox_w4_u64, gbox_w5_text, gbox_w5_u64, gbox_w6_text, gbox_w6_u64,
+    gbox_w4_u64, gbox_w5_text, gbox_w5_u64, gbox_w6_text, gbox_w6_u64, gbox_w8_text, gbox_w8_u64,
 };
 
 const N: u64 = 100;
@@ -26,6 +26,14 @@ fn texts_are_those_of_other_stores(rt: HostRuntime) {
     assert_eq!(rt; gbox_w4_text(rt.alloc(), N, SEED), 13250621175994697878);
     assert_eq!(rt; gbox_w5_text(rt.alloc(), N, SEED), 8511890446508880851);
     assert_eq!(rt; gbox_w6_text(rt.alloc(), N, SEED), 1682454262685737210);
+}
+
+// The checksums are those of a list of values that is drawn from in the same order.
+#[test]
+fn values_are_read_together(rt: HostRuntime) {
+    assert_eq!(rt; gbox_w8_u64(rt.alloc(), N, SEED), 10377113825148676396);
+    assert_eq!(rt; gbox_w8_text(rt.alloc(), N, SEED), 2250626866361919958);
+    assert_eq!(rt; gbox_w8_u64(rt.alloc(), 1000, SEED), 684516486945130297);
 }
 
 #[test]

@@ -60,6 +60,35 @@ pub(crate) fn read<E: Element, S: Storage<E>>(
     digest.ok_or(Stopped)
 }
 
+/// The digests of two boxes' values. The first is borrowed still while the second is read.
+#[inline(always)]
+pub(crate) fn read_two<E: Element, S: Storage<E>>(
+    store: &mut S,
+    keys: (GenerationalBox<E>, GenerationalBox<E>),
+) -> Result<(u64, u64), Stopped> {
+    let guard = keys.0.try_read(store, here())?;
+    let digest = guard.deref(store).map(|value| value.digest());
+    let other = read(store, keys.1);
+    guard.release(store);
+    Ok((digest.ok_or(Stopped)?, other?))
+}
+
+/// The digests of three boxes' values. The first is borrowed still while the others are read, and
+/// the second while the third is.
+#[inline(always)]
+pub(crate) fn read_three<E: Element, S: Storage<E>>(
+    store: &mut S,
+    key: GenerationalBox<E>,
+    others: (GenerationalBox<E>, GenerationalBox<E>),
+) -> Result<(u64, u64, u64), Stopped> {
+    let guard = key.try_read(store, here())?;
+    let digest = guard.deref(store).map(|value| value.digest());
+    let read = read_two(store, others);
+    guard.release(store);
+    let (second, third) = read?;
+    Ok((digest.ok_or(Stopped)?, second, third))
+}
+
 /// The digest of a box's value, in whose place another is put.
 #[inline(always)]
 pub(crate) fn write<E: Element, S: Storage<E>>(

@@ -13,5 +13,6 @@ mod workloads;
 pub use crate::calls::Stopped;
 pub use crate::element::Element;
 pub use crate::workloads::{
-    answer, churn, insert_and_read, own_and_release, point_often, read_often, write_often,
+    answer, churn, insert_and_read, own_and_release, point_often, read_often, read_together,
+    write_often,
 };

@@ -4,7 +4,8 @@ ghost use Rattle.std.specs.Prelude.{◌+◌, ◌*◌, ◌<◌, ◌≡◌, ◌≤
 ghost use Rattle.std.specs.Prelude.{vec_len};
 
 use crate::calls::{
-    Stopped, end, insert, make, make_shared, new_owner, point, read, refer, release, write,
+    Stopped, end, insert, make, make_shared, new_owner, point, read, read_three, read_two, refer,
+    release, write,
 };
 use crate::element::Element;
 use crate::random::Random;
@@ -141,6 +142,24 @@ pub fn point_often<E: Element, S: Storage<E>>(
     Ok(checksum)
 }
 
+/// w8: values are made; as many times as there are, two are read that are borrowed at once, and then
+/// three; each is ended.
+#[inline(always)]
+pub fn read_together<E: Element, S: Storage<E>>(
+    alloc: Global,
+    store: &mut S,
+    n: u64,
+    seed: u64,
+) -> Result<u64, Stopped> {
+    let n = count(n)?;
+    let mut random = Random::new(seed);
+    let keys = make_many(alloc, store, &mut random, n)?;
+    let pairs = read_pairs(store, &mut random, &keys)?;
+    let checksum = read_triples(store, &mut random, &keys, pairs)?;
+    end_each(store, &keys)?;
+    Ok(checksum)
+}
+
 // How many values there are to be. For more than so many no memory would be found.
 fn count(n: u64) -> Result<usize, Stopped>
     ensures { IfOk result (λ count. count < 4294967296) }
@@ -251,6 +270,46 @@ fn read_some<E: Element, S: Storage<E>>(
     for _read in 0..keys.len() {
         let key = keys[random.below(keys.len())];
         checksum = mix(checksum, read(store, key)?);
+    }
+    Ok(checksum)
+}
+
+// Reads two values that are drawn, with both borrowed at once, as often as there are keys.
+#[inline(always)]
+fn read_pairs<E: Element, S: Storage<E>>(
+    store: &mut S,
+    random: &mut Random,
+    keys: &[GenerationalBox<E>],
+) -> Result<u64, Stopped>
+    requires { length keys.now < 4294967296 }
+{
+    let mut checksum = START;
+    for _read in 0..keys.len() {
+        let first = keys[random.below(keys.len())];
+        let second = keys[random.below(keys.len())];
+        let seen = read_two(store, (first, second))?;
+        checksum = mix(mix(checksum, seen.0), seen.1);
+    }
+    Ok(checksum)
+}
+
+// Reads three values that are drawn, with all borrowed at once, as often as there are keys.
+#[inline(always)]
+fn read_triples<E: Element, S: Storage<E>>(
+    store: &mut S,
+    random: &mut Random,
+    keys: &[GenerationalBox<E>],
+    checksum: u64,
+) -> Result<u64, Stopped>
+    requires { length keys.now < 4294967296 }
+{
+    let mut checksum = checksum;
+    for _read in 0..keys.len() {
+        let first = keys[random.below(keys.len())];
+        let second = keys[random.below(keys.len())];
+        let third = keys[random.below(keys.len())];
+        let seen = read_three(store, first, (second, third))?;
+        checksum = mix(mix(mix(checksum, seen.0), seen.1), seen.2);
     }
     Ok(checksum)
 }

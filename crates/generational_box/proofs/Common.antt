@@ -4,8 +4,6 @@ pub use Rattle.generational_entries.specs.Entry.{has_no_borrow}
 pub use Rattle.generational_containers.specs.OwnerRecords.{AreCounted, IsCounted, IsRefusal}
 pub use Rattle.generational_containers.specs.OwnerRecords.{add_to_list_in, knows}
 pub use Rattle.generational_containers.specs.OwnerRecords.{IsListed, knows_any, record_of}
-pub use Rattle.generational_slots.specs.Slotted.{IsRefused}
-pub use Rattle.generational_containers.specs.OwnerRecords.{one_relisted, relist_in}
 pub use Rattle.generational_slots.specs.Slotted.{IsMade}
 pub use Rattle.generational_slots.specs.Slotted.{Slotted}
 pub use Rattle.generational_slots.specs.Slotted.{with_records}

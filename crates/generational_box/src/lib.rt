@@ -14,7 +14,6 @@
 #![tactic(auto)]
 
 mod ids;
-mod refusals;
 mod unsync;
 
 pub use crate::unsync::{Numbers, Store, UnsyncStorage};
@@ -25,4 +24,4 @@ pub use generational_core::{
     GenerationalRef, GenerationalRefMut, Location, Mut, MutPart, Owner, Ref, Refusal, Refused,
     StepCall, Storage, StoreError, ValueDroppedError,
 };
-pub use generational_sessions::{BoxAt, Call, Reply, Session, laws};
+pub use generational_sessions::{BoxAt, Call, Reply, Session, caller_laws, laws};

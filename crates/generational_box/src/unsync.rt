@@ -12,7 +12,6 @@ ghost use Rattle.generational_entries.specs.Entries.{IsUnborrowed, kept_data, ta
 ghost use Rattle.generational_slots.specs.Slotted.{IsMade, with_records};
 
 use crate::ids::{cell_name, id_in, pointer_in};
-use crate::refusals::{dropped, dropped_at, dropped_mut, lent, lent_mut};
 use generational_containers::names::CellName;
 use generational_containers::owners::OwnerRecords;
 use generational_containers::pool::{LastFirst, SlotPool};
@@ -20,21 +19,16 @@ use generational_core::parts::{
     Borrow, id_read, into_reader, into_writer, key_of, owner_at, reader_at, writer_at,
 };
 use generational_core::{
-    AnyStorage, BorrowMutError, BorrowMutResult, BorrowResult, GenerationalBoxId,
-    GenerationalPointer, GenerationalRef, GenerationalRefMut, Location, Owner, Refusal, Refused,
-    StepCall, Storage, StoreError,
+    AnyStorage, BorrowMutError, BorrowMutResult, BorrowResult, GenerationalPointer,
+    GenerationalRef, GenerationalRefMut, Location, Owner, Refusal, Refused, StepCall, Storage,
+    StoreError,
 };
 use generational_entries::entry::{Kind, StorageEntryData};
+use generational_slots::refusals::{dropped, dropped_mut};
 use generational_slots::slots::Slots;
 use std::alloc::Global;
 use std::fmt;
 use std::marker::Model;
-
-// Stands in an owner's list for a name that isn't known yet.
-const NOBODY: CellName = CellName {
-    slot: 0,
-    generation: 0,
-};
 
 /// A store of values of one type in recycled slots. Contracts see it as the state of the abstract
 /// machine, with the proofs that the state is sound and that its slots are bounded. `P` chooses
@@ -48,8 +42,8 @@ pub struct Store<T, P: SlotPool> {
     next: u64,
     slots: Slots<T, P>,
     owners: OwnerRecords,
-    ghost sound: { IsSound (with_records slots.state number owners next) } by { IsSound-prop (with_records slots.state number owners next) },
-    ghost bounded: { IsBounded (with_records slots.state number owners next) } by { IsBounded-prop (with_records slots.state number owners next) },
+    ghost sound: { IsSound (with_records slots.state number owners.owners next) } by { IsSound-prop (with_records slots.state number owners.owners next) },
+    ghost bounded: { IsBounded (with_records slots.state number owners.owners next) } by { IsBounded-prop (with_records slots.state number owners.owners next) },
 }
 
 /// The store that takes the slot that was freed last.
@@ -68,12 +62,12 @@ impl<T, P: SlotPool> Model for Store<T, P> {
     ghost coded = { coded_via (Prim.hlevel (codes, map.code)) (λ s. s.state) same_sound };
 
     ghost view = { λ s. record {
-      state = with_records s.slots.state s.number s.owners s.next;
+      state = with_records s.slots.state s.number s.owners.owners s.next;
       sound = s.sound;
       bounded = s.bounded;
     } };
 
-    ghost invariant = { λ s. AreCounted s.next s.owners };
+    ghost invariant = { λ s. AreCounted s.next s.owners.owners };
 }
 
 // A store goes in a function of its own: LLVM follows few uses of a local variable, and what it
@@ -147,12 +141,11 @@ impl<T: Drop, P: SlotPool> fmt::Debug for Store<T, P> {
     ghost debug_output = { λ s. Some (store_text s.state) };
 
     fn fmt<W: fmt::Write>(&self, f: &mut fmt::Formatter<W>) -> fmt::Result {
+        let counts = self.slots.counts();
         write!(
             f,
             "store {}: {} slots, {} free",
-            self.number,
-            self.slots.slots(),
-            self.slots.free()
+            self.number, counts.slots, counts.free
         )
     }
 }
@@ -174,19 +167,19 @@ impl<T: Drop, P: SlotPool> AnyStorage<T> for Store<T, P> {
     }
 
     fn slots(&self) -> usize {
-        self.slots.slots()
+        self.slots.counts().slots
     }
 
     fn free(&self) -> usize {
-        self.slots.free()
+        self.slots.counts().free
     }
 
     fn retired(&self) -> usize {
-        self.slots.retired()
+        self.slots.counts().retired
     }
 
     fn peak_live(&self) -> usize {
-        self.slots.peak_live()
+        self.slots.counts().peak_live
     }
 
     fn tickets_left(&self) -> u64 {
@@ -244,10 +237,9 @@ impl<T: Drop, P: SlotPool> AnyStorage<T> for Store<T, P> {
     fn ready(&self, call: &StepCall) -> bool {
         match call {
             StepCall::Leak(_) | StepCall::ReleaseRead(_) => true,
-            StepCall::Read(pointer, _) => match self.reach(*pointer) {
-                Some(name) => self.slots.borrow_error(name).is_none(),
-                None => true,
-            },
+            StepCall::Read(pointer, _) => {
+                pointer.id.store != self.number || self.slots.may_read(cell_name(pointer.id))
+            }
             StepCall::ManuallyDrop(pointer) => {
                 pointer.id.store != self.number || self.slots.may_end(cell_name(pointer.id))
             }
@@ -256,18 +248,12 @@ impl<T: Drop, P: SlotPool> AnyStorage<T> for Store<T, P> {
 
     #[inline(always)]
     fn can_read(&self, pointer: GenerationalPointer) -> bool {
-        match self.reach(pointer) {
-            Some(name) => self.slots.borrow_error(name).is_none(),
-            None => false,
-        }
+        pointer.id.store == self.number && self.slots.can_read(cell_name(pointer.id))
     }
 
     #[inline(always)]
     fn can_write(&self, pointer: GenerationalPointer) -> bool {
-        match self.reach(pointer) {
-            Some(name) => self.slots.is_unborrowed(name),
-            None => false,
-        }
+        pointer.id.store == self.number && self.slots.can_write(cell_name(pointer.id))
     }
 
     #[inline(always)]
@@ -292,17 +278,20 @@ impl<T: Drop, P: SlotPool> Storage<T> for Store<T, P> {
         location: Location,
         owner: Option<&Owner>,
     ) -> Result<GenerationalPointer, Refusal<T>> {
+        let place = match self.owners.reserve(self.number, owner) {
+            Ok(place) => place,
+            Err(cause) => return Err(Refusal { value, cause }),
+        };
         let content = StorageEntryData::Data(Kind::Value, value);
-        match self
-            .slots
-            .make(content, location, &mut self.owners, self.number, owner)
-        {
-            Ok(name) => Ok(pointer_in(self.number, name, location)),
-            Err((content, cause)) => Err(Refusal {
-                value: content.into_value(),
-                cause,
-            }),
-        }
+        let name = match self.slots.make(content, location) {
+            Ok(name) => name,
+            Err(content) => {
+                let (value, cause) = (content.into_value(), StoreError::OutOfMemory);
+                return Err(Refusal { value, cause });
+            }
+        };
+        self.owners.list(place, name);
+        Ok(pointer_in(self.number, name, location))
     }
 
     fn new_rc(
@@ -311,18 +300,18 @@ impl<T: Drop, P: SlotPool> Storage<T> for Store<T, P> {
         location: Location,
         owner: Option<&Owner>,
     ) -> Result<GenerationalPointer, Refusal<T>> {
-        if self.slots.reserve_two().is_err() {
-            let cause = self.owners.lacking(self.number, owner);
-            return Err(Refusal { value, cause });
-        }
-        if let Err(cause) = self.owners.list_for(self.number, owner, NOBODY) {
+        let place = match self.owners.reserve(self.number, owner) {
+            Ok(place) => place,
+            Err(cause) => return Err(Refusal { value, cause }),
+        };
+        if let Err(cause) = self.slots.reserve_two() {
             return Err(Refusal { value, cause });
         }
         let content = StorageEntryData::Data(Kind::Shared, value);
-        let shared = make_alone(&mut self.slots, &mut self.owners, content, location);
+        let shared = make_reserved(&mut self.slots, content, location);
         let content = self.slots.reference_to(shared);
-        let reference = make_alone(&mut self.slots, &mut self.owners, content, location);
-        self.owners.relist_for(owner, reference);
+        let reference = make_reserved(&mut self.slots, content, location);
+        self.owners.list(place, reference);
         Ok(pointer_in(self.number, reference, location))
     }
 
@@ -334,19 +323,25 @@ impl<T: Drop, P: SlotPool> Storage<T> for Store<T, P> {
         if !self.knows(owner) {
             return Err(Refused::Store(StoreError::UnknownOwner));
         }
-        let shared = match self.shared_by(inner) {
+        if inner.id.store != self.number {
+            return Err(Refused::Borrow(dropped(inner.created_at)));
+        }
+        let shared = match self.slots.shared(cell_name(inner.id), inner.created_at) {
             Ok(shared) => shared,
-            Err(refused) => return Err(refused),
+            Err(error) => return Err(Refused::Borrow(error)),
+        };
+        let place = match self.owners.reserve(self.number, owner) {
+            Ok(place) => place,
+            Err(cause) => return Err(Refused::Store(cause)),
         };
         let created_at = self.slots.created_at(shared);
         let content = self.slots.reference_to(shared);
-        match self
-            .slots
-            .make(content, created_at, &mut self.owners, self.number, owner)
-        {
-            Ok(name) => Ok(pointer_in(self.number, name, created_at)),
-            Err((_, cause)) => Err(Refused::Store(cause)),
-        }
+        let name = match self.slots.make(content, created_at) {
+            Ok(name) => name,
+            Err(_) => return Err(Refused::Store(StoreError::OutOfMemory)),
+        };
+        self.owners.list(place, name);
+        Ok(pointer_in(self.number, name, created_at))
     }
 
     fn change_reference(
@@ -357,22 +352,18 @@ impl<T: Drop, P: SlotPool> Storage<T> for Store<T, P> {
         if pointer == other {
             return Ok(());
         }
-        let Some(new) = self.reach(other) else {
-            return Err(dropped_mut(other));
-        };
-        if let Some(writer) = self.slots.borrow_error(new) {
-            return Err(lent_mut(writer));
+        if other.id.store != self.number {
+            return Err(dropped_mut(other.created_at));
         }
-        let Some(old) = self.target(pointer) else {
-            if !self.holds(pointer.id) {
-                return Err(dropped_mut(pointer));
-            }
-            return Err(dropped_at(self.slots.created_at(new)));
+        let new = match self.slots.unlent(cell_name(other.id), other.created_at) {
+            Ok(new) => new,
+            Err(error) => return Err(Refused::Borrow(BorrowMutError::from(error))),
         };
-        if !self.is_shared(new) {
-            return Err(dropped_at(self.slots.created_at(new)));
+        if pointer.id.store != self.number {
+            return Err(dropped_mut(pointer.created_at));
         }
-        self.slots.turn(cell_name(pointer.id), old, new)
+        self.slots
+            .point(cell_name(pointer.id), pointer.created_at, new)
     }
 
     #[inline(always)]
@@ -382,9 +373,15 @@ impl<T: Drop, P: SlotPool> Storage<T> for Store<T, P> {
         location: Location,
     ) -> BorrowResult<GenerationalRef<T>> {
         self.slots.settle();
-        match self.readable(pointer) {
+        if pointer.id.store != self.number {
+            return Err(Refused::Borrow(dropped(pointer.created_at)));
+        }
+        match self
+            .slots
+            .readable(cell_name(pointer.id), pointer.created_at)
+        {
             Ok((name, is_alone)) => self.begin_read(pointer, name, location, is_alone),
-            Err(refused) => Err(refused),
+            Err(error) => Err(Refused::Borrow(error)),
         }
     }
 
@@ -395,7 +392,13 @@ impl<T: Drop, P: SlotPool> Storage<T> for Store<T, P> {
         location: Location,
     ) -> BorrowMutResult<GenerationalRefMut<T>> {
         self.settle();
-        match self.writable(pointer) {
+        if pointer.id.store != self.number {
+            return Err(dropped_mut(pointer.created_at));
+        }
+        match self
+            .slots
+            .writable(cell_name(pointer.id), pointer.created_at)
+        {
             Ok(name) => self.begin_write(pointer, name, location),
             Err(refused) => Err(refused),
         }
@@ -403,10 +406,7 @@ impl<T: Drop, P: SlotPool> Storage<T> for Store<T, P> {
 
     #[inline(always)]
     fn replace_value(&mut self, pointer: GenerationalPointer, value: T) -> T {
-        match self.reach(pointer) {
-            Some(name) => self.slots.replace(name, value),
-            None => unreachable!(),
-        }
+        self.slots.replace(cell_name(pointer.id), value)
     }
 
     #[inline(always)]
@@ -415,7 +415,7 @@ impl<T: Drop, P: SlotPool> Storage<T> for Store<T, P> {
             (back_answer result) self.new.state }
     {
         let (id, ticket, value) = into_writer(guard);
-        if self.holds(id) {
+        if id.store == self.number {
             return self.slots.release_write(cell_name(id), ticket, value);
         }
         Err(value)
@@ -424,7 +424,7 @@ impl<T: Drop, P: SlotPool> Storage<T> for Store<T, P> {
     #[inline(always)]
     fn open(&self, guard: &GenerationalRef<T>) -> Option<&T> {
         let id = id_read(guard);
-        if self.holds(id) {
+        if id.store == self.number {
             return self.slots.open(cell_name(id), guard.ticket());
         }
         None
@@ -435,147 +435,26 @@ impl<T: Drop, P: SlotPool> Storage<T> for Store<T, P> {
         ensures { Meets self.old.state (ReleaseReader guard) (Flag result) self.new.state }
     {
         let (id, ticket) = into_reader(guard);
-        self.holds(id) && self.slots.release_read(cell_name(id), ticket)
+        id.store == self.number && self.slots.release_read(cell_name(id), ticket)
     }
 }
 
 // What the calls ask and do.
 impl<T: Drop, P: SlotPool> Store<T, P> {
-    ghost use Rattle.std.specs.Prelude.{◌≡◌, true, None, Some, is_some, Option, option_map, IfOk};
-    ghost use Rattle.std.specs.Prelude.{IfErr, option_copied};
-    ghost use Rattle.std.specs.FinMap as map;
-    ghost use Rattle.generational_core.specs.Answers.{read_answer, write_answer, read_refused};
-    ghost use Rattle.generational_core.specs.Answers.{end_refused};
-    ghost use Rattle.generational_core.specs.Borrowing.{reach, read_refusal, read_trouble};
-    ghost use Rattle.generational_core.specs.Borrowing.{write_refusal};
-    ghost use Rattle.generational_core.specs.Cells.{content_of, is_shared};
-    ghost use Rattle.generational_core.specs.Machine.{is_known, own_cell, OwnerName};
-    ghost use Rattle.generational_core.specs.Machine.Action.{Refer, Read, Write};
+    ghost use Rattle.std.specs.Prelude.{◌≡◌, true, None, Some, option_copied};
+    ghost use Rattle.generational_core.specs.Answers.{read_answer, write_answer};
+    ghost use Rattle.generational_core.specs.Borrowing.{reach, read_refusal, write_refusal};
+    ghost use Rattle.generational_core.specs.Machine.{is_known};
+    ghost use Rattle.generational_core.specs.Machine.Action.{Read, Write};
     ghost use Rattle.generational_core.specs.State.{content_at};
     ghost use Rattle.generational_core.specs.Steps.{Meets};
-    ghost use Rattle.generational_entries.specs.Entry.{is_unborrowed_value, target_in};
     ghost use Rattle.generational_containers.specs.CellNames.{name_of_cell};
-    ghost use Rattle.generational_containers.specs.OwnerRecords.{knows_any};
-
-    // What the box reaches.
-    #[inline(always)]
-    fn reach(&self, pointer: GenerationalPointer) -> Option<CellName>
-        ensures { option_map name_of_cell result ≡ reach self.now.state pointer }
-    {
-        if pointer.id.store == self.number {
-            self.slots.reach(cell_name(pointer.id))
-        } else {
-            None
-        }
-    }
-
-    // The same. The paths that few calls take ask this.
-    #[inline(always)]
-    fn reach_apart(&self, pointer: GenerationalPointer) -> Option<CellName>
-        ensures { option_map name_of_cell result ≡ reach self.now.state pointer }
-    {
-        if pointer.id.store == self.number {
-            self.slots.reach_apart(cell_name(pointer.id))
-        } else {
-            None
-        }
-    }
-
-    // The shared value that the box reaches, unless a writer has it.
-    fn shared_by(&self, inner: GenerationalPointer) -> BorrowResult<CellName>
-        ensures ok { IfOk result (λ m. (reach self.now.state inner ≡ Some (name_of_cell m))
-            × (read_trouble self.now.state inner ≡ None)
-            × (is_shared (map.get self.now.state.cells (name_of_cell m)) ≡ true)) }
-        ensures err { IfErr result (λ e. (o : Option OwnerName) → is_known self.now.state o ≡ true →
-            Meets self.now.state (Refer o inner) (read_refused e) self.now.state) }
-    {
-        let Some(name) = self.reach(inner) else {
-            return Err(dropped(inner));
-        };
-        if let Some(writer) = self.slots.borrow_error(name) {
-            return Err(lent(writer));
-        }
-        if self.is_shared(name) {
-            return Ok(name);
-        }
-        Err(dropped(inner))
-    }
-
-    // Whether the cell of this name is a shared value, also one that is lent.
-    #[inline(always)]
-    fn is_shared(&self, name: CellName) -> bool
-        ensures { result ≡ is_shared (map.get self.now.state.cells (name_of_cell name)) }
-    {
-        matches!(self.slots.kind(name), Some(Kind::Shared))
-    }
-
-    // What the box's reference names, if its cell is one.
-    #[inline(always)]
-    fn target(&self, pointer: GenerationalPointer) -> Option<CellName>
-        ensures { option_map name_of_cell result ≡ target_in (own_cell self.now.state pointer.id) }
-    {
-        if pointer.id.store == self.number {
-            self.slots.target(cell_name(pointer.id))
-        } else {
-            None
-        }
-    }
-
-    // Whether the box's own cell is a value that isn't shared and has no borrow.
-    #[inline(always)]
-    fn has_unborrowed_value(&self, pointer: GenerationalPointer) -> bool
-        ensures { result ≡ is_unborrowed_value (own_cell self.now.state pointer.id) }
-    {
-        pointer.id.store == self.number && self.slots.has_unborrowed_value(cell_name(pointer.id))
-    }
-
-    // Whether a value has this id, also one that is lent.
-    #[inline(always)]
-    fn holds(&self, id: GenerationalBoxId) -> bool
-        ensures { result ≡ is_some (content_of (own_cell self.now.state id)) }
-    {
-        id.store == self.number && self.slots.holds(cell_name(id))
-    }
 
     // Whether the store knows the owner, if there is one.
     fn knows(&self, owner: Option<&Owner>) -> bool
         ensures { result ≡ is_known self.now.state (option_copied owner.entry) }
     {
         self.owners.knows_any(self.number, owner)
-    }
-
-    // The value that the box reaches, unless a writer has it, and whether it is known to have no
-    // borrow. A value that isn't shared and has no borrow is asked for first.
-    #[inline(always)]
-    fn readable(&self, pointer: GenerationalPointer) -> BorrowResult<(CellName, bool)>
-        ensures ok { IfOk result (λ r. (reach self.now.state pointer ≡ Some (name_of_cell r.0))
-            × (read_refusal (content_at self.now.state (name_of_cell r.0)) ≡ None)
-            × (r.1 ≡ true → write_refusal (content_at self.now.state (name_of_cell r.0)) ≡ None)) }
-        ensures err { IfErr result (λ e. (l : Location) →
-            Meets self.now.state (Read pointer l) (read_refused e) self.now.state) }
-    {
-        if self.has_unborrowed_value(pointer) {
-            return Ok((cell_name(pointer.id), true));
-        }
-        self.readable_any(pointer)
-    }
-
-    // The same, for every box.
-    #[inline(always)]
-    fn readable_any(&self, pointer: GenerationalPointer) -> BorrowResult<(CellName, bool)>
-        ensures ok { IfOk result (λ r. (reach self.now.state pointer ≡ Some (name_of_cell r.0))
-            × (read_refusal (content_at self.now.state (name_of_cell r.0)) ≡ None)
-            × (r.1 ≡ true → write_refusal (content_at self.now.state (name_of_cell r.0)) ≡ None)) }
-        ensures err { IfErr result (λ e. (l : Location) →
-            Meets self.now.state (Read pointer l) (read_refused e) self.now.state) }
-    {
-        let Some(name) = self.reach_apart(pointer) else {
-            return Err(dropped(pointer));
-        };
-        match self.slots.borrow_error(name) {
-            None => Ok((name, self.slots.is_unborrowed(name))),
-            Some(writer) => Err(lent(writer)),
-        }
     }
 
     // Begins a read of the value that the box reaches, and no writer has.
@@ -622,38 +501,6 @@ impl<T: Drop, P: SlotPool> Store<T, P> {
         self.number = number;
     }
 
-    // The value that the box reaches, unless a borrow stands there. A value that isn't shared and
-    // has no borrow is asked for first.
-    #[inline(always)]
-    fn writable(&self, pointer: GenerationalPointer) -> BorrowMutResult<CellName>
-        ensures ok { IfOk result (λ n. (reach self.now.state pointer ≡ Some (name_of_cell n))
-            × (write_refusal (content_at self.now.state (name_of_cell n)) ≡ None)) }
-        ensures err { IfErr result (λ e. (l : Location) →
-            Meets self.now.state (Write pointer l) (end_refused e) self.now.state) }
-    {
-        if self.has_unborrowed_value(pointer) {
-            return Ok(cell_name(pointer.id));
-        }
-        self.writable_any(pointer)
-    }
-
-    // The same, for every box.
-    #[inline(always)]
-    fn writable_any(&self, pointer: GenerationalPointer) -> BorrowMutResult<CellName>
-        ensures ok { IfOk result (λ n. (reach self.now.state pointer ≡ Some (name_of_cell n))
-            × (write_refusal (content_at self.now.state (name_of_cell n)) ≡ None)) }
-        ensures err { IfErr result (λ e. (l : Location) →
-            Meets self.now.state (Write pointer l) (end_refused e) self.now.state) }
-    {
-        let Some(name) = self.reach_apart(pointer) else {
-            return Err(dropped_mut(pointer));
-        };
-        match self.slots.borrow_mut_error(name) {
-            Ok(()) => Ok(name),
-            Err(refused) => Err(refused),
-        }
-    }
-
     // Begins a write of the value that the box reaches, and at which no borrow stands.
     #[inline(always)]
     fn begin_write(
@@ -676,10 +523,9 @@ impl<T: Drop, P: SlotPool> Store<T, P> {
     }
 }
 
-// Makes a cell outside all lists, for which there is room.
-fn make_alone<T: Drop, P: SlotPool>(
+// Makes a cell for which there is room.
+fn make_reserved<T: Drop, P: SlotPool>(
     slots: &mut Slots<T, P>,
-    owners: &mut OwnerRecords,
     content: StorageEntryData<T>,
     created_at: Location,
 ) -> CellName
@@ -688,11 +534,10 @@ fn make_alone<T: Drop, P: SlotPool>(
     requires target { IfSome (target_of content)
         (λ m. is_shared (map.get slots.old.state.cells m) ≡ true) }
     requires linked { HasTargets slots.old.state.cells }
-    ensures made { IsMade slots.old slots.new (cell_of (kept_data [] created_at content))
+    ensures { IsMade slots.old slots.new (cell_of (kept_data [] created_at content))
         (name_of_cell result) }
-    ensures unlisted { owners.new ≡ owners.old }
 {
-    match slots.make(content, created_at, owners, 0, None) {
+    match slots.make(content, created_at) {
         Ok(name) => name,
         Err(_) => unreachable!(),
     }

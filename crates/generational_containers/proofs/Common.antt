@@ -2,13 +2,12 @@
 pub use Rattle.generational_containers.specs.CellNames.{name_of_cell}
 pub use Rattle.generational_containers.specs.OwnerPlaces.{AreApart, ArePlaced, HasRecord, Keyed}
 pub use Rattle.generational_containers.specs.OwnerPlaces.{Place}
-pub use Rattle.generational_containers.specs.OwnerPlaces.{change_place, change_place_if, entries_of}
+pub use Rattle.generational_containers.specs.OwnerPlaces.{change_place, entries_of}
 pub use Rattle.generational_containers.specs.OwnerPlaces.{is_vacant, record_at, record_in}
 pub use Rattle.generational_containers.specs.OwnerPlaces.{with_ownership}
 unfoldable pub use Rattle.generational_containers.specs.OwnerPlaces.{owners_of}
 pub use Rattle.generational_containers.specs.OwnerRecords.{knows}
 pub use Rattle.generational_containers.specs.OwnerRecords.{record_of}
-pub use Rattle.generational_containers.specs.OwnerRecords.{one_relisted}
 pub use Rattle.generational_containers.specs.Pools.{IsPool}
 pub use Rattle.generational_containers.specs.Lists.{how_many}
 pub use Rattle.generational_core.proofs.maps.Maps.{by_number, changed_there}

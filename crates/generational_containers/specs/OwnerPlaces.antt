@@ -1,19 +1,24 @@
 -- The places at which a store keeps the records of owners, and the map for which they stand.
-use Rattle.std.specs.Prelude.{◌≡◌, ◌≤◌, ℕ, Bool, true, false, nat_eq, if◌then◌else◌, is_some}
+use Rattle.std.specs.Prelude.{◌≡◌, ◌≤◌, ◌<◌, ℕ, Bool, true, false, nat_eq, if◌then◌else◌, is_some}
 use Rattle.std.specs.Prelude.{Option, None, Some, List, [], ◌∷◌, length, slice_get, slice_set}
 use Rattle.std.specs.Ordering.{nat_cmp}
 use Rattle.std.specs.FinMap as map
 use Rattle.std.specs.FinSet as set
+use Rattle.generational_core.specs.Machine.{OwnerName}
 use Rattle.generational_core.specs.State.{Ownership, Owners}
 
--- a record with the key under which it stands
+-- a record with the key under which it stands, and for how many names its list has room
 pub record Keyed : Type 0 where
   pub key : ℕ
   pub ownership : Ownership
+  pub rooms : ℕ
 
--- the same with another record under the key
+-- the same with another record under the key, and with other room
 abbrev pub with_ownership : (Ownership → Ownership) → Keyed → Keyed
-with_ownership f r = record { key = r.key; ownership = f r.ownership }
+with_ownership f r = record r { ownership = f r.ownership }
+
+abbrev pub with_rooms : ℕ → Keyed → Keyed
+with_rooms rooms r = record r { rooms = rooms }
 
 -- A place of the records: vacant, or with a record.
 abbrev pub Place : Type 0
@@ -58,10 +63,36 @@ pub record ArePlaced (vacant : set.FinSet nat_cmp) (rooms : ℕ) (places : List 
   pub roomy : length places ≤ rooms
   pub apart : AreApart places
 
--- the places with the record at one of them changed by f, if there is one
-abbrev pub change_place_if : List Place → ℕ → (Ownership → Ownership) → Option Place → List Place
-change_place_if places i f (Some (Some r)) = slice_set places i (Some (with_ownership f r))
-change_place_if places i f _ = places
+-- a record that has room for a name more on its list
+abbrev pub HasRoom : Option Place → Type 0
+HasRoom (Some (Some r)) = length r.ownership.names < r.rooms
+HasRoom _ = ⊥
 
+abbrev pub rooms_at : Option Place → ℕ
+rooms_at (Some (Some r)) = r.rooms
+rooms_at _ = 0
+
+-- the places with the record at one of them changed by f, if there is one
+abbrev pub change_record_if : List Place → ℕ → (Keyed → Keyed) → Option Place → List Place
+change_record_if places i f (Some (Some r)) = slice_set places i (Some (f r))
+change_record_if places i f _ = places
+
+abbrev pub change_record : List Place → ℕ → (Keyed → Keyed) → List Place
+change_record places i f = change_record_if places i f (slice_get places i)
+
+-- the same where its names or its count change
 abbrev pub change_place : List Place → ℕ → (Ownership → Ownership) → List Place
-change_place places i f = change_place_if places i f (slice_get places i)
+change_place places i f = change_record places i (with_ownership f)
+
+-- the records of owners under their keys, and the places at which they stand
+pub record Records : Type 0 where
+  pub owners : Owners
+  pub places : List Place
+
+-- Room was made for a name more on the owner's list, if there is an owner: its record stands at the
+-- place.
+abbrev pub IsReserved : Records → Option OwnerName → Option ℕ → Type 0
+IsReserved r None place = place ≡ None
+IsReserved r (Some o) None = ⊥
+IsReserved r (Some o) (Some i) =
+    HasRecord o.key (slice_get r.places i) × HasRoom (slice_get r.places i)

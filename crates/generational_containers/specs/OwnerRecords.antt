@@ -1,6 +1,6 @@
 -- The records of owners that a store keeps, as the machine sees them.
 use Rattle.std.specs.Prelude.{◌≡◌, Bool, true, false, nat_eq, if◌then◌else◌, is_some, IsSome, ℕ}
-use Rattle.std.specs.Prelude.{◌<◌, ◌≤◌, ◌-◌, Option, None, Some, length, slice_set}
+use Rattle.std.specs.Prelude.{◌<◌, ◌≤◌, Option, None, Some}
 use Rattle.std.specs.List.{IsDistinct}
 use Rattle.std.specs.FinMap as map
 use Rattle.generational_core.specs.declared.error.StoreError.{StoreError}
@@ -35,14 +35,6 @@ IsRefusal number owners o NumbersExhausted = ⊥
 abbrev pub add_to_list_in : Owners → Option OwnerName → Name → Owners
 add_to_list_in owners None n = owners
 add_to_list_in owners (Some o) n = change owners o.key (one_listed n)
-
--- another box in the place of the last one, and the records with it on the owner's list
-abbrev pub one_relisted : Name → Ownership → Ownership
-one_relisted n h = record h { names = slice_set h.names (length h.names - 1) n }
-
-abbrev pub relist_in : Owners → Option OwnerName → Name → Owners
-relist_in owners None n = owners
-relist_in owners (Some o) n = change owners o.key (one_relisted n)
 
 -- a name more on the list of an owner that is known, if there is an owner
 abbrev pub IsListed : ℕ → Owners → Owners → Option OwnerName → Name → Type 0

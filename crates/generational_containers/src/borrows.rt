@@ -104,8 +104,7 @@ impl Borrows {
     }
 
     /// Takes the ticket's own borrow away, unless it is the last: that is told, and left.
-    #[cold]
-    #[inline(never)]
+    #[inline(always)]
     pub fn remove(&mut self, ticket: u64) -> Removal
         ensures { IsRemoval ticket self.old self.new result }
     {
@@ -179,6 +178,8 @@ fn has_ticket(borrows: &VecDeque<Borrow>, ticket: u64) -> bool
 }
 
 // Takes the ticket's own borrow away from these. The answer is whether there was one.
+#[cold]
+#[inline(never)]
 fn remove_among(borrows: &mut VecDeque<Borrow>, ticket: u64) -> bool
     requires { Ascend borrows.old.items }
     ensures known { result ≡ list_any (λ b. nat_eq b.ticket ticket) borrows.old.items }

@@ -1,21 +1,21 @@
 //! The records that a store keeps of owners.
 
 ghost use Rattle.std.specs.Prelude.{◌≡◌, ℕ, ◌<◌, ◌↔◌, [], true};
-ghost use Rattle.std.specs.Prelude.{Some, None, IfSome, IfNone, IsTrue, IfErr, OnOk, OnErr};
+ghost use Rattle.std.specs.Prelude.{Option, Some, None, IfSome, IfNone, IsTrue, IfErr, IfOk};
+ghost use Rattle.std.specs.Prelude.{length, OnOk, OnErr};
 ghost use Rattle.std.specs.Prelude.{option_copied, option_map, is_some, map as list_map};
 ghost use Rattle.std.specs.Prelude.{if◌then◌else◌, vec_len, slice_get, slice_set};
 ghost use Rattle.std.specs.FinMap as map;
 ghost use Rattle.generational_core.specs.Conditions.{one_more, one_less, one_listed};
 ghost use Rattle.generational_core.specs.Conditions.{names_under, names_in};
 ghost use Rattle.generational_core.specs.Names.{change};
-ghost use Rattle.generational_core.specs.declared.error.StoreError.TheVariants.{OutOfMemory};
-ghost use Rattle.generational_core.specs.declared.error.StoreError.TheVariants.{UnknownOwner};
 ghost use Rattle.generational_containers.specs.CellNames.{name_of_cell};
 ghost use Rattle.generational_containers.specs.OwnerRecords.{knows, knows_any, record_of};
-ghost use Rattle.generational_containers.specs.OwnerRecords.{relist_in};
 ghost use Rattle.generational_containers.specs.OwnerRecords.{add_to_list_in, IsRefusal};
-ghost use Rattle.generational_containers.specs.OwnerRecords.{one_relisted};
-ghost use Rattle.generational_containers.specs.OwnerPlaces.{with_ownership, change_place};
+ghost use Rattle.generational_containers.specs.OwnerPlaces.{with_ownership, with_rooms};
+ghost use Rattle.generational_containers.specs.OwnerPlaces.{change_place, change_record, rooms_at};
+ghost use Rattle.generational_containers.specs.OwnerPlaces.{HasRoom, IsReserved};
+ghost use Rattle.generational_core.specs.Machine.{OwnerName};
 ghost use Rattle.generational_containers.specs.OwnerPlaces.{owners_of};
 ghost use Rattle.generational_containers.specs.OwnerPlaces.{record_at, HasRecord};
 
@@ -36,7 +36,7 @@ pub struct OwnerRecord {
 }
 
 impl Model for OwnerRecord {
-    ghost use Rattle.std.specs.Prelude.{map as list_map};
+    ghost use Rattle.std.specs.Prelude.{map as list_map, vec_capacity};
     ghost use Rattle.generational_containers.specs.OwnerPlaces.{Keyed};
     ghost use Rattle.generational_containers.specs.CellNames.{name_of_cell};
 
@@ -45,13 +45,15 @@ impl Model for OwnerRecord {
     ghost view = { λ r. record {
       key = r.key;
       ownership = record { names = list_map name_of_cell r.boxes.items; count = r.count };
+      rooms = vec_capacity r.boxes;
     } };
 }
 
 impl OwnerRecord {
     // A record without boxes, for one owner value. Takes no memory.
     fn new(alloc: Global, key: u64) -> OwnerRecord
-        ensures { result ≡ record { key = key; ownership = record { names = []; count = 1 } } }
+        ensures key { result.key ≡ key }
+        ensures held { result.ownership ≡ record { names = []; count = 1 } }
     {
         OwnerRecord {
             key,
@@ -95,25 +97,22 @@ impl OwnerRecord {
         boxes
     }
 
-    // Puts a box at the end of the list. Want of memory changes nothing.
+    // Makes room for a box more on the list.
     #[inline(always)]
-    fn list(&mut self, name: CellName) -> Result<(), AllocError>
-        ensures ok { OnOk result (self.new ≡
-            with_ownership (one_listed (name_of_cell name)) self.old) }
-        ensures err { OnErr result (self.new ≡ self.old) }
+    fn reserve(&mut self) -> Result<(), AllocError>
+        ensures same { self.new ≡ with_rooms self.new.rooms self.old }
+        ensures ok { OnOk result (length self.new.ownership.names < self.new.rooms) }
     {
-        self.boxes.push(name)?;
-        Ok(())
+        self.boxes.reserve(1)
     }
 
-    // Puts another box in the place of the last one.
-    fn relist(&mut self, name: CellName)
-        ensures { self.new ≡ with_ownership (one_relisted (name_of_cell name)) self.old }
+    // Puts a box at the end of the list, where there is room.
+    #[inline(always)]
+    fn list(&mut self, name: CellName)
+        requires { length self.old.ownership.names < self.old.rooms }
+        ensures { self.new ≡ with_ownership (one_listed (name_of_cell name)) self.old }
     {
-        let count = self.boxes.len();
-        if count > 0 {
-            self.boxes[count - 1] = name;
-        }
+        self.boxes.push_reserved(name);
     }
 
     // One owner value more.
@@ -149,15 +148,14 @@ pub struct OwnerRecords {
 impl Model for OwnerRecords {
     ghost use Rattle.std.specs.Coded.{codes};
     ghost use Rattle.std.specs.FinMap as map;
-    ghost use Rattle.generational_core.specs.State.{Owners};
-    ghost use Rattle.generational_containers.specs.OwnerPlaces.{owners_of, ArePlaced};
+    ghost use Rattle.generational_containers.specs.OwnerPlaces.{owners_of, ArePlaced, Records};
     ghost use Rattle.generational_containers.specs.Pools.{members_of};
 
-    ghost Value = { Owners };
+    ghost Value = { Records };
 
     ghost coded = { Prim.hlevel (codes, map.code) };
 
-    ghost view = { λ r. owners_of r.places.items };
+    ghost view = { λ r. record { owners = owners_of r.places.items; places = r.places.items } };
 
     ghost invariant = { λ r. ArePlaced (members_of r.vacant) r.vacant.rooms r.places.items };
 }
@@ -165,7 +163,7 @@ impl Model for OwnerRecords {
 impl OwnerRecords {
     /// No records. Takes no memory.
     pub fn new(alloc: Global) -> OwnerRecords
-        ensures { result ≡ map.empty }
+        ensures { result.owners ≡ map.empty }
     {
         OwnerRecords {
             places: Vec::new(alloc),
@@ -175,7 +173,7 @@ impl OwnerRecords {
 
     /// Whether there is no record. Asks all places.
     pub fn is_empty(&self) -> bool
-        ensures { IsTrue result ↔ (self.now ≡ map.empty) }
+        ensures { IsTrue result ↔ (self.now.owners ≡ map.empty) }
     {
         are_vacant(self.places.as_slice())
     }
@@ -184,7 +182,7 @@ impl OwnerRecords {
     #[inline(always)]
     pub fn find(&self, number: u64, owner: &Owner) -> Option<&OwnerRecord>
         ensures { option_map (λ r. r.ownership) (option_copied result) ≡
-            record_of number self.now owner.now }
+            record_of number self.now.owners owner.now }
     {
         if number_of(owner) != number {
             return None;
@@ -197,7 +195,7 @@ impl OwnerRecords {
 
     /// Whether the owner is of a store with this number and these records.
     pub fn knows(&self, number: u64, owner: &Owner) -> bool
-        ensures { result ≡ knows number self.now owner.now }
+        ensures { result ≡ knows number self.now.owners owner.now }
     {
         self.find(number, owner).is_some()
     }
@@ -205,7 +203,7 @@ impl OwnerRecords {
     /// The same of an owner, if there is one.
     #[inline(always)]
     pub fn knows_any(&self, number: u64, owner: Option<&Owner>) -> bool
-        ensures { result ≡ knows_any number self.now (option_copied owner.entry) }
+        ensures { result ≡ knows_any number self.now.owners (option_copied owner.entry) }
     {
         match owner {
             None => true,
@@ -213,36 +211,33 @@ impl OwnerRecords {
         }
     }
 
-    /// Puts a box at the end of the owner's list, if there is an owner. A refusal changes no
-    /// record.
+    /// Makes room for a box more on the owner's list, if there is an owner. The answer is where its
+    /// record stands. No record changes.
     #[inline(always)]
-    pub fn list_for(
+    pub fn reserve(
         &mut self,
         number: u64,
         owner: Option<&Owner>,
-        name: CellName,
-    ) -> Result<(), StoreError>
-        ensures known { OnOk result (knows_any number self.old (option_copied owner.entry)
+    ) -> Result<Option<usize>, StoreError>
+        ensures same { self.new.owners ≡ self.old.owners }
+        ensures known { OnOk result (knows_any number self.old.owners (option_copied owner.entry)
             ≡ true) }
-        ensures ok { OnOk result (self.new ≡ add_to_list_in self.old
-            (option_copied owner.entry) (name_of_cell name)) }
-        ensures err { OnErr result (self.new ≡ self.old) }
-        ensures refused { IfErr result (λ cause. IsRefusal number self.old
+        ensures ok { IfOk result (λ place. IsReserved self.new (option_copied owner.entry) place) }
+        ensures refused { IfErr result (λ cause. IsRefusal number self.old.owners
             (option_copied owner.entry) cause) }
     {
         match owner {
-            None => Ok(()),
-            Some(owner) => self.list(number, owner, name),
+            None => Ok(None),
+            Some(owner) => self.reserve_for(number, owner),
         }
     }
 
     // The same for an owner.
-    fn list(&mut self, number: u64, owner: &Owner, name: CellName) -> Result<(), StoreError>
-        ensures known { OnOk result (knows number self.old owner.now ≡ true) }
-        ensures ok { OnOk result (self.new ≡ change self.old owner.now.key
-            (one_listed (name_of_cell name))) }
-        ensures err { OnErr result (self.new ≡ self.old) }
-        ensures refused { IfErr result (λ cause. IsRefusal number self.old
+    fn reserve_for(&mut self, number: u64, owner: &Owner) -> Result<Option<usize>, StoreError>
+        ensures same { self.new.owners ≡ self.old.owners }
+        ensures known { OnOk result (knows number self.old.owners owner.now ≡ true) }
+        ensures ok { IfOk result (λ place. IsReserved self.new (Some owner.now) place) }
+        ensures refused { IfErr result (λ cause. IsRefusal number self.old.owners
             (Some owner.now) cause) }
     {
         if number_of(owner) != number {
@@ -252,65 +247,33 @@ impl OwnerRecords {
             Some(place) => place,
             None => return Err(StoreError::UnknownOwner),
         };
-        match list_at(&mut self.places, place, name) {
+        match reserve_at(&mut self.places, place) {
             Ok(()) => {}
             Err(_) => return Err(StoreError::OutOfMemory),
         }
-        Ok(())
+        Ok(Some(place))
     }
 
-    /// Puts another box in the place of the last one of the owner's list, if there is an owner.
-    pub fn relist_for(&mut self, owner: Option<&Owner>, name: CellName)
-        ensures { self.new ≡ relist_in self.old (option_copied owner.entry) (name_of_cell name) }
-    {
-        if let Some(owner) = owner {
-            self.relist(owner, name);
-        }
-    }
-
-    // The same for an owner.
-    fn relist(&mut self, owner: &Owner, name: CellName)
-        ensures { self.new ≡ change self.old owner.now.key (one_relisted (name_of_cell name)) }
-    {
-        if let Some(place) = find_place(&self.places, owner) {
-            relist_at(&mut self.places, place, name);
-        }
-    }
-
-    /// Why a making is refused for which there is no memory: its owner, if it has one, may be
-    /// unknown.
+    /// Puts a box at the end of the list of the record at a place, where there is room for it, if a
+    /// place is given.
     #[inline(always)]
-    pub fn lacking(&self, number: u64, owner: Option<&Owner>) -> StoreError
-        ensures { result ≡ (if knows_any number self.now (option_copied owner.entry) then
-            OutOfMemory else UnknownOwner) }
+    pub fn list(&mut self, place: Option<usize>, name: CellName)
+        requires { IfSome place (λ i. HasRoom (slice_get self.old.places i)) }
+        ensures { (o : Option OwnerName) → IsReserved self.old o place
+            → self.new.owners ≡ add_to_list_in self.old.owners o (name_of_cell name) }
     {
-        match owner {
-            None => StoreError::OutOfMemory,
-            Some(owner) => self.lacking_for(number, owner),
-        }
-    }
-
-    // The same for an owner.
-    #[cold]
-    #[inline(never)]
-    fn lacking_for(&self, number: u64, owner: &Owner) -> StoreError
-        ensures { result ≡ (if knows number self.now owner.now then OutOfMemory else
-            UnknownOwner) }
-    {
-        if self.knows(number, owner) {
-            StoreError::OutOfMemory
-        } else {
-            StoreError::UnknownOwner
+        if let Some(place) = place {
+            list_at(&mut self.places, place, name);
         }
     }
 
     /// Adds a record for one owner value under a key that has none. The answer is its place. Want
     /// of memory changes nothing.
     pub fn add(&mut self, alloc: Global, key: u64) -> Result<usize, AllocError>
-        requires { map.get self.old key ≡ None }
-        ensures ok { OnOk result (self.new ≡ map.insert self.old key
+        requires { map.get self.old.owners key ≡ None }
+        ensures ok { OnOk result (self.new.owners ≡ map.insert self.old.owners key
             (record { names = []; count = 1 })) }
-        ensures err { OnErr result (self.new ≡ self.old) }
+        ensures err { OnErr result (self.new.owners ≡ self.old.owners) }
     {
         let added = OwnerRecord::new(alloc, key);
         match self.vacant.take() {
@@ -332,8 +295,9 @@ impl OwnerRecords {
 
     /// Takes the owner's record away: its boxes. Takes no memory.
     pub fn take(&mut self, owner: &Owner, alloc: Global) -> Vec<CellName>
-        ensures after { self.new ≡ map.remove self.old owner.now.key }
-        ensures names { list_map name_of_cell result.items ≡ names_under self.old owner.now.key }
+        ensures after { self.new.owners ≡ map.remove self.old.owners owner.now.key }
+        ensures names { list_map name_of_cell result.items
+            ≡ names_under self.old.owners owner.now.key }
     {
         match find_place(&self.places, owner) {
             Some(place) => {
@@ -347,9 +311,9 @@ impl OwnerRecords {
 
     /// One owner value more of the owner's record. The answer is the record's place.
     pub fn count_up(&mut self, owner: &Owner) -> usize
-        requires { IfSome (map.get self.old owner.now.key)
+        requires { IfSome (map.get self.old.owners owner.now.key)
             (λ h. h.count < 18446744073709551615) }
-        ensures { self.new ≡ change self.old owner.now.key one_more }
+        ensures { self.new.owners ≡ change self.old.owners owner.now.key one_more }
     {
         match find_place(&self.places, owner) {
             Some(place) => {
@@ -362,8 +326,8 @@ impl OwnerRecords {
 
     /// One owner value less of the owner's record.
     pub fn count_down(&mut self, owner: &Owner)
-        requires { IfSome (map.get self.old owner.now.key) (λ h. 0 < h.count) }
-        ensures { self.new ≡ change self.old owner.now.key one_less }
+        requires { IfSome (map.get self.old.owners owner.now.key) (λ h. 0 < h.count) }
+        ensures { self.new.owners ≡ change self.old.owners owner.now.key one_less }
     {
         match find_place(&self.places, owner) {
             Some(place) => count_down_at(&mut self.places, place),
@@ -426,32 +390,31 @@ fn are_vacant(places: &[Option<OwnerRecord>]) -> bool
     true
 }
 
-// Puts a box at the end of the list of the record at a place.
+// Makes room for a box more on the list of the record at a place.
 #[inline(always)]
-fn list_at(
-    places: &mut Vec<Option<OwnerRecord>>,
-    place: usize,
-    name: CellName,
-) -> Result<(), AllocError>
+fn reserve_at(places: &mut Vec<Option<OwnerRecord>>, place: usize) -> Result<(), AllocError>
     requires { place < vec_len places.old }
-    ensures ok { OnOk result (places.new.items ≡ change_place places.old.items place
-        (one_listed (name_of_cell name))) }
-    ensures err { OnErr result (places.new.items ≡ places.old.items) }
+    ensures same { places.new.items ≡ change_record places.old.items place
+        (with_rooms (rooms_at (slice_get places.new.items place))) }
+    ensures ok { OnOk result (IfSome (slice_get places.new.items place)
+        (λ kept. IfSome kept (λ r. length r.ownership.names < r.rooms))) }
 {
     match &mut places[place] {
-        Some(found) => found.list(name),
+        Some(found) => found.reserve(),
         None => Ok(()),
     }
 }
 
-// Puts another box in the place of the last one of the record at a place.
-fn relist_at(places: &mut Vec<Option<OwnerRecord>>, place: usize, name: CellName)
-    requires { place < vec_len places.old }
+// Puts a box at the end of the list of the record at a place, where there is room.
+#[inline(always)]
+fn list_at(places: &mut Vec<Option<OwnerRecord>>, place: usize, name: CellName)
+    requires within { place < vec_len places.old }
+    requires room { HasRoom (slice_get places.old.items place) }
     ensures { places.new.items
-        ≡ change_place places.old.items place (one_relisted (name_of_cell name)) }
+        ≡ change_place places.old.items place (one_listed (name_of_cell name)) }
 {
     match &mut places[place] {
-        Some(found) => found.relist(name),
+        Some(found) => found.list(name),
         None => {}
     }
 }

@@ -5,6 +5,7 @@ pub mod Cells
 pub mod Conditions
 pub mod Ending
 pub mod Keeping
+pub mod Leaving
 pub mod Loans
 pub mod Machine
 pub mod Names

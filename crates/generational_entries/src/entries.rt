@@ -1,6 +1,7 @@
-//! The slots of a store, and the borrows that stand at their cells.
+//! The slots of a store, with the borrow that began last.
+#![tactic(auto, using(crate::proofs::states::Latest::lengths))]
 
-ghost use Rattle.std.specs.Prelude.{◌≡◌, ◌≢◌, ◌+◌, ◌-◌, ◌<◌, ◌≤◌, ◌∷◌, ◌++◌, [], true, Some, Err};
+ghost use Rattle.std.specs.Prelude.{◌≡◌, ◌+◌, ◌-◌, ◌<◌, ◌≤◌, ◌∷◌, ◌++◌, [], true, Some, Err};
 ghost use Rattle.std.specs.Prelude.{IsTrue};
 ghost use Rattle.std.specs.Prelude.{◌↔◌, IfSome, IfErr, OnOk, OnErr, is_some, is_none, is_ok};
 ghost use Rattle.std.specs.Prelude.{length};
@@ -10,89 +11,61 @@ ghost use Rattle.generational_core.specs.Borrowing.{read_refusal, write_refusal}
 ghost use Rattle.generational_core.specs.Borrowing.Trouble.{BeingWritten};
 ghost use Rattle.generational_core.specs.Machine.{has_reader, has_writer};
 ghost use Rattle.generational_core.specs.Slots.{last_generation};
-ghost use Rattle.generational_core.specs.declared.error.Refused.TheVariants as refused;
-ghost use Rattle.generational_core.specs.declared.error.BorrowMutError.TheVariants as writes;
 ghost use Rattle.generational_core.specs.declared.error.StoreError.TheVariants.{OutOfMemory};
 ghost use Rattle.generational_entries.specs.declared.entry.StorageEntryData.TheVariants as content;
 ghost use Rattle.generational_containers.specs.Borrows.{AreBelow};
-ghost use Rattle.generational_containers.specs.Table.{no_index, IsUsed, Releases};
-ghost use Rattle.generational_containers.specs.Table.{list_at};
-ghost use Rattle.std.specs.List.{list_any, filter};
-ghost use Rattle.std.specs.Prelude.{nat_eq, not, IfOk};
+ghost use Rattle.generational_containers.specs.Table.{no_index};
 ghost use Rattle.generational_entries.specs.Entry.Kept.{Empty};
 ghost use Rattle.generational_entries.specs.Entry.{cell_of, kind_in, readers_of};
 ghost use Rattle.generational_containers.specs.CellNames.{name_of_cell};
 ghost use Rattle.generational_entries.specs.Entry.{is_unborrowed_value, referring, target_in};
-ghost use Rattle.generational_entries.specs.Entries.{IsUnborrowed, kept_data, taken, writer_in};
+ghost use Rattle.generational_entries.specs.Entries.{IsUnborrowed, kept_data};
 ghost use Rattle.generational_core.specs.Borrowing.{leads_to};
-ghost use Rattle.generational_core.specs.Answers.{value_of};
 ghost use Rattle.generational_core.specs.Cells.{content_of, location_of};
-ghost use Rattle.generational_entries.specs.Entry.{content_in, has_no_borrow, is_lent, with_reader};
-ghost use Rattle.generational_entries.specs.Entry.{value_for};
+ghost use Rattle.generational_entries.specs.Entry.{content_in, has_no_borrow, with_content};
+ghost use Rattle.generational_entries.specs.Entry.{with_reader, value_for};
 ghost use Rattle.generational_entries.specs.Entry.{without_reader_in, lend_to, with_value};
-ghost use Rattle.generational_entries.specs.Entry.{FoundBorrowed, FoundReaders};
+ghost use Rattle.generational_entries.specs.Entry.{FoundBorrowed};
 ghost use Rattle.generational_entries.specs.Entry.{cell_at, change_entry};
+ghost use Rattle.generational_entries.specs.Latest.{noted, IsAlone, IsNoted, IsReadable, is_apart};
+ghost use Rattle.generational_entries.specs.Latest.{is_reader, is_writer, joined};
+ghost use Rattle.std.specs.Prelude.{false};
 
-use crate::entry::{EntryDetails, Kind, StorageEntry, StorageEntryData};
+use crate::entry::{EntryDetails, Kind, StorageEntryData};
+use crate::latest::{LastBorrow, Standing};
+use crate::settled::{SettledEntries, reader_error, writer_error};
 use generational_containers::names::CellName;
-use generational_containers::room::{more_room, reserve_room};
-use generational_containers::table::{BorrowTable, NO_INDEX};
 use generational_core::parts::Borrow;
 use generational_core::{
-    AlreadyBorrowedError, AlreadyBorrowedMutError, BorrowMutError, BorrowMutResult, Location,
-    Refused, StoreError,
+    AlreadyBorrowedMutError, BorrowMutError, BorrowMutResult, Location, Refused, StoreError,
 };
 use std::alloc::{AllocError, Global};
 use std::marker::Model;
-use std::mem;
 
 /// The slots of a store. Contracts see each as its generation and its cell with the borrows that
 /// stand there, and for how many slots there is room.
 ///
-/// What every call asks for stands together in `entries`; what is seldom asked of a cell stands
-/// apart, and so do borrows, in a table that stays as small as the most that stood at once.
+/// The borrow that began last is noted here, until another begins. A writer touches no list, and a
+/// reader of a cell that nobody else reads touches neither a list nor its slot; a reader beside
+/// others is listed with them as well.
+#[derive(Drop)]
 pub struct Entries<T> {
-    alloc: Global,
-    entries: Vec<StorageEntry<T>>,
-    details: Vec<EntryDetails>,
-    borrows: BorrowTable,
-    // for how many slots there is room in each of these
-    room: usize,
+    settled: SettledEntries<T>,
+    last: LastBorrow,
 }
 
 impl<T> Model for Entries<T> {
-    ghost use Rattle.std.specs.Prelude.{◌≡◌, ◌≤◌, length, vec_capacity};
-    ghost use Rattle.generational_entries.specs.Entries.{EntryList, entries_of, AreIndexed};
-    ghost use Rattle.generational_entries.specs.Entries.{AreRoomy};
+    ghost use Rattle.generational_entries.specs.Entries.{EntryList};
+    ghost use Rattle.generational_entries.specs.Latest.{noted, IsNoted};
 
     ghost Value = { EntryList T };
 
     ghost view = { λ e. record {
-      slots = entries_of e.borrows.lists e.entries.items e.details.items;
-      rooms = e.room;
+      slots = noted e.last e.settled.slots;
+      rooms = e.settled.rooms;
     } };
 
-    ghost invariant = { λ e. AreIndexed e.borrows e.entries.items
-        × (length e.details.items ≡ length e.entries.items)
-        × AreRoomy e.room (length e.entries.items) (vec_capacity e.entries)
-        (vec_capacity e.details) e.borrows.rooms };
-}
-
-// In which order the buffers go decides how much of their memory glibc's malloc keeps for the next
-// store, and how much it gives back to the system: `docs/PERFORMANCE.md` tells of it.
-impl<T: Drop> Drop for Entries<T> {
-    fn drop(self) {
-        let Entries {
-            alloc: _,
-            entries,
-            details,
-            borrows,
-            room: _,
-        } = self;
-        drop(entries);
-        drop(borrows);
-        drop(details);
-    }
+    ghost invariant = { λ e. IsNoted e.last e.settled.slots };
 }
 
 impl<T> Entries<T> {
@@ -101,11 +74,16 @@ impl<T> Entries<T> {
         ensures { result ≡ record { slots = []; rooms = 0 } }
     {
         Entries {
-            alloc,
-            entries: Vec::new(alloc),
-            details: Vec::new(alloc),
-            borrows: BorrowTable::new(alloc),
-            room: 0,
+            settled: SettledEntries::new(alloc),
+            last: LastBorrow {
+                standing: Standing::Nobody,
+                slot: 0,
+                generation: 0,
+                borrow: Borrow {
+                    ticket: 0,
+                    location: Location::new("", 0, 0),
+                },
+            },
         }
     }
 
@@ -114,7 +92,7 @@ impl<T> Entries<T> {
     pub fn len(&self) -> usize
         ensures { result ≡ length self.now.slots }
     {
-        self.entries.len()
+        self.settled.entries.len()
     }
 
     /// For how many there is room.
@@ -122,28 +100,7 @@ impl<T> Entries<T> {
     pub fn room(&self) -> usize
         ensures { result ≡ self.now.rooms }
     {
-        self.room
-    }
-
-    /// Makes room for one slot more at least, and for so many that few makings pay for it. The only
-    /// refusal is want of memory, also where no index of 32 bits is left for a slot's borrows.
-    #[cold]
-    #[inline(never)]
-    pub fn grow(&mut self) -> Result<(), StoreError>
-    where
-        T: Drop,
-        ensures slots { self.new.slots ≡ self.old.slots }
-        ensures rooms { self.old.rooms ≤ self.new.rooms }
-        ensures ok { OnOk result (self.old.rooms < self.new.rooms) }
-        ensures few { OnOk result (self.new.rooms < no_index) }
-        ensures cause { IfErr result (λ error. error ≡ OutOfMemory) }
-    {
-        let room = larger_room(self.room)?;
-        reserve_room(&mut self.entries, self.alloc, room)?;
-        reserve_room(&mut self.details, self.alloc, room)?;
-        self.borrows.grow(room)?;
-        self.room = room;
-        Ok(())
+        self.settled.room
     }
 
     /// What a box of this name reaches.
@@ -152,7 +109,7 @@ impl<T> Entries<T> {
         ensures { option_map name_of_cell result ≡ leads_to
             (cell_at self.now.slots (name_of_cell name)) (name_of_cell name) }
     {
-        match self.entries.get(name.slot) {
+        match self.settled.entries.get(name.slot) {
             Some(entry) => entry.reach(name),
             None => None,
         }
@@ -163,20 +120,9 @@ impl<T> Entries<T> {
     pub fn kind(&self, name: CellName) -> Option<Kind>
         ensures { result ≡ kind_in (cell_at self.now.slots (name_of_cell name)) }
     {
-        match self.entries.get(name.slot) {
+        match self.settled.entries.get(name.slot) {
             Some(entry) => entry.kind(name.generation),
             None => None,
-        }
-    }
-
-    /// Whether the cell of this name is a value that isn't shared and has no borrow.
-    #[inline(always)]
-    pub fn has_unborrowed_value(&self, name: CellName) -> bool
-        ensures { result ≡ is_unborrowed_value (cell_at self.now.slots (name_of_cell name)) }
-    {
-        match self.entries.get(name.slot) {
-            Some(entry) => entry.has_unborrowed_value(name.generation),
-            None => false,
         }
     }
 
@@ -186,7 +132,7 @@ impl<T> Entries<T> {
         ensures { option_map name_of_cell result
             ≡ target_in (cell_at self.now.slots (name_of_cell name)) }
     {
-        match self.entries.get(name.slot) {
+        match self.settled.entries.get(name.slot) {
             Some(entry) => entry.target(name.generation),
             None => None,
         }
@@ -201,7 +147,7 @@ impl<T> Entries<T> {
         ensures created { IfSome (slice_get self.now.slots slot)
             (λ e. IfSome (location_of (cell_of e.kept)) (λ l. result.created_at ≡ l)) }
     {
-        self.details[slot]
+        self.settled.details[slot]
     }
 
     /// A reference to a slot's cell.
@@ -210,7 +156,7 @@ impl<T> Entries<T> {
         ensures { IfSome (slice_get self.now.slots slot)
             (λ e. result ≡ content.Reference slot e.generation) }
     {
-        let generation = self.entries[slot].generation;
+        let generation = self.settled.entries[slot].generation;
         StorageEntryData::Reference(slot as u32, generation)
     }
 
@@ -220,7 +166,36 @@ impl<T> Entries<T> {
         requires { slot < length self.now.slots }
         ensures { IfSome (slice_get self.now.slots slot) (λ e. result ≡ e.generation) }
     {
-        self.entries[slot].generation
+        self.settled.entries[slot].generation
+    }
+
+    /// Whether the cell of this name is a value, also one that is lent.
+    #[inline(always)]
+    pub fn holds(&self, name: CellName) -> bool
+        ensures { result
+            ≡ is_some (content_of (cell_at self.now.slots (name_of_cell name))) }
+    {
+        if self.last.is_apart()
+            && self.last.slot == name.slot
+            && self.last.generation == name.generation
+        {
+            return true;
+        }
+        self.kind(name).is_some()
+    }
+
+    /// Whether the cell of this name is a value that isn't shared and has no borrow.
+    #[inline(always)]
+    pub fn has_unborrowed_value(&self, name: CellName) -> bool
+        ensures { result ≡ is_unborrowed_value (cell_at self.now.slots (name_of_cell name)) }
+    {
+        if self.last.is_apart() && self.last.slot == name.slot {
+            return false;
+        }
+        match self.settled.entries.get(name.slot) {
+            Some(entry) => entry.has_unborrowed_value(name.generation),
+            None => false,
+        }
     }
 
     /// The writer that stands in the way of a read.
@@ -230,13 +205,10 @@ impl<T> Entries<T> {
         ensures { IfSome (slice_get self.now.slots slot) (λ e. option_map
             (λ x. BeingWritten x.borrowed_mut_at) result ≡ read_refusal (content_in e.kept)) }
     {
-        match &self.entries[slot].content {
-            StorageEntryData::Lent(_, index) => {
-                let writer = writer_at(&self.borrows, *index, self.details[slot].created_at);
-                Some(AlreadyBorrowedMutError::new(writer.location))
-            }
-            _ => None,
+        if self.last.is_writer() && self.last.slot == slot {
+            return Some(AlreadyBorrowedMutError::new(self.last.borrow.location));
         }
+        self.settled.borrow_error(slot)
     }
 
     /// Whether no borrow stands at the cell.
@@ -246,21 +218,10 @@ impl<T> Entries<T> {
         ensures { IfSome (slice_get self.now.slots slot)
             (λ e. result ≡ is_none (write_refusal (content_in e.kept))) }
     {
-        match &self.entries[slot].content {
-            StorageEntryData::Read(_, _, _) => false,
-            StorageEntryData::Lent(_, _) => false,
-            _ => true,
+        if self.last.is_apart() && self.last.slot == slot {
+            return false;
         }
-    }
-
-    /// Whether the cell is a value without borrows.
-    #[inline(always)]
-    pub fn has_no_borrow(&self, slot: usize) -> bool
-        requires { slot < length self.now.slots }
-        ensures { IfSome (slice_get self.now.slots slot)
-            (λ e. result ≡ has_no_borrow (content_in e.kept)) }
-    {
-        matches!(&self.entries[slot].content, StorageEntryData::Data(_, _))
+        self.settled.is_unborrowed(slot)
     }
 
     /// The borrows that stand in the way of a write or an end.
@@ -270,54 +231,16 @@ impl<T> Entries<T> {
         ensures { IfSome (slice_get self.now.slots slot)
             (λ e. FoundBorrowed (write_refusal (content_in e.kept)) result) }
     {
-        match &self.entries[slot].content {
-            StorageEntryData::Read(_, index, _) => {
-                Err(readers_error(&self.borrows, *index, self.alloc))
-            }
-            StorageEntryData::Lent(_, index) => {
-                let writer = writer_at(&self.borrows, *index, self.details[slot].created_at);
-                Err(writer_error(writer))
-            }
-            _ => Ok(()),
+        if self.last.is_apart() && self.last.slot == slot {
+            return last_error(&self.settled, self.last);
         }
+        self.settled.borrow_mut_error(slot)
     }
 
-    /// The memory that the borrows take.
+    /// Whether no borrow stands apart.
     #[inline(always)]
-    pub fn alloc(&self) -> Global {
-        self.alloc
-    }
-
-    /// The value of a cell, which isn't lent.
-    #[inline(always)]
-    pub fn value(&self, slot: usize) -> &T
-        requires within { slot < length self.now.slots }
-        requires there { IfSome (slice_get self.now.slots slot)
-            (λ e. is_some (value_of (content_in e.kept)) ≡ true) }
-        ensures { IfSome (slice_get self.now.slots slot)
-            (λ e. value_of (content_in e.kept) ≡ Some result.now) }
-    {
-        match &self.entries[slot].content {
-            StorageEntryData::Data(_, value) => value,
-            _ => self.read_value(slot),
-        }
-    }
-
-    // The same, for every value.
-    #[cold]
-    #[inline(never)]
-    fn read_value(&self, slot: usize) -> &T
-        requires within { slot < length self.now.slots }
-        requires there { IfSome (slice_get self.now.slots slot)
-            (λ e. is_some (value_of (content_in e.kept)) ≡ true) }
-        ensures { IfSome (slice_get self.now.slots slot)
-            (λ e. value_of (content_in e.kept) ≡ Some result.now) }
-    {
-        match &self.entries[slot].content {
-            StorageEntryData::Data(_, value) => value,
-            StorageEntryData::Read(_, _, value) => value,
-            _ => unreachable!(),
-        }
+    pub fn is_settled(&self) -> bool {
+        !self.last.is_apart()
     }
 
     /// The value, where the reader stands.
@@ -327,42 +250,67 @@ impl<T> Entries<T> {
         ensures { IfSome (slice_get self.now.slots slot)
             (λ e. option_copied result ≡ value_for ticket (content_in e.kept)) }
     {
-        match &self.entries[slot].content {
-            StorageEntryData::Read(_, index, value) => {
-                if self.borrows.contains(*index, ticket) {
-                    return Some(value);
-                }
-                None
-            }
-            _ => None,
+        if self.last.is_reader() && self.last.slot == slot && self.last.borrow.ticket == ticket {
+            return Some(self.settled.value(slot));
         }
+        self.settled.open(slot, ticket)
     }
 }
 
 impl<T: Drop> Entries<T> {
-    /// Adds a reader to a cell that isn't lent. Only a reader beside another may lack memory, and
-    /// then nothing changes.
+    /// Makes room for one slot more at least, and for so many that few makings pay for it. The only
+    /// refusal is want of memory, also where no index of 32 bits is left for a slot's borrows.
+    pub fn grow(&mut self) -> Result<(), StoreError>
+    where
+        T: Drop,
+        ensures slots { self.new.slots ≡ self.old.slots }
+        ensures rooms { self.old.rooms ≤ self.new.rooms }
+        ensures ok { OnOk result (self.old.rooms < self.new.rooms) }
+        ensures few { OnOk result (self.new.rooms < no_index) }
+        ensures cause { IfErr result (λ error. error ≡ OutOfMemory) }
+    {
+        self.settled.grow()
+    }
+
+    /// The borrow that stands apart, if there is one, goes to the table.
     #[inline(always)]
-    pub fn begin_read(&mut self, slot: usize, borrow: Borrow) -> Result<(), AllocError>
-        requires within { slot < length self.old.slots }
-        requires ascends { IfSome (slice_get self.old.slots slot)
+    pub fn settle(&mut self)
+        ensures { self.new ≡ self.old }
+    {
+        settle(&mut self.settled, &mut self.last);
+    }
+
+    /// Adds a reader to a value that isn't lent. Only a reader beside another may lack memory, and
+    /// then nothing changes. The caller may know that the value has no borrow.
+    #[inline(always)]
+    pub fn begin_read(
+        &mut self,
+        name: CellName,
+        borrow: Borrow,
+        is_alone: bool,
+    ) -> Result<(), AllocError>
+        requires there { IsReadable name.generation (slice_get self.old.slots name.slot) }
+        requires ascends { IfSome (slice_get self.old.slots name.slot)
             (λ e. AreBelow borrow.ticket (readers_of (content_in e.kept))) }
-        ensures ok { OnOk result (self.new.slots ≡ change_entry self.old.slots slot
+        requires alone { is_alone ≡ true → IsAlone name.generation
+            (slice_get self.old.slots name.slot) }
+        ensures ok { OnOk result (self.new.slots ≡ change_entry self.old.slots name.slot
             (λ e. record e { kept = with_reader borrow e.kept })) }
         ensures err { OnErr result (self.new ≡ self.old) }
-        ensures beside { OnErr result (IfSome (slice_get self.old.slots slot)
+        ensures beside { OnErr result (IfSome (slice_get self.old.slots name.slot)
             (λ e. is_some (write_refusal (content_in e.kept)) ≡ true)) }
         ensures rooms { self.new.rooms ≡ self.old.rooms }
     {
-        let content = &mut self.entries[slot].content;
-        match content {
-            StorageEntryData::Data(_, _) => {
-                content.list(self.borrows.open(borrow));
-                Ok(())
-            }
-            StorageEntryData::Read(_, index, _) => self.borrows.push(*index, borrow),
-            _ => Ok(()),
+        settle(&mut self.settled, &mut self.last);
+        if !is_alone {
+            list_reader(&mut self.settled, name.slot, borrow)?;
         }
+        self.last.slot = name.slot;
+        self.last.generation = name.generation;
+        self.last.borrow.ticket = borrow.ticket;
+        self.last.borrow.location = borrow.location;
+        self.last.standing = Standing::Reader;
+        Ok(())
     }
 
     /// Takes a reader away. The answer is whether it stood.
@@ -375,73 +323,50 @@ impl<T: Drop> Entries<T> {
             (λ e. record e { kept = without_reader_in ticket e.kept }) }
         ensures rooms { self.new.rooms ≡ self.old.rooms }
     {
-        let content = &mut self.entries[slot].content;
-        match content {
-            StorageEntryData::Read(_, index, _) => {
-                let known = self.borrows.release(index, ticket);
-                content.unlist();
-                known
-            }
-            _ => false,
+        if self.last.is_reader()
+            && self.last.slot == slot
+            && self.last.borrow.ticket == ticket
+            && self.settled.has_no_borrow(slot)
+        {
+            self.last.standing = Standing::Nobody;
+            return true;
         }
+        self.release_read_any(slot, ticket)
     }
 
-    /// Takes the value of a cell without borrows out. Nobody is its writer then.
-    #[inline(always)]
-    pub fn take(&mut self, slot: usize) -> T
-        requires within { slot < length self.old.slots }
-        requires free { IfSome (slice_get self.old.slots slot)
-            (λ e. has_no_borrow (content_in e.kept) ≡ true) }
-        ensures value { IfSome (slice_get self.old.slots slot)
-            (λ e. content_in e.kept ≡ Some (Here result [])) }
+    // The same, for every reader.
+    #[cold]
+    #[inline(never)]
+    fn release_read_any(&mut self, slot: usize, ticket: u64) -> bool
+        requires { slot < length self.old.slots }
+        ensures known { IfSome (slice_get self.old.slots slot)
+            (λ e. result ≡ has_reader (content_in e.kept) ticket) }
         ensures after { self.new.slots ≡ change_entry self.old.slots slot
-            (λ e. record e { kept = taken e.kept }) }
+            (λ e. record e { kept = without_reader_in ticket e.kept }) }
         ensures rooms { self.new.rooms ≡ self.old.rooms }
     {
-        self.entries[slot].content.lend()
+        settle(&mut self.settled, &mut self.last);
+        self.settled.release_read(slot, ticket)
     }
 
-    /// Lets a lent value have this writer.
-    pub fn list_writer(&mut self, slot: usize, writer: Borrow)
-        requires within { slot < length self.old.slots }
-        requires lent { IfSome (slice_get self.old.slots slot)
-            (λ e. is_lent (content_in e.kept) ≡ true) }
-        ensures slots { self.new.slots ≡ change_entry self.old.slots slot
+    /// Lends the value of a cell without borrows to a writer.
+    #[inline(always)]
+    pub fn begin_write(&mut self, name: CellName, writer: Borrow) -> T
+        requires free { IsAlone name.generation (slice_get self.old.slots name.slot) }
+        ensures value { IfSome (slice_get self.old.slots name.slot)
+            (λ e. content_in e.kept ≡ Some (Here result [])) }
+        ensures after { self.new.slots ≡ change_entry self.old.slots name.slot
             (λ e. record e { kept = lend_to writer e.kept }) }
         ensures rooms { self.new.rooms ≡ self.old.rooms }
     {
-        match &mut self.entries[slot].content {
-            StorageEntryData::Lent(_, index) => {
-                if *index == NO_INDEX {
-                    *index = self.borrows.open(writer);
-                } else {
-                    self.borrows.set_only(*index, writer);
-                }
-            }
-            _ => unreachable!(),
-        }
-    }
-
-    /// Puts a value back where one is lent. Its writer is forgotten.
-    #[inline(always)]
-    pub fn put_back(&mut self, slot: usize, value: T)
-        requires within { slot < length self.old.slots }
-        requires lent { IfSome (slice_get self.old.slots slot)
-            (λ e. is_lent (content_in e.kept) ≡ true) }
-        ensures slots { self.new.slots ≡ change_entry self.old.slots slot
-            (λ e. record e { kept = with_value value e.kept }) }
-        ensures rooms { self.new.rooms ≡ self.old.rooms }
-    {
-        match &self.entries[slot].content {
-            StorageEntryData::Lent(kind, index) => {
-                let (kind, index) = (*kind, *index);
-                self.entries[slot].content = StorageEntryData::Data(kind, value);
-                if index != NO_INDEX {
-                    self.borrows.close(index);
-                }
-            }
-            _ => unreachable!(),
-        }
+        settle(&mut self.settled, &mut self.last);
+        let value = self.settled.take(name.slot);
+        self.last.slot = name.slot;
+        self.last.generation = name.generation;
+        self.last.borrow.ticket = writer.ticket;
+        self.last.borrow.location = writer.location;
+        self.last.standing = Standing::Writer;
+        value
     }
 
     /// Puts a writer's value back, or hands it back where the writer doesn't stand, which changes
@@ -456,17 +381,28 @@ impl<T: Drop> Entries<T> {
         ensures err { IfErr result (λ back. (back ≡ value) × (self.new ≡ self.old)) }
         ensures rooms { self.new.rooms ≡ self.old.rooms }
     {
-        match &self.entries[slot].content {
-            StorageEntryData::Lent(_, index) => {
-                let writer = writer_at(&self.borrows, *index, self.details[slot].created_at);
-                if writer.ticket != ticket {
-                    return Err(value);
-                }
-                self.put_back(slot, value);
-                Ok(())
-            }
-            _ => Err(value),
+        if self.last.is_writer() && self.last.slot == slot && self.last.borrow.ticket == ticket {
+            self.last.standing = Standing::Nobody;
+            self.settled.put_back(slot, value);
+            return Ok(());
         }
+        self.release_write_any(slot, ticket, value)
+    }
+
+    // The same, for every writer.
+    #[cold]
+    #[inline(never)]
+    fn release_write_any(&mut self, slot: usize, ticket: u64, value: T) -> Result<(), T>
+        requires { slot < length self.old.slots }
+        ensures known { IfSome (slice_get self.old.slots slot)
+            (λ e. IsTrue (is_ok result) ↔ (has_writer (content_in e.kept) ticket ≡ true)) }
+        ensures ok { OnOk result (self.new.slots ≡ change_entry self.old.slots slot
+            (λ e. record e { kept = with_value value e.kept })) }
+        ensures err { IfErr result (λ back. (back ≡ value) × (self.new ≡ self.old)) }
+        ensures rooms { self.new.rooms ≡ self.old.rooms }
+    {
+        settle(&mut self.settled, &mut self.last);
+        self.settled.release_write(slot, ticket, value)
     }
 
     /// Puts another value in the place of that of a cell without borrows, and answers the old one.
@@ -481,25 +417,29 @@ impl<T: Drop> Entries<T> {
             (λ e. record e { kept = with_value value e.kept }) }
         ensures rooms { self.new.rooms ≡ self.old.rooms }
     {
-        match &mut self.entries[slot].content {
-            StorageEntryData::Data(_, kept) => mem::replace(kept, value),
-            _ => unreachable!(),
-        }
+        settle(&mut self.settled, &mut self.last);
+        self.settled.replace(slot, value)
     }
 
-    /// Ends the slot's cell, with the borrows that stand there.
+    /// Ends the slot's cell, with the borrows that stand there. The caller may know that it is a
+    /// value without borrows.
     #[inline(always)]
-    pub fn end(&mut self, slot: usize)
-        requires { slot < length self.old.slots }
+    pub fn end(&mut self, slot: usize, is_alone: bool)
+        requires within { slot < length self.old.slots }
+        requires alone { is_alone ≡ true → IfSome (slice_get self.old.slots slot)
+            (λ e. has_no_borrow (content_in e.kept) ≡ true) }
         ensures slots { self.new.slots ≡ change_entry self.old.slots slot
             (λ e. record e { kept = Empty }) }
         ensures rooms { self.new.rooms ≡ self.old.rooms }
     {
-        let index = self.entries[slot].index();
-        self.entries[slot].content = StorageEntryData::Empty;
-        if index != NO_INDEX {
-            self.borrows.close(index);
+        if is_alone {
+            self.settled.end(slot);
+            return;
         }
+        if self.last.slot == slot {
+            self.last.standing = Standing::Nobody;
+        }
+        self.settled.end(slot)
     }
 
     /// Puts a cell without borrows into a slot that has none, under the next generation, which is
@@ -517,11 +457,7 @@ impl<T: Drop> Entries<T> {
             { generation = result; kept = kept_data [] created_at content; references = 0 }) }
         ensures rooms { self.new.rooms ≡ self.old.rooms }
     {
-        self.details[slot] = EntryDetails {
-            created_at,
-            references: 0,
-        };
-        self.entries[slot].refill(content)
+        self.settled.refill(slot, content, created_at)
     }
 
     /// Adds a slot with a cell without borrows, to which nothing refers. There is room for it.
@@ -535,14 +471,7 @@ impl<T: Drop> Entries<T> {
         ensures rooms { self.new.rooms ≡ self.old.rooms }
         ensures few { length self.old.slots < no_index }
     {
-        self.entries.push_reserved(StorageEntry {
-            generation,
-            content,
-        });
-        self.details.push_reserved(EntryDetails {
-            created_at,
-            references: 0,
-        });
+        self.settled.push(generation, content, created_at)
     }
 
     /// Lets the slot's reference name another cell.
@@ -557,7 +486,7 @@ impl<T: Drop> Entries<T> {
             })) }
         ensures rooms { self.new.rooms ≡ self.old.rooms }
     {
-        self.entries[slot].content = self.reference_to(target);
+        self.settled.redirect(slot, target)
     }
 
     /// One reference more names the slot's cell.
@@ -570,7 +499,7 @@ impl<T: Drop> Entries<T> {
             (λ e. record e { references = e.references + 1 }) }
         ensures rooms { self.new.rooms ≡ self.old.rooms }
     {
-        self.details[slot].references += 1;
+        self.settled.details[slot].references += 1;
     }
 
     /// One less does.
@@ -582,74 +511,83 @@ impl<T: Drop> Entries<T> {
             (λ e. record e { references = e.references - 1 }) }
         ensures rooms { self.new.rooms ≡ self.old.rooms }
     {
-        self.details[slot].references -= 1;
+        self.settled.details[slot].references -= 1;
     }
 }
 
-// The next larger number of slots for which room is made.
-fn larger_room(room: usize) -> Result<usize, StoreError>
-    ensures more { IfOk result (λ more. (room < more) × (more < no_index)) }
-    ensures cause { IfErr result (λ error. error ≡ OutOfMemory) }
-{
-    let most = NO_INDEX as usize - 1;
-    if room >= most {
-        return Err(StoreError::OutOfMemory);
-    }
-    Ok(most.min(room + more_room(room)))
-}
-
-// The answer to a write or an end where the readers at this index stand.
-#[cold]
-#[inline(never)]
-fn readers_error(borrows: &BorrowTable, index: u32, alloc: Global) -> Refused<BorrowMutError>
-    requires { index < length borrows.now.lists }
-    ensures { FoundReaders (list_at borrows.now.lists index) result }
-{
-    match borrows.borrows_at(index).locations(alloc) {
-        Ok(borrowed_at) => Refused::Borrow(BorrowMutError::AlreadyBorrowed(
-            AlreadyBorrowedError::new(borrowed_at),
-        )),
-        Err(_) => Refused::Store(StoreError::OutOfMemory),
-    }
-}
-
-/// The answer to a write or an end where one reader stands.
-#[cold]
-#[inline(never)]
-pub fn reader_error(reader: Borrow, alloc: Global) -> Refused<BorrowMutError>
-    ensures { FoundReaders (reader ∷ []) result }
-{
-    match Vec::with_capacity(alloc, 1) {
-        Ok(mut borrowed_at) => {
-            borrowed_at.push_reserved(reader.location);
-            Refused::Borrow(BorrowMutError::AlreadyBorrowed(AlreadyBorrowedError::new(borrowed_at)))
-        }
-        Err(_) => Refused::Store(StoreError::OutOfMemory),
-    }
-}
-
-// The writer at an index, or nobody.
-fn writer_at(borrows: &BorrowTable, index: u32, created_at: Location) -> Borrow
-    requires within { index ≢ no_index → index < length borrows.now.lists }
-    requires none { list_at borrows.now.lists no_index ≡ [] }
-    ensures { result ≡ writer_in (list_at borrows.now.lists index) created_at }
-{
-    if index == NO_INDEX {
-        return Borrow {
-            ticket: 0,
-            location: created_at,
-        };
-    }
-    borrows.first(index)
-}
-
-/// The answer to a write or an end where a writer stands.
+// The borrow that stands apart, if there is one, goes to the table.
 #[inline(always)]
-pub fn writer_error(writer: Borrow) -> Refused<BorrowMutError>
-    ensures { result ≡ refused.Borrow (writes.AlreadyBorrowedMut
-        (record { borrowed_mut_at = writer.location })) }
+fn settle<T: Drop>(settled: &mut SettledEntries<T>, last: &mut LastBorrow)
+    requires { IsNoted last.old settled.old.slots }
+    ensures slots { settled.new.slots ≡ noted last.old settled.old.slots }
+    ensures rooms { settled.new.rooms ≡ settled.old.rooms }
+    ensures none { is_apart last.new.standing ≡ false }
 {
-    Refused::Borrow(BorrowMutError::AlreadyBorrowedMut(AlreadyBorrowedMutError::new(
-        writer.location,
-    )))
+    if last.is_apart() {
+        list_last(settled, *last);
+        last.standing = Standing::Nobody;
+    }
+}
+
+// The answer to a write or an end where the borrow that stands apart is in the way, and others
+// beside it.
+#[cold]
+#[inline(never)]
+fn last_error<T>(entries: &SettledEntries<T>, last: LastBorrow) -> BorrowMutResult<()>
+    requires apart { is_apart last.standing ≡ true }
+    requires fits { IsNoted last entries.now.slots }
+    ensures { IfSome (slice_get entries.now.slots last.slot) (λ e. FoundBorrowed
+        (write_refusal (content_in (with_content (joined last.standing last.borrow) e.kept)))
+        result) }
+{
+    if last.is_writer() {
+        return Err(writer_error(last.borrow));
+    }
+    if entries.has_no_borrow(last.slot) {
+        return Err(reader_error(last.borrow, entries.alloc));
+    }
+    entries.borrow_mut_error(last.slot)
+}
+
+// Lists the borrow that stands apart, unless it is a reader that is listed. Takes no memory.
+#[cold]
+#[inline(never)]
+fn list_last<T: Drop>(entries: &mut SettledEntries<T>, last: LastBorrow)
+    requires apart { is_apart last.standing ≡ true }
+    requires fits { IsNoted last entries.old.slots }
+    ensures slots { entries.new.slots ≡ noted last entries.old.slots }
+    ensures rooms { entries.new.rooms ≡ entries.old.rooms }
+{
+    if last.is_writer() {
+        entries.list_writer(last.slot, last.borrow);
+        return;
+    }
+    if !entries.has_no_borrow(last.slot) {
+        return;
+    }
+    match entries.begin_read(last.slot, last.borrow) {
+        Ok(()) => {}
+        Err(_) => unreachable!(),
+    }
+}
+
+// Lists a reader of a cell that isn't lent.
+#[cold]
+#[inline(never)]
+fn list_reader<T: Drop>(
+    entries: &mut SettledEntries<T>,
+    slot: usize,
+    reader: Borrow,
+) -> Result<(), AllocError>
+    requires within { slot < length entries.old.slots }
+    requires ascends { IfSome (slice_get entries.old.slots slot)
+        (λ e. AreBelow reader.ticket (readers_of (content_in e.kept))) }
+    ensures ok { OnOk result (entries.new.slots ≡ change_entry entries.old.slots slot
+        (λ e. record e { kept = with_reader reader e.kept })) }
+    ensures err { OnErr result (entries.new ≡ entries.old) }
+    ensures beside { OnErr result (IfSome (slice_get entries.old.slots slot)
+        (λ e. is_some (write_refusal (content_in e.kept)) ≡ true)) }
+    ensures rooms { entries.new.rooms ≡ entries.old.rooms }
+{
+    entries.begin_read(slot, reader)
 }

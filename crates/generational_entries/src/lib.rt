@@ -8,3 +8,4 @@
 pub mod entries;
 pub mod entry;
 pub mod latest;
+pub mod settled;

@@ -4,3 +4,6 @@ pub mod CarriedCells
 pub mod CarriedSession
 pub mod NumberedCalls
 pub mod Plain
+pub use CarriedCells.*
+pub use CarriedCalls.*
+pub use CarriedSession.*

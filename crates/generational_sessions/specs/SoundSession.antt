@@ -3,17 +3,17 @@
 use Rattle.std.specs.Prelude.{◌≡◌, ℕ, ◌≤◌, Bool, true, false, nat_eq}
 use Rattle.std.specs.List.{count_by}
 use Rattle.generational_core.specs.Boxes.{name_of}
-use Rattle.generational_core.specs.State.{State, IsSound, IsGiven}
+use Rattle.generational_core.specs.State.{State, IsSound, IsBoxed}
 use Rattle.generational_core.specs.Conditions.{count_under, IsBounded}
 use Rattle.generational_core.specs.Machine.{knows_reader, knows_writer}
 use Rattle.generational_sessions.specs.Session.{SessionState, Held, at_place}
 use Rattle.generational_sessions.specs.Session.Held.{Boxed, Reading, Writing, Owning, Nothing}
 
 module _ {T : Type 0} where
-  -- What is held is the store's own: the name of a box was given there, the store knows a guard,
-  -- and an owner is of this store.
+  -- What is held is the store's own: the name of a box was given there and is no Shared cell's, the
+  -- store knows a guard, and an owner is of this store.
   unfoldable pub IsOwn : State T → Held T → Type 0
-  IsOwn S (Boxed b) = (b.id.store ≡ S.number) × IsGiven S (name_of b)
+  IsOwn S (Boxed b) = (b.id.store ≡ S.number) × IsBoxed S (name_of b)
   IsOwn S (Reading g) = knows_reader S g ≡ true
   IsOwn S (Writing g v) = knows_writer S g ≡ true
   IsOwn S (Owning o) = o.store ≡ S.number

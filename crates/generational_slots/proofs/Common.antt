@@ -4,8 +4,6 @@ pub use Rattle.generational_containers.specs.CellNames.{name_of_cell}
 pub use Rattle.generational_entries.specs.Entry.{with_content, has_no_borrow}
 pub use Rattle.generational_entries.specs.Entry.Kept.{Empty, Live, Refers}
 pub use Rattle.generational_entries.specs.declared.entry.Kind.{Kind}
-pub use Rattle.generational_containers.specs.OwnerRecords.{knows_any}
-pub use Rattle.generational_slots.specs.Slotted.{IsRefused}
 pub use Rattle.generational_slots.specs.Slotted.{AreReferred, HasBegun, IsReferred, IsSlotted}
 pub use Rattle.generational_slots.specs.Slotted.{Count, Inventory, Retirements, Slotted, count_of}
 pub use Rattle.generational_entries.specs.Entry.{cell_at, cell_in, change_entry}

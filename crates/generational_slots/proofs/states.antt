@@ -3,6 +3,8 @@ pub mod Counting
 pub mod Endings
 pub mod Hindrance
 pub mod Makings
+pub mod Pointing
+pub mod Reaching
 pub mod Recounts
 pub mod References
 pub mod States

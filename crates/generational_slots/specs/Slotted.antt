@@ -9,25 +9,22 @@ use Rattle.std.specs.Ordering.{nat_cmp}
 use Rattle.std.specs.FinMap as map
 use Rattle.std.specs.FinSet as set
 use Rattle.generational_core.specs.Names.{Name, NameMap, Names}
-use Rattle.generational_core.specs.Borrowing.{Trouble, leads_to, write_refusal}
-use Rattle.generational_core.specs.Cells.{Cell, content_of, is_shared, refers_to}
+use Rattle.generational_core.specs.declared.error.Location.{Location}
+use Rattle.generational_core.specs.Borrowing.{Trouble, fill, leads_to, read_refusal, refusal_at}
+use Rattle.generational_core.specs.Borrowing.{write_refusal}
+use Rattle.generational_core.specs.Borrowing.Trouble.{Dropped}
+use Rattle.generational_core.specs.Cells.{Cell, Content, content_of, is_shared, refers_to}
 use Rattle.generational_core.specs.Cells.Cell.{Value, Ref}
-use Rattle.generational_core.specs.State.{State, Owners}
+use Rattle.generational_core.specs.State.{State, Owners, content_at}
 use Rattle.generational_core.specs.Machine.{add_cell, Outcome}
 use Rattle.generational_core.specs.Machine.Answer.{Done, Troubled}
 use Rattle.generational_core.specs.declared.error.BorrowMutError.{BorrowMutError}
-use Rattle.generational_core.specs.Machine.{OwnerName}
-use Rattle.generational_core.specs.Slots.{free}
-use Rattle.generational_core.specs.declared.error.StoreError.{StoreError}
-use Rattle.generational_core.specs.declared.error.StoreError.TheVariants.{UnknownOwner, OutOfMemory}
-use Rattle.generational_core.specs.declared.error.StoreError.TheVariants.{NumbersExhausted}
 use Rattle.generational_core.specs.declared.error.Refused.{Refused}
 use Rattle.generational_core.specs.Slots.{last_generation}
 use Rattle.generational_core.specs.Steps.{IsNew}
 use Rattle.generational_entries.specs.Entry.{Entry, FoundBorrowed, cell_of, is_live}
 use Rattle.generational_containers.specs.Lists.{how_many}
 use Rattle.generational_entries.specs.Entry.{cell_at, change_entry}
-use Rattle.generational_containers.specs.OwnerRecords.{knows_any}
 
 -- The slots of a store: the state for which they stand, without owners and numbers, and how many
 -- cells more take no memory.
@@ -110,6 +107,39 @@ module _ {T : Type 0} where
   abbrev pub with_records : State T → ℕ → Owners → ℕ → State T
   with_records S number owners next =
       record S { number = number; owners = owners; next = next }
+
+  -- the state in which the content at a name, if there is one, is changed by f
+  abbrev pub change_content_if : State T → Name → (Content T → Content T) → Option (Content T)
+      → State T
+  change_content_if S n f None = S
+  change_content_if S n f (Some c) = fill S n (f c)
+
+  abbrev pub change_content : State T → Name → (Content T → Content T) → State T
+  change_content S n f = change_content_if S n f (content_at S n)
+
+  -- what a box of this name reaches, and the content that stands there
+  abbrev pub reached : State T → Name → Option Name
+  reached S n = leads_to (map.get S.cells n) n
+
+  abbrev pub content_reached : State T → Option Name → Option (Content T)
+  content_reached S None = None
+  content_reached S (Some m) = content_at S m
+
+  -- how a read is refused of what a box reaches that was made at l, and how a write is
+  abbrev pub read_trouble_at : State T → Name → Location → Option Trouble
+  read_trouble_at S n l = refusal_at (reached S n) l (λ m. read_refusal (content_at S m))
+
+  abbrev pub write_trouble_at : State T → Name → Location → Option Trouble
+  write_trouble_at S n l = refusal_at (reached S n) l (λ m. write_refusal (content_at S m))
+
+  -- how a reference to it is refused: as a read is, and where what is reached isn't shared
+  abbrev pub shared_reached : State T → Option Name → Bool
+  shared_reached S None = false
+  shared_reached S (Some m) = is_shared (map.get S.cells m)
+
+  abbrev pub refer_trouble_at : State T → Name → Location → Option Trouble
+  refer_trouble_at S n l = option_or (read_trouble_at S n l)
+      (if shared_reached S (reached S n) then None else Some (Dropped l))
 
   -- whether a generation of a slot was given
   abbrev pub given_in : ℕ → Option (Entry T) → ℕ → Bool
@@ -228,13 +258,3 @@ abbrev pub Turns : {T : Type 0} → State T → State T → Result (Unit {0}) (R
 Turns S R result (Done, after) = (IsTrue (is_ok result)) × (R ≡ after)
 Turns S R result (Troubled t, after) = FoundBorrowed (Some t) result × (R ≡ S)
 Turns S R result _ = ⊥
-
--- why a cell isn't made: the owner isn't known, or there is no memory for its list or for a cell
--- where none is spare
-abbrev pub IsRefused : {T : Type 0} → Slotted T → ℕ → Owners → Option OwnerName → StoreError
-    → Type 0
-IsRefused s number owners o UnknownOwner = knows_any number owners o ≡ false
-IsRefused s number owners o OutOfMemory =
-    (knows_any number owners o ≡ true)
-    × (IsSome o ⊎ ((free s.state ≡ 0) × (s.spare ≡ 0)))
-IsRefused s number owners o NumbersExhausted = ⊥

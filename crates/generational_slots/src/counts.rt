@@ -1,9 +1,22 @@
-//! How many slots of a store were retired.
+//! How many slots a store has, and how many of them were retired.
 
 ghost use Rattle.std.specs.Prelude.{◌≡◌, ◌+◌, ◌<◌, ◌≤◌};
 ghost use Rattle.generational_slots.specs.Slotted.{count_of};
 
 use std::marker::Model;
+
+/// How many slots a store has.
+#[derive(Clone, Copy)]
+pub struct SlotCounts {
+    /// All that were ever made.
+    pub slots: usize,
+    /// Those that are free.
+    pub free: usize,
+    /// Those that are never used again.
+    pub retired: usize,
+    /// The most cells that were live at once.
+    pub peak_live: usize,
+}
 
 /// How many slots of a store were retired, and the most that were usable at once before the last
 /// of them was. A slot is usable while it is live or free. A slot more is only made where none is

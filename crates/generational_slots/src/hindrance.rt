@@ -15,13 +15,13 @@ ghost use Rattle.generational_slots.specs.Slotted.{with_more};
 
 use generational_containers::names::CellName;
 use generational_core::BorrowMutResult;
+use generational_entries::entries::Entries;
 use generational_entries::entry::Kind;
-use generational_entries::latest::LatestEntries;
 
 /// The value that goes where a name ends, if its target goes with this many references left: its
 /// own, or the target's.
 #[inline(always)]
-pub fn doomed<T: Drop>(entries: &LatestEntries<T>, name: CellName, last: usize) -> Option<CellName>
+pub fn doomed<T: Drop>(entries: &Entries<T>, name: CellName, last: usize) -> Option<CellName>
     requires { IsLinked (cells_of entries.now.slots) }
     ensures { option_map name_of_cell result ≡ doomed_by (has_more entries.now.slots last)
         (cell_at entries.now.slots (name_of_cell name)) (name_of_cell name) }
@@ -42,10 +42,7 @@ pub fn doomed<T: Drop>(entries: &LatestEntries<T>, name: CellName, last: usize) 
 /// memory. What has no borrow hinders no end, so each name is asked for a borrow first, and no count
 /// matters before one is met. Where all are values that aren't shared, a small loop asks them.
 #[inline(always)]
-pub fn find_hindrance<T: Drop>(
-    entries: &mut LatestEntries<T>,
-    names: &[CellName],
-) -> BorrowMutResult<()>
+pub fn find_hindrance<T: Drop>(entries: &mut Entries<T>, names: &[CellName]) -> BorrowMutResult<()>
     requires linked { IsLinked (cells_of entries.old.slots) }
     requires referred { AreReferred (λ m. 0) entries.old.slots }
     requires apart { IsDistinct is_name (list_map name_of_cell names.now) }
@@ -65,7 +62,7 @@ pub fn find_hindrance<T: Drop>(
 
 // Whether each of the names is of a value that isn't shared and has no borrow.
 #[inline(always)]
-fn are_unborrowed_values<T: Drop>(entries: &LatestEntries<T>, names: &[CellName]) -> bool
+fn are_unborrowed_values<T: Drop>(entries: &Entries<T>, names: &[CellName]) -> bool
     ensures { result ≡ list_all
         (λ n. is_unborrowed_value (cell_at entries.now.slots (name_of_cell n))) names.now }
 {
@@ -74,7 +71,7 @@ fn are_unborrowed_values<T: Drop>(entries: &LatestEntries<T>, names: &[CellName]
 
 // The first name of a list that reaches a borrowed value. That may live on.
 #[inline(never)]
-fn first_borrowed<T: Drop>(entries: &LatestEntries<T>, names: &[CellName]) -> Option<usize>
+fn first_borrowed<T: Drop>(entries: &Entries<T>, names: &[CellName]) -> Option<usize>
     requires { IsLinked (cells_of entries.now.slots) }
     ensures { result ≡ position (reaches_borrowed entries.now.slots)
         (list_map name_of_cell names.now) }
@@ -89,7 +86,7 @@ fn first_borrowed<T: Drop>(entries: &LatestEntries<T>, names: &[CellName]) -> Op
 
 // Whether a name reaches a borrowed value: its own, or the one that its reference names.
 #[inline(always)]
-fn reaches_borrow<T: Drop>(entries: &LatestEntries<T>, name: CellName) -> bool
+fn reaches_borrow<T: Drop>(entries: &Entries<T>, name: CellName) -> bool
     requires { IsLinked (cells_of entries.now.slots) }
     ensures { result ≡ reaches_borrowed entries.now.slots (name_of_cell name) }
 {
@@ -108,7 +105,7 @@ fn reaches_borrow<T: Drop>(entries: &LatestEntries<T>, name: CellName) -> bool
 #[cold]
 #[inline(never)]
 fn find_hindrance_from<T: Drop>(
-    entries: &mut LatestEntries<T>,
+    entries: &mut Entries<T>,
     names: &[CellName],
     first: usize,
 ) -> BorrowMutResult<()>
@@ -133,7 +130,7 @@ fn find_hindrance_from<T: Drop>(
 }
 
 // Takes the references of a list off the counts of what they name.
-fn count_off<T: Drop>(entries: &mut LatestEntries<T>, names: &[CellName])
+fn count_off<T: Drop>(entries: &mut Entries<T>, names: &[CellName])
     requires linked { IsLinked (cells_of entries.old.slots) }
     requires referred { AreReferred (λ m. 0) entries.old.slots }
     requires apart { IsDistinct is_name (list_map name_of_cell names.now) }
@@ -149,7 +146,7 @@ fn count_off<T: Drop>(entries: &mut LatestEntries<T>, names: &[CellName])
 }
 
 // Counts them again.
-fn count_back<T: Drop>(entries: &mut LatestEntries<T>, names: &[CellName])
+fn count_back<T: Drop>(entries: &mut Entries<T>, names: &[CellName])
     requires linked { IsLinked (cells_of entries.old.slots) }
     requires referred { AreReferred (λ m. 0) (with_more (refers_among entries.old.slots
         (list_map name_of_cell names.now)) 0 entries.old.slots) }
@@ -166,7 +163,7 @@ fn count_back<T: Drop>(entries: &mut LatestEntries<T>, names: &[CellName])
 
 // What hinders the end of the names of a list, at the first of them that is hindered, where their
 // references are off the counts.
-fn first_hindered<T: Drop>(entries: &LatestEntries<T>, names: &[CellName]) -> BorrowMutResult<()>
+fn first_hindered<T: Drop>(entries: &Entries<T>, names: &[CellName]) -> BorrowMutResult<()>
     requires { IsLinked (cells_of entries.now.slots) }
     ensures { FoundBorrowed (first_refusal (cells_of entries.now.slots)
         (has_more entries.now.slots 0) (list_map name_of_cell names.now)) result }

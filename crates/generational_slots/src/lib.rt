@@ -7,4 +7,5 @@
 
 pub mod counts;
 pub mod hindrance;
+pub mod refusals;
 pub mod slots;

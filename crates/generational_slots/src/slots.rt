@@ -1,45 +1,50 @@
 //! The slots of a store with the pool of the free ones.
 
 ghost use Rattle.std.specs.Prelude.{◌≡◌, ℕ, ◌+◌, ◌-◌, ◌<◌, ◌≤◌, ◌∷◌, [], true, max, Some, None};
-ghost use Rattle.std.specs.Prelude.{IfSome, IfOk, IfErr, IsSome, OnOk, OnErr, IsTrue, ◌↔◌, is_ok};
-ghost use Rattle.std.specs.Prelude.{is_some, is_none, option_copied, option_map, length, slice_get};
+ghost use Rattle.std.specs.Prelude.{Err, IfSome, IfOk, IfErr, IsSome, OnOk, OnErr, IsTrue, ◌↔◌};
+ghost use Rattle.std.specs.Prelude.{is_none, is_ok, option_copied, option_map, length, not};
+ghost use Rattle.std.specs.Prelude.{is_some, slice_get};
 ghost use Rattle.std.specs.Prelude.{map as list_map};
 ghost use Rattle.std.specs.List.{IsDistinct};
 ghost use Rattle.std.specs.FinMap as map;
+ghost use Rattle.generational_core.specs.declared.boxes.GenerationalPointer.{GenerationalPointer};
 ghost use Rattle.generational_core.specs.declared.error.StoreError.TheVariants.{OutOfMemory};
+ghost use Rattle.generational_core.specs.Answers.{read_trouble_of};
 ghost use Rattle.generational_core.specs.Borrowing.{fill, leads_to, read_refusal, write_refusal};
-ghost use Rattle.generational_core.specs.Borrowing.Trouble.{BeingWritten};
+ghost use Rattle.generational_core.specs.Boxes.{box_of};
 ghost use Rattle.generational_core.specs.Cells.{is_shared, location_of};
 ghost use Rattle.generational_core.specs.Cells.Content.{Here, Lent};
 ghost use Rattle.generational_core.specs.Cells.Cell.{Ref};
 ghost use Rattle.generational_core.specs.Conditions.{fresh, HasTargets, IsFresh, IsLinked};
 ghost use Rattle.generational_core.specs.Ending.{close, hindrance_to};
-ghost use Rattle.generational_core.specs.Machine.{has_reader, has_writer, turn};
+ghost use Rattle.generational_core.specs.Machine.{has_reader, has_writer, point, turn};
 ghost use Rattle.generational_core.specs.Names.{is_name};
 ghost use Rattle.generational_core.specs.Slots.{slots, free, retired};
 ghost use Rattle.generational_core.specs.State.{content_at, is_named};
+ghost use Rattle.generational_core.specs.StepCalls.{tells_of_borrow};
 ghost use Rattle.generational_entries.specs.declared.entry.StorageEntryData.TheVariants as content;
 ghost use Rattle.generational_containers.specs.Borrows.{AreBelow};
 ghost use Rattle.generational_entries.specs.Entries.{IsUnborrowed, kept_data, target_of};
-ghost use Rattle.generational_entries.specs.Entry.{FoundBorrowed, cell_of, has_no_borrow, kind_in};
+ghost use Rattle.generational_entries.specs.Entry.{FoundBorrowed, cell_at, cell_of, has_no_borrow};
 ghost use Rattle.generational_entries.specs.Entry.{less_read, one_read, readers_of};
 ghost use Rattle.generational_containers.specs.CellNames.{name_of_cell};
-ghost use Rattle.generational_entries.specs.Entry.{is_unborrowed_value, target_in, value_for};
-ghost use Rattle.generational_containers.specs.OwnerRecords.{IsListed, IsRefusal};
-ghost use Rattle.generational_slots.specs.Slotted.{IsRefused};
+ghost use Rattle.generational_entries.specs.Entry.{target_in, value_for};
+ghost use Rattle.generational_slots.specs.Slotted.{change_content, content_reached, reached};
+ghost use Rattle.generational_slots.specs.Slotted.{read_trouble_at, refer_trouble_at};
+ghost use Rattle.generational_slots.specs.Slotted.{write_trouble_at};
 ghost use Rattle.generational_slots.specs.Slotted.{count_less, count_more, doomed_by, IsMade};
 ghost use Rattle.generational_slots.specs.Slotted.{Turns};
 ghost use Rattle.generational_slots.specs.Slotted.{shared_target, with_records};
 
-use crate::counts::Counts;
+use crate::counts::{Counts, SlotCounts};
 use crate::hindrance::{doomed, find_hindrance};
+use crate::refusals::{dropped, dropped_mut};
 use generational_containers::names::CellName;
-use generational_containers::owners::OwnerRecords;
 use generational_containers::pool::SlotPool;
 use generational_core::parts::Borrow;
-use generational_core::{AlreadyBorrowedMutError, BorrowMutResult, Location, Owner, StoreError};
+use generational_core::{BorrowError, BorrowMutResult, Location, StoreError};
+use generational_entries::entries::Entries;
 use generational_entries::entry::{Kind, StorageEntryData};
-use generational_entries::latest::LatestEntries;
 use std::alloc::{AllocError, Global};
 use std::marker::Model;
 
@@ -51,7 +56,7 @@ pub struct Slots<T, P: SlotPool> {
     // the first generation of a slot
     start: u64,
     counts: Counts,
-    entries: LatestEntries<T>,
+    entries: Entries<T>,
     pool: P,
 }
 
@@ -93,7 +98,7 @@ impl<T, P: SlotPool> Slots<T, P> {
         Slots {
             start,
             counts: Counts::new(),
-            entries: LatestEntries::new(alloc),
+            entries: Entries::new(alloc),
             pool: P::new(alloc),
         }
     }
@@ -107,78 +112,22 @@ impl<T: Drop, P: SlotPool> Slots<T, P> {
         self.entries.len() == 0
     }
 
-    /// How many slots were ever made.
-    pub fn slots(&self) -> usize
-        ensures count { result ≡ slots self.now.state }
+    /// How many slots there are, of which kinds, and the most cells that were live at once.
+    pub fn counts(&self) -> SlotCounts
+        ensures slots { result.slots ≡ slots self.now.state }
+        ensures free { result.free ≡ free self.now.state }
+        ensures retired { result.retired ≡ retired self.now.state }
+        ensures peak { result.peak_live ≡ self.now.state.peak }
         ensures bounded { slots self.now.state
             ≤ self.now.state.peak + retired self.now.state }
     {
-        self.entries.len()
-    }
-
-    /// How many are free.
-    pub fn free(&self) -> usize
-        ensures { result ≡ free self.now.state }
-    {
-        self.pool.free()
-    }
-
-    /// How many are never used again.
-    pub fn retired(&self) -> usize
-        ensures { result ≡ retired self.now.state }
-    {
-        self.counts.retired()
-    }
-
-    /// The most cells that were live at once.
-    pub fn peak_live(&self) -> usize
-        ensures { result ≡ self.now.state.peak }
-    {
-        self.counts.peak(self.entries.len())
-    }
-
-    /// What a box of this name reaches.
-    #[inline(always)]
-    pub fn reach(&self, name: CellName) -> Option<CellName>
-        ensures { option_map name_of_cell result
-            ≡ leads_to (map.get self.now.state.cells (name_of_cell name)) (name_of_cell name) }
-    {
-        self.entries.reach(name)
-    }
-
-    /// Whose the value of this name is, also one that is lent.
-    #[inline(always)]
-    pub fn kind(&self, name: CellName) -> Option<Kind>
-        ensures { result ≡ kind_in (map.get self.now.state.cells (name_of_cell name)) }
-    {
-        self.entries.kind(name)
-    }
-
-    /// The same. The paths that few calls take ask this.
-    #[cold]
-    #[inline(never)]
-    pub fn reach_apart(&self, name: CellName) -> Option<CellName>
-        ensures { option_map name_of_cell result
-            ≡ leads_to (map.get self.now.state.cells (name_of_cell name)) (name_of_cell name) }
-    {
-        self.reach(name)
-    }
-
-    /// Whether the cell of this name is a value, also one that is lent.
-    #[inline(always)]
-    pub fn holds(&self, name: CellName) -> bool
-        ensures { result ≡ is_some (content_at self.now.state (name_of_cell name)) }
-    {
-        self.entries.holds(name)
-    }
-
-    /// What the reference of this name names.
-    #[inline(always)]
-    pub fn target(&self, name: CellName) -> Option<CellName>
-        ensures { option_map name_of_cell result
-            ≡ target_in (map.get self.now.state.cells (name_of_cell name)) }
-    {
-        self.entries.target(name)
+        let made = self.entries.len();
+        SlotCounts {
+            slots: made,
+            free: self.pool.free(),
+            retired: self.counts.retired(),
+            peak_live: self.counts.peak(made),
+        }
     }
 
     /// Where a cell was made.
@@ -197,52 +146,182 @@ impl<T: Drop, P: SlotPool> Slots<T, P> {
         self.entries.reference_to(name.slot)
     }
 
-    /// Whether the cell of this name is a value that isn't shared and has no borrow.
+    /// Whether a box of this name reaches a value that no writer has.
     #[inline(always)]
-    pub fn has_unborrowed_value(&self, name: CellName) -> bool
-        ensures { result
-            ≡ is_unborrowed_value (map.get self.now.state.cells (name_of_cell name)) }
+    pub fn can_read(&self, name: CellName) -> bool
+        requires { IsLinked self.now.state.cells }
+        ensures { (created : Location) → result
+            ≡ is_none (read_trouble_at self.now.state (name_of_cell name) created) }
     {
-        self.entries.has_unborrowed_value(name)
+        match self.entries.reach(name) {
+            Some(value) => self.entries.borrow_error(value.slot).is_none(),
+            None => false,
+        }
     }
 
-    /// The writer that stands in the way of a read.
-    #[inline(always)]
-    pub fn borrow_error(&self, name: CellName) -> Option<AlreadyBorrowedMutError>
-        requires { IsSome (content_at self.now.state (name_of_cell name)) }
-        ensures { option_map (λ writer. BeingWritten writer.borrowed_mut_at) result
-            ≡ read_refusal (content_at self.now.state (name_of_cell name)) }
+    /// Whether no writer has what a box of this name reaches, if it reaches a value.
+    pub fn may_read(&self, name: CellName) -> bool
+        requires { IsLinked self.now.state.cells }
+        ensures { (created : Location) → result ≡ not (tells_of_borrow
+            (read_trouble_at self.now.state (name_of_cell name) created)) }
     {
-        self.entries.borrow_error(name.slot)
+        match self.entries.reach(name) {
+            Some(value) => self.entries.borrow_error(value.slot).is_none(),
+            None => true,
+        }
     }
 
-    /// Whether no borrow stands at a value.
+    /// Whether a box of this name reaches a value without borrows.
     #[inline(always)]
-    pub fn is_unborrowed(&self, name: CellName) -> bool
-        requires { IsSome (content_at self.now.state (name_of_cell name)) }
-        ensures { result ≡ is_none (write_refusal (content_at self.now.state (name_of_cell name))) }
+    pub fn can_write(&self, name: CellName) -> bool
+        requires { IsLinked self.now.state.cells }
+        ensures { (created : Location) → result
+            ≡ is_none (write_trouble_at self.now.state (name_of_cell name) created) }
     {
-        self.entries.is_unborrowed(name.slot)
+        match self.entries.reach(name) {
+            Some(value) => self.entries.is_unborrowed(value.slot),
+            None => false,
+        }
     }
 
-    /// The borrows that stand in the way of a write or an end.
+    /// The value that a box of this name reaches, unless a writer has it, and whether it is known
+    /// to have no borrow. A value that isn't shared and has no borrow is asked for first. A refusal
+    /// tells where the box was made.
     #[inline(always)]
-    pub fn borrow_mut_error(&self, name: CellName) -> BorrowMutResult<()>
-        requires { IsSome (content_at self.now.state (name_of_cell name)) }
-        ensures { FoundBorrowed (write_refusal (content_at self.now.state (name_of_cell name)))
-            result }
+    pub fn readable(
+        &self,
+        name: CellName,
+        created_at: Location,
+    ) -> Result<(CellName, bool), BorrowError>
+        requires { IsLinked self.now.state.cells }
+        ensures ok { IfOk result (λ r.
+            (reached self.now.state (name_of_cell name) ≡ Some (name_of_cell r.0))
+            × (read_refusal (content_at self.now.state (name_of_cell r.0)) ≡ None)
+            × (r.1 ≡ true → write_refusal (content_at self.now.state (name_of_cell r.0)) ≡ None)) }
+        ensures err { IfErr result (λ e.
+            read_trouble_at self.now.state (name_of_cell name) created_at
+            ≡ Some (read_trouble_of e)) }
     {
-        self.entries.borrow_mut_error(name.slot)
+        if self.entries.has_unborrowed_value(name) {
+            return Ok((name, true));
+        }
+        self.readable_any(name, created_at)
     }
 
-    /// The value, where the reader stands.
+    // The same, for every box.
+    #[inline(always)]
+    fn readable_any(
+        &self,
+        name: CellName,
+        created_at: Location,
+    ) -> Result<(CellName, bool), BorrowError>
+        requires { IsLinked self.now.state.cells }
+        ensures ok { IfOk result (λ r.
+            (reached self.now.state (name_of_cell name) ≡ Some (name_of_cell r.0))
+            × (read_refusal (content_at self.now.state (name_of_cell r.0)) ≡ None)
+            × (r.1 ≡ true → write_refusal (content_at self.now.state (name_of_cell r.0)) ≡ None)) }
+        ensures err { IfErr result (λ e.
+            read_trouble_at self.now.state (name_of_cell name) created_at
+            ≡ Some (read_trouble_of e)) }
+    {
+        let Some(value) = reach_apart(&self.entries, name) else {
+            return Err(dropped(created_at));
+        };
+        match self.entries.borrow_error(value.slot) {
+            None => Ok((value, self.entries.is_unborrowed(value.slot))),
+            Some(writer) => Err(BorrowError::AlreadyBorrowedMut(writer)),
+        }
+    }
+
+    /// The value that a box of this name reaches, unless a writer has it. A refusal tells where the
+    /// box was made.
+    #[inline(always)]
+    pub fn unlent(&self, name: CellName, created_at: Location) -> Result<CellName, BorrowError>
+        requires { IsLinked self.now.state.cells }
+        ensures ok { IfOk result (λ m.
+            (reached self.now.state (name_of_cell name) ≡ Some (name_of_cell m))
+            × (read_refusal (content_at self.now.state (name_of_cell m)) ≡ None)) }
+        ensures err { IfErr result (λ e.
+            read_trouble_at self.now.state (name_of_cell name) created_at
+            ≡ Some (read_trouble_of e)) }
+    {
+        let Some(value) = self.entries.reach(name) else {
+            return Err(dropped(created_at));
+        };
+        match self.entries.borrow_error(value.slot) {
+            None => Ok(value),
+            Some(writer) => Err(BorrowError::AlreadyBorrowedMut(writer)),
+        }
+    }
+
+    /// The shared value that a box of this name reaches, unless a writer has it.
+    #[inline(always)]
+    pub fn shared(&self, name: CellName, created_at: Location) -> Result<CellName, BorrowError>
+        requires { IsLinked self.now.state.cells }
+        ensures ok { IfOk result (λ m.
+            (reached self.now.state (name_of_cell name) ≡ Some (name_of_cell m))
+            × (read_refusal (content_at self.now.state (name_of_cell m)) ≡ None)
+            × (is_shared (map.get self.now.state.cells (name_of_cell m)) ≡ true)) }
+        ensures err { IfErr result (λ e.
+            refer_trouble_at self.now.state (name_of_cell name) created_at
+            ≡ Some (read_trouble_of e)) }
+    {
+        let value = match self.unlent(name, created_at) {
+            Ok(value) => value,
+            Err(error) => return Err(error),
+        };
+        if is_shared(&self.entries, value) {
+            return Ok(value);
+        }
+        Err(dropped(created_at))
+    }
+
+    /// The value that a box of this name reaches, unless a borrow stands there. A value that isn't
+    /// shared and has no borrow is asked for first. A refusal tells where the box was made.
+    #[inline(always)]
+    pub fn writable(&self, name: CellName, created_at: Location) -> BorrowMutResult<CellName>
+        requires { IsLinked self.now.state.cells }
+        ensures ok { IfOk result (λ m.
+            (reached self.now.state (name_of_cell name) ≡ Some (name_of_cell m))
+            × (write_refusal (content_at self.now.state (name_of_cell m)) ≡ None)) }
+        ensures err { IfErr result (λ e. FoundBorrowed
+            (write_trouble_at self.now.state (name_of_cell name) created_at) (Err e)) }
+    {
+        if self.entries.has_unborrowed_value(name) {
+            return Ok(name);
+        }
+        self.writable_any(name, created_at)
+    }
+
+    // The same, for every box.
+    #[inline(always)]
+    fn writable_any(&self, name: CellName, created_at: Location) -> BorrowMutResult<CellName>
+        requires { IsLinked self.now.state.cells }
+        ensures ok { IfOk result (λ m.
+            (reached self.now.state (name_of_cell name) ≡ Some (name_of_cell m))
+            × (write_refusal (content_at self.now.state (name_of_cell m)) ≡ None)) }
+        ensures err { IfErr result (λ e. FoundBorrowed
+            (write_trouble_at self.now.state (name_of_cell name) created_at) (Err e)) }
+    {
+        let Some(value) = reach_apart(&self.entries, name) else {
+            return Err(dropped_mut(created_at));
+        };
+        match self.entries.borrow_mut_error(value.slot) {
+            Ok(()) => Ok(value),
+            Err(refused) => Err(refused),
+        }
+    }
+
+    /// The value of this name, where the reader stands.
     #[inline(always)]
     pub fn open(&self, name: CellName, ticket: u64) -> Option<&T>
-        requires { IsSome (content_at self.now.state (name_of_cell name)) }
         ensures { option_copied result
             ≡ value_for ticket (content_at self.now.state (name_of_cell name)) }
     {
-        self.entries.open(name.slot, ticket)
+        if self.entries.holds(name) {
+            return self.entries.open(name.slot, ticket);
+        }
+        None
     }
 
     /// Whether no borrow stands apart.
@@ -287,12 +366,11 @@ impl<T: Drop, P: SlotPool> Slots<T, P> {
     /// Takes a reader away. The answer is whether it stood.
     #[inline(always)]
     pub fn release_read(&mut self, name: CellName, ticket: u64) -> bool
-        requires { IsSome (content_at self.old.state (name_of_cell name)) }
         ensures known { result ≡ has_reader (content_at self.old.state (name_of_cell name)) ticket }
-        ensures after { IfSome (content_at self.old.state (name_of_cell name))
-            (λ c. self.new.state ≡ fill self.old.state (name_of_cell name) (less_read ticket c)) }
+        ensures after { self.new.state
+            ≡ change_content self.old.state (name_of_cell name) (less_read ticket) }
     {
-        self.entries.release_read(name.slot, ticket)
+        self.entries.holds(name) && self.entries.release_read(name.slot, ticket)
     }
 
     /// Lends a value without borrows to a writer.
@@ -310,25 +388,33 @@ impl<T: Drop, P: SlotPool> Slots<T, P> {
     /// nothing.
     #[inline(always)]
     pub fn release_write(&mut self, name: CellName, ticket: u64, value: T) -> Result<(), T>
-        requires { IsSome (content_at self.old.state (name_of_cell name)) }
         ensures known { IsTrue (is_ok result) ↔
             (has_writer (content_at self.old.state (name_of_cell name)) ticket ≡ true) }
         ensures ok { OnOk result
             (self.new.state ≡ fill self.old.state (name_of_cell name) (Here value [])) }
         ensures err { IfErr result (λ back. (back ≡ value) × (self.new.state ≡ self.old.state)) }
     {
-        self.entries.release_write(name.slot, ticket, value)
+        if self.entries.holds(name) {
+            return self.entries.release_write(name.slot, ticket, value);
+        }
+        Err(value)
     }
 
-    /// Puts another value in the place of one without borrows, and answers the old one.
+    /// Puts another value in the place of the one that a box of this name reaches, and at which no
+    /// borrow stands, and answers the old one.
     #[inline(always)]
     pub fn replace(&mut self, name: CellName, value: T) -> T
-        requires { has_no_borrow (content_at self.old.state (name_of_cell name)) ≡ true }
-        ensures value { content_at self.old.state (name_of_cell name) ≡ Some (Here result []) }
-        ensures after { self.new.state
-            ≡ fill self.old.state (name_of_cell name) (Here value []) }
+        requires { has_no_borrow
+            (content_reached self.old.state (reached self.old.state (name_of_cell name))) ≡ true }
+        ensures value { IfSome (reached self.old.state (name_of_cell name))
+            (λ m. content_at self.old.state m ≡ Some (Here result [])) }
+        ensures after { IfSome (reached self.old.state (name_of_cell name))
+            (λ m. self.new.state ≡ fill self.old.state m (Here value [])) }
     {
-        self.entries.replace(name.slot, value)
+        let Some(reached) = self.entries.reach(name) else {
+            unreachable!();
+        };
+        self.entries.replace(reached.slot, value)
     }
 
     // For how many cells more there is room.
@@ -385,47 +471,34 @@ impl<T: Drop, P: SlotPool> Slots<T, P> {
         Ok(())
     }
 
-    /// Makes a cell without borrows, at the end of the owner's list, if there is an owner. What a
-    /// reference names counts it from then on. A refusal changes no cell and no record, and hands
-    /// the content back; without an owner it means that there was no room for a cell, and no
-    /// memory.
+    /// Makes a cell without borrows. What a reference names counts it from then on. A refusal hands
+    /// the content back, and changes nothing: there was no room for a cell, and no memory.
     #[inline(always)]
     pub fn make(
         &mut self,
         content: StorageEntryData<T>,
         created_at: Location,
-        records: &mut OwnerRecords,
-        number: u64,
-        owner: Option<&Owner>,
-    ) -> Result<CellName, (StorageEntryData<T>, StoreError)>
+    ) -> Result<CellName, StorageEntryData<T>>
         requires unborrowed { IsUnborrowed content }
         requires target { IfSome (target_of content)
             (λ m. is_shared (map.get self.old.state.cells m) ≡ true) }
         requires linked { HasTargets self.old.state.cells }
         ensures ok { IfOk result (λ n. IsMade self.old self.new
-            (cell_of (kept_data [] created_at content)) (name_of_cell n)
-            × IsListed number records.old records.new (option_copied owner.entry)
-            (name_of_cell n)) }
-        ensures err { OnErr result
-            ((self.new.state ≡ self.old.state) × (records.new ≡ records.old)) }
-        ensures refused { IfErr result (λ r. IsRefused self.old number records.old
-            (option_copied owner.entry) r.1) }
-        ensures back { IfErr result (λ r. r.0 ≡ content) }
+            (cell_of (kept_data [] created_at content)) (name_of_cell n)) }
+        ensures err { OnErr result (self.new.state ≡ self.old.state) }
+        ensures needed { OnErr result ((free self.old.state ≡ 0) × (self.old.spare ≡ 0)) }
+        ensures back { IfErr result (λ back. back ≡ content) }
     {
         let Some(slot) = self.pool.take() else {
             if self.reserve_one().is_err() {
-                return Err((content, records.lacking(number, owner)));
+                return Err(content);
             }
-            return self.extend(content, created_at, records, number, owner);
+            return Ok(self.extend(content, created_at));
         };
         let name = CellName {
             slot,
             generation: self.entries.generation(slot) + 1,
         };
-        if let Err(cause) = records.list_for(number, owner, name) {
-            self.pool.put(slot);
-            return Err((content, cause));
-        }
         let target = content.target();
         self.entries.refill(slot, content, created_at);
         refer(&mut self.entries, target);
@@ -434,41 +507,24 @@ impl<T: Drop, P: SlotPool> Slots<T, P> {
 
     // The same in a new slot, where none is free and there is room for one.
     #[inline(always)]
-    fn extend(
-        &mut self,
-        content: StorageEntryData<T>,
-        created_at: Location,
-        records: &mut OwnerRecords,
-        number: u64,
-        owner: Option<&Owner>,
-    ) -> Result<CellName, (StorageEntryData<T>, StoreError)>
+    fn extend(&mut self, content: StorageEntryData<T>, created_at: Location) -> CellName
         requires none { free self.old.state ≡ 0 }
         requires room { 0 < self.old.spare }
         requires unborrowed { IsUnborrowed content }
         requires target { IfSome (target_of content)
             (λ m. is_shared (map.get self.old.state.cells m) ≡ true) }
         requires linked { HasTargets self.old.state.cells }
-        ensures ok { IfOk result (λ n. IsMade self.old self.new
-            (cell_of (kept_data [] created_at content)) (name_of_cell n)
-            × IsListed number records.old records.new (option_copied owner.entry)
-            (name_of_cell n)) }
-        ensures err { OnErr result
-            ((self.new.state ≡ self.old.state) × (records.new ≡ records.old)) }
-        ensures refused { IfErr result (λ r. IsRefusal number records.old
-            (option_copied owner.entry) r.1) }
-        ensures back { IfErr result (λ r. r.0 ≡ content) }
+        ensures { IsMade self.old self.new (cell_of (kept_data [] created_at content))
+            (name_of_cell result) }
     {
         let name = CellName {
             slot: self.entries.len(),
             generation: self.start,
         };
-        if let Err(cause) = records.list_for(number, owner, name) {
-            return Err((content, cause));
-        }
         let target = content.target();
         self.entries.push(name.generation, content, created_at);
         refer(&mut self.entries, target);
-        Ok(name)
+        name
     }
 
     // Takes a cell away. Its slot is free from then on, unless its generation is the last. What a
@@ -510,7 +566,7 @@ impl<T: Drop, P: SlotPool> Slots<T, P> {
         ensures { result ≡ is_none (hindrance_to self.now.state (name_of_cell name ∷ [])) }
     {
         match self.doomed(name) {
-            Some(doomed) => self.is_unborrowed(doomed),
+            Some(doomed) => self.entries.is_unborrowed(doomed.slot),
             None => true,
         }
     }
@@ -524,7 +580,7 @@ impl<T: Drop, P: SlotPool> Slots<T, P> {
         ensures ok { OnOk result (self.new.state ≡ close self.old.state (name_of_cell name ∷ [])) }
         ensures err { OnErr result (self.new.state ≡ self.old.state) }
     {
-        if self.has_unborrowed_value(name) {
+        if self.entries.has_unborrowed_value(name) {
             self.remove(name, None, true);
             return Ok(());
         }
@@ -541,7 +597,7 @@ impl<T: Drop, P: SlotPool> Slots<T, P> {
         ensures err { OnErr result (self.new.state ≡ self.old.state) }
     {
         if let Some(doomed) = self.doomed(name) {
-            match self.borrow_mut_error(doomed) {
+            match self.entries.borrow_mut_error(doomed.slot) {
                 Ok(()) => {}
                 Err(refused) => return Err(refused),
             }
@@ -557,7 +613,7 @@ impl<T: Drop, P: SlotPool> Slots<T, P> {
         requires { IsLinked self.old.state.cells }
         ensures { self.new.state ≡ close self.old.state (name_of_cell name ∷ []) }
     {
-        if self.has_unborrowed_value(name) {
+        if self.entries.has_unborrowed_value(name) {
             self.remove(name, None, true);
             return;
         }
@@ -571,7 +627,7 @@ impl<T: Drop, P: SlotPool> Slots<T, P> {
         requires { IsLinked self.old.state.cells }
         ensures { self.new.state ≡ close self.old.state (name_of_cell name ∷ []) }
     {
-        let target = self.target(name);
+        let target = self.entries.target(name);
         let is_reference = target.is_some();
         if let Some(doomed) = self.doomed(name) {
             self.remove(doomed, None, false);
@@ -581,9 +637,36 @@ impl<T: Drop, P: SlotPool> Slots<T, P> {
         }
     }
 
-    /// Lets a reference name another shared value. The one that it named before goes if nothing
-    /// refers to it then, unless a borrow stands in the way.
-    pub fn turn(&mut self, name: CellName, old: CellName, new: CellName) -> BorrowMutResult<()>
+    /// Lets the reference of this name, whose box was made at a location, name another value, if
+    /// that is shared. The one that it named before goes if nothing refers to it then, unless a
+    /// borrow stands in the way.
+    pub fn point(
+        &mut self,
+        name: CellName,
+        created_at: Location,
+        new: CellName,
+    ) -> BorrowMutResult<()>
+        requires linked { IsLinked self.old.state.cells }
+        requires there { IsSome (content_at self.old.state (name_of_cell new)) }
+        ensures { (b : GenerationalPointer) → Turns self.old.state self.new.state result
+            (point self.old.state (box_of 0 (name_of_cell name) created_at) b
+            (map.get self.old.state.cells (name_of_cell name)) (Some (name_of_cell new))
+            (map.get self.old.state.cells (name_of_cell new))) }
+    {
+        let Some(old) = self.entries.target(name) else {
+            if !self.entries.holds(name) {
+                return Err(dropped_mut(created_at));
+            }
+            return Err(dropped_mut(self.entries.details(new.slot).created_at));
+        };
+        if !is_shared(&self.entries, new) {
+            return Err(dropped_mut(self.entries.details(new.slot).created_at));
+        }
+        self.turn(name, old, new)
+    }
+
+    // The same, where the reference names the old value, and the new one is shared.
+    fn turn(&mut self, name: CellName, old: CellName, new: CellName) -> BorrowMutResult<()>
         requires linked { IsLinked self.old.state.cells }
         requires refers { target_in (map.get self.old.state.cells (name_of_cell name))
             ≡ Some (name_of_cell old) }
@@ -599,7 +682,7 @@ impl<T: Drop, P: SlotPool> Slots<T, P> {
             self.redirect(name, old, new);
             return Ok(());
         };
-        match self.borrow_mut_error(doomed) {
+        match self.entries.borrow_mut_error(doomed.slot) {
             Ok(()) => {}
             Err(refused) => return Err(refused),
         }
@@ -647,9 +730,27 @@ impl<T: Drop, P: SlotPool> Slots<T, P> {
     }
 }
 
+// What a box of this name reaches. The paths that few calls take ask this.
+#[cold]
+#[inline(never)]
+fn reach_apart<T: Drop>(entries: &Entries<T>, name: CellName) -> Option<CellName>
+    ensures { option_map name_of_cell result
+        ≡ leads_to (cell_at entries.now.slots (name_of_cell name)) (name_of_cell name) }
+{
+    entries.reach(name)
+}
+
+// Whether the cell of this name is a shared value, also one that is lent.
+#[inline(always)]
+fn is_shared<T: Drop>(entries: &Entries<T>, name: CellName) -> bool
+    ensures { result ≡ is_shared (cell_at entries.now.slots (name_of_cell name)) }
+{
+    matches!(entries.kind(name), Some(Kind::Shared))
+}
+
 // The slot of what a new reference names counts it.
 #[inline(always)]
-fn refer<T: Drop>(entries: &mut LatestEntries<T>, target: Option<CellName>)
+fn refer<T: Drop>(entries: &mut Entries<T>, target: Option<CellName>)
     requires within { IfSome target (λ m. m.slot < length entries.old.slots) }
     requires few { IfSome target (λ m. IfSome (slice_get entries.old.slots m.slot)
         (λ e. e.references < length entries.old.slots)) }
@@ -664,7 +765,7 @@ fn refer<T: Drop>(entries: &mut LatestEntries<T>, target: Option<CellName>)
 
 // The slot of what a reference names counts it no more, if that is live.
 #[inline(always)]
-fn forget<T: Drop>(entries: &mut LatestEntries<T>, target: Option<CellName>)
+fn forget<T: Drop>(entries: &mut Entries<T>, target: Option<CellName>)
     requires some { IfSome (shared_target entries.old.slots (option_map name_of_cell target))
         (λ m. IfSome (slice_get entries.old.slots m.slot) (λ e. 0 < e.references)) }
     ensures slots { entries.new.slots ≡ count_less entries.old.slots

@@ -27,6 +27,13 @@ pub(crate) fn play_in_two_stores<T: Drop, P: TwoStoreScenario<T>>(rt: &impl Abor
     P::play(rt, alloc, &mut seven, &mut eight);
 }
 
+/// Plays a scenario in two empty stores that both have the number 7.
+pub(crate) fn play_in_twins<T: Drop, P: TwoStoreScenario<T>>(rt: &impl Abort, alloc: Global) {
+    let mut one: UnsyncStorage<T> = Store::new(alloc, 7);
+    let mut twin: UnsyncStorage<T> = Store::new(alloc, 7);
+    P::play(rt, alloc, &mut one, &mut twin);
+}
+
 /// What happens in a session.
 pub(crate) trait SessionScenario {
     fn play<R: Abort, S: Storage<u32>>(rt: &R, alloc: Global, session: &mut Session<u32, S>);

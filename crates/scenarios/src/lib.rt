@@ -31,6 +31,8 @@ mod sessions;
 #[cfg(test)]
 mod sharing;
 #[cfg(test)]
+mod shortage;
+#[cfg(test)]
 mod strangers;
 #[cfg(test)]
 mod texts;

@@ -1,13 +1,17 @@
-//! Guards and owners of one store that are handed to another. Boxes of another store are named by
-//! scripts.
+//! Guards and owners of one store that are handed to another, and a box that is handed to a store
+//! of the same number. Boxes of other stores are named by scripts.
 
 use crate::expected::{
-    assert_kept, assert_opens, assert_released, assert_stays, assert_unread, begin, borrowed,
-    counts_of, dropped, end, insert, leak, made, made_later, new_owner, read, release,
+    assert_kept, assert_opens, assert_reads, assert_released, assert_shows, assert_stays,
+    assert_unread, begin, begin_write, borrowed, counts_of, dropped, end, insert, leak, made,
+    made_later, new_owner, read, release, written,
 };
-use crate::fresh::{TwoStoreScenario, play_in_two_stores};
-use crate::sharing::insert_rc;
-use generational_box::{GenerationalBox, Owner, Refused, Storage, StoreError};
+use crate::fresh::{TwoStoreScenario, play_in_twins, play_in_two_stores};
+use crate::sharing::{insert_rc, leak_rc};
+use generational_box::{
+    AlreadyBorrowedMutError, BorrowError, GenerationalBox, GenerationalRefMut, Owner, Refused,
+    Storage, StoreError,
+};
 use std::alloc::Global;
 use std::process::Abort;
 
@@ -37,6 +41,63 @@ impl TwoStoreScenario<u32> for GuardsOfTwo {
 #[test]
 fn guards_of_another_store_are_unknown(rt: HostRuntime) {
     play_in_two_stores::<u32, GuardsOfTwo>(&rt, rt.alloc());
+}
+
+/// Asserts that a store doesn't know a writer, and hands its value back.
+fn assert_handed_back<S: Storage<u32>>(
+    rt: &impl Abort,
+    store: &mut S,
+    writer: GenerationalRefMut<u32>,
+    value: u32,
+) {
+    assert_eq!(rt; writer.release(store), Err(value));
+}
+
+struct WritersOfTwo;
+
+impl TwoStoreScenario<u32> for WritersOfTwo {
+    fn play<R: Abort, S: Storage<u32>>(rt: &R, _: Global, seven: &mut S, eight: &mut S) {
+        let own = leak(rt, seven, 70, made());
+        let foreign = leak(rt, eight, 80, made_later());
+        let stranger = begin_write(rt, eight, foreign, written());
+        let before = counts_of(seven);
+
+        assert_handed_back(rt, seven, stranger, 80);
+        assert_eq!(rt; counts_of(seven), before);
+        assert_reads(rt, seven, own, 70);
+        let writing = BorrowError::AlreadyBorrowedMut(AlreadyBorrowedMutError::new(written()));
+        assert_unread(rt, eight, foreign, Refused::Borrow(writing));
+    }
+}
+
+// A store hands another store's writer its value back, and changes nothing. The writer is spent,
+// and its cell stays borrowed.
+#[test]
+fn a_writer_of_another_store_is_unknown(rt: HostRuntime) {
+    play_in_two_stores::<u32, WritersOfTwo>(&rt, rt.alloc());
+}
+
+struct BoxOfATwin;
+
+impl TwoStoreScenario<u32> for BoxOfATwin {
+    fn play<R: Abort, S: Storage<u32>>(rt: &R, alloc: Global, one: &mut S, twin: &mut S) {
+        let asked = leak(rt, one, 1, made());
+        let shared = leak_rc(rt, twin, 2, made_later());
+        assert_shows(rt, alloc, &asked, "0@1");
+        assert_shows(rt, alloc, &shared, "1@1");
+
+        assert_unread(rt, twin, asked, dropped(made()));
+        end(rt, twin, asked);
+        assert_reads(rt, twin, shared, 2);
+        assert_reads(rt, one, asked, 1);
+    }
+}
+
+// A box of one store has the id that a shared value has in another store of its number. A box that
+// names a shared value itself, and no reference to it, reaches nothing, and ends nothing.
+#[test]
+fn a_box_of_a_store_of_one_number_reaches_no_shared_value(rt: HostRuntime) {
+    play_in_twins::<u32, BoxOfATwin>(&rt, rt.alloc());
 }
 
 /// Asserts that a store makes no box by an owner, and hands the value back.
@@ -89,6 +150,8 @@ struct OwnersOfTwo;
 impl TwoStoreScenario<u32> for OwnersOfTwo {
     fn play<R: Abort, S: Storage<u32>>(rt: &R, _: Global, seven: &mut S, eight: &mut S) {
         let own = new_owner(rt, seven);
+        let stale = leak(rt, seven, 0, made());
+        end(rt, seven, stale);
         insert(rt, seven, &own, 1, made());
         let shared = insert_rc(rt, seven, &own, 2, made());
         let owner = new_owner(rt, eight);
@@ -99,6 +162,7 @@ impl TwoStoreScenario<u32> for OwnersOfTwo {
         assert_not_shared(rt, seven, &owner);
         assert_not_listed(rt, seven, &owner, shared);
         assert_not_listed(rt, seven, &owner, foreign);
+        assert_not_listed(rt, seven, &owner, stale);
         assert_not_cloned(rt, seven, &owner);
         let unknown = Refused::Store(StoreError::UnknownOwner);
         let owner = assert_kept(rt, seven, owner, unknown);

@@ -1,8 +1,15 @@
 //! Drawn lists of calls over two stores, and how their replies compare.
 
+ghost use Rattle.std.specs.Prelude.{◌≤◌};
+
 use crate::runs::{assert_ended, run_words};
-use boxes_script::{Verdict, compare, fuzz_calls, fuzz_words};
-use generational_box::{Call, GenerationalBox, Location, Reply, StoreError};
+use crate::tables::run;
+use agreement::{Verdict, compare};
+use boxes_script::{compare_stores, fuzz_calls, fuzz_words};
+use generational_box::{
+    BorrowMutError, BoxAt, Call, GenerationalBox, Location, Numbers, OldestFirst, Reply, Session,
+    Store, StoreError, UnsyncStorage,
+};
 use std::alloc::{AllocError, Global};
 use std::process::Abort;
 
@@ -111,6 +118,78 @@ fn a_list_has_every_kind_of_call(rt: HostRuntime) {
     }
 }
 
+/// What the calls of a list name that aren't what they ask for.
+#[derive(Clone, Copy, Debug, PartialEq)]
+enum Strange {
+    PastTheEnd,
+    StaleBox,
+    SpentGuard,
+    SpentOwner,
+    BoxOfAnotherStore,
+    BoxOfTheSameNumber,
+    Nothing,
+}
+
+/// What a call names, as its reply tells.
+fn strange_thing(
+    place: usize,
+    call: &Call<String>,
+    reply: &Reply<String>,
+    replies: &[Reply<String>],
+) -> Strange {
+    match (call, reply) {
+        (Call::Release(named), Reply::NoSuch(_)) if *named >= place => Strange::PastTheEnd,
+        (Call::Release(named), Reply::NoSuch(_)) => match replies.get(*named) {
+            Some(Reply::Reader | Reply::Writer) => Strange::SpentGuard,
+            _ => Strange::Nothing,
+        },
+        (Call::ReleaseOwner(named), Reply::NoSuch(_)) => match replies.get(*named) {
+            Some(Reply::Owner) => Strange::SpentOwner,
+            _ => Strange::Nothing,
+        },
+        (Call::TryRead(BoxAt::Foreign(_), _), Reply::NoSuch(_)) => Strange::BoxOfTheSameNumber,
+        (Call::TryRead(at, _), Reply::Error(BorrowMutError::Dropped(_))) => match at {
+            BoxAt::Foreign(_) => Strange::BoxOfAnotherStore,
+            BoxAt::Place(_) => Strange::StaleBox,
+        },
+        _ => Strange::Nothing,
+    }
+}
+
+/// A box of a new store of this number.
+fn stranger(rt: &impl Abort, alloc: Global, number: u64) -> GenerationalBox<String> {
+    let mut store: UnsyncStorage<String> = Store::new(alloc, number);
+    let made = GenerationalBox::leak(&mut store, String::new(alloc), Location::new("b", 1, 1));
+    made.map_err(|_| AllocError).expect(rt, "a box")
+}
+
+// The list of a seed names what isn't there any more, what never was, and boxes of other stores.
+#[test]
+fn a_list_names_strange_things(rt: HostRuntime) {
+    let alloc = rt.alloc();
+    let strangers = [stranger(&rt, alloc, 1), stranger(&rt, alloc, 2)];
+    let words = fuzz_words(alloc, 1, 8 * 10000).expect(&rt, "memory");
+    let calls = fuzz_calls(alloc, &words, &strangers).expect(&rt, "memory");
+    let again = fuzz_calls(alloc, &words, &strangers).expect(&rt, "memory");
+    let store: UnsyncStorage<String> = Store::new(alloc, 1);
+    let replies = run(&rt, Session::new(alloc, store), calls);
+    for wanted in [
+        Strange::PastTheEnd,
+        Strange::StaleBox,
+        Strange::SpentGuard,
+        Strange::SpentOwner,
+        Strange::BoxOfAnotherStore,
+        Strange::BoxOfTheSameNumber,
+    ] {
+        let mut pairs = again.iter().zip(replies.iter()).enumerate();
+        assert!(&rt;
+            pairs.any(|(place, (call, reply))| strange_thing(place, call, reply, &replies)
+                == wanted),
+            "no {wanted:?}"
+        );
+    }
+}
+
 /// Three replies, of which the second is another.
 fn three(rt: &impl Abort, alloc: Global, second: Reply<String>) -> Vec<Reply<String>> {
     let mut replies = Vec::new(alloc);
@@ -141,6 +220,18 @@ fn assert_compared(
     let others = three(rt, alloc, other);
     assert_eq!(rt; compare(&ones, &others), verdict);
     assert_eq!(rt; compare(&others, &ones), verdict);
+}
+
+// A list that ends before the other differs from it there.
+#[test]
+fn a_shorter_list_differs_at_its_end(rt: HostRuntime) {
+    let list = three(&rt, rt.alloc(), Reply::Done);
+    let mut shorter = three(&rt, rt.alloc(), Reply::Done);
+    for end in [2, 1, 0] {
+        let _last = shorter.pop();
+        assert_eq!(&rt; compare(&list, &shorter), Verdict::Differs(end));
+        assert_eq!(&rt; compare(&shorter, &list), Verdict::Differs(end));
+    }
 }
 
 /// Where the replies of the next test say that a box was made.
@@ -178,4 +269,71 @@ fn the_first_place_that_differs_is_found(rt: HostRuntime) {
         Reply::Store(ended),
         Verdict::Same,
     );
+}
+
+/// Two values and two reads, the last of a box of the store of number 2.
+fn calls(rt: &impl Abort, alloc: Global) -> Vec<Call<String>> {
+    let here = Location::new("fuzz", 1, 1);
+    let foreign = BoxAt::Foreign(stranger(rt, alloc, 2));
+    let calls = vec![in alloc;
+        Call::Leak(String::new(alloc), here),
+        Call::TryRead(BoxAt::Place(0), here),
+        Call::Leak(String::new(alloc), here),
+        Call::TryRead(foreign, here),
+    ];
+    calls.map_err(|_| AllocError).expect(rt, "memory")
+}
+
+/// Asserts how a store of this number and these first numbers compares with one of number 1.
+fn assert_stores_compared(
+    rt: &impl Abort,
+    alloc: Global,
+    number: u64,
+    numbers: Numbers,
+    verdict: Verdict,
+)
+    requires { 1 ≤ numbers.generation }
+{
+    let one: UnsyncStorage<String> = Store::new(alloc, 1);
+    let other: Store<String, OldestFirst> = Store::new_at(alloc, number, numbers);
+    let ones = (one, calls(rt, alloc));
+    let others = (other, calls(rt, alloc));
+    let found = compare_stores(alloc, ones, others).expect(rt, "memory");
+    assert_eq!(rt; found, verdict);
+}
+
+// A store without a ticket refuses the first read, and one of the other number doesn't take the
+// last box for another store's.
+#[test]
+fn the_first_call_that_stores_answer_otherwise_is_found(rt: HostRuntime) {
+    let alloc = rt.alloc();
+    let first = Numbers {
+        generation: 1,
+        ticket: 0,
+    };
+    let last = Numbers {
+        generation: u64::MAX,
+        ticket: u64::MAX,
+    };
+    assert_stores_compared(&rt, alloc, 1, first, Verdict::Same);
+    assert_stores_compared(&rt, alloc, 1, last, Verdict::Differs(1));
+    assert_stores_compared(&rt, alloc, 2, first, Verdict::Differs(3));
+}
+
+// A store with too many slots differs from there on, unless another difference comes earlier, or
+// memory refused the same call.
+#[test]
+fn too_many_slots_are_a_difference(rt: HostRuntime) {
+    for (verdict, breach, wanted) in [
+        (Verdict::Same, None, Verdict::Same),
+        (Verdict::Same, Some(2), Verdict::Differs(2)),
+        (Verdict::Differs(3), None, Verdict::Differs(3)),
+        (Verdict::Differs(3), Some(2), Verdict::Differs(2)),
+        (Verdict::Differs(3), Some(4), Verdict::Differs(3)),
+        (Verdict::Refused(3), None, Verdict::Refused(3)),
+        (Verdict::Refused(3), Some(2), Verdict::Differs(2)),
+        (Verdict::Refused(3), Some(3), Verdict::Refused(3)),
+    ] {
+        assert_eq!(&rt; verdict.or_breach(breach), wanted);
+    }
 }

@@ -23,6 +23,26 @@ fn a_slot_retires_at_its_last_generation(rt: HostRuntime) {
     );
 }
 
+// Both slots of a shared value and its reference retire.
+#[test]
+fn the_slots_of_a_shared_value_retire(rt: HostRuntime) {
+    assert_answers_from(
+        &rt,
+        rt.alloc(),
+        Numbers {
+            generation: u64::MAX,
+            ticket: 0,
+        },
+        &[
+            ("leak_rc a", "box 1@18446744073709551615"),
+            ("end 1", "ok"),
+            ("counts", "slots 2 free 0 retired 2 peak 2 next 0"),
+            ("leak b", "box 2@18446744073709551615"),
+            ("counts", "slots 3 free 0 retired 2 peak 2 next 0"),
+        ],
+    );
+}
+
 // A slot whose cell ends one generation earlier is used once more.
 #[test]
 fn the_last_generation_is_used(rt: HostRuntime) {
@@ -38,8 +58,10 @@ fn the_last_generation_is_used(rt: HostRuntime) {
             ("end 1", "ok"),
             ("leak 1", "box 0@18446744073709551615"),
             ("end 3", "ok"),
+            ("counts", "slots 1 free 0 retired 1 peak 1 next 0"),
             ("leak 1", "box 1@18446744073709551614"),
-            ("end 5", "ok"),
+            ("counts", "slots 2 free 0 retired 1 peak 1 next 0"),
+            ("end 6", "ok"),
         ],
     );
 }
@@ -83,6 +105,39 @@ fn one_ticket_is_left(rt: HostRuntime) {
             ("try_read 1", "refused: numbers exhausted"),
             ("end 1", "ok"),
             ("try_read 1", "dropped: script:1:1"),
+        ],
+    );
+}
+
+// The last ticket goes to a reader. Then a read and a write are refused, also after the reader's
+// end, and a box whose value has ended is told so.
+#[test]
+fn the_last_ticket_goes_to_a_reader(rt: HostRuntime) {
+    assert_answers_from(
+        &rt,
+        rt.alloc(),
+        Numbers {
+            generation: 1,
+            ticket: u64::MAX - 1,
+        },
+        &[
+            ("leak old", "box 0@1"),
+            ("end 1", "ok"),
+            ("leak a", "box 0@2"),
+            (
+                "counts",
+                "slots 1 free 0 retired 0 peak 1 next 18446744073709551614",
+            ),
+            ("try_read 3", "reader"),
+            ("try_read 3", "refused: numbers exhausted"),
+            (
+                "counts",
+                "slots 1 free 0 retired 0 peak 1 next 18446744073709551615",
+            ),
+            ("release 5", "ok"),
+            ("try_write 3", "refused: numbers exhausted"),
+            ("try_read 1", "dropped: script:1:1"),
+            ("try_write 1", "dropped: script:1:1"),
         ],
     );
 }

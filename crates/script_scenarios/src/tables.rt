@@ -123,8 +123,8 @@ fn add_line<S: Storage<String>>(
     }
 }
 
-// Runs a list of calls, and ends the session.
-fn run<S: Storage<String> + Drop>(
+/// Runs a list of calls, and ends the session.
+pub(crate) fn run<S: Storage<String> + Drop>(
     rt: &impl Abort,
     mut session: Session<String, S>,
     calls: Vec<Call<String>>,

@@ -18,6 +18,11 @@ module _ {X : Type 0} where
   on_ok (Ok y) x e p = p
   on_ok (Err z) x e p = absurd (none-some x (sym e))
 
+  -- what follows where a result is Ok
+  pub on_ok_so : {E P Q : Type 0} (r : Result X E) → (P → Q) → OnOk r P → OnOk r Q
+  on_ok_so (Ok y) so p = so p
+  on_ok_so (Err z) so p = tt
+
   pub on_some : {P : Type 0} (r : Option X) (x : X) → r ≡ Some x → OnSome r P → P
   on_some (Some y) x e p = p
   on_some None x e p = absurd (none-some x e)

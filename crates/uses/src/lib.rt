@@ -4,6 +4,7 @@
 pub mod clones;
 pub mod conditions;
 pub mod kinds;
+pub mod leaving;
 pub mod owned;
 pub mod sessions;
 pub mod shared;

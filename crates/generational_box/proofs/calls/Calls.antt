@@ -17,7 +17,7 @@ use Rattle.generational_core.specs.Boxes.{id_of}
 use Rattle.generational_core.specs.Sound.{SoundState, IsSound-prop, IsBounded-prop}
 use Rattle.generational_core.specs.State.{tickets_of}
 use Rattle.generational_containers.specs.Borrows.{AreBelow}
-use Rattle.generational_entries.specs.Entry.{FoundBorrowed, is_unborrowed_value, less_read}
+use Rattle.generational_entries.specs.Entry.{FoundBorrowed, less_read}
 use Rattle.generational_entries.specs.Entry.{one_read}
 use Rattle.generational_entries.specs.Entry.{readers_of}
 use Rattle.generational_box.proofs.Common.{Borrow, GenerationalBoxId, GenerationalPointer}
@@ -32,6 +32,9 @@ use Rattle.generational_box.proofs.Common.{content_at, Meets, limit_tickets, may
 use Rattle.generational_box.proofs.Common.{last_ticket, needs_memory, takes_ticket, by_name, change}
 use Rattle.generational_box.proofs.Common.{changed_there, insert_there, has_no_borrow, with_records}
 use Rattle.generational_box.proofs.Common.{IsBounded, IsFresh}
+use Rattle.generational_core.specs.Borrowing.{refusal_at}
+use Rattle.generational_slots.specs.Slotted.{change_content, change_content_if, reached}
+use Rattle.generational_slots.specs.Slotted.{read_trouble_at, write_trouble_at}
 
 -- a list without the ticket stays as it is
 nothing_left : (t : ℕ) (rs : List Borrow) → list_any (λ r. nat_eq r.ticket t) rs ≡ false
@@ -148,38 +151,31 @@ module _ {T : Type 0} where
       at true (Some (Shared c l)) is to = absurd cc
       at false o is to = absurd cc
 
-  -- a box whose own cell is a value without borrows reaches it
-  pub unborrowed_reached : (V : State T) (b : GenerationalPointer) {n : Name}
-      → is_unborrowed_value (own_cell V b.id) ≡ true → n ≡ name_of b
-      → (reach V b ≡ Some n) × (write_refusal (content_at V n) ≡ None)
-      × (read_refusal (content_at V n) ≡ None)
-  unfolding reach
-  unborrowed_reached V b free own =
-      rw own (at (nat_eq b.id.store V.number) (map.get V.cells (name_of b)) free)
-    where
-      at : (own : Bool) (o : Option (Cell T)) → is_unborrowed_value (cond own o None) ≡ true
-          → (cond own (leads_to o (name_of b)) None ≡ Some (name_of b))
-          × (write_refusal (content_of o) ≡ None) × (read_refusal (content_of o) ≡ None)
-      at true (Some (Value (Here v []) l)) h = (refl, refl, refl)
-      at true (Some (Value (Here v (r ∷ rs)) l)) h = absurd (false≢true h)
-      at true (Some (Value (Lent w) l)) h = absurd (false≢true h)
-      at true (Some (Shared c l)) h = absurd (false≢true h)
-      at true (Some (Ref m l)) h = absurd (false≢true h)
-      at true None h = absurd (false≢true h)
-      at false o h = absurd (false≢true h)
-
   -- so something stands there
   pub has_content : {V : State T} {b : GenerationalPointer} {m : Name} → Reaches V b m
       → IsSome (content_at V m)
   has_content o = ap is_some o.has
 
-  -- where a box's own cell leads is what it reaches, unless it is another store's
-  pub reach_own : (X : State T) {S : State T} {number next : ℕ} {owners : Owners}
-      → with_records X number owners next ≡ S → (b : GenerationalPointer) (n : Name)
-      → n ≡ name_of b → b.id.store ≡ number → leads_to (map.get X.cells n) n ≡ reach S b
-  unfolding reach
-  reach_own X {number = number} view b n at own =
-      rw (← view, at, eq-eqb b.id.store number own) refl
+  -- a box of this store reaches what its name does, and its calls are refused as those of that
+  module _ (X : State T) {S : State T} {number next : ℕ} {owners : Owners}
+      (view : with_records X number owners next ≡ S) (b : GenerationalPointer) {n : Name}
+      (at : n ≡ name_of b) (own : b.id.store ≡ number) where
+    pub reach_here : reach (with_records X number owners next) b ≡ reached X n
+    unfolding reach
+    reach_here = rw (at, eq-eqb b.id.store number own) refl
+
+    pub reach_own : reach S b ≡ reached X n
+    reach_own = rw (← view) reach_here
+
+    pub read_own : read_trouble S b ≡ read_trouble_at X n b.created_at
+    unfolding read_trouble
+    read_own = rw (← view)
+        (ap (λ o. refusal_at o b.created_at (λ m. read_refusal (content_at X m))) reach_here)
+
+    pub write_own : write_trouble S b ≡ write_trouble_at X n b.created_at
+    unfolding write_trouble
+    write_own = rw (← view)
+        (ap (λ o. refusal_at o b.created_at (λ m. write_refusal (content_at X m))) reach_here)
 
   -- a box of another store reaches nothing
   pub reach_strange : {V S : State T} → V ≡ S → (b : GenerationalPointer)
@@ -200,6 +196,15 @@ module _ {T : Type 0} where
     unfolding write_trouble
     write_gone none = inl (no_names, tt, rw (← none) refl)
 
+    -- what stands in the way of a read, and of a write
+    pub read_hindered : (t : Trouble) → read_trouble S b ≡ Some t → Meets S (Read b l) (Troubled t) S
+    read_hindered t is = inl (no_names, tt, rw is refl)
+
+    pub write_hindered : (e : Refused BorrowMutError) → FoundBorrowed (write_trouble S b) (Err e)
+        → Meets S (Write b l) (end_refused e) S
+    write_hindered e found = hindered_step S (Write b l) e (write_trouble S b)
+        (write_at S l (reach S b) (content_of (cell_at S (reach S b)))) refl found
+
     module _ (X : State T) {number next : ℕ} {owners : Owners} {m : Name}
         (view : with_records X number owners next ≡ S)
         (o : Reaches (with_records X number owners next) b m) where
@@ -219,11 +224,6 @@ module _ {T : Type 0} where
       next_is : (id : GenerationalBoxId) → id ≡ id_of number m
           → record { store = id.store; cell = name_in id; ticket = next } ≡ next_guard V m
       next_is id is = ap (λ x. record { store = x.store; cell = name_in x; ticket = next }) is
-
-      -- a writer stands in the way of a read
-      pub read_lent : (t : Trouble) → Some t ≡ read_refusal (content_at V m)
-          → Meets S (Read b l) (Troubled t) S
-      read_lent t lent = rw (← view) (inl (no_names, tt, rw (reading, ← lent) refl))
 
       -- the readers' tickets are below the next one
       pub readers_below : IsSound S → AreBelow next (readers_of (content_at V m))
@@ -284,13 +284,6 @@ module _ {T : Type 0} where
             ∙ ap (λ (x : Outcome T). needs_memory V x.0 (Read b l)) (within V begun below) in
             rw (← view, same) (inr (lack ∙ rw o.to beside, refl, refl))
 
-      -- borrows stand in the way of a write
-      pub write_hindered : (e : Refused BorrowMutError)
-          → FoundBorrowed (write_refusal (content_at V m)) (Err e)
-          → Meets S (Write b l) (end_refused e) S
-      write_hindered e found = rw (← view) (hindered_step V (Write b l) e _
-          (write_at V l (reach V b) (content_of (cell_at V (reach V b)))) (rw writing refl) found)
-
       module _ (free : write_refusal (content_at V m) ≡ None) where
         -- the value is there, without borrows
         alone : (v : T) × (content_at V m ≡ Some (Here v []))
@@ -332,103 +325,67 @@ module _ {T : Type 0} where
 
   -- ---- calls of guards
 
-  -- a guard of another store, or at whose cell no content stands, isn't known
-  guard_unknown : (S : State T) (id : GenerationalBoxId) (has : Option (Content T) → Bool)
-      → has None ≡ false → false ≡ is_some (content_of (own_cell S id))
-      → (nat_eq id.store S.number && has (content_at S (name_in id))) ≡ false
-  guard_unknown S id has none gone =
-      at (nat_eq id.store S.number) (map.get S.cells (name_in id)) gone
-    where
-      absent : (c : Option (Content T)) → false ≡ is_some c → has c ≡ false
-      absent None h = none
-      absent (Some c) h = absurd (false≢true h)
+  module _ {V S : State T} (view : V ≡ S) (id : GenerationalBoxId) (t : ℕ) (g : Guard)
+      (same : g ≡ guard_at id t) (strange : id.store ≢ V.number) where
+    -- a reader's guard of another store
+    pub release_strange : Meets S (ReleaseReader g) (Flag false) S
+    release_strange =
+        rw (← view) (inl (no_names, tt, rw (same, ne_eqb id.store V.number strange) refl))
 
-      at : (own : Bool) (o : Option (Cell T)) → false ≡ is_some (content_of (cond own o None))
-          → (own && has (content_of o)) ≡ false
-      at true o h = absent (content_of o) h
-      at false o h = refl
+    -- a writer's guard of another store
+    pub back_strange : (w v : T) → w ≡ v → Meets S (ReleaseWriter g w) (Back v) S
+    back_strange w v value =
+        rw (← view) (inl (no_names, tt, rw (same, value, ne_eqb id.store V.number strange) refl))
 
-  -- a content stands at the guard's cell
-  guard_own : (S : State T) (id : GenerationalBoxId)
-      → true ≡ is_some (content_of (own_cell S id))
-      → (nat_eq id.store S.number ≡ true) × (is_some (content_at S (name_in id)) ≡ true)
-  guard_own S id held = at (nat_eq id.store S.number) (map.get S.cells (name_in id)) held
-    where
-      at : (own : Bool) (o : Option (Cell T)) → true ≡ is_some (content_of (cond own o None))
-          → (own ≡ true) × (is_some (content_of o) ≡ true)
-      at true o h = (refl, sym h)
-      at false o h = absurd (true≢false h)
+  module _ (X : State T) {S : State T} {number next : ℕ} {owners : Owners}
+      (view : with_records X number owners next ≡ S) (n : Name) (id : GenerationalBoxId) (t : ℕ)
+      (g : Guard) (same : g ≡ guard_at id t) (at : n ≡ name_in id) (own : id.store ≡ number) where
+    abbrev now : State T
+    now = with_records X number owners next
 
-  module _ {S : State T} (id : GenerationalBoxId) (t : ℕ) where
-    module _ (g : Guard) (same : g ≡ guard_at id t)
-        (gone : false ≡ is_some (content_of (own_cell S id))) where
-      -- a reader's guard that isn't known
-      pub release_gone : Meets S (ReleaseReader g) (Flag false) S
-      release_gone = inl (
-        no_names,
-        tt,
-        rw (same, guard_unknown S id (λ c. has_reader c t) refl gone) refl,
-      )
+    is_own : nat_eq id.store number ≡ true
+    is_own = eq-eqb id.store number own
 
-      -- a writer's guard that isn't known
-      pub back_gone : (w v : T) → w ≡ v → Meets S (ReleaseWriter g w) (Back v) S
-      back_gone w v value = inl (
-        no_names,
-        tt,
-        rw (same, value, guard_unknown S id (λ c. has_writer c t) refl gone) refl,
-      )
+    -- the answer is whether the reader stood
+    pub released : (Y : State T) (known : Bool) → known ≡ has_reader (content_at X n) t
+        → Y ≡ change_content X n (less_read t)
+        → Meets S (ReleaseReader g) (Flag known) (with_records Y number owners next)
+    released Y known is after =
+        rw (← view, same, after, at) (by (content_at X (name_in id)) refl known (rw at at is))
+      where
+        -- a reader that didn't stand leaves all as it was
+        stays : (c : Content T) → content_at X (name_in id) ≡ Some c
+            → has_reader (Some c) t ≡ false → less_read t c ≡ c
+            → Meets now (ReleaseReader (guard_at id t)) (Flag false)
+            (with_records (fill X (name_in id) (less_read t c)) number owners next)
+        stays c there lost same = subst
+            (λ Z. Meets now (ReleaseReader (guard_at id t)) (Flag false)
+            (with_records Z number owners next))
+            (sym (ap (fill X (name_in id)) same ∙ filled_own X (name_in id) c there))
+            (inl (no_names, tt, rw (is_own, there, lost) refl))
 
-    module _ (X : State T) {number next : ℕ} {owners : Owners}
-        (view : with_records X number owners next ≡ S) (n : Name) (at : n ≡ name_in id)
-        (held : true ≡ is_some (content_of (own_cell S id))) where
-      abbrev now : State T
-      now = with_records X number owners next
+        by : (o : Option (Content T)) → content_at X (name_in id) ≡ o → (known : Bool)
+            → known ≡ has_reader o t
+            → Meets now (ReleaseReader (guard_at id t)) (Flag known)
+            (with_records (change_content_if X (name_in id) (less_read t) o) number owners next)
+        by None there true is = absurd (true≢false is)
+        by None there false is = inl (no_names, tt, rw (is_own, there) refl)
+        by (Some (Here v rs)) there true is = inl (no_names, tt, rw (is_own, there, ← is) refl)
+        by (Some (Here v rs)) there false is =
+            stays (Here v rs) there (sym is) (ap (Here v) (nothing_left t rs (sym is)))
+        by (Some (Lent w)) there true is = absurd (true≢false is)
+        by (Some (Lent w)) there false is = stays (Lent w) there refl refl
 
-      -- the guard is this store's, and a content stands at its cell
-      is_own : (nat_eq id.store number ≡ true) × (is_some (content_at now (name_in id)) ≡ true)
-      is_own = guard_own now id (held ∙ ap (λ R. is_some (content_of (own_cell R id))) (sym view))
-
-      -- the answer is whether the reader stood
-      pub released : (Y : State T) (g : Guard) (known : Bool) → g ≡ guard_at id t
-          → known ≡ has_reader (content_at X n) t
-          → IfSome (content_at X n) (λ c. Y ≡ fill X n (less_read t c))
-          → Meets S (ReleaseReader g) (Flag known) (with_records Y number owners next)
-      released Y g known same is after =
-          let c = the_content _ is_own.1 in
-          rw (← view, same, rw (at, c.1) at after) (by c.0 c.1 known (rw (at, c.1) at is))
-        where
-          -- a reader that didn't stand leaves all as it was
-          stays : (c : Content T) → content_at X (name_in id) ≡ Some c
-              → has_reader (Some c) t ≡ false → less_read t c ≡ c
-              → Meets now (ReleaseReader (guard_at id t)) (Flag false)
-              (with_records (fill X (name_in id) (less_read t c)) number owners next)
-          stays c there lost same = subst
-              (λ Z. Meets now (ReleaseReader (guard_at id t)) (Flag false)
-              (with_records Z number owners next))
-              (sym (ap (fill X (name_in id)) same ∙ filled_own X (name_in id) c there))
-              (inl (no_names, tt, rw (is_own.0, there, lost) refl))
-
-          by : (c : Content T) → content_at X (name_in id) ≡ Some c → (known : Bool)
-              → known ≡ has_reader (Some c) t
-              → Meets now (ReleaseReader (guard_at id t)) (Flag known)
-              (with_records (fill X (name_in id) (less_read t c)) number owners next)
-          by (Here v rs) there true is = inl (no_names, tt, rw (is_own.0, there, ← is) refl)
-          by (Here v rs) there false is =
-              stays (Here v rs) there (sym is) (ap (Here v) (nothing_left t rs (sym is)))
-          by (Lent w) there true is = absurd (true≢false is)
-          by (Lent w) there false is = stays (Lent w) there refl refl
-
-      -- the value comes back where the writer didn't stand
-      pub put_back : (Y : State T) (g : Guard) (w v : T) (r : Result (Unit {0}) T)
-          → g ≡ guard_at id t → w ≡ v
-          → (IsTrue (is_ok r) → has_writer (content_at X n) t ≡ true)
-          × (has_writer (content_at X n) t ≡ true → IsTrue (is_ok r))
-          → OnOk r (Y ≡ fill X n (Here v [])) → IfErr r (λ back. (back ≡ v) × (Y ≡ X))
-          → Meets S (ReleaseWriter g w) (back_answer r) (with_records Y number owners next)
-      put_back Y g w v (Ok u) same value known ok err =
-          let knew : has_writer (content_at now (name_in id)) t ≡ true = rw at at (known.0 refl) in
-          rw (← view, same, value, ok, at) (inl (no_names, tt, rw (is_own.0, knew) refl))
-      put_back Y g w v (Err back) same value known ok err =
-          let lost : has_writer (content_at now (name_in id)) t ≡ false =
-          false_from_ne_true _ (λ h. false≢true (known.1 (rw at h))) in
-          rw (← view, same, value, err.0, err.1) (inl (no_names, tt, rw (is_own.0, lost) refl))
+    -- the value comes back where the writer didn't stand
+    pub put_back : (Y : State T) (w v : T) (r : Result (Unit {0}) T) → w ≡ v
+        → (IsTrue (is_ok r) → has_writer (content_at X n) t ≡ true)
+        × (has_writer (content_at X n) t ≡ true → IsTrue (is_ok r))
+        → OnOk r (Y ≡ fill X n (Here v [])) → IfErr r (λ back. (back ≡ v) × (Y ≡ X))
+        → Meets S (ReleaseWriter g w) (back_answer r) (with_records Y number owners next)
+    put_back Y w v (Ok u) value known ok err =
+        let knew : has_writer (content_at now (name_in id)) t ≡ true = rw at at (known.0 refl) in
+        rw (← view, same, value, ok, at) (inl (no_names, tt, rw (is_own, knew) refl))
+    put_back Y w v (Err back) value known ok err =
+        let lost : has_writer (content_at now (name_in id)) t ≡ false =
+        false_from_ne_true _ (λ h. false≢true (known.1 (rw at h))) in
+        rw (← view, same, value, err.0, err.1) (inl (no_names, tt, rw (is_own, lost) refl))

@@ -4,7 +4,7 @@ use Rattle.std.proofs.Common.{None, Some, Result, Ok, Err, refl, sym, ap, ◌∙
 use Rattle.std.proofs.Common.{is_none, OnOk, OnErr}
 use Rattle.std.proofs.lemmas.Bool.{eq-eqb, ne_eqb}
 use Rattle.std.specs.FinMap as map
-use Rattle.std.specs.Option.{option_or, option_map}
+use Rattle.std.specs.Option.{option_or}
 use Rattle.generational_core.specs.declared.error.Refused.{Refused}
 use Rattle.generational_core.specs.declared.steps.StepCall.TheVariants.{Read as Reading}
 use Rattle.generational_core.specs.Answers.{end_answer}
@@ -19,18 +19,11 @@ use Rattle.generational_box.proofs.Common.{content_at, content_of, first_hindran
 use Rattle.generational_box.proofs.Common.{hindrance_to, is_ready, name_of, no_names, reach}
 use Rattle.generational_box.proofs.Common.{read_refusal, read_trouble, sound_linked}
 use Rattle.generational_box.proofs.Common.{tells_of_borrow, with_records, write_refusal}
-use Rattle.generational_box.proofs.calls.Calls.{Reaches, hindered_step}
+use Rattle.generational_box.proofs.calls.Calls.{hindered_step}
 
 -- a trouble that isn't a dropped value's tells of a borrow
 abbrev Tells : Option Trouble → Type 0
 Tells t = is_none t ≡ not (tells_of_borrow t)
-
--- nothing is found of what isn't there
-pub none_map : {A B : Type 0} (f : A → B) (o : Option A) (none : Bool)
-    → is_some o ≡ not none → none ≡ is_none (option_map f o)
-none_map f None true e = refl
-none_map f (Some x) false e = refl
-none_map f _ _ e = absurd cc
 
 module _ {T : Type 0} where
   module _ (X : State T) {S : State T} {number next : ℕ} {owners : Owners}
@@ -70,12 +63,6 @@ module _ {T : Type 0} where
 
   -- ---- which calls no borrow hinders
 
-  -- what stands in the way of a read
-  read_tells : (c : Option (Content T)) → Tells (read_refusal c)
-  read_tells None = refl
-  read_tells (Some (Here v rs)) = refl
-  read_tells (Some (Lent w)) = refl
-
   -- what stands in the way of a write
   write_tells : (c : Option (Content T)) → Tells (write_refusal c)
   write_tells None = refl
@@ -113,16 +100,7 @@ module _ {T : Type 0} where
   end_tells S names = first_tells S.cells (cells_after S.cells names) names
 
   module _ {V S : State T} (view : V ≡ S) (b : GenerationalPointer) where
-    -- a read meets no borrow where no writer has what is reached
-    pub read_ready : {A : Type 0} {m : Name} (l : Location) (f : A → Trouble) (o : Option A)
-        (none : Bool) → Reaches V b m → is_some o ≡ not none
-        → option_map f o ≡ read_refusal (content_at V m) → none ≡ is_ready S (Reading b l)
-    unfolding read_trouble
-    read_ready {m = m} l f o none reached is refusal =
-        rw (← view, reached.to)
-        (none_map f o none is ∙ (ap is_none refusal ∙ read_tells (content_at V m)))
-
-    -- nor where nothing is reached
+    -- a read meets no borrow where nothing is reached
     pub read_ready_gone : (l : Location) → None ≡ reach S b → true ≡ is_ready S (Reading b l)
     unfolding read_trouble
     read_ready_gone l none = rw (← none) refl

@@ -1,16 +1,17 @@
 -- Whether a read and a write are free, and values that are set, as the machine has them.
-use Rattle.std.proofs.Common.{◌≡◌, ℕ, Bool, true, false, [], Option, None, Some, refl, sym, ap}
-use Rattle.std.proofs.Common.{◌∙◌, inl, is_some, is_none, not}
-use Rattle.std.specs.Option.{option_map}
-use Rattle.generational_core.specs.Borrowing.{can_read, can_write}
+use Rattle.std.proofs.Common.{◌≡◌, ℕ, Bool, true, false, cond, [], Option, None, Some, refl, sym, ap}
+use Rattle.std.proofs.Common.{◌∙◌, inl, is_none, nat_eq, IfSome}
+use Rattle.std.proofs.lemmas.Bool.{eqb-true, false≢true}
+use Rattle.std.specs.FinMap as map
+use Rattle.generational_core.specs.Borrowing.{can_read, can_write, refusal_at}
 use Rattle.generational_core.specs.Machine.Action.{SetValue}
 use Rattle.generational_core.specs.Machine.Answer.{Old}
-use Rattle.generational_box.proofs.Common.{Content, GenerationalPointer, Here, Lent, Meets, Name}
-use Rattle.generational_box.proofs.Common.{Owners, State, Trouble, content_at, fill, has_no_borrow}
-use Rattle.generational_box.proofs.Common.{no_names, reach, read_refusal, read_trouble}
+use Rattle.generational_slots.specs.Slotted.{content_reached, reached}
+use Rattle.generational_box.proofs.Common.{Content, GenerationalPointer, Here, IsSound, Lent, Meets}
+use Rattle.generational_box.proofs.Common.{Name, Owners, State, content_at, fill, has_no_borrow}
+use Rattle.generational_box.proofs.Common.{leads_to, name_of, no_names, reach, read_trouble}
 use Rattle.generational_box.proofs.Common.{with_records, write_refusal, write_trouble}
-use Rattle.generational_box.proofs.calls.Calls.{Reaches}
-use Rattle.generational_box.proofs.calls.EndCalls.{none_map}
+use Rattle.generational_box.proofs.calls.Calls.{reach_here, reach_own, reaches, write_own}
 
 module _ {T : Type 0} where
   -- a content that isn't read or lent has no borrow
@@ -30,32 +31,53 @@ module _ {T : Type 0} where
     unfolding write_trouble
     write_unreached none = rw (← none) refl
 
-    module _ {m : Name} (o : Reaches V b m) where
-      -- a read is free where no writer has what is reached
-      pub read_free : {A : Type 0} (f : A → Trouble) (writer : Option A) (free : Bool)
-          → is_some writer ≡ not free → option_map f writer ≡ read_refusal (content_at V m)
-          → free ≡ can_read S b
-      unfolding read_trouble
-      read_free f writer free is refusal =
-          rw (← view, o.to) (none_map f writer free is ∙ ap is_none refusal)
+  -- what can be written is of this store
+  written_here : (number : ℕ) (V : State T) (b : GenerationalPointer) → V.number ≡ number
+      → can_write V b ≡ true → b.id.store ≡ number
+  unfolding reach write_trouble
+  written_here number V b is free =
+      at (nat_eq b.id.store V.number) refl free
+    where
+      at : (own : Bool) → nat_eq b.id.store V.number ≡ own
+          → is_none (refusal_at (cond own (leads_to (map.get V.cells (name_of b)) (name_of b)) None)
+          b.created_at (λ m. write_refusal (content_at V m))) ≡ true → b.id.store ≡ number
+      at true same h = eqb-true b.id.store V.number same ∙ is
+      at false other h = absurd (false≢true h)
 
-      -- and a write where no borrow stands there
-      pub write_free : (free : Bool) → free ≡ is_none (write_refusal (content_at V m))
-          → free ≡ can_write S b
-      unfolding write_trouble
-      write_free free is = rw (← view, o.to) is
+  module _ (X : State T) {S : State T} {number next : ℕ} {owners : Owners}
+      (view : with_records X number owners next ≡ S) (b : GenerationalPointer) (n : Name)
+      (at : n ≡ name_of b) (free : can_write S b ≡ true) where
+    pub written_own : b.id.store ≡ number
+    written_own = written_here number (with_records X number owners next) b refl (rw (← view) at free)
 
-      pub free_there : can_write S b ≡ true → has_no_borrow (content_at V m) ≡ true
-      unfolding write_trouble
-      free_there free = ap has_no_borrow o.has
-          ∙ unborrowed o.content (sym (ap (λ c. is_none (write_refusal c)) o.has)
-          ∙ rw (← view, o.to) at free)
+    -- at the value that it reaches no borrow stands
+    pub free_there : IsSound S → has_no_borrow (content_reached X (reached X n)) ≡ true
+    free_there sound =
+        by (reached X n) refl (ap is_none (sym (write_own X view b at written_own)) ∙ free)
+      where
+        by : (o : Option Name) → reached X n ≡ o
+            → is_none (refusal_at o b.created_at (λ m. write_refusal (content_at X m))) ≡ true
+            → has_no_borrow (content_reached X o) ≡ true
+        by None to h = absurd (false≢true h)
+        by (Some m) to h =
+            let o = reaches view sound (sym (reach_own X view b at written_own ∙ to)) in
+            ap has_no_borrow o.has
+            ∙ unborrowed o.content (ap (λ c. is_none (write_refusal c)) (sym o.has) ∙ h)
 
-  -- another value in the place of the reached one
-  pub value_set : (X : State T) {S : State T} {number next : ℕ} {owners : Owners}
-      → (view : with_records X number owners next ≡ S) (b : GenerationalPointer) {m : Name}
-      → Reaches (with_records X number owners next) b m → (Y : State T) (old value : T)
-      → content_at X m ≡ Some (Here old []) → Y ≡ fill X m (Here value [])
-      → Meets S (SetValue b value) (Old old) (with_records Y number owners next)
-  value_set X view b o Y old value is after =
-      rw (← view, after) (inl (no_names, tt, rw (o.to, is) refl))
+    -- another value in its place
+    pub value_set : IsSound S → (Y : State T) (old value : T)
+        → IfSome (reached X n) (λ m. content_at X m ≡ Some (Here old []))
+        → IfSome (reached X n) (λ m. Y ≡ fill X m (Here value []))
+        → Meets S (SetValue b value) (Old old) (with_records Y number owners next)
+    value_set sound Y old value is after = by (reached X n) refl (free_there sound) is after
+      where
+        by : (o : Option Name) → reached X n ≡ o → has_no_borrow (content_reached X o) ≡ true
+            → IfSome o (λ m. content_at X m ≡ Some (Here old []))
+            → IfSome o (λ m. Y ≡ fill X m (Here value []))
+            → Meets S (SetValue b value) (Old old) (with_records Y number owners next)
+        by None to h is after = absurd (false≢true h)
+        by (Some m) to h is after = rw (← view, after) (inl (
+          no_names,
+          tt,
+          rw (reach_here X view b at written_own ∙ to, is) refl,
+        ))

@@ -6,19 +6,21 @@ use Rattle.std.proofs.lemmas.Bool.{eq-eqb, lt-ltb, false≢true, true≢false}
 use Rattle.std.specs.FinMap as map
 use Rattle.std.specs.FinSet as set
 use Rattle.std.specs.List.{AllByRecursion}
-use Rattle.generational_core.specs.Borrowing.{read_refusal}
+use Rattle.generational_core.specs.Borrowing.{read_refusal, refusal_at}
+use Rattle.generational_slots.specs.Slotted.{reached, refer_trouble_at, shared_reached}
+use Rattle.std.specs.Option.{option_or}
 use Rattle.generational_core.specs.Machine.{Action, OwnerName, act, add_cell, add_to_list, is_known}
-use Rattle.generational_core.specs.Machine.{make, refer, Fresh}
+use Rattle.generational_core.specs.Machine.{cell_at, make, refer, unless, Fresh}
 use Rattle.generational_box.proofs.Common.{MakeShared, Refer, HasTargets, by_name}
 use Rattle.generational_box.proofs.Common.{contains-insert_name, get-insert_apart, get-insert_here}
-use Rattle.generational_box.proofs.Common.{name_cases, relist_in, cell_of, content_at, location_of}
+use Rattle.generational_box.proofs.Common.{name_cases, cell_of, content_at, location_of}
 use Rattle.generational_box.proofs.Common.{AreCounted, Cell, Dropped, IsBounded, meets_kept, GenerationalPointer, Here}
-use Rattle.generational_box.proofs.Common.{IsListed, IsMade, IsNew, IsRefusal, IsRefused, IsSound}
+use Rattle.generational_box.proofs.Common.{IsListed, IsMade, IsNew, IsRefusal, IsSound}
 use Rattle.generational_box.proofs.Common.{Location, Make, Meets, Name, NumbersExhausted}
 use Rattle.generational_box.proofs.Common.{OutOfMemory, Ownership, Owners, Ref, Shared, Slotted}
 use Rattle.generational_box.proofs.Common.{State, StoreError, Trouble, UnknownOwner, Value}
 use Rattle.generational_box.proofs.Common.{add_to_list_in, among, box_of, free, is_shared}
-use Rattle.generational_box.proofs.Common.{knows_any, limit_tickets, may_lack, name_apart, names_in}
+use Rattle.generational_box.proofs.Common.{knows_any, limit_tickets, may_lack, name_apart, name_of, names_in}
 use Rattle.generational_box.proofs.Common.{names_under, needs_memory, no_names, reach, read_trouble}
 use Rattle.generational_box.proofs.Common.{with_records}
 use Rattle.generational_core.specs.Machine.Answer.{Made, Refused, Troubled}
@@ -26,18 +28,13 @@ use Rattle.generational_core.specs.State.{IsBoxed}
 use Rattle.generational_entries.specs.declared.entry.StorageEntryData.{StorageEntryData}
 use Rattle.generational_entries.specs.declared.entry.StorageEntryData.TheVariants as slot
 use Rattle.generational_entries.specs.Entries.{kept_data, target_of}
-use Rattle.generational_box.proofs.calls.Calls.{Reaches}
-use Rattle.generational_box.proofs.records.Counts.{counted_listed, relisted}
+use Rattle.generational_box.proofs.calls.Calls.{reach_here, reach_own, read_own}
+use Rattle.generational_box.proofs.records.Counts.{counted_listed}
 
 -- none of two tests passes
 second_false : (a b : Bool) → (a || b) ≡ false → b ≡ false
 second_false true b h = absurd (true≢false h)
 second_false false b h = h
-
--- what holds of a refusal holds where there is one
-pub of_refusal : {A E P : Type 0} (r : Result A E) → true ≡ is_err r → OnErr r P → P
-of_refusal (Ok x) is h = absurd (true≢false is)
-of_refusal (Err e) is h = h
 
 module _ {T : Type 0} where
   -- no owner's list has a name that was never given
@@ -64,18 +61,18 @@ module _ {T : Type 0} where
 
   -- where a making may lack memory
   value_lacks : (V : State T) (b : GenerationalPointer) (v : T) (l : Location)
-      (o : Option OwnerName) {P : Type 0} → IsSome o ⊎ ((free V ≡ 0) × P)
+      (o : Option OwnerName) → IsSome o ⊎ (free V ≡ 0)
       → needs_memory V (Made b) (Make o v l) ≡ true
   value_lacks V b v l None (inl some) = absurd (false≢true some)
-  value_lacks V b v l None (inr none) = eq-eqb (free V) 0 none.0
+  value_lacks V b v l None (inr none) = eq-eqb (free V) 0 none
   value_lacks V b v l (Some o) why = refl
 
   -- the same of a reference
   reference_lacks : (V : State T) (b inner : GenerationalPointer)
-      (o : Option OwnerName) {P : Type 0} → IsSome o ⊎ ((free V ≡ 0) × P)
+      (o : Option OwnerName) → IsSome o ⊎ (free V ≡ 0)
       → needs_memory V (Made b) (Refer o inner) ≡ true
   reference_lacks V b inner None (inl some) = absurd (false≢true some)
-  reference_lacks V b inner None (inr none) = eq-eqb (free V) 0 none.0
+  reference_lacks V b inner None (inr none) = eq-eqb (free V) 0 none
   reference_lacks V b inner (Some o) why = refl
 
   -- and of a shared value with its reference
@@ -95,40 +92,38 @@ module _ {T : Type 0} where
     unfolding read_trouble
     refer_gone none = inl (no_names, tt, rw (known, ← none) refl)
 
-    module _ {V : State T} (view : V ≡ S) {m : Name} (r : Reaches V b m) where
-      knew : is_known V o ≡ true
-      knew = ap (λ R. is_known R o) view ∙ known
+    -- what stands in the way of a reference to what the box's name reaches
+    module _ (X : State T) {number next : ℕ} {owners : Owners}
+        (view : with_records X number owners next ≡ S) where
+      abbrev W : State T
+      W = with_records X number owners next
 
-      -- a writer has what is reached
-      pub refer_lent : (t : Trouble) → Some t ≡ read_refusal (content_at V m)
-          → Meets S (Refer o b) (Troubled t) S
+      pub refer_hindered : {n : Name} → n ≡ name_of b → b.id.store ≡ number → (t : Trouble)
+          → refer_trouble_at X n b.created_at ≡ Some t → Meets S (Refer o b) (Troubled t) S
       unfolding read_trouble
-      refer_lent t lent = rw (← view) (inl (no_names, tt, rw (knew, r.to, ← lent) refl))
-
-      -- what is reached isn't shared
-      pub refer_plain : None ≡ read_refusal (content_at V m)
-          → false ≡ is_shared (map.get S.cells m)
-          → Meets S (Refer o b) (Troubled (Dropped b.created_at)) S
-      unfolding read_trouble
-      refer_plain free other =
-          let plain = ap (λ (R : State T). is_shared (map.get R.cells m)) view ∙ sym other in
-          rw (← view) (inl (
-            no_names,
-            tt,
-            rw (knew, r.to, ← free)
-                (sym (ap (limit_tickets V) (at (map.get V.cells m) plain))),
-          ))
+      refer_hindered {n} at own t is = rw (← view) (inl (
+        no_names,
+        tt,
+        rw (ap (λ R. is_known R o) view ∙ known, reach_here X view b at own)
+            (sym (ap (limit_tickets W) (by (reached X n) is))),
+      ))
         where
-          at : (cell : Option (Cell T)) → is_shared cell ≡ false
-              → refer V o b (Some m) cell no_names.first ≡ (Troubled (Dropped b.created_at), V)
-          at (Some (Shared c l)) plain = absurd (true≢false plain)
-          at (Some (Value c l)) plain = refl
-          at (Some (Ref n l)) plain = refl
-          at None plain = refl
+          past : (m : Name) (x : Option Trouble) (cell : Option (Cell T))
+              → option_or x (cond (is_shared cell) None (Some (Dropped b.created_at))) ≡ Some t
+              → unless x W (refer W o b (Some m) cell no_names.first) ≡ (Troubled t, W)
+          past m (Some x) cell is = let same : x ≡ t = cc in rw same refl
+          past m None (Some (Shared c k)) is = absurd cc
+          past m None (Some (Value c k)) is = let same : Dropped b.created_at ≡ t = cc in rw same refl
+          past m None (Some (Ref q k)) is = let same : Dropped b.created_at ≡ t = cc in rw same refl
+          past m None None is = let same : Dropped b.created_at ≡ t = cc in rw same refl
 
-  -- a state that is sound and bounded
-  abbrev Kept : State T → Type 0
-  Kept R = IsSound R × (IsBounded R × Unit {0})
+          by : (r : Option Name)
+              → option_or (refusal_at r b.created_at (λ m. read_refusal (content_at X m)))
+              (cond (shared_reached X r) None (Some (Dropped b.created_at))) ≡ Some t
+              → unless (refusal_at r b.created_at (λ m. read_refusal (content_at X m))) W
+              (refer W o b r (cell_at W r) no_names.first) ≡ (Troubled t, W)
+          by None is = let same : Dropped b.created_at ≡ t = cc in rw same refl
+          by (Some m) is = past m (read_refusal (content_at X m)) (map.get X.cells m) is
 
   -- an owner that isn't known
   pub refer_strange : (S : State T) (o : Option OwnerName) (b : GenerationalPointer)
@@ -140,16 +135,18 @@ module _ {T : Type 0} where
   ReachesShared S b m =
       (reach S b ≡ Some m) × (read_trouble S b ≡ None) × (is_shared (map.get S.cells m) ≡ true)
 
-  -- a shared value is reached in the state that contracts see
-  pub reaches_shared : {V S : State T} {b : GenerationalPointer} {m : Name} → V ≡ S
-      → Reaches V b m → None ≡ read_refusal (content_at V m)
-      → true ≡ is_shared (map.get S.cells m)
+  -- a shared value that a name reaches is reached by the name's box
+  pub reaches_shared : (X : State T) {S : State T} {number next : ℕ} {owners : Owners}
+      → (view : with_records X number owners next ≡ S) (b : GenerationalPointer) {n m : Name}
+      → n ≡ name_of b → b.id.store ≡ number
+      → (reached X n ≡ Some m) × (read_refusal (content_at X m) ≡ None)
+      × (is_shared (map.get X.cells m) ≡ true)
       → ReachesShared S b m
-  unfolding read_trouble
-  reaches_shared {b = b} {m = m} view r free shared = (
-    subst (λ R. reach R b ≡ Some m) view r.to,
-    subst (λ R. read_trouble R b ≡ None) view (rw r.to (sym free)),
-    sym shared,
+  reaches_shared X view b {m = m} at own r = (
+    reach_own X view b at own ∙ r.0,
+    read_own X view b at own
+        ∙ (ap (λ o. refusal_at o b.created_at (λ m. read_refusal (content_at X m))) r.0 ∙ r.1),
+    rw (← view) r.2,
   )
 
   -- to it a reference is made
@@ -281,23 +278,17 @@ module _ {T : Type 0} where
           others x apart = ap (λ (X : State T). map.get X.cells x) added
               ∙ get-insert_apart by_name s.state.cells m cell x apart
 
-      -- an owner's list had another name until then
-      module _ (t : Slotted T) (d : StorageEntryData T) (n h : Name)
-          (listed alone beside after : Owners) (refers_to : d ≡ slot.Reference m.slot m.generation)
+      -- the reference is listed
+      module _ (t : Slotted T) (d : StorageEntryData T) (n : Name) (after : Owners)
+          (refers_to : d ≡ slot.Reference m.slot m.generation)
           (second : IsMade r t (cell_of (kept_data [] l d)) n)
-          (placed : listed ≡ add_to_list_in owners o h) (one : alone ≡ listed)
-          (two : beside ≡ alone) (mended : after ≡ relist_in beside o n) where
-        -- the records have the reference's name on the owner's list
-        records : after ≡ add_to_list_in owners o n
-        records =
-            mended ∙ (ap (λ x. relist_in x o n) (two ∙ (one ∙ placed)) ∙ relisted owners o h n)
-
+          (placed : after ≡ add_to_list_in owners o n) where
         -- the reference's name is new to the store as it was
         pub pair_counted : AreCounted next owners → IsSound S → AreCounted next after
         pair_counted counted sound = made_counted counted sound n after
             (second_false _ _ (sym (contains-insert_name s.state.given m n)
             ∙ (ap (λ (X : State T). set.contains X.given n) (sym added) ∙ second.fits.fresh)))
-            records
+            placed
 
         -- a shared value with a reference to it
         pub shared_made : (b : GenerationalPointer) → knows_any number owners o ≡ true
@@ -307,7 +298,7 @@ module _ {T : Type 0} where
             let shared : State T = add_cell s.state m cell in
             let new : IsNew shared n = subst (λ X. IsNew X n) added second.fits in
             let made = subst (λ x. IsMade r t (cell_of (kept_data [] l x)) n) refers_to second in
-            rw (← view, is, made.added, added, records) (inl (
+            rw (← view, is, made.added, added, placed) (inl (
               record { first = m; second = n },
               (
                 new_name s.state m (subst (λ X. IsNew X m) same first.fits),
@@ -337,91 +328,74 @@ module _ {T : Type 0} where
         inr (made ∙ is.1, refl, refl)
     refused call b R acts NumbersExhausted is = absurd is
 
-    -- so does the making of one cell
-    refuses : (lacks : Bool) → (IsSome o ⊎ ((free s.state ≡ 0) × (s.spare ≡ 0)) → lacks ≡ true)
-        → (e : StoreError) → IsRefused s number owners o e → Refuses lacks e
-    refuses lacks why UnknownOwner is = is
-    refuses lacks why OutOfMemory is = (is.0, why is.1)
-    refuses lacks why NumbersExhausted is = is
+    -- a making whose answer may lack memory
+    module _ (call : Action T) (b : GenerationalPointer) (R : State T) {P : Type 0}
+        (acts : act V call no_names ≡ cond (is_known V o) (Made b, R) (Refused UnknownOwner, V))
+        (lacks : IsSome o ⊎ P → needs_memory V (Made b) call ≡ true) (Y : State T) (after : Owners)
+        (same : Y ≡ s.state) (unlisted : after ≡ owners) where
+      -- an owner that isn't known, or no memory for its list
+      making_refused : (e : StoreError) → IsRefusal number owners o e
+          → Meets S call (Refused e) (with_records Y number after next)
+      making_refused e is = rw (← view, same, unlisted) (refused call b R acts e (by e is))
+        where
+          by : (e : StoreError) → IsRefusal number owners o e
+              → Refuses (needs_memory V (Made b) call) e
+          by UnknownOwner is = is
+          by OutOfMemory is = (is.1, lacks (inl is.0))
+          by NumbersExhausted is = is
 
-    -- a making of one cell, where there is no memory for it or for an owner's list
-    pub value_refused : (v : T) (l : Location) (e : StoreError) (Y : State T) (after : Owners)
-        → IsRefused s number owners o e → (Y ≡ s.state) × (after ≡ owners)
-        → Meets S (Make o v l) (Refused e) (with_records Y number after next)
-    value_refused v l e Y after is same =
-        rw (← view, same.0, same.1) (refused (Make o v l) _ _ refl e
-        (refuses _ (value_lacks V (box_of number no_names.first l) v l o) e is))
+      -- no memory for its cells
+      making_full : knows_any number owners o ≡ true → P
+          → Meets S call (Refused OutOfMemory) (with_records Y number after next)
+      making_full knew few =
+          rw (← view, same, unlisted) (refused call b R acts OutOfMemory (knew, lacks (inr few)))
 
-    -- the same of a reference
-    pub reference_refused : (inner : GenerationalPointer) (m : Name) (l : Location)
-        (e : StoreError) (Y : State T) (after : Owners)
-        → ReachesShared S inner m → location_of (map.get V.cells m) ≡ Some l
-        → IsRefused s number owners o e → (Y ≡ s.state) × (after ≡ owners)
-        → Meets S (Refer o inner) (Refused e) (with_records Y number after next)
-    reference_refused inner m l e Y after reached at is same =
-        rw (← view, same.0, same.1) (refused (Refer o inner) _ _
-        (refers V inner m l o no_names (shared_here inner m reached) at) e
-        (refuses _ (reference_lacks V (box_of number no_names.first l) inner o) e is))
+    module _ (v : T) (l : Location) (Y : State T) (after : Owners) (same : Y ≡ s.state)
+        (unlisted : after ≡ owners) where
+      -- the making of a value
+      pub value_refused : (e : StoreError) → IsRefusal number owners o e
+          → Meets S (Make o v l) (Refused e) (with_records Y number after next)
+      value_refused = making_refused (Make o v l) _ _ refl
+          (value_lacks V (box_of number no_names.first l) v l o) Y after same unlisted
 
-    -- a making of a shared value, where there is no memory for its two cells or for an owner's list
-    pub shared_lacks : (v : T) (l : Location) (e : StoreError) (Y : State T)
-        → e ≡ cond (knows_any number owners o) OutOfMemory UnknownOwner → free s.state < 2
-        → Y ≡ s.state
-        → Meets S (MakeShared o v l) (Refused e) (with_records Y number owners next)
-    shared_lacks v l e Y is few same =
-        rw (← view, same, is) (by (knows_any number owners o) refl)
-      where
-        by : (k : Bool) → knows_any number owners o ≡ k
-            → Meets V (MakeShared o v l) (Refused (cond k OutOfMemory UnknownOwner)) V
-        by true knew = refused (MakeShared o v l) _ _ refl OutOfMemory
-            (knew, pair_lacks V (box_of number no_names.second l) v l o (inr few))
-        by false unknown = refused (MakeShared o v l) _ _ refl UnknownOwner unknown
+      pub value_full : knows_any number owners o ≡ true → free s.state ≡ 0
+          → Meets S (Make o v l) (Refused OutOfMemory) (with_records Y number after next)
+      value_full = making_full (Make o v l) _ _ refl
+          (value_lacks V (box_of number no_names.first l) v l o) Y after same unlisted
 
-    -- an owner that isn't known, or no memory for its list
-    pub shared_refused : (v : T) (l : Location) (e : StoreError) (Y : State T) (after : Owners)
-        → IsRefusal number owners o e → Y ≡ s.state → after ≡ owners
-        → Meets S (MakeShared o v l) (Refused e) (with_records Y number after next)
-    shared_refused v l e Y after is same unchanged =
-        rw (← view, same, unchanged) (refused (MakeShared o v l) _ _ refl e (by e is))
-      where
-        by : (e : StoreError) → IsRefusal number owners o e
-            → Refuses (needs_memory V (Made (box_of number no_names.second l)) (MakeShared o v l)) e
-        by UnknownOwner is = is
-        by OutOfMemory is = (is.1, pair_lacks V (box_of number no_names.second l) v l o (inl is.0))
-        by NumbersExhausted is = is
+      -- and of a shared value
+      pub shared_refused : (e : StoreError) → IsRefusal number owners o e
+          → Meets S (MakeShared o v l) (Refused e) (with_records Y number after next)
+      shared_refused = making_refused (MakeShared o v l) _ _ refl
+          (pair_lacks V (box_of number no_names.second l) v l o) Y after same unlisted
 
-    -- ---- what is left is sound and bounded
+      pub shared_full : knows_any number owners o ≡ true → free s.state < 2
+          → Meets S (MakeShared o v l) (Refused OutOfMemory) (with_records Y number after next)
+      shared_full = making_full (MakeShared o v l) _ _ refl
+          (pair_lacks V (box_of number no_names.second l) v l o) Y after same unlisted
 
-    -- a state that a call leaves as it was
-    unchanged : (r : Slotted T) (after : Owners) → (r.state ≡ s.state) × (after ≡ owners)
-        → IsSound S → IsBounded S → Kept (with_records r.state number after next)
-    unchanged r after same sound bounded =
-        rw (same.0, same.1) (subst Kept (sym view) (sound, (bounded, tt)))
+    module _ (inner : GenerationalPointer) (m : Name) (Y : State T) (after : Owners)
+        (same : Y ≡ s.state) (unlisted : after ≡ owners) (reached : ReachesShared S inner m) where
+      -- where the shared value was made
+      made_at : (l : Location) × (location_of (map.get V.cells m) ≡ Some l)
+      made_at = at (map.get V.cells m) (shared_here inner m reached).2
+        where
+          at : (c : Option (Cell T)) → is_shared c ≡ true
+              → (l : Location) × (location_of c ≡ Some l)
+          at (Some (Shared c l)) shared = (l, refl)
+          at None shared = absurd (false≢true shared)
+          at (Some (Value c l)) shared = absurd (false≢true shared)
+          at (Some (Ref n l)) shared = absurd (false≢true shared)
 
-    -- the making of a value
-    pub value_kept : (v : T) (l : Location) (r : Slotted T) (after : Owners) {A E : Type 0}
-        (f : A → Name) (result : Result A E)
-        → IfOk result (λ n. IsMade s r (Some (Value (Here v []) l)) (f n)
-        × IsListed number owners after o (f n))
-        → OnErr result ((r.state ≡ s.state) × (after ≡ owners)) → IsSound S → IsBounded S
-        → Kept (with_records r.state number after next)
-    value_kept v l r after f (Ok n) ok err sound bounded =
-        meets_kept _ _ (Make o v l) _ sound bounded
-        (value_made v l r after (f n) (box_of number (f n) l) ok.0 ok.1 refl)
-    value_kept v l r after f (Err e) ok err sound bounded = unchanged r after err sound bounded
+      -- the making of a reference
+      pub reference_refused : (e : StoreError) → IsRefusal number owners o e
+          → Meets S (Refer o inner) (Refused e) (with_records Y number after next)
+      reference_refused = making_refused (Refer o inner) _ _
+          (refers V inner m made_at.0 o no_names (shared_here inner m reached) made_at.1)
+          (reference_lacks V (box_of number no_names.first made_at.0) inner o) Y after same unlisted
 
-    -- the making of a reference
-    pub reference_kept : (inner : GenerationalPointer) (l : Location) (r : Slotted T)
-        (after : Owners) (m : Name) (d : StorageEntryData T) → ReachesShared S inner m
-        → location_of (map.get V.cells m) ≡ Some l → d ≡ slot.Reference m.slot m.generation
-        → {A E : Type 0} (f : A → Name) (result : Result A E)
-        → IfOk result (λ n. IsMade s r (cell_of (kept_data [] l d)) (f n)
-        × IsListed number owners after o (f n))
-        → OnErr result ((r.state ≡ s.state) × (after ≡ owners)) → IsSound S → IsBounded S
-        → Kept (with_records r.state number after next)
-    reference_kept inner l r after m d reached at content f (Ok n) ok err sound bounded =
-        meets_kept _ _ (Refer o inner) _ sound bounded
-        (reference_made inner l r after m (f n) (box_of number (f n) l) d reached at content
-        ok.0 ok.1 refl)
-    reference_kept inner l r after m d reached at content f (Err e) ok err sound bounded =
-        unchanged r after err sound bounded
+      pub reference_full : knows_any number owners o ≡ true → free s.state ≡ 0
+          → Meets S (Refer o inner) (Refused OutOfMemory) (with_records Y number after next)
+      reference_full = making_full (Refer o inner) _ _
+          (refers V inner m made_at.0 o no_names (shared_here inner m reached) made_at.1)
+          (reference_lacks V (box_of number no_names.first made_at.0) inner o) Y after same unlisted

@@ -12,7 +12,7 @@ use Rattle.generational_box.proofs.Common.{record_of, by_number, key_same, AreCo
 use Rattle.generational_box.proofs.Common.{change, change_if, Ownership, Owners, one_more, one_less}
 use Rattle.generational_box.proofs.Common.{Name, one_listed, count_in, count_under, add_to_list_in}
 use Rattle.generational_box.proofs.Common.{among, get-changed, is_name, name_total, names_in}
-use Rattle.generational_box.proofs.Common.{names_under, one_relisted, relist_in}
+use Rattle.generational_box.proofs.Common.{names_under}
 use Rattle.std.specs.Ordering.{nat_cmp, eq_by_cmp}
 use Rattle.std.specs.Cmp.{nat_cmp_total, IsEquivalence}
 use Rattle.std.proofs.lemmas.Cmp.{eq_by_cmp_equiv}
@@ -111,33 +111,3 @@ record_held number owners o h is = at (nat_eq o.store number) (sym is)
     at : (b : Bool) → cond b (map.get owners o.key) None ≡ Some h → map.get owners o.key ≡ Some h
     at true is = is
     at false is = absurd (none-some h is)
-
--- two changes at a key are one
-changed_twice : (owners : Owners) (k : ℕ) (f h : Ownership → Ownership)
-    → change (change owners k f) k h ≡ change owners k (λ x. h (f x))
-changed_twice owners k f h = map.same_map by_number.total by_number.exact _ _ (λ q.
-    get-changed by_number (change owners k f) k h q
-    ∙ rw (get-changed by_number owners k f q, get-changed by_number owners k (λ x. h (f x)) q)
-    (at (eq_by_cmp nat_cmp q k) (map.get owners q)))
-  where
-    at : (b : Bool) (o : Option Ownership)
-        → cond b (option_map h (cond b (option_map f o) o)) (cond b (option_map f o) o)
-        ≡ cond b (option_map (λ x. h (f x)) o) o
-    at true None = refl
-    at true (Some x) = refl
-    at false o = refl
-
--- a name that was listed gives way to another
-pub relisted : (owners : Owners) (o : Option OwnerName) (m n : Name)
-    → relist_in (add_to_list_in owners o m) o n ≡ add_to_list_in owners o n
-relisted owners None m n = refl
-relisted owners (Some o) m n =
-    changed_twice owners o.key (one_listed m) (one_relisted n)
-    ∙ (λ i. change owners o.key (λ h. record h { names = last h.names i }))
-  where
-    last : (ns : List Name)
-        → slice_set (ns ++ m ∷ []) (length (ns ++ m ∷ []) - 1) n ≡ ns ++ n ∷ []
-    last ns =
-        let long = length-append ns (m ∷ []) in
-        let at : length (ns ++ m ∷ []) - 1 ≡ length ns = omega arith in
-        rw at (set-append_seam ns m [] n)

@@ -23,7 +23,12 @@ use Rattle.generational_containers.proofs.Common.{get-changed_none, get-remove_h
 use Rattle.generational_containers.proofs.Common.{get-remove_apart}
 use Rattle.generational_containers.proofs.Common.{names_under, names_in, knows}
 use Rattle.generational_containers.proofs.Common.{record_of, ArePlaced, change_place}
-use Rattle.generational_containers.proofs.Common.{change_place_if}
+use Rattle.generational_core.proofs.maps.Maps.{insert_there}
+use Rattle.generational_containers.specs.OwnerPlaces.{Records, change_record, change_record_if}
+use Rattle.generational_containers.specs.OwnerPlaces.{HasRoom, IsReserved, rooms_at, with_rooms}
+use Rattle.generational_containers.specs.OwnerRecords.{add_to_list_in}
+use Rattle.generational_containers.proofs.Common.{one_listed}
+use Rattle.generational_core.specs.Names.{Name}
 use Rattle.generational_containers.proofs.Common.{with_ownership}
 use Rattle.generational_containers.proofs.lists.Lists.{IsWritten, set_written, push_written}
 use Rattle.generational_containers.proofs.lists.Lists.{number_test}
@@ -217,9 +222,6 @@ module _ {vacant : set.FinSet nat_cmp} {rooms : ℕ} {xs : List Place}
     others : (q : ℕ) → q ≢ r.key → find_in q (slice_set xs i (Some r)) ≡ find_in q xs
     others q ne = find_set xs i q (Some r) (ap (record_at q) was) (other_key q r ne)
 
-    pub vacant_within : i < length xs
-    vacant_within = slice_get_within xs i None was
-
     pub filled_owners : owners_of (slice_set xs i (Some r))
         ≡ map.insert (owners_of xs) r.key r.ownership
     filled_owners = record_written r w placed.apart alone others
@@ -278,38 +280,70 @@ module _ {vacant : set.FinSet nat_cmp} {rooms : ℕ} {xs : List Place}
     holds_there P holds =
         rw there.1 (subst (λ o. IfSome o P) get_there holds)
 
-    module _ (f : Ownership → Ownership) where
+    module _ (g : Keyed → Keyed) (same : (g there.0).key ≡ there.0.key) where
       abbrev r : Keyed
-      r = with_ownership f there.0
+      r = g there.0
 
-      changed_is : change_place xs i f ≡ slice_set xs i (Some r)
-      changed_is = ap (change_place_if xs i f) there.1
+      key_kept : k ≡ r.key
+      key_kept = there.2 ∙ sym same
+
+      changed_is : change_record xs i g ≡ slice_set xs i (Some r)
+      changed_is = ap (change_record_if xs i g) there.1
 
       changed_written : IsWritten xs (slice_set xs i (Some r)) i (Some r)
       changed_written = set_written xs i (Some r) (Some there.0) there.1
 
       changed_alone : (j : ℕ) → HasRecord r.key (slice_get xs j) → j ≡ i
       changed_alone j hj =
-          placed.apart.one r.key j i hj (subst (λ q. HasRecord q (slice_get xs i)) there.2 has)
+          placed.apart.one r.key j i hj (subst (λ q. HasRecord q (slice_get xs i)) key_kept has)
 
       changed_others : (q : ℕ) → q ≢ r.key → find_in q (slice_set xs i (Some r)) ≡ find_in q xs
       changed_others q ne =
-          find_set xs i q (Some r) (at_key (λ e. ne (e ∙ there.2))) (other_key q r ne)
+          find_set xs i q (Some r) (at_key (λ e. ne (e ∙ key_kept))) (other_key q r ne)
 
-      pub changed_owners : owners_of (change_place xs i f) ≡ change (owners_of xs) k f
-      changed_owners =
+      written_owners : owners_of (change_record xs i g) ≡ map.insert (owners_of xs) k r.ownership
+      written_owners =
           ap owners_of changed_is
           ∙ record_written r changed_written placed.apart changed_alone changed_others
-          ∙ ap (λ q. map.insert (owners_of xs) q r.ownership) (sym there.2)
-          ∙ sym (changed_there by_number (owners_of xs) k f there.0.ownership get_there)
+          ∙ ap (λ q. map.insert (owners_of xs) q r.ownership) (sym key_kept)
 
-      pub changed_placed : ArePlaced vacant rooms (change_place xs i f)
-      changed_placed = rw changed_is (record {
+      written_placed : ArePlaced vacant rooms (change_record xs i g)
+      written_placed = rw changed_is (record {
         pooled = pooled_written vacant vacant changed_written placed.pooled
             (contains_own vacant i (placed.pooled i ∙ ap is_vacant there.1));
         roomy = rw (length-set xs i (Some r)) placed.roomy;
         apart = record_apart r changed_written placed.apart changed_alone changed_others;
       })
+
+      written_there : HasRecord k (slice_get (change_record xs i g) i)
+      written_there =
+          let at : slice_get (change_record xs i g) i ≡ Some (Some r) =
+          ap (λ ys. slice_get ys i) changed_is ∙ (changed_written.at i
+          ∙ ap (λ b. cond b (Some (Some r)) (slice_get xs i)) (eq-eqb i i refl)) in
+          ap (λ o. is_some (record_at k o)) at
+          ∙ (ap (λ q. is_some (record_in q (Some r))) key_kept ∙ ap is_some (own_key r))
+
+    module _ (f : Ownership → Ownership) where
+      pub changed_owners : owners_of (change_place xs i f) ≡ change (owners_of xs) k f
+      changed_owners =
+          written_owners (with_ownership f) refl
+          ∙ sym (changed_there by_number (owners_of xs) k f there.0.ownership get_there)
+
+      pub changed_placed : ArePlaced vacant rooms (change_place xs i f)
+      changed_placed = written_placed (with_ownership f) refl
+
+    -- room for more names changes no record
+    module _ (more : ℕ) where
+      pub roomed_owners : owners_of (change_record xs i (with_rooms more)) ≡ owners_of xs
+      roomed_owners =
+          written_owners (with_rooms more) refl
+          ∙ insert_there by_number (owners_of xs) k there.0.ownership get_there
+
+      pub roomed_placed : ArePlaced vacant rooms (change_record xs i (with_rooms more))
+      roomed_placed = written_placed (with_rooms more) refl
+
+      pub roomed_there : HasRecord k (slice_get (change_record xs i (with_rooms more)) i)
+      roomed_there = written_there (with_rooms more) refl
 
     w_taken : IsWritten xs (slice_set xs i None) i None
     w_taken = set_written xs i None (Some there.0) there.1
@@ -406,10 +440,41 @@ vacant_through xs n x before there vacant i within =
     (cases_lt i n)
 
 -- a change where there is no record changes nothing
-pub change_vacant : (xs : List Place) (i : ℕ) (x : Place) (f : Ownership → Ownership)
-    → slice_get xs i ≡ Some x → x ≡ None → slice_set xs i x ≡ change_place xs i f
-change_vacant xs i x f there vacant =
-    set-own xs i x there ∙ sym (ap (change_place_if xs i f) (there ∙ ap Some vacant))
+pub change_vacant : (xs : List Place) (i : ℕ) (x : Place) (g : Keyed → Keyed)
+    → slice_get xs i ≡ Some x → x ≡ None → slice_set xs i x ≡ change_record xs i g
+change_vacant xs i x g there vacant =
+    set-own xs i x there ∙ sym (ap (change_record_if xs i g) (there ∙ ap Some vacant))
+
+-- a vacant place stays so
+pub vacant_stays : (xs : List Place) (i : ℕ) (x : Place) (P : Keyed → Type 0)
+    → slice_get xs i ≡ Some x → x ≡ None
+    → IfSome (slice_get (slice_set xs i x) i) (λ kept. IfSome kept P)
+vacant_stays xs i x P there vacant =
+    rw (ap (λ ys. slice_get ys i) (set-own xs i x there) ∙ (there ∙ ap Some vacant)) tt
+
+-- a record with room is at its place, and has a key
+pub room_within : (xs : List Place) (i : ℕ) → HasRoom (slice_get xs i) → i < length xs
+room_within xs i room = at (slice_get xs i) refl room
+  where
+    at : (o : Option Place) → slice_get xs i ≡ o → HasRoom o → i < length xs
+    at None is room = absurd room
+    at (Some x) is room = slice_get_within xs i x is
+
+pub room_record : (o : Option Place) → HasRoom o → (k : ℕ) × HasRecord k o
+room_record None room = absurd room
+room_record (Some None) room = absurd room
+room_record (Some (Some r)) room = (r.key, ap is_some (own_key r))
+
+pub has_room : (k : ℕ) (o : Option Place) → HasRecord k o
+    → IfSome o (λ kept. IfSome kept (λ r. length r.ownership.names < r.rooms)) → HasRoom o
+has_room k None has room = absurd (false≢true has)
+has_room k (Some None) has room = absurd (false≢true has)
+has_room k (Some (Some r)) has room = room
+
+-- the map that contracts see
+pub owners_is : {o : Owners} {xs : List Place} {r : Records}
+    → record { owners = o; places = xs } ≡ r → o ≡ r.owners
+owners_is view = ap (λ (x : Records). x.owners) view
 
 -- no record of a key at any place that comes first, and at this one
 pub none_through : (xs : List Place) (q n : ℕ)
@@ -433,10 +498,6 @@ none_of_all xs q n none all i =
 module _ (number : ℕ) (S : Owners) (o : OwnerName) where
   own : o.store ≡ number → record_of number S o ≡ map.get S o.key
   own is = ap (λ b. cond b (map.get S o.key) None) (eq-eqb o.store number is)
-
-  pub record_strange : o.store ≢ number → record_of number S o ≡ None
-  record_strange strange =
-      ap (λ b. cond b (map.get S o.key) None) (ne_eqb o.store number strange)
 
   -- S is the map that contracts see
   module _ (xs : List Place) (view : owners_of xs ≡ S) (is : o.store ≡ number) where
@@ -493,3 +554,28 @@ module _ (xs : List Place) (S : Owners) (k : ℕ) (view : owners_of xs ≡ S) wh
       ap names_in (ap (record_at k) r.1
       ∙ subst (λ q. record_in q (Some r.0) ≡ Some r.0.ownership) (sym r.2) (own_key r.0)
       ∙ sym (get_there placed k i has) ∙ ap (λ m. map.get m k) view)
+
+-- the places that contracts see
+pub places_is : {o : Owners} {xs : List Place} {r : Records}
+    → record { owners = o; places = xs } ≡ r → xs ≡ r.places
+places_is view = ap (λ (x : Records). x.places) view
+
+-- a name more on the list of an owner for which there is room at a place
+pub listed_owners : {vacant : set.FinSet nat_cmp} {rooms : ℕ} {xs : List Place}
+    → ArePlaced vacant rooms xs → (S : Records)
+    → record { owners = owners_of xs; places = xs } ≡ S → (o : Option OwnerName) (i : ℕ) (n : Name)
+    → IsReserved S o (Some i)
+    → owners_of (change_place xs i (one_listed n)) ≡ add_to_list_in S.owners o n
+listed_owners placed S view None i n reserved = absurd cc
+listed_owners {xs = xs} placed S view (Some o) i n reserved =
+    changed_owners placed o.key i
+    (subst (λ ys. HasRecord o.key (slice_get ys i)) (sym (places_is view)) reserved.0) (one_listed n)
+    ∙ ap (λ m. change m o.key (one_listed n)) (owners_is view)
+
+-- where room was made there is room
+pub reserved_room : (S : Records) (o : Option OwnerName) (place : Option ℕ) → IsReserved S o place
+    → IfSome place (λ i. HasRoom (slice_get S.places i))
+reserved_room S None None reserved = tt
+reserved_room S None (Some i) reserved = absurd cc
+reserved_room S (Some o) None reserved = absurd reserved
+reserved_room S (Some o) (Some i) reserved = reserved.1

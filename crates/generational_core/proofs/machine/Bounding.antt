@@ -1,36 +1,20 @@
 -- The bound on slots: what the last generations of slots depend on, that slots are live, free or
 -- retired, and that each call keeps the bound.
-use Rattle.std.proofs.Common.{◌≡◌, ◌≢◌, ℕ, ◌≤◌, true, ◌||◌, List, [], ◌∷◌, Option, None, Some, refl}
-use Rattle.std.proofs.Common.{sym, ap, subst, ◌∙◌, inl, inr, arith, ⊎_elim, ◌+◌, false, Bool, cond}
-use Rattle.std.proofs.Common.{not, ◌<◌}
-use Rattle.std.proofs.lemmas.Bool.{cases_lt, true≢false, or_cases, or_left, or_right, and_from}
-use Rattle.std.proofs.lemmas.Bool.{cases_Bool, not_from_false, and_parts, false_from_ne_true}
-use Rattle.std.proofs.lemmas.Bool.{not-true}
-use Rattle.std.proofs.lemmas.List.{length-map}
-use Rattle.std.proofs.lemmas.Map.Made.{length-le_from_is_member}
-use Rattle.std.specs.Cmp.{nat_cmp_total, eq_by_cmp_equiv}
-use Rattle.std.specs.List.{list_any}
-use Rattle.std.specs.Ordering.{nat_cmp, eq_by_cmp}
-use Rattle.std.specs.Prelude.{max, unwrap_or, ◌⊎◌, is_some, nat_lt, map as list_map}
-use Rattle.generational_core.specs.Cells.{Cell, Content}
-use Rattle.generational_core.specs.Conditions.{fresh, IsBounded}
-use Rattle.generational_core.specs.Machine.{add_cell, Action, Answer, Outcome, Fresh}
-use Rattle.generational_core.specs.Names.{Name, Names, name_cmp}
+use Rattle.generational_core.proofs.machine
+use machine.{◌≡◌, ◌≢◌, ◌≤◌, ◌||◌, List, ◌∷◌, None, Some, refl, Bool, cond, Cell, Name, after, last}
+use machine.{ℕ, sym, ap, ◌∙◌, inl, inr, ◌+◌, not, ◌<◌, max, ◌⊎◌}
+use machine.{true, false, fresh, Action, Answer, Fresh, Names, State, Meets, AreNew, Change, absent}
+use machine.{[], cases_lt, or_cases, or_right, and_from, len_three, by_number, key_cases, keep_view}
+use machine.{Option, not-true, list_any, list_map, add_cell, name_cmp, IsLawful, len_keys, kept_key}
+use machine.{subst, false_from_ne_true, length-le_from_is_member, eq_by_cmp_equiv, get-insert_apart}
+use machine.{arith, ⊎_elim, is_some, nat_lt, Content, Outcome, IsSound, by_name, key_same, key_here}
+use machine.{true≢false, cases_Bool, length-map, keys_apart, meets_cases, meets_sound, live_before}
+use machine.{or_left, not_from_false, nat_cmp_total, get-insert_here, change_follows, absent_beside}
+use machine.{and_parts, nat_cmp, eq_by_cmp, unwrap_or, IsBounded, act_leads, len_within, name_total}
 use Rattle.generational_core.specs.Slots.{lasts, slots_of, last_name, is_last_live, is_free}
 use Rattle.generational_core.specs.Slots.{is_retired, slots, free, retired, last_generation, Fits}
-use Rattle.generational_core.specs.State.{State, IsSound}
-use Rattle.generational_core.specs.Steps.{Meets, AreNew}
 use Rattle.std.specs.FinMap as map
 use Rattle.std.specs.FinSet as set
-use Rattle.generational_core.proofs.machine.Changes.{Change, IsLawful, after, act_leads}
-use Rattle.generational_core.proofs.maps.Maps.{keys_apart, len_keys, len_three, len_within}
-use Rattle.generational_core.proofs.maps.Maps.{kept_key}
-use Rattle.generational_core.proofs.maps.Maps.{by_name, by_number, name_total, key_same, key_here}
-use Rattle.generational_core.proofs.maps.Maps.{key_cases, get-insert_here, get-insert_apart}
-use Rattle.generational_core.proofs.maps.Maps.{keep_view}
-use Rattle.generational_core.proofs.machine.Stepping.{meets_cases, meets_sound}
-use Rattle.generational_core.proofs.machine.Soundness.{last, change_follows, live_before, absent}
-use Rattle.generational_core.proofs.machine.Soundness.{absent_beside}
 
 abbrev pub IsIn : List Name → Name → Type 0
 IsIn names n = list_any (eq_by_cmp name_cmp n) names ≡ true
@@ -61,9 +45,8 @@ is_last_more m names None h = (
       (λ old. absurd (h n old is)) (in_cases n m names i),
 )
 is_last_more m names (Some g) h = (
-  ⊎_elim
-      (λ (lt : m.generation < g). let e : g ≡ max m.generation g = omega arith in or_right _ _
-      (subst (λ x. IsIn names (record { slot = m.slot; generation = x })) e h.0))
+  ⊎_elim (λ (lt : m.generation < g). let e : g ≡ max m.generation g = omega arith in
+      or_right _ _ (subst (λ x. IsIn names (record { slot = m.slot; generation = x })) e h.0))
       (λ (le : g ≤ m.generation). let e : max m.generation g ≡ m.generation = omega arith in
       in_head _ m names (λ i. record { slot = m.slot; generation = e i }))
       (cases_lt m.generation g),
@@ -87,9 +70,8 @@ get_lasts [] s = subst (IsLast [] s) (sym (map.get-empty nat_cmp s)) (λ n i is.
 get_lasts (m ∷ names) s =
     ⊎_elim (λ is. subst (λ x. IsLast (m ∷ names) x (map.get (lasts (m ∷ names)) x)) (sym is)
     (subst (IsLast (m ∷ names) m.slot) (sym (get-insert_here by_number (lasts names) m.slot _))
-    (is_last_more m names _ (get_lasts names m.slot))))
-    (λ ne. subst (IsLast (m ∷ names) s)
-    (sym (get-insert_apart by_number (lasts names) m.slot _ s ne))
+    (is_last_more m names _ (get_lasts names m.slot)))) (λ ne. subst
+    (IsLast (m ∷ names) s) (sym (get-insert_apart by_number (lasts names) m.slot _ s ne))
     (other_slot m names s _ ne (get_lasts names s))) (key_cases by_number s m.slot)
 
 -- two lists with the same names have the same last generations
@@ -129,15 +111,13 @@ lasts_insert given n = lasts_same (set.items (set.insert given n))
 slot_there : (n : Name) (names : List Name) → IsIn names n
     → list_any (eq_by_cmp nat_cmp n.slot) (list_map (λ (m : Name). m.slot) names) ≡ true
 slot_there n [] h = h
-slot_there n (m ∷ names) h = ⊎_elim
-    (λ e. or_left _ _
+slot_there n (m ∷ names) h = ⊎_elim (λ e. or_left _ _
     (ap (λ (x : Name). eq_by_cmp nat_cmp x.slot m.slot) e ∙ key_here by_number m.slot))
     (λ e. or_right _ _ (slot_there n names e)) (in_cases n m names h)
 
 -- a key that is kept was there, and passes
 key_kept : {X : Type 0} (m : map.FinMap nat_cmp X) (p : ℕ → Bool) (k : ℕ)
-    → map.contains_key (map.retain_keys m p) k ≡ true
-    → (map.contains_key m k ≡ true) × (p k ≡ true)
+    → map.contains_key (map.retain_keys m p) k ≡ true → (map.contains_key m k ≡ true) × (p k ≡ true)
 key_kept m p k h = ⊎_elim (λ e. (sym (ap is_some e.0) ∙ h, e.1))
     (λ e. absurd (true≢false (sym h ∙ ap is_some e.0))) (keep_view by_number m p k)
 
@@ -162,22 +142,18 @@ slots_bounded S =
 
 module _ {T : Type 0} where
   -- no retired slot is lost where such slots keep their last generations, and get no live cell
-  retired_still : (S R : State T)
-      → ((s : ℕ) → map.contains_key (slots_of S) s ≡ true → is_retired S s ≡ true
-      → (map.get (slots_of R) s ≡ map.get (slots_of S) s)
+  retired_still : (S R : State T) → ((s : ℕ) → map.contains_key (slots_of S) s ≡ true
+      → is_retired S s ≡ true → (map.get (slots_of R) s ≡ map.get (slots_of S) s)
       × (is_some (map.get R.cells (last_name S s)) ≡ true → is_last_live S s ≡ true))
       → retired S ≤ retired R
-  retired_still S R still = len_within by_number _ _ (λ s h.
-      let it = key_kept (slots_of S) (is_retired S) s h in
-      let p = and_parts _ _ it.1 in
-      let is = still s it.0 it.1 in
-      let name : last_name R s ≡ last_name S s = ap
+  retired_still S R still = len_within by_number _ _
+      (λ s h. let it = key_kept (slots_of S) (is_retired S) s h in let p = and_parts _ _ it.1 in
+      let is = still s it.0 it.1 in let name : last_name R s ≡ last_name S s = ap
       (λ o. let n : Name = record { slot = s; generation = unwrap_or o 0 } in n) is.0 in
       let gone : is_last_live R s ≡ false = false_from_ne_true _ (λ e. true≢false
       (sym (is.1 (sym (ap (λ n. is_some (map.get R.cells n)) name) ∙ e)) ∙ not-true _ p.0)) in
-      kept_key by_number (slots_of R) (is_retired R) s (ap is_some is.0 ∙ it.0)
-      (and_from _ _ (ap not gone)
-      (ap (λ (n : Name). not (nat_lt n.generation last_generation)) name ∙ p.1)))
+      kept_key by_number (slots_of R) (is_retired R) s (ap is_some is.0 ∙ it.0) (and_from _ _
+      (ap not gone) (ap (λ (n : Name). not (nat_lt n.generation last_generation)) name ∙ p.1)))
 
   -- where nothing new is live and no name is given, the bound is kept
   kept_bounded : (S R : State T) → R.given ≡ S.given → R.peak ≡ S.peak
@@ -200,9 +176,8 @@ module _ {T : Type 0} where
       (none : map.get S.cells n ≡ None) (b : IsBounded S) where
     -- where its slot isn't retired, and no slot is made without need
     bounded_with : (is_retired S n.slot ≡ true → map.contains_key (slots_of S) n.slot ≡ true → ⊥)
-        → slots (add_cell S n c) ≤ max S.peak (map.len S.cells + 1) + retired S
-        → slots S ≤ slots (add_cell S n c) → n.slot < slots (add_cell S n c)
-        → IsBounded (add_cell S n c)
+        → slots (add_cell S n c) ≤ max S.peak (map.len S.cells + 1) + retired S → slots S ≤
+        slots (add_cell S n c) → n.slot < slots (add_cell S n c) → IsBounded (add_cell S n c)
     bounded_with plain few up here =
         let R = add_cell S n c in
         let get_slot : (s : ℕ) → s ≢ n.slot → map.get (slots_of R) s ≡ map.get (slots_of S) s =
@@ -220,33 +195,25 @@ module _ {T : Type 0} where
         record {
           few = omega arith;
           live = omega arith;
-          dense = λ s h. ⊎_elim (λ is. omega arith)
-              (λ ne. let lt = b.dense s (sym (ap is_some (get_slot s ne)) ∙ h) in omega arith)
-              (key_cases by_number s n.slot);
+          dense = λ s h. ⊎_elim (λ is. omega arith) (λ ne. let lt = b.dense s
+              (sym (ap is_some (get_slot s ne)) ∙ h) in omega arith) (key_cases by_number s n.slot);
         }
 
     born_bounded : Fits S n → IsBounded (add_cell S n c)
     born_bounded fits =
-        let slots_grow : slots (add_cell S n c)
-        ≡ cond (map.contains_key (slots_of S) n.slot) (slots S) (slots S + 1) =
+        let slots_grow : slots
+        (add_cell S n c) ≡ cond (map.contains_key (slots_of S) n.slot) (slots S) (slots S + 1) =
         ap map.len (lasts_insert S.given n) ∙ map.len-insert nat_cmp_total (slots_of S) n.slot _ in
-        ⊎_elim
-        (λ f. let at = f.1 in
-        let no_free = f.0 in
-        let no_slot : map.contains_key (slots_of S) n.slot ≡ false = false_from_ne_true _
-        (λ e. let lt = b.dense n.slot e in omega arith) in
-        let grown = slots_grow ∙ ap (λ t. cond t (slots S) (slots S + 1)) no_slot in
-        let bound = slots_bounded S in
-        bounded_with (λ r e. true≢false (sym e ∙ no_slot))
-        (omega arith) (omega arith) (omega arith))
-        (λ f. let same = slots_grow ∙ ap (λ t. cond t (slots S) (slots S + 1)) f.0 in
-        let old = b.few in
-        let lt = b.dense n.slot f.0 in
-        let ended = not (is_last_live S n.slot) in
-        let low = nat_lt (last_name S n.slot).generation last_generation in
-        bounded_with (λ r there. true≢false (sym (and_parts ended low f.1).1
-        ∙ not-true low (and_parts ended (not low) r).1)) (omega arith) (omega arith) (omega arith))
-        fits
+        ⊎_elim (λ f. let at = f.1 in let no_free = f.0 in let no_slot : map.contains_key
+        (slots_of S) n.slot ≡ false = false_from_ne_true _ (λ e. let lt = b.dense n.slot e in
+        omega arith) in let grown = slots_grow ∙ ap (λ t. cond t (slots S) (slots S + 1)) no_slot in
+        let bound = slots_bounded S in bounded_with (λ r e. true≢false (sym e ∙ no_slot))
+        (omega arith) (omega arith) (omega arith)) (λ f. let same = slots_grow
+        ∙ ap (λ t. cond t (slots S) (slots S + 1)) f.0 in let old = b.few in
+        let lt = b.dense n.slot f.0 in let ended = not (is_last_live S n.slot) in let low = nat_lt
+        (last_name S n.slot).generation last_generation in bounded_with (λ r there. true≢false
+        (sym (and_parts ended low f.1).1 ∙ not-true low (and_parts ended (not low) r).1))
+        (omega arith) (omega arith) (omega arith)) fits
 
   -- each change keeps the bound
   change_bounded : (S : State T) (call : Action T) (f : Fresh) (next : ℕ) (c : Change T)
@@ -258,10 +225,9 @@ module _ {T : Type 0} where
   change_bounded S call f next (Change.Birth c) s b new law live =
       let it = law.2 new in born_bounded S f.first c (absent S s f.first it.fresh) b it.fits
   change_bounded S call f next (Change.Pair v l) s b new law live =
-      let c : Cell T = Cell.Shared (Content.Here v []) l in
-      let it = law.1 new in
-      born_bounded (add_cell S f.first c) f.second (Cell.Ref f.first l)
-      (absent_beside S s f.first f.second c it.1.fresh)
+      let c : Cell T = Cell.Shared (Content.Here v []) l in let it = law.1 new in
+      born_bounded (add_cell S f.first c)
+      f.second (Cell.Ref f.first l) (absent_beside S s f.first f.second c it.1.fresh)
       (born_bounded S f.first c (absent S s f.first it.0.fresh) b it.0.fits) it.1.fits
   change_bounded S call f next c s b new law live = kept_bounded S (after S f c) refl refl
       (λ q h. ⊎_elim (λ e. e) (λ e. absurd (true≢false (sym e.1 ∙ e.0))) (live q h)) b

@@ -1,52 +1,26 @@
 -- What callers cite: what results tell, and what calls leave as it was. The arguments of each are
 -- found from the clause of the call that it is given.
-use Rattle.std.specs.FinMap as map
-use Rattle.std.specs.FinSet as set
-use Rattle.std.proofs.Common.{◌≡◌, ◌≢◌, ◌≤◌, Bool, true, false, cond, Option, None, Some, refl, sym}
-use Rattle.std.proofs.Common.{ap, ◌∙◌, []}
-use Rattle.std.proofs.lemmas.Bool.{true≢false}
-use Rattle.std.specs.Prelude.{◌+◌, is_some, nat_eq, Result, Ok, Err, IfOk, OnOk, IsOk, IsErr}
-use Rattle.generational_core.specs.Answers.{value_at, value_behind, WriteGuard, pointer_of}
-use Rattle.generational_core.specs.Answers.{box_answer, reference_box_answer, read_answer}
-use Rattle.generational_core.specs.Answers.{write_answer, back_answer, end_answer, owner_answer}
-use Rattle.generational_core.specs.Answers.{release_answer, free_read_answer, free_write_answer}
-use Rattle.generational_core.specs.Borrowing.{Guard, reach, leads_to, can_write}
-use Rattle.generational_core.specs.Boxes.{name_of}
-use Rattle.generational_core.specs.Cells.{Cell}
-use Rattle.generational_core.specs.Conditions.{one_listed}
-use Rattle.generational_core.specs.Machine.{Action, Answer, OwnerName, ownership}
-use Rattle.generational_core.specs.Machine.Action.{Make, MakeShared, Refer, NewOwner, Read, Write}
-use Rattle.generational_core.specs.Machine.Action.{ReleaseWriter, SetValue, End, Point}
-use Rattle.generational_core.specs.Machine.Action.{ReleaseOwner}
-use Rattle.generational_core.specs.Machine.Action.{ReleaseReader}
-use Rattle.generational_core.specs.Machine.Answer.{Made, Reads, Writes, Done, Old, Flag}
-use Rattle.generational_core.specs.Names.{Name, among}
-use Rattle.generational_core.specs.Seeing.{value_reached, value_in, LeavesBox, LeavesValue}
-use Rattle.generational_core.specs.Seeing.{LeavesUnborrowed}
-use Rattle.generational_core.specs.State.{State, IsSound, Ownership}
-use Rattle.generational_core.specs.Steps.{Meets}
-use Rattle.generational_core.specs.declared.boxes.GenerationalBox.{GenerationalBox}
-use Rattle.generational_core.specs.declared.boxes.GenerationalPointer.{GenerationalPointer}
-use Rattle.generational_core.specs.declared.error.BorrowError.{BorrowError}
-use Rattle.generational_core.specs.declared.error.BorrowMutError.{BorrowMutError}
-use Rattle.generational_core.specs.declared.error.Location.{Location}
-use Rattle.generational_core.specs.declared.error.Refusal.{Refusal}
-use Rattle.generational_core.specs.declared.error.Refused.{Refused}
-use Rattle.generational_core.specs.declared.error.Refused.TheVariants as refused
-use Rattle.generational_core.specs.declared.error.StoreError.{StoreError}
-use Rattle.std.specs.List.{AllByRecursion}
-use Rattle.std.proofs.Common.{List, ◌++◌, ◌||◌, ◌∷◌}
-use Rattle.std.proofs.lemmas.Bool.{or_right}
-use Rattle.generational_core.specs.Conditions.{names_in}
-use Rattle.generational_core.specs.Names.{is_name}
-use Rattle.generational_core.proofs.machine.Changes.{held_record}
-use Rattle.generational_core.proofs.maps.Maps.{name_apart, name_here}
-use Rattle.generational_core.proofs.machine.Ends.{none≢some, some_live}
-use Rattle.generational_core.proofs.machine.Releasing.{last_cells}
+use Rattle.generational_core.proofs.machine
+use machine.{◌≡◌, ◌≢◌, ◌≤◌, Bool, true, false, cond, Option, None, Some, refl, sym, ap, ◌∙◌, []}
+use machine.{true≢false, ◌+◌, is_some, nat_eq, Result, Ok, Err, IfOk, OnOk, IsOk, IsErr, value_at}
+use machine.{Guard, reach, leads_to, can_write, name_of, Cell, one_listed, Action, Answer}
+use machine.{OwnerName, ownership, Make, MakeShared, Refer, NewOwner, Read, Write, ReleaseWriter}
+use machine.{SetValue, End, Point, ReleaseOwner, ReleaseReader, Made, Reads, Writes, Done, Old}
+use machine.{Flag, Name, among, value_reached, value_in, LeavesBox, LeavesValue, LeavesUnborrowed}
+use machine.{State, IsSound, Ownership, Meets, GenerationalBox, GenerationalPointer, BorrowError}
+use machine.{BorrowMutError, Location, Refusal, StoreError, AllByRecursion, List, ◌++◌, ◌||◌, ◌∷◌}
+use machine.{or_right, names_in, is_name, held_record, name_apart, name_here, none≢some, some_live}
+use machine.{last_cells, made_new, reads_known}
+use Rattle.generational_core.specs
+use specs.Answers.{value_behind, WriteGuard, pointer_of, box_answer, reference_box_answer}
+use specs.Answers.{read_answer, write_answer, back_answer, end_answer, owner_answer, release_answer}
+use specs.{Answers.free_read_answer, Answers.free_write_answer, declared.error.Refused.Refused}
 use Rattle.generational_core.proofs.machine.Resting.{free_stays, free_ends, read_released}
 use Rattle.generational_core.proofs.machine.Seeing.{reaches, reach_stays, value_stays}
-use Rattle.generational_core.proofs.machine.Stepping.{made_new, reads_known}
 use Rattle.generational_core.proofs.machine.Telling.{meets_tells, ended_leads}
+use Rattle.std.specs.FinMap as map
+use Rattle.std.specs.FinSet as set
+use Rattle.generational_core.specs.declared.error.Refused.TheVariants as refused
 
 -- a name stands in the list that it ends
 pub listed_last : (names : List Name) (n : Name) → among (names ++ n ∷ []) n ≡ true
@@ -81,29 +55,25 @@ module _ {T : Type 0} where
     pub made_shared : (o : Option OwnerName) (v : T) (l : Location)
         (r : Result (GenerationalBox T) (Refusal T)) → Meets S (MakeShared o v l) (box_answer r) R
         → IfOk r (λ b. value_in R (pointer_of b) ≡ Some v)
-    made_shared o v l (Ok b) m =
-        (meets_tells S R (MakeShared o v l) (Made (pointer_of b)) m).0
+    made_shared o v l (Ok b) m = (meets_tells S R (MakeShared o v l) (Made (pointer_of b)) m).0
     made_shared o v l (Err e) m = tt
 
     pub referred : (o : Option OwnerName) (c : GenerationalPointer)
-        (r : Result (GenerationalBox T) (Refused BorrowError))
-        → IsSound S → Meets S (Refer o c) (reference_box_answer r) R
-        → IfOk r (λ b. value_in R (pointer_of b) ≡ value_in S c)
+        (r : Result (GenerationalBox T) (Refused BorrowError)) → IsSound S → Meets S (Refer o c)
+        (reference_box_answer r) R → IfOk r (λ b. value_in R (pointer_of b) ≡ value_in S c)
     referred o c (Ok b) s m = (meets_tells S R (Refer o c) (Made (pointer_of b)) m).1 s
     referred o c (Err e) s m = tt
 
-    pub referred_reach : (o : Option OwnerName) (c : GenerationalPointer)
-        (r : Result (GenerationalBox T) (Refused BorrowError))
-        → Meets S (Refer o c) (reference_box_answer r) R
-        → IfOk r (λ b. reach R (pointer_of b) ≡ reach S c)
+    pub referred_reach : (o : Option OwnerName)
+        (c : GenerationalPointer) (r : Result (GenerationalBox T) (Refused BorrowError)) → Meets S
+        (Refer o c) (reference_box_answer r) R → IfOk r (λ b. reach R (pointer_of b) ≡ reach S c)
     referred_reach o c (Ok b) m = (meets_tells S R (Refer o c) (Made (pointer_of b)) m).0
     referred_reach o c (Err e) m = tt
 
     -- a new box has no name of one that sees a value
     new_apart : (call : Action T) (b : GenerationalPointer) → IsSound S → Meets S call (Made b) R
         → (c : GenerationalPointer) (v : T) → value_in S c ≡ Some v → name_of b ≢ name_of c
-    new_apart call b s m c v seen is =
-        let to = seen_reached S c v seen in
+    new_apart call b s m c v seen is = let to = seen_reached S c v seen in
         let own = led (map.get S.cells (name_of c)) to.0 (reaches S c to.0 to.1).leads in
         true≢false (sym (s.given (name_of c) own)
         ∙ (ap (set.contains S.given) (sym is) ∙ (made_new S R call b m).1))
@@ -112,27 +82,24 @@ module _ {T : Type 0} where
         led None m e = absurd (none≢some {A = Name} None m refl e)
         led (Some x) m e = refl
 
-    pub made_apart : (o : Option OwnerName) (v : T) (l : Location)
-        (r : Result (GenerationalBox T) (Refusal T))
-        → IsSound S → Meets S (Make o v l) (box_answer r) R
-        → IfOk r (λ b. (c : GenerationalPointer) (w : T)
+    pub made_apart : (o : Option OwnerName)
+        (v : T) (l : Location) (r : Result (GenerationalBox T) (Refusal T)) → IsSound S
+        → Meets S (Make o v l) (box_answer r) R → IfOk r (λ b. (c : GenerationalPointer) (w : T)
         → value_in S c ≡ Some w → name_of (pointer_of b) ≢ name_of c)
     made_apart o v l (Ok b) s m = new_apart _ _ s m
     made_apart o v l (Err e) s m = tt
 
     pub referred_apart : (o : Option OwnerName) (c : GenerationalPointer)
-        (r : Result (GenerationalBox T) (Refused BorrowError))
-        → IsSound S → Meets S (Refer o c) (reference_box_answer r) R
-        → IfOk r (λ b. (d : GenerationalPointer) (w : T)
+        (r : Result (GenerationalBox T) (Refused BorrowError)) → IsSound S → Meets S
+        (Refer o c) (reference_box_answer r) R → IfOk r (λ b. (d : GenerationalPointer) (w : T)
         → value_in S d ≡ Some w → name_of (pointer_of b) ≢ name_of d)
     referred_apart o c (Ok b) s m = new_apart _ _ s m
     referred_apart o c (Err e) s m = tt
 
     -- a reference and the box from which it was made reach the same
     pub referred_together : (o : Option OwnerName) (c : GenerationalPointer)
-        (r : Result (GenerationalBox T) (Refused BorrowError))
-        → IsSound S → Meets S (Refer o c) (reference_box_answer r) R
-        → IfOk r (λ b. reach R (pointer_of b) ≡ reach R c)
+        (r : Result (GenerationalBox T) (Refused BorrowError)) → IsSound S → Meets S
+        (Refer o c) (reference_box_answer r) R → IfOk r (λ b. reach R (pointer_of b) ≡ reach R c)
     referred_together o c (Ok b) s m =
         let told = meets_tells S R (Refer o c) (Made (pointer_of b)) m in
         let to = some_live (reach S c) told.3 in
@@ -143,9 +110,8 @@ module _ {T : Type 0} where
 
     pub opens : (b : GenerationalPointer) (l : Location) (r : Result Guard (Refused BorrowError))
         → Meets S (Read b l) (read_answer r) R → IfOk r (λ g. value_behind R g ≡ value_in S b)
-    opens b l (Ok g) m =
-        ap (λ known. cond known (value_at R g.cell) None) (reads_known S R (Read b l) g m).0
-        ∙ (meets_tells S R (Read b l) (Reads g) m).1
+    opens b l (Ok g) m = ap (λ known. cond known (value_at R g.cell) None)
+        (reads_known S R (Read b l) g m).0 ∙ (meets_tells S R (Read b l) (Reads g) m).1
     opens b l (Err e) m = tt
 
     pub lends : (b : GenerationalPointer) (l : Location)
@@ -154,11 +120,10 @@ module _ {T : Type 0} where
     lends b l (Ok w) m = (meets_tells S R (Write b l) (Writes w.guard w.value) m).1
     lends b l (Err e) m = tt
 
-    pub lends_at : (b : GenerationalPointer) (l : Location)
-        (r : Result (WriteGuard T) (Refused BorrowMutError))
-        → Meets S (Write b l) (write_answer r) R
-        → IfOk r (λ w. (reach S b ≡ Some w.guard.cell)
-        × ((c : GenerationalPointer) → reach R c ≡ reach S c))
+    pub lends_at : (b : GenerationalPointer)
+        (l : Location) (r : Result (WriteGuard T) (Refused BorrowMutError))
+        → Meets S (Write b l) (write_answer r) R → IfOk r
+        (λ w. (reach S b ≡ Some w.guard.cell) × ((c : GenerationalPointer) → reach R c ≡ reach S c))
     lends_at b l (Ok w) m =
         let t = meets_tells S R (Write b l) (Writes w.guard w.value) m in (t.0, t.2)
     lends_at b l (Err e) m = tt
@@ -169,10 +134,9 @@ module _ {T : Type 0} where
     opens_free b l (Ok g) m = opens b l (Ok g) m
     opens_free b l (Err e) m = tt
 
-    pub lends_free : (b : GenerationalPointer) (l : Location)
-        (r : Result (WriteGuard T) StoreError) → Meets S (Write b l) (free_write_answer r) R
-        → IfOk r (λ w. (reach S b ≡ Some w.guard.cell) × (value_in S b ≡ Some w.value)
-        × ((c : GenerationalPointer) → reach R c ≡ reach S c))
+    pub lends_free : (b : GenerationalPointer) (l : Location) (r : Result (WriteGuard T) StoreError)
+        → Meets S (Write b l) (free_write_answer r) R → IfOk r (λ w. (reach S b ≡ Some w.guard.cell)
+        × (value_in S b ≡ Some w.value) × ((c : GenerationalPointer) → reach R c ≡ reach S c))
     lends_free b l (Ok w) m = meets_tells S R (Write b l) (Writes w.guard w.value) m
     lends_free b l (Err e) m = tt
 
@@ -199,8 +163,7 @@ module _ {T : Type 0} where
     pub made_shared_free : (o : Option OwnerName) (v : T) (l : Location)
         (r : Result (GenerationalBox T) (Refusal T)) → Meets S (MakeShared o v l) (box_answer r) R
         → IfOk r (λ b. can_write R (pointer_of b) ≡ true)
-    made_shared_free o v l (Ok b) m =
-        (meets_tells S R (MakeShared o v l) (Made (pointer_of b)) m).2
+    made_shared_free o v l (Ok b) m = (meets_tells S R (MakeShared o v l) (Made (pointer_of b)) m).2
     made_shared_free o v l (Err e) m = tt
 
     pub keeps_free : (call : Action T) (answer : Answer T) → IsSound S → Meets S call answer R
@@ -211,10 +174,8 @@ module _ {T : Type 0} where
     pub ends_free : (b : GenerationalPointer) {U : Type 0} (r : Result U (Refused BorrowMutError))
         → Meets S (End b) (end_answer r) R → can_write S b ≡ true → IsOk r
     ends_free b (Ok u) m free = refl
-    ends_free b (Err (refused.Borrow e)) m free =
-        let done = free_ends S R b _ free m in absurd cc
-    ends_free b (Err (refused.Store e)) m free =
-        let done = free_ends S R b _ free m in absurd cc
+    ends_free b (Err (refused.Borrow e)) m free = let done = free_ends S R b _ free m in absurd cc
+    ends_free b (Err (refused.Store e)) m free = let done = free_ends S R b _ free m in absurd cc
 
     pub reads_back : {Q : State T} (b : GenerationalPointer) (l : Location) (g : Guard)
         (flag : Bool) → IsSound S → Meets S (Read b l) (Reads g) R
@@ -233,9 +194,8 @@ module _ {T : Type 0} where
         → OnOk r ((h : Ownership) (b : GenerationalPointer) → ownership S o ≡ Some h → h.count ≤ 1
         → among h.names (name_of b) ≡ true → reach R b ≡ None)
     unfolding reach
-    ends_owned o (Ok u) m = λ h b held last there.
-        ap (λ to. cond (nat_eq b.id.store R.number) to None)
-        (ap (λ cells. leads_to (map.get cells (name_of b)) (name_of b))
+    ends_owned o (Ok u) m = λ h b held last there. ap (λ to. cond (nat_eq b.id.store R.number) to
+        None) (ap (λ cells. leads_to (map.get cells (name_of b)) (name_of b))
         (last_cells (record { held = held; done = m }) last)
         ∙ ended_leads S.cells h.names (name_of b) there) ∙ none _
       where
@@ -263,10 +223,9 @@ module _ {T : Type 0} where
     owned (Ok o) m = meets_tells S R NewOwner (Answer.Owned o) m
     owned (Err e) m = tt
 
-    pub lists : (o : OwnerName) (v : T) (l : Location)
-        (r : Result (GenerationalBox T) (Refusal T)) → Meets S (Make (Some o) v l) (box_answer r) R
-        → IfOk r (λ b. (h : Ownership) → ownership S o ≡ Some h
-        → ownership R o ≡ Some (one_listed (name_of (pointer_of b)) h))
+    pub lists : (o : OwnerName) (v : T) (l : Location) (r : Result (GenerationalBox T) (Refusal T))
+        → Meets S (Make (Some o) v l) (box_answer r) R → IfOk r (λ b. (h : Ownership)
+        → ownership S o ≡ Some h → ownership R o ≡ Some (one_listed (name_of (pointer_of b)) h))
     lists o v l (Ok b) m = λ h held.
         (meets_tells S R (Make (Some o) v l) (Made (pointer_of b)) m).2 o h refl held
     lists o v l (Err e) m = tt
@@ -277,8 +236,7 @@ module _ {T : Type 0} where
     pub keeps : (call : Action T) (answer : Answer T) → IsSound S → Meets S call answer R
         → (b : GenerationalPointer) (v : T)
         → LeavesValue S call b → value_in S b ≡ Some v → value_in R b ≡ Some v
-    keeps call answer s m b v leaves seen =
-        let to = seen_reached S b v seen in
+    keeps call answer s m b v leaves seen = let to = seen_reached S b v seen in
         value_stays S R call answer b to.0 s m leaves to.1 ∙ seen
 
     -- which is so of each box that isn't in the list, where an owner is released
@@ -286,16 +244,14 @@ module _ {T : Type 0} where
         → Meets S (ReleaseOwner o) answer R → (h : Ownership) → ownership S o ≡ Some h
         → (b : GenerationalPointer) (v : T) → AllByRecursion (λ n. n ≢ name_of b) h.names
         → value_in S b ≡ Some v → value_in R b ≡ Some v
-    keeps_unowned o answer s m h held b v apart =
-        keeps (ReleaseOwner o) answer s m b v (ap (λ r. among (names_in r) (name_of b))
-        (held_record S o h held) ∙ none h.names apart)
+    keeps_unowned o answer s m h held b v apart = keeps (ReleaseOwner o) answer s m b v
+        (ap (λ r. among (names_in r) (name_of b)) (held_record S o h held) ∙ none h.names apart)
       where
         none : (names : List Name) → AllByRecursion (λ n. n ≢ name_of b) names
             → among names (name_of b) ≡ false
         none [] all = refl
-        none (n ∷ names) all =
-            ap (λ x. x || among names (name_of b)) (name_apart (name_of b) n (λ e. all.0 (sym e)))
-            ∙ none names all.1
+        none (n ∷ names) all = ap (λ x. x || among names (name_of b))
+            (name_apart (name_of b) n (λ e. all.0 (sym e))) ∙ none names all.1
 
     -- and reaches what it reached
     pub keeps_reach : (call : Action T) (answer : Answer T) → IsSound S → Meets S call answer R

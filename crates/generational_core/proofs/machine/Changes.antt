@@ -1,60 +1,37 @@
 -- What a call does to a state: one change of its cells, another table of owners and maybe a ticket,
 -- and what its answer says of that.
-use Rattle.std.proofs.Common.{Bool, true, false, cond, List, [], ◌++◌, Option, subst, arith, ⊎_elim}
-use Rattle.std.proofs.Common.{◌≡◌, ◌≢◌, ℕ, ◌+◌, ◌≤◌, ◌<◌, not, ◌∷◌, None, Some, refl, sym, ap, ◌∙◌}
-use Rattle.std.proofs.lemmas.Bool.{true≢false, or_right, or_left, or_parts, and_parts, and_from}
-use Rattle.std.proofs.lemmas.List.Folds.{list_any-append}
-use Rattle.std.specs.Cmp.{nat_eq_equiv}
-use Rattle.std.specs.List.{list_any, filter, AllByRecursion}
-use Rattle.std.specs.Prelude.{option_map, nat_eq, nat_lt}
-use Rattle.generational_core.specs.Borrowing.{Trouble, Guard, reach, fill, refusal_at, read_trouble}
-use Rattle.generational_core.specs.Borrowing.{write_trouble, write_refusal}
-use Rattle.generational_core.specs.Boxes.{name_of, has_same_id}
-use Rattle.generational_core.specs.Cells.{Content, Cell, content_of, is_shared, refill}
-use Rattle.generational_core.specs.Cells.Cell.{Value, Shared, Ref}
-use Rattle.generational_core.specs.Cells.Content.{Here, Lent}
-use Rattle.generational_core.specs.Conditions.{one_listed, one_less, one_more, names_in}
-use Rattle.generational_core.specs.Ending.{close, hindrance_to, hindrance_at, sweep}
-use Rattle.generational_core.specs.Keeping.{Sets}
-use Rattle.generational_core.specs.Machine.{add_to_list, release_owner, knows_reader, remove_reader}
-use Rattle.generational_core.specs.Machine.{act, clone_owner, knows_writer, has_reader, next_borrow}
-use Rattle.generational_core.specs.Machine.{OwnerName, add_cell, is_known, ownership, has_writer}
-use Rattle.generational_core.specs.Machine.{Action, Outcome, cell_at, read_at, write_at, own_name}
-use Rattle.generational_core.specs.Machine.{Answer, Fresh, unless, refer, set_at, point}
-use Rattle.generational_core.specs.Machine.Action.{Make, MakeShared, Refer, NewOwner, CloneOwner}
-use Rattle.generational_core.specs.Machine.Action.{ReleaseOwner, Read, Write, ReleaseReader}
-use Rattle.generational_core.specs.Machine.Action.{ReleaseWriter, SetValue, End, Point}
-use Rattle.generational_core.specs.Machine.Answer.{Made, Owned, Reads, Writes, Done, Flag, Refused}
-use Rattle.generational_core.specs.Names.{change, Name, Names, is_name}
-use Rattle.generational_core.specs.State.{State, Ownership, Owners, IsGiven, IsBoxed, content_at}
-use Rattle.generational_core.specs.State.{tickets_of}
-use Rattle.generational_core.specs.Seeing.{ending, Turns, Lends, Borrows}
-use Rattle.generational_core.specs.Steps.{IsNew, AreNew, want}
-use Rattle.generational_core.specs.declared.borrow.Borrow.{Borrow}
-use Rattle.generational_core.specs.declared.boxes.GenerationalPointer.{GenerationalPointer}
-use Rattle.generational_core.specs.declared.error.Location.{Location}
-use Rattle.generational_core.specs.declared.error.StoreError.{StoreError}
-use Rattle.generational_core.specs.declared.error.StoreError.TheVariants.{UnknownOwner}
+use Rattle.generational_core.proofs.machine.Common
+use Common.{Bool, true, false, cond, List, [], ◌++◌, Option, subst, arith, ⊎_elim, ◌≡◌, ◌≢◌, ℕ, ◌+◌}
+use Common.{◌≤◌, ◌<◌, not, ◌∷◌, None, Some, refl, sym, ap, ◌∙◌, true≢false, or_right, or_left}
+use Common.{or_parts, and_parts, and_from, list_any-append, nat_eq_equiv, list_any, filter}
+use Common.{AllByRecursion, option_map, nat_eq, nat_lt, Trouble, Guard, reach, fill, refusal_at}
+use Common.{read_trouble, write_trouble, write_refusal, name_of, has_same_id, Content, Cell}
+use Common.{content_of, is_shared, refill, Value, Shared, Ref, Here, Lent, one_listed, one_less}
+use Common.{one_more, names_in, close, hindrance_to, hindrance_at, sweep, Sets, add_to_list}
+use Common.{release_owner, knows_reader, remove_reader, act, clone_owner, knows_writer, has_reader}
+use Common.{next_borrow, OwnerName, add_cell, is_known, ownership, has_writer, Action, Outcome}
+use Common.{cell_at, read_at, write_at, own_name, Answer, Fresh, unless, refer, set_at, point, Make}
+use Common.{MakeShared, Refer, NewOwner, CloneOwner, ReleaseOwner, Read, Write, ReleaseReader}
+use Common.{ReleaseWriter, SetValue, End, Point, Made, Owned, Reads, Writes, Done, Flag, Refused}
+use Common.{change, Name, Names, is_name, State, Ownership, Owners, IsGiven, IsBoxed, content_at}
+use Common.{tickets_of, ending, Turns, Lends, Borrows, IsNew, AreNew, want, Borrow}
+use Common.{GenerationalPointer, Location, StoreError, UnknownOwner, by_name, by_number}
+use Common.{get-insert_here, get-insert_apart, get-remove_here, get-remove_apart, changed_view}
+use Common.{key_cases, name_here, contains-insert_name, contains-insert_here, get-changed_name}
+use Rattle.generational_core.proofs.machine.Ends.{none≢some, by_cond, target_of}
 use Rattle.std.specs.FinMap as map
 use Rattle.std.specs.FinSet as set
-use Rattle.generational_core.proofs.maps.Maps.{by_name, by_number, get-insert_here}
-use Rattle.generational_core.proofs.maps.Maps.{get-insert_apart}
-use Rattle.generational_core.proofs.maps.Maps.{get-remove_here, get-remove_apart, changed_view}
-use Rattle.generational_core.proofs.maps.Maps.{key_cases, name_here, contains-insert_name}
-use Rattle.generational_core.proofs.maps.Maps.{contains-insert_here, get-changed_name}
-use Rattle.generational_core.proofs.machine.Ends.{none≢some, by_cond, target_of}
 
 -- the name behind another was never given, and isn't the other
 pub second_fresh : (given : Names) (m n : Name) → set.contains (set.insert given m) n ≡ false
     → (set.contains given n ≡ false) × (m ≢ n)
 second_fresh given m n h =
-    let parts =
-    or_parts (is_name n m) (set.contains given n) (sym (contains-insert_name given m n) ∙ h) in
-    (parts.1, λ is. true≢false (sym (name_here n) ∙ (ap (is_name n) (sym is) ∙ parts.0)))
+    let parts = or_parts (is_name n m) (set.contains given n) (sym (contains-insert_name given m n)
+    ∙ h) in (parts.1, λ is. true≢false (sym (name_here n) ∙ (ap (is_name n) (sym is) ∙ parts.0)))
 
 -- the readers but for those with a ticket
-abbrev pub unread : ℕ → List Borrow → List Borrow
-unread t readers = filter (λ r. not (nat_eq r.ticket t)) readers
+abbrev pub without : ℕ → List Borrow → List Borrow
+without t readers = filter (λ r. not (nat_eq r.ticket t)) readers
 
 -- a reader at the end of a list is in it
 pushed_reads : (readers : List Borrow) (b : Borrow)
@@ -119,7 +96,7 @@ module _ {T : Type 0} where
   abbrev pub new_content : State T → Filling T → Content T
   new_content S (Reader v readers l) = Here v (readers ++ next_borrow S l ∷ [])
   new_content S (Writer v l) = Lent (next_borrow S l)
-  new_content S (Leave v readers g) = Here v (unread g.ticket readers)
+  new_content S (Leave v readers g) = Here v (without g.ticket readers)
   new_content S (Return w g v) = Here v []
   new_content S (Replace old v) = Here v []
 
@@ -127,7 +104,7 @@ module _ {T : Type 0} where
   abbrev pub IsFilling : State T → Action T → ℕ → Name → Filling T → Type 0
   IsFilling S call next n (Reader v readers l) = (next ≡ S.next + 1) × Borrows S call n
   IsFilling S call next n (Writer v l) = (next ≡ S.next + 1) × Lends S call n × Borrows S call n
-  IsFilling S call next n (Leave v readers g) = call ≡ ReleaseReader g
+  IsFilling S call next n (Leave v readers g) = (call ≡ ReleaseReader g) × (g.cell ≡ n)
   IsFilling S call next n (Return w g v) =
       (call ≡ ReleaseWriter g v) × (nat_eq w.ticket g.ticket ≡ true) × Lends S call n
   IsFilling S call next n (Replace old v) = Sets S call n
@@ -159,16 +136,15 @@ module _ {T : Type 0} where
   IsLawful S call f next (Close names) = (hindrance_to S names ≡ None) × (names ≡ ending S call)
   IsLawful S call f next (Turn a old new l) =
       (map.get S.cells a ≡ Some (Ref old l)) × (is_shared (map.get S.cells new) ≡ true)
-      × (hindrance_at S.cells (sweep (map.insert S.cells a (Ref new l))) old ≡ None)
-      × Turns call a
+      × (hindrance_at S.cells (sweep (map.insert S.cells a (Ref new l))) old ≡ None) × Turns call a
 
   -- ---- what an answer says
 
-  -- a box of the store, at a name that was never given before
+  -- a box of the store, at a name that was never given before, and is no Shared cell's
   pub record IsNewBox (S R : State T) (b : GenerationalPointer) : Type 0 where
     pub number : b.id.store ≡ S.number
     pub fresh : set.contains S.given (name_of b) ≡ false
-    pub given : IsGiven R (name_of b)
+    pub boxed : IsBoxed R (name_of b)
 
   -- a ticket, which is spent from now on
   pub record IsNewTicket (S R : State T) (t : ℕ) : Type 0 where
@@ -252,9 +228,8 @@ module _ {T : Type 0} where
   -- the record of an owner that the store knows
   pub held_record : (S : State T) (o : OwnerName) (h : Ownership)
       → ownership S o ≡ Some h → map.get S.owners o.key ≡ Some h
-  held_record S o h =
-      by_cond (λ x. x ≡ Some h → map.get S.owners o.key ≡ Some h) (nat_eq o.store S.number)
-      (λ _ e. e) (λ _ e. absurd (none≢some _ _ refl e))
+  held_record S o h = by_cond (λ x. x ≡ Some h → map.get S.owners o.key ≡ Some h)
+      (nat_eq o.store S.number) (λ _ e. e) (λ _ e. absurd (none≢some _ _ refl e))
 
   boxed_push : (S : State T) (names : List Name) (n : Name) → AllByRecursion (IsBoxed S) names
       → IsBoxed S n → AllByRecursion (IsBoxed S) (names ++ n ∷ [])
@@ -266,24 +241,20 @@ module _ {T : Type 0} where
       (all : AreRecords S next owners) (key : ℕ) where
     records_listed : (n : Name) → IsBoxed S n → AreRecords S next (change owners key (one_listed n))
     records_listed n boxed k h is = ⊎_elim (λ e. all k h (sym e ∙ is))
-        (λ e. let old = all k e.1 e.2 in let same : one_listed n e.1 ≡ h = cc in
-        subst (λ (x : Ownership). AllByRecursion (IsBoxed S) x.names × (k < next)) same
-        (boxed_push S e.1.names n old.0 boxed, old.1))
-        (changed_view by_number owners key (one_listed n) k)
+        (λ e. let old = all k e.1 e.2 in let same : one_listed n e.1 ≡ h = cc in subst
+        (λ (x : Ownership). AllByRecursion (IsBoxed S) x.names × (k < next)) same (boxed_push S
+        e.1.names n old.0 boxed, old.1)) (changed_view by_number owners key (one_listed n) k)
 
     records_put : (h : Ownership) → AllByRecursion (IsBoxed S) h.names → key < next
         → AreRecords S next (map.insert owners key h)
-    records_put h boxed below k x is = ⊎_elim
-        (λ e. let here = get-insert_here by_number owners key h in
-        let there = ap (map.get (map.insert owners key h)) e in let same : h ≡ x = cc in
-        subst (λ (y : Ownership). AllByRecursion (IsBoxed S) y.names × (k < next)) same
-        (boxed, subst (λ j. j < next) (sym e) below))
-        (λ ne. all k x (sym (get-insert_apart by_number owners key h k ne) ∙ is))
-        (key_cases by_number k key)
+    records_put h boxed below k x is = ⊎_elim (λ e. let here = get-insert_here
+        by_number owners key h in let there = ap (map.get (map.insert owners key h)) e in
+        let same : h ≡ x = cc in subst (λ (y : Ownership). AllByRecursion (IsBoxed S) y.names
+        × (k < next)) same (boxed, subst (λ j. j < next) (sym e) below)) (λ ne. all k x
+        (sym (get-insert_apart by_number owners key h k ne) ∙ is)) (key_cases by_number k key)
 
     records_left : AreRecords S next (map.remove owners key)
-    records_left k x is = ⊎_elim
-        (λ e. absurd (none≢some _ _
+    records_left k x is = ⊎_elim (λ e. absurd (none≢some _ _
         (ap (map.get (map.remove owners key)) e ∙ get-remove_here by_number owners key) is))
         (λ ne. all k x (sym (get-remove_apart by_number owners key k ne) ∙ is))
         (key_cases by_number k key)
@@ -298,13 +269,11 @@ module _ {T : Type 0} where
   leads_released : {S : State T} {f : Fresh} (o : OwnerName) (h : Option Ownership)
       → ownership S o ≡ h → Leads S (ReleaseOwner o) f (release_owner S o h)
   leads_released o None is = still (plain tt refl)
-  leads_released {S} o (Some h) is = leads_if (nat_lt 1 h.count)
-      (λ _. leads Stay _ S.next (omega arith) tt
-      (λ all. let old = all o.key h (held_record S o h is) in
+  leads_released {S} o (Some h) is = leads_if (nat_lt 1 h.count) (λ _.
+      leads Stay _ S.next (omega arith) tt (λ all. let old = all o.key h (held_record S o h is) in
       records_put S _ S.owners all o.key (one_less h) old.0 old.1) (λ _. plain tt refl))
-      (leads_unless (hindrance_to S h.names)
-      (λ free. leads (Close h.names) _ S.next (omega arith)
-      (free, ap names_in (sym (held_record S o h is)))
+      (leads_unless (hindrance_to S h.names) (λ free. leads
+      (Close h.names) _ S.next (omega arith) (free, ap names_in (sym (held_record S o h is)))
       (λ all. records_left (close S h.names) _ S.owners all o.key) (λ _. plain tt refl)))
 
   -- ---- makings
@@ -318,20 +287,19 @@ module _ {T : Type 0} where
   )
 
   -- cells are made, and their box is listed
-  leads_made : {S : State T} {call : Action T} {f : Fresh} (c : Change T) (o : Option OwnerName)
-      (b : GenerationalPointer) → S.next ≤ (after S f c).next
-      → IsLawful S call f (after S f c).next c → b.id.store ≡ S.number
-      → (AreFresh S call f → set.contains S.given (name_of b) ≡ false)
-      → IsBoxed (after S f c) (name_of b)
-      → Leads S call f (Made b, add_to_list (after S f c) o (name_of b))
+  leads_made : {S : State T}
+      {call : Action T} {f : Fresh} (c : Change T) (o : Option OwnerName) (b : GenerationalPointer)
+      → S.next ≤ (after S f c).next → IsLawful S call f (after S f c).next c → b.id.store ≡ S.number
+      → (AreFresh S call f → set.contains S.given (name_of b) ≡ false) → IsBoxed
+      (after S f c) (name_of b) → Leads S call f (Made b, add_to_list (after S f c) o (name_of b))
   leads_made {S} {f = f} c None b up lawful number fresh boxed =
       leads c _ (after S f c).next up lawful (λ h. h)
-      (λ new. plain (record { number = number; fresh = fresh new; given = boxed.0 }) refl)
+      (λ new. plain (record { number = number; fresh = fresh new; boxed = boxed }) refl)
   leads_made {S} {f = f} c (Some o) b up lawful number fresh boxed =
       let Q = after S f c in
       leads c _ Q.next up lawful
       (λ all. records_listed Q _ Q.owners all o.key (name_of b) boxed)
-      (λ new. plain (record { number = number; fresh = fresh new; given = boxed.0 }) refl)
+      (λ new. plain (record { number = number; fresh = fresh new; boxed = boxed }) refl)
 
   leads_referred : {S : State T} {f : Fresh} (o : Option OwnerName) (b : GenerationalPointer)
       (to : Option Name) (target : Option (Cell T)) → cell_at S to ≡ target
@@ -354,9 +322,8 @@ module _ {T : Type 0} where
 
   pub filled_content : (S : State T) (m : Name) (c old : Content T)
       → content_at S m ≡ Some old → content_at (fill S m c) m ≡ Some c
-  filled_content S m c old had = ap content_of (get-changed_name S.cells m (refill c) m
-      ∙ ap (λ b. cond b (option_map (refill c) (map.get S.cells m)) (map.get S.cells m))
-      (name_here m))
+  filled_content S m c old had = ap content_of (get-changed_name S.cells m (refill c) m ∙ ap
+      (λ b. cond b (option_map (refill c) (map.get S.cells m)) (map.get S.cells m)) (name_here m))
       ∙ refilled_content c old (map.get S.cells m) had
 
   leads_read : {S : State T} {f : Fresh} (b : GenerationalPointer) (l : Location) (m : Option Name)
@@ -388,7 +355,7 @@ module _ {T : Type 0} where
       → content_at S g.cell ≡ c
       → Leads S (ReleaseReader g) f (Flag true, remove_reader S g.cell g.ticket c)
   leads_left {S} g (Some (Here v readers)) had =
-      leads (Fill g.cell (Leave v readers g)) _ S.next (omega arith) (had, refl) (λ h. h)
+      leads (Fill g.cell (Leave v readers g)) _ S.next (omega arith) (had, (refl, refl)) (λ h. h)
       (λ _. plain tt refl)
   leads_left g c had = still (plain tt refl)
 
@@ -447,11 +414,9 @@ module _ {T : Type 0} where
   act_leads S (ReleaseWriter g v) f = leads_if (knows_writer S g)
       (λ known. leads_returned g v _ refl (and_parts _ _ known).1) (still (plain tt refl))
   act_leads S (SetValue b v) f = leads_set b v (reach S b) _ refl refl
-  act_leads S (End b) f = leads_unless (hindrance_to S (own_name S b))
-      (λ free. leads (Close (own_name S b)) _ S.next (omega arith) (free, refl) (λ h. h)
-      (λ _. plain tt refl))
-  act_leads S (Point a b) f =
-      leads_if (has_same_id a b) (λ _. still (plain tt refl))
+  act_leads S (End b) f = leads_unless (hindrance_to S (own_name S b)) (λ free. leads
+      (Close (own_name S b)) _ S.next (omega arith) (free, refl) (λ h. h) (λ _. plain tt refl))
+  act_leads S (Point a b) f = leads_if (has_same_id a b) (λ _. still (plain tt refl))
       (leads_unless (read_trouble S b) (λ _. leads_pointed a b _ _ (reach S b) _ refl refl))
   act_leads S _ f = still (plain tt refl)
 

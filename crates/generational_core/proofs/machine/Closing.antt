@@ -1,31 +1,18 @@
 -- Names that end one after the other, and Refs that turn: what is left, and what hinders it.
+use Rattle.generational_core.proofs.machine
+use machine.{Bool, true, false, cond, ap, subst, ⊎_elim, Value, Shared, sweep, among, State, is_ref}
+use machine.{◌≡◌, or_cases, or_right, take_away, is_named, Location, name_here, name_same, get-keep}
+use machine.{◌≢◌, or_left, is_some, Trouble, NameMap, is_name, by_name, by_cond, IsLinked, box_ends}
+use machine.{not, ◌||◌, List, ◌∷◌, None, Some, refl, sym, ◌∙◌, Cell, Ref, Name}
+use machine.{[], write_refusal, cells_after, hindrance_at, hindrance_of, hindrance_to, without_view}
+use machine.{Option, both_ways, option_or, is_shared, refers_to, name_apart, named_from, swept_view}
+use machine.{true≢false, content_of, name_total, name_exact, name_cases, remove_each, named_gives}
+use machine.{first_hindrance, get-insert_here, get-insert_apart, get-remove_here, get-remove_apart}
 use Rattle.std.specs.FinMap as map
-use Rattle.std.proofs.Common.{Bool, ◌≡◌, ◌≢◌, true, false, cond, not, ◌||◌, List, [], ◌∷◌, Option}
-use Rattle.std.proofs.Common.{None, Some, refl, sym, ap, subst, ◌∙◌, ⊎_elim}
-use Rattle.std.proofs.lemmas.Bool.{true≢false, or_cases, or_left, or_right}
-use Rattle.std.specs.Cmp.{both_ways}
-use Rattle.std.specs.Option.{option_or}
-use Rattle.std.specs.Prelude.{is_some}
-use Rattle.generational_core.specs.Borrowing.{Trouble, write_refusal}
-use Rattle.generational_core.specs.Cells.{Cell, content_of, is_shared, refers_to}
-use Rattle.generational_core.specs.Cells.Cell.{Value, Shared, Ref}
-use Rattle.generational_core.specs.Ending.{sweep, take_away, cells_after, hindrance_at}
-use Rattle.generational_core.specs.Ending.{hindrance_of, first_hindrance, hindrance_to}
-use Rattle.generational_core.specs.Names.{Name, NameMap, among, is_name}
-use Rattle.generational_core.specs.State.{State, is_named}
-use Rattle.generational_core.specs.declared.error.Location.{Location}
-use Rattle.generational_core.proofs.maps.Maps.{by_name, name_total, name_exact, name_here}
-use Rattle.generational_core.proofs.maps.Maps.{name_same, name_cases, name_apart, get-keep}
-use Rattle.generational_core.proofs.maps.Maps.{get-insert_here, get-insert_apart, get-remove_here}
-use Rattle.generational_core.proofs.maps.Maps.{get-remove_apart, remove_each, is_ref, named_gives}
-use Rattle.generational_core.proofs.maps.Maps.{named_from}
-use Rattle.generational_core.proofs.machine.Ends.{by_cond, swept_view, without_view, IsLinked}
-use Rattle.generational_core.proofs.machine.Releasing.{box_ends}
 
 -- what stands in a list of one name
 just_one : (n q : Name) → among (n ∷ []) q ≡ true → q ≡ n
-just_one n q h =
-    ⊎_elim (λ e. name_same q n e) (λ e. absurd (true≢false (sym e))) (or_cases _ _ h)
+just_one n q h = ⊎_elim (λ e. name_same q n e) (λ e. absurd (true≢false (sym e))) (or_cases _ _ h)
 
 module _ {T : Type 0} where
   -- ---- what is left at a name
@@ -58,8 +45,7 @@ module _ {T : Type 0} where
       → ((k : Name) → refers_to m (map.get a k) ≡ true → refers_to m (map.get b k) ≡ true)
       → is_named a m ≡ true → is_named b m ≡ true
   named_still a b m still h =
-      let it = named_gives a m h in
-      let there = still it.0 (ap (refers_to m) it.2 ∙ name_here m) in
+      let it = named_gives a m h in let there = still it.0 (ap (refers_to m) it.2 ∙ name_here m) in
       let ref = is_ref m (map.get b it.0) there in named_from b m (it.0, ref.0, ref.1)
 
   -- whether a name is named depends on the Refs to it alone
@@ -97,8 +83,7 @@ module _ {T : Type 0} where
 
   -- and the end of a cell that is no Ref to m
   pub remove_names : (cells : NameMap (Cell T)) (n m : Name)
-      → refers_to m (map.get cells n) ≡ false
-      → is_named (map.remove cells n) m ≡ is_named cells m
+      → refers_to m (map.get cells n) ≡ false → is_named (map.remove cells n) m ≡ is_named cells m
   remove_names cells n m other = named_same (map.remove cells n) cells m (λ k. ⊎_elim
       (λ is. ap (λ x. refers_to m (map.get (map.remove cells n) x)) is
       ∙ (ap (refers_to m) (get-remove_here by_name cells n)
@@ -133,13 +118,11 @@ module _ {T : Type 0} where
   -- a sweep between changes nothing in the end
   sweep_between : (cells : NameMap (Cell T)) (names : List Name)
       → sweep (take_away (sweep cells) names) ≡ sweep (take_away cells names)
-  sweep_between cells names = same_cells _ _ (λ q.
-      let named = is_named (take_away cells names) q in
+  sweep_between cells names = same_cells _ _ (λ q. let named = is_named (take_away cells names) q in
       get-swept (take_away (sweep cells) names) q
       ∙ (rw (names_same q, get-without (sweep cells) names q, get-swept cells q)
-      (between (map.get cells q) (is_named cells q) (among names q) named (fewer q))
-      ∙ sym (get-swept (take_away cells names) q
-      ∙ ap (λ x. swept x named) (get-without cells names q))))
+      (between (map.get cells q) (is_named cells q) (among names q) named (fewer q)) ∙ sym
+      (get-swept (take_away cells names) q ∙ ap (λ x. swept x named) (get-without cells names q))))
     where
       refers_same : (m : Name) (cell : Option (Cell T)) (named there : Bool)
           → refers_to m (without (swept cell named) there) ≡ refers_to m (without cell there)
@@ -187,8 +170,7 @@ module _ {T : Type 0} where
   -- a name without a cell, and one of a Shared cell, take nothing away
   pub away_nothing : (cells : NameMap (Cell T)) (names : List Name)
       → ((q : Name) → among names q ≡ true → is_shared (map.get cells q) ≡ false
-      → map.get cells q ≡ None)
-      → take_away cells names ≡ cells
+      → map.get cells q ≡ None) → take_away cells names ≡ cells
   away_nothing cells names nothing = same_cells _ _ (λ q. ⊎_elim (λ e. e)
       (λ e. e.0 ∙ sym (nothing q e.2 e.1)) (without_view cells names q))
 
@@ -218,15 +200,13 @@ module _ {T : Type 0} where
   -- ---- a sweep of cells where each Shared cell is named, or each but one
 
   -- where each is named, none goes
-  pub sweep_all : (cells : NameMap (Cell T))
-      → ((q : Name) → is_shared (map.get cells q) ≡ true → is_named cells q ≡ true)
-      → sweep cells ≡ cells
+  pub sweep_all : (cells : NameMap (Cell T)) → ((q : Name) → is_shared (map.get cells q) ≡ true
+      → is_named cells q ≡ true) → sweep cells ≡ cells
   sweep_all cells named = same_cells _ _ (λ q. ⊎_elim (λ e. e.0)
       (λ e. absurd (true≢false (sym (named q e.1) ∙ e.2))) (swept_view cells q))
 
   -- where each but m is named, m alone may go
-  pub sweep_but : (cells : NameMap (Cell T)) (m : Name)
-      → is_shared (map.get cells m) ≡ true
+  pub sweep_but : (cells : NameMap (Cell T)) (m : Name) → is_shared (map.get cells m) ≡ true
       → ((q : Name) → q ≢ m → is_shared (map.get cells q) ≡ true → is_named cells q ≡ true)
       → sweep cells ≡ cond (is_named cells m) cells (map.remove cells m)
   sweep_but cells m shared others = by_cond (λ x. sweep cells ≡ x) (is_named cells m)
@@ -246,9 +226,8 @@ module _ {T : Type 0} where
 
   -- nor where no names end
   pub close_nothing : (cells : NameMap (Cell T)) → IsLinked cells → cells_after cells [] ≡ cells
-  close_nothing cells linked =
-      ap sweep (away_nothing cells [] (λ q there. absurd (true≢false (sym there))))
-      ∙ sweep_linked cells linked
+  close_nothing cells linked = ap sweep (away_nothing
+      cells [] (λ q there. absurd (true≢false (sym there)))) ∙ sweep_linked cells linked
 
   -- a Shared cell that the cell at n doesn't name is named without it
   named_without : (cells : NameMap (Cell T)) (n q : Name) → IsLinked cells
@@ -264,27 +243,22 @@ module _ {T : Type 0} where
   -- what is left where the name of a cell ends: a Ref's target goes with the last Ref to it
   abbrev pub left_of_end : NameMap (Cell T) → Name → Option (Cell T) → NameMap (Cell T)
   left_of_end cells n (Some (Value c l)) = map.remove cells n
-  left_of_end cells n (Some (Ref m l)) =
-      let rest = map.remove cells n in
+  left_of_end cells n (Some (Ref m l)) = let rest = map.remove cells n in
       cond (is_named rest m) rest (map.remove (map.remove cells m) n)
   left_of_end cells n _ = cells
 
   -- it is what is left of the cells
-  pub close_one : (cells : NameMap (Cell T)) (n : Name) → IsLinked cells
-      → (cell : Option (Cell T)) → map.get cells n ≡ cell
-      → cells_after cells (n ∷ []) ≡ left_of_end cells n cell
-  close_one cells n linked None at =
-      ap sweep (away_absent cells n at) ∙ sweep_linked cells linked
+  pub close_one : (cells : NameMap (Cell T)) (n : Name) → IsLinked cells → (cell : Option (Cell T))
+      → map.get cells n ≡ cell → cells_after cells (n ∷ []) ≡ left_of_end cells n cell
+  close_one cells n linked None at = ap sweep (away_absent cells n at) ∙ sweep_linked cells linked
   close_one cells n linked (Some (Shared c l)) at =
       ap sweep (away_shared cells n (ap is_shared at)) ∙ sweep_linked cells linked
-  close_one cells n linked (Some (Value c l)) at =
-      ap sweep (away_one cells n (ap is_shared at)) ∙ sweep_all (map.remove cells n)
-      (λ q h. named_without cells n q linked (ap (refers_to q) at) h)
+  close_one cells n linked (Some (Value c l)) at = ap sweep (away_one cells n (ap is_shared at)) ∙
+      sweep_all (map.remove cells n) (λ q h. named_without cells n q linked (ap (refers_to q) at) h)
   close_one cells n linked (Some (Ref m l)) at =
-      let rest = map.remove cells n in
-      let target = linked.targets n m l at in
-      let apart = λ (is : m ≡ n). true≢false
-      (sym target ∙ (ap (λ x. is_shared (map.get cells x)) is ∙ ap is_shared at)) in
+      let rest = map.remove cells n in let target = linked.targets n m l at in
+      let apart = λ (is : m ≡ n).
+      true≢false (sym target ∙ (ap (λ x. is_shared (map.get cells x)) is ∙ ap is_shared at)) in
       ap sweep (away_one cells n (ap is_shared at))
       ∙ (sweep_but rest m (ap is_shared (get-remove_apart by_name cells n m apart) ∙ target)
       (λ q ne h. named_without cells n q linked (ap (refers_to q) at ∙ name_apart q m ne) h)
@@ -294,8 +268,7 @@ module _ {T : Type 0} where
 
   -- a Shared cell that is left where some Ref names it hinders nothing, and else by its borrows
   hindered_unnamed : (cells left : NameMap (Cell T)) (m : Name) (named : Bool)
-      → is_shared (map.get cells m) ≡ true
-      → map.get left m ≡ cond named (map.get cells m) None
+      → is_shared (map.get cells m) ≡ true → map.get left m ≡ cond named (map.get cells m) None
       → hindrance_at cells left m ≡ cond named None (write_refusal (content_of (map.get cells m)))
   hindered_unnamed cells left m true shared at = rw (at, live (map.get cells m) shared) refl
     where
@@ -319,10 +292,9 @@ module _ {T : Type 0} where
 
   module _ (cells : NameMap (Cell T)) (names : List Name) (linked : IsLinked cells) where
     -- each of the names is hindered by the borrows of what goes with it
-    pub end_hindered : (n : Name) → among names n ≡ true
-        → (cell : Option (Cell T)) → map.get cells n ≡ cell
-        → hindrance_of cells (cells_after cells names) (map.get cells n) n
-        ≡ borrowed_end cells (is_named (take_away cells names)) cell
+    pub end_hindered : (n : Name) → among names n ≡ true → (cell : Option (Cell T))
+        → map.get cells n ≡ cell → hindrance_of cells (cells_after cells names)
+        (map.get cells n) n ≡ borrowed_end cells (is_named (take_away cells names)) cell
     end_hindered n there cell at = rw at (by cell at)
       where
         by : (cell : Option (Cell T)) → map.get cells n ≡ cell
@@ -332,10 +304,9 @@ module _ {T : Type 0} where
         by (Some (Shared c l)) at = refl
         by (Some (Value c l)) at = rw (box_ends cells names n (ap is_shared at) there, at) refl
         by (Some (Ref m l)) at =
-            let rest = take_away cells names in
-            let shared = linked.targets n m l at in
-            hindered_unnamed cells (sweep rest) m (is_named rest m) shared
-            (get-swept rest m ∙ rw (get-without cells names m, shared, shared) refl)
+            let rest = take_away cells names in let shared = linked.targets n m l at in
+            hindered_unnamed cells (sweep rest) m (is_named rest m)
+            shared (get-swept rest m ∙ rw (get-without cells names m, shared, shared) refl)
 
     -- so the first hindrance is that of each name by itself
     pub first_hindered : first_hindrance cells (cells_after cells names) names
@@ -357,8 +328,7 @@ module _ {T : Type 0} where
       → hindrance_to S (n ∷ []) ≡ borrowed_end S.cells (is_named (map.remove S.cells n)) cell
   unfolding hindrance_to
   one_hindered S n linked cell at =
-      first_hindered S.cells (n ∷ []) linked
-      ∙ (alone _ ∙ (rw at (by cell at)))
+      first_hindered S.cells (n ∷ []) linked ∙ (alone _ ∙ (rw at (by cell at)))
     where
       alone : (t : Option Trouble) → option_or t None ≡ t
       alone None = refl
@@ -408,8 +378,7 @@ module _ {T : Type 0} where
 
     module _ (other : is_name old new ≡ false) where
       -- the old target is named if another Ref names it
-      turn_names : is_named (map.insert cells a (Ref new l)) old
-          ≡ is_named (map.remove cells a) old
+      turn_names : is_named (map.insert cells a (Ref new l)) old ≡ is_named (map.remove cells a) old
       turn_names =
           let rest = map.remove cells a in
           named_same turned rest old (λ k. ⊎_elim
@@ -423,17 +392,14 @@ module _ {T : Type 0} where
       pub turn_sweep : sweep (map.insert cells a (Ref new l))
           ≡ cond (is_named (map.remove cells a) old) (map.insert cells a (Ref new l))
           (map.remove (map.insert cells a (Ref new l)) old)
-      turn_sweep =
-          let shared = linked.targets a old l at in
+      turn_sweep = let shared = linked.targets a old l at in
           let still = ap is_shared (apart old (not_there old shared)) ∙ shared in
           sweep_but turned old still turned_named
           ∙ ap (λ b. cond b turned (map.remove turned old)) turn_names
 
       -- and its borrows hinder that
-      pub turn_hindered : hindrance_at cells (sweep (map.insert cells a (Ref new l))) old
-          ≡ cond (is_named (map.remove cells a) old) None
-          (write_refusal (content_of (map.get cells old)))
-      turn_hindered =
-          let shared = linked.targets a old l at in
+      pub turn_hindered : hindrance_at cells (sweep (map.insert cells a (Ref new l))) old ≡ cond
+          (is_named (map.remove cells a) old) None (write_refusal (content_of (map.get cells old)))
+      turn_hindered = let shared = linked.targets a old l at in
           hindered_unnamed cells (sweep turned) old (is_named (map.remove cells a) old) shared
           (get-swept turned old ∙ rw (turn_names, apart old (not_there old shared), shared) refl)

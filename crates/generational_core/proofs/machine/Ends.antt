@@ -1,21 +1,13 @@
 -- Cells when some go: what is left, what Refs name then, and that nothing borrowed goes.
+use Rattle.generational_core.proofs.machine.Common
+use Common.{Bool, ◌≡◌, true, false, cond, not, ◌||◌, List, [], ◌∷◌, Option, None, Some, refl, sym}
+use Common.{ap, subst, ◌∙◌, inl, inr, ⊎_elim, true≢false, or_cases, or_parts, not-false, not-true}
+use Common.{option_or, is_some, ◌⊎◌, Trouble, write_refusal, Cell, content_of, is_shared, Value}
+use Common.{Shared, Ref, sweep, take_away, cells_after, hindrance_at, hindrance_of, first_hindrance}
+use Common.{hindrance_to, Name, among, NameMap, State, IsSound, is_named, Location, by_name}
+use Common.{name_cases, name_same, get-insert_here, get-insert_apart, keep_view, named_gives}
+use Common.{named_from, HasTargets, IsLinked}
 use Rattle.std.specs.FinMap as map
-use Rattle.std.proofs.Common.{Bool, ◌≡◌, true, false, cond, not, ◌||◌, List, [], ◌∷◌, Option, None}
-use Rattle.std.proofs.Common.{Some, refl, sym, ap, subst, ◌∙◌, inl, inr, ⊎_elim}
-use Rattle.std.proofs.lemmas.Bool.{true≢false, or_cases, or_parts, not-false, not-true}
-use Rattle.std.specs.Option.{option_or}
-use Rattle.std.specs.Prelude.{is_some, ◌⊎◌}
-use Rattle.generational_core.specs.Borrowing.{Trouble, write_refusal}
-use Rattle.generational_core.specs.Cells.{Cell, content_of, is_shared}
-use Rattle.generational_core.specs.Cells.Cell.{Value, Shared, Ref}
-pub use Rattle.generational_core.specs.Conditions.{HasTargets, IsLinked}
-use Rattle.generational_core.specs.Ending.{sweep, take_away, cells_after, hindrance_at}
-use Rattle.generational_core.specs.Ending.{hindrance_of, first_hindrance, hindrance_to}
-use Rattle.generational_core.specs.Names.{Name, among, NameMap}
-use Rattle.generational_core.specs.State.{State, IsSound, is_named}
-use Rattle.generational_core.specs.declared.error.Location.{Location}
-use Rattle.generational_core.proofs.maps.Maps.{by_name, name_cases, name_same, get-insert_here}
-use Rattle.generational_core.proofs.maps.Maps.{get-insert_apart, keep_view, named_gives, named_from}
 
 -- what is there
 pub some_live : {A : Type 0} (o : Option A) → is_some o ≡ true → (x : A) × (o ≡ Some x)
@@ -40,12 +32,10 @@ module _ {T : Type 0} where
       ⊎ ((map.get (sweep cells) n ≡ None)
       × (is_shared (map.get cells n) ≡ true) × (is_named cells n ≡ false))
   unfolding sweep
-  swept_view cells n =
-      ⊎_elim (λ h. inl (h.0, ⊎_elim (λ e. inl (not-true _ e)) (λ e. inr e) (or_cases _ _ h.1)))
-      (λ h. let p = or_parts (not (is_shared (map.get cells n))) (is_named cells n) h.1 in
-      inr (h.0, not-false _ p.0, p.1))
-      (keep_view by_name cells
-      (λ n. not (is_shared (map.get cells n)) || is_named cells n) n)
+  swept_view cells n = ⊎_elim (λ h. inl (h.0, ⊎_elim
+      (λ e. inl (not-true _ e)) (λ e. inr e) (or_cases _ _ h.1))) (λ h. let p = or_parts
+      (not (is_shared (map.get cells n))) (is_named cells n) h.1 in inr (h.0, not-false _ p.0, p.1))
+      (keep_view by_name cells (λ n. not (is_shared (map.get cells n)) || is_named cells n) n)
 
   -- what is taken away wasn't Shared, and is among the names
   pub without_view : (cells : NameMap (Cell T)) (names : List Name) (n : Name)
@@ -53,9 +43,8 @@ module _ {T : Type 0} where
       ⊎ ((map.get (take_away cells names) n ≡ None) × (is_shared (map.get cells n) ≡ false)
       × (among names n ≡ true))
   unfolding take_away
-  without_view cells names n = ⊎_elim (λ h. inl h.0)
-      (λ h. let p = or_parts (is_shared (map.get cells n)) (not (among names n)) h.1 in
-      inr (h.0, p.0, not-false _ p.1))
+  without_view cells names n = ⊎_elim (λ h. inl h.0) (λ h. let p = or_parts
+      (is_shared (map.get cells n)) (not (among names n)) h.1 in inr (h.0, p.0, not-false _ p.1))
       (keep_view by_name cells (λ n. is_shared (map.get cells n) || not (among names n)) n)
 
   -- ---- what Refs name
@@ -69,8 +58,7 @@ module _ {T : Type 0} where
   pub targets_still : (old new : NameMap (Cell T)) → HasTargets old
       → ((m : Name) → is_shared (map.get old m) ≡ true → is_shared (map.get new m) ≡ true)
       → ((n m : Name) (l : Location) → map.get new n ≡ Some (Ref m l)
-      → (map.get old n ≡ Some (Ref m l)) ⊎ (is_shared (map.get new m) ≡ true))
-      → HasTargets new
+      → (map.get old n ≡ Some (Ref m l)) ⊎ (is_shared (map.get new m) ≡ true)) → HasTargets new
   targets_still old new t stays was n m l h =
       ⊎_elim (λ e. stays m (t n m l e)) (λ e. e) (was n m l h)
 
@@ -88,11 +76,9 @@ module _ {T : Type 0} where
   -- so what is left is linked
   pub swept_linked : (cells : NameMap (Cell T)) → HasTargets cells → IsLinked (sweep cells)
   swept_linked cells t = record {
-    targets = λ n m l h.
-        let was = swept_was cells n m l h in
-        ⊎_elim (λ e. ap is_shared e.0 ∙ t n m l was)
-        (λ e. absurd (true≢false (sym (named_from cells m (n, l, was)) ∙ e.2)))
-        (swept_view cells m);
+    targets = λ n m l h. let was = swept_was cells n m l h in
+        ⊎_elim (λ e. ap is_shared e.0 ∙ t n m l was) (λ e. absurd
+        (true≢false (sym (named_from cells m (n, l, was)) ∙ e.2))) (swept_view cells m);
     named = λ m h.
         ⊎_elim (λ e. let k = ⊎_elim (λ s. absurd (true≢false (sym h ∙ (ap is_shared e.0 ∙ s))))
         (λ k. named_gives cells m k) e.1 in (k.0, k.1, swept_ref cells k.0 m k.1 k.2))
@@ -102,11 +88,10 @@ module _ {T : Type 0} where
   -- where names end, each Ref names a Shared cell still
   pub closed_linked : (cells : NameMap (Cell T)) (names : List Name)
       → HasTargets cells → IsLinked (cells_after cells names)
-  closed_linked cells names t = swept_linked _ (targets_still cells (take_away cells names) t
-      (λ m h. ⊎_elim (λ k. ap is_shared k ∙ h)
-      (λ k. absurd (true≢false (sym h ∙ k.1))) (without_view cells names m))
-      (λ n m l h. ⊎_elim (λ e. inl (sym e ∙ h)) (λ e. absurd (none≢some _ _ e.0 h))
-      (without_view cells names n)))
+  closed_linked cells names t = swept_linked _
+      (targets_still cells (take_away cells names) t (λ m h. ⊎_elim (λ k. ap is_shared k ∙ h)
+      (λ k. absurd (true≢false (sym h ∙ k.1))) (without_view cells names m)) (λ n m l h. ⊎_elim
+      (λ e. inl (sym e ∙ h)) (λ e. absurd (none≢some _ _ e.0 h)) (without_view cells names n)))
 
   -- ---- what nothing hinders from ending isn't borrowed
 
@@ -177,11 +162,9 @@ module _ {T : Type 0} where
       (swept_view one n)
 
   -- the same where a Ref turns to another cell, but for the Ref
-  pub turned_view : (S : State T) (a old new : Name) (l : Location)
-      → map.get S.cells a ≡ Some (Ref old l)
-      → let left = sweep (map.insert S.cells a (Ref new l)) in
-      hindrance_at S.cells left old ≡ None → (n : Name)
-      → (map.get left n ≡ map.get S.cells n)
+  pub turned_view : (S : State T) (a old new : Name) (l : Location) → map.get
+      S.cells a ≡ Some (Ref old l) → let left = sweep (map.insert S.cells a (Ref new l)) in
+      hindrance_at S.cells left old ≡ None → (n : Name) → (map.get left n ≡ map.get S.cells n)
       ⊎ (((map.get S.cells n ≡ Some (Ref old l)) × (map.get left n ≡ Some (Ref new l)))
       ⊎ ((map.get left n ≡ None) × (IsSound S → IsBorrowed (map.get S.cells n) → ⊥)))
   turned_view S a old new l at_a free n =

@@ -1,22 +1,10 @@
 -- A write that is free is refused by the end of numbers alone: it wants no memory.
-use Rattle.std.proofs.Common.{◌≡◌, true, false, Option, None, Some, refl, sym, ap, subst, ◌∙◌}
-use Rattle.std.proofs.Common.{inl, inr}
-use Rattle.std.specs.Prelude.{nat_eq, ◌&&◌, is_none}
-use Rattle.std.proofs.lemmas.Bool.{true≢false, cond_both}
-use Rattle.generational_core.specs.declared.boxes.GenerationalPointer.{GenerationalPointer}
-use Rattle.generational_core.specs.declared.error.Location.{Location}
-use Rattle.generational_core.specs.declared.error.StoreError.{StoreError}
-use Rattle.generational_core.specs.declared.error.StoreError.TheVariants.{NumbersExhausted}
-use Rattle.generational_core.specs.Names.{Name}
-use Rattle.generational_core.specs.Cells.{Content}
-use Rattle.generational_core.specs.Cells.Content.{Here}
-use Rattle.generational_core.specs.State.{State}
-use Rattle.generational_core.specs.Borrowing.{Guard, Trouble, can_write}
-use Rattle.generational_core.specs.Machine.{Answer, Fresh, Outcome, act, unless, write_at}
-use Rattle.generational_core.specs.Machine.Action.{Write}
-use Rattle.generational_core.specs.Machine.Answer.{Writes, Done, Refused}
-use Rattle.generational_core.specs.Steps.{Meets, limit_tickets, takes_ticket, last_ticket, may_lack}
-use Rattle.generational_core.specs.Steps.{needs_memory, no_names}
+use Rattle.generational_core.proofs.machine
+use machine.{◌≡◌, true, false, Option, None, Some, refl, sym, ap, subst, ◌∙◌, inl, inr, nat_eq}
+use machine.{◌&&◌, is_none, true≢false, cond_both, GenerationalPointer, Location, StoreError}
+use machine.{NumbersExhausted, Name, Content, Here, State, Guard, Trouble, can_write, Answer, Fresh}
+use machine.{Outcome, act, unless, write_at, Write, Writes, Done, Refused, Meets, limit_tickets}
+use machine.{takes_ticket, last_ticket, may_lack, needs_memory, no_names}
 
 module _ {T : Type 0} where
   -- an answer to a write that no borrow hinders

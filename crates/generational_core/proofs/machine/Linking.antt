@@ -1,20 +1,12 @@
 -- Cells that are linked stay so: where cells come, and where contents change.
+use Rattle.generational_core.proofs.machine.Common
+use Common.{◌≡◌, ◌≢◌, true, None, Some, refl, sym, ◌∙◌, inl, inr, List, Cell, Ref, Name}
+use Common.{false, subst, ⊎_elim, refill, Value, Shared, NameMap, change, State, IsSound, by_name}
+use Common.{ap, option_map, Content, is_shared, IsNamed, Location, HasTargets, IsLinked, name_cases}
+use Common.{true≢false, cells_after, get-insert_here, get-insert_apart, changed_view, named_gives}
+use Rattle.generational_core.proofs.machine.Ends.{none≢some, targets_still, target_of}
+use Rattle.generational_core.proofs.machine.Ends.{closed_linked}
 use Rattle.std.specs.FinMap as map
-use Rattle.std.proofs.Common.{◌≡◌, ◌≢◌, true, false, None, Some, refl, sym, ap, subst, ◌∙◌}
-use Rattle.std.proofs.Common.{inl, inr, ⊎_elim}
-use Rattle.std.proofs.lemmas.Bool.{true≢false}
-use Rattle.std.specs.Prelude.{List, option_map}
-use Rattle.generational_core.specs.Cells.{Content, Cell, is_shared, refill}
-use Rattle.generational_core.specs.Cells.Cell.{Value, Shared, Ref}
-use Rattle.generational_core.specs.Conditions.{IsNamed}
-use Rattle.generational_core.specs.Ending.{cells_after}
-use Rattle.generational_core.specs.Names.{Name, NameMap, change}
-use Rattle.generational_core.specs.State.{State, IsSound}
-use Rattle.generational_core.specs.declared.error.Location.{Location}
-use Rattle.generational_core.proofs.machine.Ends.{HasTargets, IsLinked, none≢some, targets_still}
-use Rattle.generational_core.proofs.machine.Ends.{target_of, closed_linked}
-use Rattle.generational_core.proofs.maps.Maps.{by_name, name_cases, get-insert_here}
-use Rattle.generational_core.proofs.maps.Maps.{get-insert_apart, changed_view, named_gives}
 
 module _ {T : Type 0} where
   -- the cells of a sound state are linked
@@ -39,9 +31,8 @@ module _ {T : Type 0} where
     shared_kept q h = ap is_shared (get-insert_apart by_name cells n c q
         (λ is. true≢false (sym h ∙ ap is_shared (ap (map.get cells) is ∙ none)))) ∙ h
 
-    targets_born : HasTargets cells
-        → ((m : Name) (l : Location) → Some c ≡ Some (Ref m l) → is_shared (map.get cells m) ≡ true)
-        → HasTargets (map.insert cells n c)
+    targets_born : HasTargets cells → ((m : Name) (l : Location) → Some c ≡ Some (Ref m l)
+        → is_shared (map.get cells m) ≡ true) → HasTargets (map.insert cells n c)
     targets_born t leads = targets_still cells (map.insert cells n c) t shared_kept
         (λ q m l h. ⊎_elim
         (λ is. inr (shared_kept m (leads m l (sym (get-insert_here by_name cells n c)
@@ -80,9 +71,8 @@ module _ {T : Type 0} where
       born_linked cells n (Value c l) linked none refl (λ m k e. absurd cc)
 
   -- and a Ref to a Shared cell
-  pub ref_linked : (cells : NameMap (Cell T)) (n m : Name) (l : Location)
-      → IsLinked cells → map.get cells n ≡ None → is_shared (map.get cells m) ≡ true
-      → IsLinked (map.insert cells n (Ref m l))
+  pub ref_linked : (cells : NameMap (Cell T)) (n m : Name) (l : Location) → IsLinked cells → map.get
+      cells n ≡ None → is_shared (map.get cells m) ≡ true → IsLinked (map.insert cells n (Ref m l))
   ref_linked cells n m l linked none shared = born_linked cells n (Ref m l) linked none refl
       (λ q k e. subst (λ x. is_shared (map.get cells x) ≡ true) (target_of m q l k e) shared)
 
@@ -96,18 +86,16 @@ module _ {T : Type 0} where
       ∙ none_second in
       let here = get-insert_here by_name cells m (Shared c l) in
       record {
-        targets = targets_born one n (Ref m j) none
-            (targets_born cells m (Shared c l) none_first linked.targets (λ q k e. absurd cc))
-            (λ q k e. subst (λ x. is_shared (map.get one x) ≡ true) (target_of m q j k e)
-            (ap is_shared here));
+        targets = targets_born one n (Ref m j) none (targets_born
+            cells m (Shared c l) none_first linked.targets (λ q k e. absurd cc)) (λ q k e. subst
+            (λ x. is_shared (map.get one x) ≡ true) (target_of m q j k e) (ap is_shared here));
         named = λ q h. ⊎_elim
             (λ is. (
               n,
               j,
               subst (λ x. map.get (map.insert one n (Ref m j)) n ≡ Some (Ref x j))
                   (sym is) (get-insert_here by_name one n (Ref m j)),
-            ))
-            (λ ne. named_plain one n (Ref m j) none refl q
+            )) (λ ne. named_plain one n (Ref m j) none refl q
             (named_apart cells m (Shared c l) none_first q ne (linked.named q)) h) (name_cases q m);
       }
 

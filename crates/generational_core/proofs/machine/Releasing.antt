@@ -1,34 +1,21 @@
 -- What the release of an owner value leaves, and when a recorded call is ready.
-use Rattle.std.specs.FinMap as map
-use Rattle.std.proofs.Common.{◌≡◌, ◌≢◌, ℕ, ◌≤◌, ◌<◌, List, [], ◌∷◌, Bool, true, false, cond, not}
-use Rattle.std.proofs.Common.{◌||◌, Option, None, Some, refl, sym, ap, subst, ◌∙◌, ⊎_elim, inl, inr}
-use Rattle.std.proofs.lemmas.Bool.{true≢false, false_from_ne_true, or_cases, lt-ltb, le-ltb}
-use Rattle.std.proofs.lemmas.Bool.{cases_lt, not-true}
-use Rattle.std.specs.List.{AllByRecursion}
-use Rattle.std.specs.Prelude.{nat_lt, ◌&&◌, nat_eq}
-use Rattle.generational_core.specs.Borrowing.{Trouble, read_trouble, reach}
-use Rattle.generational_core.specs.Cells.{Cell, is_shared, Content, content_of}
-use Rattle.generational_core.specs.Conditions.{IsNamed, one_less, IsReleased}
-use Rattle.generational_core.specs.Ending.{sweep, take_away, cells_after, close, hindrance_to}
-use Rattle.generational_core.specs.Machine.{Answer, Outcome, OwnerName, ownership, release_owner}
-use Rattle.generational_core.specs.Machine.{unless, set_ownership, Action, Fresh, act, read_at}
-use Rattle.generational_core.specs.Machine.{cell_at, knows_reader, own_name, remove_reader}
-use Rattle.generational_core.specs.Machine.Answer.{Done}
-use Rattle.generational_core.specs.Names.{Name, NameMap, among}
-use Rattle.generational_core.specs.State.{State, Ownership, IsSound, IsBoxed, is_named, content_at}
-use Rattle.generational_core.specs.Steps.{Meets, takes_ticket, last_ticket}
-use Rattle.generational_core.proofs.maps.Maps.{by_name, by_number, name_same, get-keep}
-use Rattle.generational_core.proofs.maps.Maps.{get-remove_here}
-use Rattle.generational_core.proofs.maps.Maps.{get-remove_apart, get-insert_here, get-insert_apart}
-use Rattle.generational_core.proofs.maps.Maps.{named_gives, named_from}
+use Rattle.generational_core.proofs.machine.Common
+use Common.{◌≡◌, true≢false, is_shared, content_of, IsReleased, content_at, named_gives, named_from}
+use Common.{◌≢◌, ◌≤◌, ◌<◌, [], ◌∷◌, not, sym, ap, ◌∙◌, inl, inr, act}
+use Common.{ℕ, or_cases, cases_lt, take_away, OwnerName, ownership, Ownership, by_number, name_same}
+use Common.{List, subst, le-ltb, nat_lt, nat_eq, reach, sweep, close, Answer, unless, Action, Fresh}
+use Common.{Bool, true, cond, ◌||◌, None, Some, refl, ◌&&◌, Cell, Done, Name, among, State, Meets}
+use Common.{false, read_trouble, cells_after, hindrance_to, knows_reader, takes_ticket, last_ticket}
+use Common.{Option, ⊎_elim, lt-ltb, Outcome, read_at, cell_at, NameMap, IsSound, IsBoxed, by_name}
+use Common.{false_from_ne_true, release_owner, get-remove_apart, get-insert_apart, NumbersExhausted}
+use Common.{not-true, Content, IsNamed, one_less, own_name, is_named, get-keep, Location, StepCall}
+use Common.{AllByRecursion, Trouble, set_ownership, remove_reader, get-remove_here, get-insert_here}
 use Rattle.generational_core.proofs.machine.Ends.{swept_ref, swept_was, by_cond}
 use Rattle.generational_core.proofs.machine.Changes.{held_record}
 use Rattle.generational_core.proofs.machine.Stepping.{is_refusal, meets_cases}
-use Rattle.generational_core.specs.declared.steps.StepCall.TheVariants as call
 use Rattle.generational_core.specs.StepCalls.{is_ready, tells_of_borrow, recorded_as, is_hindered}
-use Rattle.generational_core.specs.declared.error.Location.{Location}
-use Rattle.generational_core.specs.declared.error.StoreError.TheVariants.{NumbersExhausted}
-use Rattle.generational_core.specs.declared.steps.StepCall.{StepCall}
+use Rattle.std.specs.FinMap as map
+use Rattle.generational_core.specs.declared.steps.StepCall.TheVariants as call
 
 module _ {T : Type 0} where
   -- ---- what is left of the cells when names end
@@ -39,8 +26,7 @@ module _ {T : Type 0} where
     unfolding take_away
     without_get = get-keep by_name cells _ n
 
-    left_get : map.get (cells_after cells names) n
-        ≡ cond
+    left_get : map.get (cells_after cells names) n ≡ cond
         (not (is_shared (map.get (take_away cells names) n)) || is_named (take_away cells names) n)
         (map.get (take_away cells names) n) None
     unfolding sweep
@@ -58,16 +44,14 @@ module _ {T : Type 0} where
     module _ (shared : is_shared (map.get cells n) ≡ true) where
       pub shared_ends : (IsNamed (cells_after cells names) n → ⊥)
           → map.get (cells_after cells names) n ≡ None
-      shared_ends nobody =
-          let left = take_away cells names in
+      shared_ends nobody = let left = take_away cells names in
           let unnamed = false_from_ne_true (is_named left n) (λ h. let it = named_gives left n h in
           nobody (it.0, it.1, swept_ref left it.0 n it.1 it.2)) in
           left_get ∙ rw (without_get, shared, shared, unnamed) refl
 
       pub shared_stays : IsNamed (cells_after cells names) n
           → map.get (cells_after cells names) n ≡ map.get cells n
-      shared_stays h =
-          let left = take_away cells names in
+      shared_stays h = let left = take_away cells names in
           let named = named_from left n (h.0, h.1, swept_was left h.0 n h.1 h.2) in
           left_get ∙ rw (without_get, shared, shared, named) refl
 
@@ -75,17 +59,15 @@ module _ {T : Type 0} where
   boxed_among : (S : State T) (names : List Name) (n : Name)
       → AllByRecursion (IsBoxed S) names → among names n ≡ true → IsBoxed S n
   boxed_among S [] n all there = absurd (true≢false (sym there))
-  boxed_among S (m ∷ names) n all there =
-      ⊎_elim (λ is. subst (IsBoxed S) (sym (name_same n m is)) all.0)
-      (λ rest. boxed_among S names n all.1 rest) (or_cases _ _ there)
+  boxed_among S (m ∷ names) n all there = ⊎_elim (λ is. subst (IsBoxed S) (sym (name_same n m is))
+      all.0) (λ rest. boxed_among S names n all.1 rest) (or_cases _ _ there)
 
-  pub listed_boxed : (S : State T) (o : OwnerName) (h : Ownership) (n : Name)
-      → IsSound S → ownership S o ≡ Some h → among h.names n ≡ true
-      → is_shared (map.get S.cells n) ≡ false
+  pub listed_boxed : (S : State T) (o : OwnerName) (h : Ownership) (n : Name) → IsSound S
+      → ownership S o ≡ Some h → among h.names n ≡ true → is_shared (map.get S.cells n) ≡ false
   listed_boxed S o h n s is there =
       (boxed_among S h.names n (s.owned o.key h (held_record S o h is)) there).1
 
-  done_only : (t : Option Trouble) (S R last : State T)
+  pub done_only : (t : Option Trouble) (S R last : State T)
       → ◌≡◌ {A = Outcome T} (Done, R) (unless t S (Done, last)) → R ≡ last
   done_only None S R last e = ap (λ (out : Outcome T). out.1) e
   done_only (Some t) S R last e =
@@ -93,21 +75,17 @@ module _ {T : Type 0} where
 
   module _ {S R : State T} {o : OwnerName} {h : Ownership} (r : IsReleased S o h R) where
     release : ◌≡◌ {A = Outcome T} (Done, R) (release_owner S o (Some h))
-    release =
-        ⊎_elim (λ refused. absurd (true≢false (sym refused.0)))
-        (λ acts. acts.2 ∙ ap (release_owner S o) r.held)
-        (meets_cases S R (Action.ReleaseOwner o) Done r.done)
+    release = ⊎_elim (λ refused. absurd (true≢false (sym refused.0))) (λ acts. acts.2
+        ∙ ap (release_owner S o) r.held) (meets_cases S R (Action.ReleaseOwner o) Done r.done)
 
     -- with the last owner value the list is closed, and the record goes
-    last_release : h.count ≤ 1
-        → R ≡ record (close S h.names) { owners = map.remove S.owners o.key }
+    last_release : h.count ≤ 1 → R ≡ record (close S h.names) { owners = map.remove S.owners o.key }
     last_release last =
         done_only (hindrance_to S h.names) S R _ (release ∙ rw (le-ltb 1 h.count last) refl)
 
     -- else the record stands for one owner value less
     earlier_release : 1 < h.count → R ≡ set_ownership S o.key (one_less h)
-    earlier_release more = ap (λ (out : Outcome T). out.1) release
-        ∙ rw (lt-ltb 1 h.count more) refl
+    earlier_release more = ap (λ (out : Outcome T). out.1) release ∙ rw (lt-ltb 1 h.count more) refl
 
     pub last_cells : h.count ≤ 1 → R.cells ≡ cells_after S.cells h.names
     last_cells last = ap (λ (X : State T). X.cells) (last_release last)
@@ -125,18 +103,14 @@ module _ {T : Type 0} where
         ∙ get-insert_here by_number S.owners o.key (one_less h)
 
     pub other_records : (k : ℕ) → k ≢ o.key → map.get R.owners k ≡ map.get S.owners k
-    other_records k apart =
-        ⊎_elim
-        (λ more. ap (λ (X : State T). map.get X.owners k) (earlier_release more)
-        ∙ get-insert_apart by_number S.owners o.key (one_less h) k apart)
+    other_records k apart = ⊎_elim (λ more. ap (λ (X : State T). map.get X.owners k)
+        (earlier_release more) ∙ get-insert_apart by_number S.owners o.key (one_less h) k apart)
         (λ last. ap (λ (X : State T). map.get X.owners k) (last_release last)
-        ∙ get-remove_apart by_number S.owners o.key k apart)
-        (cases_lt 1 h.count)
+        ∙ get-remove_apart by_number S.owners o.key k apart) (cases_lt 1 h.count)
 
     -- nothing but cells and records changes
     pub rest_stays : R ≡ record S { cells = R.cells; owners = R.owners }
-    rest_stays =
-        let rest = λ (X : State T). X ≡ record S { cells = X.cells; owners = X.owners } in
+    rest_stays = let rest = λ (X : State T). X ≡ record S { cells = X.cells; owners = X.owners } in
         ⊎_elim (λ more. subst rest (sym (earlier_release more)) refl)
         (λ last. subst rest (sym (last_release last)) refl) (cases_lt 1 h.count)
 
@@ -144,8 +118,7 @@ module _ {T : Type 0} where
   release_quiet : (S : State T) (o : OwnerName) (h : Option Ownership)
       → (release_owner S o h).0 ≢ Done → (release_owner S o h).1 ≡ S
   release_quiet S o None other = refl
-  release_quiet S o (Some h) other =
-      quiet (nat_lt 1 h.count) (hindrance_to S h.names) _ _ other
+  release_quiet S o (Some h) other = quiet (nat_lt 1 h.count) (hindrance_to S h.names) _ _ other
     where
       quiet : (more : Bool) (t : Option Trouble) (less last : State T)
           → let out : Outcome T = cond more (Done, less) (unless t S (Done, last)) in
@@ -155,21 +128,18 @@ module _ {T : Type 0} where
 
   pub refused_release : (S R : State T) (o : OwnerName) (answer : Answer T)
       → Meets S (Action.ReleaseOwner o) answer R → answer ≢ Done → R ≡ S
-  refused_release S R o answer m other =
-      ⊎_elim (λ refused. refused.1) (λ acts. subst (λ (out : Outcome T). out.0 ≢ Done → out.1 ≡ S)
-      (sym acts.2) (release_quiet S o (ownership S o)) other)
-      (meets_cases S R (Action.ReleaseOwner o) answer m)
+  refused_release S R o answer m other = ⊎_elim (λ refused. refused.1)
+      (λ acts. subst (λ (out : Outcome T). out.0 ≢ Done → out.1 ≡ S) (sym acts.2)
+      (release_quiet S o (ownership S o)) other) (meets_cases S R (Action.ReleaseOwner o) answer m)
 
   pub leak_changes_nothing : (S R : State T) (o : OwnerName) (answer : Answer T)
       → Meets S (Action.LeakOwner o) answer R → R ≡ S
-  leak_changes_nothing S R o answer m =
-      ⊎_elim (λ refused. refused.1) (λ acts. ap (λ (out : Outcome T). out.1) acts.2)
-      (meets_cases S R (Action.LeakOwner o) answer m)
+  leak_changes_nothing S R o answer m = ⊎_elim (λ refused. refused.1) (λ acts. ap
+      (λ (out : Outcome T). out.1) acts.2) (meets_cases S R (Action.LeakOwner o) answer m)
 
 module _ {T : Type 0} where
   -- a refusal that may come tells of a borrow exactly where its answer does
-  unless_told : (S : State T) (t : Option Trouble) (other : Outcome T)
-      → is_hindered other.0 ≡ false
+  unless_told : (S : State T) (t : Option Trouble) (other : Outcome T) → is_hindered other.0 ≡ false
       → not (tells_of_borrow t) ≡ not (is_hindered (unless t S other).0)
   unless_told S None other h = sym (ap not h)
   unless_told S (Some (Trouble.Dropped l)) other h = refl
@@ -185,11 +155,9 @@ module _ {T : Type 0} where
       → recorded_as call ≡ Some step → is_ready S step ≡ not (is_hindered (act S call new).0)
   ready_told S (Action.Make None v l) step new e =
       let same : call.Leak l ≡ step = cc in ap (is_ready S) (sym same)
-  ready_told S (Action.Read b l) step new e =
-      let same : call.Read b l ≡ step = cc in
-      ap (is_ready S) (sym same)
-      ∙ unless_told S (read_trouble S b) _
-      (read_free S l (reach S b) (content_of (cell_at S (reach S b))))
+  ready_told S (Action.Read b l) step new e = let same : call.Read b l ≡ step = cc in
+      ap (is_ready S) (sym same) ∙ unless_told S
+      (read_trouble S b) _ (read_free S l (reach S b) (content_of (cell_at S (reach S b))))
   ready_told S (Action.ReleaseReader g) step new e =
       let same : call.ReleaseRead g.ticket ≡ step = cc in
       ap (is_ready S) (sym same)
@@ -197,8 +165,7 @@ module _ {T : Type 0} where
       {x = (Answer.Flag true, remove_reader S g.cell g.ticket (content_at S g.cell))}
       {y = (Answer.Flag false, S)}
       (λ _. refl) (λ _. refl)))
-  ready_told S (Action.End b) step new e =
-      let same : call.ManuallyDrop b ≡ step = cc in
+  ready_told S (Action.End b) step new e = let same : call.ManuallyDrop b ≡ step = cc in
       ap (is_ready S) (sym same) ∙ unless_told S (hindrance_to S (own_name S b)) _ refl
   ready_told S (Action.Make (Some o) v l) step new e = absurd cc
   ready_told S _ step new e = absurd cc
@@ -207,10 +174,8 @@ module _ {T : Type 0} where
   pub ready_free : (S R : State T) (call : Action T) (step : StepCall) (answer : Answer T)
       → recorded_as call ≡ Some step → is_ready S step ≡ true → Meets S call answer R
       → is_hindered answer ≡ false
-  ready_free S R call step answer is ready (inl m) =
-      ap (λ (o : Outcome T). is_hindered o.0) m.2
-      ∙ by_cond (λ (out : Outcome T). is_hindered out.0 ≡ false)
-      (takes_ticket (act S call m.0).0 && nat_eq S.next last_ticket)
-      {x = (Answer.Refused NumbersExhausted, S)} {y = act S call m.0} (λ _. refl)
-      (λ _. not-true _ (sym (ready_told S call step m.0 is) ∙ ready))
+  ready_free S R call step answer is ready (inl m) = ap (λ (o : Outcome T). is_hindered o.0) m.2
+      ∙ by_cond (λ (out : Outcome T). is_hindered out.0 ≡ false) (takes_ticket (act S call m.0).0 &&
+      nat_eq S.next last_ticket) {x = (Answer.Refused NumbersExhausted, S)} {y = act S call m.0}
+      (λ _. refl) (λ _. not-true _ (sym (ready_told S call step m.0 is) ∙ ready))
   ready_free S R call step answer is ready (inr m) = ap is_hindered m.1

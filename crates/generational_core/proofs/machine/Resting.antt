@@ -1,55 +1,30 @@
 -- Values at which no borrow stands: which calls leave them so, that they may be read and ended, and
 -- that a read which was released leaves no trace but a ticket.
-use Rattle.std.specs.FinMap as map
-use Rattle.std.proofs.Common.{◌≡◌, ℕ, ◌+◌, Bool, true, false, cond, List, [], ◌∷◌, ◌++◌}
-use Rattle.std.proofs.Common.{Option, None, Some, refl, sym, ap, subst, ◌∙◌, ⊎_elim, inl, inr}
-use Rattle.std.proofs.Common.{arith}
-use Rattle.std.specs.List.{list_any}
-use Rattle.std.specs.Prelude.{is_some, is_none, nat_eq, map as list_map}
-use Rattle.std.specs.Option.{option_or}
-use Rattle.std.specs.Cmp.{nat_eq_equiv}
-use Rattle.std.proofs.lemmas.Bool.{true≢false, false_from_ne_true, or_left, or_right}
-use Rattle.generational_core.specs.Answers.{value_of}
-use Rattle.generational_core.specs.Borrowing.{Guard, Trouble, reach, leads_to, read_refusal}
-use Rattle.generational_core.specs.Borrowing.{write_refusal, read_trouble, write_trouble, can_read}
-use Rattle.generational_core.specs.Borrowing.{can_write, refusal_at, fill, take_ticket}
-use Rattle.generational_core.specs.Boxes.{name_of}
-use Rattle.generational_core.specs.Cells.{Content, Cell, content_of, is_shared, refill}
-use Rattle.generational_core.specs.Cells.Cell.{Value, Shared, Ref}
-use Rattle.generational_core.specs.Cells.Content.{Here, Lent}
-use Rattle.generational_core.specs.Ending.{cells_after, close, hindrance_to, hindrance_of}
-use Rattle.generational_core.specs.Ending.{first_hindrance}
-use Rattle.generational_core.specs.Machine.{Action, Answer, Outcome, unless, own_name, cell_at}
-use Rattle.generational_core.specs.Machine.{read_at, remove_reader, knows_reader, next_guard}
-use Rattle.generational_core.specs.Machine.{next_borrow}
-use Rattle.generational_core.specs.Machine.Action.{Read, Write, ReleaseReader, End}
-use Rattle.generational_core.specs.Machine.Answer.{Reads, Done, Flag}
-use Rattle.generational_core.specs.Names.{Name, NameMap, change}
-use Rattle.generational_core.specs.Seeing.{value_in, LeavesBox, LeavesUnborrowed, Borrows}
-use Rattle.generational_core.specs.State.{State, IsSound, content_at, tickets_of}
-use Rattle.generational_core.specs.Steps.{Meets, limit_tickets, may_lack, needs_memory}
-use Rattle.generational_core.specs.Steps.{takes_ticket}
-use Rattle.generational_core.specs.declared.borrow.Borrow.{Borrow}
-use Rattle.generational_core.specs.declared.boxes.GenerationalPointer.{GenerationalPointer}
-use Rattle.generational_core.specs.declared.error.Location.{Location}
-use Rattle.generational_core.proofs.maps.Maps.{by_name, changed_back}
-use Rattle.generational_core.proofs.machine.Changes.{Filling, IsFilling, old_content, new_content}
-use Rattle.generational_core.proofs.machine.Changes.{filled_content, unread}
-use Rattle.generational_core.proofs.machine.Changes.Filling.{Reader, Writer, Leave}
-use Rattle.generational_core.proofs.machine.Ends.{none≢some}
+use Rattle.generational_core.proofs.machine
+use machine.{◌≡◌, take_ticket, hindrance_of, knows_reader, needs_memory, takes_ticket, changed_back}
+use machine.{ℕ, ◌+◌, ◌∷◌, sym, ap, ◌∙◌, inl, inr, Ref, End, Done, Flag, Name}
+use machine.{Bool, Option, ⊎_elim, nat_eq, refill, Shared, Action, Answer, unless, Filling, without}
+use machine.{true, cond, List, ◌++◌, None, Some, refl, fill, Cell, Here, Lent, Read, Meets, Leave}
+use machine.{false, option_or, can_write, content_of, is_shared, next_guard, content_at, tickets_of}
+use machine.{[], list_map, or_right, value_of, leads_to, LeavesBox, IsFilling, none≢some, keep_each}
+use machine.{subst, name_of, Content, Outcome, cell_at, read_at, NameMap, Borrows, IsSound, by_name}
+use machine.{arith, Guard, reach, Value, close, Write, Reads, change, State, Borrow, Reader, Writer}
+use machine.{list_any, cells_after, next_borrow, old_content, new_content, meets_cases, reads_known}
+use machine.{is_some, is_none, or_left, Trouble, can_read, own_name, value_in, may_lack, Location}
+use machine.{nat_eq_equiv, read_refusal, read_trouble, hindrance_to, limit_tickets, meets_follows}
+use machine.{true≢false, false_from_ne_true, first_hindrance, LeavesUnborrowed, GenerationalPointer}
+use machine.{write_refusal, write_trouble, refusal_at, remove_reader, ReleaseReader, filled_content}
 use Rattle.generational_core.proofs.machine.Seeing.{reaches, reached_live, reach_stays}
 use Rattle.generational_core.proofs.machine.Seeing.{value_in_reached}
-use Rattle.generational_core.proofs.machine.Soundness.{keep_each}
-use Rattle.generational_core.proofs.machine.Stepping.{meets_cases, meets_follows, reads_known}
+use Rattle.std.specs.FinMap as map
 
 no_option : {A : Type 0} (o : Option A) → is_none o ≡ true → o ≡ None
 no_option None h = refl
 no_option (Some x) h = absurd (true≢false (sym h))
 
 -- a ticket that stood nowhere is taken away from the end, where it was put
-left_again : (t : ℕ) (readers : List Borrow) (r : Borrow) → r.ticket ≡ t
-    → list_any (nat_eq t) (list_map (λ b. b.ticket) readers) ≡ false
-    → unread t (readers ++ r ∷ []) ≡ readers
+left_again : (t : ℕ) (readers : List Borrow) (r : Borrow) → r.ticket ≡ t → list_any
+    (nat_eq t) (list_map (λ b. b.ticket) readers) ≡ false → without t (readers ++ r ∷ []) ≡ readers
 left_again t [] r is none = rw (is, nat_eq_equiv.refl t) refl
 left_again t (b ∷ readers) r is none =
     let other : nat_eq b.ticket t ≡ false = false_from_ne_true _ (λ h.
@@ -80,16 +55,14 @@ module _ {T : Type 0} where
   pub rests_free : (S : State T) (b : GenerationalPointer) (m : Name)
       → Rests S b m → can_write S b ≡ true
   unfolding write_trouble
-  rests_free S b m r =
-      ap (λ to. is_none (refusal_at to b.created_at (λ n. write_refusal (content_at S n)))) r.reaches
-      ∙ ap is_none r.free
+  rests_free S b m r = ap (λ to. is_none (refusal_at to
+      b.created_at (λ n. write_refusal (content_at S n)))) r.reaches ∙ ap is_none r.free
 
   -- it may be read too
   pub free_reads : (S : State T) (b : GenerationalPointer)
       → can_write S b ≡ true → can_read S b ≡ true
   unfolding read_trouble
-  free_reads S b h =
-      let at = rests S b h in
+  free_reads S b h = let at = rests S b h in
       ap (λ to. is_none (refusal_at to b.created_at (λ n. read_refusal (content_at S n))))
       at.1.reaches ∙ ap is_none (unwritten (content_at S at.0) at.1.free)
     where
@@ -99,7 +72,7 @@ module _ {T : Type 0} where
       unwritten None e = refl
 
   -- a content stands where a box reaches
-  reached_content : (S : State T) (b : GenerationalPointer) (m : Name)
+  pub reached_content : (S : State T) (b : GenerationalPointer) (m : Name)
       → IsSound S → reach S b ≡ Some m → is_some (content_at S m) ≡ true
   reached_content S b m s e = at (map.get S.cells (name_of b)) refl (reaches S b m e).leads
     where
@@ -111,21 +84,17 @@ module _ {T : Type 0} where
       at : (c : Option (Cell T)) → map.get S.cells (name_of b) ≡ c → leads_to c (name_of b) ≡ Some m
           → is_some (content_at S m) ≡ true
       at None is e = absurd (none≢some {A = Name} None m refl e)
-      at (Some (Value c l)) is e =
-          let same : name_of b ≡ m = cc in
+      at (Some (Value c l)) is e = let same : name_of b ≡ m = cc in
           subst (λ n. is_some (content_at S n) ≡ true) same (ap (λ x. is_some (content_of x)) is)
-      at (Some (Ref n l)) is e =
-          let same : n ≡ m = cc in
-          held _ (subst (λ k. is_shared (map.get S.cells k) ≡ true) same
-          (s.targets (name_of b) n l is))
+      at (Some (Ref n l)) is e = let same : n ≡ m = cc in
+          held _
+          (subst (λ k. is_shared (map.get S.cells k) ≡ true) same (s.targets (name_of b) n l is))
       at (Some (Shared c l)) is e = absurd (none≢some {A = Name} None m refl e)
 
   -- and it sees a value
   pub free_sees : (S : State T) (b : GenerationalPointer)
       → IsSound S → can_write S b ≡ true → (v : T) × (value_in S b ≡ Some v)
-  free_sees S b s h =
-      let at = rests S b h in
-      let there = reached_content S b at.0 s at.1.reaches in
+  free_sees S b s h = let at = rests S b h in let there = reached_content S b at.0 s at.1.reaches in
       let seen = value_in_reached S b at.0 at.1.reaches in
       let it = value (content_at S at.0) there at.1.free in (it.0, seen ∙ it.1)
     where
@@ -176,8 +145,7 @@ module _ {T : Type 0} where
                 (λ x e. e) (λ _ e. refl)
                 (λ new given still e. absurd (true≢false (sym (s.given m live) ∙ new)))
                 (λ k c here law had has e. ap write_refusal has
-                ∙ filled m quiet k law (sym (ap write_refusal had) ∙ e))
-                (λ k n l e. refl) r.free;
+                ∙ filled m quiet k law (sym (ap write_refusal had) ∙ e)) (λ k n l e. refl) r.free;
           })
 
   -- ---- ends
@@ -195,24 +163,19 @@ module _ {T : Type 0} where
       at : (c : Option (Cell T)) → map.get S.cells n ≡ c → leads_to c n ≡ Some m
           → hindrance_of S.cells left c n ≡ None
       at (Some (Value c l)) is e =
-          let same : n ≡ m = cc in
-          either _ _ (ap (λ k. write_refusal (content_at S k)) same ∙ free)
+          let same : n ≡ m = cc in either _ _ (ap (λ k. write_refusal (content_at S k)) same ∙ free)
       at (Some (Ref k l)) is e =
-          let same : k ≡ m = cc in
-          either _ _ (ap (λ k. write_refusal (content_at S k)) same ∙ free)
+          let same : k ≡ m = cc in either _ _ (ap (λ k. write_refusal (content_at S k)) same ∙ free)
       at None is e = refl
       at (Some (Shared c l)) is e = refl
 
   unhindered : (S : State T) (b : GenerationalPointer)
       → can_write S b ≡ true → hindrance_to S (own_name S b) ≡ None
   unfolding hindrance_to
-  unhindered S b h =
-      let at = rests S b h in
-      let r = reaches S b at.0 at.1.reaches in
-      ap (λ own. first_hindrance S.cells (cells_after S.cells (cond own (name_of b ∷ []) []))
-      (cond own (name_of b ∷ []) [])) r.number
-      ∙ ap (λ o. option_or o None)
-      (unhindered_leads S _ _ (name_of b) at.0 refl r.leads at.1.free)
+  unhindered S b h = let at = rests S b h in let r = reaches S b at.0 at.1.reaches in
+      ap (λ own. first_hindrance S.cells
+      (cells_after S.cells (cond own (name_of b ∷ []) [])) (cond own (name_of b ∷ []) [])) r.number
+      ∙ ap (λ o. option_or o None) (unhindered_leads S _ _ (name_of b) at.0 refl r.leads at.1.free)
 
   -- an end of it is answered Ok
   pub free_ends : (S R : State T) (b : GenerationalPointer) (answer : Answer T)
@@ -246,16 +209,14 @@ module _ {T : Type 0} where
 
   began : (S R : State T) (b : GenerationalPointer) (l : Location) (g : Guard)
       → Meets S (Read b l) (Reads g) R → Began S l g R
-  began S R b l g meets = ⊎_elim (λ refused. absurd (true≢false (sym refused.0)))
-      (λ acts. at (read_trouble S b) (reach S b) _ refl acts.2)
-      (meets_cases S R (Read b l) (Reads g) meets)
+  began S R b l g meets = ⊎_elim (λ refused. absurd (true≢false (sym refused.0))) (λ acts. at
+      (read_trouble S b) (reach S b) _ refl acts.2) (meets_cases S R (Read b l) (Reads g) meets)
     where
       no_reads : {out : Outcome T} → (Reads g, R) ≡ out → takes_ticket out.0 ≡ false → ⊥
       no_reads e none = true≢false (ap (λ (out : Outcome T). takes_ticket out.0) e ∙ none)
 
-      at : (t : Option Trouble) (to : Option Name) (c : Option (Content T))
-          → content_of (cell_at S to) ≡ c → (Reads g, R) ≡ unless t S (read_at S l to c)
-          → Began S l g R
+      at : (t : Option Trouble) (to : Option Name) (c : Option (Content T)) → content_of
+          (cell_at S to) ≡ c → (Reads g, R) ≡ unless t S (read_at S l to c) → Began S l g R
       at None (Some m) (Some (Here v rs)) had e = record {
         cell = m;
         value = v;
@@ -276,20 +237,17 @@ module _ {T : Type 0} where
     where
       at : (x : Option (Cell T)) → map.get S.cells m ≡ x → content_of x ≡ Some d
           → change (change S.cells m (refill c)) m (refill d) ≡ S.cells
-      at (Some (Value o l)) is e =
-          let same : o ≡ d = cc in
-          changed_back by_name S.cells m (refill c) (refill d) (Value o l) is
-          (ap (λ k. Value k l) (sym same))
-      at (Some (Shared o l)) is e =
-          let same : o ≡ d = cc in
-          changed_back by_name S.cells m (refill c) (refill d) (Shared o l) is
-          (ap (λ k. Shared k l) (sym same))
+      at (Some (Value o l)) is e = let same : o ≡ d = cc in
+          changed_back
+          by_name S.cells m (refill c) (refill d) (Value o l) is (ap (λ k. Value k l) (sym same))
+      at (Some (Shared o l)) is e = let same : o ≡ d = cc in
+          changed_back
+          by_name S.cells m (refill c) (refill d) (Shared o l) is (ap (λ k. Shared k l) (sym same))
       at (Some (Ref n l)) is e = absurd (none≢some _ d refl e)
       at None is e = absurd (none≢some _ d refl e)
 
-  released : (R Q : State T) (g : Guard) (flag : Bool) → knows_reader R g ≡ true
-      → Meets R (ReleaseReader g) (Flag flag) Q
-      → Q ≡ remove_reader R g.cell g.ticket (content_at R g.cell)
+  released : (R Q : State T) (g : Guard) (flag : Bool) → knows_reader R g ≡ true → Meets R
+      (ReleaseReader g) (Flag flag) Q → Q ≡ remove_reader R g.cell g.ticket (content_at R g.cell)
   released R Q g flag known meets = ⊎_elim (λ refused. absurd (true≢false (sym refused.0)))
       (λ acts. ap (λ (out : Outcome T). out.1) (acts.2 ∙ ap (λ knows. cond knows
       (Flag true, remove_reader R g.cell g.ticket (content_at R g.cell)) (Flag false, R)) known))

@@ -1,37 +1,17 @@
 -- What a box sees after a call: what the call's answer tells of it, and what the call leaves.
+use Rattle.generational_core.proofs.machine
+use machine.{◌≡◌, ℕ, true, false, [], Option, None, Some, refl, sym, ap, subst, ◌∙◌, ⊎_elim}
+use machine.{true≢false, is_some, nat_eq, ◌||◌, value_of, value_at, reach, leads_to, name_of}
+use machine.{Content, Cell, content_of, is_shared, refill, Value, Shared, Ref, Here, Action, Answer}
+use machine.{Fresh, act, add_cell, ReleaseOwner, Write, ReleaseWriter, SetValue, End, Point, Sets}
+use machine.{Name, among, value_reached, value_in, ending, Turns, Lends, LeavesBox, LeavesValue}
+use machine.{State, IsSound, IsGiven, AreNew, Meets, GenerationalPointer, by_name, get-insert_apart}
+use machine.{changed_view, name_apart, Change, Filling, IsFilling, IsLawful, after, old_content}
+use machine.{new_content, act_leads, second_fresh, Stay, Birth, Pair, Fill, Close, Turn, Writer}
+use machine.{Return, Replace, by_cond, none≢some, swept_view, box_stays, keep_each, last}
+use machine.{same_store, meets_cases, meets_follows, meets_sound}
 use Rattle.std.specs.FinMap as map
 use Rattle.std.specs.FinSet as set
-use Rattle.std.proofs.Common.{◌≡◌, ℕ, true, false, [], Option, None, Some}
-use Rattle.std.proofs.Common.{refl, sym, ap, subst, ◌∙◌, ⊎_elim}
-use Rattle.std.proofs.lemmas.Bool.{true≢false}
-use Rattle.std.specs.Prelude.{is_some, nat_eq, ◌||◌}
-use Rattle.generational_core.specs.Answers.{value_of, value_at}
-use Rattle.generational_core.specs.Borrowing.{reach, leads_to}
-use Rattle.generational_core.specs.Boxes.{name_of}
-use Rattle.generational_core.specs.Cells.{Content, Cell, content_of, is_shared, refill}
-use Rattle.generational_core.specs.Cells.Cell.{Value, Shared, Ref}
-use Rattle.generational_core.specs.Cells.Content.{Here}
-use Rattle.generational_core.specs.Machine.{Action, Answer, Fresh, act, add_cell}
-use Rattle.generational_core.specs.Machine.Action.{ReleaseOwner, Write, ReleaseWriter, SetValue}
-use Rattle.generational_core.specs.Machine.Action.{End, Point}
-use Rattle.generational_core.specs.Keeping.{Sets}
-use Rattle.generational_core.specs.Names.{Name, among}
-use Rattle.generational_core.specs.Seeing.{value_reached, value_in, ending, Turns, Lends}
-use Rattle.generational_core.specs.Seeing.{LeavesBox, LeavesValue}
-use Rattle.generational_core.specs.State.{State, IsSound, IsGiven}
-use Rattle.generational_core.specs.Steps.{AreNew, Meets}
-use Rattle.generational_core.specs.declared.boxes.GenerationalPointer.{GenerationalPointer}
-use Rattle.generational_core.proofs.maps.Maps.{by_name, get-insert_apart, changed_view}
-use Rattle.generational_core.proofs.maps.Maps.{name_apart}
-use Rattle.generational_core.proofs.machine.Changes.{Change, Filling, IsFilling, IsLawful, after}
-use Rattle.generational_core.proofs.machine.Changes.{old_content, new_content, act_leads}
-use Rattle.generational_core.proofs.machine.Changes.{second_fresh}
-use Rattle.generational_core.proofs.machine.Changes.Change.{Stay, Birth, Pair, Fill, Close, Turn}
-use Rattle.generational_core.proofs.machine.Changes.Filling.{Writer, Return, Replace}
-use Rattle.generational_core.proofs.machine.Ends.{by_cond, none≢some, swept_view}
-use Rattle.generational_core.proofs.machine.Releasing.{box_stays}
-use Rattle.generational_core.proofs.machine.Soundness.{keep_each, last, same_store}
-use Rattle.generational_core.proofs.machine.Stepping.{meets_cases, meets_follows, meets_sound}
 
 module _ {T : Type 0} where
   -- ---- what a box reaches
@@ -44,10 +24,8 @@ module _ {T : Type 0} where
   pub reaches : (S : State T) (b : GenerationalPointer) (m : Name)
       → reach S b ≡ Some m → Reaches S b m
   unfolding reach
-  reaches S b m =
-      by_cond (λ to. to ≡ Some m → Reaches S b m) (nat_eq b.id.store S.number)
-      (λ n e. record { number = n; leads = e })
-      (λ _ e. absurd (none≢some {A = Name} None m refl e))
+  reaches S b m = by_cond (λ to. to ≡ Some m → Reaches S b m) (nat_eq b.id.store S.number)
+      (λ n e. record { number = n; leads = e }) (λ _ e. absurd (none≢some {A = Name} None m refl e))
 
   pub reach_by : (S : State T) (b : GenerationalPointer) (m : Name)
       → Reaches S b m → reach S b ≡ Some m
@@ -55,7 +33,7 @@ module _ {T : Type 0} where
   reach_by S b m r = rw (r.number) r.leads
 
   -- what leads somewhere is a Value or a Ref, and a filled one leads to the same
-  led_box : (c : Option (Cell T)) (q m : Name) → leads_to c q ≡ Some m
+  pub led_box : (c : Option (Cell T)) (q m : Name) → leads_to c q ≡ Some m
       → (is_some c ≡ true) × (is_shared c ≡ false)
   led_box None q m e = absurd (none≢some {A = Name} None m refl e)
   led_box (Some (Value c l)) q m e = (refl, refl)
@@ -80,13 +58,11 @@ module _ {T : Type 0} where
       at : (c : Option (Cell T)) → map.get S.cells (name_of b) ≡ c → leads_to c (name_of b) ≡ Some m
           → is_some (map.get S.cells m) ≡ true
       at None is e = absurd (none≢some {A = Name} None m refl e)
-      at (Some (Value c l)) is e =
-          let same : name_of b ≡ m = cc in
+      at (Some (Value c l)) is e = let same : name_of b ≡ m = cc in
           subst (λ n. is_some (map.get S.cells n) ≡ true) same (ap is_some is)
-      at (Some (Ref n l)) is e =
-          let same : n ≡ m = cc in
-          live _ (subst (λ k. is_shared (map.get S.cells k) ≡ true) same
-          (s.targets (name_of b) n l is))
+      at (Some (Ref n l)) is e = let same : n ≡ m = cc in
+          live _
+          (subst (λ k. is_shared (map.get S.cells k) ≡ true) same (s.targets (name_of b) n l is))
       at (Some (Shared c l)) is e = absurd (none≢some {A = Name} None m refl e)
 
   -- ---- the cell of a box
@@ -94,8 +70,7 @@ module _ {T : Type 0} where
   -- A Value or a Ref leads where it led, unless its name ends or it turns.
   kept_cell : (S : State T) (call : Action T) (f : Fresh) (next : ℕ) (c : Change T)
       → AreNew S call f → IsLawful S call f next c → (q : Name) → IsGiven S q
-      → is_shared (map.get S.cells q) ≡ false
-      → among (ending S call) q ≡ false → (Turns call q → ⊥)
+      → is_shared (map.get S.cells q) ≡ false → among (ending S call) q ≡ false → (Turns call q → ⊥)
       → leads_to (map.get (after S f c).cells q) q ≡ leads_to (map.get S.cells q) q
   kept_cell S call f next Stay new law q given box on unturned = refl
   kept_cell S call f next (Birth c) new law q given box on unturned =
@@ -103,28 +78,23 @@ module _ {T : Type 0} where
       (λ is. true≢false (sym given ∙ (ap (set.contains S.given) is ∙ (law.2 new).fresh))))
   kept_cell S call f next (Pair v l) new law q given box on unturned =
       let one = add_cell S f.first (Shared (Here v []) l) in
-      let names = law.1 new in
-      let second = second_fresh S.given f.first f.second names.1.fresh in
-      ap (λ x. leads_to x q)
-      (get-insert_apart by_name one.cells f.second (Ref f.first l) q
-      (λ is. true≢false (sym given ∙ (ap (set.contains S.given) is ∙ second.0)))
+      let names = law.1 new in let second = second_fresh S.given f.first f.second names.1.fresh in
+      ap (λ x. leads_to x q) (get-insert_apart by_name one.cells f.second
+      (Ref f.first l) q (λ is. true≢false (sym given ∙ (ap (set.contains S.given) is ∙ second.0)))
       ∙ get-insert_apart by_name S.cells f.first (Shared (Here v []) l) q
       (λ is. true≢false (sym given ∙ (ap (set.contains S.given) is ∙ names.0.fresh))))
   kept_cell S call f next (Fill n k) new law q given box on unturned =
-      ⊎_elim (ap (λ x. leads_to x q))
-      (λ e. ap (λ x. leads_to x q) e.3
+      ⊎_elim (ap (λ x. leads_to x q)) (λ e. ap (λ x. leads_to x q) e.3
       ∙ (refilled_leads (new_content S k) e.1 q ∙ sym (ap (λ x. leads_to x q) e.2)))
       (changed_view by_name S.cells n (refill (new_content S k)) q)
   kept_cell S call f next (Close names) new law q given box on unturned =
-      ap (λ x. leads_to x q)
-      (box_stays S.cells names q box (ap (λ ns. among ns q) law.1 ∙ on))
+      ap (λ x. leads_to x q) (box_stays S.cells names q box (ap (λ ns. among ns q) law.1 ∙ on))
   kept_cell S call f next (Turn a old to l) new law q given box on unturned =
       let one = map.insert S.cells a (Ref to l) in
-      let other = get-insert_apart by_name S.cells a (Ref to l) q
-      (λ is. unturned (subst (Turns call) (sym is) law.3)) in
+      let other = get-insert_apart
+      by_name S.cells a (Ref to l) q (λ is. unturned (subst (Turns call) (sym is) law.3)) in
       ap (λ x. leads_to x q) (⊎_elim (λ e. e.0 ∙ other)
-      (λ e. absurd (true≢false (sym e.1 ∙ (ap is_shared other ∙ box))))
-      (swept_view one q))
+      (λ e. absurd (true≢false (sym e.1 ∙ (ap is_shared other ∙ box)))) (swept_view one q))
 
   -- a call that leaves a box ends no such name, and turns no such Ref
   unended : (S : State T) (call : Action T) (b : GenerationalPointer)
@@ -144,10 +114,9 @@ module _ {T : Type 0} where
   pub reach_stays : (S R : State T) (call : Action T) (answer : Answer T) (b : GenerationalPointer)
       (m : Name) → IsSound S → Meets S call answer R → LeavesBox S call b
       → reach S b ≡ Some m → reach R b ≡ Some m
-  reach_stays S R call answer b m s meets leaves e =
-      ⊎_elim (λ same. ap (λ (X : State T). reach X b) same.1 ∙ e)
-      (λ acts. ap (λ (o : Answer T × State T). reach o.1 b) acts.2 ∙ acted acts.0 acts.1)
-      (meets_cases S R call answer meets)
+  reach_stays S R call answer b m s meets leaves e = ⊎_elim (λ same. ap (λ (X : State T). reach X b)
+      same.1 ∙ e) (λ acts. ap (λ (o : Answer T × State T). reach o.1 b) acts.2
+      ∙ acted acts.0 acts.1) (meets_cases S R call answer meets)
     where
       acted : (f : Fresh) → AreNew S call f → reach (act S call f).1 b ≡ Some m
       acted f new =
@@ -171,30 +140,28 @@ module _ {T : Type 0} where
   leaves_box S (SetValue a v) b h = tt
   leaves_box S _ b h = h
 
-  unlent : (S : State T) (call : Action T) (b : GenerationalPointer) (m : Name)
+  pub unlent : (S : State T) (call : Action T) (b : GenerationalPointer) (m : Name)
       → reach S b ≡ Some m → LeavesValue S call b → Lends S call m → ⊥
   unlent S (Write a l) b m e h t = h (t ∙ sym e)
   unlent S (ReleaseWriter g v) b m e h t = h (e ∙ ap Some (sym t))
   unlent S _ b m e h t = t
 
-  unset : (S : State T) (call : Action T) (b : GenerationalPointer) (m : Name)
+  pub unset : (S : State T) (call : Action T) (b : GenerationalPointer) (m : Name)
       → reach S b ≡ Some m → LeavesValue S call b → Sets S call m → ⊥
   unset S (SetValue a v) b m e h t = h (t ∙ sym e)
   unset S _ b m e h t = t
 
   -- what stands at a live name keeps its value, unless the call lends it or sets it
-  kept_value : (S R : State T) (call : Action T) (answer : Answer T) (m : Name)
+  pub kept_value : (S R : State T) (call : Action T) (answer : Answer T) (m : Name)
       → IsSound S → Meets S call answer R → (Lends S call m → ⊥) → (Sets S call m → ⊥)
       → is_some (map.get S.cells m) ≡ true → is_some (map.get R.cells m) ≡ true
       → value_at R m ≡ value_at S m
   kept_value S R call answer m s meets free quiet before after =
       let value = λ (x : Option (Cell T)). value_of (content_of x) in
-      keep_each (meets_follows S R call answer meets) m
-      (λ x y. is_some y ≡ true → value y ≡ value x)
-      (λ x e. refl) (λ _ e. absurd (true≢false (sym e)))
-      (λ new given still e. absurd (true≢false (sym (s.given m before) ∙ new)))
-      (λ k c here law had has e. ap value_of has ∙ (filled k law ∙ sym (ap value_of had)))
-      (λ k n l e. refl) after
+      keep_each (meets_follows S R call answer meets) m (λ x y. is_some y ≡ true → value y
+      ≡ value x) (λ x e. refl) (λ _ e. absurd (true≢false (sym e))) (λ new given still e. absurd
+      (true≢false (sym (s.given m before) ∙ new))) (λ k c here law had has e. ap value_of has
+      ∙ (filled k law ∙ sym (ap value_of had))) (λ k n l e. refl) after
     where
       filled : (k : Filling T) → IsFilling S call R.next m k
           → value_of (Some (new_content S k)) ≡ value_of (Some (old_content k))
@@ -214,8 +181,7 @@ module _ {T : Type 0} where
       → reach S b ≡ Some m → value_in R b ≡ value_in S b
   value_stays S R call answer b m s meets leaves e =
       let stays = reach_stays S R call answer b m s meets (leaves_box S call b leaves) e in
-      value_in_reached R b m stays
-      ∙ (kept_value S R call answer m s meets (unlent S call b m e leaves)
-      (unset S call b m e leaves) (reached_live S b m s e)
-      (reached_live R b m (meets_sound S R call answer s meets) stays)
+      value_in_reached R b m stays ∙
+      (kept_value S R call answer m s meets (unlent S call b m e leaves) (unset S call b m e leaves)
+      (reached_live S b m s e) (reached_live R b m (meets_sound S R call answer s meets) stays)
       ∙ sym (value_in_reached S b m e))

@@ -1,48 +1,25 @@
 -- Each call takes nothing back, and leads from a sound state to a sound state.
-use Rattle.std.proofs.Common.{◌≡◌, ℕ, ◌≤◌, ◌<◌, Bool, true, false, ◌||◌, List, [], ◌∷◌, ◌++◌}
-use Rattle.std.proofs.Common.{Option, None, Some, refl, sym, ap, subst, ◌∙◌, inl, inr, arith}
-use Rattle.std.proofs.Common.{⊎_elim}
-use Rattle.std.proofs.lemmas.Bool.{true≢false, or_cases, or_right, or_left, eqb-true}
-use Rattle.std.proofs.lemmas.Bool.{false_from_ne_true, eq-eqb}
-use Rattle.std.proofs.lemmas.List.Folds.{list_any-append}
-use Rattle.std.proofs.lemmas.Map.Keys.{IsDistinct-push}
-use Rattle.std.specs.Cmp.{nat_eq_equiv}
-use Rattle.std.specs.List.{list_any, filter, IsDistinct, AllByRecursion}
-use Rattle.std.specs.Ordering.{nat_cmp}
-use Rattle.std.specs.Prelude.{is_some, nat_eq, ◌⊎◌, map as list_map}
-use Rattle.generational_core.specs.Borrowing.{reach}
-use Rattle.generational_core.specs.Boxes.{name_of}
-use Rattle.generational_core.specs.Cells.{Content, Cell, content_of, is_shared, refill}
-use Rattle.generational_core.specs.Cells.Cell.{Shared, Ref}
-use Rattle.generational_core.specs.Cells.Content.{Here}
-use Rattle.generational_core.specs.Conditions.{fresh, IsNamed, IsEnded}
-use Rattle.generational_core.specs.Machine.{Action, Fresh, Outcome, add_cell, next_borrow}
-use Rattle.generational_core.specs.Names.{Name, name_cmp}
-use Rattle.generational_core.specs.State.{State, Ownership, IsSound, IsGiven, IsBoxed, Stands}
-use Rattle.generational_core.specs.State.{tickets_of, tickets_at, Owners, content_at}
-use Rattle.generational_core.specs.Steps.{AreNew}
-use Rattle.generational_core.specs.declared.borrow.Borrow.{Borrow}
-use Rattle.generational_core.specs.declared.boxes.GenerationalPointer.{GenerationalPointer}
-use Rattle.generational_core.specs.declared.error.Location.{Location}
-use Rattle.std.specs.FinMap as map
-use Rattle.std.specs.FinSet as set
+use Rattle.generational_core.proofs.machine.Common
+use Common.{◌≡◌, false_from_ne_true, GenerationalPointer, contains-insert_here, contains-insert_old}
+use Common.{ℕ, ◌≤◌, ◌<◌, ◌∷◌, None, Some, refl, sym, ap, ◌∙◌, inl, inr, ◌⊎◌, Cell, Ref, Here, Name}
+use Common.{Bool, true, false, ◌||◌, List, ◌++◌, subst, arith, reach, fresh, Fresh, State, Borrow}
+use Common.{[], list_any-append, IsDistinct-push, AllByRecursion, get-insert_here, get-insert_apart}
+use Common.{Option, is_some, name_of, Content, IsNamed, IsEnded, Outcome, IsSound, IsGiven, IsBoxed}
+use Common.{⊎_elim, eq-eqb, filter, nat_eq, refill, Shared, Action, Stands, Owners, AreNew, by_name}
+use Common.{true≢false, nat_eq_equiv, IsDistinct, content_of, next_borrow, tickets_of, changed_view}
+use Common.{or_cases, or_left, is_shared, Ownership, tickets_at, content_at, name_cases, named_from}
+use Common.{or_right, eqb-true, list_any, nat_cmp, list_map, add_cell, name_cmp, Location, IsLinked}
 use Rattle.generational_core.proofs.machine.Changes.{Change, Filling, IsFilling, IsLawful, Leads}
-use Rattle.generational_core.proofs.machine.Changes.{after}
-use Rattle.generational_core.proofs.machine.Changes.{AreRecords, old_content, new_content}
-use Rattle.generational_core.proofs.machine.Changes.{second_fresh}
-use Rattle.generational_core.proofs.machine.Changes.{refilled_content}
+use Rattle.generational_core.proofs.machine.Changes.{after, AreRecords, old_content, new_content}
+use Rattle.generational_core.proofs.machine.Changes.{second_fresh, refilled_content}
 use Rattle.generational_core.proofs.machine.Changes.Change.{Stay, Birth, Pair, Fill, Close, Turn}
 use Rattle.generational_core.proofs.machine.Changes.Filling.{Reader, Writer, Leave}
-use Rattle.generational_core.proofs.machine.Ends.{IsLinked, none≢some}
-use Rattle.generational_core.proofs.machine.Ends.{by_cond, closed_linked, turned_linked, some_live}
-use Rattle.generational_core.proofs.machine.Ends.{IsBorrowed, closed_view, turned_view}
+use Rattle.generational_core.proofs.machine.Ends.{none≢some, by_cond, closed_linked, turned_linked}
+use Rattle.generational_core.proofs.machine.Ends.{some_live, IsBorrowed, closed_view, turned_view}
 use Rattle.generational_core.proofs.machine.Linking.{sound_linked, born_linked, pair_linked}
 use Rattle.generational_core.proofs.machine.Linking.{refilled_linked, refilled_shared}
-use Rattle.generational_core.proofs.maps.Maps.{by_name, name_cases, get-insert_here}
-use Rattle.generational_core.proofs.maps.Maps.{get-insert_apart}
-use Rattle.generational_core.proofs.maps.Maps.{changed_view, contains-insert_here}
-use Rattle.generational_core.proofs.maps.Maps.{contains-insert_old}
-use Rattle.generational_core.proofs.maps.Maps.{named_from}
+use Rattle.std.specs.FinMap as map
+use Rattle.std.specs.FinSet as set
 
 -- ---- lists of tickets
 
@@ -58,10 +35,9 @@ tickets-append (r ∷ rs) ss = ap (λ ts. r.ticket ∷ ts) (tickets-append rs ss
 in_filter : (p : Borrow → Bool) (q : ℕ → Bool) (rs : List Borrow)
     → list_any q (tickets (filter p rs)) ≡ true → list_any q (tickets rs) ≡ true
 in_filter p q [] h = h
-in_filter p q (r ∷ rs) h = by_cond (λ ss. list_any q (tickets ss) ≡ true
-    → (q r.ticket || list_any q (tickets rs)) ≡ true) (p r)
-    (λ _ k. ⊎_elim (λ e. or_left _ _ e) (λ e. or_right _ _ (in_filter p q rs e)) (or_cases _ _ k))
-    (λ _ k. or_right _ _ (in_filter p q rs k)) h
+in_filter p q (r ∷ rs) h = by_cond (λ ss. list_any q (tickets ss) ≡ true → (q r.ticket ||
+    list_any q (tickets rs)) ≡ true) (p r) (λ _ k. ⊎_elim (λ e. or_left _ _ e) (λ e. or_right _ _
+    (in_filter p q rs e)) (or_cases _ _ k)) (λ _ k. or_right _ _ (in_filter p q rs k)) h
 
 none_after : (p : Borrow → Bool) (t : ℕ) (rs : List Borrow)
     → AllByRecursion (λ y. nat_eq t y ≡ false) (tickets rs)
@@ -106,9 +82,8 @@ module _ {T : Type 0} where
   place f _ = f.first
 
   -- a cell at a new name
-  born_here : (S : State T) (n q : Name) (c : Cell T) → q ≡ n
-      → tickets_of (content_of (Some c)) ≡ []
-      → IsGiven (add_cell S n c) q × (tickets_at (add_cell S n c).cells q ≡ [])
+  born_here : (S : State T) (n q : Name) (c : Cell T) → q ≡ n → tickets_of (content_of (Some c))
+      ≡ [] → IsGiven (add_cell S n c) q × (tickets_at (add_cell S n c).cells q ≡ [])
   born_here S n q c is quiet = (
     subst (λ x. IsGiven (add_cell S n c) x) (sym is) (contains-insert_here by_name S.given n),
     ap (tickets_at (add_cell S n c).cells) is
@@ -120,15 +95,13 @@ module _ {T : Type 0} where
       → AreNew S call f → IsLawful S call f next c → (q : Name)
       → View S (record (after S f c) { owners = owners; next = next }) call (place f c) q
   view S call f Stay owners next new law q = Same refl
-  view S call f (Birth c) owners next new law q =
-      let fresh = (law.2 new).fresh in
+  view S call f (Birth c) owners next new law q = let fresh = (law.2 new).fresh in
       ⊎_elim (λ is. let born = born_here S f.first q c is law.1.1 in
       Born (ap (set.contains S.given) is ∙ fresh) born.0 born.1)
       (λ ne. Same (get-insert_apart by_name S.cells f.first c q ne)) (name_cases q f.first)
   view S call f (Pair v l) owners next new law q =
       let one = add_cell S f.first (Shared (Here v []) l) in
-      let names = law.1 new in
-      let second = second_fresh S.given f.first f.second names.1.fresh in
+      let names = law.1 new in let second = second_fresh S.given f.first f.second names.1.fresh in
       let other = get-insert_apart by_name one.cells f.second (Ref f.first l) q in
       ⊎_elim (λ is. let born = born_here one f.second q (Ref f.first l) is refl in
       Born (ap (set.contains S.given) is ∙ second.0) born.0 born.1)
@@ -137,11 +110,9 @@ module _ {T : Type 0} where
       (contains-insert_old by_name one.given f.second q born.0)
       (ap (λ x. tickets_of (content_of x)) (other no) ∙ born.1))
       (λ ne. Same (other no ∙ get-insert_apart by_name S.cells f.first (Shared (Here v []) l) q ne))
-      (name_cases q f.first))
-      (name_cases q f.second)
-  view S call f (Fill n k) owners next new law q =
-      ⊎_elim Same
-      (λ e. Filled k e.1 e.0 (subst (λ x. IsFilling S call next x k) (sym e.0) law.1) e.2 e.3
+      (name_cases q f.first)) (name_cases q f.second)
+  view S call f (Fill n k) owners next new law q = ⊎_elim
+      Same (λ e. Filled k e.1 e.0 (subst (λ x. IsFilling S call next x k) (sym e.0) law.1) e.2 e.3
       (sym (ap content_of e.2) ∙ (ap (content_at S) e.0 ∙ law.0)))
       (changed_view by_name S.cells n (refill (new_content S k)) q)
   view S call f (Close names) owners next new law q =
@@ -204,17 +175,15 @@ module _ {T : Type 0} where
   leads_follows {S} {call} new h = subst (Follows S call) (sym h.is) (change_follows new h)
 
   -- what holds of what a name had and has, shown for each way in which that may change
-  pub keep_each : {S R : State T} {call : Action T} (h : Follows S call R) (q : Name)
-      (P : Option (Cell T) → Option (Cell T) → Type 0) → ((x : Option (Cell T)) → P x x)
+  pub keep_each : {S R : State T} {call : Action T} (h : Follows S call R)
+      (q : Name) (P : Option (Cell T) → Option (Cell T) → Type 0) → ((x : Option (Cell T)) → P x x)
       → ((IsSound S → IsBorrowed (map.get S.cells q) → ⊥) → P (map.get S.cells q) None)
       → (set.contains S.given q ≡ false → IsGiven R q → tickets_at R.cells q ≡ []
-      → P (map.get S.cells q) (map.get R.cells q))
-      → ((k : Filling T) (c : Cell T) → q ≡ h.spot → IsFilling S call R.next q k
-      → content_of (Some c) ≡ Some (old_content k)
+      → P (map.get S.cells q) (map.get R.cells q)) → ((k : Filling T) (c : Cell T)
+      → q ≡ h.spot → IsFilling S call R.next q k → content_of (Some c) ≡ Some (old_content k)
       → content_of (Some (refill (new_content S k) c)) ≡ Some (new_content S k)
-      → P (Some c) (Some (refill (new_content S k) c)))
-      → ((m n : Name) (l : Location) → P (Some (Ref m l)) (Some (Ref n l)))
-      → P (map.get S.cells q) (map.get R.cells q)
+      → P (Some c) (Some (refill (new_content S k) c))) → ((m n : Name) (l : Location)
+      → P (Some (Ref m l)) (Some (Ref n l))) → P (map.get S.cells q) (map.get R.cells q)
   keep_each {S} {R} {call} h q P same gone born filled turned = at (h.view q)
     where
       both : {x y : Option (Cell T)} → map.get S.cells q ≡ x → map.get R.cells q ≡ y
@@ -234,10 +203,9 @@ module _ {T : Type 0} where
       → is_some (map.get R.cells q) ≡ true → (is_some (map.get S.cells q) ≡ true)
       ⊎ ((set.contains S.given q ≡ false) × IsGiven R q)
   live_before {S} {R} h q = keep_each h q (λ x y. is_some y ≡ true
-      → (is_some x ≡ true) ⊎ ((set.contains S.given q ≡ false) × IsGiven R q))
-      (λ x live. inl live) (λ free live. absurd (true≢false (sym live)))
-      (λ new given quiet live. inr (new, given)) (λ k c here law had has live. inl refl)
-      (λ m n l live. inl refl)
+      → (is_some x ≡ true) ⊎ ((set.contains S.given q ≡ false) × IsGiven R q)) (λ x live. inl live)
+      (λ free live. absurd (true≢false (sym live))) (λ new given quiet live. inr (new, given))
+      (λ k c here law had has live. inl refl) (λ m n l live. inl refl)
 
   -- an ended name has no cell again
   pub ended_still : {S R : State T} {call : Action T} (h : Follows S call R) (q : Name)
@@ -289,22 +257,19 @@ module _ {T : Type 0} where
 
   pub absent_beside : (S : State T) → IsSound S → (m n : Name) (c : Cell T)
       → set.contains (add_cell S m c).given n ≡ false → map.get (add_cell S m c).cells n ≡ None
-  absent_beside S s m n c new =
-      let apart = second_fresh S.given m n new in
+  absent_beside S s m n c new = let apart = second_fresh S.given m n new in
       get-insert_apart by_name S.cells m c n (λ is. apart.1 (sym is)) ∙ absent S s n apart.0
 
   -- after each change Refs name Shared cells, and Shared cells are named
   linked : (S : State T) (call : Action T) (f : Fresh) (next : ℕ) (c : Change T)
       → IsSound S → AreNew S call f → IsLawful S call f next c → IsLinked (after S f c).cells
   linked S call f next Stay s new law = sound_linked S s
-  linked S call f next (Birth c) s new law =
-      let none = absent S s f.first (law.2 new).fresh in
+  linked S call f next (Birth c) s new law = let none = absent S s f.first (law.2 new).fresh in
       born_linked S.cells f.first c (sound_linked S s) none law.1.0 law.1.2
   linked S call f next (Pair v l) s new law =
-      let names = law.1 new in
-      let apart = second_fresh S.given f.first f.second names.1.fresh in
-      pair_linked S.cells f.first f.second (Here v []) l l (sound_linked S s) apart.1
-      (absent S s f.first names.0.fresh) (absent S s f.second apart.0)
+      let names = law.1 new in let apart = second_fresh S.given f.first f.second names.1.fresh in
+      pair_linked S.cells f.first f.second (Here v []) l l
+      (sound_linked S s) apart.1 (absent S s f.first names.0.fresh) (absent S s f.second apart.0)
   linked S call f next (Fill n k) s new law =
       refilled_linked S.cells n (new_content S k) (sound_linked S s)
   linked S call f next (Close names) s new law = closed_linked S.cells names s.targets
@@ -314,7 +279,7 @@ module _ {T : Type 0} where
   -- ---- soundness
 
   module _ {S R : State T} {call : Action T} (s : IsSound S) (h : Follows S call R) where
-    shared_still : (q : Name)
+    pub shared_still : (q : Name)
         → IsGiven S q → is_shared (map.get S.cells q) ≡ false
         → is_shared (map.get R.cells q) ≡ false
     shared_still q given = keep_each h q (λ x y. is_shared x ≡ false → is_shared y ≡ false)
@@ -338,10 +303,9 @@ module _ {T : Type 0} where
         (λ new given quiet d low. (
           subst (IsDistinct nat_eq) (sym quiet) tt,
           λ t e. absurd (true≢false (sym e ∙ ap (list_any (nat_eq t)) quiet)),
-        ))
-        (λ k c here law had has. subst (λ x. P x (content_of (Some (refill (new_content S k) c))))
-        (sym had) (subst (P (Some (old_content k))) (sym has)
-        (renewed S call R.next h.spot q k here law)))
+        )) (λ k c here law had has.
+        subst (λ x. P x (content_of (Some (refill (new_content S k) c)))) (sym had)
+        (subst (P (Some (old_content k))) (sym has) (renewed S call R.next h.spot q k here law)))
         (λ m n l d low. (tt, λ t e. absurd (true≢false (sym e)))) (s.apart q) (s.below q)
 
     follows_sound : IsLinked R.cells → AreRecords R R.next R.owners → IsSound R
@@ -353,10 +317,9 @@ module _ {T : Type 0} where
       below = λ n t e. ⊎_elim (λ e. let b = s.below n t e in let up = h.next in omega arith)
           (λ e. e.2) ((tickets_still n).1 t e);
       apart = λ n. (tickets_still n).0;
-      one_cell = λ n m t a b. ⊎_elim
-          (λ e. ⊎_elim (λ k. s.one_cell n m t e k)
-          (λ k. let low = s.below n t e in let high = k.1 in absurd (omega arith))
-          ((tickets_still m).1 t b))
+      one_cell = λ n m t a b.
+          ⊎_elim (λ e. ⊎_elim (λ k. s.one_cell n m t e k) (λ k. let low = s.below n t e in
+          let high = k.1 in absurd (omega arith)) ((tickets_still m).1 t b))
           (λ e. ⊎_elim (λ k. let low = s.below m t k in let high = e.1 in absurd (omega arith))
           (λ k. e.0 ∙ sym k.0) ((tickets_still m).1 t b)) ((tickets_still n).1 t a);
       keys = λ k live. let x = some_live _ live in (records k x.0 x.1).1;

@@ -1,59 +1,36 @@
 -- What holds of each call of a store, whichever names it takes and whatever memory lacks.
-use Rattle.std.specs.FinMap as map
-use Rattle.std.specs.FinSet as set
-use Rattle.std.proofs.Common.{◌≡◌, ℕ, ◌+◌, ◌≤◌, Bool, true, false, cond, not, List, [], ◌∷◌, Option}
-use Rattle.std.proofs.Common.{None, Some, refl, sym, ap, subst, ◌∙◌, inl, inr, ⊎_elim}
-use Rattle.std.proofs.lemmas.Bool.{true≢false, or_cases, or_right, or_left, and_parts, and_from}
-use Rattle.std.proofs.lemmas.Bool.{eqb-true, not-false}
-use Rattle.std.proofs.lemmas.List.Folds.{list_any-append}
-use Rattle.std.specs.List.{list_any}
-use Rattle.std.specs.Prelude.{is_some, nat_eq, ◌&&◌, ◌⊎◌}
-use Rattle.generational_core.specs.Answers.{value_of, value_at}
-use Rattle.generational_core.specs.Borrowing.{Trouble, Guard, read_trouble, write_trouble, reach}
-use Rattle.generational_core.specs.Borrowing.{write_refusal, leads_to}
-use Rattle.generational_core.specs.Borrowing.Trouble.{Dropped}
-use Rattle.generational_core.specs.Boxes.{name_of}
-use Rattle.generational_core.specs.Cells.{Content, Cell, content_of, location_of, refill}
-use Rattle.generational_core.specs.Cells.Cell.{Value, Shared}
-use Rattle.generational_core.specs.Cells.Content.{Here, Lent}
-use Rattle.generational_core.specs.Conditions.{IsEnded}
-use Rattle.generational_core.specs.Keeping.{location_at, Sets}
-use Rattle.generational_core.specs.Machine.{Action, Answer, Fresh, Outcome, OwnerName, act, unless}
-use Rattle.generational_core.specs.Machine.{refer, cell_at, is_known, knows_reader, knows_writer}
-use Rattle.generational_core.specs.Machine.{has_reader, has_writer}
-use Rattle.generational_core.specs.Machine.Action.{Make, MakeShared, Refer, ReleaseReader}
-use Rattle.generational_core.specs.Machine.Action.{ReleaseWriter}
-use Rattle.generational_core.specs.Machine.Answer.{Made, Reads, Writes, Troubled, Refused}
-use Rattle.generational_core.specs.Names.{Name}
-use Rattle.generational_core.specs.State.{State, IsSound, IsGiven, content_at}
-use Rattle.generational_core.specs.Steps.{AreNew, Takes, Meets, takes_ticket, last_ticket, no_names}
-use Rattle.generational_core.specs.declared.borrow.Borrow.{Borrow}
-use Rattle.generational_core.specs.declared.boxes.GenerationalPointer.{GenerationalPointer}
-use Rattle.generational_core.specs.declared.error.StoreError.TheVariants.{NumbersExhausted}
+use Rattle.generational_core.proofs.machine.Common
+use Common.{◌≡◌, ◌+◌, ◌≤◌, not, ◌∷◌, sym, ap, ◌∙◌, inl, inr, ◌⊎◌, act, Made, Name}
+use Common.{ℕ, list_any-append, write_trouble, write_refusal, GenerationalPointer, NumbersExhausted}
+use Common.{Bool, true, cond, List, [], None, Some, refl, ◌&&◌, Cell, Here, Lent, Sets, Make, Meets}
+use Common.{false, ⊎_elim, nat_eq, refill, Shared, Action, Answer, unless, Writes, IsSound, IsGiven}
+use Common.{Option, is_some, Trouble, Dropped, name_of, Content, IsEnded, Outcome, cell_at, Refused}
+use Common.{subst, Guard, reach, Value, Fresh, refer, Refer, Reads, State, AreNew, Takes, Borrow}
+use Common.{true≢false, content_of, location_of, location_at, has_reader, has_writer, last_ticket}
+use Common.{or_cases, or_right, and_parts, and_from, not-false, OwnerName, MakeShared, content_at}
+use Common.{or_left, eqb-true, list_any, value_of, value_at, leads_to, is_known, Troubled, no_names}
+use Common.{read_trouble, knows_reader, knows_writer, ReleaseReader, ReleaseWriter, takes_ticket}
 use Rattle.generational_core.proofs.machine.Changes.{new_fresh, act_leads, is_making, IsLawful}
-use Rattle.generational_core.proofs.machine.Changes.{Change}
-use Rattle.generational_core.proofs.machine.Changes.{after, Filling, IsFilling, Says, act_says}
-use Rattle.generational_core.proofs.machine.Changes.{unread}
-use Rattle.generational_core.proofs.machine.Changes.{old_content, new_content}
+use Rattle.generational_core.proofs.machine.Changes.{Change, after, Filling, IsFilling, Says}
+use Rattle.generational_core.proofs.machine.Changes.{act_says, without, old_content, new_content}
 use Rattle.generational_core.proofs.machine.Changes.Change.{Birth, Pair}
 use Rattle.generational_core.proofs.machine.Changes.Filling.{Reader, Writer, Leave, Return, Replace}
 use Rattle.generational_core.proofs.machine.Ends.{by_cond, borrowed_live}
-use Rattle.generational_core.proofs.machine.Soundness.{keep_each, leads_sound, Follows}
-use Rattle.generational_core.proofs.machine.Soundness.{follows_same}
-use Rattle.generational_core.proofs.machine.Soundness.{leads_follows, ended_still, same_store}
+use Rattle.generational_core.proofs.machine.Soundness.{keep_each, Follows, ended_still, same_store}
+use Rattle.generational_core.proofs.machine.Soundness.{leads_sound, follows_same, leads_follows}
+use Rattle.std.specs.FinMap as map
+use Rattle.std.specs.FinSet as set
 
 -- a reader stays when another ticket goes
 unread_stays : (u t : ℕ) (readers : List Borrow)
     → nat_eq u t ≡ false → list_any (λ r. nat_eq r.ticket t) readers ≡ true
-    → list_any (λ r. nat_eq r.ticket t) (unread u readers) ≡ true
+    → list_any (λ r. nat_eq r.ticket t) (without u readers) ≡ true
 unread_stays u t [] other h = h
-unread_stays u t (r ∷ readers) other h = by_cond
-    (λ rs. list_any (λ r. nat_eq r.ticket t) rs ≡ true) (not (nat_eq r.ticket u))
-    (λ e. ⊎_elim (λ k. or_left _ _ k) (λ k. or_right _ _ (unread_stays u t readers other k))
-    (or_cases _ _ h))
-    (λ e. ⊎_elim (λ k. absurd (true≢false (sym k ∙ (ap (λ x. nat_eq x t)
-    (eqb-true r.ticket u (not-false _ e)) ∙ other)))) (λ k. unread_stays u t readers other k)
-    (or_cases _ _ h))
+unread_stays u t (r ∷ readers) other h = by_cond (λ rs. list_any (λ r. nat_eq r.ticket t) rs ≡ true)
+    (not (nat_eq r.ticket u)) (λ e. ⊎_elim (λ k. or_left _ _ k) (λ k. or_right _ _
+    (unread_stays u t readers other k)) (or_cases _ _ h)) (λ e. ⊎_elim (λ k. absurd
+    (true≢false (sym k ∙ (ap (λ x. nat_eq x t) (eqb-true r.ticket u (not-false _ e)) ∙ other))))
+    (λ k. unread_stays u t readers other k) (or_cases _ _ h))
 
 module _ {T : Type 0} where
   -- ---- the first generation of slots, and names, whichever names a call takes
@@ -113,10 +90,9 @@ module _ {T : Type 0} where
       by_cond (TakesNew S (Make o v l) f) (is_known S o) (λ _. inl) (λ _ _. inr (refl, refl))
   takes_new S (MakeShared o v l) f =
       by_cond (TakesNew S (MakeShared o v l) f) (is_known S o) (λ _. inl) (λ _ _. inr (refl, refl))
-  takes_new S (Refer o b) f = by_cond (TakesNew S (Refer o b) f) (is_known S o)
-      (λ _. takes_referred S (Refer o b) f (read_trouble S b) o b (reach S b)
-      (cell_at S (reach S b)))
-      (λ _ _. inr (refl, refl))
+  takes_new S (Refer o b) f =
+      by_cond (TakesNew S (Refer o b) f) (is_known S o) (λ _. takes_referred S (Refer o b) f
+      (read_trouble S b) o b (reach S b) (cell_at S (reach S b))) (λ _ _. inr (refl, refl))
   takes_new S _ f = λ _. inl tt
 
   -- a call is refused and changes nothing, or takes new names and does what the machine does
@@ -169,16 +145,14 @@ module _ {T : Type 0} where
     -- each call of a sound store leaves it sound
     pub meets_sound : IsSound S → Meets S call answer R → IsSound R
     meets_sound s m =
-        ⊎_elim (λ e. subst IsSound (sym e.1) s)
-        (λ e. subst (λ (o : Outcome T). IsSound o.1) (sym e.2)
-        (leads_sound s e.1 (act_leads S call e.0))) (meets_cases S R call answer m)
+        ⊎_elim (λ e. subst IsSound (sym e.1) s) (λ e. subst (λ (o : Outcome T). IsSound o.1)
+        (sym e.2) (leads_sound s e.1 (act_leads S call e.0))) (meets_cases S R call answer m)
 
     -- nothing is taken back
     pub meets_follows : Meets S call answer R → Follows S call R
-    meets_follows m =
-        ⊎_elim (λ e. subst (Follows S call) (sym e.1) (follows_same S call no_names.first))
-        (λ e. subst (λ (o : Outcome T). Follows S call o.1) (sym e.2)
-        (leads_follows e.1 (act_leads S call e.0))) (meets_cases S R call answer m)
+    meets_follows m = ⊎_elim (λ e. subst (Follows S call) (sym e.1)
+        (follows_same S call no_names.first)) (λ e. subst (λ (o : Outcome T). Follows S call o.1)
+        (sym e.2) (leads_follows e.1 (act_leads S call e.0))) (meets_cases S R call answer m)
 
     pub meets_number : Meets S call answer R → R.number ≡ S.number
     meets_number m = (meets_follows m).number
@@ -197,10 +171,9 @@ module _ {T : Type 0} where
 
     -- what an answer says is so
     pub meets_says : Meets S call answer R → Says S answer R
-    meets_says m =
-        ⊎_elim (λ e. says_refused S R answer e.0) (λ e. subst (λ (o : Outcome T). Says S o.0 o.1)
-        (sym e.2) (act_says S call e.0 (new_fresh S call e.0 e.1)).so)
-        (meets_cases S R call answer m)
+    meets_says m = ⊎_elim
+        (λ e. says_refused S R answer e.0) (λ e. subst (λ (o : Outcome T). Says S o.0 o.1) (sym e.2)
+        (act_says S call e.0 (new_fresh S call e.0 e.1)).so) (meets_cases S R call answer m)
 
     -- ---- values that stay
 
@@ -208,10 +181,8 @@ module _ {T : Type 0} where
     pub meets_location : (m : Name) → IsSound S → Meets S call answer R
         → is_some (map.get S.cells m) ≡ true → is_some (map.get R.cells m) ≡ true
         → location_at R m ≡ location_at S m
-    meets_location m s meets before =
-        keep_each (meets_follows meets) m
-        (λ x y. is_some y ≡ true → location_of y ≡ location_of x) (λ x e. refl)
-        (λ free e. absurd (true≢false (sym e)))
+    meets_location m s meets before = keep_each (meets_follows meets) m (λ x y. is_some y ≡ true
+        → location_of y ≡ location_of x) (λ x e. refl) (λ free e. absurd (true≢false (sym e)))
         (λ new given quiet e. absurd (true≢false (sym (s.given m before) ∙ new)))
         (λ k c here law had has e. refilled _ c) (λ k n l e. refl)
       where
@@ -221,18 +192,16 @@ module _ {T : Type 0} where
         refilled c _ = refl
 
     -- a value that no writer has, before or after a call that doesn't set it, is the same
-    pub meets_value : (m : Name) → IsSound S → Meets S call answer R → (Sets S call m → ⊥)
-        → is_some (value_at S m) ≡ true → is_some (value_at R m) ≡ true
-        → value_at R m ≡ value_at S m
+    pub meets_value : (m : Name) → IsSound S → Meets S call answer R → (Sets S call m → ⊥) → is_some
+        (value_at S m) ≡ true → is_some (value_at R m) ≡ true → value_at R m ≡ value_at S m
     meets_value m s meets unset before =
         let value = λ (x : Option (Cell T)). value_of (content_of x) in
         let is_here = λ (x : Option (Content T)). is_some (value_of x) in
-        keep_each (meets_follows meets) m
-        (λ x y. is_some (value x) ≡ true → is_some (value y) ≡ true → value y ≡ value x)
-        (λ x e i. refl) (λ free e i. absurd (true≢false (sym i)))
+        keep_each (meets_follows meets) m (λ x y. is_some (value x) ≡ true → is_some (value y)
+        ≡ true → value y ≡ value x) (λ x e i. refl) (λ free e i. absurd (true≢false (sym i)))
         (λ new given quiet e i. absurd (true≢false (sym (s.given m (live _ before)) ∙ new)))
-        (λ k c here law had has e i. ap value_of has ∙ (filled k law (sym (ap is_here had) ∙ e)
-        (sym (ap is_here has) ∙ i) ∙ sym (ap value_of had)))
+        (λ k c here law had has e i. ap value_of has ∙ (filled k law
+        (sym (ap is_here had) ∙ e) (sym (ap is_here has) ∙ i) ∙ sym (ap value_of had)))
         (λ k n l e i. absurd (true≢false (sym e))) before
       where
         live : (c : Option (Cell T)) → is_some (value_of (content_of c)) ≡ true → is_some c ≡ true
@@ -240,10 +209,9 @@ module _ {T : Type 0} where
         live (Some c) h = refl
 
         -- what a content that is filled anew has where neither is lent
-        filled : (k : Filling T) → IsFilling S call R.next m k
-            → is_some (value_of (Some (old_content k))) ≡ true
-            → is_some (value_of (Some (new_content S k))) ≡ true
-            → value_of (Some (new_content S k)) ≡ value_of (Some (old_content k))
+        filled : (k : Filling T) → IsFilling S call R.next m k → is_some
+            (value_of (Some (old_content k))) ≡ true → is_some (value_of (Some (new_content S k)))
+            ≡ true → value_of (Some (new_content S k)) ≡ value_of (Some (old_content k))
         filled (Writer v l) law old new = absurd (true≢false (sym new))
         filled (Return w g v) law old new = absurd (true≢false (sym old))
         filled (Replace w v) law old new = absurd (unset law)
@@ -252,21 +220,17 @@ module _ {T : Type 0} where
     -- ---- guards
 
     -- a guard is known still where a test of its content shows a borrow that each filling leaves
-    stays : (g : Guard) (p : Option (Content T) → Bool)
-        → ((c : Option (Content T)) → p c ≡ true → is_some (write_refusal c) ≡ true)
-        → ((k : Filling T) → IsFilling S call R.next g.cell k
-        → p (Some (old_content k)) ≡ true → p (Some (new_content S k)) ≡ true)
-        → IsSound S → Meets S call answer R
-        → (nat_eq g.store S.number && p (content_at S g.cell)) ≡ true
+    stays : (g : Guard) (p : Option (Content T) → Bool) → ((c : Option (Content T)) → p c ≡ true
+        → is_some (write_refusal c) ≡ true) → ((k : Filling T) → IsFilling S call R.next g.cell k
+        → p (Some (old_content k)) ≡ true → p (Some (new_content S k)) ≡ true) → IsSound S
+        → Meets S call answer R → (nat_eq g.store S.number && p (content_at S g.cell)) ≡ true
         → (nat_eq g.store R.number && p (content_at R g.cell)) ≡ true
-    stays g p refused filled s meets known =
-        let f = meets_follows meets in
+    stays g p refused filled s meets known = let f = meets_follows meets in
         let parts = and_parts (nat_eq g.store S.number) (p (content_at S g.cell)) known in
         let borrowed = refused _ parts.1 in
-        and_from _ _ (ap (nat_eq g.store) f.number ∙ parts.0) (keep_each f g.cell
-        (λ x y. p (content_of x) ≡ true → p (content_of y) ≡ true) (λ x e. e)
-        (λ free e. absurd (free s borrowed))
-        (λ new given quiet e. absurd
+        and_from _ _ (ap (nat_eq g.store) f.number ∙ parts.0)
+        (keep_each f g.cell (λ x y. p (content_of x) ≡ true → p (content_of y) ≡ true)
+        (λ x e. e) (λ free e. absurd (free s borrowed)) (λ new given quiet e. absurd
         (true≢false (sym (s.given g.cell (borrowed_live _ borrowed)) ∙ new)))
         (λ k c here law had has e. ap p has ∙ filled k law (sym (ap p had) ∙ e))
         (λ m n l e. absurd (true≢false (sym (refused None e)))) parts.1)
@@ -274,8 +238,7 @@ module _ {T : Type 0} where
     -- a store knows a guard until it is given back
     pub reader_stays : IsSound S → Meets S call answer R → (g : Guard)
         → knows_reader S g ≡ true → ends_reader call g.ticket ≡ false → knows_reader R g ≡ true
-    reader_stays s m g known other =
-        stays g (λ c. has_reader c g.ticket) refused filled s m known
+    reader_stays s m g known other = stays g (λ c. has_reader c g.ticket) refused filled s m known
       where
         refused : (c : Option (Content T))
             → has_reader c g.ticket ≡ true → is_some (write_refusal c) ≡ true
@@ -289,13 +252,12 @@ module _ {T : Type 0} where
         filled (Reader v readers l) law h =
             list_any-append (λ r. nat_eq r.ticket g.ticket) readers _ ∙ or_left _ _ h
         filled (Leave v readers k) law h = unread_stays k.ticket g.ticket readers
-            (sym (ap (λ c. ends_reader c g.ticket) law) ∙ other) h
+            (sym (ap (λ c. ends_reader c g.ticket) law.0) ∙ other) h
         filled _ law h = absurd (true≢false (sym h))
 
     pub writer_stays : IsSound S → Meets S call answer R → (g : Guard)
         → knows_writer S g ≡ true → ends_writer call g.ticket ≡ false → knows_writer R g ≡ true
-    writer_stays s m g known other =
-        stays g (λ c. has_writer c g.ticket) refused filled s m known
+    writer_stays s m g known other = stays g (λ c. has_writer c g.ticket) refused filled s m known
       where
         refused : (c : Option (Content T))
             → has_writer c g.ticket ≡ true → is_some (write_refusal c) ≡ true
@@ -317,15 +279,14 @@ module _ {T : Type 0} where
       → Meets S call (Made b) R
       → (b.id.store ≡ S.number) × (set.contains S.given (name_of b) ≡ false) × IsGiven R (name_of b)
   made_new S R call b m =
-      let it = meets_says S R call (Made b) m in (it.number, it.fresh, it.given)
+      let it = meets_says S R call (Made b) m in (it.number, it.fresh, it.boxed.0)
 
   -- a new reader is known, with the next ticket; so is a new writer
   pub reads_known : (S R : State T) (call : Action T) (g : Guard) → Meets S call (Reads g) R
       → (knows_reader R g ≡ true) × (g.ticket ≡ S.next) × (R.next ≡ S.next + 1)
   reads_known S R call g m = let it = meets_says S R call (Reads g) m in (it.1, it.0.is, it.0.next)
 
-  pub writes_known : (S R : State T) (call : Action T) (g : Guard) (v : T)
-      → Meets S call (Writes g v) R
-      → (knows_writer R g ≡ true) × (g.ticket ≡ S.next) × (R.next ≡ S.next + 1)
+  pub writes_known : (S R : State T) (call : Action T) (g : Guard) (v : T) → Meets S
+      call (Writes g v) R → (knows_writer R g ≡ true) × (g.ticket ≡ S.next) × (R.next ≡ S.next + 1)
   writes_known S R call g v m =
       let it = meets_says S R call (Writes g v) m in (it.1, it.0.is, it.0.next)

@@ -1,51 +1,24 @@
 -- What the answer of each call tells of boxes, guards and owners.
+use Rattle.generational_core.proofs.machine
+use machine.{◌≡◌, ◌≢◌, Bool, true, false, cond, List, [], ◌∷◌, Option, None, Some, refl, sym, ap}
+use machine.{subst, ◌∙◌, ⊎_elim, inl, inr, ◌||◌, true≢false, and_parts, cases_Bool, nat_eq_equiv}
+use machine.{is_some, nat_eq, ◌⊎◌, value_at, value_of, Guard, Trouble, reach, leads_to, fill}
+use machine.{read_trouble, write_trouble, write_refusal, can_write, name_of, box_of, has_same_id}
+use machine.{Content, Cell, content_of, is_shared, refill, Value, Shared, Ref, Here, Lent, sweep}
+use machine.{take_away, cells_after, close, hindrance_to, hindrance_at, Action, Answer, Fresh}
+use machine.{Outcome, OwnerName, act, add_cell, own_name, add_to_list, is_known, unless, refer}
+use machine.{cell_at, read_at, write_at, knows_writer, has_writer, make, point, next_borrow}
+use machine.{one_listed, ownership, Make, MakeShared, Refer, NewOwner, Read, Write, set_at}
+use machine.{ReleaseWriter, SetValue, End, Point, Made, Owned, Reads, Writes, Done, Old, Troubled}
+use machine.{Name, NameMap, among, is_name, change, value_in, State, IsSound, Ownership, content_at}
+use machine.{Meets, GenerationalBoxId, GenerationalPointer, Location, by_name, by_number}
+use machine.{get-insert_here, get-insert_apart, get-changed_here, changed_view, name_here}
+use machine.{name_same, same_ids, filled_content, AreFresh, new_fresh, by_cond, none≢some}
+use machine.{swept_view, swept_ref, without_view, box_ends, meets_cases, is_refusal}
+use Rattle.generational_core.proofs.machine.Resting.{rests_free}
+use Rattle.generational_core.proofs.machine.Seeing.{reach_by, value_in_reached, refilled_leads}
 use Rattle.std.specs.FinMap as map
 use Rattle.std.specs.FinSet as set
-use Rattle.std.proofs.Common.{◌≡◌, ◌≢◌, Bool, true, false, cond, List, [], ◌∷◌, Option, None}
-use Rattle.std.proofs.Common.{Some, refl, sym, ap, subst, ◌∙◌, ⊎_elim, inl, inr, ◌||◌}
-use Rattle.std.proofs.lemmas.Bool.{true≢false, and_parts, cases_Bool}
-use Rattle.std.specs.Cmp.{nat_eq_equiv}
-use Rattle.std.specs.Prelude.{is_some, nat_eq, ◌⊎◌}
-use Rattle.generational_core.specs.Answers.{value_at, value_of}
-use Rattle.generational_core.specs.Borrowing.{Guard, Trouble, reach, leads_to, fill, read_trouble}
-use Rattle.generational_core.specs.Borrowing.{write_trouble, write_refusal, can_write}
-use Rattle.generational_core.specs.Boxes.{name_of, box_of, has_same_id}
-use Rattle.generational_core.specs.Cells.{Content, Cell, content_of, is_shared, refill}
-use Rattle.generational_core.specs.Cells.Cell.{Value, Shared, Ref}
-use Rattle.generational_core.specs.Cells.Content.{Here, Lent}
-use Rattle.generational_core.specs.Ending.{sweep, take_away, cells_after, close, hindrance_to}
-use Rattle.generational_core.specs.Ending.{hindrance_at}
-use Rattle.generational_core.specs.Machine.{Action, Answer, Fresh, Outcome, OwnerName, act}
-use Rattle.generational_core.specs.Machine.{add_cell}
-use Rattle.generational_core.specs.Machine.{own_name, add_to_list, is_known, unless, refer, cell_at}
-use Rattle.generational_core.specs.Machine.{read_at, write_at, knows_writer, has_writer, make}
-use Rattle.generational_core.specs.Machine.{point}
-use Rattle.generational_core.specs.Machine.{next_borrow}
-use Rattle.generational_core.specs.Conditions.{one_listed}
-use Rattle.generational_core.specs.Machine.{ownership}
-use Rattle.generational_core.specs.Machine.Action.{Make, MakeShared, Refer, NewOwner, Read, Write}
-use Rattle.generational_core.specs.Machine.{set_at}
-use Rattle.generational_core.specs.Machine.Action.{ReleaseWriter, SetValue, End, Point}
-use Rattle.generational_core.specs.Machine.Answer.{Made, Owned, Reads, Writes, Done, Old, Troubled}
-use Rattle.generational_core.specs.Names.{Name, NameMap, among, is_name, change}
-use Rattle.generational_core.specs.Seeing.{value_in}
-use Rattle.generational_core.specs.State.{State, IsSound, Ownership, content_at}
-use Rattle.generational_core.specs.Steps.{Meets}
-use Rattle.generational_core.specs.declared.boxes.GenerationalBoxId.{GenerationalBoxId}
-use Rattle.generational_core.specs.declared.boxes.GenerationalPointer.{GenerationalPointer}
-use Rattle.generational_core.specs.declared.error.Location.{Location}
-use Rattle.generational_core.proofs.maps.Maps.{by_name, by_number, get-insert_here}
-use Rattle.generational_core.proofs.maps.Maps.{get-insert_apart}
-use Rattle.generational_core.proofs.maps.Maps.{get-changed_here}
-use Rattle.generational_core.proofs.maps.Maps.{changed_view, name_here, name_same, same_ids}
-use Rattle.generational_core.proofs.machine.Changes.{filled_content, AreFresh, new_fresh}
-use Rattle.generational_core.proofs.machine.Ends.{by_cond, none≢some, swept_view, swept_ref}
-use Rattle.generational_core.proofs.machine.Ends.{without_view}
-use Rattle.generational_core.proofs.machine.Releasing.{box_ends}
-use Rattle.generational_core.proofs.machine.Resting.{rests_free}
-use Rattle.generational_core.proofs.machine.Seeing.{reach_by, value_in_reached}
-use Rattle.generational_core.proofs.machine.Seeing.{refilled_leads}
-use Rattle.generational_core.proofs.machine.Stepping.{meets_cases, is_refusal}
 
 module _ {T : Type 0} where
   -- ---- what answers tell
@@ -57,19 +30,16 @@ module _ {T : Type 0} where
 
   -- what a call's answer tells of the states before and after it
   abbrev pub Tells : State T → Action T → Answer T → State T → Type 0
-  Tells S (Make o v l) (Made b) R =
-      (reach R b ≡ Some (name_of b)) × (value_in R b ≡ Some v) × Lists S o (name_of b) R
-      × (can_write R b ≡ true)
+  Tells S (Make o v l) (Made b) R = (reach R b ≡ Some (name_of b))
+      × (value_in R b ≡ Some v) × Lists S o (name_of b) R × (can_write R b ≡ true)
   Tells S (MakeShared o v l) (Made b) R =
       (value_in R b ≡ Some v) × Lists S o (name_of b) R × (can_write R b ≡ true)
-  Tells S (Refer o c) (Made b) R =
-      (reach R b ≡ reach S c) × (IsSound S → value_in R b ≡ value_in S c)
-      × Lists S o (name_of b) R × (is_some (reach S c) ≡ true)
+  Tells S (Refer o c) (Made b) R = (reach R b ≡ reach S c) × (IsSound S
+      → value_in R b ≡ value_in S c) × Lists S o (name_of b) R × (is_some (reach S c) ≡ true)
   Tells S NewOwner (Owned o) R = ownership R o ≡ Some (record { names = []; count = 1 })
   Tells S (Read b l) (Reads g) R = (reach S b ≡ Some g.cell) × (value_at R g.cell ≡ value_in S b)
-  Tells S (Write b l) (Writes g v) R =
-      (reach S b ≡ Some g.cell) × (value_in S b ≡ Some v)
-      × ((c : GenerationalPointer) → reach R c ≡ reach S c)
+  Tells S (Write b l) (Writes g v) R = (reach S b ≡ Some g.cell)
+      × (value_in S b ≡ Some v) × ((c : GenerationalPointer) → reach R c ≡ reach S c)
   Tells S (ReleaseWriter g v) Done R =
       (b : GenerationalPointer) → reach S b ≡ Some g.cell → value_in R b ≡ Some v
   Tells S (SetValue b v) (Old old) R =
@@ -97,7 +67,7 @@ module _ {T : Type 0} where
   -- ---- makings
 
   -- an owner's list changes nothing that a box sees
-  listed : (S : State T) (o : Option OwnerName) (n : Name) (b : GenerationalPointer)
+  pub listed : (S : State T) (o : Option OwnerName) (n : Name) (b : GenerationalPointer)
       → (reach (add_to_list S o n) b ≡ reach S b)
       × (value_in (add_to_list S o n) b ≡ value_in S b)
       × (can_write (add_to_list S o n) b ≡ can_write S b)
@@ -107,10 +77,9 @@ module _ {T : Type 0} where
 
   in_list : (S : State T) (o : Option OwnerName) (n : Name) → Lists S o n (add_to_list S o n)
   in_list S None n a h is held = absurd cc
-  in_list S (Some b) n a h is held =
-      let same : b ≡ a = cc in
-      subst (λ x. ownership (add_to_list S (Some x) n) a ≡ Some (one_listed n h)) (sym same)
-      (by_cond (λ x. x ≡ Some h → cond (nat_eq a.store S.number)
+  in_list S (Some b) n a h is held = let same : b ≡ a = cc in
+      subst (λ x. ownership (add_to_list S (Some x) n) a ≡ Some (one_listed n h))
+      (sym same) (by_cond (λ x. x ≡ Some h → cond (nat_eq a.store S.number)
       (map.get (change S.owners a.key (one_listed n)) a.key) None ≡ Some (one_listed n h))
       (nat_eq a.store S.number)
       (λ own e. rw own (get-changed_here by_number S.owners a.key (one_listed n) h e))
@@ -139,8 +108,7 @@ module _ {T : Type 0} where
       )
 
   shared_told : (S : State T) (o : Option OwnerName) (v : T) (l : Location) (m n : Name) → m ≢ n
-      → TellsOf S (MakeShared o v l)
-      (make (add_cell S m (Shared (Here v []) l)) o n (Ref m l) l)
+      → TellsOf S (MakeShared o v l) (make (add_cell S m (Shared (Here v []) l)) o n (Ref m l) l)
   shared_told S o v l m n apart =
       let c : Cell T = Shared (Here v []) l in
       let one = add_cell S m c in
@@ -179,11 +147,9 @@ module _ {T : Type 0} where
   pub filled_reach : (S : State T) (n : Name) (k : Content T) (b : GenerationalPointer)
       → reach (fill S n k) b ≡ reach S b
   unfolding reach
-  filled_reach S n k b =
-      ap (λ to. cond (nat_eq b.id.store S.number) to None)
-      (⊎_elim (ap (λ x. leads_to x (name_of b)))
-      (λ e. ap (λ x. leads_to x (name_of b)) e.3 ∙ (refilled_leads k e.1 (name_of b)
-      ∙ sym (ap (λ x. leads_to x (name_of b)) e.2)))
+  filled_reach S n k b = ap (λ to. cond (nat_eq b.id.store S.number) to None)
+      (⊎_elim (ap (λ x. leads_to x (name_of b))) (λ e. ap (λ x. leads_to x (name_of b)) e.3
+      ∙ (refilled_leads k e.1 (name_of b) ∙ sym (ap (λ x. leads_to x (name_of b)) e.2)))
       (changed_view by_name S.cells n (refill k) (name_of b)))
 
   read_told : (S : State T) (b : GenerationalPointer) (l : Location) (m : Option Name)
@@ -209,9 +175,8 @@ module _ {T : Type 0} where
 
   written_told : (S : State T) (g : Guard) (v : T) (c : Option (Content T)) → content_at S g.cell ≡ c
       → has_writer c g.ticket ≡ true → TellsOf S (ReleaseWriter g v) (Done, fill S g.cell (Here v []))
-  written_told S g v (Some k) had known = λ b to.
-      value_in_reached (fill S g.cell (Here v [])) b g.cell
-      (filled_reach S g.cell (Here v []) b ∙ to)
+  written_told S g v (Some k) had known = λ b to. value_in_reached
+      (fill S g.cell (Here v [])) b g.cell (filled_reach S g.cell (Here v []) b ∙ to)
       ∙ ap value_of (filled_content S g.cell (Here v []) k had)
   written_told S g v None had known = absurd (true≢false (sym known))
 
@@ -234,9 +199,8 @@ module _ {T : Type 0} where
   left_view : (cells : NameMap (Cell T)) (names : List Name) (n : Name)
       → (map.get (cells_after cells names) n ≡ map.get cells n)
       ⊎ (map.get (cells_after cells names) n ≡ None)
-  left_view cells names n =
-      ⊎_elim (λ e. ⊎_elim (λ k. inl (e.0 ∙ k)) (λ k. inr (e.0 ∙ k.0)) (without_view cells names n))
-      (λ e. inr e.0) (swept_view (take_away cells names) n)
+  left_view cells names n = ⊎_elim (λ e. ⊎_elim (λ k. inl (e.0 ∙ k)) (λ k. inr (e.0 ∙ k.0))
+      (without_view cells names n)) (λ e. inr e.0) (swept_view (take_away cells names) n)
 
   shared_leads : (c : Option (Cell T)) (n : Name) → is_shared c ≡ true → leads_to c n ≡ None
   shared_leads (Some (Shared c l)) n h = refl
@@ -246,22 +210,17 @@ module _ {T : Type 0} where
   pub ended_leads : (cells : NameMap (Cell T)) (names : List Name) (n : Name)
       → among names n ≡ true → leads_to (map.get (cells_after cells names) n) n ≡ None
   ended_leads cells names n there =
-      ⊎_elim
-      (λ shared. ⊎_elim (λ e. ap (λ x. leads_to x n) e ∙ shared_leads _ n shared)
-      (ap (λ x. leads_to x n)) (left_view cells names n))
-      (λ box. ap (λ x. leads_to x n) (box_ends cells names n box there))
-      (cases_Bool (is_shared (map.get cells n)))
+      ⊎_elim (λ shared. ⊎_elim (λ e. ap (λ x. leads_to x n) e ∙ shared_leads _ n shared)
+      (ap (λ x. leads_to x n)) (left_view cells names n)) (λ box. ap (λ x. leads_to x n)
+      (box_ends cells names n box there)) (cases_Bool (is_shared (map.get cells n)))
 
   ended_told : (S : State T) (b : GenerationalPointer)
       → TellsOf S (End b) (Done, close S (own_name S b))
   unfolding reach
-  ended_told S b = by_cond
-      (λ names. cond (nat_eq b.id.store S.number)
+  ended_told S b = by_cond (λ names. cond (nat_eq b.id.store S.number)
       (leads_to (map.get (cells_after S.cells names) (name_of b)) (name_of b)) None ≡ None)
-      (nat_eq b.id.store S.number)
-      (λ own. rw own (ended_leads S.cells (name_of b ∷ []) (name_of b)
-      (ap (λ x. x || false) (name_here (name_of b)))))
-      (λ other. rw other refl)
+      (nat_eq b.id.store S.number) (λ own. rw own (ended_leads S.cells (name_of b ∷ [])
+      (name_of b) (ap (λ x. x || false) (name_here (name_of b))))) (λ other. rw other refl)
 
   turned_told : (S : State T) (a b : GenerationalPointer) (own : Bool)
       (cell : Option (Cell T)) (to : Option Name) (target : Option (Cell T))
@@ -306,9 +265,8 @@ module _ {T : Type 0} where
   act_tells S (End b) f new = unless_told S (End b) (hindrance_to S (own_name S b)) _ (λ t. tt)
       (ended_told S b)
   act_tells S (Point a b) f new = by_cond (TellsOf S (Point a b)) (has_same_id a b)
-      (λ same. same_reach S a b ((same_ids a b).0 same))
-      (λ _. unless_told S (Point a b) (read_trouble S b) _ (λ t. tt)
-      (turned_told S a b _ _ (reach S b) _ refl refl refl))
+      (λ same. same_reach S a b ((same_ids a b).0 same)) (λ _. unless_told S (Point a b)
+      (read_trouble S b) _ (λ t. tt) (turned_told S a b _ _ (reach S b) _ refl refl refl))
   act_tells S _ f new = tt
 
   refused_tells : (S R : State T) (call : Action T) (answer : Answer T)
@@ -327,8 +285,6 @@ module _ {T : Type 0} where
 
   pub meets_tells : (S R : State T) (call : Action T) (answer : Answer T)
       → Meets S call answer R → Tells S call answer R
-  meets_tells S R call answer m =
-      ⊎_elim (λ same. refused_tells S R call answer same.0)
-      (λ acts. subst (TellsOf S call) (sym acts.2)
-      (act_tells S call acts.0 (new_fresh S call acts.0 acts.1)))
-      (meets_cases S R call answer m)
+  meets_tells S R call answer m = ⊎_elim
+      (λ same. refused_tells S R call answer same.0) (λ acts. subst (TellsOf S call) (sym acts.2)
+      (act_tells S call acts.0 (new_fresh S call acts.0 acts.1))) (meets_cases S R call answer m)

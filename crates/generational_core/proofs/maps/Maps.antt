@@ -1,33 +1,24 @@
 -- Finite maps and sets read at a key, how many keys a map has, and when names and ids are the same.
+use Rattle.std.specs.declared.cmp.{Ordering.Ordering, Ordering.TheVariants.Equal}
+use Rattle.std.proofs.lemmas.Bool.{true≢false, false_from_ne_true, cases_Bool, and_parts, or_left}
+use Rattle.std.proofs.lemmas.Bool.{or_right, or_cases, eqb-true, eq-eqb, and_from}
+use Rattle.std.proofs.lemmas.Map.Lookups.{exact_unsigned, exact_pairs}
+use Rattle.std.proofs.lemmas.{Cmp.on_total, Cmp.then_total, List.length-map, List.length-append}
+use Rattle.std.proofs.lemmas.{List.Folds.list_any-append, Map.Made.length-le_from_is_member}
+use Rattle.std.specs.Prelude.{◌⊎◌, option_map, is_some, map as list_map, T, ◌&&◌, nat_eq, ◌↔◌}
+use Rattle.std.specs.Cmp.{IsTotalOrder, nat_cmp_total, Equal-is, tied_itself, eq_by_cmp_equiv}
+use Rattle.std.specs.{Ordering.nat_cmp, Ordering.eq_by_cmp, Ordering.is_eq, Ordering.is_lt}
+use Rattle.std.specs.{Cmp.both_ways, List.AllByRecursion, List.IsDistinct, List.list_any}
+use Rattle.generational_core.specs
+use specs.Names.{Name, Names, NameMap, name_cmp, is_name, change, change_if}
+use specs.{Boxes.has_same_id, Cells.Cell, Cells.refers_to, Cells.Cell.Ref, Conditions.IsNamed}
+use specs.{State.is_named, declared.boxes.GenerationalBoxId.GenerationalBoxId}
+use specs.{declared.boxes.GenerationalPointer.GenerationalPointer, declared.error.Location.Location}
 use Rattle.std.proofs.Common.{◌≡◌, ◌≢◌, ℕ, ◌+◌, ◌≤◌, Bool, true, false, cond, ◌||◌, Option, None}
 use Rattle.std.proofs.Common.{Some, List, [], ◌∷◌, ◌++◌, length, refl, sym, ap, subst, ◌∙◌, inl}
 use Rattle.std.proofs.Common.{inr, ⊎_elim, arith}
-use Rattle.std.specs.Prelude.{◌⊎◌, option_map, is_some, map as list_map, T, ◌&&◌, nat_eq, ◌↔◌}
-use Rattle.std.specs.declared.cmp.Ordering.{Ordering}
-use Rattle.std.specs.declared.cmp.Ordering.TheVariants.{Equal}
-use Rattle.std.specs.Ordering.{nat_cmp, eq_by_cmp, is_eq, is_lt}
-use Rattle.std.specs.Cmp.{IsTotalOrder, nat_cmp_total, Equal-is, tied_itself, eq_by_cmp_equiv}
-use Rattle.std.specs.Cmp.{both_ways}
-use Rattle.std.specs.List.{AllByRecursion, IsDistinct, list_any}
 use Rattle.std.specs.FinMap as map
 use Rattle.std.specs.FinSet as set
-use Rattle.std.proofs.lemmas.Bool.{true≢false, false_from_ne_true, cases_Bool, and_parts, or_left}
-use Rattle.std.proofs.lemmas.Bool.{or_right, or_cases, eqb-true, eq-eqb, and_from}
-use Rattle.std.proofs.lemmas.Cmp.{on_total, then_total}
-use Rattle.std.proofs.lemmas.List.{length-map, length-append}
-use Rattle.std.proofs.lemmas.List.Folds.{list_any-append}
-use Rattle.std.proofs.lemmas.Map.Lookups.{exact_unsigned, exact_pairs}
-use Rattle.std.proofs.lemmas.Map.Made.{length-le_from_is_member}
-use Rattle.generational_core.specs.Names.{Name, Names, NameMap, name_cmp, is_name, change}
-use Rattle.generational_core.specs.Names.{change_if}
-use Rattle.generational_core.specs.Boxes.{has_same_id}
-use Rattle.generational_core.specs.Cells.{Cell, refers_to}
-use Rattle.generational_core.specs.Cells.Cell.{Ref}
-use Rattle.generational_core.specs.Conditions.{IsNamed}
-use Rattle.generational_core.specs.State.{is_named}
-use Rattle.generational_core.specs.declared.boxes.GenerationalBoxId.{GenerationalBoxId}
-use Rattle.generational_core.specs.declared.boxes.GenerationalPointer.{GenerationalPointer}
-use Rattle.generational_core.specs.declared.error.Location.{Location}
 
 -- names that compare alike are one
 pub name_exact : map.IsAntisymmetric name_cmp
@@ -158,10 +149,9 @@ module _ {K : Type 0} {R : K → K → Ordering} (o : IsKeyOrder R) where
 
     pub get-changed : (m : map.FinMap R X) (k : K) (f : X → X) (q : K) → map.get (change m k f) q
         ≡ cond (eq_by_cmp R q k) (option_map f (map.get m q)) (map.get m q)
-    get-changed m k f q = ⊎_elim
-        (λ is. subst (λ j. map.get (change m k f) j
-        ≡ cond (eq_by_cmp R j k) (option_map f (map.get m j)) (map.get m j)) (sym is)
-        (rw (key_here k) (here (map.get m k) refl)))
+    get-changed m k f q = ⊎_elim (λ is. subst
+        (λ j. map.get (change m k f) j ≡ cond (eq_by_cmp R j k) (option_map f (map.get m j))
+        (map.get m j)) (sym is) (rw (key_here k) (here (map.get m k) refl)))
         (λ ne. rw (key_apart q k ne) (get-changed_apart m k f q ne)) (key_cases q k)
       where
         here : (x : Option X) → map.get m k ≡ x
@@ -176,17 +166,15 @@ module _ {K : Type 0} {R : K → K → Ordering} (o : IsKeyOrder R) where
     changed_view m k f q = ⊎_elim (λ is. at is (map.get m q) refl)
         (λ ne. inl (get-changed_apart m k f q ne)) (key_cases q k)
       where
-        at : q ≡ k → (old : Option X)
-            → map.get m q ≡ old → (map.get (change m k f) q ≡ map.get m q) ⊎ ((q ≡ k)
-            × (x : X) × (map.get m q ≡ Some x) × (map.get (change m k f) q ≡ Some (f x)))
+        at : q ≡ k → (old : Option X) → map.get m q ≡ old → (map.get (change m k f) q ≡ map.get m q)
+            ⊎ ((q ≡ k) × (x : X) × (map.get m q ≡ Some x) × (map.get (change m k f) q ≡ Some (f x)))
         at is None h =
             inl (ap (λ n. map.get n q) (get-changed_none m k f (ap (map.get m) (sym is) ∙ h)))
         at is (Some x) h = inr (
           is,
           x,
           h,
-          ap (map.get (change m k f)) is
-              ∙ get-changed_here m k f x (ap (map.get m) (sym is) ∙ h),
+          ap (map.get (change m k f)) is ∙ get-changed_here m k f x (ap (map.get m) (sym is) ∙ h),
         )
 
   -- what is in a set with one key more
@@ -278,26 +266,20 @@ module _ {K X : Type 0} {R : K → K → Ordering}
 
   -- keys that pass one of three tests are no more than those that pass each
   pub len_three : (m : map.FinMap R X) (p q r : K → Bool)
-      → ((k : K) → (p k ≡ true) ⊎ ((q k ≡ true) ⊎ (r k ≡ true)))
-      → map.len m ≤ map.len (map.retain_keys m p)
-      + map.len (map.retain_keys m q) + map.len (map.retain_keys m r)
-  len_three m p q r one =
-      let a = map.keys (map.retain_keys m p) in
-      let b = map.keys (map.retain_keys m q) in
-      let c = map.keys (map.retain_keys m r) in
-      let le =
-      length-le_from_is_member
-      (eq_by_cmp_equiv o.total) (map.keys m) ((a ++ b) ++ c) (keys_apart R m)
-      (λ k h. let there : map.contains_key m k ≡ true = map.contains_key-keys m k ∙ h in
-      let at = λ (t : K → Bool) (e : t k ≡ true).
-      sym (map.contains_key-keys (map.retain_keys m t) k) ∙ kept_key m t k there e in
+      → ((k : K) → (p k ≡ true) ⊎ ((q k ≡ true) ⊎ (r k ≡ true))) → map.len m ≤
+      map.len (map.retain_keys m p) + map.len (map.retain_keys m q) + map.len (map.retain_keys m r)
+  len_three m p q r one = let a = map.keys (map.retain_keys m p) in
+      let b = map.keys (map.retain_keys m q) in let c = map.keys (map.retain_keys m r) in
+      let le = length-le_from_is_member (eq_by_cmp_equiv o.total) (map.keys m) ((a ++ b) ++ c)
+      (keys_apart R m) (λ k h. let there : map.contains_key m k ≡ true = map.contains_key-keys m k
+      ∙ h in let at = λ (t : K → Bool) (e : t k ≡ true). sym
+      (map.contains_key-keys (map.retain_keys m t) k) ∙ kept_key m t k there e in
       rw (list_any-append (eq_by_cmp R k) (a ++ b) c, list_any-append (eq_by_cmp R k) a b)
-      (⊎_elim (λ e. or_left _ _ (or_left _ _ (at p e))) (⊎_elim
-      (λ e. or_left _ _ (or_right _ _ (at q e))) (λ e. or_right _ _ (at r e))) (one k))) in
-      let ab = length-append (a ++ b) c in let bb = length-append a b in
-      let l0 = len_keys R m in let l1 = len_keys R (map.retain_keys m p) in
-      let l2 = len_keys R (map.retain_keys m q) in let l3 = len_keys R (map.retain_keys m r) in
-      omega arith
+      (⊎_elim (λ e. or_left _ _ (or_left _ _ (at p e)))
+      (⊎_elim (λ e. or_left _ _ (or_right _ _ (at q e))) (λ e. or_right _ _ (at r e))) (one k))) in
+      let ab = length-append (a ++ b) c in let bb = length-append a b in let l0 = len_keys R m in
+      let l1 = len_keys R (map.retain_keys m p) in let l2 = len_keys R (map.retain_keys m q) in
+      let l3 = len_keys R (map.retain_keys m r) in omega arith
 
 module _ {K X Y : Type 0} {R : K → K → Ordering} (o : IsKeyOrder R) where
   -- a map whose keys are another's is no larger
@@ -313,16 +295,11 @@ module _ {K X Y : Type 0} {R : K → K → Ordering} (o : IsKeyOrder R) where
 -- two names are the same if both their numbers are
 pub name_test : (a b : Name)
     → is_name a b ≡ (nat_eq a.slot b.slot && nat_eq a.generation b.generation)
-name_test a b =
-    both_ways _ _
-    (λ h. let e = name_same a b h in
-    and_from _ _ (eq-eqb a.slot b.slot (ap (λ (n : Name). n.slot) e))
-    (eq-eqb a.generation b.generation (ap (λ (n : Name). n.generation) e)))
-    (λ h. let p = and_parts _ _ h in
-    let s = eqb-true a.slot b.slot p.0 in
-    let g = eqb-true a.generation b.generation p.1 in
-    let e : a ≡ b = λ i. record { slot = s i; generation = g i } in
-    ap (λ n. is_name n b) e ∙ name_here b)
+name_test a b = both_ways _ _ (λ h. let e = name_same a b h in and_from _ _
+    (eq-eqb a.slot b.slot (ap (λ (n : Name). n.slot) e)) (eq-eqb a.generation b.generation
+    (ap (λ (n : Name). n.generation) e))) (λ h. let p = and_parts _ _ h in let s = eqb-true
+    a.slot b.slot p.0 in let g = eqb-true a.generation b.generation p.1 in let e : a
+    ≡ b = λ i. record { slot = s i; generation = g i } in ap (λ n. is_name n b) e ∙ name_here b)
 
 -- boxes have the same id exactly where the ids are one
 pub same_ids : (a b : GenerationalPointer) → (has_same_id a b ≡ true) ↔ (a.id ≡ b.id)
@@ -334,8 +311,7 @@ same_ids a b = (
       let slot = eqb-true a.id.slot b.id.slot q.0 in
       let generation = eqb-true a.id.generation b.id.generation q.1 in
       λ i. record { store = store i; slot = slot i; generation = generation i },
-  λ e.
-      and_from _ _ (eq-eqb a.id.store b.id.store (ap (λ (d : GenerationalBoxId). d.store) e))
+  λ e. and_from _ _ (eq-eqb a.id.store b.id.store (ap (λ (d : GenerationalBoxId). d.store) e))
       (and_from _ _ (eq-eqb a.id.slot b.id.slot (ap (λ (d : GenerationalBoxId). d.slot) e))
       (eq-eqb a.id.generation b.id.generation (ap (λ (d : GenerationalBoxId). d.generation) e))),
 )
@@ -348,9 +324,7 @@ pub same_onward : (a b c : GenerationalPointer)
 same_onward a b c h k = (same_ids a c).1 ((same_ids a b).0 h ∙ (same_ids b c).0 k)
 
 pub same_turned : (a b : GenerationalPointer) → has_same_id a b ≡ has_same_id b a
-same_turned a b =
-    both_ways _ _
-    (λ h. (same_ids b a).1 (sym ((same_ids a b).0 h)))
+same_turned a b = both_ways _ _ (λ h. (same_ids b a).1 (sym ((same_ids a b).0 h)))
     (λ h. (same_ids a b).1 (sym ((same_ids b a).0 h)))
 
 -- some element of a list passes

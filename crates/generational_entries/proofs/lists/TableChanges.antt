@@ -1,6 +1,6 @@
 -- A table of borrows that changes at one index, and what that leaves of the others.
-use Rattle.std.proofs.Common.{◌≡◌, ◌≢◌, ℕ, ◌+◌, ◌-◌, ◌<◌, ◌≤◌, Bool, true, false, cond, List}
-use Rattle.std.proofs.Common.{[], ◌∷◌, ◌++◌, length, refl, sym, ap, ◌∙◌, arith, inl, inr, ◌⊎◌}
+use Rattle.std.proofs.Common.{◌≡◌, ◌≢◌, ℕ, ◌+◌, ◌-◌, ◌<◌, ◌≤◌, Bool, true, false, cond, List, []}
+use Rattle.std.proofs.Common.{◌∷◌, ◌++◌, length, refl, sym, ap, ◌∙◌, arith, inl, inr, ◌⊎◌}
 use Rattle.std.proofs.Common.{slice_set, nat_eq, length-append}
 use Rattle.std.specs.Ordering.{nat_cmp}
 use Rattle.std.specs.Cmp.{nat_cmp_total}
@@ -8,11 +8,11 @@ use Rattle.std.proofs.Math.ListN.{get_or-append, get_or-eq_default}
 use Rattle.std.proofs.Math.Seq.{get_or-append_seam}
 use Rattle.std.proofs.lemmas.Bool.{true≢false, cases_lt, eq-eqb, ne_eqb, eqb-true}
 use Rattle.std.proofs.lemmas.List.{get_or-set_same, get_or-set_other, length-set}
-use Rattle.std.specs.FinSet as set
 use Rattle.generational_core.specs.declared.borrow.Borrow.{Borrow}
 use Rattle.generational_containers.specs.Table.{IsClosed, IsUsed, IsVacant, Table, list_at}
 use Rattle.generational_containers.specs.Table.{put_list}
 use Rattle.generational_containers.proofs.lists.Lists.{contains-insert_at, contains-remove_at}
+use Rattle.std.specs.FinSet as set
 
 pub none_some : (b : Borrow) (bs : List Borrow) → b ∷ bs ≡ [] → ⊥
 none_some b bs z = cc
@@ -88,6 +88,12 @@ pub record Opens (t t' : Table) (x : ℕ) (list : List Borrow) : Type 0 where
   pub some : list ≢ []
   pub lists : t'.lists ≡ put_list t.lists x list
   pub free : t'.free ≡ set.remove t.free x
+
+pub opens_one : (t t' : Table) {x : ℕ} {b : Borrow} → IsVacant t x
+    → t'.lists ≡ put_list t.lists x (b ∷ []) → t'.free ≡ set.remove t.free x
+    → Opens t t' x (b ∷ [])
+opens_one t t' {b = b} vacant lists free =
+    record { vacant = vacant; some = none_some b []; lists = lists; free = free }
 
 module _ {t t' : Table} {x : ℕ} {list : List Borrow} (o : Opens t t' x list) where
   put_length : length (put_list t.lists x list)

@@ -1,39 +1,38 @@
 -- The slots of a store with the table of their borrows, as their methods find them.
-use Rattle.std.proofs.Common.{◌≡◌, ◌≢◌, ℕ, zero, suc, ◌<◌, ◌≤◌, Bool, true, false, cond, List}
-use Rattle.std.proofs.Common.{[], ◌∷◌, ◌++◌, length, Option, None, Some, refl, sym, ap, ◌∙◌, arith}
-use Rattle.std.proofs.Common.{IfSome, OnOk, OnErr, Result, Ok, Err, is_none, is_some, subst, inl}
-use Rattle.std.proofs.Common.{inr, ◌⊎◌, slice_get, slice_set, nat_eq}
+use Rattle.std.proofs.Common.{◌≡◌, ◌≢◌, ℕ, zero, suc, ◌<◌, ◌≤◌, true, false, cond, List, [], ◌∷◌}
+use Rattle.std.proofs.Common.{◌++◌, length, Option, None, Some, refl, sym, ap, ◌∙◌, arith, IfSome}
+use Rattle.std.proofs.Common.{OnOk, OnErr, Result, is_none, is_some, subst, inl, inr, ◌⊎◌}
+use Rattle.std.proofs.Common.{slice_get, slice_set, nat_eq}
 use Rattle.std.proofs.Math.ListN.{get_or, get_or-eq_default}
 use Rattle.std.proofs.lemmas.Bool.{false≢true}
+use Rattle.std.proofs.lemmas.List.{length-set}
 use Rattle.std.proofs.lemmas.Option.{slice_get_cases, slice_get_read, slice_get_within}
-use Rattle.std.specs.Cmp.{nat_eq_equiv}
+use Rattle.std.proofs.lemmas.Bool.Decides.{nat_tests}
 use Rattle.generational_core.specs.declared.borrow.Borrow.{Borrow}
 use Rattle.generational_core.specs.Borrowing.{leads_to, read_refusal, write_refusal}
-use Rattle.generational_core.specs.Cells.Content.{Here, Lent}
+use Rattle.generational_core.specs.Cells.Content.{Here}
 use Rattle.generational_core.specs.Answers.{value_of}
 use Rattle.generational_core.specs.Machine.{has_reader, has_writer}
 use Rattle.generational_core.specs.Names.{Name}
 use Rattle.generational_core.specs.declared.error.Location.{Location}
-use Rattle.generational_core.specs.Cells.{Content, Cell, location_of}
+use Rattle.generational_core.specs.Cells.{location_of}
 use Rattle.generational_entries.specs.declared.entry.EntryDetails.{EntryDetails}
 use Rattle.generational_entries.specs.declared.entry.StorageEntry.{StorageEntry}
 use Rattle.generational_entries.specs.declared.entry.StorageEntryData.{StorageEntryData}
-use Rattle.generational_entries.specs.Entry.{Entry, with_reader, without_reader_in, content_in}
+use Rattle.generational_entries.specs.Entry.{Entry, Kept, with_reader, without_reader_in}
+use Rattle.generational_entries.specs.Entry.{content_in}
 use Rattle.generational_entries.specs.Entry.{has_no_borrow, is_lent, cell_of, kind_in, target_in}
-use Rattle.generational_entries.specs.Entry.{is_unborrowed_value}
+use Rattle.generational_entries.specs.Entry.{is_unborrowed_value, cell_in, change_entry}
+use Rattle.generational_entries.specs.Entry.{change_entry_if, referring, value_for}
 use Rattle.generational_entries.specs.Entries.{EntryList, AreRoomy, IsUnborrowed, kept_data}
 use Rattle.generational_entries.specs.Entries.{is_unborrowed_data, kind_of, lead_of, target_of}
-use Rattle.generational_entries.specs.Entries.{index_in, index_of, entry_of, writer_in, AreIndexed}
-use Rattle.generational_entries.specs.Entries.{IsListed}
+use Rattle.generational_entries.specs.Entries.{index_in, index_of, entry_of, AreIndexed, IsListed}
 use Rattle.generational_containers.specs.Table.{Releases, no_index, IsUsed, Table, list_at}
-use Rattle.generational_containers.specs.Table.{IsClosed}
-use Rattle.generational_entries.specs.Entry.Kept.{Empty, Live, Refers}
+use Rattle.generational_entries.specs.Entry.Kept.{Empty, Refers}
 use Rattle.generational_entries.specs.declared.entry.Kind.{Kind}
-use Rattle.generational_entries.specs.Entry.{cell_in, change_entry, change_entry_if}
-use Rattle.generational_entries.specs.declared.entry.Kind.TheVariants as kind
+use Rattle.generational_containers.proofs.lists.Lists.{set-own}
 unfoldable use Rattle.generational_entries.specs.Entries.{entries_of}
 use Rattle.generational_entries.specs.declared.entry.StorageEntryData.TheVariants as slot
-use Rattle.generational_containers.proofs.lists.Lists.{set-own}
 
 module _ {T : Type 0} where
   -- ---- the slots as contracts see them
@@ -45,7 +44,8 @@ module _ {T : Type 0} where
   both lists _ _ = None
 
   pub entries_get : (lists : List (List Borrow)) (es : List (StorageEntry T))
-      (ls : List EntryDetails) (k : ℕ) → slice_get (entries_of lists es ls) k ≡ both lists (slice_get es k) (slice_get ls k)
+      (ls : List EntryDetails) (k : ℕ) → slice_get (entries_of lists es ls) k
+      ≡ both lists (slice_get es k) (slice_get ls k)
   unfolding entries_of
   entries_get lists [] ls k = refl
   entries_get lists (e ∷ es) [] k = none (slice_get (e ∷ es) k)
@@ -110,7 +110,96 @@ module _ {T : Type 0} where
   entries_push lists (x ∷ es) [] e l same = absurd (omega (arith, same))
   entries_push lists (x ∷ es) (y ∷ ls) e l same =
       ap (λ rest. entry_of lists x y ∷ rest) (entries_push lists es ls e l (omega (arith, same)))
-  -- ---- what holds of the slots and the table
+
+-- ---- what contracts see of a slot's content
+
+module _ {T : Type 0} (bs : List Borrow) (l : Location) (d : StorageEntryData T) where
+  -- a cell has the location where it was made
+  pub created_there : IfSome (location_of (cell_of (kept_data bs l d))) (λ x. l ≡ x)
+  created_there = grind arith
+
+  lent_test : ((kd : Kind) (x : ℕ) → d ≡ slot.Lent kd x → ⊥)
+      → is_lent (content_in (kept_data bs l d)) ≡ false
+  lent_test gone = grind (arith, gone)
+
+  refers_index : is_some (target_in (cell_of (kept_data bs l d))) ≡ true → index_of d ≡ no_index
+  refers_index h = grind arith
+
+  refers_kept : (m : Location) (s g : ℕ) → is_some (target_in (cell_of (kept_data bs l d))) ≡ true
+      → Refers (record { slot = s; generation = g }) m
+      ≡ referring (record { slot = s; generation = g }) (kept_data bs m d)
+  refers_kept m s g h = grind arith
+
+  empty_data : kept_data bs l d ≡ Empty → d ≡ slot.Empty
+  empty_data h = grind arith
+
+  -- where none is lent, no writer is in the way of a read, and none stands
+  pub not_lent : ((kd : Kind) (x : ℕ) → d ≡ slot.Lent kd x → ⊥)
+      → None ≡ read_refusal (content_in (kept_data bs l d))
+  not_lent gone = grind (arith, gone)
+
+  pub no_writer : (n : ℕ) → ((kd : Kind) (x : ℕ) → d ≡ slot.Lent kd x → ⊥)
+      → has_writer (content_in (kept_data bs l d)) n ≡ false
+  no_writer n gone = grind (arith, gone)
+
+  -- where no readers are listed and nothing is lent, nothing is in the way of a write
+  pub no_trouble : ((kd : Kind) (x : ℕ) (v : T) → d ≡ slot.Read kd x v → ⊥)
+      → ((kd : Kind) (x : ℕ) → d ≡ slot.Lent kd x → ⊥)
+      → write_refusal (content_in (kept_data bs l d)) ≡ None
+  no_trouble none gone = grind (arith, none, gone)
+
+  -- where no value is, none is seen, and no reader is added
+  pub no_value : ((kd : Kind) (v : T) → d ≡ slot.Data kd v → ⊥)
+      → ((kd : Kind) (x : ℕ) (v : T) → d ≡ slot.Read kd x v → ⊥)
+      → value_of (content_in (kept_data bs l d)) ≡ None
+  no_value none read = grind (arith, none, read)
+
+  pub reader_kept : (b : Borrow) → ((kd : Kind) (v : T) → d ≡ slot.Data kd v → ⊥)
+      → ((kd : Kind) (x : ℕ) (v : T) → d ≡ slot.Read kd x v → ⊥)
+      → kept_data bs l d ≡ with_reader b (kept_data bs l d)
+  reader_kept b none read = grind (arith, none, read)
+
+  -- where no readers are listed, none stands, opens or is taken away
+  module _ (n : ℕ) (none : (kd : Kind) (x : ℕ) (v : T) → d ≡ slot.Read kd x v → ⊥) where
+    pub reader_left : kept_data bs l d ≡ without_reader_in n (kept_data bs l d)
+    reader_left = grind (arith, none)
+
+    pub no_reader : false ≡ has_reader (content_in (kept_data bs l d)) n
+    no_reader = grind (arith, none)
+
+    pub unopened : None ≡ value_for n (content_in (kept_data bs l d))
+    unopened = grind (arith, none)
+
+module _ {T : Type 0} (lists : List (List Borrow)) (e : StorageEntry T) (l : EntryDetails) where
+  -- whose value it is, what a box of a name reaches, and what a reference names
+  pub kind_seen : (g : ℕ) → cond (nat_eq e.generation g) (kind_of e.content) None
+      ≡ kind_in (cell_in (Some (entry_of lists e l)) g)
+  kind_seen g = grind (arith, nat_tests)
+
+  pub lead_seen : (n : Name) → cond (nat_eq e.generation n.generation) (lead_of e.content n) None
+      ≡ leads_to (cell_in (Some (entry_of lists e l)) n.generation) n
+  lead_seen n = grind (arith, nat_tests)
+
+  pub target_seen : (g : ℕ) → cond (nat_eq e.generation g) (target_of e.content) None
+      ≡ target_in (cell_in (Some (entry_of lists e l)) g)
+  target_seen g = grind (arith, nat_tests)
+
+  value_seen : (g : ℕ)
+      → ((kd : Kind) (x : ℕ) (v : T) → e.content ≡ slot.Read kd x v → list_at lists x ≢ [])
+      → cond (nat_eq e.generation g) (is_unborrowed_data e.content) false
+      ≡ is_unborrowed_value (cell_in (Some (entry_of lists e l)) g)
+  value_seen g some = grind (arith, nat_tests, some)
+
+-- readers that are listed stand
+module _ {T : Type 0} (lists : List (List Borrow)) (d : StorageEntryData T) (l : Location)
+    (some : (kd : Kind) (x : ℕ) (v : T) → d ≡ slot.Read kd x v → list_at lists x ≢ []) where
+  free_test : ((kd : Kind) (v : T) → d ≡ slot.Data kd v → ⊥)
+      → has_no_borrow (content_in (kept_data (list_at lists (index_of d)) l d)) ≡ false
+  free_test none = grind (arith, some, none)
+
+  refused_test : (kd : Kind) (x : ℕ) (v : T) → d ≡ slot.Read kd x v
+      → false ≡ is_none (write_refusal (content_in (kept_data (list_at lists (index_of d)) l d)))
+  refused_test kd x v is = let there = some kd x v is in grind arith
 
 -- ---- a store's slots, as their methods find them
 
@@ -136,36 +225,31 @@ kept view v =
     }
 
 pub ok_then : {A E : Type 0} (r : Result A E) {P Q : Type 0} → (P → Q) → OnOk r P → OnOk r Q
-ok_then (Ok a) f p = f p
-ok_then (Err e) f p = tt
+ok_then r f p = grind arith
 
 pub err_then : {A E : Type 0} (r : Result A E) {P : Type 0} → P → OnErr r P
-err_then (Ok a) p = tt
-err_then (Err e) p = p
+err_then r p = grind arith
 
 pub err_from : {A E : Type 0} (r : Result A E) {P Q : Type 0} → (P → Q) → OnErr r P → OnErr r Q
-err_from (Ok a) f p = tt
-err_from (Err e) f p = f p
+err_from r f p = grind arith
 
 pub release_rooms : (t t' : Table) (x y : ℕ) (left : List Borrow) → Releases t t' x y left
     → t'.rooms ≡ t.rooms
-release_rooms t t' x y [] r = r.1.rooms
-release_rooms t t' x y (b ∷ bs) r = rw r.1 refl
+release_rooms t t' x y left r = grind arith
 
-pub not_last : {x : ℕ} → x < no_index → x ≢ no_index
-not_last below last = omega (arith, below, last)
+-- a slot of the store, with what it keeps
+pub record IsAt {T : Type 0} (t : Table) (es : List (StorageEntry T)) (ls : List EntryDetails)
+    (now : EntryList T) (i : ℕ) (e : StorageEntry T) : Type 0 where
+  pub store : IsKept t es ls now
+  pub there : slice_get es i ≡ Some e
 
--- the room stays, and so does the number of slots
-pub roomy_still : {room n n' a b r r' : ℕ} → AreRoomy room n a b r → n' ≡ n → r' ≡ r
-    → AreRoomy room n' a b r'
-roomy_still roomy same rooms =
-    record {
-      filled = let few = roomy.filled in omega arith;
-      entries = roomy.entries;
-      details = roomy.details;
-      borrows = let few = roomy.borrows in omega arith;
-      indexes = roomy.indexes;
-    }
+there_is : {A : Type 0} (xs : List A) (i : ℕ) → i < length xs → (x : A) × (slice_get xs i ≡ Some x)
+there_is {A} xs i within = at (slice_get_cases xs i).1
+  where
+    at : ((x : A) × (i < length xs) × (slice_get xs i ≡ Some x) × (get_or xs i x ≡ x))
+        ⊎ ((length xs ≤ i) × (slice_get xs i ≡ None)) → (x : A) × (slice_get xs i ≡ Some x)
+    at (inl some) = (some.0, some.2)
+    at (inr past) = absurd (omega (arith, past.0))
 
 module _ {T : Type 0} {t : Table} {es : List (StorageEntry T)} {ls : List EntryDetails}
     {now : EntryList T} (s : IsKept t es ls now) where
@@ -176,10 +260,6 @@ module _ {T : Type 0} {t : Table} {es : List (StorageEntry T)} {ls : List EntryD
   list_none = let few = s.indexed.few in let small = s.small in
       get_or-eq_default t.lists [] (omega arith)
 
-  pub closed_none : {t' : Table} {x : ℕ} → IsClosed t t' x → list_at t'.lists no_index ≡ []
-  closed_none {t'} c = let few = s.indexed.few in let small = s.small in let same = c.same in
-      get_or-eq_default t'.lists [] (omega arith)
-
   -- the details that a read at an index finds
   pub read_details : {i : ℕ} → i < length now.slots → {d : EntryDetails} (n : ℕ) → n ≡ length ls
       → d ≡ get_or ls i d → slice_get ls i ≡ Some d
@@ -187,386 +267,211 @@ module _ {T : Type 0} {t : Table} {es : List (StorageEntry T)} {ls : List EntryD
       let same = many in let made = s.made in
       slice_get_read ls n i d len (omega (arith, within)) is
 
+  pub here : {i : ℕ} {e : StorageEntry T} → slice_get es i ≡ Some e → IsAt t es ls now i e
+  here there = record { store = s; there = there }
+
   -- the slot that a read at an index finds
   pub read_slot : {i : ℕ} → i < length now.slots → {e : StorageEntry T} (n : ℕ) → n ≡ length es
-      → e ≡ get_or es i e → slice_get es i ≡ Some e
+      → e ≡ get_or es i e → IsAt t es ls now i e
   read_slot {i} within {e} n len is =
-      let same = many in slice_get_read es n i e len (omega (arith, within)) is
+      let same = many in here (slice_get_read es n i e len (omega (arith, within)) is)
 
-  pub one_slot : (i : ℕ) {a b : StorageEntry T} → slice_get es i ≡ Some a
-      → slice_get es i ≡ Some b → a ≡ b
-  one_slot i is too = let e = sym is ∙ too in cc
+  -- ---- a slot whose details are read
 
-  pub found_slot : {i : ℕ} → i < length now.slots → (e : StorageEntry T) × (slice_get es i ≡ Some e)
-  found_slot {i} within = at (slice_get_cases es i).1
+  pub details_at : {i : ℕ} → i < length now.slots → (e : StorageEntry T) × IsAt t es ls now i e
+  details_at {i} within =
+      let same = many in
+      let e : (e : StorageEntry T) × (slice_get es i ≡ Some e) =
+      there_is es i (omega (arith, within)) in
+      (e.0, here e.1)
+
+pub found : {T : Type 0} {t : Table} {es : List (StorageEntry T)} {ls : List EntryDetails}
+    {now : EntryList T} {room entries created i n : ℕ}
+    → record { slots = entries_of t.lists es ls; rooms = room } ≡ now
+    → AreIndexed t es × (length ls ≡ length es)
+    × AreRoomy room (length es) entries created t.rooms → i < length now.slots
+    → {e : StorageEntry T} → n ≡ length es → e ≡ get_or es i e → IsAt t es ls now i e
+found {n = n} view v within len is = read_slot (kept view v) within n len is
+
+module _ {T : Type 0} {t : Table} {es : List (StorageEntry T)} {ls : List EntryDetails}
+    {now : EntryList T} {i : ℕ} {e : StorageEntry T} (a : IsAt t es ls now i e) where
+  pub location : (l : EntryDetails) × (slice_get ls i ≡ Some l)
+  location =
+      let within = slice_get_within es i e a.there in let same = a.store.made in
+      there_is ls i (omega arith)
+
+  pub slot_seen_of : {d : EntryDetails} → slice_get ls i ≡ Some d
+      → slice_get now.slots i ≡ Some (entry_of t.lists e d)
+  slot_seen_of at =
+      ap (λ x. slice_get x i) (sym a.store.slots)
+      ∙ (entries_get t.lists es ls i ∙ (λ j. both t.lists (a.there j) (at j)))
+
+  pub slot_seen : slice_get now.slots i ≡ Some (entry_of t.lists e location.0)
+  slot_seen = slot_seen_of location.1
+
+  -- what holds of the slot with its borrows holds of what contracts see
+  pub says : (P : Entry T → Type 0) → ((l : EntryDetails) → P (entry_of t.lists e l))
+      → IfSome (slice_get now.slots i) P
+  says P h = rw slot_seen (h location.0)
+
+  -- the same where its details are known
+  pub says_of : {d : EntryDetails} → slice_get ls i ≡ Some d → (P : Entry T → Type 0)
+      → P (entry_of t.lists e d) → IfSome (slice_get now.slots i) P
+  says_of at P h = rw (slot_seen_of at) h
+
+  pub hears_of : {d : EntryDetails} → slice_get ls i ≡ Some d → (P : Entry T → Type 0)
+      → IfSome (slice_get now.slots i) P → P (entry_of t.lists e d)
+  hears_of at P h = subst (λ o. IfSome o P) (slot_seen_of at) h
+
+  -- what holds of what contracts see holds of the slot with its borrows
+  pub hears : (P : Entry T → Type 0) → IfSome (slice_get now.slots i) P
+      → P (entry_of t.lists e location.0)
+  hears P h = subst (λ o. IfSome o P) slot_seen h
+
+  -- a slot that is written, as contracts see it
+  pub slot_changed : {d : EntryDetails} → slice_get ls i ≡ Some d → (lists : List (List Borrow))
+      (e' : StorageEntry T) (d' : EntryDetails) (f : Entry T → Entry T)
+      → SameLists t.lists lists es i → entry_of lists e' d' ≡ f (entry_of t.lists e d)
+      → entries_of lists (slice_set es i e') (slice_set ls i d') ≡ change_entry now.slots i f
+  slot_changed {d} at lists e' d' f same becomes =
+      let within = slice_get_within es i e a.there in let long = a.store.made in
+      entries_set t.lists lists es ls i e' d' within (omega arith) same
+      ∙ (ap (slice_set (entries_of t.lists es ls) i) becomes
+      ∙ (ap (λ slots. slice_set slots i (f (entry_of t.lists e d))) a.store.slots
+      ∙ ap (change_entry_if now.slots i f) (sym (slot_seen_of at))))
+
+  pub view_changed : (lists : List (List Borrow)) (e' : StorageEntry T) (f : Entry T → Entry T)
+      → SameLists t.lists lists es i
+      → ((l : EntryDetails) → entry_of lists e' l ≡ f (entry_of t.lists e l))
+      → entries_of lists (slice_set es i e') ls ≡ change_entry now.slots i f
+  view_changed lists e' f same becomes =
+      let l = location in
+      ap (entries_of lists (slice_set es i e')) (sym (set-own ls i l.0 l.1))
+      ∙ slot_changed l.1 lists e' l.0 f same (becomes l.0)
+
+  -- the room stays, and so does the number of slots
+  pub still : {room x y : ℕ} → AreIndexed t es × (length ls ≡ length es)
+      × AreRoomy room (length es) x y t.rooms → {t' : Table} (e' : StorageEntry T)
+      → AreIndexed t' (slice_set es i e') → t'.rooms ≡ t.rooms
+      → AreIndexed t' (slice_set es i e') × (length ls ≡ length (slice_set es i e'))
+      × AreRoomy room (length (slice_set es i e')) x y t'.rooms
+  still v e' indexed rooms =
+      let long = length-set es i e' in let few = v.2.filled in let left = v.2.borrows in (
+        indexed,
+        v.1 ∙ sym long,
+        record {
+          filled = omega arith;
+          entries = v.2.entries;
+          details = v.2.details;
+          borrows = omega arith;
+          indexes = v.2.indexes;
+        },
+      )
+
+  -- a slot whose cell alone is written
+  pub cell_changed : (lists : List (List Borrow)) (d : StorageEntryData T) (h : Kept T → Kept T)
+      → SameLists t.lists lists es i
+      → ((l : Location) → kept_data (list_at lists (index_of d)) l d
+      ≡ h (kept_data (list_at t.lists (index_of e.content)) l e.content))
+      → entries_of lists (slice_set es i (record { generation = e.generation; content = d })) ls
+      ≡ change_entry now.slots i (λ x. record x { kept = h x.kept })
+  cell_changed lists d h same becomes =
+      view_changed lists _ (λ x. record x { kept = h x.kept }) same
+      (λ l. ap (λ k. record { generation = e.generation; kept = k; references = l.references })
+      (becomes l.created_at))
+
+  -- a slot whose details are written
+  pub details_changed : {d : EntryDetails} → slice_get ls i ≡ Some d → (d' : EntryDetails)
+      (f : Entry T → Entry T) → entry_of t.lists e d' ≡ f (entry_of t.lists e d)
+      → entries_of t.lists es (slice_set ls i d') ≡ change_entry now.slots i f
+  details_changed at d' f becomes =
+      ap (λ x. entries_of t.lists x (slice_set ls i d')) (sym (set-own es i e a.there))
+      ∙ slot_changed at t.lists e d' f (λ k other. refl) becomes
+
+  pub used_here : index_of e.content ≢ no_index → IsUsed t (index_of e.content)
+  used_here some = rw a.there at (a.store.indexed.used i) some
+
+  -- a value with listed readers has an index, and one reader at least
+  module _ {kd : Kind} {x : ℕ} {v : T} (is : e.content ≡ slot.Read kd x v) where
+    pub has_place : x ≢ no_index
+    has_place = subst IsListed is (rw a.there at (a.store.indexed.listed i))
+
+    pub used_at : IsUsed t x
+    used_at = subst (λ d. index_of d ≢ no_index → IsUsed t (index_of d)) is used_here has_place
+
+    -- so what holds of all readers, one and others, holds of them
+    pub read_case : (Q : List Borrow → Type 0) → ((b : Borrow) (bs : List Borrow) → Q (b ∷ bs))
+        → Q (list_at t.lists x)
+    read_case Q holds = at (list_at t.lists x) refl
+      where
+        at : (bs : List Borrow) → list_at t.lists x ≡ bs → Q bs
+        at [] is = absurd (used_at.some is)
+        at (b ∷ bs) is = holds b bs
+
+    -- a second reader stands beside another
+    pub read_beside : is_some (write_refusal (Some (Here v (list_at t.lists x)))) ≡ true
+    read_beside = read_case (λ bs. is_some (write_refusal (Some (Here v bs))) ≡ true) (λ b bs. refl)
+
+  readers_there : (kd : Kind) (x : ℕ) (v : T) → e.content ≡ slot.Read kd x v
+      → list_at t.lists x ≢ []
+  readers_there kd x v is = (used_at is).some
+
+  -- where no value is without listed readers, no cell is without borrows
+  pub not_alone : (l : Location) → ((kd : Kind) (v : T) → e.content ≡ slot.Data kd v → ⊥)
+      → has_no_borrow (content_in (kept_data (list_at t.lists (index_of e.content)) l e.content))
+      ≡ false
+  not_alone l none = free_test t.lists e.content l readers_there none
+
+  pub read_test : (l : Location) (kd : Kind) (x : ℕ) (v : T) → e.content ≡ slot.Read kd x v
+      → false ≡ is_none (write_refusal (content_in (kept_data (list_at t.lists (index_of e.content))
+      l e.content)))
+  read_test l kd x v is = refused_test t.lists e.content l readers_there kd x v is
+
+  -- the index of a lent value, if it has one
+  pub lent_used : {kd : Kind} {x : ℕ} → e.content ≡ slot.Lent kd x → x ≢ no_index → IsUsed t x
+  lent_used is some = subst (λ d. index_of d ≢ no_index → IsUsed t (index_of d)) is used_here some
+
+  -- where no cell is lent, no content is
+  pub not_lent_there : ((kd : Kind) (x : ℕ) → e.content ≡ slot.Lent kd x → ⊥)
+      → IfSome (slice_get now.slots i) (λ e. is_lent (content_in e.kept) ≡ true) → ⊥
+  not_lent_there none h =
+      false≢true (sym (lent_test (list_at t.lists (index_of e.content)) location.0.created_at
+      e.content none) ∙ hears (λ e. is_lent (content_in e.kept) ≡ true) h)
+
+  -- a cell without borrows is a value without listed readers
+  pub alone : IfSome (slice_get now.slots i) (λ e. has_no_borrow (content_in e.kept) ≡ true)
+      → (kd : Kind) × (v : T) × (e.content ≡ slot.Data kd v)
+  alone h = at e.content refl (hears (λ e. has_no_borrow (content_in e.kept) ≡ true) h)
     where
-      at : ((e : StorageEntry T) × (i < length es) × (slice_get es i ≡ Some e) × (get_or es i e ≡
-          e))
-          ⊎ ((length es ≤ i) × (slice_get es i ≡ None))
-          → (e : StorageEntry T) × (slice_get es i ≡ Some e)
-      at (inl some) = (some.0, some.2)
-      at (inr past) = let same = many in absurd (omega (arith, past.0, within))
+      at : (d : StorageEntryData T) → e.content ≡ d → has_no_borrow (content_in (kept_data
+          (list_at t.lists (index_of d)) location.0.created_at d)) ≡ true
+          → (kd : Kind) × (v : T) × (e.content ≡ slot.Data kd v)
+      at (slot.Data kd v) is h = (kd, v, is)
+      at (slot.Read kd x v) is h = absurd (false≢true
+          (read_case is (λ bs. false ≡ has_no_borrow (Some (Here v bs))) (λ b bs. refl) ∙ h))
+      at d is h = absurd (false≢true h)
 
-  -- ---- a slot's details
+  -- whether it is a value of its own without borrows
+  pub value_test : (g : ℕ) → cond (nat_eq e.generation g) (is_unborrowed_data e.content) false
+      ≡ is_unborrowed_value (cell_in (slice_get now.slots i) g)
+  value_test g = rw slot_seen (value_seen t.lists e location.0 g readers_there)
 
-  module _ {i : ℕ} (within : i < length now.slots) {d : EntryDetails}
-      (at : slice_get ls i ≡ Some d) where
-    abbrev pub entry_there : (e : StorageEntry T) × (slice_get es i ≡ Some e)
-    entry_there = found_slot within
+  -- a reference has no borrows
+  pub refers_none : IfSome (slice_get now.slots i)
+      (λ e. is_some (target_in (cell_of e.kept)) ≡ true)
+      → index_of e.content ≡ no_index
+  refers_none h =
+      refers_index (list_at t.lists (index_of e.content)) location.0.created_at e.content
+      (hears (λ e. is_some (target_in (cell_of e.kept)) ≡ true) h)
 
-    entry_seen : slice_get now.slots i ≡ Some (entry_of t.lists entry_there.0 d)
-    entry_seen =
-        ap (λ x. slice_get x i) (sym s.slots)
-        ∙ (entries_get t.lists es ls i ∙ (λ j. both t.lists (entry_there.1 j) (at j)))
-
-    -- what holds of them holds of what contracts see
-    pub details_seen : (P : Entry T → Type 0) → ((e : StorageEntry T) → P (entry_of t.lists e d))
-        → IfSome (slice_get now.slots i) P
-    details_seen P h = subst (λ o. IfSome o P) (sym entry_seen) (h entry_there.0)
-
-    pub details_heard : (P : Entry T → Type 0) → IfSome (slice_get now.slots i) P
-        → P (entry_of t.lists entry_there.0 d)
-    details_heard P h = subst (λ o. IfSome o P) entry_seen h
-
-    -- they change
-    pub details_changed : (d' : EntryDetails) (f : Entry T → Entry T)
-        → ((e : StorageEntry T) → entry_of t.lists e d' ≡ f (entry_of t.lists e d))
-        → entries_of t.lists es (slice_set ls i d') ≡ change_entry now.slots i f
-    details_changed d' f becomes =
-        let long = many in let made = s.made in
-        ap (λ x. entries_of t.lists x (slice_set ls i d'))
-        (sym (set-own es i entry_there.0 entry_there.1))
-        ∙ (entries_set t.lists t.lists es ls i entry_there.0 d' (omega (arith, within))
-        (omega (arith, within)) (λ k other. refl)
-        ∙ (ap (slice_set (entries_of t.lists es ls) i) (becomes entry_there.0)
-        ∙ (ap (λ slots. slice_set slots i (f (entry_of t.lists entry_there.0 d))) s.slots
-        ∙ ap (change_entry_if now.slots i f) (sym entry_seen))))
-
-  module _ (i : ℕ) (e : StorageEntry T) (there : slice_get es i ≡ Some e) where
-    pub location : (l : EntryDetails) × (slice_get ls i ≡ Some l)
-    location = at (slice_get_cases ls i).1
-      where
-        at : ((l : EntryDetails) × (i < length ls) × (slice_get ls i ≡ Some l)
-            × (get_or ls i l ≡ l))
-            ⊎ ((length ls ≤ i) × (slice_get ls i ≡ None))
-            → (l : EntryDetails) × (slice_get ls i ≡ Some l)
-        at (inl some) = (some.0, some.2)
-        at (inr past) =
-            let within = slice_get_within es i e there in let same = s.made in
-            absurd (omega (arith, past.0))
-
-    pub slot_seen : slice_get now.slots i ≡ Some (entry_of t.lists e location.0)
-    slot_seen =
-        ap (λ x. slice_get x i) (sym s.slots)
-        ∙ (entries_get t.lists es ls i ∙ (λ j. both t.lists (there j) (location.1 j)))
-
-    -- what holds of the slot with its borrows holds of what contracts see
-    pub says : (P : Entry T → Type 0) → ((l : EntryDetails) → P (entry_of t.lists e l))
-        → IfSome (slice_get now.slots i) P
-    says P h = rw slot_seen (h location.0)
-
-    -- the same where its details are known
-    pub says_of : {d : EntryDetails} → slice_get ls i ≡ Some d → (P : Entry T → Type 0)
-        → P (entry_of t.lists e d) → IfSome (slice_get now.slots i) P
-    says_of {d} at P h =
-        let told = sym location.1 ∙ at in
-        let same : location.0 ≡ d = cc in
-        rw (slot_seen, same) h
-
-    -- what holds of what contracts see holds of the slot with its borrows
-    pub hears : (P : Entry T → Type 0) → IfSome (slice_get now.slots i) P
-        → P (entry_of t.lists e location.0)
-    hears P h = subst (λ o. IfSome o P) slot_seen h
-
-    pub used_here : index_of e.content ≢ no_index → IsUsed t (index_of e.content)
-    used_here some = rw there at (s.indexed.used i) some
-
-    -- a value with listed readers has an index, and one reader at least
-    module _ (kd : Kind) (x : ℕ) (v : T) (is : e.content ≡ slot.Read kd x v) where
-      pub has_place : x ≢ no_index
-      has_place = subst IsListed is (rw there at (s.indexed.listed i))
-
-      pub used_at : IsUsed t x
-      used_at = subst (λ d. index_of d ≢ no_index → IsUsed t (index_of d)) is used_here has_place
-
-      pub read_test : false ≡ is_none (write_refusal (Some (Here v (list_at t.lists x))))
-      read_test = at (list_at t.lists x) refl
-        where
-          at : (bs : List Borrow) → list_at t.lists x ≡ bs
-              → false ≡ is_none (write_refusal (Some (Here v bs)))
-          at [] is = absurd (used_at.some is)
-          at (b ∷ bs) is = refl
-
-      pub beside_test : false ≡ has_no_borrow (Some (Here v (list_at t.lists x)))
-      beside_test = at (list_at t.lists x) refl
-        where
-          at : (bs : List Borrow) → list_at t.lists x ≡ bs
-              → false ≡ has_no_borrow (Some (Here v bs))
-          at [] is = absurd (used_at.some is)
-          at (b ∷ bs) is = refl
-
-      -- a second reader stands beside another
-      pub read_beside : is_some (write_refusal (Some (Here v (list_at t.lists x)))) ≡ true
-      read_beside = at (list_at t.lists x) refl
-        where
-          at : (bs : List Borrow) → list_at t.lists x ≡ bs
-              → is_some (write_refusal (Some (Here v bs))) ≡ true
-          at [] is = absurd (used_at.some is)
-          at (b ∷ bs) is = refl
-
-    -- where no value is without listed readers, no cell is without borrows
-    pub not_alone : (l : Location) → ((kd : Kind) (v : T) → e.content ≡ slot.Data kd v → ⊥)
-        → has_no_borrow (content_in (kept_data (list_at t.lists (index_of e.content)) l e.content))
-        ≡ false
-    not_alone l none = at e.content refl
-      where
-        at : (d : StorageEntryData T) → e.content ≡ d
-            → has_no_borrow (content_in (kept_data (list_at t.lists (index_of d)) l d)) ≡ false
-        at slot.Empty is = refl
-        at (slot.Reference m g) is = refl
-        at (slot.Lent kd x) is = refl
-        at (slot.Read kd x v) is = sym (beside_test kd x v is)
-        at (slot.Data kd v) is = absurd (none kd v is)
-
-    -- the index of a lent value, if it has one
-    pub lent_used : (kd : Kind) (x : ℕ) → e.content ≡ slot.Lent kd x → x ≢ no_index → IsUsed t x
-    lent_used kd x is some = subst (λ d. index_of d ≢ no_index → IsUsed t (index_of d)) is used_here some
-
-    -- a lent cell is one
-    pub lent_is : (l : Location)
-        → is_lent (content_in (kept_data (list_at t.lists (index_of e.content)) l e.content))
-        ≡ true → (kd : Kind) × (x : ℕ) × (e.content ≡ slot.Lent kd x)
-    lent_is l = at e.content refl
-      where
-        at : (d : StorageEntryData T) → e.content ≡ d
-            → is_lent (content_in (kept_data (list_at t.lists (index_of d)) l d)) ≡ true
-            → (kd : Kind) × (x : ℕ) × (e.content ≡ slot.Lent kd x)
-        at slot.Empty is h = absurd (false≢true h)
-        at (slot.Reference m g) is h = absurd (false≢true h)
-        at (slot.Data kd v) is h = absurd (false≢true h)
-        at (slot.Read kd x v) is h = absurd (false≢true h)
-        at (slot.Lent kd x) is h = (kd, x, is)
-
-    -- a cell without borrows is a value without listed readers
-    pub alone : (l : Location)
-        → has_no_borrow (content_in (kept_data (list_at t.lists (index_of e.content)) l e.content))
-        ≡ true → (kd : Kind) × (v : T) × (e.content ≡ slot.Data kd v)
-    alone l = at e.content refl
-      where
-        at : (d : StorageEntryData T) → e.content ≡ d
-            → has_no_borrow (content_in (kept_data (list_at t.lists (index_of d)) l d)) ≡ true
-            → (kd : Kind) × (v : T) × (e.content ≡ slot.Data kd v)
-        at slot.Empty is h = absurd (false≢true h)
-        at (slot.Reference m g) is h = absurd (false≢true h)
-        at (slot.Lent kd x) is h = absurd (false≢true h)
-        at (slot.Read kd x v) is h = absurd (false≢true (beside_test kd x v is ∙ h))
-        at (slot.Data kd v) is h = (kd, v, is)
-
-    -- a test of the slot's content that says of each what h says of its cell
-    pub cell_test : {X : Type 0} (f : StorageEntryData T → Option X)
-        (h : Option (Cell T) → Option X) → h None ≡ None → f slot.Empty ≡ h None
-        → ((kd : Kind) (v : T) (c : Content T) (l : Location)
-        → f (slot.Data kd v) ≡ h (cell_of (Live kd c l)))
-        → ((kd : Kind) (x : ℕ) (v : T) (c : Content T) (l : Location)
-        → f (slot.Read kd x v) ≡ h (cell_of (Live kd c l)))
-        → ((kd : Kind) (x : ℕ) (c : Content T) (l : Location)
-        → f (slot.Lent kd x) ≡ h (cell_of (Live kd c l)))
-        → ((m g : ℕ) (l : Location)
-        → f (slot.Reference m g) ≡ h (cell_of (Refers (record { slot = m; generation = g }) l)))
-        → (g : ℕ) → cond (nat_eq e.generation g) (f e.content) None
-        ≡ h (cell_in (slice_get now.slots i) g)
-    cell_test {X = X} f h none empty data' read lent ref g =
-        rw (slot_seen, ← nat_eq_equiv.symm e.generation g)
-        (own (nat_eq e.generation g) (at e.content refl))
-      where
-        at : (d : StorageEntryData T) → e.content ≡ d
-            → f d ≡ h (cell_of (kept_data (list_at t.lists (index_of d)) location.0.created_at d))
-        at slot.Empty is = empty
-        at (slot.Data kd v) is = data' kd v _ _
-        at (slot.Read kd x v) is = read kd x v _ _
-        at (slot.Lent kd x) is = lent kd x _ _
-        at (slot.Reference m n) is = ref m n _
-
-        own : (b : Bool) {o : Option X} {c : Option (Cell T)} → o ≡ h c
-            → cond b o None ≡ h (cond b c None)
-        own true same = same
-        own false same = sym none
-
-    -- whose value it is, what a box of a name reaches, and what a reference names
-    pub kind_test : (g : ℕ) → cond (nat_eq e.generation g) (kind_of e.content) None
-        ≡ kind_in (cell_in (slice_get now.slots i) g)
-    kind_test =
-        cell_test kind_of kind_in refl refl (λ kd v. here kd) (λ kd x v. here kd)
-        (λ kd x. here kd) (λ m n l. refl)
-      where
-        here : (kd : Kind) (c : Content T) (l : Location)
-            → Some kd ≡ kind_in (cell_of (Live kd c l))
-        here kind.Value c l = refl
-        here kind.Shared c l = refl
-
-    pub lead_test : (n : Name) → cond (nat_eq e.generation n.generation) (lead_of e.content n) None
-        ≡ leads_to (cell_in (slice_get now.slots i) n.generation) n
-    lead_test n =
-        cell_test (λ d. lead_of d n) (λ c. leads_to c n) refl refl value read lent (λ m g l. refl)
-        n.generation
-      where
-        value : (kd : Kind) (v : T) (c : Content T) (l : Location)
-            → lead_of (slot.Data kd v) n ≡ leads_to (cell_of (Live kd c l)) n
-        value kind.Value v c l = refl
-        value kind.Shared v c l = refl
-
-        read : (kd : Kind) (x : ℕ) (v : T) (c : Content T) (l : Location)
-            → lead_of (slot.Read kd x v) n ≡ leads_to (cell_of (Live kd c l)) n
-        read kind.Value x v c l = refl
-        read kind.Shared x v c l = refl
-
-        lent : (kd : Kind) (x : ℕ) (c : Content T) (l : Location)
-            → lead_of {T = T} (slot.Lent kd x) n ≡ leads_to (cell_of (Live kd c l)) n
-        lent kind.Value x c l = refl
-        lent kind.Shared x c l = refl
-
-    -- whether it is a value of its own without borrows
-    pub value_test : (g : ℕ) → cond (nat_eq e.generation g) (is_unborrowed_data e.content) false
-        ≡ is_unborrowed_value (cell_in (slice_get now.slots i) g)
-    value_test g =
-        rw (slot_seen, ← nat_eq_equiv.symm e.generation g)
-        (own (nat_eq e.generation g) _ (at e.content refl))
-      where
-        at : (d : StorageEntryData T) → e.content ≡ d → is_unborrowed_data d
-            ≡ is_unborrowed_value
-            (cell_of (kept_data (list_at t.lists (index_of d)) location.0.created_at d))
-        at slot.Empty is = refl
-        at (slot.Data kind.Value v) is = refl
-        at (slot.Data kind.Shared v) is = refl
-        at (slot.Read kind.Value x v) is = read_test kind.Value x v is
-        at (slot.Read kind.Shared x v) is = refl
-        at (slot.Lent kind.Value x) is = refl
-        at (slot.Lent kind.Shared x) is = refl
-        at (slot.Reference m n) is = refl
-
-        own : (b : Bool) {x : Bool} (c : Option (Cell T)) → x ≡ is_unborrowed_value c
-            → cond b x false ≡ is_unborrowed_value (cond b c None)
-        own true c same = same
-        own false c same = refl
-
-    pub target_test : (g : ℕ) → cond (nat_eq e.generation g) (target_of e.content) None
-        ≡ target_in (cell_in (slice_get now.slots i) g)
-    target_test =
-        cell_test target_of target_in refl refl (λ kd v. here kd) (λ kd x v. here kd)
-        (λ kd x. here kd)
-        (λ m n l. refl)
-      where
-        here : (kd : Kind) (c : Content T) (l : Location)
-            → None ≡ target_in (cell_of (Live kd c l))
-        here kind.Value c l = refl
-        here kind.Shared c l = refl
-
-    -- a reference has no borrows
-    pub refers_none : IfSome (slice_get now.slots i) (λ e. is_some (target_in (cell_of e.kept))
-        ≡ true) → (m : Name) × (l : Location) × (e.content ≡ slot.Reference m.slot m.generation)
-    refers_none h = at e.content refl
-        (hears (λ e. is_some (target_in (cell_of e.kept)) ≡ true) h)
-      where
-        none : (kd : Kind) (c : Content T) (l : Location)
-            → is_some (target_in (cell_of (Live kd c l))) ≡ true → ⊥
-        none kind.Value c l h = false≢true h
-        none kind.Shared c l h = false≢true h
-
-        at : (d : StorageEntryData T) → e.content ≡ d
-            → is_some (target_in (cell_of (kept_data (list_at t.lists (index_of d))
-            location.0.created_at d))) ≡ true
-            → (m : Name) × (l : Location) × (e.content ≡ slot.Reference m.slot m.generation)
-        at (slot.Reference m g) is h =
-            (record { slot = m; generation = g }, location.0.created_at, is)
-        at slot.Empty is h = absurd (false≢true h)
-        at (slot.Data kd v) is h = absurd (none kd _ _ h)
-        at (slot.Read kd x v) is h = absurd (none kd _ _ h)
-        at (slot.Lent kd x) is h = absurd (none kd
-            (Lent (writer_in (list_at t.lists x) location.0.created_at)) location.0.created_at h)
-
-module _ {T : Type 0} where
-  -- a cell has the location where it was made
-  pub created_there : (bs : List Borrow) (l : Location) (d : StorageEntryData T)
-      → IfSome (location_of (cell_of (kept_data bs l d))) (λ x. l ≡ x)
-  created_there bs l slot.Empty = tt
-  created_there bs l (slot.Reference m g) = refl
-  created_there bs l (slot.Data kind.Value v) = refl
-  created_there bs l (slot.Data kind.Shared v) = refl
-  created_there bs l (slot.Read kind.Value x v) = refl
-  created_there bs l (slot.Read kind.Shared x v) = refl
-  created_there bs l (slot.Lent kind.Value x) = refl
-  created_there bs l (slot.Lent kind.Shared x) = refl
-
-  -- where none is lent, no writer is in the way of a read
-  pub not_lent : (bs : List Borrow) (l : Location) (d : StorageEntryData T)
-      → ((kd : Kind) (x : ℕ) → d ≡ slot.Lent kd x → ⊥)
-      → None ≡ read_refusal (content_in (kept_data bs l d))
-  not_lent bs l slot.Empty gone = refl
-  not_lent bs l (slot.Reference m g) gone = refl
-  not_lent bs l (slot.Data kd v) gone = refl
-  not_lent bs l (slot.Read kd x v) gone = refl
-  not_lent bs l (slot.Lent kd x) gone = absurd (gone kd x refl)
-
-  -- where no readers are listed and nothing is lent, nothing is in the way of a write
-  pub no_trouble : (bs : List Borrow) (l : Location) (d : StorageEntryData T)
-      → ((kd : Kind) (x : ℕ) (v : T) → d ≡ slot.Read kd x v → ⊥)
-      → ((kd : Kind) (x : ℕ) → d ≡ slot.Lent kd x → ⊥)
-      → write_refusal (content_in (kept_data bs l d)) ≡ None
-  no_trouble bs l slot.Empty none gone = refl
-  no_trouble bs l (slot.Reference m g) none gone = refl
-  no_trouble bs l (slot.Data kd v) none gone = refl
-  no_trouble bs l (slot.Read kd x v) none gone = absurd (none kd x v refl)
-  no_trouble bs l (slot.Lent kd x) none gone = absurd (gone kd x refl)
-
-  -- where no value is, none is seen
-  pub no_value : (bs : List Borrow) (l : Location) (d : StorageEntryData T)
-      → ((kd : Kind) (v : T) → d ≡ slot.Data kd v → ⊥)
-      → ((kd : Kind) (x : ℕ) (v : T) → d ≡ slot.Read kd x v → ⊥)
-      → value_of (content_in (kept_data bs l d)) ≡ None
-  no_value bs l slot.Empty none read = refl
-  no_value bs l (slot.Reference m g) none read = refl
-  no_value bs l (slot.Lent kd x) none read = refl
-  no_value bs l (slot.Data kd v) none read = absurd (none kd v refl)
-  no_value bs l (slot.Read kd x v) none read = absurd (read kd x v refl)
-
-  -- where no value is, no reader is added
-  pub reader_kept : (b : Borrow) (bs : List Borrow) (l : Location) (d : StorageEntryData T)
-      → ((kd : Kind) (v : T) → d ≡ slot.Data kd v → ⊥)
-      → ((kd : Kind) (x : ℕ) (v : T) → d ≡ slot.Read kd x v → ⊥)
-      → kept_data bs l d ≡ with_reader b (kept_data bs l d)
-  reader_kept b bs l slot.Empty none read = refl
-  reader_kept b bs l (slot.Reference m g) none read = refl
-  reader_kept b bs l (slot.Lent kd x) none read = refl
-  reader_kept b bs l (slot.Data kd v) none read = absurd (none kd v refl)
-  reader_kept b bs l (slot.Read kd x v) none read = absurd (read kd x v refl)
-
-  -- where no readers are listed, none is taken away
-  pub reader_left : (n : ℕ) (bs : List Borrow) (l : Location) (d : StorageEntryData T)
-      → ((kd : Kind) (x : ℕ) (v : T) → d ≡ slot.Read kd x v → ⊥)
-      → kept_data bs l d ≡ without_reader_in n (kept_data bs l d)
-  reader_left n bs l slot.Empty none = refl
-  reader_left n bs l (slot.Reference m g) none = refl
-  reader_left n bs l (slot.Lent kd x) none = refl
-  reader_left n bs l (slot.Data kd v) none = refl
-  reader_left n bs l (slot.Read kd x v) none = absurd (none kd x v refl)
-
-  pub no_reader : (n : ℕ) (bs : List Borrow) (l : Location) (d : StorageEntryData T)
-      → ((kd : Kind) (x : ℕ) (v : T) → d ≡ slot.Read kd x v → ⊥)
-      → false ≡ has_reader (content_in (kept_data bs l d)) n
-  no_reader n bs l slot.Empty none = refl
-  no_reader n bs l (slot.Reference m g) none = refl
-  no_reader n bs l (slot.Lent kd x) none = refl
-  no_reader n bs l (slot.Data kd v) none = refl
-  no_reader n bs l (slot.Read kd x v) none = absurd (none kd x v refl)
-
-  pub no_writer : (n : ℕ) (bs : List Borrow) (l : Location) (d : StorageEntryData T)
-      → ((kd : Kind) (x : ℕ) → d ≡ slot.Lent kd x → ⊥)
-      → has_writer (content_in (kept_data bs l d)) n ≡ false
-  no_writer n bs l slot.Empty none = refl
-  no_writer n bs l (slot.Reference m g) none = refl
-  no_writer n bs l (slot.Data kd v) none = refl
-  no_writer n bs l (slot.Read kd x v) none = refl
-  no_writer n bs l (slot.Lent kd x) none = absurd (none kd x refl)
+  pub referred : (target g : ℕ) (l : Location)
+      → IfSome (slice_get now.slots i) (λ e. is_some (target_in (cell_of e.kept)) ≡ true)
+      → Refers (record { slot = target; generation = g }) l
+      ≡ referring (record { slot = target; generation = g })
+      (kept_data (list_at t.lists (index_of e.content)) l e.content)
+  referred target g l h =
+      refers_kept (list_at t.lists (index_of e.content)) location.0.created_at e.content l target g
+      (hears (λ e. is_some (target_in (cell_of e.kept)) ≡ true) h)
 
 -- room for one slot more
 pub room_for_one : {T : Type 0} {t : Table} {es : List (StorageEntry T)} (ls : List EntryDetails)
@@ -589,11 +494,7 @@ module _ {T : Type 0} {t : Table} {es : List (StorageEntry T)} {ls : List EntryD
         kept = kept_data [] l.created_at d;
         references = l.references;
       }
-  free_entry g (slot.Data kd v) l free = refl
-  free_entry g (slot.Read kd x v) l free = absurd free
-  free_entry g (slot.Reference m n) l free = refl
-  free_entry g slot.Empty l free = absurd free
-  free_entry g (slot.Lent kd x) l free = absurd free
+  free_entry g d l free = grind arith
 
   pub slots_pushed : (e : StorageEntry T) (l : EntryDetails)
       → entries_of t.lists (es ++ e ∷ []) (ls ++ l ∷ []) ≡ now.slots ++ entry_of t.lists e l ∷ []
@@ -607,16 +508,10 @@ module _ {T : Type 0} {t : Table} {es : List (StorageEntry T)} {ls : List EntryD
       rw (← s.slots) (entries_set t.lists t.lists es ls i e l (omega arith) (omega arith)
       (λ k other. refl))
 
-  module _ (i : ℕ) (e : StorageEntry T) (there : slice_get es i ≡ Some e) where
-    pub empty_slot : IfSome (slice_get now.slots i) (λ seen. seen.kept ≡ Empty)
-        → e.content ≡ slot.Empty
-    empty_slot h = at e.content refl (hears s i e there (λ seen. seen.kept ≡ Empty) h)
-      where
-        at : (d : StorageEntryData T) → e.content ≡ d
-            → kept_data (list_at t.lists (index_of d)) (location s i e there).0.created_at d ≡ Empty
-            → e.content ≡ slot.Empty
-        at slot.Empty is h = is
-        at (slot.Data kd v) is h = absurd cc
-        at (slot.Read kd x v) is h = absurd cc
-        at (slot.Reference m g) is h = absurd cc
-        at (slot.Lent kd x) is h = absurd cc
+module _ {T : Type 0} {t : Table} {es : List (StorageEntry T)} {ls : List EntryDetails}
+    {now : EntryList T} {i : ℕ} {e : StorageEntry T} (a : IsAt t es ls now i e) where
+  pub empty_slot : IfSome (slice_get now.slots i) (λ seen. seen.kept ≡ Empty)
+      → e.content ≡ slot.Empty
+  empty_slot h =
+      empty_data (list_at t.lists (index_of e.content)) (location a).0.created_at e.content
+      (hears a (λ seen. seen.kept ≡ Empty) h)

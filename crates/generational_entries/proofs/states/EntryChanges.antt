@@ -2,8 +2,7 @@
 use Rattle.std.proofs.Common.{◌≡◌, ℕ, Bool, true, false, List, Option, None, Some, refl, sym, ap}
 use Rattle.std.proofs.Common.{◌∙◌, slice_get, nat_eq, slice_set, IfSome, cond, subst}
 use Rattle.std.proofs.lemmas.Bool.{eqb-true, eq-eqb, false≢true}
-use Rattle.generational_entries.specs.Entry.{Entry}
-use Rattle.generational_entries.specs.Entry.{change_entry, change_entry_if}
+use Rattle.generational_entries.specs.Entry.{Entry, change_entry, change_entry_if}
 use Rattle.generational_containers.proofs.lists.Lists.{get_other, set_apart, set_twice, set_written}
 use Rattle.generational_containers.proofs.lists.Lists.{set-own}
 

@@ -1,22 +1,18 @@
 -- At which indexes of the table the borrows of a store's slots stand, and what is left of that
 -- where a slot is written.
 use Rattle.std.proofs.Common.{◌≡◌, ◌≢◌, ℕ, ◌+◌, ◌≤◌, Bool, true, false, cond, List, [], length}
-use Rattle.std.proofs.Common.{Option, None, Some, refl, sym, ◌∙◌, arith, subst, slice_get}
-use Rattle.std.proofs.Common.{slice_set, nat_eq}
+use Rattle.std.proofs.Common.{Option, None, Some, refl, sym, ◌∙◌, arith, subst, slice_get, nat_eq}
 use Rattle.std.specs.Ordering.{nat_cmp}
 use Rattle.std.proofs.lemmas.Bool.{false≢true, eq-eqb, eqb-true}
-use Rattle.std.proofs.lemmas.List.{length-set}
-use Rattle.std.specs.FinSet as set
 use Rattle.generational_entries.specs.declared.entry.StorageEntry.{StorageEntry}
 use Rattle.generational_entries.specs.declared.entry.StorageEntryData.{StorageEntryData}
 use Rattle.generational_entries.specs.Entries.{IsUnborrowed, index_in, index_of, has_index}
-use Rattle.generational_entries.specs.Entries.{AreIndexed}
-use Rattle.generational_entries.specs.Entries.{IsListed, IsListedIn}
+use Rattle.generational_entries.specs.Entries.{AreIndexed, IsListed, IsListedIn}
 use Rattle.generational_containers.specs.Table.{no_index, IsUsed, Table}
 use Rattle.generational_containers.specs.Lists.{how_many}
-unfoldable use Rattle.generational_entries.specs.Entries.{entries_of}
-use Rattle.generational_entries.specs.declared.entry.StorageEntryData.TheVariants as slot
 use Rattle.generational_containers.proofs.lists.Lists.{IsWritten, passes}
+use Rattle.std.specs.FinSet as set
+unfoldable use Rattle.generational_entries.specs.Entries.{entries_of}
 
 module _ {T : Type 0} where
   module _ {es es' : List (StorageEntry T)} {i : ℕ} {e : StorageEntry T}
@@ -63,28 +59,16 @@ module _ {T : Type 0} where
 
 -- a slot with an index has listed readers, if it has readers
 pub has_listed : {T : Type 0} (d : StorageEntryData T) → index_of d ≢ no_index → IsListed d
-has_listed slot.Empty some = tt
-has_listed (slot.Data kd v) some = tt
-has_listed (slot.Read kd x v) some = some
-has_listed (slot.Lent kd x) some = tt
-has_listed (slot.Reference m g) some = tt
+has_listed d some = grind arith
 
 -- ---- slots without borrows
 
 module _ {T : Type 0} where
   pub unborrowed_none : (d : StorageEntryData T) → IsUnborrowed d → index_of d ≡ no_index
-  unborrowed_none (slot.Data kd v) free = refl
-  unborrowed_none (slot.Read kd x v) free = absurd free
-  unborrowed_none (slot.Reference m g) free = refl
-  unborrowed_none slot.Empty free = absurd free
-  unborrowed_none (slot.Lent kd x) free = absurd free
+  unborrowed_none d free = grind arith
 
   pub unborrowed_listed : (d : StorageEntryData T) → IsUnborrowed d → IsListed d
-  unborrowed_listed (slot.Data kd v) free = tt
-  unborrowed_listed (slot.Read kd x v) free = absurd free
-  unborrowed_listed (slot.Reference m g) free = tt
-  unborrowed_listed slot.Empty free = tt
-  unborrowed_listed (slot.Lent kd x) free = tt
+  unborrowed_listed d free = grind arith
 
 pub indexed_none : {T : Type 0} {t : Table} {es : List (StorageEntry T)} → es ≡ []
     → t.lists ≡ [] → t.free ≡ set.empty → AreIndexed t es
@@ -101,10 +85,6 @@ module _ {T : Type 0} where
       → passes has_index o ≡ false
   no_index_test None none = refl
   no_index_test (Some e) none = rw (eq-eqb (index_of e.content) no_index none) refl
-
-  pub set_no_shorter : (es : List (StorageEntry T)) (i : ℕ) (e : StorageEntry T)
-      → length es ≤ length (slice_set es i e)
-  set_no_shorter es i e = let same = length-set es i e in omega arith
 
   -- a slot without borrows that is written where none stood
   pub indexed_free : {t : Table} {es es' : List (StorageEntry T)} {i : ℕ} {e : StorageEntry T}

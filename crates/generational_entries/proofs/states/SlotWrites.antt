@@ -1,54 +1,35 @@
 -- A slot that changes with the table of borrows, and what is left of the other slots.
-use Rattle.std.proofs.Common.{◌≡◌, ◌≢◌, ℕ, ◌+◌, ◌<◌, ◌≤◌, true, false, List, [], ◌∷◌, length, Some}
+use Rattle.std.proofs.Common.{◌≡◌, ◌≢◌, ℕ, ◌+◌, ◌<◌, ◌≤◌, Bool, true, false, List, [], ◌∷◌, length}
 use Rattle.std.proofs.Common.{refl, sym, ap, ◌∙◌, arith, subst, inl, inr, slice_get, slice_set}
+use Rattle.std.proofs.Common.{nat_eq}
 use Rattle.std.specs.Ordering.{nat_cmp}
-use Rattle.std.proofs.lemmas.Bool.{true≢false, eq-eqb, ne_eqb}
-use Rattle.std.proofs.lemmas.Option.{slice_get_within}
+use Rattle.std.proofs.lemmas.Bool.{true≢false, eq-eqb, eqb-true, ne_eqb}
 use Rattle.std.proofs.lemmas.List.{get_or-set_same, length-set}
-use Rattle.std.specs.FinSet as set
 use Rattle.generational_core.specs.declared.borrow.Borrow.{Borrow}
 use Rattle.generational_core.specs.Cells.Content.{Here}
 use Rattle.generational_core.specs.declared.error.Location.{Location}
 use Rattle.generational_entries.specs.declared.entry.EntryDetails.{EntryDetails}
 use Rattle.generational_entries.specs.declared.entry.StorageEntry.{StorageEntry}
-use Rattle.generational_entries.specs.Entry.{Entry}
 use Rattle.generational_entries.specs.Entries.{EntryList, kept_data, index_in, index_of, has_index}
-use Rattle.generational_entries.specs.Entries.{entry_of, AreIndexed, IsListed, unread_data}
+use Rattle.generational_entries.specs.Entries.{AreIndexed, IsListed, unread_data}
 use Rattle.generational_containers.specs.Table.{Releases, no_index, IsUsed, Table, list_at}
-use Rattle.generational_containers.specs.Table.{IsVacant}
-use Rattle.generational_containers.specs.Table.{IsClosed}
+use Rattle.generational_containers.specs.Table.{IsVacant, IsClosed}
 use Rattle.generational_entries.specs.Entry.Kept.{Live}
 use Rattle.generational_entries.specs.declared.entry.Kind.{Kind}
 use Rattle.generational_containers.specs.Lists.{how_many}
-use Rattle.generational_entries.specs.Entry.{change_entry, change_entry_if}
-unfoldable use Rattle.generational_entries.specs.Entries.{entries_of}
-use Rattle.generational_entries.specs.declared.entry.StorageEntryData.TheVariants as slot
-use Rattle.generational_containers.proofs.lists.Lists.{set-own, set_written, bit, fewer_within}
+use Rattle.generational_containers.proofs.lists.Lists.{set_written, bit, fewer_within}
 use Rattle.generational_entries.proofs.lists.TableChanges.{Changes, Opens, closed, closed_count}
 use Rattle.generational_entries.proofs.lists.TableChanges.{list_changed, none_some, opened}
-use Rattle.generational_entries.proofs.lists.TableChanges.{opened_count, opened_few}
-use Rattle.generational_entries.proofs.lists.TableChanges.{opened_used, used_still}
-use Rattle.generational_entries.proofs.states.Indexes.{has_listed, indexed}
-use Rattle.generational_entries.proofs.states.Entries.{IsKept, SameLists, entries_set, has_place}
-use Rattle.generational_entries.proofs.states.Entries.{location, slot_seen, used_here}
+use Rattle.generational_entries.proofs.lists.TableChanges.{opened_count, opened_few, opened_used}
+use Rattle.generational_entries.proofs.lists.TableChanges.{used_still}
+use Rattle.generational_entries.proofs.states.Indexes.{has_listed, indexed, indexed_free}
+use Rattle.generational_entries.proofs.states.Entries.{IsAt, SameLists, has_place, used_here}
+use Rattle.std.specs.FinSet as set
+unfoldable use Rattle.generational_entries.specs.Entries.{entries_of}
+use Rattle.generational_entries.specs.declared.entry.StorageEntryData.TheVariants as slot
 
 module _ {T : Type 0} {t : Table} {es : List (StorageEntry T)} {ls : List EntryDetails}
-    {now : EntryList T} (s : IsKept t es ls now) (i : ℕ) (e : StorageEntry T)
-    (there : slice_get es i ≡ Some e) where
-  -- the slots with the one at the index written, as contracts see them
-  pub view_changed : (lists : List (List Borrow)) (e' : StorageEntry T) (f : Entry T → Entry T)
-      → SameLists t.lists lists es i
-      → ((l : EntryDetails) → entry_of lists e' l ≡ f (entry_of t.lists e l))
-      → entries_of lists (slice_set es i e') ls ≡ change_entry now.slots i f
-  view_changed lists e' f same becomes =
-      let within = slice_get_within es i e there in let long = s.made in
-      let l = location s i e there in
-      ap (entries_of lists (slice_set es i e')) (sym (set-own ls i l.0 l.1))
-      ∙ (entries_set t.lists lists es ls i e' l.0 within (omega arith) same
-      ∙ (ap (slice_set (entries_of t.lists es ls) i) (becomes l.0)
-      ∙ (ap (λ slots. slice_set slots i (f (entry_of t.lists e l.0))) s.slots
-      ∙ ap (change_entry_if now.slots i f) (sym (slot_seen s i e there)))))
-
+    {now : EntryList T} {i : ℕ} {e : StorageEntry T} (a : IsAt t es ls now i e) where
   -- the table changes at an index that no other slot has
   module _ {t' : Table} {x : ℕ} (c : Changes t t' x) (below : x < no_index)
       (alone : (k : ℕ) → k ≢ i → index_in (slice_get es k) ≢ x) where
@@ -61,12 +42,12 @@ module _ {T : Type 0} {t : Table} {es : List (StorageEntry T)} {ls : List EntryD
         ≡ set.len t.free + bit (has_index e) + length t'.lists
         → length t'.lists ≤ length es → AreIndexed t' (slice_set es i e')
     step_indexed e' fits here counts few =
-        let w = set_written es i e' e there in
-        let count = rw there at (w.count has_index) in
-        let counted = s.indexed.counted in
+        let w = set_written es i e' e a.there in
+        let count = rw a.there at (w.count has_index) in
+        let counted = a.store.indexed.counted in
         let long = length-set es i e' in
-        indexed w s.indexed fits
-        (λ k other some. used_still c _ (alone k other) (s.indexed.used k some))
+        indexed w a.store.indexed fits
+        (λ k other some. used_still c _ (alone k other) (a.store.indexed.used k some))
         (λ some. subst (IsUsed t') (sym (here some).0) (here some).1)
         (λ some k other same. alone k other (same ∙ (here some).0))
         (omega arith) (omega arith)
@@ -75,28 +56,28 @@ module _ {T : Type 0} {t : Table} {es : List (StorageEntry T)} {ls : List EntryD
   vacant_alone : (x : ℕ) → (IsUsed t x → ⊥) → x ≢ no_index
       → (k : ℕ) → k ≢ i → index_in (slice_get es k) ≢ x
   vacant_alone x unused some k other same =
-      unused (subst (IsUsed t) same (s.indexed.used k (λ z. some (sym same ∙ z))))
+      unused (subst (IsUsed t) same (a.store.indexed.used k (λ z. some (sym same ∙ z))))
 
   pub used_alone : (x : ℕ) → index_of e.content ≡ x → x ≢ no_index
       → (k : ℕ) → k ≢ i → index_in (slice_get es k) ≢ x
   used_alone x is some k other same =
-      let own : index_in (slice_get es i) ≡ x = rw there is in
-      other (s.indexed.apart k i (λ z. some (sym same ∙ z)) (same ∙ sym own))
+      let own : index_in (slice_get es i) ≡ x = rw a.there is in
+      other (a.store.indexed.apart k i (λ z. some (sym same ∙ z)) (same ∙ sym own))
 
   module _ (none : index_of e.content ≡ no_index) where
     has_none : has_index e ≡ false
     has_none = rw none refl
 
     fewer : how_many has_index es < length es
-    fewer = fewer_within has_index es i e there has_none
+    fewer = fewer_within has_index es i e a.there has_none
 
     pub small_left : length t.lists < no_index
-    small_left = let few = s.indexed.few in let small = s.small in omega arith
+    small_left = let few = a.store.indexed.few in let small = a.store.small in omega arith
 
     pub room_left : length es ≤ t.rooms → t.free ≡ set.empty → length t.lists < t.rooms
     room_left roomy empty =
         let full : set.len t.free ≡ 0 = ap set.len empty ∙ set.len-empty nat_cmp in
-        let counted = s.indexed.counted in let less = fewer in omega arith
+        let counted = a.store.indexed.counted in let less = fewer in omega arith
 
     -- the slot gets an index
     module _ {t' : Table} {x : ℕ} {list : List Borrow} (o : Opens t t' x list) where
@@ -124,8 +105,8 @@ module _ {T : Type 0} {t : Table} {es : List (StorageEntry T)} {ls : List EntryD
           let below = open_below in
           let has : has_index e' ≡ true = rw (at, ne_eqb x no_index (λ z. omega (arith, z))) refl
           in
-          let counts = opened_count o in let few = s.indexed.few in
-          let counted = s.indexed.counted in let less = fewer in
+          let counts = opened_count o in let few = a.store.indexed.few in
+          let counted = a.store.indexed.counted in let less = fewer in
           step_indexed (opened o) open_below open_alone e'
           (has_listed e'.content (λ z. omega (arith, sym at ∙ z, below)))
           (λ some. (at, opened_used o))
@@ -134,11 +115,11 @@ module _ {T : Type 0} {t : Table} {es : List (StorageEntry T)} {ls : List EntryD
 
   module _ (x : ℕ) (is : index_of e.content ≡ x) (some : x ≢ no_index) where
     pub used_x : IsUsed t x
-    used_x = subst (IsUsed t) is (used_here s i e there (λ z. some (sym is ∙ z)))
+    used_x = subst (IsUsed t) is (used_here a (λ z. some (sym is ∙ z)))
 
     used_below : x < no_index
-    used_below = let low = used_x.within in let few = s.indexed.few in
-        let small = s.small in omega arith
+    used_below = let low = used_x.within in let few = a.store.indexed.few in
+        let small = a.store.small in omega arith
 
     has_some : has_index e ≡ true
     has_some = rw (is, ne_eqb x no_index some) refl
@@ -156,7 +137,7 @@ module _ {T : Type 0} {t : Table} {es : List (StorageEntry T)} {ls : List EntryD
           let has : has_index e' ≡ true = rw (at, ne_eqb x no_index some) refl in
           let long : length t'.lists ≡ length t.lists = rw now' (length-set t.lists x left) in
           let free : set.len t'.free ≡ set.len t.free = rw now' refl in
-          let few = s.indexed.few in
+          let few = a.store.indexed.few in
           step_indexed (list_changed t t' x left now') used_below (used_alone x is some) e'
           (has_listed e'.content (λ z. some (sym at ∙ z)))
           (λ z. (at, list_used)) (rw (has, has_some) (omega arith)) (omega arith)
@@ -179,17 +160,51 @@ module _ {T : Type 0} {t : Table} {es : List (StorageEntry T)} {ls : List EntryD
       close_indexed e' fits none =
           let has : has_index e' ≡ false = rw none refl in
           let free = closed_count c used_x.used in let long = c.same in
-          let few = s.indexed.few in
+          let few = a.store.indexed.few in
           step_indexed (closed c) used_below (used_alone x is some) e' fits
           (λ z. absurd (z none)) (rw (has, has_some) (omega arith)) (omega arith)
 
+  -- a cell without borrows is written where none stood
+  pub free_indexed : index_of e.content ≡ no_index → (e' : StorageEntry T) → IsListed e'.content
+      → index_of e'.content ≡ no_index → AreIndexed t (slice_set es i e')
+  free_indexed before e' fits none =
+      indexed_free (set_written es i e' e a.there) a.store.indexed fits
+      (let same = length-set es i e' in omega arith) (rw a.there before) none
+
+  -- the slot's index is given back, if it has one
+  module _ {t' : Table} {x : ℕ} (is : index_of e.content ≡ x) (none : x ≡ no_index → t' ≡ t)
+      (some : x ≢ no_index → IsClosed t t' x) where
+    given_back : (P : Table → Type 0) → (x ≡ no_index → P t)
+        → (x ≢ no_index → IsClosed t t' x → P t') → P t'
+    given_back P kept closes = at (nat_eq x no_index) refl
+      where
+        at : (b : Bool) → nat_eq x no_index ≡ b → P t'
+        at true same =
+            let last = eqb-true x no_index same in subst P (sym (none last)) (kept last)
+        at false other =
+            let index : x ≢ no_index = λ z. true≢false (sym (eq-eqb x no_index z) ∙ other) in
+            closes index (some index)
+
+    pub given_lists : SameLists t.lists t'.lists es i
+    given_lists = given_back (λ u. SameLists t.lists u.lists es i) (λ z k other. refl)
+        (λ z c. close_lists x is z c)
+
+    pub given_indexed : (e' : StorageEntry T) → IsListed e'.content
+        → index_of e'.content ≡ no_index → AreIndexed t' (slice_set es i e')
+    given_indexed e' fits free =
+        given_back (λ u. AreIndexed u (slice_set es i e'))
+        (λ z. free_indexed (is ∙ z) e' fits free) (λ z c. close_indexed x is z c e' fits free)
+
+    pub given_rooms : t'.rooms ≡ t.rooms
+    given_rooms = given_back (λ u. u.rooms ≡ t.rooms) (λ z. refl) (λ z c. c.rooms)
+
   -- a reader is taken away from a value
-  module _ (kd : Kind) (x : ℕ) (v : T) (is : e.content ≡ slot.Read kd x v) where
+  module _ {kd : Kind} {x : ℕ} {v : T} (is : e.content ≡ slot.Read kd x v) where
     own : index_of e.content ≡ x
     own = rw is refl
 
     some : x ≢ no_index
-    some = has_place s i e there kd x v is
+    some = has_place a is
 
     pub release_lists : (t' : Table) (y : ℕ) (left : List Borrow) → Releases t t' x y left
         → SameLists t.lists t'.lists es i

@@ -1,53 +1,25 @@
 -- A call is answered alike where one state carries another, and the states after it carry again.
-use Rattle.std.proofs.Common.{◌≡◌, ℕ, ◌+◌, ◌-◌, ◌≤◌, Bool, true, false, cond, ◌&&◌, List, [], ◌∷◌}
-use Rattle.std.proofs.Common.{◌++◌, Option, None, Some, refl, sym, ap, subst, ◌∙◌, arith, unwrap_or}
-use Rattle.std.proofs.Common.{⊎_elim, inl, inr}
-use Rattle.std.specs.Prelude.{max, nat_eq, nat_lt, is_some, option_map, map as list_map}
-use Rattle.std.specs.Prelude.{not, ◌⊎◌}
-use Rattle.std.specs.Ordering.{nat_cmp, eq_by_cmp}
-use Rattle.std.specs.Cmp.{nat_cmp_total, nat_eq_equiv}
-use Rattle.std.specs.List.{AllByRecursion, filter}
+use Rattle.generational_sessions.proofs.sessions
+use sessions.{◌≡◌, eq_by_cmp, cond-true, content_at, has_reader, has_writer, KnowsFresh, rename_box}
+use sessions.{ℕ, UnknownOwner, read_trouble, hindrance_to, CarriesCells, shift_borrow, rename_fresh}
+use sessions.{◌+◌, ◌-◌, ◌≤◌, ◌∷◌, Some, refl, Name, Cell, Here, Lent, fill, make, Done, Flag, Back}
+use sessions.{Bool, Location, leads_to, can_read, is_known, add_cell, write_at, own_cell, by_number}
+use sessions.{true, cond, ◌&&◌, List, ◌++◌, None, State, reach, close, Fresh, refer, point, Owned}
+use sessions.{false, subst, arith, Value, Shared, Owners, box_of, Action, Answer, unless, set_at}
+use sessions.{[], sym, ap, ◌∙◌, inl, inr, max, not, ◌⊎◌, Ref, act}
+use sessions.{Option, ⊎_elim, nat_eq, nat_lt, filter, eq-eqb, Outcome, read_at, Refused, Carries}
+use sessions.{unwrap_or, nat_cmp_total, write_trouble, set_ownership, release_owner, rename_content}
+use sessions.{is_some, has_same_id, take_ticket, add_to_list, clone_owner, next_borrow, KnowsAnswer}
+use sessions.{option_map, true≢false, cases_Bool, map-append, content_of, shift_owner, rename_cell}
+use sessions.{list_map, AllByRecursion, GenerationalPointer, rename_ownership, contains-insert_name}
+use sessions.{nat_cmp, NameMap, Content, name_of, Trouble, Dropped, Troubled, KnowsBox, key_same}
+use sessions.{nat_eq_equiv, location_of, remove_reader, rename_action, rename_answer, changed_there}
+use sessions.{eqb-true, cond_both, Ownership, can_write, OwnerName, ownership, KnowsCall, name_test}
+use Rattle.generational_sessions.proofs.carrying.CarriedCells
+use CarriedCells.{cond_map, key_moved, cell_moved, IfThere, same_test, same_size, cells_left}
+use CarriedCells.{ticket_moved, refusals_moved, reader_moved, cells_refilled, hindrance_at_moved}
+use CarriedCells.{others_moved, KnowsTarget, known_target, cells_insert, cells_swept, first_moved}
 use Rattle.std.specs.FinMap as map
-use Rattle.std.proofs.lemmas.Bool.{true≢false, eqb-true, eq-eqb, cond-true, cond_both, cases_Bool}
-use Rattle.std.proofs.lemmas.List.{map-append}
-use Rattle.generational_sessions.proofs.carrying.CarriedCells.{cond_map, ticket_moved, key_moved}
-use Rattle.generational_sessions.proofs.carrying.CarriedCells.{cell_moved}
-use Rattle.generational_sessions.proofs.carrying.CarriedCells.{refusals_moved, reader_moved}
-use Rattle.generational_sessions.proofs.carrying.CarriedCells.{others_moved}
-use Rattle.generational_sessions.proofs.carrying.CarriedCells.{IfThere, KnowsTarget, known_target}
-use Rattle.generational_sessions.proofs.carrying.CarriedCells.{same_test}
-use Rattle.generational_sessions.proofs.carrying.CarriedCells.{same_size, cells_insert}
-use Rattle.generational_sessions.proofs.carrying.CarriedCells.{cells_refilled}
-use Rattle.generational_sessions.proofs.carrying.CarriedCells.{cells_swept, cells_left}
-use Rattle.generational_sessions.proofs.carrying.CarriedCells.{hindrance_at_moved}
-use Rattle.generational_sessions.proofs.carrying.CarriedCells.{first_moved}
-use Rattle.generational_core.specs.declared.error.Location.{Location}
-use Rattle.generational_core.specs.declared.error.StoreError.TheVariants.{UnknownOwner}
-use Rattle.generational_core.specs.declared.boxes.GenerationalPointer.{GenerationalPointer}
-use Rattle.generational_core.specs.Names.{Name, NameMap}
-use Rattle.generational_core.specs.Cells.{Content, Cell, content_of, location_of}
-use Rattle.generational_core.specs.Cells.Content.{Here, Lent}
-use Rattle.generational_core.specs.Cells.Cell.{Value, Shared, Ref}
-use Rattle.generational_core.specs.State.{State, Ownership, Owners, content_at}
-use Rattle.generational_core.specs.Boxes.{name_of, box_of, has_same_id}
-use Rattle.generational_core.specs.Borrowing.{leads_to, read_trouble, write_trouble}
-use Rattle.generational_core.specs.Borrowing.{Trouble, can_read, can_write, fill, reach}
-use Rattle.generational_core.specs.Borrowing.{take_ticket}
-use Rattle.generational_core.specs.Borrowing.Trouble.{Dropped}
-use Rattle.generational_core.specs.Ending.{close, hindrance_to}
-use Rattle.generational_core.specs.Machine.{set_ownership, release_owner, remove_reader}
-use Rattle.generational_core.specs.Machine.{add_to_list, make, clone_owner, next_borrow, has_reader}
-use Rattle.generational_core.specs.Machine.{OwnerName, ownership, is_known, add_cell, has_writer}
-use Rattle.generational_core.specs.Machine.{Action, Outcome, read_at, write_at, own_cell, Answer}
-use Rattle.generational_core.specs.Machine.{Fresh, act, unless, refer, set_at, point}
-use Rattle.generational_core.specs.Machine.Answer.{Owned, Done, Flag, Back, Troubled, Refused}
-use Rattle.generational_sessions.specs.Carrying.{rename_ownership, rename_content, rename_action}
-use Rattle.generational_sessions.specs.Carrying.{CarriesCells, KnowsAnswer, rename_answer}
-use Rattle.generational_sessions.specs.Carrying.{shift_owner}
-use Rattle.generational_sessions.specs.Carrying.{shift_borrow, rename_cell, rename_fresh, Carries}
-use Rattle.generational_sessions.specs.Carrying.{KnowsBox, KnowsCall, KnowsFresh, rename_box}
-use Rattle.generational_core.proofs.maps.Maps.{name_test, by_number, key_same, contains-insert_name}
-use Rattle.generational_core.proofs.maps.Maps.{changed_there}
 
 -- two outcomes, the first of which is the second one, renamed
 pub record Matched {T U : Type 0} (f : Name → Name) (d : ℕ) (g : T → U)
@@ -127,9 +99,8 @@ module _ {T U : Type 0} {f : Name → Name} {d : ℕ} {g : T → U}
 
   unless_alike : {t u : Option Trouble} {x : Outcome U} {v : Outcome T}
       → t ≡ u → Alike x v → Alike (unless t S x) (unless u A v)
-  unless_alike {u = u} {x = x} {v = v} e h =
-      rw e (elim u as (λ u. Alike (unless u S x) (unless u A v))
-      [ None ↦ h | Some t ↦ stays (Troubled t) refl tt ])
+  unless_alike {u = u} {x = x} {v = v} e h = rw e (elim u as
+      (λ u. Alike (unless u S x) (unless u A v)) [ None ↦ h | Some t ↦ stays (Troubled t) refl tt ])
 
   -- what is of this store has its number in both states, and what is of another in neither
   own_number : nat_eq A.number S.number ≡ true
@@ -167,13 +138,11 @@ module _ {T U : Type 0} {f : Name → Name} {d : ℕ} {g : T → U}
 
   -- an owner, and its record
   by_owner : (o : OwnerName) → (P : OwnerName → Option Ownership → Option Ownership → Type 0)
-      → ((x : OwnerName) → P x None None)
-      → ((h : Ownership) → map.get A.owners o.key ≡ Some h → own_owner o ≡ owner o
-      → P (own_owner o) (Some (owner_record h)) (Some h))
+      → ((x : OwnerName) → P x None None) → ((h : Ownership) → map.get A.owners o.key ≡ Some h
+      → own_owner o ≡ owner o → P (own_owner o) (Some (owner_record h)) (Some h))
       → P (owner o) (ownership S (owner o)) (ownership A o)
-  by_owner o P none some = by_store o.store
-      (λ own. rw (own, own_number, c.owners o.key) (at own (map.get A.owners o.key) refl))
-      (λ s t. rw (s, t) (none o))
+  by_owner o P none some = by_store o.store (λ own. rw (own, own_number, c.owners o.key)
+      (at own (map.get A.owners o.key) refl)) (λ s t. rw (s, t) (none o))
     where
       at : nat_eq o.store A.number ≡ true → (h : Option Ownership)
           → map.get A.owners o.key ≡ h → P (own_owner o) (option_map owner_record h) h
@@ -182,25 +151,21 @@ module _ {T U : Type 0} {f : Name → Name} {d : ℕ} {g : T → U}
 
   known_moved : (o : Option OwnerName) → is_known S (option_map owner o) ≡ is_known A o
   known_moved None = refl
-  known_moved (Some o) =
-      by_owner o (λ _ x y. is_some x ≡ is_some y) (λ _. refl) (λ h _ _. refl)
+  known_moved (Some o) = by_owner o (λ _ x y. is_some x ≡ is_some y) (λ _. refl) (λ h _ _. refl)
 
-  with_cells : {new : NameMap (Cell U)} {old : NameMap (Cell T)}
-      → CarriesCells f d g Knows new old
+  with_cells : {new : NameMap (Cell U)} {old : NameMap (Cell T)} → CarriesCells f d g Knows new old
       → Carries f d g Knows (record S { cells = new }) (record A { cells = old })
   with_cells cells = assumption (cells, c)
 
   -- a ticket more in both
   next_moved : Carries f d g Knows (take_ticket S) (take_ticket A)
-  next_moved =
-      let next : S.next + 1 ≡ A.next + 1 + d = (let e = c.next in omega arith) in
+  next_moved = let next : S.next + 1 ≡ A.next + 1 + d = (let e = c.next in omega arith) in
       assumption (next, c)
 
   -- another content in a known cell
   with_content : (n : Name) (x : Content U) (y : Content T)
       → Knows n → x ≡ content y → Carries f d g Knows (fill S (f n) x) (fill A n y)
-  with_content n x y kn e =
-      with_cells (rw e (cells_refilled c.apart c.cells n y kn))
+  with_content n x y kn e = with_cells (rw e (cells_refilled c.apart c.cells n y kn))
 
   -- a new cell at a known name
   pub with_born : (n : Name) (x : Cell T) → Knows n → KnowsTarget Knows x
@@ -245,9 +210,8 @@ module _ {T U : Type 0} {f : Name → Name} {d : ℕ} {g : T → U}
 
   record_put : (key : ℕ) (h : Ownership) → AllByRecursion Knows h.names
       → Carries f d g Knows (set_ownership S (key + d) (owner_record h)) (set_ownership A key h)
-  record_put key h k = with_record key (Some h) k _ _
-      (map.get-insert nat_cmp_total S.owners (key + d) (owner_record h))
-      (map.get-insert nat_cmp_total A.owners key h)
+  record_put key h k = with_record key (Some h) k _ _ (map.get-insert nat_cmp_total
+      S.owners (key + d) (owner_record h)) (map.get-insert nat_cmp_total A.owners key h)
 
   -- a name at the end of an owner's list
   listed_alike : (o : Option OwnerName) (n : Name) → is_known A o ≡ true → Knows n
@@ -255,13 +219,11 @@ module _ {T U : Type 0} {f : Name → Name} {d : ℕ} {g : T → U}
       × ((add_to_list A o n).number ≡ A.number)
   listed_alike None n live k = (c, refl)
   listed_alike (Some o) n live k = (
-    by_owner o (λ x y z. is_some z ≡ true
-        → Carries f d g Knows (add_to_list S (Some x) (f n)) (add_to_list A (Some o) n))
-        (λ x e. absurd (true≢false (sym e))) (λ h is _ _.
-        let mine = changed_there by_number A.owners o.key (grow n) h is in
-        let other = changed_there by_number S.owners (o.key + d) (grow (f n)) (owner_record h)
-        (c.owners o.key ∙ ap (option_map owner_record) is) in
-        rw (mine, other, sym (map-append f h.names (n ∷ [])))
+    by_owner o (λ x y z. is_some z ≡ true → Carries f d g Knows (add_to_list S (Some x) (f n))
+        (add_to_list A (Some o) n)) (λ x e. absurd (true≢false (sym e))) (λ h is _ _.
+        let mine = changed_there by_number A.owners o.key (grow n) h is in let other = changed_there
+        by_number S.owners (o.key + d) (grow (f n)) (owner_record h) (c.owners o.key
+        ∙ ap (option_map owner_record) is) in rw (mine, other, sym (map-append f h.names (n ∷ [])))
         (record_put o.key (grow n h) (all_push Knows h.names n (c.listed o.key h is) k))) live,
     refl,
   )
@@ -289,12 +251,10 @@ module _ {T U : Type 0} {f : Name → Name} {d : ℕ} {g : T → U}
   end_alike : (names : List Name) → AllByRecursion Knows names
       → Alike (unless (hindrance_to S (list_map f names)) S (Done, close S (list_map f names)))
       (unless (hindrance_to A names) A (Done, close A names))
-  end_alike names k =
-      let end = end_names names k in unless_alike end.1 (matches refl tt refl end.0)
+  end_alike names k = let end = end_names names k in unless_alike end.1 (matches refl tt refl end.0)
 
   set_alike : (b : GenerationalPointer) (v : T) (n : Name) (x : Option (Content T)) → Knows n
-      → Alike (set_at S (box b) (g v) (Some (f n)) (option_map content x))
-      (set_at A b v (Some n) x)
+      → Alike (set_at S (box b) (g v) (Some (f n)) (option_map content x)) (set_at A b v (Some n) x)
   set_alike b v n (Some (Here old [])) k =
       matches refl tt refl (with_content n _ (Here v []) k refl)
   set_alike b v n _ k = stays (Back v) refl tt
@@ -303,10 +263,9 @@ module _ {T U : Type 0} {f : Name → Name} {d : ℕ} {g : T → U}
       (cond (has_reader (option_map content y) (t + d))
       (Flag true, remove_reader S (f n) (t + d) (option_map content y)) (Flag false, S))
       (cond (has_reader y t) (Flag true, remove_reader A n t y) (Flag false, A))
-  reader_alike n t (Some (Here v readers)) k = if_alike (reader_moved f d g readers t)
-      (λ _. matches refl tt refl (with_content n _ (Here v (filter
-      (λ r. not (nat_eq r.ticket t)) readers)) k (ap (Here (g v)) (others_moved f d g readers t))))
-      (stays (Flag false) refl tt)
+  reader_alike n t (Some (Here v readers)) k = if_alike (reader_moved f d g readers t) (λ _. matches
+      refl tt refl (with_content n _ (Here v (filter (λ r. not (nat_eq r.ticket t)) readers)) k
+      (ap (Here (g v)) (others_moved f d g readers t)))) (stays (Flag false) refl tt)
   reader_alike n t _ k = stays (Flag false) refl tt
 
   writer_alike : (v : T) (n : Name) (t : ℕ) (y : Option (Content T)) → Knows n → Alike
@@ -410,10 +369,9 @@ module _ {T U : Type 0} {f : Name → Name} {d : ℕ} {g : T → U}
   act_matched Action.NewOwner new k kn =
       matches c (rw (nat_eq_equiv.refl A.number, c.number, c.next) refl) tt refl
       (next_moved (rw (sym c.next) at (record_put c A.next (record { names = []; count = 1 }) tt)))
-  act_matched (Action.CloneOwner o) new k kn =
-      by_owner c o (λ x y z. Alike c (clone_owner S x y) (clone_owner A o z)) (λ x. unknown_alike c)
-      (λ h is same. matches c (ap Owned same) tt refl (next_moved
-      (record_put c o.key (record h { count = h.count + 1 }) (c.listed o.key h is))))
+  act_matched (Action.CloneOwner o) new k kn = by_owner c o (λ x y z. Alike c (clone_owner S x y)
+      (clone_owner A o z)) (λ x. unknown_alike c) (λ h is same. matches c (ap Owned same) tt refl
+      (next_moved (record_put c o.key (record h { count = h.count + 1 }) (c.listed o.key h is))))
   act_matched (Action.ReleaseOwner o) new k kn =
       by_owner c o (λ x y z. Alike c (release_owner S x y) (release_owner A o z))
       (λ x. unknown_alike c)
@@ -432,20 +390,17 @@ module _ {T U : Type 0} {f : Name → Name} {d : ℕ} {g : T → U}
       (λ e. rw (e.2, e.3, content_there c e.0 e.1)
       (unless_alike c (refusals_moved f d g (content_at A e.0)).1
       (write_alike l e.0 (content_at A e.0) e.1))) (reach_cases c b k)
-  act_matched (Action.ReleaseReader x) new k kn = by_store c x.store
-      (λ own. rw (own, own_number c, content_there c x.cell (k own))
-      (reader_alike c x.cell x.ticket (content_at A x.cell) (k own)))
-      (λ s t. rw (s, t) (stays c (Flag false) refl tt))
-  act_matched (Action.ReleaseWriter x v) new k kn = by_store c x.store
-      (λ own. rw (own, own_number c, content_there c x.cell (k own))
-      (writer_alike c v x.cell x.ticket (content_at A x.cell) (k own)))
-      (λ s t. rw (s, t) (stays c (Back v) refl tt))
+  act_matched (Action.ReleaseReader x) new k kn = by_store c
+      x.store (λ own. rw (own, own_number c, content_there c x.cell (k own)) (reader_alike c x.cell
+      x.ticket (content_at A x.cell) (k own))) (λ s t. rw (s, t) (stays c (Flag false) refl tt))
+  act_matched (Action.ReleaseWriter x v) new k kn = by_store c
+      x.store (λ own. rw (own, own_number c, content_there c x.cell (k own)) (writer_alike c v
+      x.cell x.ticket (content_at A x.cell) (k own))) (λ s t. rw (s, t) (stays c (Back v) refl tt))
   act_matched (Action.SetValue b v) new k kn = ⊎_elim (λ e. rw (e.0, e.1) (drop_alike c b))
       (λ e. rw (e.2, e.3, content_there c e.0 e.1) (set_alike c b v e.0 (content_at A e.0) e.1))
       (reach_cases c b k)
-  act_matched (Action.End b) new k kn = by_store c b.id.store
-      (λ own. rw (own, own_number c) (end_alike c (name_of b ∷ []) (k own, tt)))
-      (λ s t. rw (s, t) (end_alike c [] tt))
+  act_matched (Action.End b) new k kn = by_store c b.id.store (λ own. rw (own, own_number c)
+      (end_alike c (name_of b ∷ []) (k own, tt))) (λ s t. rw (s, t) (end_alike c [] tt))
   act_matched (Action.Point a b) new k kn =
       if_alike c (same_box_moved f d c.apart A.number a b k.0 k.1) (λ _. stays c Done refl tt)
       (⊎_elim (λ e. rw (e.0, e.1) (drop_alike c b)) (λ e. rw (e.2, e.3, c.cells.at e.0 e.1)

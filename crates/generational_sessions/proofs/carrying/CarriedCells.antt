@@ -1,36 +1,19 @@
 -- What is asked of cells that are carried is answered alike, and what is done to them is carried.
-use Rattle.std.proofs.Common.{◌≡◌, ℕ, Bool, true, cond, not, ◌||◌, List, [], ◌∷◌, Option, None}
-use Rattle.std.proofs.Common.{Some, refl, sym, ap, subst, ◌∙◌, ⊎_elim, inl, inr, arith, ◌+◌, ◌≤◌}
-use Rattle.std.proofs.Common.{false, length}
-use Rattle.std.specs.Prelude.{is_some, option_map, ◌⊎◌, map as list_map, nat_eq}
-use Rattle.std.specs.Cmp.{both_ways, unsigned_tied}
-use Rattle.std.specs.List.{AllByRecursion, list_any, filter, IsDistinct}
+use Rattle.generational_sessions.proofs.sessions
+use sessions.{◌≡◌, location_of, cells_after, hindrance_at, hindrance_of, CarriesCells, shift_borrow}
+use sessions.{ℕ, [], sym, ap, ◌∙◌, inl, inr, ◌+◌, ◌≤◌, ◌⊎◌, Ref, Here, Lent}
+use sessions.{Bool, change_if, is_shared, take_away, name_total, keys_apart, named_from, true≢false}
+use sessions.{true, cond, ◌||◌, List, ◌∷◌, None, Some, refl, false, Name, among, Cell, Value, sweep}
+use sessions.{not, is_some, is_name, NameMap, Content, Trouble, by_name, nat_cmp, or_left, cases_eq}
+use sessions.{Option, ⊎_elim, arith, length, nat_eq, filter, change, refill, Shared, eq-eqb, Borrow}
+use sessions.{subst, Location, name_cmp, is_named, get-keep, key_here, len_keys, eqb-true, or_right}
+use sessions.{option_map, IsDistinct, content_of, rename_cell, name_cases, name_apart, named_gives}
+use sessions.{list_map, list_any, name_here, keep_view, none≢some, some_live, eq_by_cmp, cond-true}
+use sessions.{both_ways, unsigned_tied, AllByRecursion, write_refusal, read_refusal, rename_content}
+use sessions.{first_hindrance, get-insert_name, get-insert_here, get-insert_apart, get-remove_apart}
 use Rattle.std.specs.FinMap as map
-use Rattle.generational_core.specs.declared.error.Location.{Location}
-use Rattle.generational_core.specs.Names.{Name, is_name, change, change_if, among, NameMap}
-use Rattle.generational_core.specs.Names.{name_cmp}
-use Rattle.generational_core.specs.Cells.{Content, Cell, content_of, is_shared, refill, location_of}
-use Rattle.generational_core.specs.Cells.Cell.{Value, Shared, Ref}
-use Rattle.generational_core.specs.State.{is_named}
-use Rattle.generational_core.specs.Borrowing.{write_refusal, Trouble, read_refusal}
-use Rattle.generational_core.specs.Ending.{sweep, take_away, cells_after, hindrance_at}
-use Rattle.generational_core.specs.Ending.{hindrance_of, first_hindrance}
-use Rattle.generational_sessions.specs.Carrying.{CarriesCells, rename_content, rename_cell}
-use Rattle.generational_sessions.specs.Carrying.{shift_borrow}
-use Rattle.generational_core.proofs.maps.Maps.{by_name, name_cases, name_here, name_apart, get-keep}
-use Rattle.generational_core.proofs.maps.Maps.{keep_view, get-insert_name, get-insert_here}
-use Rattle.generational_core.proofs.maps.Maps.{get-insert_apart, name_total, key_here}
-use Rattle.generational_core.proofs.maps.Maps.{get-remove_apart}
-use Rattle.generational_core.proofs.maps.Maps.{keys_apart, len_keys, named_gives, named_from}
-use Rattle.generational_core.proofs.machine.Ends.{none≢some, some_live}
-use Rattle.std.specs.Ordering.{nat_cmp, eq_by_cmp}
-use Rattle.std.proofs.lemmas.Bool.{true≢false, eqb-true, eq-eqb, or_left, or_right, cond-true}
-use Rattle.std.proofs.lemmas.Bool.{cases_eq}
-use Rattle.generational_core.specs.declared.borrow.Borrow.{Borrow}
-use Rattle.generational_core.specs.Cells.Content.{Here, Lent}
 
-pub cond_map : {A B : Type 0} (h : A → B) (b : Bool) (x y : A)
-    → cond b (h x) (h y) ≡ h (cond b x y)
+pub cond_map : {A B : Type 0} (h : A → B) (b : Bool) (x y : A) → cond b (h x) (h y) ≡ h (cond b x y)
 cond_map h true x y = refl
 cond_map h false x y = refl
 
@@ -40,9 +23,8 @@ some_map h (Some x) = refl
 
 -- tickets and keys compare as before
 pub ticket_moved : (d a t : ℕ) → nat_eq (a + d) (t + d) ≡ nat_eq a t
-ticket_moved d a t =
-    both_ways _ _ (λ h. let e = eqb-true (a + d) (t + d) h in eq-eqb a t (omega arith))
-    (λ h. let e = eqb-true a t h in eq-eqb (a + d) (t + d) (omega arith))
+ticket_moved d a t = both_ways _ _ (λ h. let e = eqb-true (a + d) (t + d) h in
+    eq-eqb a t (omega arith)) (λ h. let e = eqb-true a t h in eq-eqb (a + d) (t + d) (omega arith))
 
 pub key_moved : (d a b : ℕ) → eq_by_cmp nat_cmp (a + d) (b + d) ≡ eq_by_cmp nat_cmp a b
 key_moved d a b = unsigned_tied (a + d) (b + d) ∙ (ticket_moved d a b ∙ sym (unsigned_tied a b))
@@ -66,17 +48,15 @@ module _ {T U : Type 0} (f : Name → Name) (d : ℕ) (g : T → U) where
   refusals_moved (Some (Here v (r ∷ readers))) =
       (refl, ap (λ ls. Some (Trouble.BeingRead (r.location ∷ ls))) (locations readers))
     where
-      locations : (readers : List Borrow)
-          → list_map (λ (b : Borrow). b.location) (list_map (shift_borrow f d) readers)
-          ≡ list_map (λ b. b.location) readers
+      locations : (readers : List Borrow) → list_map (λ (b : Borrow). b.location)
+          (list_map (shift_borrow f d) readers) ≡ list_map (λ b. b.location) readers
       locations [] = refl
       locations (r ∷ readers) = ap (λ ls. r.location ∷ ls) (locations readers)
   refusals_moved _ = (refl, refl)
 
   -- whether a ticket is a reader's, and the readers without it
-  pub reader_moved : (readers : List Borrow) (t : ℕ)
-      → list_any (λ r. nat_eq r.ticket (t + d)) (list_map (shift_borrow f d) readers)
-      ≡ list_any (λ r. nat_eq r.ticket t) readers
+  pub reader_moved : (readers : List Borrow) (t : ℕ) → list_any (λ r. nat_eq r.ticket (t + d))
+      (list_map (shift_borrow f d) readers) ≡ list_any (λ r. nat_eq r.ticket t) readers
   reader_moved [] t = refl
   reader_moved (r ∷ readers) t = λ i. ticket_moved d r.ticket t i || reader_moved readers t i
 
@@ -84,33 +64,28 @@ module _ {T U : Type 0} (f : Name → Name) (d : ℕ) (g : T → U) where
       → filter (λ r. not (nat_eq r.ticket (t + d))) (list_map (shift_borrow f d) readers)
       ≡ list_map (shift_borrow f d) (filter (λ r. not (nat_eq r.ticket t)) readers)
   others_moved [] t = refl
-  others_moved (r ∷ readers) t =
-      let rest = filter (λ r. not (nat_eq r.ticket t)) readers in
+  others_moved (r ∷ readers) t = let rest = filter (λ r. not (nat_eq r.ticket t)) readers in
       (λ i. cond (not (ticket_moved d r.ticket t i))
       (shift_borrow f d r ∷ others_moved readers t i) (others_moved readers t i))
       ∙ cond_map (list_map (shift_borrow f d)) (not (nat_eq r.ticket t)) (r ∷ rest) rest
 
   -- a Ref comes from a Ref
-  pub was_ref : (o : Option (Cell T)) (n : Name) (l : Location)
-      → option_map (rename_cell f d g) o ≡ Some (Ref n l)
-      → (m : Name) × (o ≡ Some (Ref m l)) × (f m ≡ n)
+  pub was_ref : (o : Option (Cell T)) (n : Name) (l : Location) → option_map
+      (rename_cell f d g) o ≡ Some (Ref n l) → (m : Name) × (o ≡ Some (Ref m l)) × (f m ≡ n)
   was_ref (Some (Ref m k)) n l h = (m, (let e : k ≡ l = cc in ap (λ x. Some (Ref m x)) e), cc)
   was_ref _ n l h = cc
 
-not_among : (n : Name) (names : List Name)
-    → AllByRecursion (λ m. eq_by_cmp name_cmp n m ≡ false) names
-    → list_any (eq_by_cmp name_cmp n) names ≡ false
+not_among : (n : Name) (names : List Name) → AllByRecursion
+    (λ m. eq_by_cmp name_cmp n m ≡ false) names → list_any (eq_by_cmp name_cmp n) names ≡ false
 not_among n [] d = refl
 not_among n (m ∷ names) d = λ i. d.0 i || not_among n names d.1 i
 
 -- a map is no larger than one in which each of its names has a partner, and no two have the same
-pub no_larger : {X Y : Type 0} (R : Name → Name → Type 0)
-    → ((p q k : Name) → R p k → R q k → p ≡ q) → (S : NameMap X) (A : NameMap Y)
-    → ((q : Name) → is_some (map.get S q) ≡ true
+pub no_larger : {X Y : Type 0} (R : Name → Name → Type 0) → ((p q k : Name) → R p k → R q k → p ≡ q)
+    → (S : NameMap X) (A : NameMap Y) → ((q : Name) → is_some (map.get S q) ≡ true
     → (k : Name) × R q k × (is_some (map.get A k) ≡ true)) → map.len S ≤ map.len A
 unfolding IsDistinct
-no_larger {Y = Y} R one S A h =
-    let apart = keys_apart name_cmp S in
+no_larger {Y = Y} R one S A h = let apart = keys_apart name_cmp S in
     let le = go (map.keys S) A apart (λ q e. h q (map.contains_key-keys S q ∙ e)) in
     let len = len_keys name_cmp S in omega arith
   where
@@ -126,12 +101,10 @@ no_larger {Y = Y} R one S A h =
           ap is_some (get-remove_apart by_name A it.0 k.0 (λ is. true≢false
               (sym (subst (λ x. list_any (eq_by_cmp name_cmp x) names ≡ true)
               (one q n it.0 (subst (R q) is k.1) it.1) e) ∙ not_among n names d.0))) ∙ k.2,
-        )) in
-        let fewer = map.len-remove name_total A it.0 ∙ cond-true _ _ _ it.2 in
-        let some : 1 ≤ map.len A = ⊎_elim (λ e. absurd (true≢false
-        (sym it.2 ∙ (ap (λ m. is_some (map.get m it.0)) (map.empty_of_len A e)
-        ∙ ap is_some (map.get-empty name_cmp it.0))))) (λ ne. omega arith)
-        (cases_eq (map.len A) 0) in omega arith
+        )) in let fewer = map.len-remove name_total A it.0 ∙ cond-true _ _ _ it.2 in let some : 1 ≤
+        map.len A = ⊎_elim (λ e. absurd (true≢false (sym it.2 ∙ (ap (λ m. is_some (map.get m it.0))
+        (map.empty_of_len A e) ∙ ap is_some (map.get-empty name_cmp it.0)))))
+        (λ ne. omega arith) (cases_eq (map.len A) 0) in omega arith
 
 -- P of what is there
 abbrev pub IfThere : {A : Type 0} → Option A → (A → Type 0) → Type 0
@@ -162,17 +135,15 @@ kept_live m p n h = let it = some_live _ h in ap is_some (kept_cell m p n it.0 i
 insert_view : {X : Type 0} (m : NameMap X) (n : Name) (x : X) (q : Name)
     → ((q ≡ n) × (map.get (map.insert m n x) q ≡ Some x))
     ⊎ (map.get (map.insert m n x) q ≡ map.get m q)
-insert_view m n x q = ⊎_elim
-    (λ is. inl (is, ap (map.get (map.insert m n x)) is ∙ get-insert_here by_name m n x))
-    (λ ne. inr (get-insert_apart by_name m n x q ne)) (name_cases q n)
+insert_view m n x q = ⊎_elim (λ is. inl (is, ap (map.get (map.insert m n x)) is ∙ get-insert_here
+    by_name m n x)) (λ ne. inr (get-insert_apart by_name m n x q ne)) (name_cases q n)
 
 module _ {f : Name → Name} {Knows : Name → Type 0}
     (apart : (j k : Name) → Knows j → Knows k → f j ≡ f k → j ≡ k) where
   -- known names are told apart as before
   pub same_test : (j k : Name) → Knows j → Knows k → is_name (f j) (f k) ≡ is_name j k
-  same_test j k kj kk = ⊎_elim (λ is. rw is (name_here (f k) ∙ sym (name_here k)))
-      (λ ne. name_apart (f j) (f k) (λ e. ne (apart j k kj kk e)) ∙ sym (name_apart j k ne))
-      (name_cases j k)
+  same_test j k kj kk = ⊎_elim (λ is. rw is (name_here (f k) ∙ sym (name_here k))) (λ ne. name_apart
+      (f j) (f k) (λ e. ne (apart j k kj kk e)) ∙ sym (name_apart j k ne)) (name_cases j k)
 
   among_moved : (names : List Name) (k : Name)
       → AllByRecursion Knows names → Knows k → among (list_map f names) (f k) ≡ among names k
@@ -202,14 +173,11 @@ module _ {T U : Type 0} {f : Name → Name} {d : ℕ} {g : T → U} {Knows : Nam
     shared_at k kk = ap is_shared (c.at k kk) ∙ (cell_moved f d g (map.get A k)).1
 
     pub named_moved : (m : Name) → Knows m → is_named S (f m) ≡ is_named A m
-    named_moved m km = both_ways (is_named S (f m)) (is_named A m)
-        (λ h. let it = named_gives S (f m) h in
-        let k = c.from it.0 (ap is_some it.2) in
-        let was = was_ref f d g
-        (map.get A k.0) (f m) it.1 (sym (c.at k.0 k.1) ∙ (ap (map.get S) k.2 ∙ it.2)) in
-        let same = apart was.0 m (c.leads k.0 was.0 it.1 was.1) km was.2 in
-        named_from A m (k.0, it.1, was.1 ∙ ap (λ x. Some (Ref x it.1)) same))
-        (λ h. let it = named_gives A m h in named_from S (f m)
+    named_moved m km = both_ways (is_named S (f m)) (is_named A m) (λ h. let it = named_gives S
+        (f m) h in let k = c.from it.0 (ap is_some it.2) in let was = was_ref f d g (map.get A k.0)
+        (f m) it.1 (sym (c.at k.0 k.1) ∙ (ap (map.get S) k.2 ∙ it.2)) in let same = apart
+        was.0 m (c.leads k.0 was.0 it.1 was.1) km was.2 in named_from A m (k.0, it.1, was.1
+        ∙ ap (λ x. Some (Ref x it.1)) same)) (λ h. let it = named_gives A m h in named_from S (f m)
         (f it.0, it.1, c.at it.0 (c.known it.0 (ap is_some it.2)) ∙ ap (option_map cell) it.2))
 
     cells_keep : (p q : Name → Bool) → ((k : Name) → Knows k → p (f k) ≡ q k)
@@ -243,17 +211,15 @@ module _ {T U : Type 0} {f : Name → Name} {d : ℕ} {g : T → U} {Knows : Nam
           (λ e. c.from q (sym (ap is_some e) ∙ h)) (insert_view S (f n) (cell x) q);
       known = λ k h. ⊎_elim (λ e. subst Knows (sym e.0) kn)
           (λ e. c.known k (sym (ap is_some e) ∙ h)) (insert_view A n x k);
-      leads = λ k m l h. ⊎_elim
-          (λ e. subst (λ o. IfThere o (KnowsTarget Knows)) (sym e.1 ∙ h) target)
-          (λ e. c.leads k m l (sym e ∙ h)) (insert_view A n x k);
+      leads = λ k m l h. ⊎_elim (λ e. subst (λ o. IfThere o (KnowsTarget Knows))
+          (sym e.1 ∙ h) target) (λ e. c.leads k m l (sym e ∙ h)) (insert_view A n x k);
     }
 
     -- another content in a known cell
     pub cells_refilled : (n : Name) (x : Content T) → Knows n → CarriesCells f d g Knows
         (change S (f n) (refill (rename_content f d g x))) (change A n (refill x))
     unfolding change
-    cells_refilled n x kn =
-        rw (c.at n kn) (at (map.get A n) (known_target _ (c.leads n)))
+    cells_refilled n x kn = rw (c.at n kn) (at (map.get A n) (known_target _ (c.leads n)))
       where
         at : (y : Option (Cell T)) → IfThere y (KnowsTarget Knows) → CarriesCells f d g Knows
             (change_if S (f n) (refill (rename_content f d g x)) (option_map cell y))
@@ -272,15 +238,13 @@ module _ {T U : Type 0} {f : Name → Name} {d : ℕ} {g : T → U} {Knows : Nam
       (c : CarriesCells f d g Knows S A) (e : CarriesCells f d g Knows L M) where
     pub hindrance_at_moved : (n : Name) → Knows n → hindrance_at S L (f n) ≡ hindrance_at A M n
     hindrance_at_moved n kn =
-        let x = map.get A n in
-        let refused = (refusals_moved f d g (content_of x)).1 in
+        let x = map.get A n in let refused = (refusals_moved f d g (content_of x)).1 in
         rw (live_at e n kn, c.at n kn, (cell_moved f d g x).0, refused) refl
 
     pub first_moved : (names : List Name) → AllByRecursion Knows names
         → first_hindrance S L (list_map f names) ≡ first_hindrance A M names
     first_moved [] h = refl
-    first_moved (n ∷ names) h =
-        let own = of (map.get A n) (known_target _ (c.leads n)) in
+    first_moved (n ∷ names) h = let own = of (map.get A n) (known_target _ (c.leads n)) in
         rw (c.at n h.0, own, first_moved names h.1) refl
       where
         of : (x : Option (Cell T)) → IfThere x (KnowsTarget Knows)

@@ -1,57 +1,26 @@
 -- Sessions that carry others: calls come to the same, ids aside, and new names are numbered behind
 -- the old ones.
-use Rattle.std.proofs.Common.{zero, Bool, true, false, cond, length, Option, subst, ⊎_elim, arith}
-use Rattle.std.proofs.Common.{◌≡◌, ◌≢◌, suc, ◌+◌, ◌||◌, List, ◌∷◌, ◌++◌, None, Some, refl, sym, ◌∙◌}
-use Rattle.std.proofs.Common.{ℕ, [], ap}
-use Rattle.std.specs.Prelude.{nat_eq, is_some, option_map, slice_set, map as list_map}
-use Rattle.std.specs.List.{AllByRecursion}
-use Rattle.std.proofs.Math.Bool.{or_comm}
-use Rattle.std.proofs.lemmas.Bool.{true≢false, false_from_ne_true, cases_lt, cond_both, cond-false}
-use Rattle.std.proofs.lemmas.List.{length_push, get_or_push, get_or_append_left, map-append}
-use Rattle.std.proofs.lemmas.List.{map-set}
-use Rattle.std.proofs.lemmas.List.Folds.{list_any-append, list_any_at}
+use Rattle.generational_sessions.proofs.sessions
+use sessions.{zero, AllByRecursion, list_any-append, rename_action, CarriesSession, AreNumbersBelow}
+use sessions.{Bool, is_name, name_of, Outcome, Request, release, replace, Reading, Writing, Nothing}
+use sessions.{true, subst, arith, BoxAt, Place, Names, among, Guard, settle, Owning, NoSuch, number}
+use sessions.{false, get_or_append_left, GenerationalPointer, rename_ownership, contains-insert_old}
+use sessions.{cond, ◌||◌, List, ◌++◌, None, Some, refl, gives, spend, Boxed, Tells, Swaps, erase}
+use sessions.{length, Option, ⊎_elim, ◌≡◌, nat_eq, box_of, Action, Answer, box_in, Created, by_name}
+use sessions.{◌≢◌, suc, ◌+◌, ◌∷◌, sym, ◌∙◌, ap, Call, Name, Cell, ask, Held, swap, Asks, Yes}
+use sessions.{ℕ, KnowsGuard, rename_box, owner_held, with_owner, refusal_in, name_total, name_cases}
+use sessions.{[], cases_lt, Location, NewOwner, KnowsBox, at_place, KnowsHeld, AreListed, name_here}
+use sessions.{is_some, length_push, get_or_push, list_any_at, KnowsAnswer, shift_owner, rename_cell}
+use sessions.{option_map, true≢false, cond-false, map-append, pointer_of, CloneOwner, rename_held}
+use sessions.{slice_set, list_map, cond_both, Ownership, OwnerName, LeakOwner, KnowsCall, add_place}
+use sessions.{or_comm, map-set, Foreign, box_held, owner_in, with_box, if_ready, reply_of, named_by}
+use sessions.{false_from_ne_true, contains-insert_here, contains-insert_apart, contains-insert_name}
+use sessions.{ReleaseOwner, rename_answer, rename_guard, SessionState, SessionReply, IsNumberBelow}
+use Rattle.generational_sessions.proofs.carrying.CarriedCalls
+use CarriedCalls.{Matched, same_box_moved, all_push, created_moved, read_moved, write_moved}
 use Rattle.std.specs.FinMap as map
 use Rattle.std.specs.FinSet as set
-use Rattle.generational_core.specs.declared.error.Location.{Location}
-use Rattle.generational_core.specs.declared.boxes.GenerationalPointer.{GenerationalPointer}
-use Rattle.generational_sessions.specs.declared.calls.BoxAt.{BoxAt}
-use Rattle.generational_sessions.specs.declared.calls.BoxAt.TheVariants.{Place, Foreign}
-use Rattle.generational_sessions.specs.declared.calls.Call.{Call}
 use Rattle.generational_sessions.specs.declared.calls.Call.TheVariants as call
-use Rattle.generational_core.specs.Names.{Name, Names, is_name, among}
-use Rattle.generational_core.specs.Cells.{Cell}
-use Rattle.generational_core.specs.State.{Ownership}
-use Rattle.generational_core.specs.Boxes.{name_of, box_of}
-use Rattle.generational_core.specs.Answers.{pointer_of}
-use Rattle.generational_core.specs.Borrowing.{Guard}
-use Rattle.generational_core.specs.Machine.{Action, Answer, OwnerName, Outcome}
-use Rattle.generational_core.specs.Machine.Action.{NewOwner, CloneOwner, ReleaseOwner, LeakOwner}
-use Rattle.generational_sessions.specs.Carrying.{KnowsAnswer, rename_action, rename_answer}
-use Rattle.generational_sessions.specs.Carrying.{rename_ownership, KnowsGuard, rename_guard}
-use Rattle.generational_sessions.specs.Carrying.{shift_owner, rename_cell, KnowsBox, KnowsCall}
-use Rattle.generational_sessions.specs.Carrying.{rename_box}
-use Rattle.generational_sessions.specs.Session.{SessionState, SessionReply, owner_held, with_owner}
-use Rattle.generational_sessions.specs.Session.{ask}
-use Rattle.generational_sessions.specs.Session.{Held, at_place, box_held, owner_in, with_box}
-use Rattle.generational_sessions.specs.Session.{add_place}
-use Rattle.generational_sessions.specs.Session.{Request, box_in, if_ready, release, replace}
-use Rattle.generational_sessions.specs.Session.{reply_of}
-use Rattle.generational_sessions.specs.Session.{gives, settle, spend, swap}
-use Rattle.generational_sessions.specs.Session.Held.{Boxed, Reading, Writing, Owning, Nothing}
-use Rattle.generational_sessions.specs.Session.Request.{Asks, Tells, Swaps}
-use Rattle.generational_sessions.specs.Session.SessionReply.{Yes, Created, NoSuch}
-use Rattle.generational_sessions.specs.Numbered.{CarriesSession, IsNumberBelow, AreNumbersBelow}
-use Rattle.generational_sessions.specs.Numbered.{number}
-use Rattle.generational_sessions.specs.Numbered.{rename_held, KnowsHeld, refusal_in, named_by}
-use Rattle.generational_sessions.specs.Numbered.{AreListed, erase}
-use Rattle.generational_core.proofs.maps.Maps.{name_total, contains-insert_here}
-use Rattle.generational_core.proofs.maps.Maps.{contains-insert_apart}
-use Rattle.generational_core.proofs.maps.Maps.{name_cases, contains-insert_old}
-use Rattle.generational_core.proofs.maps.Maps.{contains-insert_name}
-use Rattle.generational_core.proofs.maps.Maps.{by_name, name_here}
-use Rattle.generational_sessions.proofs.carrying.CarriedCalls.{Matched, same_box_moved, all_push}
-use Rattle.generational_sessions.proofs.carrying.CarriedCalls.{created_moved}
-use Rattle.generational_sessions.proofs.carrying.CarriedCalls.{read_moved, write_moved}
 
 -- what the calls of two sessions come to
 pub data AskedAlike {T : Type 0} (f : Name → Name)
@@ -94,13 +63,11 @@ module _ {T : Type 0} (f : Name → Name) (d : ℕ) (Knows : Name → Type 0) (s
   -- a place more
   tables_push : (t u : List (Held T)) (x : Held T)
       → Tables t u → IsKnown x → Tables (t ++ moved x ∷ []) (u ++ x ∷ [])
-  tables_push t u x h k =
-      (rw h.0 (sym (map-append moved u (x ∷ []))), all_push IsKnown u x h.1 k)
+  tables_push t u x h k = (rw h.0 (sym (map-append moved u (x ∷ []))), all_push IsKnown u x h.1 k)
 
   -- what an answer gives, what it spends, and what is said
-  tables_give : (t u : List (Held T)) (answer : Answer T) → Tables t u
-      → KnowsAnswer Knows store answer
-      → Tables (t ++ gives (rename_reply answer) ∷ []) (u ++ gives answer ∷ [])
+  tables_give : (t u : List (Held T)) (answer : Answer T) → Tables t u → KnowsAnswer
+      Knows store answer → Tables (t ++ gives (rename_reply answer) ∷ []) (u ++ gives answer ∷ [])
   tables_give t u (Answer.Made b) h k = tables_push t u (Boxed b) h k
   tables_give t u (Answer.Reads g) h k = tables_push t u (Reading g) h k
   tables_give t u (Answer.Writes g v) h k = tables_push t u (Writing g v) h k
@@ -115,9 +82,8 @@ module _ {T : Type 0} (f : Name → Name) (d : ℕ) (Knows : Name → Type 0) (s
 
   said_moved : (x : Call T) (answer : Answer T)
       → erase (reply_of x (rename_reply answer)) ≡ erase (reply_of x answer)
-  said_moved x (Answer.Made b) = cond_both (nat_eq b.id.store store) _ _
-      (λ c. erase (reply_of x (Answer.Made c)) ≡ erase (reply_of x (Answer.Made b)))
-      (λ _. refl) (λ _. refl)
+  said_moved x (Answer.Made b) = cond_both (nat_eq b.id.store store) _ _ (λ c. erase
+      (reply_of x (Answer.Made c)) ≡ erase (reply_of x (Answer.Made b))) (λ _. refl) (λ _. refl)
   said_moved x _ = refl
 
 -- ---- sessions that are carried
@@ -151,28 +117,24 @@ module _ {T : Type 0} {f : Name → Name} {d : ℕ} {Knows : Name → Type 0} {s
       → ((b : GenerationalPointer) → KnowsBox Knows store b
       → Alike (x (rename_box f d store b)) (y b))
       → Alike (with_box (box_in s b) back x) (with_box (box_in a b) back y)
-  with_box_alike (Place p) back x y alike =
-      place_alike (λ h. with_box (box_held h) back x) _ at p
+  with_box_alike (Place p) back x y alike = place_alike (λ h. with_box (box_held h) back x) _ at p
     where
       at : (h : Held T) → KnowsHeld Knows store h → Alike
           (with_box (box_held (rename_held f d store h)) back x) (with_box (box_held h) back y)
       at (Boxed b) k = alike b k
       at _ k = no_such back
   with_box_alike (Foreign foreign) back x y alike =
-      let b = pointer_of foreign in
-      let own = nat_eq b.id.store store in
-      rw c.state.number
-      (cond_both own None (Some b) (λ o. Alike (with_box o back x) (with_box o back y))
-      (λ _. no_such back) (λ e. subst (λ z. Alike (x z) (y b))
-      (cond-false own (box_of store (f (name_of b)) b.created_at) b e)
+      let b = pointer_of foreign in let own = nat_eq b.id.store store in
+      rw c.state.number (cond_both own None
+      (Some b) (λ o. Alike (with_box o back x) (with_box o back y)) (λ _. no_such back) (λ e. subst
+      (λ z. Alike (x z) (y b)) (cond-false own (box_of store (f (name_of b)) b.created_at) b e)
       (alike b (λ k. absurd (true≢false (sym k ∙ e))))))
 
   -- a call of an owner
   with_owner_alike : (p : ℕ) (back : Option T) (x y : OwnerName → Request T)
       → ((o : OwnerName) → Alike (x (shift_owner f d store o)) (y o))
       → Alike (with_owner (owner_in s p) back x) (with_owner (owner_in a p) back y)
-  with_owner_alike p back x y alike =
-      place_alike (λ h. with_owner (owner_held h) back x) _ at p
+  with_owner_alike p back x y alike = place_alike (λ h. with_owner (owner_held h) back x) _ at p
     where
       at : (h : Held T) → KnowsHeld Knows store h → Alike (with_owner
           (owner_held (rename_held f d store h)) back x) (with_owner (owner_held h) back y)
@@ -250,9 +212,8 @@ module _ {T : Type 0} {f : Name → Name} {d : ℕ} {Knows : Name → Type 0} {s
       assumption (c, tables_set f d Knows store _ _ p (Writing g v) (c.table, c.known) k)
 
   -- an answer of the machine
-  pub settled_alike : (x : Call T) (out was : Outcome T)
-      → Matched f d (λ (v : T). v) Knows store out was
-      → (erase (reply_of x out.0) ≡ erase (reply_of x was.0))
+  pub settled_alike : (x : Call T) (out was : Outcome T) → Matched f d
+      (λ (v : T). v) Knows store out was → (erase (reply_of x out.0) ≡ erase (reply_of x was.0))
       × CarriesSession f d Knows (settle s x out).1 (settle a x was).1
   settled_alike x out was m =
       let t = tables_give f d Knows store _ _ was.0
@@ -263,12 +224,10 @@ module _ {T : Type 0} {f : Name → Name} {d : ℕ} {Knows : Name → Type 0} {s
 
 -- ---- a renaming that agrees with another one on the names known, where more are known
 
-all_agree : {X Y : Type 0} (P Q : X → Type 0) (u w : X → Y)
-    → ((x : X) → P x → (u x ≡ w x) × Q x) → (xs : List X) → AllByRecursion P xs
-    → (list_map u xs ≡ list_map w xs) × AllByRecursion Q xs
+all_agree : {X Y : Type 0} (P Q : X → Type 0) (u w : X → Y) → ((x : X) → P x → (u x ≡ w x) × Q x)
+    → (xs : List X) → AllByRecursion P xs → (list_map u xs ≡ list_map w xs) × AllByRecursion Q xs
 all_agree P Q u w same [] k = (refl, tt)
-all_agree P Q u w same (x ∷ xs) k =
-    let here = same x k.0 in
+all_agree P Q u w same (x ∷ xs) k = let here = same x k.0 in
     let rest = all_agree P Q u w same xs k.1 in (λ i. here.0 i ∷ rest.0 i, (here.1, rest.1))
 
 module _ (f h : Name → Name) (d n : ℕ) (Knows More : Name → Type 0)
@@ -315,9 +274,8 @@ module _ (order : List Name) (y : Name) {n : ℕ} (is : n ≡ length order) wher
   each : (P : Name → Type 0) → ((k : Name) → IsNumberBelow (length order) k → P k)
       → P (number n) → (k : Name) → IsNumberBelow (length (order ++ y ∷ [])) k → P k
   each P old last k b = ⊎_elim (λ lt. old k (b.0, lt))
-      (λ ge. let at : k.slot ≡ n =
-      (let lt = b.1 in let long = length_push order y in omega arith) in
-      subst P (λ i. record { slot = sym at i; generation = sym b.0 i }) last)
+      (λ ge. let at : k.slot ≡ n = (let lt = b.1 in let long = length_push order y in
+      omega arith) in subst P (λ i. record { slot = sym at i; generation = sym b.0 i }) last)
       (cases_lt k.slot (length order))
 
   -- the names before keep their numbers, and the last number stands for the new name
@@ -415,10 +373,9 @@ module _ {T : Type 0} {s a : SessionState T} {d : ℕ} {order : List Name} {give
             apart = λ j k bj bk. each order y is (λ j. renamed j ≡ renamed k → j ≡ k)
                 (λ j bj. each order y is (λ k. renamed j ≡ renamed k → j ≡ k)
                 (λ k bk e. c.apart j k bj bk (sym (old j bj).0 ∙ (e ∙ (old k bk).0)))
-                (λ e. absurd (other j bj (sym (old j bj).0 ∙ (e ∙ last)))) k bk)
-                (each order y is (λ k. renamed (number n) ≡ renamed k → number n ≡ k)
-                (λ k bk e. absurd (other k bk (sym (old k bk).0 ∙ (sym e ∙ last))))
-                (λ e. refl) k bk) j bj;
+                (λ e. absurd (other j bj (sym (old j bj).0 ∙ (e ∙ last)))) k bk) (each order y is
+                (λ k. renamed (number n) ≡ renamed k → number n ≡ k) (λ k bk e. absurd
+                (other k bk (sym (old k bk).0 ∙ (sym e ∙ last)))) (λ e. refl) k bk) j bj;
           };
           table = r.carries.table ∙ sym held.0;
           known = held.1;

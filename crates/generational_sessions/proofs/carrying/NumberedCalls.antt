@@ -1,60 +1,26 @@
 -- Each call of a session, and each run, is answered as the numbered machine does it, ids aside.
-use Rattle.std.proofs.Common.{Bool, true, false, cond, List, length, Option, subst, arith, ⊎_elim}
-use Rattle.std.proofs.Common.{◌≡◌, ◌≢◌, ◌+◌, ◌-◌, ◌≤◌, ◌<◌, ◌∷◌, ◌++◌, None, Some, refl, sym, ◌∙◌}
-use Rattle.std.proofs.Common.{ℕ, [], ap, inl, inr}
-use Rattle.std.specs.Prelude.{nat_eq, ◌&&◌, is_some, option_map}
-use Rattle.std.specs.Ordering.{nat_cmp, eq_by_cmp}
-use Rattle.std.specs.List.{list_any}
-use Rattle.std.proofs.lemmas.Bool.{true≢false, false_from_ne_true, or_cases, cond_both}
-use Rattle.std.proofs.lemmas.List.{length_push}
+use Rattle.generational_sessions.proofs.sessions
+use sessions.{Bool, ap, State, fresh, reach, Fresh, refer, Refer, Meets, Takes, Tells, Swaps, erase}
+use sessions.{true, cond, List, ◌++◌, None, Some, refl, ◌&&◌, Call, Name, Cell, Make, Made, Held}
+use sessions.{false, subst, arith, [], nat_eq, Thing, Names, Action, Answer, unless, settle, number}
+use sessions.{length, Option, ⊎_elim, Refused, Request, Settles, refusal, Matches, by_name, unspent}
+use sessions.{◌≡◌, false_from_ne_true, GenerationalPointer, rename_ownership, contains-insert_apart}
+use sessions.{◌≢◌, length_push, add_to_list, SessionReply, next_numbers, numbered_act, refusal_told}
+use sessions.{◌+◌, cond_both, StoreError, OwnerName, MakeShared, session_in, refusal_in, is_refusal}
+use sessions.{◌-◌, or_cases, name_cmp, is_known, Troubled, named_by, numbered, act_start, takes_new}
+use sessions.{◌≤◌, ◌<◌, ◌∷◌, sym, ◌∙◌, inl, inr, act, Run, ask, swap, Asks, want, tell}
+use sessions.{ℕ, nat_cmp, IsSound, IsFresh, Trouble, Outcome, cell_at, key_same, AreFresh, act_says}
+use sessions.{is_some, rename_action, rename_answer, IsNumberBelow, AreNumbersBelow, CarriesSession}
+use sessions.{option_map, eq_by_cmp, true≢false, last_ticket, KnowsAnswer, shift_owner, SessionStep}
+use sessions.{list_any, KnowsCall, add_place, AreListed, AnswersAs, none≢some, new_fresh, is_making}
+use sessions.{read_trouble, takes_ticket, rename_guard, SessionState, empty_session, session_sound}
+use Rattle.generational_sessions.proofs.carrying.{some_map, last_known, back, both_tell, both_swap}
+use Rattle.generational_sessions.proofs.carrying.{Matched, Reserves, reserve, both_ask}
+use Rattle.generational_sessions.proofs.carrying.{act_matched, AskedAlike, asked_alike, box_agrees}
+use Rattle.generational_sessions.proofs.carrying.{swapped_alike, settled_alike, placed_alike, older}
 use Rattle.std.specs.FinMap as map
 use Rattle.std.specs.FinSet as set
-use Rattle.generational_core.specs.declared.error.StoreError.{StoreError}
 use Rattle.generational_core.specs.declared.error.StoreError.TheVariants as error
-use Rattle.generational_core.specs.declared.boxes.GenerationalPointer.{GenerationalPointer}
-use Rattle.generational_sessions.specs.declared.calls.Call.{Call}
-use Rattle.generational_sessions.specs.declared.places.Thing.{Thing}
-use Rattle.generational_core.specs.Names.{Name, Names, name_cmp}
-use Rattle.generational_core.specs.Cells.{Cell}
-use Rattle.generational_core.specs.State.{State, IsSound}
-use Rattle.generational_core.specs.Conditions.{IsFresh, fresh}
-use Rattle.generational_core.specs.Borrowing.{Trouble, reach, read_trouble}
-use Rattle.generational_core.specs.Machine.{OwnerName, act, add_to_list}
-use Rattle.generational_core.specs.Machine.{Action, Answer, Outcome, is_known, cell_at, unless}
-use Rattle.generational_core.specs.Machine.{Fresh, refer}
-use Rattle.generational_core.specs.Machine.Action.{Make, MakeShared, Refer}
-use Rattle.generational_core.specs.Machine.Answer.{Made, Troubled, Refused}
-use Rattle.generational_core.specs.Steps.{Meets, Takes, takes_ticket, last_ticket}
-use Rattle.generational_sessions.specs.Carrying.{KnowsAnswer, rename_ownership, rename_action}
-use Rattle.generational_sessions.specs.Carrying.{rename_answer, KnowsCall, rename_guard}
-use Rattle.generational_sessions.specs.Carrying.{shift_owner}
-use Rattle.generational_sessions.specs.Session.{SessionState, SessionReply, SessionStep, add_place}
-use Rattle.generational_sessions.specs.Session.{Held, Request, Settles, settle, refusal, Run, ask}
-use Rattle.generational_sessions.specs.Session.{swap}
-use Rattle.generational_sessions.specs.Session.Request.{Asks, Tells, Swaps}
-use Rattle.generational_sessions.specs.Places.{session_in}
-use Rattle.generational_sessions.specs.Numbered.{IsNumberBelow, AreNumbersBelow, number}
-use Rattle.generational_sessions.specs.Numbered.{CarriesSession}
-use Rattle.generational_sessions.specs.Numbered.{empty_session, refusal_in, next_numbers}
-use Rattle.generational_sessions.specs.Numbered.{numbered_act}
-use Rattle.generational_sessions.specs.Numbered.{Matches, AreListed, named_by, numbered, AnswersAs}
-use Rattle.generational_sessions.specs.Numbered.{erase}
-use Rattle.generational_core.specs.Steps.{want}
-use Rattle.generational_sessions.proofs.carrying.CarriedCells.{some_map}
-use Rattle.generational_core.proofs.maps.Maps.{by_name, key_same, contains-insert_apart}
-use Rattle.generational_core.proofs.machine.Ends.{none≢some}
-use Rattle.generational_core.proofs.machine.Changes.{AreFresh, new_fresh, act_says, is_making}
-use Rattle.generational_core.proofs.machine.Stepping.{act_start, is_refusal, takes_new}
-use Rattle.generational_sessions.proofs.sessions.Sessions.{session_sound}
-use Rattle.generational_sessions.proofs.sessions.Refusals.{unspent, refusal_told, tell}
-use Rattle.generational_sessions.proofs.carrying.CarriedCalls.{Matched, act_matched}
-use Rattle.generational_sessions.proofs.carrying.CarriedSession.{swapped_alike, settled_alike}
-use Rattle.generational_sessions.proofs.carrying.CarriedSession.{placed_alike}
-use Rattle.generational_sessions.proofs.carrying.CarriedSession.{AskedAlike, asked_alike}
-use Rattle.generational_sessions.proofs.carrying.CarriedSession.{box_agrees, last_known}
-use Rattle.generational_sessions.proofs.carrying.CarriedSession.{Reserves, reserve, older, back}
-use Rattle.generational_sessions.proofs.carrying.CarriedSession.AskedAlike.{both_ask, both_tell}
-use Rattle.generational_sessions.proofs.carrying.CarriedSession.AskedAlike.{both_swap}
 
 -- a slot behind those of all names in a list
 slot_behind : (names : List Name)
@@ -63,9 +29,8 @@ slot_behind [] = (0, λ n h. absurd (true≢false (sym h)))
 slot_behind (m ∷ names) =
     let rest = slot_behind names in (
       m.slot + rest.0 + 1,
-      λ n h. ⊎_elim
-          (λ e. let same = ap (λ (x : Name). x.slot) (key_same by_name n m e) in omega arith)
-          (λ e. let below = rest.1 n e in omega arith) (or_cases _ _ h),
+      λ n h. ⊎_elim (λ e. let same = ap (λ (x : Name). x.slot) (key_same by_name n m e) in
+          omega arith) (λ e. let below = rest.1 n e in omega arith) (or_cases _ _ h),
     )
 
 module _ {T : Type 0} where
@@ -149,13 +114,11 @@ module _ {T : Type 0} where
       → ((e : StoreError) → want e ≡ Some e → ◌≡◌ {A = Outcome T} (answer, R) (Refused e, S) → P)
       → ((new : Fresh) → AreFresh S call new → (answer, R) ≡ act S call new → P)
       → Meets S call answer R → P
-  meets_fresh {P} S R call answer wanting acting (inl m) =
-      cond_both (takes_ticket (act S call m.0).0 && nat_eq S.next last_ticket)
-      (Refused error.NumbersExhausted, S) (act S call m.0) (λ out. (answer, R) ≡ out → P)
-      (λ _. wanting error.NumbersExhausted refl)
-      (λ _ e. ⊎_elim (λ new. acting m.0 (new_fresh S call m.0 new) e)
-      (λ same. let other = fresh_names S call in
-      acting other.0 other.1 (e ∙ unnamed S call m.0 other.0 same.0))
+  meets_fresh {P} S R call answer wanting acting (inl m) = cond_both (takes_ticket
+      (act S call m.0).0 && nat_eq S.next last_ticket) (Refused error.NumbersExhausted, S)
+      (act S call m.0) (λ out. (answer, R) ≡ out → P) (λ _. wanting error.NumbersExhausted refl)
+      (λ _ e. ⊎_elim (λ new. acting m.0 (new_fresh S call m.0 new) e) (λ same. let
+      other = fresh_names S call in acting other.0 other.1 (e ∙ unnamed S call m.0 other.0 same.0))
       (takes_new S call m.0 (subst (λ (o : Outcome T). Takes S call o.0 m.0) e m.1))) m.2
   meets_fresh S R call answer wanting acting (inr m) =
       wanting error.OutOfMemory refl (λ i. (m.1 i, m.2 i))
@@ -195,9 +158,8 @@ module _ {T : Type 0} {s a : SessionState T} (m : Matches s a) where
 
   -- sessions that are carried match where the names of the list are those given
   matched : {order : List Name} {given_s given_a : Names} {x y : SessionReply T × SessionState T}
-      → Reserves s a m.difference order given_s given_a
-      → (erase x.0 ≡ erase y.0) × CarriesSession (named_by order)
-      m.difference (IsNumberBelow (length order)) x.1 y.1
+      → Reserves s a m.difference order given_s given_a → (erase x.0 ≡ erase y.0)
+      × CarriesSession (named_by order) m.difference (IsNumberBelow (length order)) x.1 y.1
       → x.1.state.given ≡ given_s → y.1.state.given ≡ given_a → StepMatches x y
   matched {order} r both h k = record {
     said = both.0;
@@ -235,28 +197,24 @@ module _ {T : Type 0} {s a : SessionState T} (m : Matches s a) where
             known = same.0;
           })) (ap (λ (R : State T). R.given) kept_s) (ap (λ (R : State T). R.given) kept_a)
 
-  asks_step : (x : Call T) (action : Action T) (new : Fresh)
-      → KnowsCall (IsNumberBelow (length m.order)) a.state.number action
-      → AreFresh s.state (mine action) new
+  asks_step : (x : Call T) (action : Action T) (new : Fresh) → KnowsCall
+      (IsNumberBelow (length m.order)) a.state.number action → AreFresh s.state (mine action) new
       → Settled x (act s.state (mine action) new) (act a.state action (next_numbers a))
   asks_step x (Make o v l) new k unused =
-      let is = m.numbers.count in
-      let r = reserve start new.first unused is in
+      let is = m.numbers.count in let r = reserve start new.first unused is in
       making_step x r (ap (λ y. act s.state (mine (Make o v l)) (record new { first = y }))
-      (back m.order new.first is)) (act_matched r.carries.state (Make o v l) (next_numbers a)
-      tt (last_known m.order new.first is)) ((making s.state (mine (Make o v l)) refl).left new)
+      (back m.order new.first is)) (act_matched r.carries.state (Make o v l) (next_numbers a) tt
+      (last_known m.order new.first is)) ((making s.state (mine (Make o v l)) refl).left new)
       ((making a.state (Make o v l) refl).left (next_numbers a))
   asks_step x (Refer o b) new k unused =
-      let is = m.numbers.count in
-      let r = reserve start new.first unused is in
+      let is = m.numbers.count in let r = reserve start new.first unused is in
       let owner = option_map (shift_owner (named_by m.order) m.difference a.state.number) o in
       let same = box_agrees (named_by m.order) (named_by (m.order ++ new.first ∷ []))
       m.difference a.state.number _ _ (older m.order new.first is) b k in
-      making_step x r (λ i. act s.state (Refer owner (same i))
-      (record new { first = back m.order new.first is i }))
-      (act_matched r.carries.state (Refer o b) (next_numbers a)
-      (λ own. (older m.order new.first is _ (k own)).1) (last_known m.order new.first is))
-      ((making s.state (mine (Refer o b)) refl).left new)
+      making_step x r (λ i. act s.state
+      (Refer owner (same i)) (record new { first = back m.order new.first is i })) (act_matched
+      r.carries.state (Refer o b) (next_numbers a) (λ own. (older m.order new.first is _ (k own)).1)
+      (last_known m.order new.first is)) ((making s.state (mine (Refer o b)) refl).left new)
       ((making a.state (Refer o b) refl).left (next_numbers a))
   asks_step x (MakeShared o v l) new k unused =
       let is = m.numbers.count in
@@ -270,14 +228,12 @@ module _ {T : Type 0} {s a : SessionState T} (m : Matches s a) where
       making_step x r (λ i. act s.state (mine (MakeShared o v l)) (record {
         first = (old.0 ∙ back m.order new.first is) i;
         second = back one new.second two i;
-      })) (act_matched r.carries.state (MakeShared o v l) (next_numbers a) tt
-      (old.1, last_known one new.second two))
-      ((making s.state (mine (MakeShared o v l)) refl).left new)
+      })) (act_matched r.carries.state (MakeShared o v l) (next_numbers a) tt (old.1,
+      last_known one new.second two)) ((making s.state (mine (MakeShared o v l)) refl).left new)
       ((making a.state (MakeShared o v l) refl).left (next_numbers a))
   asks_step x action new k unused = matched start (settled_alike m.carries x _ _
-      (act_matched m.carries.state action (next_numbers a) k tt))
-      ((act_start s.state (mine action) new).given refl)
-      ((act_start a.state action (next_numbers a)).given refl)
+      (act_matched m.carries.state action (next_numbers a) k tt)) ((act_start s.state
+      (mine action) new).given refl) ((act_start a.state action (next_numbers a)).given refl)
 
   answered : (c : Call T) (q : Request T) {x : SessionReply T} {r : SessionState T}
       (out : SessionReply T × SessionState T) {e : Option StoreError} → (x, r) ≡ out
@@ -287,9 +243,8 @@ module _ {T : Type 0} {s a : SessionState T} (m : Matches s a) where
       StepMatches o (numbered a c q (refusal_in o.0))) (sym is) (rw told step)
 
   settles_step : (c : Call T) (x : SessionReply T) (r : SessionState T) (p q : Request T)
-      → ask s c ≡ p → AskedAlike (named_by m.order)
-      m.difference (IsNumberBelow (length m.order)) a.state.number p q
-      → Settles s c p x r → StepMatches (x, r) (numbered a c q (refusal_in x))
+      → ask s c ≡ p → AskedAlike (named_by m.order) m.difference (IsNumberBelow (length m.order))
+      a.state.number p q → Settles s c p x r → StepMatches (x, r) (numbered a c q (refusal_in x))
   settles_step c x r p q asked (both_ask action k) step =
       meets_fresh s.state step.1 (mine action) step.0 (λ e is same.
       let after : List (Held T) → SessionReply T × SessionState T =
@@ -308,10 +263,9 @@ module _ {T : Type 0} {s a : SessionState T} (m : Matches s a) where
       (matched start (e, placed_alike m.carries) refl refl)
   settles_step c x r p q asked (both_swap place g v old known) step =
       let guard = rename_guard (named_by m.order) m.difference a.state.number g in
-      answered c (Swaps place g v old)
-      (SessionReply.TheOld old, add_place (swap s place guard v) Held.Nothing)
-      (λ i. (step.0 i, step.1 i)) refl
-      (matched start (refl, placed_alike (swapped_alike m.carries place g v known)) refl refl)
+      answered c (Swaps place g v old) (SessionReply.TheOld old,
+      add_place (swap s place guard v) Held.Nothing) (λ i. (step.0 i, step.1 i))
+      refl (matched start (refl, placed_alike (swapped_alike m.carries place g v known)) refl refl)
 
   -- whichever names are taken, the numbered machine answers the same, ids aside
   step_matches : (c : Call T) (x : SessionReply T) (r : SessionState T)
@@ -339,14 +293,12 @@ module _ {T : Type 0} where
   -- and one call is a run
   pub call_answers : (c : Call T) (x : SessionReply T) (s r a : SessionState T) → Matches s a
       → IsSound s.state → SessionStep s c x r → AnswersAs a (c ∷ []) (x ∷ []) r
-  call_answers c x s r a m sound step =
-      run_answers (c ∷ []) (x ∷ []) s r a m sound (r, step, refl)
+  call_answers c x s r a m sound step = run_answers (c ∷ []) (x ∷ []) s r a m sound (r, step, refl)
 
   -- an owner of a session that matches is the other's
   pub owner_matched : {s a : SessionState T} (m : Matches s a) (key : ℕ)
-      → is_some (map.get s.state.owners key) ≡ true
-      → (k : ℕ) × (key + a.state.next ≡ k + s.state.next)
-      × (is_some (map.get a.state.owners k) ≡ true)
+      → is_some (map.get s.state.owners key) ≡ true → (k : ℕ)
+      × (key + a.state.next ≡ k + s.state.next) × (is_some (map.get a.state.owners k) ≡ true)
   owner_matched {s} {a} m key live =
       let low = m.carries.state.keys key live in
       let next = m.carries.state.next in
@@ -396,6 +348,5 @@ module _ {T : Type 0} where
   -- so a session of a fresh store matches it
   pub new_matches : (S : State T) (items : List (Thing T))
       → IsFresh S → items ≡ [] → Matches (session_in S items) (empty_session S.number)
-  new_matches S items f none =
-      rw none (subst (λ X. Matches (record { state = X; table = [] }) (empty_session S.number))
-      (sym f) (fresh_matches S.number S.start S.next))
+  new_matches S items f none = rw none (subst (λ X. Matches (record { state = X; table = [] })
+      (empty_session S.number)) (sym f) (fresh_matches S.number S.start S.next))

@@ -1,40 +1,21 @@
 -- A call does the same to a state without its values, and is answered the same without values.
-use Rattle.std.proofs.Common.{◌≡◌, ℕ, ◌+◌, cond, ◌&&◌, List, [], ◌∷◌, Option, None, Some, refl, sym}
-use Rattle.std.proofs.Common.{ap, subst, ◌∙◌, arith, inl, inr, ⊎_elim}
-use Rattle.std.specs.Prelude.{is_some, option_map, nat_eq, nat_lt, map as list_map}
-use Rattle.std.specs.Ordering.{eq_by_cmp}
-use Rattle.std.specs.Cmp.{nat_cmp_total}
-use Rattle.std.specs.List.{AllByRecursion}
+use Rattle.generational_sessions.proofs.sessions
+use sessions.{◌≡◌, list_map, eqb-true, name_cmp, add_cell, Troubled, may_lack, KnowsCall, act_start}
+use sessions.{ℕ, content_at, KnowsFresh, map_action, map_answer, rename_box, bare_cells, plain_call}
+use sessions.{◌+◌, ◌∷◌, Some, refl, sym, ap, ◌∙◌, inl, inr, Name, Cell, act, Made, Done, bare}
+use sessions.{cond, ◌&&◌, List, None, reach, fresh, Fresh, Owned, Reads, IsNew, Takes, Meets, plain}
+use sessions.{[], is_some, NameMap, Content, Trouble, Outcome, cell_at, Refused, no_names, renaming}
+use sessions.{Option, content_of, last_ticket, rename_cell, rename_guard, shift_owner, plain_answer}
+use sessions.{subst, arith, nat_eq, nat_lt, map-id, State, Guard, Action, Answer, AreNew, Carries}
+use sessions.{⊎_elim, eq_by_cmp, cond_both, Ownership, OwnerName, answer_to, name_exact, name_total}
+use sessions.{option_map, nat_cmp_total, write_refusal, limit_tickets, needs_memory, without_values}
+use sessions.{AllByRecursion, NumbersExhausted, GenerationalPointer, takes_ticket, rename_ownership}
+use Rattle.generational_sessions.proofs.carrying.{cond_map, some_map, refusals_moved, Matched}
+use Rattle.generational_sessions.proofs.carrying.{act_matched, with_born, reach_cases}
+use Rattle.generational_sessions.proofs.carrying.{content_there}
+use Rattle.generational_core.specs.Slots.{Fits, free, is_free, slots_of, last_name}
 use Rattle.std.specs.FinMap as map
 use Rattle.std.specs.FinSet as set
-use Rattle.std.proofs.lemmas.Bool.{eqb-true, cond_both}
-use Rattle.std.proofs.lemmas.List.{map-id}
-use Rattle.generational_core.specs.declared.error.StoreError.TheVariants.{NumbersExhausted}
-use Rattle.generational_core.specs.declared.boxes.GenerationalPointer.{GenerationalPointer}
-use Rattle.generational_core.specs.Names.{Name, NameMap, name_cmp}
-use Rattle.generational_core.specs.Cells.{Cell, Content, content_of}
-use Rattle.generational_core.specs.State.{State, Ownership, content_at}
-use Rattle.generational_core.specs.Borrowing.{Guard, reach, write_refusal, Trouble}
-use Rattle.generational_core.specs.Conditions.{fresh}
-use Rattle.generational_core.specs.Machine.{Action, Answer, OwnerName, Fresh, Outcome, act}
-use Rattle.generational_core.specs.Machine.{add_cell, cell_at}
-use Rattle.generational_core.specs.Machine.Answer.{Made, Owned, Reads, Done, Troubled, Refused}
-use Rattle.generational_core.specs.Slots.{Fits, free, is_free, slots_of, last_name}
-use Rattle.generational_core.specs.Steps.{IsNew, AreNew, Takes, Meets, limit_tickets, takes_ticket}
-use Rattle.generational_core.specs.Steps.{last_ticket, answer_to, may_lack, needs_memory, no_names}
-use Rattle.generational_sessions.specs.Carrying.{Carries, KnowsCall, KnowsFresh, map_action}
-use Rattle.generational_sessions.specs.Carrying.{map_answer}
-use Rattle.generational_sessions.specs.Carrying.{renaming, rename_cell, rename_ownership}
-use Rattle.generational_sessions.specs.Carrying.{rename_box}
-use Rattle.generational_sessions.specs.Carrying.{rename_guard, shift_owner}
-use Rattle.generational_sessions.specs.History.{bare, bare_cells, plain, plain_call, plain_answer}
-use Rattle.generational_sessions.specs.History.{without_values}
-use Rattle.generational_core.proofs.maps.Maps.{name_exact, name_total}
-use Rattle.generational_sessions.proofs.carrying.CarriedCells.{cond_map, some_map, refusals_moved}
-use Rattle.generational_sessions.proofs.carrying.CarriedCalls.{Matched, act_matched, with_born}
-use Rattle.generational_sessions.proofs.carrying.CarriedCalls.{reach_cases}
-use Rattle.generational_sessions.proofs.carrying.CarriedCalls.{content_there}
-use Rattle.generational_core.proofs.machine.Stepping.{act_start}
 
 abbrev same_name : Name → Name
 same_name n = n
@@ -61,22 +42,18 @@ same_box : (number : ℕ) (b : GenerationalPointer) → rename_box same_name 0 n
 same_box number b = if_same b.id.store number _ b (λ own. rw (sym own) refl)
 
 same_guard : (number : ℕ) (guard : Guard) → rename_guard same_name 0 number guard ≡ guard
-same_guard number guard =
-    let stays : guard.ticket + 0 ≡ guard.ticket = omega arith in
+same_guard number guard = let stays : guard.ticket + 0 ≡ guard.ticket = omega arith in
     if_same guard.store number _ guard (λ own. rw (sym own, stays) refl)
 
 same_owner : (number : ℕ) (o : OwnerName) → shift_owner same_name 0 number o ≡ o
-same_owner number o =
-    let stays : o.key + 0 ≡ o.key = omega arith in
+same_owner number o = let stays : o.key + 0 ≡ o.key = omega arith in
     if_same o.store number _ o (λ own. rw (sym own, stays) refl)
 
 -- the value that stands with a key, changed
-find_each : {X Y : Type 0} (h : X → Y) (q : Name) (es : List (Name × X))
-    → map.find name_cmp q (list_map (λ (e : Name × X). (e.0, h e.1)) es)
-    ≡ option_map h (map.find name_cmp q es)
+find_each : {X Y : Type 0} (h : X → Y) (q : Name) (es : List (Name × X)) → map.find name_cmp q
+    (list_map (λ (e : Name × X). (e.0, h e.1)) es) ≡ option_map h (map.find name_cmp q es)
 find_each h q [] = refl
-find_each h q (e ∷ es) =
-    rw (find_each h q es)
+find_each h q (e ∷ es) = rw (find_each h q es)
     (cond_map (option_map h) (eq_by_cmp name_cmp q e.0) (Some e.1) (map.find name_cmp q es))
 
 module _ {T : Type 0} where
@@ -110,13 +87,12 @@ module _ {T : Type 0} where
   plain_from : (P : State (Unit {0})) (S : State T)
       → Carries same_name 0 bare Any P S → P.start ≡ S.start → P ≡ plain S
   plain_from P S c start =
-      let cells : P.cells ≡ bare_cells S.cells = map.same_map name_total name_exact P.cells
-      (bare_cells S.cells) (λ q. c.cells.at q tt ∙ sym (get_bare S.cells q)) in
+      let cells : P.cells ≡ bare_cells S.cells = map.same_map name_total
+      name_exact P.cells (bare_cells S.cells) (λ q. c.cells.at q tt ∙ sym (get_bare S.cells q)) in
       let given : P.given ≡ S.given =
       set.same_set name_total name_exact P.given S.given (λ q. c.given q tt) in
-      let owners : P.owners ≡ S.owners =
-      map.same_map nat_cmp_total map.nat_cmp-IsAntisymmetric P.owners S.owners
-      (λ key. ap (map.get P.owners) (let e : key ≡ key + 0 = omega arith in e)
+      let owners : P.owners ≡ S.owners = map.same_map nat_cmp_total map.nat_cmp-IsAntisymmetric
+      P.owners S.owners (λ key. ap (map.get P.owners) (let e : key ≡ key + 0 = omega arith in e)
       ∙ (c.owners key ∙ same_ownership (map.get S.owners key))) in
       let next : P.next ≡ S.next = c.next ∙ omega arith in
       rw (sym c.number, sym cells, sym given, sym owners, sym next, sym c.peak, sym start) refl
@@ -145,33 +121,29 @@ module _ {T : Type 0} where
   -- a call of the plain state answers alike and leaves the plain state after
   pub plain_act : (S : State T) (call : Action T) (new : Fresh)
       → act (plain S) (plain_call call) new ≡ plain_out (act S call new)
-  plain_act S call new =
-      let same = same_mapping S.number in
-      let out = subst (λ m. Matched same_name 0 bare Any S.number
-      (act (plain S) (map_action m call) new) (act S call new)) same
+  plain_act S call new = let same = same_mapping S.number in
+      let out = subst (λ m. Matched
+      same_name 0 bare Any S.number (act (plain S) (map_action m call) new) (act S call new)) same
       (act_matched (carries_plain S) call new (all_calls S.number call) (all_fresh call new)) in
       let answer = out.answer ∙ ap (λ m. map_answer m (act S call new).0) same in
-      let state = plain_from (act (plain S) (plain_call call) new).1 (act S call new).1 out.state
-      ((act_start (plain S) (plain_call call) new).start ∙ sym (act_start S call new).start) in
-      λ i. (answer i, state i)
+      let state = plain_from (act (plain S) (plain_call call) new).1
+      (act S call new).1 out.state ((act_start (plain S) (plain_call call) new).start
+      ∙ sym (act_start S call new).start) in λ i. (answer i, state i)
 
   plain_ticket : (answer : Answer T) → takes_ticket (plain_answer answer) ≡ takes_ticket answer
   plain_ticket Done = refl
   plain_ticket _ = refl
 
-  plain_limited : (S : State T) (call : Action T) (new : Fresh)
-      → limit_tickets (plain S) (act (plain S) (plain_call call) new)
-      ≡ plain_out (limit_tickets S (act S call new))
-  plain_limited S call new =
-      let out = act S call new in
+  plain_limited : (S : State T) (call : Action T) (new : Fresh) → limit_tickets
+      (plain S) (act (plain S) (plain_call call) new) ≡ plain_out (limit_tickets S (act S call new))
+  plain_limited S call new = let out = act S call new in
       rw (plain_act S call new, plain_ticket out.0) (cond_map plain_out
       (takes_ticket out.0 && nat_eq S.next last_ticket) (Refused NumbersExhausted, S) out)
 
   -- ---- the names that fit
 
   plain_is_free : (S : State T) (s : ℕ) → is_free (plain S) s ≡ is_free S s
-  plain_is_free S s =
-      let n = last_name S s in
+  plain_is_free S s = let n = last_name S s in
       rw (get_bare S.cells n, some_map (rename_cell same_name 0 bare) (map.get S.cells n)) refl
 
   plain_free : (S : State T) → free (plain S) ≡ free S
@@ -206,17 +178,15 @@ module _ {T : Type 0} where
   plain_reached : (S : State T) (b : GenerationalPointer)
       → is_some (write_refusal (content_of (cell_at (plain S) (reach (plain S) b))))
       ≡ is_some (write_refusal (content_of (cell_at S (reach S b))))
-  plain_reached S b =
-      subst (λ x. is_some (write_refusal (content_of (cell_at (plain S) (reach (plain S) x))))
-      ≡ is_some (write_refusal (content_of (cell_at S (reach S b))))) (same_box S.number b)
-      (⊎_elim (λ e. rw (e.0, e.1) refl)
-      (λ e. rw (e.2, e.3, content_there (carries_plain S) e.0 e.1)
+  plain_reached S b = subst
+      (λ x. is_some (write_refusal (content_of (cell_at (plain S) (reach (plain S) x)))) ≡ is_some
+      (write_refusal (content_of (cell_at S (reach S b))))) (same_box S.number b)
+      (⊎_elim (λ e. rw (e.0, e.1) refl) (λ e. rw (e.2, e.3, content_there (carries_plain S) e.0 e.1)
       (ap is_some (refusals_moved same_name 0 bare (content_at S e.0)).1))
       (reach_cases (carries_plain S) b (λ _. tt)))
 
   plain_needs : (S : State T) (answer : Answer T) (call : Action T)
-      → needs_memory (plain S) (plain_answer answer) (plain_call call)
-      ≡ needs_memory S answer call
+      → needs_memory (plain S) (plain_answer answer) (plain_call call) ≡ needs_memory S answer call
   plain_needs S (Made b) (Action.Make None v l) = ap (λ n. nat_eq n 0) (plain_free S)
   plain_needs S (Made b) (Action.MakeShared None v l) = ap (λ n. nat_lt n 2) (plain_free S)
   plain_needs S (Made b) (Action.Refer None c) = ap (λ n. nat_eq n 0) (plain_free S)
@@ -228,8 +198,7 @@ module _ {T : Type 0} where
   plain_lacks : (S : State T) (call : Action T)
       → may_lack (plain S) (plain_call call) ≡ may_lack S call
   unfolding may_lack
-  plain_lacks S call =
-      ap (λ (o : Outcome (Unit {0})). needs_memory (plain S) o.0 (plain_call call))
+  plain_lacks S call = ap (λ (o : Outcome (Unit {0})). needs_memory (plain S) o.0 (plain_call call))
       (plain_limited S call no_names) ∙ plain_needs S (answer_to S call) call
 
   -- each call of a store is one of the store without values
@@ -243,8 +212,7 @@ module _ {T : Type 0} where
 -- a fresh state has no values
 pub plain_fresh : (T : Type 0) (number start next : ℕ)
     → plain (fresh {T = T} number start next) ≡ fresh number start next
-plain_fresh T number start next =
-    let new : State T = fresh number start next in
-    let cells = map.same_map name_total name_exact (plain new).cells map.empty
-    (λ q. rw (get_bare new.cells q, map.get-empty name_cmp q) (sym (map.get-empty name_cmp q))) in
-    λ i. record (plain new) { cells = cells i }
+plain_fresh T number start next = let new : State T = fresh number start next in
+    let cells = map.same_map name_total
+    name_exact (plain new).cells map.empty (λ q. rw (get_bare new.cells q, map.get-empty name_cmp q)
+    (sym (map.get-empty name_cmp q))) in λ i. record (plain new) { cells = cells i }

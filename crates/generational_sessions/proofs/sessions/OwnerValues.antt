@@ -1,36 +1,18 @@
 -- How many owner values each call of a session's store gives and spends, beside what the records
 -- count.
-use Rattle.std.proofs.Common.{◌≡◌, ◌≢◌, ℕ, ◌+◌, ◌≤◌, Bool, true, false, cond, [], Option, None, sym}
-use Rattle.std.proofs.Common.{Some, refl, ap, subst, ◌∙◌, inl, inr, ⊎_elim, arith}
-use Rattle.std.specs.Prelude.{nat_eq, nat_lt, is_some}
-use Rattle.std.proofs.lemmas.Bool.{true≢false, eqb-true, ltb-false, false_from_ne_true}
-use Rattle.std.proofs.lemmas.Option.{none-some}
-use Rattle.std.specs.Cmp.{nat_eq_equiv}
+use Rattle.generational_sessions.proofs.sessions.Common
+use Common.{◌≡◌, Option, ⊎_elim, nat_eq, nat_lt, Action, Answer, Outcome, cell_at, read_at, Refused}
+use Common.{◌≢◌, ◌+◌, ◌≤◌, sym, ap, ◌∙◌, inl, inr, act, Old, Flag, Back, Held}
+use Common.{ℕ, name_of, Content, IsSound, Trouble, is_known, own_name, own_cell, write_at, Troubled}
+use Common.{Bool, true, cond, None, Some, refl, Name, Cell, turn, Made, Reads, Done, Meets, gives}
+use Common.{false, eqb-true, Location, count_in, one_less, one_more, add_cell, by_number, key_cases}
+use Common.{[], nat_eq_equiv, UnknownOwner, read_trouble, hindrance_to, remove_reader, changed_view}
+use Common.{subst, arith, State, reach, close, Fresh, unless, refer, set_at, point, Owned, Writes}
+use Common.{is_some, write_trouble, release_owner, set_ownership, get-insert_here, get-remove_apart}
+use Common.{true≢false, false_from_ne_true, NumbersExhausted, GenerationalPointer, get-insert_apart}
+use Common.{ltb-false, OutOfMemory, has_same_id, count_under, add_to_list, clone_owner, holds_owner}
+use Common.{none-some, is_name, content_of, Ownership, content_at, one_listed, OwnerName, ownership}
 use Rattle.std.specs.FinMap as map
-use Rattle.generational_core.specs.declared.error.StoreError.TheVariants.{UnknownOwner, OutOfMemory}
-use Rattle.generational_core.specs.declared.error.StoreError.TheVariants.{NumbersExhausted}
-use Rattle.generational_core.specs.declared.error.Location.{Location}
-use Rattle.generational_core.specs.declared.boxes.GenerationalPointer.{GenerationalPointer}
-use Rattle.generational_core.specs.Names.{Name, is_name}
-use Rattle.generational_core.specs.Boxes.{name_of, has_same_id}
-use Rattle.generational_core.specs.Cells.{Content, content_of, Cell}
-use Rattle.generational_core.specs.State.{State, Ownership, IsSound, content_at}
-use Rattle.generational_core.specs.Conditions.{count_in, one_less, count_under, one_listed}
-use Rattle.generational_core.specs.Conditions.{one_more}
-use Rattle.generational_core.specs.Borrowing.{Trouble, read_trouble, write_trouble, reach}
-use Rattle.generational_core.specs.Ending.{close, hindrance_to}
-use Rattle.generational_core.specs.Machine.{Action, Answer, Fresh, Outcome, OwnerName, act, unless}
-use Rattle.generational_core.specs.Machine.{add_cell, add_to_list, cell_at, is_known, read_at}
-use Rattle.generational_core.specs.Machine.{ownership, clone_owner, release_owner, set_ownership}
-use Rattle.generational_core.specs.Machine.{own_name, own_cell, write_at, remove_reader, refer}
-use Rattle.generational_core.specs.Machine.{set_at, turn, point}
-use Rattle.generational_core.specs.Machine.Answer.{Made, Owned, Reads, Writes, Done, Old, Flag}
-use Rattle.generational_core.specs.Machine.Answer.{Back, Troubled, Refused}
-use Rattle.generational_core.specs.Steps.{Meets}
-use Rattle.generational_sessions.specs.Session.{Held, gives}
-use Rattle.generational_sessions.specs.SoundSession.{holds_owner}
-use Rattle.generational_core.proofs.maps.Maps.{by_number, changed_view, get-insert_here, key_cases}
-use Rattle.generational_core.proofs.maps.Maps.{get-insert_apart, get-remove_apart}
 
 -- what a test lets through, if anything
 through : {X : Type 0} (b : Bool) (o : Option X) (x : X) → cond b o None ≡ Some x
@@ -58,9 +40,8 @@ module _ {T : Type 0} where
   -- The records count what a call gives, and no more is taken off than it takes. An owner that is
   -- given is of the store.
   pub record Counts (S : State T) (call : Action T) (out : Outcome T) : Type 0 where
-    pub counted : (key : ℕ)
-        → count_under S.owners key + owners_in key (gives out.0)
-        ≤ count_under out.1.owners key + owners_in key (takes call out.0)
+    pub counted : (key : ℕ) → count_under S.owners key + owners_in key
+        (gives out.0) ≤ count_under out.1.owners key + owners_in key (takes call out.0)
     pub own : (o : OwnerName) → out.0 ≡ Owned o → o.store ≡ S.number
 
   -- answers that give no owner
@@ -72,9 +53,8 @@ module _ {T : Type 0} where
   listed_counts : (S : State T) (o : Option OwnerName) (n : Name) (key : ℕ)
       → count_under (add_to_list S o n).owners key ≡ count_under S.owners key
   listed_counts S None n key = refl
-  listed_counts S (Some o) n key =
-      ⊎_elim (ap count_in) (λ e. ap count_in e.3 ∙ sym (ap count_in e.2))
-      (changed_view by_number S.owners o.key (one_listed n) key)
+  listed_counts S (Some o) n key = ⊎_elim (ap count_in) (λ e. ap count_in e.3
+      ∙ sym (ap count_in e.2)) (changed_view by_number S.owners o.key (one_listed n) key)
 
   module _ {S : State T} {call : Action T} where
     quiet : (R : State T) (answer : Answer T) → gives_owner answer ≡ false → ((key : ℕ)
@@ -156,38 +136,31 @@ module _ {T : Type 0} where
       → ((o : OwnerName) → answer ≡ Owned o → o.store ≡ S.number)
       → ((key : ℕ) → owners_in key (gives answer) ≤ cond (nat_eq k key) 1 0)
       → ((key : ℕ) → key ≢ k → map.get R.owners key ≡ map.get S.owners key)
-      → count_under S.owners k + owners_in k (gives answer)
-      ≤ count_under R.owners k + owners_in k (takes call answer)
-      → Counts S call (answer, R)
+      → count_under S.owners k + owners_in k (gives answer) ≤
+      count_under R.owners k + owners_in k (takes call answer) → Counts S call (answer, R)
   record_counts S R call answer k own one others here = record {
-    counted = λ key. ⊎_elim
-        (λ e. subst (λ j. count_under S.owners j + owners_in j (gives answer)
-        ≤ count_under R.owners j + owners_in j (takes call answer)) (sym e) here)
-        (λ ne. let stays = ap count_in (others key ne) in
-        let apart = false_from_ne_true _ (λ t. ne (sym (eqb-true k key t))) in
-        let none = ap (λ (b : Bool). cond {A = ℕ} b 1 0) apart in
-        let given = one key in omega arith) (key_cases by_number key k);
+    counted = λ key. ⊎_elim (λ e. subst (λ j. count_under S.owners j + owners_in j
+        (gives answer) ≤ count_under R.owners j + owners_in j (takes call answer)) (sym e) here)
+        (λ ne. let stays = ap count_in (others key ne) in let apart = false_from_ne_true _
+        (λ t. ne (sym (eqb-true k key t))) in let none = ap (λ (b : Bool). cond {A = ℕ} b 1 0)
+        apart in let given = one key in omega arith) (key_cases by_number key k);
     own = own;
   }
 
   counts_new : (S : State T) (f : Fresh) → IsSound S
       → Counts S Action.NewOwner (act S Action.NewOwner f)
-  counts_new S f sound =
-      let h : Ownership = record { names = []; count = 1 } in
-      let zero = none_next S sound in
-      let one = itself S.next in
+  counts_new S f sound = let h : Ownership = record { names = []; count = 1 } in
+      let zero = none_next S sound in let one = itself S.next in
       let is = ap count_in (get-insert_here by_number S.owners S.next h) in
-      record_counts S (act S Action.NewOwner f).1 Action.NewOwner _ S.next (λ o e. cc)
-      (λ key. omega arith) (get-insert_apart by_number S.owners S.next h) (omega arith)
+      record_counts S (act S Action.NewOwner f).1 Action.NewOwner _ S.next
+      (λ o e. cc) (λ key. omega arith) (get-insert_apart by_number S.owners S.next h) (omega arith)
 
   counts_cloned : (S : State T) (o : OwnerName) (h : Option Ownership) → ownership S o ≡ h
       → Counts S (Action.CloneOwner o) (clone_owner S o h)
   counts_cloned S o None is = same (Refused UnknownOwner) refl
-  counts_cloned S o (Some h) is =
-      let there = through (nat_eq o.store S.number) _ h is in
+  counts_cloned S o (Some h) is = let there = through (nat_eq o.store S.number) _ h is in
       let own = eqb-true o.store S.number there.0 in
-      let was = ap count_in there.1 in
-      let one = itself o.key in
+      let was = ap count_in there.1 in let one = itself o.key in
       let now = ap count_in (get-insert_here by_number S.owners o.key (one_more h)) in
       record_counts S (clone_owner S o (Some h)).1 (Action.CloneOwner o) (Owned o) o.key (λ p e. cc)
       (λ key. omega arith) (get-insert_apart by_number S.owners o.key (one_more h)) (omega arith)

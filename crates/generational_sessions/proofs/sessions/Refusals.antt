@@ -1,52 +1,25 @@
 -- What a reply tells of refusals: where memory or a ticket may lack, and that nothing has changed.
-use Rattle.std.proofs.Common.{◌≡◌, Bool, true, false, cond, Option, None, Some, refl, sym, ap}
-use Rattle.std.proofs.Common.{subst, ◌∙◌, inl, inr}
-use Rattle.std.specs.Prelude.{[], ◌&&◌, nat_eq, nat_lt}
-use Rattle.std.proofs.lemmas.Bool.{true≢false, cond_both, eqb-true, eq-eqb, and_parts}
-use Rattle.std.proofs.lemmas.Option.{none-some}
-use Rattle.generational_core.specs.declared.error.StoreError.{StoreError}
-use Rattle.generational_core.specs.declared.error.StoreError.TheVariants.{NumbersExhausted}
-use Rattle.generational_core.specs.declared.error.StoreError.TheVariants.{OutOfMemory, UnknownOwner}
-use Rattle.generational_core.specs.declared.error.Location.{Location}
-use Rattle.generational_core.specs.declared.boxes.GenerationalPointer.{GenerationalPointer}
-use Rattle.generational_sessions.specs.declared.calls.Call.{Call}
-use Rattle.generational_sessions.specs.declared.calls.Call.TheVariants as call
-use Rattle.generational_core.specs.Names.{Name, is_name}
-use Rattle.generational_core.specs.Boxes.{has_same_id, name_of}
-use Rattle.generational_core.specs.Borrowing.{Trouble, reach, read_trouble, write_trouble}
-use Rattle.generational_core.specs.Borrowing.Trouble.{Dropped}
-use Rattle.generational_core.specs.Cells.{Content, Cell, content_of}
-use Rattle.generational_core.specs.Cells.Cell.{Shared, Ref}
-use Rattle.generational_core.specs.Cells.Content.{Here}
-use Rattle.generational_core.specs.Ending.{hindrance_to}
-use Rattle.generational_core.specs.Machine.{Action, Answer, Fresh, Outcome, OwnerName, act, unless}
-use Rattle.generational_core.specs.Machine.{cell_at, clone_owner, is_known, knows_reader}
-use Rattle.generational_core.specs.Machine.{knows_writer, own_cell, own_name, ownership, point}
-use Rattle.generational_core.specs.Machine.{read_at, refer, release_owner, set_at, turn, write_at}
-use Rattle.generational_core.specs.Machine.Action.{Make, MakeShared, Refer, NewOwner, CloneOwner}
-use Rattle.generational_core.specs.Machine.Action.{ReleaseOwner, LeakOwner, Read, Write}
-use Rattle.generational_core.specs.Machine.Action.{ReleaseReader, ReleaseWriter, SetValue, End}
-use Rattle.generational_core.specs.Machine.Action.{Point, CanRead, CanWrite}
-use Rattle.generational_core.specs.Machine.Answer.{Done, Flag, Back, Troubled, Refused}
-use Rattle.generational_sessions.specs.Numbered.{refusal_in}
-use Rattle.generational_core.specs.Steps.{want}
-use Rattle.generational_sessions.specs.Replies.{TellsLack, TellsExhaustion, RefusalLeavesAll}
-use Rattle.generational_sessions.specs.Replies.{refuses}
-use Rattle.generational_sessions.specs.Session.{Held, Request, SessionReply, SessionState}
-use Rattle.generational_sessions.specs.Session.{SessionStep}
-use Rattle.generational_sessions.specs.Session.{Settles, add_place, ask, at_place, gives}
-use Rattle.generational_sessions.specs.Session.{is_release}
-use Rattle.generational_sessions.specs.Session.{owner_in, refusal, release, reply_of, settle, spend}
-use Rattle.generational_sessions.specs.Session.{with_owner}
-use Rattle.generational_sessions.specs.Session.Held.{Nothing}
-use Rattle.generational_sessions.specs.Session.Request.{Asks}
-use Rattle.generational_core.specs.State.{State, Ownership}
-use Rattle.generational_core.specs.Steps.{Meets, answer_to, last_ticket, limit_tickets, may_lack}
-use Rattle.generational_core.specs.Steps.{needs_memory, no_names, takes_ticket}
-use Rattle.generational_core.proofs.machine.Changes.{is_making, wants}
-use Rattle.generational_core.proofs.machine.Stepping.{is_refusal}
+use Rattle.generational_sessions.proofs.sessions.Common
+use Common.{◌≡◌, hindrance_to, knows_reader, knows_writer, ReleaseOwner, SessionReply, SessionState}
+use Common.{Bool, true, cond, None, Some, refl, [], ◌&&◌, Call, Name, Cell, Here, turn, Make, wants}
+use Common.{false, nat_eq, nat_lt, eq-eqb, Shared, Action, Answer, unless, set_at, settle, Nothing}
+use Common.{Option, cell_at, read_at, CanRead, Refused, refuses, Request, Settles, refusal, release}
+use Common.{sym, subst, reach, Fresh, point, refer, Refer, Write, Point, gives, spend, State, Meets}
+use Common.{ap, true≢false, StoreError, content_of, MakeShared, CloneOwner, refusal_in, last_ticket}
+use Common.{◌∙◌, inl, inr, Ref, act, Read, End, Done, Flag, Back, want, Held, ask, Asks}
+use Common.{cond_both, and_parts, none-some, name_of, OwnerName, is_release, with_owner, is_refusal}
+use Common.{eqb-true, ownership, LeakOwner, TellsLack, add_place, Ownership, answer_to, is_making}
+use Common.{NumbersExhausted, GenerationalPointer, write_trouble, TellsExhaustion, RefusalLeavesAll}
+use Common.{OutOfMemory, is_name, has_same_id, clone_owner, SessionStep, needs_memory, takes_ticket}
+use Common.{UnknownOwner, read_trouble, release_owner, ReleaseReader, ReleaseWriter, limit_tickets}
+use Common.{Location, Trouble, is_known, own_cell, own_name, write_at, NewOwner, SetValue, CanWrite}
+use Common.{Dropped, Content, Outcome, Troubled, at_place, owner_in, reply_of, may_lack, no_names}
+use Rattle.generational_core.proofs.machine.Refusing.{IsAnswered, act_answered, answered_still}
+use Rattle.generational_core.proofs.machine.Refusing.IsAnswered.{troubled, unknown, back, goes}
+use Rattle.generational_core.specs.Leaving.{refuses as is_refused}
 use Rattle.generational_sessions.proofs.sessions.Sessions.{ComesTo, comes_to, is_own}
 use Rattle.generational_sessions.proofs.sessions.Sessions.ComesTo.{tells, swaps, asks}
+use Rattle.generational_sessions.specs.declared.calls.Call.TheVariants as call
 
 module _ {T : Type 0} where
   -- ---- calls that are never refused
@@ -100,8 +73,7 @@ module _ {T : Type 0} where
   unspent s (call.LeakOwner p) action answer R is m refused =
       absurd (true≢false (sym refused ∙ never_refused s.state R action answer
       (subst (AlwaysGoes s.state) is (leak_goes s.state (owner_in s p))) m))
-  unspent s (call.ReleaseOwner p) action Done R is m refused =
-      absurd (true≢false (sym refused))
+  unspent s (call.ReleaseOwner p) action Done R is m refused = absurd (true≢false (sym refused))
   unspent s _ action answer R is m refused = refl
 
   -- ---- what a reply says of its answer
@@ -134,103 +106,22 @@ module _ {T : Type 0} where
 
   -- ---- how the machine refuses
 
-  -- A call of the machine is refused by a borrow or for its owner, and changes nothing then; or it
-  -- isn't refused.
-  data IsAnswered (S : State T) : Outcome T → Type 0 where
-    troubled : (t : Trouble) → IsAnswered S (Troubled t, S)
-    unknown : IsAnswered S (Refused UnknownOwner, S)
-    goes : (out : Outcome T) → is_refusal out.0 ≡ false → IsAnswered S out
-
-  module _ {S : State T} where
-    answered_if : (b : Bool) {x y : Outcome T}
-        → IsAnswered S x → IsAnswered S y → IsAnswered S (cond b x y)
-    answered_if true h k = h
-    answered_if false h k = k
-
-    answered_unless : (t : Option Trouble) {x : Outcome T}
-        → IsAnswered S x → IsAnswered S (unless t S x)
-    answered_unless None h = h
-    answered_unless (Some t) h = troubled t
-
-    answered_done : (R : State T) → IsAnswered S (Done, R)
-    answered_done R = goes (Done, R) refl
-
-    answered_refer : (o : Option OwnerName) (b : GenerationalPointer) (m : Option Name)
-        (c : Option (Cell T)) (n : Name) → IsAnswered S (refer S o b m c n)
-    answered_refer o b (Some m) (Some (Shared c l)) n = goes _ refl
-    answered_refer o b m c n = troubled (Dropped b.created_at)
-
-    answered_read : (l : Location) (m : Option Name) (c : Option (Content T))
-        → IsAnswered S (read_at S l m c)
-    answered_read l (Some m) (Some (Here v rs)) = goes _ refl
-    answered_read l m c = goes _ refl
-
-    answered_write : (l : Location) (m : Option Name) (c : Option (Content T))
-        → IsAnswered S (write_at S l m c)
-    answered_write l (Some m) (Some (Here v rs)) = goes _ refl
-    answered_write l m c = goes _ refl
-
-    answered_set : (b : GenerationalPointer) (v : T) (m : Option Name) (c : Option (Content T))
-        → IsAnswered S (set_at S b v m c)
-    answered_set b v None c = troubled (Dropped b.created_at)
-    answered_set b v (Some m) (Some (Here old [])) = goes _ refl
-    answered_set b v (Some m) c = goes _ refl
-
-    answered_clone : (o : OwnerName) (h : Option Ownership) → IsAnswered S (clone_owner S o h)
-    answered_clone o None = unknown
-    answered_clone o (Some h) = goes _ refl
-
-    answered_release : (o : OwnerName) (h : Option Ownership) → IsAnswered S (release_owner S o h)
-    answered_release o None = unknown
-    answered_release o (Some h) = answered_if (nat_lt 1 h.count) (answered_done _)
-        (answered_unless (hindrance_to S h.names) (answered_done _))
-
-    answered_turn : (a old new : Name) (l : Location) → IsAnswered S (turn S a old new l)
-    answered_turn a old new l =
-        answered_if (is_name old new) (answered_done S) (answered_unless _ (answered_done _))
-
-    answered_point : (a b : GenerationalPointer) (c : Option (Cell T)) (m : Option Name)
-        (d : Option (Cell T)) → IsAnswered S (point S a b c m d)
-    answered_point a b None m d = troubled (Dropped a.created_at)
-    answered_point a b (Some (Ref old l)) (Some new) (Some (Shared c k)) =
-        answered_turn (name_of a) old new l
-    answered_point a b (Some c) m d = troubled _
-
-  act_answered : (S : State T) (action : Action T) (f : Fresh) → IsAnswered S (act S action f)
-  act_answered S (Make o v l) f = answered_if (is_known S o) (goes _ refl) unknown
-  act_answered S (MakeShared o v l) f = answered_if (is_known S o) (goes _ refl) unknown
-  act_answered S (Refer o b) f = answered_if (is_known S o) (answered_unless (read_trouble S b)
-      (answered_refer o b (reach S b) (cell_at S (reach S b)) f.first)) unknown
-  act_answered S NewOwner f = goes _ refl
-  act_answered S (CloneOwner o) f = answered_clone o (ownership S o)
-  act_answered S (ReleaseOwner o) f = answered_release o (ownership S o)
-  act_answered S (LeakOwner o) f = goes _ refl
-  act_answered S (Read b l) f = answered_unless (read_trouble S b)
-      (answered_read l (reach S b) (content_of (cell_at S (reach S b))))
-  act_answered S (Write b l) f = answered_unless (write_trouble S b)
-      (answered_write l (reach S b) (content_of (cell_at S (reach S b))))
-  act_answered S (ReleaseReader g) f = answered_if (knows_reader S g) (goes _ refl) (goes _ refl)
-  act_answered S (ReleaseWriter g v) f = answered_if (knows_writer S g) (goes _ refl) (goes _ refl)
-  act_answered S (SetValue b v) f =
-      answered_set b v (reach S b) (content_of (cell_at S (reach S b)))
-  act_answered S (End b) f = answered_unless (hindrance_to S (own_name S b)) (goes _ refl)
-  act_answered S (Point a b) f = answered_if (has_same_id a b) (goes _ refl)
-      (answered_unless (read_trouble S b)
-      (answered_point a b (own_cell S a.id) (reach S b) (cell_at S (reach S b))))
-  act_answered S (CanRead b) f = goes _ refl
-  act_answered S (CanWrite b) f = goes _ refl
-
+  -- a call that is refused changes nothing, and what the machine answers of itself wants nothing
   still : (S : State T) (out : Outcome T) → IsAnswered S out → is_refusal out.0 ≡ true → out.1 ≡ S
-  still S out (troubled t) refused = refl
-  still S out unknown refused = refl
-  still S out (goes o on) refused = absurd (true≢false (sym refused ∙ on))
+  still S out how refused = answered_still S out how (told out.0 refused)
+    where
+      told : (answer : Answer T) → is_refusal answer ≡ true → is_refused answer ≡ true
+      told (Troubled t) h = refl
+      told (Refused e) h = refl
+      told _ h = absurd (true≢false (sym h))
 
   wants_none : (S : State T) (out : Outcome T) → IsAnswered S out → wants out.0 ≡ None
   wants_none S out (troubled t) = refl
   wants_none S out unknown = refl
+  wants_none S out (back v) = refl
   wants_none S out (goes o on) = unwanted out.0 on
     where
-      unwanted : (answer : Answer T) → is_refusal answer ≡ false → wants answer ≡ None
+      unwanted : (answer : Answer T) → is_refused answer ≡ false → wants answer ≡ None
       unwanted (Refused e) on = absurd (true≢false on)
       unwanted _ on = refl
 
@@ -256,9 +147,8 @@ module _ {T : Type 0} where
       → takes_ticket (act S action f).0 ≡ false
   making_ticket S (Make o v l) f making = known_ticket S (is_known S o) _ refl
   making_ticket S (MakeShared o v l) f making = known_ticket S (is_known S o) _ refl
-  making_ticket S (Refer o b) f making = known_ticket S (is_known S o) _
-      (unless_ticket S (read_trouble S b) _
-      (refer_ticket S o b (reach S b) (cell_at S (reach S b)) f.first))
+  making_ticket S (Refer o b) f making = known_ticket S (is_known S o) _ (unless_ticket S
+      (read_trouble S b) _ (refer_ticket S o b (reach S b) (cell_at S (reach S b)) f.first))
   making_ticket S _ f making = absurd (true≢false (sym making))
 
   -- whether a call takes a ticket doesn't depend on the names that it takes
@@ -370,8 +260,7 @@ module _ {T : Type 0} where
     refusals step = at (ask s c) refl (comes_to s c) step
       where
         at : (q : Request T) → ask s c ≡ q → ComesTo s c q → Settles s c q x r → Refuses s c x r
-        at q is (asks action empties) step =
-            by_machine action step.0 step.1 is step.2 step.3
+        at q is (asks action empties) step = by_machine action step.0 step.1 is step.2 step.3
         at q is (tells y own) step = by_itself (ap refusal_in step.0 ∙ own_wants_none y own)
             (λ action asked. let e = sym is ∙ asked in cc) (λ _. step.1)
         at q is (swaps p g v old there) step = by_itself (ap refusal_in step.0)

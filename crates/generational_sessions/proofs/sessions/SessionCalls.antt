@@ -1,61 +1,27 @@
 -- What each call of a session leaves and promises, in the code and in the machine.
-use Rattle.std.proofs.Common.{◌≡◌, ◌≢◌, ℕ, zero, suc, Bool, true, false, cond, List, [], ◌∷◌, ◌++◌}
-use Rattle.std.proofs.Common.{slice_get, slice_set, Option, None, Some, refl, sym, ap, subst, ◌∙◌}
-use Rattle.std.proofs.Common.{inl, inr, ⊎_elim, reverse, Result, Ok, Err, append_assoc}
-use Rattle.std.specs.Prelude.{OnOk, is_err, is_none, nat_eq, nat_lt, map as list_map}
-use Rattle.std.proofs.lemmas.Bool.{true≢false}
-use Rattle.generational_core.specs.declared.boxes.GenerationalPointer.{GenerationalPointer}
-use Rattle.generational_sessions.specs.declared.calls.BoxAt.{BoxAt}
-use Rattle.generational_sessions.specs.declared.calls.BoxAt.TheVariants.{Place, Foreign}
-use Rattle.generational_sessions.specs.declared.calls.Call.{Call}
-use Rattle.generational_sessions.specs.declared.calls.Call.TheVariants as call
-use Rattle.generational_core.specs.State.{State, Ownership, IsSound, IsGiven}
-use Rattle.generational_core.specs.Boxes.{name_of, name_in}
-use Rattle.generational_core.specs.Answers.{pointer_of, back_answer, end_refused}
-use Rattle.generational_core.specs.Borrowing.{Trouble, can_read, can_write}
-use Rattle.generational_core.specs.Ending.{hindrance_to}
-use Rattle.generational_core.specs.Machine.{Action, Answer, Fresh, Outcome, OwnerName, act, unless}
-use Rattle.generational_core.specs.Machine.{ownership, release_owner}
-use Rattle.generational_core.specs.Machine.Answer.{Made, Flag, Done, Troubled, Refused as refuses}
-use Rattle.generational_core.specs.Steps.{Meets, limit_tickets, may_lack, needs_memory, no_names}
-use Rattle.generational_core.specs.Conditions.{IsReleased, IsFresh}
-use Rattle.generational_sessions.specs.Session.{SessionState, Held, SessionReply, Request, Settles}
-use Rattle.generational_sessions.specs.Session.{Run}
-use Rattle.generational_sessions.specs.Session.{SessionStep, at_place, box_in, box_held, owner_held}
-use Rattle.generational_sessions.specs.Session.{with_box, with_owner, ask, reply_of, gives, spend}
-use Rattle.generational_sessions.specs.Session.{add_place, if_ready, replace}
-use Rattle.generational_sessions.specs.Session.Held.{Boxed, Writing, Owning, Nothing}
-use Rattle.generational_sessions.specs.Session.SessionReply.{ABox, IsDone, Error, Unready}
-use Rattle.generational_sessions.specs.SoundSession.{IsSoundSession}
-use Rattle.generational_sessions.specs.Replies.{NeedsBox, TellsEnds, GivesNewBox, EndsOwned}
-use Rattle.generational_sessions.specs.Replies.{AllTellEnds}
-use Rattle.generational_sessions.specs.Replies.{AllKeepPromises, KeepBoxes, GiveBoxesApart}
-use Rattle.generational_sessions.specs.Replies.{ended_reply}
-use Rattle.generational_core.proofs.machine.Stepping.{ended_read, ended_write, meets_says}
-use Rattle.generational_core.proofs.machine.Stepping.{meets_given}
-use Rattle.generational_core.proofs.machine.Stepping.{meets_number}
+use Rattle.generational_sessions.proofs.sessions
+use sessions.{◌≡◌, ◌≢◌, suc, ◌∷◌, sym, ap, ◌∙◌, inl, inr, Ok, Err, act, Run, ask, ABox, asks}
+use sessions.{ℕ, fresh_kept, map-append, append-nil, set-get_or, as_replies, session_in, as_refusal}
+use sessions.{zero, name_in, Trouble, Outcome, IsFresh, Request, Settles, replace, Writing, Nothing}
+use sessions.{Bool, true, cond, List, ◌++◌, None, Some, refl, OnOk, Call, Made, Flag, Done, Held}
+use sessions.{false, may_lack, no_names, at_place, box_held, with_box, reply_of, if_ready, NeedsBox}
+use sessions.{[], back_answer, SessionReply, meets_number, held_changed, session_kept, takes_no_box}
+use sessions.{slice_get, slice_set, is_none, Ownership, can_write, OwnerName, ownership, GivesAsked}
+use sessions.{Option, release_owner, IsSoundSession, GiveBoxesApart, reverse-append, BorrowMutError}
+use sessions.{subst, BoxAt, Place, Action, Answer, unless, box_in, Owning, IsDone, by_run, is_own}
+use sessions.{⊎_elim, Result, is_err, nat_eq, nat_lt, Unready, ComesTo, by_step, map-set, as_held}
+use sessions.{reverse, end_refused, SessionStep, GivesNewBox, AllTellEnds, ended_reply, ended_write}
+use sessions.{append_assoc, hindrance_to, limit_tickets, needs_memory, SessionState, session_ended}
+use sessions.{list_map, can_read, Troubled, add_place, TellsEnds, EndsOwned, KeepBoxes, none-some}
+use sessions.{true≢false, GenerationalPointer, Refused as refuses, AllKeepPromises, reverse-reverse}
+use sessions.{Foreign, IsSound, IsGiven, name_of, comes_to, refusals, IsNewBox, as_reply, exchange}
+use sessions.{State, Fresh, Meets, gives, spend, Boxed, Error, tells, swaps, Reply, Thing, Gives}
+use sessions.{pointer_of, IsReleased, owner_held, with_owner, ended_read, meets_says, meets_given}
 use Rattle.generational_core.proofs.machine.Releasing.{box_ends, box_stays, shared_ends}
-use Rattle.generational_core.proofs.machine.Releasing.{shared_stays}
-use Rattle.generational_core.proofs.machine.Releasing.{listed_boxed, last_cells}
-use Rattle.generational_sessions.proofs.sessions.Sessions.{ComesTo, comes_to, held_changed}
-use Rattle.generational_sessions.proofs.sessions.Sessions.{session_kept, by_run}
-use Rattle.generational_sessions.proofs.sessions.Sessions.{takes_no_box, session_ended, by_step}
-use Rattle.generational_sessions.proofs.sessions.Sessions.{fresh_kept}
-use Rattle.generational_sessions.proofs.sessions.Sessions.{is_own}
-use Rattle.generational_sessions.proofs.sessions.Sessions.ComesTo.{tells, swaps, asks}
-use Rattle.generational_sessions.proofs.sessions.Refusals.{refusals}
-use Rattle.generational_core.proofs.machine.Changes.{IsNewBox}
-use Rattle.std.proofs.lemmas.List.{map-append, map-set, reverse-append, reverse-reverse, append-nil}
-use Rattle.std.proofs.lemmas.List.{set-get_or}
-use Rattle.std.proofs.lemmas.Option.{none-some}
-use Rattle.generational_sessions.specs.declared.calls.Reply.{Reply}
-use Rattle.generational_sessions.specs.declared.places.Thing.{Thing}
-use Rattle.generational_core.specs.declared.error.BorrowMutError.{BorrowMutError}
+use Rattle.generational_core.proofs.machine.Releasing.{shared_stays, listed_boxed, last_cells}
 use Rattle.generational_core.specs.declared.error.Refused.{Refused}
+use Rattle.generational_sessions.specs.declared.calls.Call.TheVariants as call
 use Rattle.generational_core.specs.declared.error.Refused.TheVariants as refused
-use Rattle.generational_sessions.specs.Places.{as_held, as_reply, as_replies, session_in}
-use Rattle.generational_sessions.specs.Places.{as_refusal}
-use Rattle.generational_sessions.specs.Places.{exchange, GivesAsked, Gives}
 
 -- what is put back to where it was taken from
 set_back : {X : Type 0} (xs : List X) (p : ℕ) (x y : X) → slice_get xs p ≡ Some x
@@ -64,9 +30,8 @@ set_back [] p x y h = refl
 set_back (z ∷ xs) zero x y h = cc
 set_back (z ∷ xs) (suc p) x y h = ap (λ xs. z ∷ xs) (set_back xs p x y h)
 
-pub put_back : {X : Type 0} {xs taken after : List X} (p : ℕ) {x z : X} (y : X)
-    → slice_get xs p ≡ Some x → taken ≡ slice_set xs p y → after ≡ slice_set taken p z → z ≡ x
-    → after ≡ xs
+pub put_back : {X : Type 0} {xs taken after : List X} (p : ℕ) {x z : X} (y : X) → slice_get xs p
+    ≡ Some x → taken ≡ slice_set xs p y → after ≡ slice_set taken p z → z ≡ x → after ≡ xs
 put_back {xs = xs} p {x} y there takes puts is =
     puts ∙ ((λ i. slice_set (takes i) p (is i)) ∙ set_back xs p x y there)
 
@@ -156,9 +121,8 @@ module _ {T : Type 0} where
       at q (asks action empties) step =
           let made = made_by step.0 c b (sym (reply_is s r c x action step.0 step refl) ∙ is) in
           let after = ap (λ (out : SessionReply T × SessionState T). out.1.state) step.3 in
-          subst (λ (S : State T). IsNewBox s.state S b) (sym after)
-          (meets_says s.state step.1 action
-          (Made b) (subst (λ a. Meets s.state action a step.1) made step.2))
+          subst (λ (S : State T). IsNewBox s.state S b) (sym after) (meets_says s.state
+          step.1 action (Made b) (subst (λ a. Meets s.state action a step.1) made step.2))
       at q (tells y own) step = absurd (true≢false (sym own ∙ ap is_own (sym step.0 ∙ is)))
       at q (swaps p g v old there) step = let e = sym step.0 ∙ is in cc
 
@@ -175,8 +139,7 @@ module _ {T : Type 0} where
   run_new (c ∷ calls) (x ∷ replies) s r run zero b is given =
       true≢false (sym given ∙ (session_new s run.0 c x run.1 b cc).fresh)
   run_new (c ∷ calls) (x ∷ replies) s r run (suc i) b is given =
-      run_new calls replies run.0 r run.2 i b is (by_step s run.0 c x
-      (λ S. IsGiven S (name_of b))
+      run_new calls replies run.0 r run.2 i b is (by_step s run.0 c x (λ S. IsGiven S (name_of b))
       (λ S R action answer h meets. meets_given S R action answer meets (name_of b) h) run.1 given)
   run_new calls replies s r run i b is given = absurd run
 
@@ -187,11 +150,11 @@ module _ {T : Type 0} where
   boxes_apart (k ∷ calls) (x ∷ replies) s r run zero (suc j) b c is at same =
       absurd (run_new calls replies run.0 r run.2 j c at
       (subst (λ id. IsGiven run.0.state (name_in id)) same
-      (session_new s run.0 k x run.1 b cc).given))
+      (session_new s run.0 k x run.1 b cc).boxed.0))
   boxes_apart (k ∷ calls) (x ∷ replies) s r run (suc i) zero b c is at same =
       absurd (run_new calls replies run.0 r run.2 i b is
       (subst (λ id. IsGiven run.0.state (name_in id)) (sym same)
-      (session_new s run.0 k x run.1 c cc).given))
+      (session_new s run.0 k x run.1 c cc).boxed.0))
   boxes_apart (k ∷ calls) (x ∷ replies) s r run (suc i) (suc j) b c is at same =
       ap suc (boxes_apart calls replies run.0 r run.2 i j b c is at same)
   boxes_apart calls replies s r run i j b c is at same = absurd run
@@ -216,16 +179,14 @@ module _ {T : Type 0} where
   keep_boxes s r c x step p b is = at (ask s c) (comes_to s c) step
     where
       at : (q : Request T) → ComesTo s c q → Settles s c q x r → at_place r.table p ≡ Boxed b
-      at q (asks action empties) step =
-          let it = empties step.0 in
+      at q (asks action empties) step = let it = empties step.0 in
           ap (λ (out : SessionReply T × SessionState T). at_place out.1.table p) step.3
-          ∙ held_before (spend c step.0 s.table) (gives step.0) p b
-          (ap (λ table. at_place table p) it.1 ∙ held_beside s.table it.0 Nothing p b
-          (λ e. takes_no_box action step.0 b (sym it.2 ∙ e)) is)
+          ∙ held_before (spend c step.0 s.table)
+          (gives step.0) p b (ap (λ table. at_place table p) it.1 ∙ held_beside
+          s.table it.0 Nothing p b (λ e. takes_no_box action step.0 b (sym it.2 ∙ e)) is)
       at q (tells y own) step =
           ap (λ (s : SessionState T). at_place s.table p) step.1 ∙ held_before s.table _ p b is
-      at q (swaps k g v old there) step =
-          ap (λ (r : SessionState T). at_place r.table p) step.1
+      at q (swaps k g v old there) step = ap (λ (r : SessionState T). at_place r.table p) step.1
           ∙ held_before (slice_set s.table k (Writing g v)) Nothing p b
           (held_beside s.table k (Writing g v) p b (λ e. let x = sym there ∙ e in cc) is)
 
@@ -243,11 +204,9 @@ module _ {T : Type 0} where
       boxed : (h : Held T) → box_held h ≡ Some b → h ≡ Boxed b
       boxed (Boxed d) e = let same : d ≡ b = cc in ap Boxed same
       boxed h e = cc
-  box_in_kept s r c x step (Foreign d) b is =
-      ap (λ n. cond (nat_eq (pointer_of d).id.store n) None (Some (pointer_of d)))
-      (by_step s r c x (λ S. S.number ≡ s.state.number)
-      (λ S R action answer e meets. meets_number S R action answer meets ∙ e) step refl)
-      ∙ is
+  box_in_kept s r c x step (Foreign d) b is = ap (λ n. cond (nat_eq (pointer_of d).id.store n)
+      None (Some (pointer_of d))) (by_step s r c x (λ S. S.number ≡ s.state.number)
+      (λ S R action answer e meets. meets_number S R action answer meets ∙ e) step refl) ∙ is
 
   need_kept : (s r : SessionState T) (c : Call T) (x : SessionReply T) → SessionStep s c x r
       → (k : Call T) (b : GenerationalPointer) → NeedsBox s k b → NeedsBox r k b
@@ -268,8 +227,7 @@ module _ {T : Type 0} where
       ∙ ap (λ c. ended_reply c b) (sym same))
   all_tell_ends (c ∷ calls) (x ∷ replies) s r run (suc i) k b there needed ended =
       all_tell_ends calls replies run.0 r run.2 i k b there
-      (need_kept s run.0 c x run.1 k b needed)
-      (session_ended s run.0 c x run.1 (name_of b) ended)
+      (need_kept s run.0 c x run.1 k b needed) (session_ended s run.0 c x run.1 (name_of b) ended)
   all_tell_ends calls replies s r run i k b there needed ended = absurd run
 
   -- an owner's release that is told as done is done
@@ -300,9 +258,8 @@ module _ {T : Type 0} where
   }
     where
       release : Settles s (call.ReleaseOwner p) (Request.Asks (Action.ReleaseOwner o)) IsDone r
-      release = subst (λ x. Settles s (call.ReleaseOwner p)
-          (with_owner (owner_held x) None (λ o. Request.Asks (Action.ReleaseOwner o))) IsDone r) is
-          step
+      release = subst (λ x. Settles s (call.ReleaseOwner p) (with_owner (owner_held x)
+          None (λ o. Request.Asks (Action.ReleaseOwner o))) IsDone r) is step
 
       answer_is : (answer : Answer T) (R : State T) → Meets s.state (Action.ReleaseOwner o) answer R
           → reply_of (call.ReleaseOwner p) answer ≡ IsDone → answer ≡ Done
@@ -312,9 +269,9 @@ module _ {T : Type 0} where
       answer_is answer R (inr m) told =
           let e = sym (ap (reply_of (call.ReleaseOwner p)) m.1) ∙ told in cc
 
-  pub ends_owned : (s r : SessionState T) (c : Call T) (x : SessionReply T)
+  pub lasts_end : (s r : SessionState T) (c : Call T) (x : SessionReply T)
       → IsSound s.state → SessionStep s c x r → EndsOwned s c x r
-  ends_owned s r c x sound step h it done =
+  lasts_end s r c x sound step h it done =
       let cells = s.state.cells in
       let release = session_released s r it.place it.owner h
       (subst (λ c. SessionStep s c IsDone r) it.releases
@@ -338,7 +295,7 @@ module _ {T : Type 0} where
         record {
           tells_ends = tells_ends s run.0 c x run.1;
           new_box = gives_new_box s run.0 c x run.1;
-          ends_owned = ends_owned s run.0 c x kept.sound run.1;
+          ends_owned = lasts_end s run.0 c x kept.sound run.1;
           tells_lack = told.lack;
           tells_exhaustion = told.exhaustion;
           refusal_leaves_all = told.leaves_all;
@@ -352,15 +309,13 @@ module _ {T : Type 0} where
   -- a session over a fresh store
   pub new_kept : (S : State T) (items : List (Thing T))
       → IsFresh S → items ≡ [] → IsSoundSession (session_in S items)
-  new_kept S items f none =
-      rw none (subst (λ X. IsSoundSession (record { state = X; table = [] })) (sym f)
-      (fresh_kept S.number S.start S.next))
+  new_kept S items f none = rw none (subst (λ X. IsSoundSession (record { state = X; table = [] }))
+      (sym f) (fresh_kept S.number S.start S.next))
 
   -- what a call gives, once it has its place, is a step of the session
   asked_step : (s m : SessionState T) (c : Call T) (a : Request T) (x : SessionReply T) (h : Held T)
       → GivesAsked s c a x h m → Settles s c a x (add_place m h)
-  asked_step s m c (Request.Asks action) x h g =
-      let S = m.state in
+  asked_step s m c (Request.Asks action) x h g = let S = m.state in
       (g.0, S, g.1, λ i. (g.2 i, add_place (record { state = S; table = g.4 i }) (g.3 i)))
   asked_step s m c a x h g = (g.0, λ i. add_place (g.2 i) (g.1 i))
 
@@ -405,40 +360,34 @@ module _ {T : Type 0} where
   pub exchange_gives : (S : State T) (items after : List (Thing T)) (p : ℕ) (v : T)
       (x : SessionReply T) (u : Thing T) (h : Held T) → at_place (list_map as_held items) p ≡ h
       → list_map as_held after ≡ slice_set (list_map as_held items) p (as_held u)
-      → x ≡ (exchange h v).0 → as_held u ≡ (exchange h v).1
-      → GivesAsked (session_in S items) (call.Replace p v) (replace p h v) x Nothing
-      (session_in S after)
+      → x ≡ (exchange h v).0 → as_held u ≡ (exchange h v).1 → GivesAsked
+      (session_in S items) (call.Replace p v) (replace p h v) x Nothing (session_in S after)
   exchange_gives S items after p v x u (Writing g old) is set reply put =
       let now = set ∙ ap (slice_set (list_map as_held items) p) put in
       (reply, refl, λ i. record { state = S; table = now i })
   exchange_gives S items after p v x u h is set reply put =
-      let now = set ∙ (ap (slice_set (list_map as_held items) p) (put ∙ sym is)
-      ∙ set-get_or (list_map as_held items) p Nothing) in
-      (reply, refl, λ i. record { state = S; table = now i })
+      let now = set ∙ (ap (slice_set (list_map as_held items) p) (put ∙ sym is) ∙ set-get_or
+      (list_map as_held items) p Nothing) in (reply, refl, λ i. record { state = S; table = now i })
 
   -- a run of the calls that are left, behind the replies so far, is a run of all
   abbrev Continues : SessionState T → List (Call T) → State T → List (Thing T) → List (Call T)
       → List (Reply T) → Type 0
   Continues s all S items calls replies = (rs : List (SessionReply T)) (last : SessionState T)
-      → Run (session_in S items) (reverse calls) rs last
-      → Run s all (as_replies replies ++ rs) last
+      → Run (session_in S items) (reverse calls) rs last → Run s all (as_replies replies ++ rs) last
 
   -- a run before its first call
   pub run_starts : {s : SessionState T} (S : State T) (items kept : List (Thing T))
-      (all calls : List (Call T)) (replies : List (Reply T))
-      → session_in S items ≡ s → kept ≡ items → calls ≡ reverse all → replies ≡ []
-      → Continues s all S kept calls replies
+      (all calls : List (Call T)) (replies : List (Reply T)) → session_in S items ≡ s
+      → kept ≡ items → calls ≡ reverse all → replies ≡ [] → Continues s all S kept calls replies
   run_starts S items kept all calls replies view same turned none =
       λ rs last run. rw (none, ← view) (rw (same, turned, reverse-reverse all) at run)
 
   -- one call more of a run
   pub run_goes : (s : SessionState T) (S R : State T) (items kept after : List (Thing T))
-      (all calls rest : List (Call T)) (c : Call T)
-      (x : Reply T) (t : Thing T) (replies more : List (Reply T))
-      → calls ≡ rest ++ c ∷ []
-      → Gives (session_in S items) c (as_reply x) (as_held t) (session_in R kept)
-      → after ≡ kept ++ t ∷ [] → more ≡ replies ++ x ∷ []
-      → Continues s all S items calls replies → Continues s all R after rest more
+      (all calls rest : List (Call T)) (c : Call T) (x : Reply T) (t : Thing T)
+      (replies more : List (Reply T)) → calls ≡ rest ++ c ∷ [] → Gives (session_in S items) c
+      (as_reply x) (as_held t) (session_in R kept) → after ≡ kept ++ t ∷ [] → more ≡ replies
+      ++ x ∷ [] → Continues s all S items calls replies → Continues s all R after rest more
   run_goes s S R items kept after all calls rest c x t replies more front gives place told so_far =
       λ rs last run. rw (
         told,
@@ -452,9 +401,8 @@ module _ {T : Type 0} where
       )))
 
   -- a run to its end
-  pub run_ends : (s : SessionState T) (S : State T) (items : List (Thing T))
-      (all calls : List (Call T)) (replies : List (Reply T))
-      → calls ≡ [] → Continues s all S items calls replies
-      → Run s all (as_replies replies) (session_in S items)
+  pub run_ends : (s : SessionState T) (S : State T)
+      (items : List (Thing T)) (all calls : List (Call T)) (replies : List (Reply T)) → calls ≡ []
+      → Continues s all S items calls replies → Run s all (as_replies replies) (session_in S items)
   run_ends s S items all calls replies none so_far =
       rw (← append-nil (as_replies replies)) (so_far [] (session_in S items) (rw none refl))

@@ -1,49 +1,25 @@
 -- Each call of a session keeps what holds of every session, and so does a whole run.
-use Rattle.std.proofs.Common.{◌≡◌, ◌≢◌, ℕ, zero, suc, ◌+◌, ◌≤◌, ◌<◌, Bool, true, false, cond, List}
-use Rattle.std.proofs.Common.{[], ap}
-use Rattle.std.proofs.Common.{◌∷◌, ◌++◌, length, slice_set, Option, None, Some, refl, sym, subst}
-use Rattle.std.proofs.Common.{◌∙◌, inl, inr, ⊎_elim, arith}
-use Rattle.std.specs.Prelude.{◌⊎◌, ◌||◌, is_some, nat_eq, map as list_map}
-use Rattle.std.specs.List.{count_by, list_any}
-use Rattle.std.specs.Cmp.{nat_eq_equiv}
+use Rattle.generational_sessions.proofs.sessions.Common
+use Common.{◌≡◌, subst, arith, State, fresh, Guard, reach, Owned, Reads, Meets, gives, spend, Boxed}
+use Common.{◌≢◌, suc, ◌+◌, ◌≤◌, ◌<◌, ◌∷◌, sym, ◌∙◌, inl, inr, ◌⊎◌, Made, Done, Held, Run, ask, swap}
+use Common.{ℕ, zero, Bool, true, cond, List, ◌++◌, None, Some, refl, ◌||◌, Call, Name, Cell, IsOwn}
+use Common.{false, sum_by-cons, sum_by_push, meets_number, writes_known, reader_stays, writer_stays}
+use Common.{[], nat_eq_equiv, knows_reader, knows_writer, SessionState, SessionReply, fresh_bounded}
+use Common.{ap, true≢false, tickets_of, content_at, has_reader, has_writer, owner_held, meets_value}
+use Common.{length, IsSound, IsEnded, Request, Settles, release, replace, Reading, Writing, Nothing}
+use Common.{slice_set, count_under, SessionStep, holds_owner, Undisturbed, fresh_sound, ref_reaches}
+use Common.{Option, ⊎_elim, nat_eq, eq-eqb, Borrow, Action, Answer, Writes, box_in, Owning, AreOne}
+use Common.{is_some, list_map, count_by, list_any, eqb-true, Location, count_in, can_read, is_known}
+use Common.{and_parts, meets_sound, meets_ended, meets_given, reads_known, ends_reader, ends_writer}
+use Common.{or_left, name_of, Content, at_place, owner_in, with_box, if_ready, value_at, made_new}
+use Common.{false_from_ne_true, GenerationalPointer, IsSoundSession, IsUndisturbed, meets_bounded}
+use Common.{is_shared, Ownership, IsBounded, can_write, OwnerName, add_place, with_owner, AskedSets}
+use Rattle.generational_sessions.proofs.sessions.OwnerValues.{owners_in, takes, meets_counts}
 use Rattle.std.specs.FinMap as map
 use Rattle.std.specs.FinSet as set
-use Rattle.std.proofs.lemmas.Bool.{true≢false, and_parts, or_left, eq-eqb, eqb-true}
-use Rattle.std.proofs.lemmas.Bool.{false_from_ne_true}
-use Rattle.std.proofs.lemmas.List.Sums.{sum_by-cons, sum_by_push}
-use Rattle.generational_core.specs.declared.borrow.Borrow.{Borrow}
-use Rattle.generational_core.specs.declared.boxes.GenerationalPointer.{GenerationalPointer}
-use Rattle.generational_core.specs.declared.error.Location.{Location}
-use Rattle.generational_sessions.specs.declared.calls.Call.{Call}
 use Rattle.generational_sessions.specs.declared.calls.Call.TheVariants as call
-use Rattle.generational_core.specs.Names.{Name}
-use Rattle.generational_core.specs.Boxes.{name_of}
-use Rattle.generational_core.specs.Cells.{Content, Cell, is_shared}
-use Rattle.generational_core.specs.State.{State, Ownership, IsSound, tickets_of, content_at}
-use Rattle.generational_core.specs.Conditions.{count_in, count_under, IsBounded, IsEnded, fresh}
-use Rattle.generational_core.specs.Borrowing.{Guard, can_read, can_write, reach}
-use Rattle.generational_core.specs.Machine.{Action, Answer, OwnerName, is_known, has_reader}
-use Rattle.generational_core.specs.Machine.{has_writer, knows_reader, knows_writer}
-use Rattle.generational_core.specs.Machine.Answer.{Made, Owned, Reads, Writes, Done}
-use Rattle.generational_core.specs.Steps.{Meets}
-use Rattle.generational_sessions.specs.Session.{SessionState, Held, SessionReply, Request, Settles}
-use Rattle.generational_sessions.specs.Session.{Run}
-use Rattle.generational_sessions.specs.Session.{SessionStep, at_place, add_place, gives, spend, ask}
-use Rattle.generational_sessions.specs.Session.{box_in, owner_in, owner_held, with_box, with_owner}
-use Rattle.generational_sessions.specs.Session.{if_ready, release, replace, swap}
-use Rattle.generational_sessions.specs.Session.Held.{Boxed, Reading, Writing, Owning, Nothing}
-use Rattle.generational_sessions.specs.SoundSession.{IsSoundSession, IsOwn, AreOne, holds_owner}
-use Rattle.generational_core.specs.Answers.{value_at}
-use Rattle.generational_sessions.specs.Disturbance.{AskedSets, IsUndisturbed, Undisturbed}
-use Rattle.generational_core.proofs.machine.Bounding.{meets_bounded, fresh_bounded}
-use Rattle.generational_core.proofs.machine.Soundness.{fresh_sound, ref_reaches}
-use Rattle.generational_sessions.proofs.sessions.OwnerValues.{owners_in, takes, meets_counts}
-use Rattle.generational_core.proofs.machine.Stepping.{meets_sound, meets_ended, meets_number}
-use Rattle.generational_core.proofs.machine.Stepping.{meets_given}
-use Rattle.generational_core.proofs.machine.Stepping.{made_new, reads_known, writes_known}
-use Rattle.generational_core.proofs.machine.Stepping.{reader_stays}
-use Rattle.generational_core.proofs.machine.Stepping.{writer_stays, ends_reader, ends_writer}
-use Rattle.generational_core.proofs.machine.Stepping.{meets_value}
+use Rattle.generational_core.proofs.machine.Boxing.{boxed_stays, made_boxed}
+use Rattle.generational_core.proofs.machine.Guarding.{reader_stands, writer_stands}
 
 module _ {T : Type 0} where
   -- ---- places of a table
@@ -91,15 +67,12 @@ module _ {T : Type 0} where
       → count_by (holds_owner key) (slice_set table i x) + owners_in key (at_place table i)
       ≤ count_by (holds_owner key) table + owners_in key x
   count_changed key [] i x = omega arith
-  count_changed key (h ∷ table) zero x =
-      let new = sum_by-cons (owners_in key) x table in
-      let old = sum_by-cons (owners_in key) h table in
-      omega arith
+  count_changed key (h ∷ table) zero x = let new = sum_by-cons (owners_in key) x table in
+      let old = sum_by-cons (owners_in key) h table in omega arith
   count_changed key (h ∷ table) (suc i) x =
       let new = sum_by-cons (owners_in key) h (slice_set table i x) in
       let old = sum_by-cons (owners_in key) h table in
-      let rest = count_changed key table i x in
-      omega arith
+      let rest = count_changed key table i x in omega arith
 
   -- ---- things that are one
 
@@ -179,23 +152,6 @@ module _ {T : Type 0} where
   -- ---- what a call of the machine leaves
 
   -- tickets of known guards are below the next one
-  reader_stands : (c : Option (Content T)) (t : ℕ)
-      → has_reader c t ≡ true → list_any (nat_eq t) (tickets_of c) ≡ true
-  reader_stands None t h = h
-  reader_stands (Some (Content.Lent w)) t h = absurd (true≢false (sym h))
-  reader_stands (Some (Content.Here v readers)) t h = turn readers ∙ h
-    where
-      turn : (readers : List Borrow)
-          → list_any (nat_eq t) (list_map (λ (r : Borrow). r.ticket) readers)
-          ≡ list_any (λ r. nat_eq r.ticket t) readers
-      turn [] = refl
-      turn (r ∷ readers) = λ i. nat_eq_equiv.symm t r.ticket i || turn readers i
-
-  writer_stands : (c : Option (Content T)) (t : ℕ)
-      → has_writer c t ≡ true → list_any (nat_eq t) (tickets_of c) ≡ true
-  writer_stands (Some (Content.Lent w)) t h = or_left _ _ (nat_eq_equiv.symm t w.ticket ∙ h)
-  writer_stands c t h = absurd (true≢false (sym h))
-
   reader_below : (S : State T) (g : Guard) → IsSound S → knows_reader S g ≡ true → g.ticket < S.next
   reader_below S g sound known = sound.below g.cell g.ticket
       (reader_stands (content_at S g.cell) g.ticket (and_parts _ _ known).1)
@@ -228,8 +184,10 @@ module _ {T : Type 0} where
     -- what is given is the store's own
     given_own : (a : Answer T) → Meets s.state action a R → IsOwn R (gives a)
     unfolding IsOwn
-    given_own (Made b) m = let it = made_new s.state R action b m in
-        (it.0 ∙ sym (meets_number s.state R action (Made b) m), it.2)
+    given_own (Made b) m = (
+      (made_new s.state R action b m).0 ∙ sym (meets_number s.state R action (Made b) m),
+      made_boxed s.state R action b m,
+    )
     given_own (Owned o) m = (meets_counts s.state R action (Owned o) kept.sound m).own o refl
         ∙ sym (meets_number s.state R action (Owned o) m)
     given_own (Reads g) m = (reads_known s.state R action g m).0
@@ -240,16 +198,13 @@ module _ {T : Type 0} where
     given_new : (a : Answer T) → Meets s.state action a R → (x : Held T) → IsOwn s.state x
         → AreOne (gives a) x → ⊥
     unfolding IsOwn AreOne
-    given_new (Made b) m (Boxed c) own one = true≢false (sym own.1
+    given_new (Made b) m (Boxed c) own one = true≢false (sym own.1.0
         ∙ (ap (set.contains s.state.given) (sym one) ∙ (made_new s.state R action b m).1))
-    given_new (Reads g) m (Reading h) own one =
-        let new = (reads_known s.state R action g m).1 in
-        let low = reader_below s.state h kept.sound own in
-        omega arith
+    given_new (Reads g) m (Reading h) own one = let new = (reads_known s.state R action g m).1 in
+        let low = reader_below s.state h kept.sound own in omega arith
     given_new (Writes g v) m (Writing h w) own one =
         let new = (writes_known s.state R action g v m).1 in
-        let low = writer_below s.state h kept.sound own in
-        omega arith
+        let low = writer_below s.state h kept.sound own in omega arith
     given_new a m x own one = one
 
     module _ (answer : Answer T) (meets : Meets s.state action answer R)
@@ -259,13 +214,12 @@ module _ {T : Type 0} where
       unfolding IsOwn
       stays_own (Boxed b) other own = (
         own.0 ∙ sym (meets_number s.state R action answer meets),
-        meets_given s.state R action answer meets (name_of b) own.1,
+        boxed_stays s.state R action answer (name_of b) kept.sound meets own.1,
       )
       stays_own (Reading g) other own = reader_stays s.state R action answer kept.sound meets g own
           (false_from_ne_true _ (λ e. other (takes_reader action answer g e)))
-      stays_own (Writing g v) other own =
-          writer_stays s.state R action answer kept.sound meets g own
-          (false_from_ne_true _ (λ e. other (takes_writer action answer g v e)))
+      stays_own (Writing g v) other own = writer_stays s.state R action answer kept.sound
+          meets g own (false_from_ne_true _ (λ e. other (takes_writer action answer g v e)))
       stays_own (Owning o) other own = own ∙ sym (meets_number s.state R action answer meets)
       stays_own Nothing other own = tt
 
@@ -274,10 +228,8 @@ module _ {T : Type 0} where
 
       room : (key : ℕ) → count_by (holds_owner key) left.table + owners_in key (gives answer)
           ≤ count_under R.owners key
-      room key =
-          let emptied = count_changed key s.table p Nothing in
-          let takes = ap (owners_in key) there in
-          let before = kept.counted key in
+      room key = let emptied = count_changed key s.table p Nothing in
+          let takes = ap (owners_in key) there in let before = kept.counted key in
           let by = (meets_counts s.state R action answer kept.sound meets).counted key in
           omega arith
 
@@ -329,9 +281,8 @@ module _ {T : Type 0} where
   comes_box (Some b) back next h = h b
 
   comes_owner : {s : SessionState T} {c : Call T} (p : ℕ) (back : Option T)
-      (next : OwnerName → Request T)
-      → ((o : OwnerName) → at_place s.table p ≡ Owning o → ComesTo s c (next o))
-      → ComesTo s c (with_owner (owner_in s p) back next)
+      (next : OwnerName → Request T) → ((o : OwnerName) → at_place s.table p ≡ Owning o
+      → ComesTo s c (next o)) → ComesTo s c (with_owner (owner_in s p) back next)
   comes_owner {s} {c} p back next h = at (at_place s.table p) refl
     where
       at : (x : Held T) → at_place s.table p ≡ x → ComesTo s c (with_owner (owner_held x) back next)
@@ -410,12 +361,11 @@ module _ {T : Type 0} where
     session_kept kept step = at (ask s c) (comes_to s c) step
       where
         at : (q : Request T) → ComesTo s c q → Settles s c q x r → IsSoundSession r
-        at q (asks action spends) step =
-            let it = spends step.0 in
-            subst (λ (o : SessionReply T × SessionState T). IsSoundSession o.1) (sym step.3)
-            (subst (λ table. IsSoundSession (add_place (record { state = step.1; table = table })
-            (gives step.0))) (sym it.1)
-            (kept_after s action step.1 it.0 kept step.0 step.2 it.2))
+        at q (asks action spends) step = let it = spends step.0 in
+            subst (λ (o : SessionReply T × SessionState T). IsSoundSession o.1)
+            (sym step.3) (subst (λ table. IsSoundSession
+            (add_place (record { state = step.1; table = table }) (gives step.0)))
+            (sym it.1) (kept_after s action step.1 it.0 kept step.0 step.2 it.2))
         at q (tells y own) step = subst IsSoundSession (sym step.1) (kept_told s kept)
         at q (swaps p g v old there) step = subst IsSoundSession
             (sym step.1) (kept_told (swap s p g v) (kept_swapped s p g v old kept there))
@@ -467,19 +417,15 @@ module _ {T : Type 0} where
   pub owner_known : (s : SessionState T) (p : ℕ) (o : OwnerName) → IsSoundSession s
       → at_place s.table p ≡ Owning o → is_known s.state (Some o) ≡ true
   unfolding IsOwn
-  owner_known s p o kept is =
-      ap (λ b. is_some (cond b (map.get s.state.owners o.key) None))
+  owner_known s p o kept is = ap (λ b. is_some (cond b (map.get s.state.owners o.key) None))
       (eq-eqb o.store s.state.number (subst (IsOwn s.state) is (kept.own p)))
       ∙ recorded (map.get s.state.owners o.key) refl
     where
       recorded : (h : Option Ownership) → map.get s.state.owners o.key ≡ h → is_some h ≡ true
       recorded None e =
-          let none = ap count_in e in
-          let without = count_changed o.key s.table p Nothing in
-          let here = ap (owners_in o.key) is
-          ∙ ap (λ (b : Bool). cond {A = ℕ} b 1 0) (nat_eq_equiv.refl o.key) in
-          let counted = kept.counted o.key in
-          absurd (omega arith)
+          let none = ap count_in e in let without = count_changed o.key s.table p Nothing in
+          let here = ap (owners_in o.key) is ∙ ap (λ (b : Bool). cond {A = ℕ} b 1 0)
+          (nat_eq_equiv.refl o.key) in let counted = kept.counted o.key in absurd (omega arith)
       recorded (Some h) e = refl
 
   -- a box that a place holds, and whose cell is a Ref, reaches a live Shared cell
@@ -491,10 +437,15 @@ module _ {T : Type 0} where
   held_reaches s p b m l kept is =
       ref_reaches s.state b m l kept.sound (subst (IsOwn s.state) is (kept.own p)).0
 
+  -- and its name is no Shared cell's
+  pub held_boxed : (s : SessionState T) (p : ℕ) (b : GenerationalPointer) → IsSoundSession s
+      → at_place s.table p ≡ Boxed b → is_shared (map.get s.state.cells (name_of b)) ≡ false
+  unfolding IsOwn
+  held_boxed s p b kept is = (subst (IsOwn s.state) is (kept.own p)).1.1
+
   -- a session of a fresh store, in which nothing was called
-  pub fresh_kept : (number start next : ℕ)
-      → IsSoundSession (let s : SessionState T =
-      record { state = fresh number start next; table = [] } in s)
+  pub fresh_kept : (number start next : ℕ) → IsSoundSession
+      (let s : SessionState T = record { state = fresh number start next; table = [] } in s)
   unfolding IsOwn AreOne
   fresh_kept number start next = record {
     sound = fresh_sound number start next;
@@ -529,10 +480,9 @@ module _ {T : Type 0} where
       (b : GenerationalPointer) (m : Name) → IsSound s.state → (run : Run s calls replies r)
       → Undisturbed b m s calls replies r run → value_at r.state m ≡ value_at s.state m
   run_value [] [] s r b m sound run u = ap (λ (r : SessionState T). value_at r.state m) run
-  run_value (c ∷ calls) (x ∷ replies) s r b m sound run u =
-      run_value calls replies run.0 r b m (session_sound s run.0 c x sound run.1) run.2 u.2
-      ∙ settles_value s run.0 c x (ask s c) m sound run.1 u.1 u.0.here
-      (first_here calls replies run.0 run.2 u.2)
+  run_value (c ∷ calls) (x ∷ replies) s r b m sound run u = run_value
+      calls replies run.0 r b m (session_sound s run.0 c x sound run.1) run.2 u.2 ∙ settles_value s
+      run.0 c x (ask s c) m sound run.1 u.1 u.0.here (first_here calls replies run.0 run.2 u.2)
     where
       first_here : (calls : List (Call T)) (replies : List (SessionReply T)) (s : SessionState T)
           (run : Run s calls replies r) → Undisturbed b m s calls replies r run

@@ -24,6 +24,7 @@ use Rattle.generational_slots.proofs.Common.{IsReferred, AreReferred, refers, ho
 use Rattle.generational_slots.proofs.Common.{change_entry}
 use Rattle.generational_slots.proofs.Common.{is_live, with_content, content_in, content_at, State}
 use Rattle.generational_slots.proofs.Common.{has_no_borrow}
+use Rattle.generational_slots.specs.Slotted.{change_content}
 use Rattle.generational_slots.proofs.Common.{Count, Inventory, Retirements, Slotted, count_of}
 use Rattle.generational_entries.specs.declared.entry.Kind.TheVariants as kind
 use Rattle.generational_containers.proofs.lists.Lists.{IsWritten, set_written, bit, passes}
@@ -458,6 +459,17 @@ pub cell_seen : {T : Type 0} {S : State T} {start peak : ℕ} (slots : List (Ent
     → state_of start peak slots ≡ S → (n : Name) → cell_at slots n ≡ map.get S.cells n
 cell_seen slots view n = rw (← view) (sym (get_cells slots n))
 
+-- where the slots tell of no content the state sees none
+pub not_told : {T : Type 0} {S : State T} {start peak : ℕ} (slots : List (Entry T))
+    → state_of start peak slots ≡ S → (n : Name) → false ≡ is_some (content_of (cell_at slots n))
+    → content_at S n ≡ None
+not_told slots view n h =
+    nothing _ (h ∙ ap (λ o. is_some (content_of o)) (cell_seen slots view n))
+  where
+    nothing : {X : Type 0} (o : Option X) → false ≡ is_some o → o ≡ None
+    nothing None h = refl
+    nothing (Some x) h = absurd (false≢true h)
+
 module _ {T : Type 0} {S : State T} {start peak : ℕ} {slots : List (Entry T)}
     (view : state_of start peak slots ≡ S) (n : Name) where
   pub found_in : is_some (map.get S.cells n) ≡ true → IsFound slots n
@@ -483,6 +495,11 @@ module _ {T : Type 0} {S : State T} {start peak : ℕ} {slots : List (Entry T)}
   pub held_in : is_some (content_at S n) ≡ true → IsHeld slots n
   held_in h = held slots n (rw (← view) at h)
 
+  -- the same, where the slots tell of a content
+  pub held_told : true ≡ is_some (content_of (cell_at slots n)) → IsHeld slots n
+  held_told h =
+      held_in (ap (λ o. is_some (content_of o)) (sym (cell_seen slots view n)) ∙ sym h)
+
   pub seen_in : IsHeld slots n → {X : Type 0} (says : Option (Content T) → X) (P : X → Type 0)
       → IfSome (slice_get slots n.slot) (λ e. P (says (content_in e.kept)))
       → P (says (content_at S n))
@@ -492,6 +509,11 @@ module _ {T : Type 0} {S : State T} {start peak : ℕ} {slots : List (Entry T)}
       → P (says (content_at S n))
       → IfSome (slice_get slots n.slot) (λ e. P (says (content_in e.kept)))
   heard_in f says P h = heard f says P (rw (← view) at h)
+
+  -- the content changed, for what the state sees
+  pub changed_in : (f : IsHeld slots n) (h : Content T → Content T)
+      → state_of start peak (changed f h) ≡ change_content S n h
+  changed_in f h = rw (← view, content_seen f) (state_changed f h start peak)
 
   -- another content, for what the state sees
   pub filled_in : (f : IsHeld slots n) (h : Content T → Content T)

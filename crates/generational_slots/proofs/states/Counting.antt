@@ -17,9 +17,8 @@ use Rattle.generational_entries.specs.Entry.{change_entry_if}
 use Rattle.generational_slots.proofs.Common.{AreReferred, Cell, CellName, Empty, Entry, HasTargets}
 use Rattle.generational_slots.proofs.Common.{Inventory, IsReferred, IsSlotted, Kept, Live, Location}
 use Rattle.generational_slots.proofs.Common.{Name, Ref}
-use Rattle.generational_slots.proofs.Common.{IsRefused, Kind, OutOfMemory, Owners, Shared, Slotted}
+use Rattle.generational_slots.proofs.Common.{Kind, Shared, Slotted}
 use Rattle.generational_slots.proofs.Common.{StoreError, UnknownOwner, Value, cell_in, free}
-use Rattle.generational_slots.proofs.Common.{knows_any}
 use Rattle.generational_entries.specs.Entry.{target_in}
 use Rattle.generational_core.specs.Machine.{OwnerName}
 use Rattle.std.proofs.Common.{Err, Ok, OnErr, Result, inr}
@@ -335,18 +334,6 @@ new_fresh {T} slots i g dead = get_cells slots (record { slot = i; generation = 
 pub err_holds : {A E P : Type 0} (r : Result A E) → is_err r ≡ true → OnErr r P → P
 err_holds (Ok a) h p = absurd (false≢true h)
 err_holds (Err e) h p = p
-
--- why no cell is made where none is spare
-pub lacking_refused : {T : Type 0} (s : Slotted T) (number : ℕ) (owners : Owners)
-    (o : Option OwnerName) (e : StoreError)
-    → e ≡ cond (knows_any number owners o) OutOfMemory UnknownOwner
-    → free s.state ≡ 0 → s.spare ≡ 0 → IsRefused s number owners o e
-lacking_refused s number owners o e is none full = at (knows_any number owners o) refl is
-  where
-    at : (b : Bool) → knows_any number owners o ≡ b → e ≡ cond b OutOfMemory UnknownOwner
-        → IsRefused s number owners o e
-    at true known is = rw is (known, inr (none, full))
-    at false unknown is = rw is unknown
 
 -- ---- a cell goes
 

@@ -3,8 +3,8 @@ use Rattle.std.proofs.lemmas.Option.{slice_get_read}
 use Rattle.generational_containers.proofs.records.Places.{change_vacant}
 use Rattle.generational_containers.proofs.owners.list_at.Goals as goal
 
-pub returns-in-None-clause-ok : goal.returns-in-None-clause-ok
-returns-in-None-clause-ok c =
+pub returns-in-None : goal.returns-in-None
+returns-in-None c =
     let places = c.args.places.now in
     change_vacant places.items c.args.place c.index_mut.result.now _
     (slice_get_read places.items (length places.items) c.args.place c.index_mut.result.now refl

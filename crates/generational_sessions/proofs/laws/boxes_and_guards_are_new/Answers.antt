@@ -1,9 +1,5 @@
-use Rattle.std.proofs.Common.{◌∙◌}
-use Rattle.std.specs.Prelude.{nat_eq}
-use Rattle.std.proofs.lemmas.Bool.{and_parts, eqb-true}
-use Rattle.generational_core.specs.Machine.Answer.{Reads}
-use Rattle.generational_core.proofs.machine.Stepping.{made_new, reads_known, writes_known}
-use Rattle.generational_core.proofs.machine.Stepping.{meets_number}
+use Rattle.generational_sessions.proofs.{◌∙◌, nat_eq, and_parts, eqb-true, Reads, made_new}
+use Rattle.generational_sessions.proofs.{reads_known, writes_known, meets_number}
 use Rattle.generational_sessions.proofs.laws.boxes_and_guards_are_new.Goals as goal
 
 pub returns : goal.returns

@@ -1,4 +1,4 @@
-use Rattle.generational_core.proofs.machine.Calling.{keeps, keeps_reach, keeps_unowned}
+use Rattle.generational_sessions.proofs.{keeps, keeps_reach, keeps_unowned}
 use Rattle.generational_sessions.proofs.laws.calls_leave_the_rest.Goals as goal
 
 pub returns : goal.returns

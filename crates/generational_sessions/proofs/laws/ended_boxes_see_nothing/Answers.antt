@@ -1,4 +1,4 @@
-use Rattle.generational_core.proofs.machine.Calling.{ends, ends_owned, unseen, unread}
+use Rattle.generational_sessions.proofs.{ends, ends_owned, unseen, unread}
 use Rattle.generational_sessions.proofs.laws.ended_boxes_see_nothing.Goals as goal
 
 pub returns : goal.returns

@@ -1,4 +1,4 @@
-use Rattle.generational_core.proofs.machine.Stepping.{ended_read, ended_write, meets_ended}
+use Rattle.generational_sessions.proofs.{ended_read, ended_write, meets_ended}
 use Rattle.generational_sessions.proofs.laws.ended_names_stay_ended.Goals as goal
 
 pub returns : goal.returns

@@ -1,4 +1,4 @@
-use Rattle.generational_sessions.proofs.carrying.Plain.{plain_fresh}
+use Rattle.generational_sessions.proofs.{plain_fresh}
 use Rattle.generational_sessions.proofs.laws.fresh_states_are_plain.Goals as goal
 
 pub returns : goal.returns

@@ -1,6 +1,5 @@
-use Rattle.generational_core.proofs.machine.Calling.{made, made_shared, referred, referred_reach}
-use Rattle.generational_core.proofs.machine.Calling.{referred_together, made_apart, referred_apart}
-use Rattle.generational_core.proofs.machine.Calling.{points}
+use Rattle.generational_sessions.proofs.{made, made_shared, referred, referred_reach}
+use Rattle.generational_sessions.proofs.{referred_together, made_apart, referred_apart, points}
 use Rattle.generational_sessions.proofs.laws.made_boxes_see_their_values.Goals as goal
 
 pub returns : goal.returns

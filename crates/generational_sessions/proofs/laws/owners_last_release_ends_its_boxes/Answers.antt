@@ -1,10 +1,8 @@
-use Rattle.generational_core.proofs.machine.Releasing.{box_ends, box_stays, shared_ends}
-use Rattle.generational_core.proofs.machine.Releasing.{shared_stays}
-use Rattle.generational_core.proofs.machine.Releasing.{listed_boxed, last_cells, earlier_cells}
-use Rattle.generational_core.proofs.machine.Releasing.{last_record}
-use Rattle.generational_core.proofs.machine.Releasing.{earlier_record, other_records, rest_stays}
-use Rattle.generational_core.proofs.machine.Releasing.{refused_release, leak_changes_nothing}
-use Rattle.generational_sessions.proofs.sessions.SessionCalls.{session_released}
+use Rattle.generational_sessions.proofs.{session_released}
+use Rattle.generational_core.proofs.machine.Releasing
+use Releasing.{box_ends, box_stays, shared_ends, shared_stays, listed_boxed, last_cells}
+use Releasing.{earlier_cells, last_record, earlier_record, other_records, rest_stays}
+use Releasing.{refused_release, leak_changes_nothing}
 use Rattle.generational_sessions.proofs.laws.owners_last_release_ends_its_boxes.Goals as goal
 
 pub returns : goal.returns
@@ -15,8 +13,7 @@ returns g c = record {
       rw (last_cells r last) (box_stays S.cells h.names n box apart);
   unnamed = λ S R o h n r last shared.
       rw (last_cells r last) (shared_ends S.cells h.names n shared);
-  named = λ S R o h n r last shared.
-      rw (last_cells r last) (shared_stays S.cells h.names n shared);
+  named = λ S R o h n r last shared. rw (last_cells r last) (shared_stays S.cells h.names n shared);
   gone = λ S R o h r. last_record r;
   earlier = λ S R o h r. earlier_cells r;
   counted = λ S R o h r. earlier_record r;

@@ -1,4 +1,4 @@
-use Rattle.generational_core.proofs.machine.Calling.{owned, lists, listed_last}
+use Rattle.generational_sessions.proofs.{owned, lists, listed_last}
 use Rattle.generational_sessions.proofs.laws.owners_list_their_boxes.Goals as goal
 
 pub returns : goal.returns

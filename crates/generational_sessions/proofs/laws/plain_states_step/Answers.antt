@@ -1,4 +1,4 @@
-use Rattle.generational_sessions.proofs.carrying.Plain.{plain_act, plain_meets}
+use Rattle.generational_sessions.proofs.{plain_act, plain_meets}
 use Rattle.generational_sessions.proofs.laws.plain_states_step.Goals as goal
 
 pub returns : goal.returns

@@ -1,7 +1,5 @@
-use Rattle.std.proofs.Common.{◌∙◌, sym}
-use Rattle.generational_core.proofs.machine.Soundness.{fresh_sound}
-use Rattle.generational_sessions.proofs.carrying.NumberedCalls.{fresh_matches, run_answers}
-use Rattle.generational_sessions.proofs.carrying.NumberedCalls.{owner_matched}
+use Rattle.generational_sessions.proofs.{◌∙◌, sym, fresh_sound, fresh_matches, run_answers}
+use Rattle.generational_sessions.proofs.{owner_matched}
 use Rattle.generational_sessions.proofs.laws.replies_depend_on_calls.Goals as goal
 
 pub returns : goal.returns

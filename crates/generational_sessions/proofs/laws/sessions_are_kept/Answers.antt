@@ -1,5 +1,4 @@
-use Rattle.generational_sessions.proofs.sessions.Sessions.{owner_known, fresh_kept, session_kept}
-use Rattle.generational_sessions.proofs.sessions.Sessions.{run_kept}
+use Rattle.generational_sessions.proofs.{owner_known, fresh_kept, session_kept, run_kept}
 use Rattle.generational_sessions.proofs.laws.sessions_are_kept.Goals as goal
 
 pub returns : goal.returns

@@ -1,4 +1,4 @@
-use Rattle.generational_sessions.proofs.sessions.Sessions.{session_ended, run_ended}
+use Rattle.generational_sessions.proofs.{session_ended, run_ended}
 use Rattle.generational_sessions.proofs.laws.sessions_keep_names_ended.Goals as goal
 
 pub returns : goal.returns

@@ -1,6 +1,4 @@
-use Rattle.generational_core.proofs.machine.Soundness.{named_shared, ref_reaches}
-use Rattle.generational_core.proofs.maps.Maps.{named_gives}
-use Rattle.generational_sessions.proofs.sessions.Sessions.{held_reaches}
+use Rattle.generational_sessions.proofs.{named_shared, ref_reaches, named_gives, held_reaches}
 use Rattle.generational_sessions.proofs.laws.shared_values_live_by_references.Goals as goal
 
 pub returns : goal.returns

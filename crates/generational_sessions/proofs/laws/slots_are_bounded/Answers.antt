@@ -1,4 +1,4 @@
-use Rattle.generational_core.proofs.machine.Bounding.{fresh_bounded, meets_bounded}
+use Rattle.generational_sessions.proofs.{fresh_bounded, meets_bounded}
 use Rattle.generational_sessions.proofs.laws.slots_are_bounded.Goals as goal
 
 pub returns : goal.returns

@@ -1,5 +1,4 @@
-use Rattle.generational_core.specs.Slots.{lasts}
-use Rattle.generational_core.proofs.machine.Bounding.{no_slots, lasts_insert}
+use Rattle.generational_sessions.proofs.{lasts, no_slots, lasts_insert}
 use Rattle.generational_sessions.proofs.laws.slots_follow_from_names.Goals as goal
 
 pub returns-clause-none : goal.returns-clause-none

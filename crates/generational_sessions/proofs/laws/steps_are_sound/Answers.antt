@@ -1,5 +1,4 @@
-use Rattle.generational_core.proofs.machine.Soundness.{fresh_sound}
-use Rattle.generational_core.proofs.machine.Stepping.{meets_sound}
+use Rattle.generational_sessions.proofs.{fresh_sound, meets_sound}
 use Rattle.generational_sessions.proofs.laws.steps_are_sound.Goals as goal
 
 pub returns : goal.returns

@@ -1,5 +1,4 @@
-use Rattle.generational_core.proofs.machine.Stepping.{meets_number, meets_start, meets_next}
-use Rattle.generational_core.proofs.machine.Stepping.{meets_given}
+use Rattle.generational_sessions.proofs.{meets_number, meets_start, meets_next, meets_given}
 use Rattle.generational_sessions.proofs.laws.steps_keep_the_store.Goals as goal
 
 pub returns : goal.returns

@@ -1,6 +1,5 @@
-use Rattle.generational_core.proofs.machine.Calling.{made_free, made_shared_free, keeps_free}
-use Rattle.generational_core.proofs.machine.Calling.{ends_free, reads_back}
-use Rattle.generational_core.proofs.machine.Resting.{free_sees, free_reads}
+use Rattle.generational_sessions.proofs.{made_free, made_shared_free, keeps_free, ends_free}
+use Rattle.generational_sessions.proofs.{reads_back, free_sees, free_reads}
 use Rattle.generational_sessions.proofs.laws.unborrowed_boxes_are_free.Goals as goal
 
 pub returns : goal.returns

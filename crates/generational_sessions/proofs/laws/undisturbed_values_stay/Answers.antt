@@ -1,5 +1,4 @@
-use Rattle.generational_core.proofs.machine.Stepping.{meets_value, meets_location}
-use Rattle.generational_sessions.proofs.sessions.Sessions.{session_value, run_value}
+use Rattle.generational_sessions.proofs.{meets_value, meets_location, session_value, run_value}
 use Rattle.generational_sessions.proofs.laws.undisturbed_values_stay.Goals as goal
 
 pub returns : goal.returns

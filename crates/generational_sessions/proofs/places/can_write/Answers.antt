@@ -1,5 +1,4 @@
-use Rattle.std.proofs.Common.{refl, inl}
-use Rattle.generational_core.specs.Steps.{no_names}
+use Rattle.generational_sessions.proofs.{refl, inl, no_names}
 use Rattle.generational_sessions.proofs.places.can_write.Goals as goal
 
 pub returns-in-Some : goal.returns-in-Some

@@ -1,6 +1,4 @@
-use Rattle.std.proofs.Common.{refl, inl}
-use Rattle.generational_core.specs.Steps.{no_names}
-use Rattle.generational_sessions.proofs.sessions.SessionCalls.{held_there, set_there}
+use Rattle.generational_sessions.proofs.{refl, inl, no_names, held_there, set_there}
 use Rattle.generational_sessions.proofs.places.leak_owner.Goals as goal
 
 pub returns-in-Some-clause-step : goal.returns-in-Some-clause-step

@@ -1,8 +1,6 @@
-use Rattle.std.proofs.Common.{◌≡◌, Some, refl, arith, slice_get}
-use Rattle.std.proofs.lemmas.Grind.{common_steps}
-use Rattle.std.proofs.lemmas.Option.{gets}
-use Rattle.generational_sessions.specs.declared.places.Thing.TheVariants.{Reader, Writer, Nothing}
-use Rattle.generational_sessions.proofs.sessions.SessionCalls.{held_there, set_there, back_reply}
+use Rattle.generational_sessions.proofs.{◌≡◌, Some, refl, arith, slice_get, common_steps, gets}
+use Rattle.generational_sessions.proofs.{Reader, Writer, held_there, set_there, back_reply}
+use Rattle.generational_sessions.specs.declared.places.Thing.TheVariants.{Nothing}
 use Rattle.generational_sessions.proofs.places.release.Goals as goal
 
 pub returns-in-Reader-clause-step : goal.returns-in-Reader-clause-step

@@ -1,8 +1,5 @@
-use Rattle.std.proofs.Common.{◌≡◌, Some, refl, arith, slice_get}
-use Rattle.std.proofs.lemmas.Grind.{common_steps}
-use Rattle.std.proofs.lemmas.Option.{gets}
-use Rattle.generational_sessions.proofs.sessions.SessionCalls.{held_there, set_there}
-use Rattle.generational_sessions.proofs.sessions.SessionCalls.{exchange_gives}
+use Rattle.generational_sessions.proofs.{◌≡◌, Some, refl, arith, slice_get, common_steps, gets}
+use Rattle.generational_sessions.proofs.{held_there, set_there, exchange_gives}
 use Rattle.generational_sessions.proofs.places.replace.Goals as goal
 
 pub returns-in-Some-clause-step : goal.returns-in-Some-clause-step

@@ -1,16 +1,21 @@
-use Rattle.generational_box.proofs.calls.Calls.{reaches, has_content}
-use Rattle.generational_box.proofs.calls.Frees.{read_free, read_unreached}
-use Rattle.generational_box.proofs.calls.Calls.{state_is}
+use Rattle.std.proofs.Common.{ap, sym, ◌∙◌, is_none}
+use Rattle.std.proofs.lemmas.Bool.{ne_eqb}
+use Rattle.generational_box.proofs.calls.Calls.{reach_strange, read_own, state_is}
+use Rattle.generational_box.proofs.calls.EndCalls.{are_linked}
+use Rattle.generational_box.proofs.calls.Frees.{read_unreached}
 use Rattle.generational_box.proofs.unsync.StoreAnyStorage.can_read.Goals as goal
 
-pub borrow_error-requires : goal.borrow_error-requires
-borrow_error-requires g c = has_content (reaches (state_is c.self.view_is) c.args.self.now.sound c.in-Some.ensures)
+pub can_read-requires : goal.can_read-requires
+can_read-requires g c = are_linked c.self.inside.slots.state (state_is c.self.view_is) c.args.self.now.sound
 
-pub returns-in-Some : goal.returns-in-Some
-returns-in-Some g c =
-    read_free (state_is c.self.view_is) c.args.pointer
-    (reaches (state_is c.self.view_is) c.args.self.now.sound c.in-Some.ensures) _ _ _ c.is_none.ensures
-    c.borrow_error.ensures
+pub returns-then-pointer-self : goal.returns-then-pointer-self
+returns-then-pointer-self g c =
+    c.can_read.ensures c.args.pointer.created_at
+    ∙ ap is_none (sym (read_own c.self.inside.slots.state (state_is c.self.view_is) c.args.pointer
+    c.cell_name.ensures c.if-pointer-self.true))
 
-pub returns-in-None : goal.returns-in-None
-returns-in-None g c = read_unreached (state_is c.self.view_is) c.args.pointer c.in-None.ensures
+pub returns-else-pointer-self : goal.returns-else-pointer-self
+returns-else-pointer-self g c =
+    let view = state_is c.self.view_is in
+    ne_eqb _ _ c.if-pointer-self.false
+    ∙ read_unreached view c.args.pointer (reach_strange view c.args.pointer c.if-pointer-self.false)

@@ -1,15 +1,21 @@
-use Rattle.generational_box.proofs.calls.Calls.{reaches, has_content}
-use Rattle.generational_box.proofs.calls.Frees.{write_free, write_unreached}
-use Rattle.generational_box.proofs.calls.Calls.{state_is}
+use Rattle.std.proofs.Common.{ap, sym, ◌∙◌, is_none}
+use Rattle.std.proofs.lemmas.Bool.{ne_eqb}
+use Rattle.generational_box.proofs.calls.Calls.{reach_strange, state_is, write_own}
+use Rattle.generational_box.proofs.calls.EndCalls.{are_linked}
+use Rattle.generational_box.proofs.calls.Frees.{write_unreached}
 use Rattle.generational_box.proofs.unsync.StoreAnyStorage.can_write.Goals as goal
 
-pub is_unborrowed-requires : goal.is_unborrowed-requires
-is_unborrowed-requires g c = has_content (reaches (state_is c.self.view_is) c.args.self.now.sound c.in-Some.ensures)
+pub can_write-requires : goal.can_write-requires
+can_write-requires g c = are_linked c.self.inside.slots.state (state_is c.self.view_is) c.args.self.now.sound
 
-pub returns-in-Some : goal.returns-in-Some
-returns-in-Some g c =
-    write_free (state_is c.self.view_is) c.args.pointer
-    (reaches (state_is c.self.view_is) c.args.self.now.sound c.in-Some.ensures) _ c.is_unborrowed.ensures
+pub returns-then-pointer-self : goal.returns-then-pointer-self
+returns-then-pointer-self g c =
+    c.can_write.ensures c.args.pointer.created_at
+    ∙ ap is_none (sym (write_own c.self.inside.slots.state (state_is c.self.view_is) c.args.pointer
+    c.cell_name.ensures c.if-pointer-self.true))
 
-pub returns-in-None : goal.returns-in-None
-returns-in-None g c = write_unreached (state_is c.self.view_is) c.args.pointer c.in-None.ensures
+pub returns-else-pointer-self : goal.returns-else-pointer-self
+returns-else-pointer-self g c =
+    let view = state_is c.self.view_is in
+    ne_eqb _ _ c.if-pointer-self.false
+    ∙ write_unreached view c.args.pointer (reach_strange view c.args.pointer c.if-pointer-self.false)

@@ -1,77 +1,68 @@
-use Rattle.generational_box.proofs.calls.Calls.{reaches, has_content}
+use Rattle.std.proofs.Common.{ap, sym, ◌∙◌}
+use Rattle.generational_box.proofs.calls.Calls.{reach_own, reach_strange, reaches, has_content}
+use Rattle.generational_box.proofs.calls.Calls.{read_own, state_is}
 use Rattle.generational_box.proofs.calls.EndCalls.{are_linked}
-use Rattle.generational_box.proofs.calls.Points.{point_same, point_gone, point_lent, is_live}
-use Rattle.generational_box.proofs.calls.Points.{point_none, point_value, point_plain, point_turns}
-use Rattle.generational_box.proofs.calls.Calls.{state_is}
+use Rattle.generational_box.proofs.calls.Points.{free_to, point_gone, point_hindered, point_same}
+use Rattle.generational_box.proofs.calls.Points.{point_strange, pointed, troubled_mut}
 use Rattle.generational_box.proofs.Common.{Point, meets_kept}
 use Rattle.generational_box.proofs.unsync.StoreStorage.change_reference.Goals as goal
 
 pub returns-then-eq : goal.returns-then-eq
-returns-then-eq g c =
-    point_same c.args.pointer c.args.other c.if-eq.ensures
+returns-then-eq g c = point_same c.args.pointer c.args.other c.if-eq.ensures
 
-pub returns-in_default : goal.returns-in_default
-returns-in_default g c =
-    rw c.dropped_mut.ensures
-    (point_gone c.args.pointer c.args.other c.if-eq.ensures c.in_default.ensures)
+pub returns-then-other-self : goal.returns-then-other-self
+returns-then-other-self g c =
+    rw c.dropped_mut.ensures (point_gone c.args.pointer c.args.other c.if-eq.ensures
+    (reach_strange (state_is c.self.view_is) c.args.other c.if-other-self.true))
 
-pub borrow_error-requires : goal.borrow_error-requires
-borrow_error-requires g c =
-    has_content (reaches (state_is c.self.view_is) c.args.self.now.sound c.in-Some.ensures)
+pub unlent-requires : goal.unlent-requires
+unlent-requires g c = are_linked c.self.inside.slots.state (state_is c.self.view_is) c.args.self.now.sound
 
-pub returns-in-Some-borrow_error : goal.returns-in-Some-borrow_error
-returns-in-Some-borrow_error g c =
-    rw c.lent_mut.ensures (point_lent c.args.pointer c.args.other c.if-eq.ensures
-    c.self.inside.slots.state (state_is c.self.view_is) (reaches (state_is c.self.view_is) c.args.self.now.sound c.in-Some.ensures)
-    _ c.in-Some-borrow_error.ensures)
+pub returns-in-Err : goal.returns-in-Err
+returns-in-Err g c =
+    let here = read_own c.self.inside.slots.state (state_is c.self.view_is) c.args.other
+    c.cell_name.ensures c.if-other-self.false in
+    rw (c.from.ensures, troubled_mut c.in-Err.error)
+    (point_hindered c.args.pointer c.args.other c.if-eq.ensures _ (here ∙ c.in-Err.ensures.err))
 
-pub returns-then-not-holds : goal.returns-then-not-holds
-returns-then-not-holds g c =
-    rw c.dropped_mut-then-not-holds.ensures
-    (point_none c.args.pointer c.args.other c.if-eq.ensures
-    c.self.inside.slots.state (state_is c.self.view_is) (reaches (state_is c.self.view_is) c.args.self.now.sound c.in-Some.ensures)
-    c.in_default-borrow_error.ensures c.in_default-target.ensures c.if-not-holds.ensures)
+pub returns-then-pointer-self : goal.returns-then-pointer-self
+returns-then-pointer-self g c =
+    let view = state_is c.self.view_is in
+    let X = c.self.inside.slots.state in
+    let to = reach_own X view c.args.other c.cell_name.ensures c.if-other-self.false
+    ∙ c.in-Ok.ensures.ok.0 in
+    rw c.dropped_mut-then-pointer-self.ensures (point_strange c.args.pointer c.args.other
+    c.if-eq.ensures X view to (free_to X view c.args.other to c.in-Ok.ensures.ok.1)
+    c.if-pointer-self.true)
 
-pub created_at-requires : goal.created_at-requires
-created_at-requires g c =
-    is_live c.args.pointer c.args.other c.if-eq.ensures
-    c.self.inside.slots.state (state_is c.self.view_is) (reaches (state_is c.self.view_is) c.args.self.now.sound c.in-Some.ensures)
-
-pub returns-in_default-target : goal.returns-in_default-target
-returns-in_default-target g c =
-    rw c.dropped_at.ensures (point_value c.args.pointer c.args.other c.if-eq.ensures
-    c.self.inside.slots.state (state_is c.self.view_is) (reaches (state_is c.self.view_is) c.args.self.now.sound c.in-Some.ensures)
-    c.in_default-borrow_error.ensures _ c.created_at.ensures c.in_default-target.ensures
-    c.if-not-holds.ensures)
-
-pub created_at-requires-then-not-is_shared : goal.created_at-requires-then-not-is_shared
-created_at-requires-then-not-is_shared g c =
-    is_live c.args.pointer c.args.other c.if-eq.ensures
-    c.self.inside.slots.state (state_is c.self.view_is) (reaches (state_is c.self.view_is) c.args.self.now.sound c.in-Some.ensures)
-
-pub returns-then-not-is_shared : goal.returns-then-not-is_shared
-returns-then-not-is_shared g c =
-    rw c.dropped_at-then-not-is_shared.ensures
-    (point_plain c.args.pointer c.args.other c.if-eq.ensures
-    c.self.inside.slots.state (state_is c.self.view_is) (reaches (state_is c.self.view_is) c.args.self.now.sound c.in-Some.ensures)
-    c.in_default-borrow_error.ensures _ c.created_at-then-not-is_shared.ensures
-    c.in-Some-target.ensures c.if-not-is_shared.ensures)
-
-pub turn-requires-clause-linked : goal.turn-requires-clause-linked
-turn-requires-clause-linked g c =
+pub point-requires-clause-linked : goal.point-requires-clause-linked
+point-requires-clause-linked g c =
     are_linked c.self.inside.slots.state (state_is c.self.view_is) c.args.self.now.sound
+
+pub point-requires-clause-there : goal.point-requires-clause-there
+point-requires-clause-there g c =
+    let view = state_is c.self.view_is in
+    has_content (reaches view c.args.self.now.sound
+    (sym (reach_own c.self.inside.slots.state view c.args.other c.cell_name.ensures
+    c.if-other-self.false ∙ c.in-Ok.ensures.ok.0)))
 
 pub returns : goal.returns
 returns g c =
-    point_turns c.args.pointer c.args.other c.if-eq.ensures
-    c.self.inside.slots.state (state_is c.self.view_is) (reaches (state_is c.self.view_is) c.args.self.now.sound c.in-Some.ensures)
-    c.in_default-borrow_error.ensures _ _ _ _ c.cell_name.ensures c.in-Some-target.ensures
-    c.if-not-is_shared.ensures c.turn.ensures
+    let view = state_is c.self.view_is in
+    let X = c.self.inside.slots.state in
+    let to = reach_own X view c.args.other c.cell_name.ensures c.if-other-self.false
+    ∙ c.in-Ok.ensures.ok.0 in
+    pointed c.args.pointer c.args.other c.if-eq.ensures X view to
+    (free_to X view c.args.other to c.in-Ok.ensures.ok.1) _ _ _ c.cell_name-2.ensures
+    c.if-pointer-self.false (c.point.ensures c.args.other)
 
 pub invariant_of-self-inside : goal.invariant_of-self-inside
 invariant_of-self-inside g c =
+    let view = state_is c.self.view_is in
+    let X = c.self.inside.slots.state in
+    let to = reach_own X view c.args.other c.cell_name.ensures c.if-other-self.false
+    ∙ c.in-Ok.ensures.ok.0 in
     meets_kept _ _ (Point c.args.pointer c.args.other) _ c.args.self.now.sound c.args.self.now.bounded
-    (point_turns c.args.pointer c.args.other c.if-eq.ensures
-    c.self.inside.slots.state (state_is c.self.view_is) (reaches (state_is c.self.view_is) c.args.self.now.sound c.in-Some.ensures)
-    c.in_default-borrow_error.ensures _ _ _ _ c.cell_name.ensures c.in-Some-target.ensures
-    c.if-not-is_shared.ensures c.turn.ensures)
+    (pointed c.args.pointer c.args.other c.if-eq.ensures X view to
+    (free_to X view c.args.other to c.in-Ok.ensures.ok.1) _ _ _ c.cell_name-2.ensures
+    c.if-pointer-self.false (c.point.ensures c.args.other))

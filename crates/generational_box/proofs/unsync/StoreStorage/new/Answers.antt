@@ -1,31 +1,55 @@
-use Rattle.std.proofs.Common.{option_copied}
+use Rattle.std.proofs.Common.{ap, option_copied, refl, ◌∙◌}
 use Rattle.generational_containers.specs.CellNames.{name_of_cell}
+use Rattle.generational_containers.proofs.records.Places.{reserved_room}
+use Rattle.generational_box.proofs.Common.{Make, add_to_list_in, meets_kept}
 use Rattle.generational_box.proofs.calls.Calls.{state_is}
-use Rattle.generational_box.proofs.calls.Makings.{made_counted, value_kept, value_made}
+use Rattle.generational_box.proofs.calls.Makings.{made_counted, value_full, value_made}
 use Rattle.generational_box.proofs.calls.Makings.{value_refused}
 use Rattle.generational_box.proofs.unsync.StoreStorage.new.Goals as goal
-use Rattle.generational_box.proofs.unsync.StoreStorage.new.Goals.{in-Ok, in-Err}
 
-pub invariant_of-self : goal.invariant_of-self
-invariant_of-self g c = elim c.match-make.branch [
-  | in-Ok w ↦ made_counted c.self.inside.slots (state_is c.self.view_is)
-      (option_copied c.args.owner) c.self.invariant c.args.self.now.sound _ _
-      w.in-Ok.ensures.ok.0.fits.fresh w.in-Ok.ensures.ok.1.1
-  | in-Err w ↦ rw w.in-Err.ensures.err.1 c.self.invariant
-]
+pub returns-in-Err-clause-step : goal.returns-in-Err-clause-step
+returns-in-Err-clause-step g c =
+    value_refused c.self.inside.slots (state_is c.self.view_is) (option_copied c.args.owner)
+    c.args.value c.args.location _ _ refl c.reserve.ensures.same _ c.in-Err.ensures.refused
 
-pub invariant_of-self-inside : goal.invariant_of-self-inside
-invariant_of-self-inside g c =
-    value_kept c.self.inside.slots (state_is c.self.view_is) (option_copied c.args.owner)
-    c.args.value c.args.location _ _ name_of_cell c.make.result c.make.ensures.ok
-    c.make.ensures.err c.args.self.now.sound c.args.self.now.bounded
+pub returns-in-Err-make-clause-step : goal.returns-in-Err-make-clause-step
+returns-in-Err-make-clause-step g c =
+    value_full c.self.inside.slots (state_is c.self.view_is) (option_copied c.args.owner)
+    c.args.value c.args.location _ _ c.in-Err-make.ensures.err c.reserve.ensures.same
+    c.in-Ok.ensures.known c.in-Err-make.ensures.needed.0
+
+pub list-requires : goal.list-requires
+list-requires g c =
+    reserved_room c.reserve.new.self (option_copied c.args.owner) c.in-Ok.place c.in-Ok.ensures.ok
+
+pub invariant_of-self-2 : goal.invariant_of-self-2
+invariant_of-self-2 g c =
+    let o = option_copied c.args.owner in
+    let n = name_of_cell c.in-Ok-make.name in
+    made_counted c.self.inside.slots (state_is c.self.view_is) o c.self.invariant
+    c.args.self.now.sound n _ c.in-Ok-make.ensures.ok.fits.fresh
+    (c.list.ensures o c.in-Ok.ensures.ok ∙ ap (λ x. add_to_list_in x o n) c.reserve.ensures.same)
 
 pub returns-clause-step : goal.returns-clause-step
-returns-clause-step g c = elim c.match-make.branch [
-  | in-Ok w ↦ rw w.result-is (value_made c.self.inside.slots (state_is c.self.view_is)
-      (option_copied c.args.owner) c.args.value c.args.location _ _ _ _
-      w.in-Ok.ensures.ok.0 w.in-Ok.ensures.ok.1 w.pointer_in.ensures)
-  | in-Err w ↦ rw w.result-is (value_refused c.self.inside.slots (state_is c.self.view_is)
-      (option_copied c.args.owner) c.args.value c.args.location w.in-Err.cause _ _
-      w.in-Err.ensures.refused w.in-Err.ensures.err)
-]
+returns-clause-step g c =
+    let o = option_copied c.args.owner in
+    let n = name_of_cell c.in-Ok-make.name in
+    value_made c.self.inside.slots (state_is c.self.view_is) o c.args.value c.args.location
+    c.make.new.self _ n _ c.in-Ok-make.ensures.ok (
+      c.in-Ok.ensures.known,
+      c.list.ensures o c.in-Ok.ensures.ok ∙ ap (λ x. add_to_list_in x o n) c.reserve.ensures.same,
+    )
+    c.pointer_in.ensures
+
+pub invariant_of-self-inside-2 : goal.invariant_of-self-inside-2
+invariant_of-self-inside-2 g c =
+    let o = option_copied c.args.owner in
+    let n = name_of_cell c.in-Ok-make.name in
+    meets_kept _ _ (Make o c.args.value c.args.location) _ c.args.self.now.sound
+    c.args.self.now.bounded
+    (value_made c.self.inside.slots (state_is c.self.view_is) o c.args.value c.args.location
+    c.make.new.self _ n _ c.in-Ok-make.ensures.ok (
+      c.in-Ok.ensures.known,
+      c.list.ensures o c.in-Ok.ensures.ok ∙ ap (λ x. add_to_list_in x o n) c.reserve.ensures.same,
+    )
+    refl)

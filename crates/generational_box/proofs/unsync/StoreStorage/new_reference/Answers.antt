@@ -1,40 +1,91 @@
-use Rattle.std.proofs.Common.{option_copied, sym, ◌∙◌}
+use Rattle.std.proofs.Common.{ap, option_copied, refl, sym, ◌∙◌}
 use Rattle.generational_containers.specs.CellNames.{name_of_cell}
-use Rattle.generational_box.proofs.calls.Calls.{state_is}
-use Rattle.generational_box.proofs.calls.Makings.{made_counted, refer_strange, reference_made}
-use Rattle.generational_box.proofs.calls.Makings.{reference_kept, reference_refused}
+use Rattle.generational_containers.proofs.records.Places.{reserved_room}
+use Rattle.generational_box.proofs.calls.Calls.{reach_strange, state_is}
+use Rattle.generational_box.proofs.calls.EndCalls.{are_linked}
+use Rattle.generational_box.proofs.calls.Makings.{made_counted, reaches_shared, reference_full}
+use Rattle.generational_box.proofs.calls.Makings.{refer_gone, refer_hindered, refer_strange}
+use Rattle.generational_box.proofs.calls.Makings.{reference_made, reference_refused}
+use Rattle.generational_box.proofs.Common.{Refer, add_to_list_in, meets_kept}
 use Rattle.generational_box.proofs.unsync.StoreStorage.new_reference.Goals as goal
-use Rattle.generational_box.proofs.unsync.StoreStorage.new_reference.Goals.{in-Ok-make, in-Err-make}
 
 pub returns-then-not-knows : goal.returns-then-not-knows
 returns-then-not-knows g c =
     refer_strange _ (option_copied c.args.owner) c.args.inner
     (sym c.knows.ensures ∙ c.if-not-knows.true)
 
-pub invariant_of-self : goal.invariant_of-self
-invariant_of-self g c = elim c.match-make.branch [
-  | in-Ok-make w ↦ made_counted c.self.inside.slots (state_is c.self.view_is)
-      (option_copied c.args.owner) c.self.invariant c.args.self.now.sound _ _
-      w.in-Ok-make.ensures.ok.0.fits.fresh w.in-Ok-make.ensures.ok.1.1
-  | in-Err-make w ↦ rw w.in-Err-make.ensures.err.1 c.self.invariant
-]
+pub returns-then-inner-self : goal.returns-then-inner-self
+returns-then-inner-self g c =
+    rw c.dropped.ensures (refer_gone c.args.inner (option_copied c.args.owner)
+    (sym c.knows.ensures ∙ c.if-not-knows.false)
+    (reach_strange (state_is c.self.view_is) c.args.inner c.if-inner-self.true))
 
-pub invariant_of-self-inside : goal.invariant_of-self-inside
-invariant_of-self-inside g c =
-    reference_kept c.self.inside.slots (state_is c.self.view_is) (option_copied c.args.owner)
-    c.args.inner c.created_at-created_at.result _ _ _ c.reference_to-content.result
-    c.in-Ok.ensures.ok c.created_at-created_at.ensures c.reference_to-content.ensures
-    name_of_cell c.make.result c.make.ensures.ok c.make.ensures.err
-    c.args.self.now.sound c.args.self.now.bounded
+pub shared-requires : goal.shared-requires
+shared-requires g c =
+    are_linked c.self.inside.slots.state (state_is c.self.view_is) c.args.self.now.sound
+
+pub returns-in-Err : goal.returns-in-Err
+returns-in-Err g c =
+    refer_hindered c.args.inner (option_copied c.args.owner)
+    (sym c.knows.ensures ∙ c.if-not-knows.false)
+    c.self.inside.slots.state (state_is c.self.view_is) c.cell_name.ensures c.if-inner-self.false _
+    c.in-Err.ensures.err
+
+pub returns-in-Err-reserve : goal.returns-in-Err-reserve
+returns-in-Err-reserve g c =
+    reference_refused c.self.inside.slots (state_is c.self.view_is) (option_copied c.args.owner)
+    c.args.inner (name_of_cell c.in-Ok.shared) _ _ refl c.reserve.ensures.same
+    (reaches_shared c.self.inside.slots.state (state_is c.self.view_is) c.args.inner
+    c.cell_name.ensures c.if-inner-self.false c.in-Ok.ensures.ok) _ c.in-Err-reserve.ensures.refused
+
+pub returns-in-Err-make : goal.returns-in-Err-make
+returns-in-Err-make g c =
+    reference_full c.self.inside.slots (state_is c.self.view_is) (option_copied c.args.owner)
+    c.args.inner (name_of_cell c.in-Ok.shared) _ _ c.in-Err-make.ensures.err
+    c.reserve.ensures.same
+    (reaches_shared c.self.inside.slots.state (state_is c.self.view_is) c.args.inner
+    c.cell_name.ensures c.if-inner-self.false c.in-Ok.ensures.ok)
+    c.in-Ok-reserve.ensures.known c.in-Err-make.ensures.needed.0
+
+pub list-requires : goal.list-requires
+list-requires g c =
+    reserved_room c.reserve.new.self (option_copied c.args.owner) c.in-Ok-reserve.place
+    c.in-Ok-reserve.ensures.ok
+
+pub invariant_of-self-2 : goal.invariant_of-self-2
+invariant_of-self-2 g c =
+    let o = option_copied c.args.owner in
+    let n = name_of_cell c.in-Ok-make.name in
+    made_counted c.self.inside.slots (state_is c.self.view_is) o c.self.invariant
+    c.args.self.now.sound n _ c.in-Ok-make.ensures.ok.fits.fresh
+    (c.list.ensures o c.in-Ok-reserve.ensures.ok
+    ∙ ap (λ x. add_to_list_in x o n) c.reserve.ensures.same)
 
 pub returns : goal.returns
-returns g c = elim c.match-make.branch [
-  | in-Ok-make w ↦ rw w.result-is (reference_made c.self.inside.slots (state_is c.self.view_is)
-      (option_copied c.args.owner) c.args.inner c.created_at-created_at.result _ _ _ _ _
-      c.reference_to-content.result c.in-Ok.ensures.ok c.created_at-created_at.ensures
-      c.reference_to-content.ensures w.in-Ok-make.ensures.ok.0 w.in-Ok-make.ensures.ok.1 w.pointer_in.ensures)
-  | in-Err-make w ↦ rw w.result-is (reference_refused c.self.inside.slots (state_is c.self.view_is)
-      (option_copied c.args.owner) c.args.inner _ c.created_at-created_at.result
-      w.in-Err-make.cause _ _ c.in-Ok.ensures.ok c.created_at-created_at.ensures
-      w.in-Err-make.ensures.refused w.in-Err-make.ensures.err)
-]
+returns g c =
+    let o = option_copied c.args.owner in
+    let n = name_of_cell c.in-Ok-make.name in
+    reference_made c.self.inside.slots (state_is c.self.view_is) o c.args.inner
+    c.created_at-created_at.result c.make.new.self _ _ n _ c.reference_to-content.result
+    (reaches_shared c.self.inside.slots.state (state_is c.self.view_is) c.args.inner
+    c.cell_name.ensures c.if-inner-self.false c.in-Ok.ensures.ok)
+    c.created_at-created_at.ensures c.reference_to-content.ensures c.in-Ok-make.ensures.ok (
+      c.in-Ok-reserve.ensures.known,
+      c.list.ensures o c.in-Ok-reserve.ensures.ok
+          ∙ ap (λ x. add_to_list_in x o n) c.reserve.ensures.same,
+    ) c.pointer_in.ensures
+
+pub invariant_of-self-inside-2 : goal.invariant_of-self-inside-2
+invariant_of-self-inside-2 g c =
+    let o = option_copied c.args.owner in
+    let n = name_of_cell c.in-Ok-make.name in
+    meets_kept _ _ (Refer o c.args.inner) _ c.args.self.now.sound c.args.self.now.bounded
+    (reference_made c.self.inside.slots (state_is c.self.view_is) o c.args.inner
+    c.created_at-created_at.result c.make.new.self _ _ n _ c.reference_to-content.result
+    (reaches_shared c.self.inside.slots.state (state_is c.self.view_is) c.args.inner
+    c.cell_name.ensures c.if-inner-self.false c.in-Ok.ensures.ok)
+    c.created_at-created_at.ensures c.reference_to-content.ensures c.in-Ok-make.ensures.ok (
+      c.in-Ok-reserve.ensures.known,
+      c.list.ensures o c.in-Ok-reserve.ensures.ok
+          ∙ ap (λ x. add_to_list_in x o n) c.reserve.ensures.same,
+    ) refl)

@@ -1,22 +1,24 @@
-use Rattle.generational_box.proofs.calls.Calls.{released, release_gone}
+use Rattle.std.proofs.lemmas.Bool.{ne_eqb}
+use Rattle.generational_box.proofs.calls.Calls.{released, release_strange}
 use Rattle.generational_box.proofs.calls.Calls.{state_is}
 use Rattle.generational_box.proofs.Common.{ReleaseReader, meets_kept}
 use Rattle.generational_box.proofs.unsync.StoreStorage.release_read.Goals as goal
 
-pub returns-then-holds : goal.returns-then-holds
-returns-then-holds g c =
-    released _ _ c.self.inside.slots.state (state_is c.self.view_is) _ c.cell_name.ensures
-    c.if-holds.ensures _ c.args.guard _ c.into_reader-ticket.ensures
+pub returns-then-id-self : goal.returns-then-id-self
+returns-then-id-self g c =
+    released c.self.inside.slots.state (state_is c.self.view_is) _ _ _ c.args.guard
+    c.into_reader-ticket.ensures c.cell_name.ensures c.if-id-self.true _ _
     c.release_read.ensures.known c.release_read.ensures.after
 
-pub returns-else-holds : goal.returns-else-holds
-returns-else-holds g c =
-    rw c.if-holds.false
-    (release_gone _ _ c.args.guard c.into_reader-ticket.ensures c.if-holds.ensures)
+pub returns-else-id-self : goal.returns-else-id-self
+returns-else-id-self g c =
+    rw (ne_eqb _ _ c.if-id-self.false)
+    (release_strange (state_is c.self.view_is) _ _ c.args.guard c.into_reader-ticket.ensures
+    c.if-id-self.false)
 
 pub invariant_of-self-inside : goal.invariant_of-self-inside
 invariant_of-self-inside g c =
     meets_kept _ _ (ReleaseReader c.args.guard) _ c.args.self.now.sound c.args.self.now.bounded
-    (released _ _ c.self.inside.slots.state (state_is c.self.view_is) _ c.cell_name.ensures
-    c.if-holds.ensures _ c.args.guard _ c.into_reader-ticket.ensures
+    (released c.self.inside.slots.state (state_is c.self.view_is) _ _ _ c.args.guard
+    c.into_reader-ticket.ensures c.cell_name.ensures c.if-id-self.true _ _
     c.release_read.ensures.known c.release_read.ensures.after)

@@ -1,5 +1,6 @@
 use Rattle.std.proofs.Common.{arith}
 use Rattle.generational_containers.proofs.Common.{one_less}
+use Rattle.generational_containers.proofs.records.Places.{owners_is}
 use Rattle.generational_containers.proofs.records.Places.{holds_there, record_within}
 use Rattle.generational_containers.proofs.records.Places.{changed_owners}
 use Rattle.generational_containers.proofs.records.Places.{changed_placed, missing_kept}
@@ -12,7 +13,7 @@ count_down_at-requires-clause-within c =
 
 pub count_down_at-requires-clause-above : goal.count_down_at-requires-clause-above
 count_down_at-requires-clause-above c =
-    holds_there c.self.invariant _ _ c.in-Some.ensures.found _ (rw c.self.view_is c.requires)
+    holds_there c.self.invariant _ _ c.in-Some.ensures.found _ (rw (owners_is c.self.view_is) c.requires)
 
 pub invariant_of-self : goal.invariant_of-self
 invariant_of-self c =
@@ -21,8 +22,8 @@ invariant_of-self c =
 
 pub returns-in-Some : goal.returns-in-Some
 returns-in-Some c =
-    rw (c.count_down_at.ensures, ← c.self.view_is)
+    rw (c.count_down_at.ensures, ← owners_is c.self.view_is)
     (changed_owners c.self.invariant _ _ c.in-Some.ensures.found one_less)
 
 pub returns-in-None : goal.returns-in-None
-returns-in-None c = missing_kept _ _ _ c.self.view_is c.in-None.ensures.none one_less
+returns-in-None c = missing_kept _ _ _ (owners_is c.self.view_is) c.in-None.ensures.none one_less

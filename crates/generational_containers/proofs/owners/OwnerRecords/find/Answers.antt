@@ -1,6 +1,7 @@
 use Rattle.std.proofs.Common.{arith, ap, length, option_map, refl, sym, ◌∙◌}
 use Rattle.std.proofs.lemmas.Option.{slice_get_read}
 use Rattle.generational_containers.proofs.Common.{Keyed}
+use Rattle.generational_containers.proofs.records.Places.{owners_is}
 use Rattle.generational_containers.proofs.records.Places.{record_within, record_missing}
 use Rattle.generational_containers.proofs.records.Places.{record_found}
 use Rattle.generational_containers.proofs.owners.OwnerRecords.find.Goals as goal
@@ -15,7 +16,7 @@ returns-in-Some c =
     let items = c.self.inside.places.items in
     let found = c.in-Some.ensures.found in
     ap (option_map (λ (r : Keyed). r.ownership)) c.as_ref.ensures.value
-    ∙ record_found c.args.number _ c.args.owner.now items c.self.view_is
+    ∙ record_found c.args.number _ c.args.owner.now items (owners_is c.self.view_is)
     (sym c.number_of.ensures ∙ c.if-number_of-number.false) c.self.invariant c.in-Some.place found
     c.index.result.now
     (slice_get_read items (length items) c.in-Some.place c.index.result.now refl
@@ -23,5 +24,5 @@ returns-in-Some c =
 
 pub returns-in-None : goal.returns-in-None
 returns-in-None c =
-    sym (record_missing c.args.number _ c.args.owner.now _ c.self.view_is
+    sym (record_missing c.args.number _ c.args.owner.now _ (owners_is c.self.view_is)
     (sym c.number_of.ensures ∙ c.if-number_of-number.false) c.in-None.ensures.none)

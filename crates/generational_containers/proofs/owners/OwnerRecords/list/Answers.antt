@@ -1,41 +1,34 @@
-use Rattle.std.proofs.Common.{arith, refl, sym, ◌∙◌}
-use Rattle.generational_containers.proofs.Common.{one_listed, name_of_cell}
-use Rattle.generational_containers.proofs.records.Places.{record_within, changed_owners}
-use Rattle.generational_containers.proofs.records.Places.{changed_placed}
-use Rattle.generational_containers.proofs.records.Places.{known_found, known_missing}
+use Rattle.std.proofs.Common.{arith, slice_get, subst, sym, IfSome}
+use Rattle.generational_containers.specs.OwnerPlaces.{HasRoom, IsReserved}
+use Rattle.generational_containers.proofs.Common.{name_of_cell, one_listed}
+use Rattle.generational_containers.proofs.records.Places.{changed_placed, listed_owners, places_is}
+use Rattle.generational_containers.proofs.records.Places.{room_record, room_within}
 use Rattle.generational_containers.proofs.owners.OwnerRecords.list.Goals as goal
 
-pub list_at-requires : goal.list_at-requires
-list_at-requires c =
-    let within = record_within c.self.invariant _ _ c.in-Some.ensures.found in
+pub list_at-requires-clause-within : goal.list_at-requires-clause-within
+list_at-requires-clause-within c =
+    let room : HasRoom (slice_get c.self.inside.places.items c.in-Some.place) =
+    subst (λ xs. HasRoom (slice_get xs c.in-Some.place)) (sym (places_is c.self.view_is))
+    (rw c.in-Some.is at c.requires) in
+    let within = room_within c.self.inside.places.items c.in-Some.place room in
     omega (arith, within, c.self.inside.places.ok.0)
 
-pub invariant_of-self-2 : goal.invariant_of-self-2
-invariant_of-self-2 c =
-    rw c.in-Ok.ensures.ok (changed_placed c.self.invariant _ _ c.in-Some.ensures.found
+pub list_at-requires-clause-room : goal.list_at-requires-clause-room
+list_at-requires-clause-room c =
+    subst (λ xs. HasRoom (slice_get xs c.in-Some.place)) (sym (places_is c.self.view_is))
+    (rw c.in-Some.is at c.requires)
+
+pub invariant_of-self : goal.invariant_of-self
+invariant_of-self c =
+    let room : HasRoom (slice_get c.self.inside.places.items c.in-Some.place) =
+    subst (λ xs. HasRoom (slice_get xs c.in-Some.place)) (sym (places_is c.self.view_is))
+    (rw c.in-Some.is at c.requires) in
+    let held = room_record (slice_get c.self.inside.places.items c.in-Some.place) room in
+    rw c.list_at.ensures (changed_placed c.self.invariant held.0 c.in-Some.place held.1
     (one_listed (name_of_cell c.args.name)))
 
-pub returns-clause-known : goal.returns-clause-known
-returns-clause-known c =
-    known_found c.args.number _ c.args.owner.now _ c.self.view_is
-    (sym c.number_of.ensures ∙ c.if-number_of-number.false) c.self.invariant _
-    c.in-Some.ensures.found
-
-pub returns-clause-ok : goal.returns-clause-ok
-returns-clause-ok c =
-    rw (c.in-Ok.ensures.ok, ← c.self.view_is)
-    (changed_owners c.self.invariant _ _ c.in-Some.ensures.found
-    (one_listed (name_of_cell c.args.name)))
-
-pub returns-in-Err-clause-refused : goal.returns-in-Err-clause-refused
-returns-in-Err-clause-refused c = (
-  refl,
-  known_found c.args.number _ c.args.owner.now _ c.self.view_is
-      (sym c.number_of.ensures ∙ c.if-number_of-number.false) c.self.invariant _
-      c.in-Some.ensures.found,
-)
-
-pub returns-in-None-clause-refused : goal.returns-in-None-clause-refused
-returns-in-None-clause-refused c =
-    known_missing c.args.number _ c.args.owner.now _ c.self.view_is
-    (sym c.number_of.ensures ∙ c.if-number_of-number.false) c.in-None.ensures.none
+pub returns-in-Some : goal.returns-in-Some
+returns-in-Some c o reserved =
+    rw c.list_at.ensures (listed_owners c.self.invariant c.args.self.now c.self.view_is o
+    c.in-Some.place (name_of_cell c.args.name)
+    (subst (IsReserved c.args.self.now o) c.in-Some.is reserved))

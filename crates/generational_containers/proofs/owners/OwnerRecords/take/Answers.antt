@@ -1,5 +1,6 @@
 use Rattle.std.proofs.Common.{arith, ap, sym, ◌∙◌, map as list_map}
 use Rattle.generational_containers.proofs.Common.{name_of_cell}
+use Rattle.generational_containers.proofs.records.Places.{owners_is}
 use Rattle.generational_containers.proofs.records.Places.{record_within, taken_owners, taken_placed}
 use Rattle.generational_containers.proofs.records.Places.{taken_absent, taken_names, missing_names}
 use Rattle.generational_containers.proofs.records.Places.{missing_removed}
@@ -25,18 +26,18 @@ invariant_of-self c =
 
 pub returns-in-Some-clause-after : goal.returns-in-Some-clause-after
 returns-in-Some-clause-after c =
-    rw (c.take_at-boxes.ensures.after, ← c.self.view_is)
+    rw (c.take_at-boxes.ensures.after, ← owners_is c.self.view_is)
     (taken_owners c.self.invariant _ _ c.in-Some.ensures.found)
 
 pub returns-in-Some-clause-names : goal.returns-in-Some-clause-names
 returns-in-Some-clause-names c =
     c.take_at-boxes.ensures.names _ c.in-Some.ensures.found
-    ∙ taken_names _ _ _ c.self.view_is c.self.invariant _ c.in-Some.ensures.found
+    ∙ taken_names _ _ _ (owners_is c.self.view_is) c.self.invariant _ c.in-Some.ensures.found
 
 pub returns-in-None-clause-after : goal.returns-in-None-clause-after
-returns-in-None-clause-after c = missing_removed _ _ _ c.self.view_is c.in-None.ensures.none
+returns-in-None-clause-after c = missing_removed _ _ _ (owners_is c.self.view_is) c.in-None.ensures.none
 
 pub returns-in-None-clause-names : goal.returns-in-None-clause-names
 returns-in-None-clause-names c =
     ap (list_map name_of_cell) c.new.ensures.items
-    ∙ sym (missing_names _ _ _ c.self.view_is c.in-None.ensures.none)
+    ∙ sym (missing_names _ _ _ (owners_is c.self.view_is) c.in-None.ensures.none)

@@ -1,28 +1,33 @@
 -- One reference less names a slot's cell.
-use Rattle.std.proofs.Common.{arith, refl, ◌<◌, ◌-◌}
-use Rattle.std.proofs.lemmas.Option.{slice_get_read}
-use Rattle.generational_entries.proofs.states.Entries.{kept, many, details_changed, details_heard}
+use Rattle.std.proofs.Common.{arith, ap, refl, ◌<◌, ◌-◌}
+use Rattle.generational_entries.proofs.states.Entries.{hears_of}
+use Rattle.generational_entries.proofs.states.Latest.{details_noted, seen, seen_details, seen_hears}
 use Rattle.generational_entries.proofs.entries.Entries.count_down.Goals as goal
-
-pub index_mut-requires : goal.index_mut-requires
-index_mut-requires g c =
-    let same = many (kept c.self.view_is c.self.invariant) in
-    omega (arith, c.requires.within, c.self.invariant.1, c.self.inside.details.ok.0)
 
 pub overflow_sub-index_mut : goal.overflow_sub-index_mut
 overflow_sub-index_mut g c =
-    let s = kept c.self.view_is c.self.invariant in
-    let long = many s in
-    let there = slice_get_read c.self.inside.details.items _ c.args.slot c.index_mut.result.now
-    refl (omega (arith, c.requires.within, c.self.invariant.1)) c.index_mut.ensures.value in
-    let some = details_heard s c.requires.within there (λ e. 0 < e.references) c.requires.some in
-    omega (arith, some)
+    let o = seen c.self.inside.last c.self.inside.settled c.self.view_is c.self.invariant
+    (ap (λ x. x.settled) c.self-inside.view_is) c.self-inside.invariant in
+    let a = seen_details o c.requires.within _ c.self-inside.inside.0.0.details.ok.0
+    c.index_mut.ensures.value in
+    let few = hears_of a.1 a.2 (λ e. 0 < e.references)
+    (seen_hears o c.args.slot (λ e. 0 < e.references) (λ e h. h) c.requires.some) in
+    omega (arith, few)
+
+pub invariant_of-self : goal.invariant_of-self
+invariant_of-self g c =
+    let o = seen c.self.inside.last c.self.inside.settled c.self.view_is c.self.invariant
+    (ap (λ x. x.settled) c.self-inside.view_is) c.self-inside.invariant in
+    let a = seen_details o c.requires.within _ c.self-inside.inside.0.0.details.ok.0
+    c.index_mut.ensures.value in
+    (details_noted o (ap (λ x. x.last) c.self-inside.view_is) a.1 a.2 _
+    (λ e. record e { references = e.references - 1 }) refl (λ e. refl) (λ e has. has)).0
 
 pub returns-clause-slots : goal.returns-clause-slots
 returns-clause-slots g c =
-    let s = kept c.self.view_is c.self.invariant in
-    let long = many s in
-    let there = slice_get_read c.self.inside.details.items _ c.args.slot c.index_mut.result.now
-    refl (omega (arith, c.requires.within, c.self.invariant.1)) c.index_mut.ensures.value in
-    details_changed s c.requires.within there _ (λ e. record e { references = e.references - 1 })
-    (λ e. refl)
+    let o = seen c.self.inside.last c.self.inside.settled c.self.view_is c.self.invariant
+    (ap (λ x. x.settled) c.self-inside.view_is) c.self-inside.invariant in
+    let a = seen_details o c.requires.within _ c.self-inside.inside.0.0.details.ok.0
+    c.index_mut.ensures.value in
+    (details_noted o (ap (λ x. x.last) c.self-inside.view_is) a.1 a.2 _
+    (λ e. record e { references = e.references - 1 }) refl (λ e. refl) (λ e has. has)).1

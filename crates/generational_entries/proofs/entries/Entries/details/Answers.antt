@@ -1,32 +1,29 @@
 -- Where a slot's cell was made, and how many references name it.
-use Rattle.std.proofs.Common.{arith, refl, ◌≡◌, IfSome}
-use Rattle.std.proofs.lemmas.Option.{slice_get_read}
+use Rattle.std.proofs.Common.{ap, refl, ◌≡◌, IfSome}
 use Rattle.generational_core.specs.Cells.{location_of}
-use Rattle.generational_entries.specs.Entry.{cell_of}
-use Rattle.generational_entries.proofs.states.Entries.{kept, many, details_seen, created_there}
 use Rattle.generational_entries.specs.Entries.{index_of}
+use Rattle.generational_entries.specs.Entry.{cell_of}
+use Rattle.generational_entries.specs.Latest.{joined}
 use Rattle.generational_containers.specs.Table.{list_at}
+use Rattle.generational_entries.proofs.states.Entries.{created_there, says_of}
+use Rattle.generational_entries.proofs.states.Latest.{located, seen, seen_details, seen_says}
 use Rattle.generational_entries.proofs.entries.Entries.details.Goals as goal
-
-pub index-requires : goal.index-requires
-index-requires g c =
-    let same = many (kept c.self.view_is c.self.invariant) in
-    omega (arith, c.requires, c.self.invariant.1, c.self.inside.details.ok.0)
 
 pub returns-clause-references : goal.returns-clause-references
 returns-clause-references g c =
-    let s = kept c.self.view_is c.self.invariant in
-    let same = many s in
-    let there = slice_get_read c.self.inside.details.items _ c.args.slot c.index.result.now
-    refl (omega (arith, c.requires, c.self.invariant.1)) c.index.ensures in
-    details_seen s c.requires there (λ e. c.index.result.now.references ≡ e.references) (λ e. refl)
+    let o = seen c.self.inside.last c.self.inside.settled c.self.view_is c.self.invariant
+    (ap (λ x. x.settled) c.self-inside.view_is) c.self-inside.invariant in
+    let a = seen_details o c.requires _ c.self-inside.inside.0.0.details.ok.0 c.index.ensures in
+    seen_says o c.args.slot (λ e. c.index.result.now.references ≡ e.references) (λ e h. h)
+    (says_of a.1 a.2 _ refl)
 
 pub returns-clause-created : goal.returns-clause-created
 returns-clause-created g c =
-    let s = kept c.self.view_is c.self.invariant in
-    let same = many s in
-    let there = slice_get_read c.self.inside.details.items _ c.args.slot c.index.result.now
-    refl (omega (arith, c.requires, c.self.invariant.1)) c.index.ensures in
-    details_seen s c.requires there (λ e. IfSome (location_of (cell_of e.kept))
-    (λ l. c.index.result.now.created_at ≡ l)) (λ e. created_there
-    (list_at c.self.inside.borrows.lists (index_of e.content)) _ e.content)
+    let o = seen c.self.inside.last c.self.inside.settled c.self.view_is c.self.invariant
+    (ap (λ x. x.settled) c.self-inside.view_is) c.self-inside.invariant in
+    let a = seen_details o c.requires _ c.self-inside.inside.0.0.details.ok.0 c.index.ensures in
+    seen_says o c.args.slot
+    (λ e. IfSome (location_of (cell_of e.kept)) (λ l. c.index.result.now.created_at ≡ l))
+    (λ e. located (joined c.self.inside.last.standing c.self.inside.last.borrow) e.kept _)
+    (says_of a.1 a.2 _ (created_there
+    (list_at c.self-inside.inside.0.0.borrows.lists (index_of a.0.content)) _ a.0.content))

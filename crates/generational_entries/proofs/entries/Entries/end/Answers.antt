@@ -1,85 +1,55 @@
-use Rattle.std.proofs.Common.{arith, refl, sym, ap, ◌∙◌}
-use Rattle.std.proofs.lemmas.List.{length-set}
-use Rattle.generational_entries.proofs.states.Entries.{kept, many, read_slot, roomy_still, one_slot}
-use Rattle.generational_entries.proofs.states.Indexes.{indexed_free, set_no_shorter}
-use Rattle.generational_entries.proofs.states.SlotWrites.{view_changed, used_x, close_indexed}
-use Rattle.generational_entries.proofs.states.SlotWrites.{close_lists}
-use Rattle.generational_entries.specs.Entries.{index_of}
-use Rattle.generational_containers.proofs.lists.Lists.{set_written}
+use Rattle.std.proofs.Common.{refl, ap, ◌∙◌}
+use Rattle.std.proofs.lemmas.Bool.{false≢true}
+use Rattle.generational_entries.specs.Entry.Kept.{Empty}
+use Rattle.generational_entries.specs.Entries.{EntryList}
+use Rattle.generational_entries.specs.Latest.{noted}
+use Rattle.generational_entries.specs.Entry.{change_entry}
+use Rattle.generational_entries.proofs.states.Latest.{alone_apart, ended, noted_order}
 use Rattle.generational_entries.proofs.entries.Entries.end.Goals as goal
+use Rattle.generational_entries.proofs.entries.Entries.end.Goals.{then-self-slot, else-self-slot}
 
-pub index-requires : goal.index-requires
-index-requires g c =
-    let same = many (kept c.self.view_is c.self.invariant) in
-    omega (arith, c.requires, c.self.inside.entries.ok.0)
+pub returns-then-is_alone-clause-slots : goal.returns-then-is_alone-clause-slots
+returns-then-is_alone-clause-slots g c =
+    rw c.end.ensures.slots (noted_order c.self.inside.last c.self.inside.settled.slots c.args.slot
+    (λ e. record e { kept = Empty }) (λ e. refl))
+    ∙ ap (λ (x : EntryList _). change_entry x.slots c.args.slot (λ e. record e { kept = Empty }))
+    c.self.view_is
 
-pub index_mut-requires : goal.index_mut-requires
-index_mut-requires g c =
-    let same = many (kept c.self.view_is c.self.invariant) in
-    omega (arith, c.requires, c.self.inside.entries.ok.0)
+pub invariant_of-self-2 : goal.invariant_of-self-2
+invariant_of-self-2 g c =
+    let last = c.self.inside.last in
+    let slots = c.self.inside.settled.slots in
+    elim c.if-self-slot.branch [
+      | then-self-slot w ↦ rw w.self-inside-is (λ is. absurd (false≢true is))
+      | else-self-slot w ↦
+          rw (
+            w.self-inside-is,
+            c.end-2.ensures.slots
+                ∙ ap (λ x. change_entry x.settled.slots c.args.slot
+                (λ e. record e { kept = Empty }))
+                w.self-inside-is,
+          )
+          (alone_apart last slots c.args.slot (λ e. record e { kept = Empty }) c.self.invariant
+          (λ is same. w.if-self-slot.false same))
+    ]
 
-pub close-requires-clause-within : goal.close-requires-clause-within
-close-requires-clause-within g c =
-    let s = kept c.self.view_is c.self.invariant in
-    let found = read_slot s c.requires _ c.self.inside.entries.ok.0 c.index.ensures in
-    let there = read_slot s c.requires _ c.self.inside.entries.ok.0 c.index_mut.ensures.value in
-    let own = ap (λ e. index_of e.content) (one_slot s c.args.slot there found) ∙ sym
-    c.index-index.ensures in
-    (used_x s c.args.slot _ there _ own c.if-index.true).within
-
-pub close-requires-clause-used : goal.close-requires-clause-used
-close-requires-clause-used g c =
-    let s = kept c.self.view_is c.self.invariant in
-    let found = read_slot s c.requires _ c.self.inside.entries.ok.0 c.index.ensures in
-    let there = read_slot s c.requires _ c.self.inside.entries.ok.0 c.index_mut.ensures.value in
-    let own = ap (λ e. index_of e.content) (one_slot s c.args.slot there found) ∙ sym
-    c.index-index.ensures in
-    (used_x s c.args.slot _ there _ own c.if-index.true).used
-
-pub invariant_of-self : goal.invariant_of-self
-invariant_of-self g c =
-    let s = kept c.self.view_is c.self.invariant in
-    let found = read_slot s c.requires _ c.self.inside.entries.ok.0 c.index.ensures in
-    let there = read_slot s c.requires _ c.self.inside.entries.ok.0 c.index_mut.ensures.value in
-    let own = ap (λ e. index_of e.content) (one_slot s c.args.slot there found) ∙ sym
-    c.index-index.ensures in (
-      close_indexed s c.args.slot _ there _ own c.if-index.true
-          c.close.ensures _ tt refl,
-      c.self.invariant.1 ∙ sym (length-set c.self.inside.entries.items c.args.slot _),
-      roomy_still c.self.invariant.2 (length-set c.self.inside.entries.items c.args.slot _)
-          c.close.ensures.rooms,
-    )
-
-pub invariant_of-self-else-index : goal.invariant_of-self-else-index
-invariant_of-self-else-index g c =
-    let s = kept c.self.view_is c.self.invariant in
-    let found = read_slot s c.requires _ c.self.inside.entries.ok.0 c.index.ensures in
-    let there = read_slot s c.requires _ c.self.inside.entries.ok.0 c.index_mut.ensures.value in
-    let own = ap (λ e. index_of e.content) (one_slot s c.args.slot there found) ∙ sym
-    c.index-index.ensures in (
-      indexed_free (set_written _ c.args.slot _ _ there) s.indexed tt
-          (set_no_shorter _ c.args.slot _)
-          (rw there (own ∙ c.if-index.false)) refl,
-      c.self.invariant.1 ∙ sym (length-set c.self.inside.entries.items c.args.slot _),
-      roomy_still c.self.invariant.2 (length-set c.self.inside.entries.items c.args.slot _) refl,
-    )
-
-pub returns-then-index-clause-slots : goal.returns-then-index-clause-slots
-returns-then-index-clause-slots g c =
-    let s = kept c.self.view_is c.self.invariant in
-    let found = read_slot s c.requires _ c.self.inside.entries.ok.0 c.index.ensures in
-    let there = read_slot s c.requires _ c.self.inside.entries.ok.0 c.index_mut.ensures.value in
-    let own = ap (λ e. index_of e.content) (one_slot s c.args.slot there found) ∙ sym
-    c.index-index.ensures in
-    view_changed s c.args.slot _ there _ _ _
-    (close_lists s c.args.slot _ there _ own c.if-index.true c.close.ensures)
-    (λ l. refl)
-
-pub returns-else-index-clause-slots : goal.returns-else-index-clause-slots
-returns-else-index-clause-slots g c =
-    let s = kept c.self.view_is c.self.invariant in
-    let found = read_slot s c.requires _ c.self.inside.entries.ok.0 c.index.ensures in
-    let there = read_slot s c.requires _ c.self.inside.entries.ok.0 c.index_mut.ensures.value in
-    let own = ap (λ e. index_of e.content) (one_slot s c.args.slot there found) ∙ sym
-    c.index-index.ensures in
-    view_changed s c.args.slot _ there _ _ _ (λ k other. refl) (λ l. refl)
+pub returns-clause-slots : goal.returns-clause-slots
+returns-clause-slots g c =
+    let last = c.self.inside.last in
+    let slots = c.self.inside.settled.slots in
+    elim c.if-self-slot.branch [
+      | then-self-slot w ↦
+          rw (w.self-inside-is) (
+          c.end-2.ensures.slots
+          ∙ (rw (w.self-inside-is, ← w.if-self-slot.true) (ended last slots)
+          ∙ ap (λ (x : EntryList _). change_entry x.slots c.args.slot
+          (λ e. record e { kept = Empty })) c.self.view_is))
+      | else-self-slot w ↦
+          ap (λ x. noted x.last c.end-2.new.self.slots) w.self-inside-is
+          ∙ (ap (noted last) (c.end-2.ensures.slots
+          ∙ ap (λ x. change_entry x.settled.slots c.args.slot (λ e. record e { kept = Empty }))
+          w.self-inside-is)
+          ∙ (noted_order last slots c.args.slot (λ e. record e { kept = Empty }) (λ e. refl)
+          ∙ ap (λ (x : EntryList _). change_entry x.slots c.args.slot
+          (λ e. record e { kept = Empty })) c.self.view_is))
+    ]

@@ -1,19 +1,42 @@
 -- Whether the value of a name is its own and has no borrow.
-use Rattle.std.proofs.Common.{arith, refl, ◌∙◌}
-use Rattle.std.proofs.lemmas.Option.{slice_get_past, slice_get_read}
-use Rattle.generational_entries.proofs.states.Entries.{kept, many, value_test}
+use Rattle.std.proofs.Common.{arith, ap, refl, sym, ◌∙◌}
+use Rattle.std.proofs.lemmas.Bool.{false≢true}
+use Rattle.std.proofs.lemmas.Option.{slice_get_read}
+use Rattle.generational_containers.specs.CellNames.{name_of_cell}
+use Rattle.generational_entries.specs.Entries.{EntryList}
+use Rattle.generational_entries.specs.Entry.{cell_at, cell_in, is_unborrowed_value}
+use Rattle.generational_entries.specs.Latest.{is_apart}
+use Rattle.generational_entries.proofs.states.Entries.{here, value_test}
+use Rattle.generational_entries.proofs.states.Latest.{noted_away, seen, seen_past}
 use Rattle.generational_entries.proofs.entries.Entries.has_unborrowed_value.Goals as goal
+use Rattle.generational_entries.proofs.entries.Entries.has_unborrowed_value.Goals.{else-is_apart-via-then-is_apart+else-self-name}
+use Rattle.generational_entries.proofs.entries.Entries.has_unborrowed_value.Goals.{else-is_apart-via-else-is_apart}
 
 pub returns-in-Some : goal.returns-in-Some
 returns-in-Some g c =
-    let s = kept c.self.view_is c.self.invariant in
+    let o = seen c.self.inside.last c.self.inside.settled c.self.view_is c.self.invariant
+    (ap (λ x. x.settled) c.self-inside.view_is) c.self-inside.invariant in
     let found = rw c.deref.ensures.value at c.in-Some.ensures.lookup in
-    let there = slice_get_read c.self.inside.entries.items _ c.args.name.slot c.in-Some.entry.now
-    refl found.3.0 found.1 in
-    c.has_unborrowed_value.ensures ∙ value_test s c.args.name.slot _ there c.args.name.generation
+    let a = here o.store (slice_get_read c.self-inside.inside.0.0.entries.items _ c.args.name.slot
+    c.in-Some.entry.now refl found.3.0 found.1) in
+    let same = ap (λ x. x.last) c.self-inside.view_is in
+    let away = noted_away c.self.inside.last c.self.inside.settled.slots o.alone c.args.name.slot
+    (elim c.else-is_apart.branch [
+      | else-is_apart-via-then-is_apart+else-self-name w ↦ λ is at.
+          w.if-self-name.false (ap (λ l. l.slot) same ∙ at)
+      | else-is_apart-via-else-is_apart w ↦
+          λ is at. absurd (false≢true (sym w.if-is_apart.false
+          ∙ (c.is_apart.ensures ∙ (ap (λ l. is_apart l.standing) same ∙ is))))
+    ]) in
+    let n = name_of_cell c.args.name in
+    c.has_unborrowed_value.ensures
+    ∙ (value_test a c.args.name.generation
+    ∙ (ap (λ o. is_unborrowed_value (cell_in o n.generation)) (sym away)
+    ∙ ap (λ (x : EntryList _). is_unborrowed_value (cell_at x.slots n)) c.self.view_is))
 
 pub returns-in-None : goal.returns-in-None
 returns-in-None g c =
-    let same = many (kept c.self.view_is c.self.invariant) in
+    let o = seen c.self.inside.last c.self.inside.settled c.self.view_is c.self.invariant
+    (ap (λ x. x.settled) c.self-inside.view_is) c.self-inside.invariant in
     let found = rw c.deref.ensures.value at c.in-None.ensures.lookup in
-    rw (slice_get_past c.args.self.now.slots c.args.name.slot (omega (arith, found.3))) refl
+    rw (seen_past o c.args.name.slot (omega (arith, found.3))) refl

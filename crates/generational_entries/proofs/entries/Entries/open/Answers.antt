@@ -1,55 +1,26 @@
--- The value, where the reader stands.
-use Rattle.std.proofs.Common.{arith, refl, ◌≡◌, ℕ, List, [], ◌∷◌, None}
-use Rattle.generational_core.specs.declared.borrow.Borrow.{Borrow}
-use Rattle.generational_core.specs.declared.error.Location.{Location}
-use Rattle.generational_entries.specs.declared.entry.Kind.{Kind}
-use Rattle.generational_entries.specs.declared.entry.StorageEntryData.{StorageEntryData}
-use Rattle.generational_entries.specs.declared.entry.StorageEntryData.TheVariants as slot
-use Rattle.generational_entries.specs.Entries.{kept_data}
+use Rattle.std.proofs.Common.{sym, ◌≡◌, ◌∙◌, option_copied, true}
+use Rattle.std.proofs.lemmas.Bool.{false≢true}
 use Rattle.generational_entries.specs.Entry.{content_in, value_for}
-use Rattle.generational_entries.proofs.states.Entries.{kept, many, says, used_at, read_slot}
-use Rattle.generational_entries.specs.Entries.{index_of}
-use Rattle.generational_containers.specs.Table.{list_at}
+use Rattle.generational_entries.specs.Latest.{is_reader}
+use Rattle.generational_entries.proofs.states.Latest.{joined_says, opens_same}
 use Rattle.generational_entries.proofs.entries.Entries.open.Goals as goal
+use Rattle.generational_entries.proofs.entries.Entries.open.Goals.{else-is_reader-via-then-is_reader+then-self-slot+else-self-ticket}
+use Rattle.generational_entries.proofs.entries.Entries.open.Goals.{else-is_reader-via-then-is_reader+else-self-slot}
+use Rattle.generational_entries.proofs.entries.Entries.open.Goals.{else-is_reader-via-else-is_reader}
 
-no_value : {T : Type 0} (ticket : ℕ) (bs : List Borrow) (l : Location) (d : StorageEntryData T)
-    → ((kd : Kind) (x : ℕ) (v : T) → d ≡ slot.Read kd x v → ⊥)
-    → None ≡ value_for ticket (content_in (kept_data bs l d))
-no_value ticket bs l slot.Empty none = refl
-no_value ticket bs l (slot.Reference m n) none = refl
-no_value ticket bs l (slot.Data kd v) none = refl
-no_value ticket bs l (slot.Read kd x v) none = absurd (none kd x v refl)
-no_value ticket [] l (slot.Lent kd x) none = refl
-no_value ticket (b ∷ bs) l (slot.Lent kd x) none = refl
-
-pub index-requires : goal.index-requires
-index-requires g c =
-    let same = many (kept c.self.view_is c.self.invariant) in
-    omega (arith, c.requires, c.self.inside.entries.ok.0)
-
-pub contains-requires : goal.contains-requires
-contains-requires g c =
-    let s = kept c.self.view_is c.self.invariant in
-    let there = read_slot s c.requires _ c.self.inside.entries.ok.0 c.index.ensures in
-    (used_at s c.args.slot _ there _ _ _ c.in-Read.is).within
-
-pub returns-then-contains : goal.returns-then-contains
-returns-then-contains g c =
-    let s = kept c.self.view_is c.self.invariant in
-    let there = read_slot s c.requires _ c.self.inside.entries.ok.0 c.index.ensures in
-    says s c.args.slot _ there _
-    (λ l. rw (c.in-Read.is, ← c.contains.ensures, c.if-contains.true) refl)
-
-pub returns-else-contains : goal.returns-else-contains
-returns-else-contains g c =
-    let s = kept c.self.view_is c.self.invariant in
-    let there = read_slot s c.requires _ c.self.inside.entries.ok.0 c.index.ensures in
-    says s c.args.slot _ there _
-    (λ l. rw (c.in-Read.is, ← c.contains.ensures, c.if-contains.false) refl)
-
-pub returns-in_default : goal.returns-in_default
-returns-in_default g c =
-    let s = kept c.self.view_is c.self.invariant in
-    let there = read_slot s c.requires _ c.self.inside.entries.ok.0 c.index.ensures in
-    says s c.args.slot _ there _
-    (λ l. no_value c.args.ticket (list_at c.self.inside.borrows.lists (index_of c.index.result.now.content)) l.created_at c.index.result.now.content c.in_default.not-Read)
+pub returns : goal.returns
+returns g c =
+    let last = c.self.inside.last in
+    let other : is_reader last.standing ≡ true → last.slot ≡ c.args.slot
+    → last.borrow.ticket ≡ c.args.ticket → ⊥ = elim c.else-is_reader.branch [
+      | else-is_reader-via-then-is_reader+then-self-slot+else-self-ticket w ↦
+          λ is at same. w.if-self-ticket.false same
+      | else-is_reader-via-then-is_reader+else-self-slot w ↦
+          λ is at same. w.if-self-slot.false at
+      | else-is_reader-via-else-is_reader w ↦
+          λ is at same. absurd (false≢true (sym w.if-is_reader.false ∙ (c.is_reader.ensures ∙ is)))
+    ] in
+    rw (← c.self.view_is) (joined_says last c.self.inside.settled.slots c.self.invariant
+    c.args.slot (λ e. option_copied c.open.result ≡ value_for c.args.ticket (content_in e.kept))
+    (λ apart at e fits h. h ∙ opens_same last.standing last.borrow c.args.ticket e.kept apart
+    (λ is same. other is at same) fits) c.open.ensures)

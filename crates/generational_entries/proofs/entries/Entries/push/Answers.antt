@@ -1,54 +1,14 @@
--- A slot more, with a cell without borrows.
-use Rattle.std.proofs.Common.{arith, refl, ap, ◌∙◌, ◌++◌, ◌∷◌, [], length, length-append}
-use Rattle.std.proofs.lemmas.Option.{slice_get_past}
-use Rattle.generational_containers.proofs.lists.Lists.{push_written}
-use Rattle.generational_entries.proofs.states.Entries.{kept, many, room_for_one, slots_pushed}
-use Rattle.generational_entries.proofs.states.Entries.{free_entry}
-use Rattle.generational_entries.proofs.states.Indexes.{indexed_free, unborrowed_listed}
-use Rattle.generational_entries.proofs.states.Indexes.{unborrowed_none}
+use Rattle.std.proofs.Common.{ap, ◌∙◌, ◌++◌, [], ◌∷◌}
+use Rattle.generational_entries.specs.Entries.{EntryList, kept_data}
+use Rattle.generational_entries.proofs.states.Latest.{noted_pushed}
 use Rattle.generational_entries.proofs.entries.Entries.push.Goals as goal
-
-pub push_reserved-requires : goal.push_reserved-requires
-push_reserved-requires g c =
-    let left = room_for_one _ c.self.view_is c.self.invariant c.requires.room in
-    omega (arith, c.self.inside.entries.ok.0, c.self.invariant.2.entries)
-
-pub push_reserved-requires-2 : goal.push_reserved-requires-2
-push_reserved-requires-2 g c =
-    let left = room_for_one _ c.self.view_is c.self.invariant c.requires.room in
-    omega (arith, c.self.invariant.1, c.self.inside.details.ok.0, c.self.invariant.2.details)
-
-pub invariant_of-self : goal.invariant_of-self
-invariant_of-self g c =
-    let es = c.self.inside.entries.items in
-    let long = ap length c.push_reserved.ensures.items ∙ length-append es _ in
-    let made = ap length c.push_reserved-2.ensures.items
-    ∙ length-append c.self.inside.details.items _ in
-    let left = room_for_one _ c.self.view_is c.self.invariant c.requires.room in
-    let room = c.self.invariant.2 in (
-      rw c.push_reserved.ensures.items (indexed_free (push_written es _) c.self.invariant.0
-          (unborrowed_listed c.args.content c.requires.unborrowed)
-          (rw (length-append es _) (omega arith))
-          (rw (slice_get_past es (length es) (omega arith)) refl)
-          (unborrowed_none c.args.content c.requires.unborrowed)),
-      omega (arith, c.self.invariant.1),
-      record {
-        filled = omega arith;
-        entries = omega (arith, c.push_reserved.ensures.capacity, room.entries);
-        details = omega (arith, c.push_reserved-2.ensures.capacity, room.details);
-        borrows = room.borrows;
-        indexes = room.indexes;
-      },
-    )
 
 pub returns-clause-pushed : goal.returns-clause-pushed
 returns-clause-pushed g c =
-    let s = kept c.self.view_is c.self.invariant in
-    rw (c.push_reserved.ensures.items, c.push_reserved-2.ensures.items)
-    (slots_pushed s _ _ ∙ ap (λ e. c.args.self.now.slots ++ e ∷ [])
-    (free_entry s c.args.generation c.args.content _ c.requires.unborrowed))
-
-pub returns-clause-few : goal.returns-clause-few
-returns-clause-few g c =
-    let s = kept c.self.view_is c.self.invariant in
-    let same = many s in let small = s.small in omega arith
+    rw c.push.ensures.pushed
+    (noted_pushed c.self.inside.last c.self.inside.settled.slots _ c.self.invariant)
+    ∙ ap (λ (x : EntryList _). x.slots ++ (record {
+      generation = c.args.generation;
+      kept = kept_data [] c.args.created_at c.args.content;
+      references = 0;
+    }) ∷ []) c.self.view_is

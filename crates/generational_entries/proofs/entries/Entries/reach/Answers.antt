@@ -1,20 +1,26 @@
 -- What a box of a name reaches.
-use Rattle.std.proofs.Common.{arith, refl, ◌∙◌}
-use Rattle.std.proofs.lemmas.Option.{slice_get_past, slice_get_read}
+use Rattle.std.proofs.Common.{arith, ap, refl, ◌∙◌}
+use Rattle.std.proofs.lemmas.Option.{slice_get_read}
+use Rattle.generational_core.specs.Borrowing.{leads_to}
 use Rattle.generational_containers.specs.CellNames.{name_of_cell}
-use Rattle.generational_entries.proofs.states.Entries.{kept, many, lead_test}
+use Rattle.generational_entries.proofs.states.Entries.{here, lead_seen}
+use Rattle.generational_entries.proofs.states.Latest.{lead_same, seen, seen_name, seen_past}
 use Rattle.generational_entries.proofs.entries.Entries.reach.Goals as goal
 
 pub returns-in-Some : goal.returns-in-Some
 returns-in-Some g c =
-    let s = kept c.self.view_is c.self.invariant in
+    let o = seen c.self.inside.last c.self.inside.settled c.self.view_is c.self.invariant
+    (ap (λ x. x.settled) c.self-inside.view_is) c.self-inside.invariant in
     let found = rw c.deref.ensures.value at c.in-Some.ensures.lookup in
-    let there = slice_get_read c.self.inside.entries.items _ c.args.name.slot c.in-Some.entry.now
-    refl found.3.0 found.1 in
-    c.reach.ensures ∙ lead_test s c.args.name.slot _ there (name_of_cell c.args.name)
+    let a = here o.store (slice_get_read c.self-inside.inside.0.0.entries.items _ c.args.name.slot
+    c.in-Some.entry.now refl found.3.0 found.1) in
+    let n = name_of_cell c.args.name in
+    c.reach.ensures ∙ seen_name o n a (λ x. leads_to x n) (lead_same n)
+    (λ d. lead_seen c.self-inside.inside.0.0.borrows.lists c.in-Some.entry.now d n)
 
 pub returns-in-None : goal.returns-in-None
 returns-in-None g c =
-    let same = many (kept c.self.view_is c.self.invariant) in
+    let o = seen c.self.inside.last c.self.inside.settled c.self.view_is c.self.invariant
+    (ap (λ x. x.settled) c.self-inside.view_is) c.self-inside.invariant in
     let found = rw c.deref.ensures.value at c.in-None.ensures.lookup in
-    rw (slice_get_past c.args.self.now.slots c.args.name.slot (omega (arith, found.3))) refl
+    rw (seen_past o c.args.name.slot (omega (arith, found.3))) refl

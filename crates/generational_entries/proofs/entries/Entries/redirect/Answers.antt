@@ -1,46 +1,25 @@
--- A reference that names another cell.
-use Rattle.std.proofs.Common.{arith, refl, sym, ◌≡◌, ◌∙◌, IfSome, subst}
-use Rattle.std.proofs.lemmas.List.{length-set}
-use Rattle.generational_entries.specs.Entry.{Entry}
-use Rattle.generational_entries.specs.declared.entry.StorageEntryData.TheVariants as content
-use Rattle.generational_containers.proofs.lists.Lists.{set_written}
-use Rattle.generational_entries.proofs.states.Entries.{kept, many, read_slot, refers_none}
-use Rattle.generational_entries.proofs.states.Entries.{found_slot}
-use Rattle.generational_entries.proofs.states.Entries.{roomy_still, slot_seen}
-use Rattle.generational_entries.proofs.states.Indexes.{indexed_free, set_no_shorter}
-use Rattle.generational_entries.proofs.states.SlotWrites.{view_changed}
+use Rattle.std.proofs.Common.{ap, ◌∙◌, ◌≡◌, slice_get}
+use Rattle.generational_entries.specs.Entry.{referring, change_entry}
+use Rattle.generational_entries.specs.Latest.{noted, joined}
+use Rattle.generational_entries.proofs.states.Latest.{each_some, joined_says, noted_order}
+use Rattle.generational_entries.proofs.states.Latest.{refer_order}
 use Rattle.generational_entries.proofs.entries.Entries.redirect.Goals as goal
-
-pub index_mut-requires : goal.index_mut-requires
-index_mut-requires g c =
-    let same = many (kept c.self.view_is c.self.invariant) in
-    omega (arith, c.requires.within, c.self.inside.entries.ok.0)
-
-pub invariant_of-self : goal.invariant_of-self
-invariant_of-self g c =
-    let s = kept c.self.view_is c.self.invariant in
-    let there = read_slot s c.requires.within _ c.self.inside.entries.ok.0
-    c.index_mut.ensures.value in
-    let old = refers_none s c.args.slot _ there c.requires.refers in
-    let t = found_slot s c.requires.target in
-    let new = subst (λ o. IfSome o (λ (e : Entry _). c.reference_to.result
-    ≡ content.Reference c.args.target e.generation)) (slot_seen s c.args.target t.0 t.1)
-    c.reference_to.ensures in (
-      indexed_free (set_written _ c.args.slot _ _ there) s.indexed (rw new tt)
-          (set_no_shorter _ c.args.slot _) (rw (there, old.2) refl) (rw new refl),
-      c.self.invariant.1 ∙ sym (length-set c.self.inside.entries.items c.args.slot _),
-      roomy_still c.self.invariant.2 (length-set c.self.inside.entries.items c.args.slot _) refl,
-    )
 
 pub returns-clause-slots : goal.returns-clause-slots
 returns-clause-slots g c =
-    let s = kept c.self.view_is c.self.invariant in
-    let there = read_slot s c.requires.within _ c.self.inside.entries.ok.0
-    c.index_mut.ensures.value in
-    let old = refers_none s c.args.slot _ there c.requires.refers in
-    let t = found_slot s c.requires.target in
-    let seen = slot_seen s c.args.target t.0 t.1 in
-    let new = subst (λ o. IfSome o (λ (e : Entry _). c.reference_to.result
-    ≡ content.Reference c.args.target e.generation)) seen c.reference_to.ensures in
-    rw seen (view_changed s c.args.slot _ there _ _ _ (λ k other. refl)
-    (λ l. rw (old.2, new) refl))
+    let last = c.self.inside.last in
+    let slots = c.self.inside.settled.slots in
+    rw (← c.self.view_is) (joined_says last slots c.self.invariant c.args.target
+    (λ t. noted last c.redirect.new.self.slots ≡ change_entry (noted last slots) c.args.slot
+    (λ e. record e {
+      kept = referring (record { slot = c.args.target; generation = t.generation }) e.kept;
+    }))
+    (λ apart at e fits h. h)
+    (each_some (slice_get slots c.args.target) (λ t is.
+    ap (noted last) is ∙ noted_order last slots c.args.slot
+    (λ e. record e {
+      kept = referring (record { slot = c.args.target; generation = t.generation }) e.kept;
+    })
+    (λ e. ap (λ k. record e { kept = k }) (refer_order
+    (record { slot = c.args.target; generation = t.generation })
+    (joined last.standing last.borrow) e.kept))) c.redirect.ensures.slots))

@@ -1,65 +1,19 @@
--- A cell without borrows in a slot that has none, under the next generation.
-use Rattle.std.proofs.Common.{arith, refl, ap, ◌≡◌, ◌∙◌, ◌<◌, ◌+◌, slice_set}
-use Rattle.std.proofs.lemmas.List.{length-set}
-use Rattle.generational_core.specs.Slots.{last_generation}
-use Rattle.generational_containers.proofs.lists.Lists.{set_written}
-use Rattle.generational_entries.proofs.states.Entries.{kept, many, says, hears, read_slot}
-use Rattle.generational_entries.proofs.states.Entries.{empty_slot}
-use Rattle.generational_entries.proofs.states.Entries.{slots_set, free_entry}
-use Rattle.generational_entries.proofs.states.Indexes.{indexed_free, unborrowed_listed}
-use Rattle.generational_entries.proofs.states.Indexes.{unborrowed_none}
+use Rattle.std.proofs.Common.{ap, sym, ◌∙◌, ◌≡◌, [], slice_set, slice_get, subst, IfSome}
+use Rattle.generational_entries.specs.Entry.Kept.{Empty}
+use Rattle.generational_entries.specs.Entries.{EntryList, kept_data}
+use Rattle.generational_entries.proofs.states.Latest.{away_from_empty, noted_set}
 use Rattle.generational_entries.proofs.entries.Entries.refill.Goals as goal
-
-pub index_mut-requires : goal.index_mut-requires
-index_mut-requires g c =
-    let same = many (kept c.self.view_is c.self.invariant) in
-    omega (arith, c.requires.within, c.self.invariant.1, c.self.inside.details.ok.0)
-
-pub index_mut-requires-2 : goal.index_mut-requires-2
-index_mut-requires-2 g c =
-    let same = many (kept c.self.view_is c.self.invariant) in
-    omega (arith, c.requires.within, c.self.inside.entries.ok.0)
-
-pub refill-requires : goal.refill-requires
-refill-requires g c =
-    let s = kept c.self.view_is c.self.invariant in
-    let there = read_slot s c.requires.within _ c.self.inside.entries.ok.0
-    c.index_mut-2.ensures.value in
-    hears s c.args.slot _ there (λ e. e.generation < last_generation) c.requires.below
-
-pub invariant_of-self : goal.invariant_of-self
-invariant_of-self g c =
-    let s = kept c.self.view_is c.self.invariant in
-    let there = read_slot s c.requires.within _ c.self.inside.entries.ok.0
-    c.index_mut-2.ensures.value in
-    let long = length-set c.self.inside.entries.items c.args.slot c.refill.new.self in
-    let made = length-set c.self.inside.details.items c.args.slot (record {
-      created_at = c.args.created_at;
-      references = 0;
-    }) in
-    let room = c.self.invariant.2 in (
-      indexed_free (set_written c.self.inside.entries.items c.args.slot c.refill.new.self _ there)
-          c.self.invariant.0 (rw c.refill.ensures.filled
-          (unborrowed_listed c.args.content c.requires.unborrowed)) (omega arith)
-          (rw (there, empty_slot s c.args.slot _ there c.requires.empty) refl)
-          (rw c.refill.ensures.filled
-          (unborrowed_none c.args.content c.requires.unborrowed)),
-      omega (arith, c.self.invariant.1),
-      rw long room,
-    )
-
-pub returns-clause-generation : goal.returns-clause-generation
-returns-clause-generation g c =
-    let s = kept c.self.view_is c.self.invariant in
-    let there = read_slot s c.requires.within _ c.self.inside.entries.ok.0
-    c.index_mut-2.ensures.value in
-    says s c.args.slot _ there (λ e. c.refill.result ≡ e.generation + 1)
-    (λ l. c.refill.ensures.generation)
 
 pub returns-clause-filled : goal.returns-clause-filled
 returns-clause-filled g c =
-    let s = kept c.self.view_is c.self.invariant in
-    rw c.refill.ensures.filled
-    (slots_set s c.args.slot _ _ c.requires.within
-    ∙ ap (slice_set c.args.self.now.slots c.args.slot)
-    (free_entry s c.refill.result c.args.content _ c.requires.unborrowed))
+    let last = c.self.inside.last in
+    let slots = c.self.inside.settled.slots in
+    let other = away_from_empty last slots c.args.slot c.self.invariant
+    (subst (λ (x : EntryList _). IfSome (slice_get x.slots c.args.slot) (λ e. e.kept ≡ Empty))
+    (sym c.self.view_is) c.requires.empty) in
+    rw c.refill.ensures.filled (noted_set last slots c.args.slot _ c.self.invariant other)
+    ∙ ap (λ (x : EntryList _). slice_set x.slots c.args.slot (record {
+      generation = c.refill.result;
+      kept = kept_data [] c.args.created_at c.args.content;
+      references = 0;
+    })) c.self.view_is

@@ -1,18 +1,11 @@
-use Rattle.std.proofs.Common.{rules, subst}
-use Rattle.generational_sessions.specs.SoundSession.{IsSoundSession}
-use Rattle.generational_sessions.proofs.carrying.NumberedCalls.{call_answers}
-use Rattle.generational_sessions.proofs.sessions.SessionCalls.{tells_ends, gives_new_box}
-use Rattle.generational_sessions.proofs.sessions.SessionCalls.{ends_owned, keep_boxes}
-use Rattle.generational_sessions.proofs.sessions.SessionCalls.{call_step}
-use Rattle.generational_sessions.proofs.sessions.Refusals.{refusals}
-use Rattle.generational_sessions.proofs.sessions.Sessions.{session_kept, session_ended}
-use Rattle.generational_sessions.proofs.sessions.Sessions.{session_value}
+use Rattle.generational_sessions.proofs.{rules, subst, IsSoundSession, call_answers, tells_ends}
+use Rattle.generational_sessions.proofs.{gives_new_box, lasts_end, keep_boxes, call_step, refusals}
+use Rattle.generational_sessions.proofs.{session_kept, session_ended, session_value}
 use Rattle.generational_sessions.proofs.session.Session.call.Goals as goal
 
 pub invariant_of-self-2 : goal.invariant_of-self-2
-invariant_of-self-2 g c =
-    session_kept _ _ c.args.call _ (subst IsSoundSession c.self.view_is c.self.invariant)
-    (call_step _ _ _ _ _ c.args.call _ _ c.self.view_is
+invariant_of-self-2 g c = session_kept _ _ c.args.call _ (subst IsSoundSession
+    c.self.view_is c.self.invariant) (call_step _ _ _ _ _ c.args.call _ _ c.self.view_is
     (rw c.reserve.ensures.items at c.answer-reply.ensures.step) c.push_reserved.ensures.items)
 
 pub returns : goal.returns
@@ -29,7 +22,7 @@ returns g c =
       tells_ends = tells_ends _ _ c.args.call _ step;
       new_box = gives_new_box _ _ c.args.call _ step;
       keep_boxes = keep_boxes _ _ c.args.call _ step;
-      ends_owned = ends_owned _ _ c.args.call _ before.sound step;
+      ends_owned = lasts_end _ _ c.args.call _ before.sound step;
       tells_lack = told.lack;
       tells_exhaustion = told.exhaustion;
       refusal_leaves_all = told.leaves_all;

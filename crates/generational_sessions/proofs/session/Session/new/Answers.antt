@@ -1,5 +1,4 @@
-use Rattle.generational_sessions.proofs.carrying.NumberedCalls.{new_matches}
-use Rattle.generational_sessions.proofs.sessions.SessionCalls.{new_kept}
+use Rattle.generational_sessions.proofs.{new_matches, new_kept}
 use Rattle.generational_sessions.proofs.session.Session.new.Goals as goal
 
 pub invariant_of-result : goal.invariant_of-result

@@ -1,13 +1,7 @@
-use Rattle.std.proofs.Common.{◌≡◌, [], arith, rules, subst}
-use Rattle.std.proofs.lemmas.Grind.{common_steps}
-use Rattle.generational_sessions.specs.SoundSession.{IsSoundSession}
-use Rattle.generational_sessions.proofs.carrying.NumberedCalls.{run_answers}
-use Rattle.generational_sessions.proofs.sessions.SessionCalls.{all_keep_promises, all_tell_ends}
-use Rattle.generational_sessions.proofs.sessions.SessionCalls.{run_keep_boxes}
-use Rattle.generational_sessions.proofs.sessions.SessionCalls.{boxes_apart, run_starts, run_goes}
-use Rattle.generational_sessions.proofs.sessions.SessionCalls.{run_ends}
-use Rattle.generational_sessions.proofs.sessions.SessionCalls.{went}
-use Rattle.generational_sessions.proofs.sessions.Sessions.{run_kept, run_ended, run_value}
+use Rattle.generational_sessions.proofs.{◌≡◌, [], arith, rules, subst, common_steps, IsSoundSession}
+use Rattle.generational_sessions.proofs.{run_answers, all_keep_promises, all_tell_ends}
+use Rattle.generational_sessions.proofs.{run_keep_boxes, boxes_apart, run_starts, run_goes}
+use Rattle.generational_sessions.proofs.{run_ends, went, run_kept, run_ended, run_value}
 use Rattle.generational_sessions.proofs.session.Session.run.Goals as goal
 
 pub loop-call-init : goal.loop-call-init

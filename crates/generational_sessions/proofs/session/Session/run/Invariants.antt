@@ -1,14 +1,12 @@
-use Rattle.std.proofs.Common.{◌+◌, ◌≤◌, ◌++◌, reverse, vec_len, vec_capacity}
-use Rattle.generational_sessions.specs.Session.{Run}
-use Rattle.generational_sessions.specs.Places.{session_in, as_replies}
+use Rattle.generational_sessions.proofs.{◌+◌, ◌≤◌, ◌++◌, reverse, vec_len, vec_capacity, Run}
+use Rattle.generational_sessions.proofs.{session_in, as_replies}
 use Rattle.generational_sessions.proofs.session.Session.run.Given as goal
 
 -- a run of the calls that are left, behind the replies so far, is a run of all
 abbrev pub invariant-loop-call : goal.invariant-loop-call
 invariant-loop-call g l = record {
-  run : (rest : _) (last : _) → Run
-      (session_in (g.S.AnyStorage.state l.self-inside.store) l.self-inside.things.items)
-      (reverse l.calls.items) rest last
+  run : (rest : _) (last : _) → Run (session_in (g.S.AnyStorage.state l.self-inside.store)
+      l.self-inside.things.items) (reverse l.calls.items) rest last
       → Run l.fn.self l.fn.calls.items (as_replies l.replies.items ++ rest) last;
   things : vec_len l.self-inside.things + vec_len l.calls ≤ vec_capacity l.self-inside.things;
   replies : vec_len l.replies + vec_len l.calls ≤ vec_capacity l.replies;

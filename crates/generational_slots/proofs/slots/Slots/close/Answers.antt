@@ -3,12 +3,15 @@ use Rattle.std.proofs.Common.{sym, ◌∙◌}
 use Rattle.generational_slots.proofs.Common.{name_of_cell}
 use Rattle.generational_slots.proofs.states.Endings.{free_alone, free_closes, free_names_none}
 use Rattle.generational_slots.proofs.states.Endings.{free_there}
+use Rattle.generational_slots.proofs.states.Changes.{state_is}
+use Rattle.generational_slots.proofs.states.Reaching.{unborrowed_told}
 use Rattle.generational_slots.proofs.slots.Slots.close.Goals as goal
 
 pub remove-requires : goal.remove-requires
 remove-requires g c =
     let S = c.args.self.now.state in
-    let free = sym c.has_unborrowed_value.ensures ∙ c.if-has_unborrowed_value.true in
+    let free = unborrowed_told c.self.inside.entries.slots (state_is c.self.view_is) (name_of_cell c.args.name)
+    c.has_unborrowed_value.ensures c.if-has_unborrowed_value.true in
     record {
       there = free_there S (name_of_cell c.args.name) c.requires free;
       target = free_names_none S (name_of_cell c.args.name) c.requires free;
@@ -18,5 +21,6 @@ remove-requires g c =
 pub returns-then-has_unborrowed_value : goal.returns-then-has_unborrowed_value
 returns-then-has_unborrowed_value g c =
     let S = c.args.self.now.state in
-    let free = sym c.has_unborrowed_value.ensures ∙ c.if-has_unborrowed_value.true in
+    let free = unborrowed_told c.self.inside.entries.slots (state_is c.self.view_is) (name_of_cell c.args.name)
+    c.has_unborrowed_value.ensures c.if-has_unborrowed_value.true in
     c.remove.ensures ∙ free_closes S (name_of_cell c.args.name) c.requires free

@@ -9,7 +9,7 @@ use Rattle.generational_slots.specs.Slotted.{Slotted}
 use Rattle.generational_slots.proofs.Common.{State, name_of_cell}
 use Rattle.generational_slots.proofs.states.Endings.{reference_closes, reference_left, value_closes}
 use Rattle.generational_slots.proofs.states.Endings.{without}
-use Rattle.generational_slots.proofs.states.Changes.{has_target}
+use Rattle.generational_slots.proofs.states.Changes.{cell_seen, has_target, state_is}
 use Rattle.generational_slots.proofs.slots.Slots.close_any.Goals as goal
 use Rattle.generational_slots.proofs.slots.Slots.close_any.Goals.{in-Some, in_default}
 
@@ -17,17 +17,19 @@ pub remove-requires-then-is_reference : goal.remove-requires-then-is_reference
 remove-requires-then-is_reference g c =
     let S = c.args.self.now.state in
     let n = name_of_cell c.args.name in
+    let told = c.target-target.ensures
+    ∙ ap target_in (cell_seen c.self.inside.entries.slots (state_is c.self.view_is) n) in
     let gone : c.match-doomed.self.state ≡ without S (option_map name_of_cell c.doomed.result) =
     elim c.match-doomed.branch [
       | in-Some w ↦ ap (λ (x : Slotted _). x.state) w.self-is ∙ rw w.in-Some.is w.remove.ensures
       | in_default w ↦ ap (λ (x : Slotted _). x.state) w.self-is ∙ rw w.in_default.is refl
     ] in
-    let names = has_target name_of_cell c.target-target.result c.target-target.ensures
+    let names = has_target name_of_cell c.target-target.result told
     (sym c.is_some-is_reference.ensures ∙ c.if-is_reference.true) in
     let left = reference_left S n c.requires _ c.doomed.ensures names in
     rw gone (record {
       there = ap is_some left ∙ target_there (map.get S.cells n) names;
-      target = c.target-target.ensures ∙ ap target_in (sym left);
+      target = told ∙ ap target_in (sym left);
       alone = λ is. absurd (false≢true is);
     })
 
@@ -35,6 +37,8 @@ pub returns-then-is_reference : goal.returns-then-is_reference
 returns-then-is_reference g c =
     let S = c.args.self.now.state in
     let n = name_of_cell c.args.name in
+    let told = c.target-target.ensures
+    ∙ ap target_in (cell_seen c.self.inside.entries.slots (state_is c.self.view_is) n) in
     let gone : c.match-doomed.self.state ≡ without S (option_map name_of_cell c.doomed.result) =
     elim c.match-doomed.branch [
       | in-Some w ↦ ap (λ (x : Slotted _). x.state) w.self-is ∙ rw w.in-Some.is w.remove.ensures
@@ -43,18 +47,20 @@ returns-then-is_reference g c =
     c.remove-then-is_reference.ensures
     ∙ (ap (λ (X : State _). record X { cells = map.remove X.cells n }) gone
     ∙ reference_closes S n c.requires _ c.doomed.ensures
-    (has_target name_of_cell c.target-target.result c.target-target.ensures
+    (has_target name_of_cell c.target-target.result told
     (sym c.is_some-is_reference.ensures ∙ c.if-is_reference.true)))
 
 pub returns-else-is_reference : goal.returns-else-is_reference
 returns-else-is_reference g c =
     let S = c.args.self.now.state in
     let n = name_of_cell c.args.name in
+    let told = c.target-target.ensures
+    ∙ ap target_in (cell_seen c.self.inside.entries.slots (state_is c.self.view_is) n) in
     let gone : c.match-doomed.self.state ≡ without S (option_map name_of_cell c.doomed.result) =
     elim c.match-doomed.branch [
       | in-Some w ↦ ap (λ (x : Slotted _). x.state) w.self-is ∙ rw w.in-Some.is w.remove.ensures
       | in_default w ↦ ap (λ (x : Slotted _). x.state) w.self-is ∙ rw w.in_default.is refl
     ] in
     gone ∙ value_closes S n c.requires _ c.doomed.ensures
-    (has_target name_of_cell c.target-target.result c.target-target.ensures
+    (has_target name_of_cell c.target-target.result told
     (sym c.is_some-is_reference.ensures ∙ c.if-is_reference.false))

@@ -1,17 +1,23 @@
 -- The end of a name, unless a borrow stands in the way.
-use Rattle.std.proofs.Common.{sym, ◌∙◌, Err, subst}
+use Rattle.std.proofs.Common.{sym, ◌∙◌, Err, Ok, subst}
 use Rattle.generational_entries.specs.Entry.{FoundBorrowed}
 use Rattle.generational_slots.proofs.Common.{name_of_cell}
 use Rattle.generational_slots.proofs.states.Endings.{doomed_hinders}
+use Rattle.generational_slots.proofs.states.Changes.{held_within, state_is}
+use Rattle.generational_slots.proofs.states.Reaching.{doomed_held, doomed_told}
 use Rattle.generational_slots.proofs.slots.Slots.end_any.Goals as goal
 use Rattle.generational_slots.proofs.slots.Slots.end_any.Goals.{in-Some+in-Ok, in_default}
+
+pub borrow_mut_error-requires : goal.borrow_mut_error-requires
+borrow_mut_error-requires g c =
+    held_within (doomed_held c.self.inside.entries.slots (state_is c.self.view_is) c.requires (name_of_cell c.args.name) _ c.in-Some.ensures)
 
 pub returns-in-Err-clause-found : goal.returns-in-Err-clause-found
 returns-in-Err-clause-found g c =
     let S = c.args.self.now.state in
     subst (λ t. FoundBorrowed t (Err c.in-Err.refused))
     (sym (doomed_hinders S (name_of_cell c.args.name) c.requires _ c.in-Some.ensures))
-    c.in-Err.ensures
+    (doomed_told c.self.inside.entries.slots (state_is c.self.view_is) c.requires (name_of_cell c.args.name) _ c.in-Some.ensures (Err c.in-Err.refused) c.in-Err.ensures)
 
 pub returns-clause-found : goal.returns-clause-found
 returns-clause-found g c =
@@ -19,7 +25,7 @@ returns-clause-found g c =
     elim c.match-doomed.branch [
       | in-Some+in-Ok w ↦
           doomed_hinders S (name_of_cell c.args.name) c.requires _ w.in-Some.ensures
-          ∙ w.in-Ok.ensures
+          ∙ doomed_told c.self.inside.entries.slots (state_is c.self.view_is) c.requires (name_of_cell c.args.name) _ w.in-Some.ensures (Ok tt) w.in-Ok.ensures
       | in_default w ↦
           doomed_hinders S (name_of_cell c.args.name) c.requires _ w.in_default.ensures
     ]

@@ -93,8 +93,8 @@ invariant_of-self g c =
       omega (arith, inv.3),
     )
 
-pub returns-clause-ok : goal.returns-clause-ok
-returns-clause-ok g c =
+pub returns : goal.returns
+returns g c =
     let inv = c.self.invariant in
     let view = state_is c.self.view_is in
     let none = set.empty_of_len _ (free_seen inv.0 view ∙ c.requires.none) in
@@ -105,18 +105,16 @@ returns-clause-ok g c =
     let most = ap (λ k. k.peak) (one_made c.self.inside.counts (length slots) inv.3) in
     let spare = ap (λ x. x.spare) c.self.view_is in
     let more = ap length c.refer.ensures.slots ∙ (more_length c.push.new.self.slots _
-    ∙ (ap length c.push.ensures.pushed ∙ length-append slots _)) in (
-      record {
-        fits = rw (c.len.ensures, ← view) (new_pushed inv.0 (kept_data [] l d) cell.0 cell.1 none);
-        added = rw cell.1 (rw (
-          more,
-          most,
-          c.refer.ensures.slots,
-          c.push.ensures.pushed,
-          c.len.ensures,
-          ← view,
-        ) (more_state _ _ _ _ ∙ state_pushed inv.0 (kept_data [] l d) cell.0 cell.1 none));
-        room = omega (arith, spare, more);
-      },
-      (c.in_default.ensures.known, c.in_default.ensures.ok),
-    )
+    ∙ (ap length c.push.ensures.pushed ∙ length-append slots _)) in
+    record {
+      fits = rw (c.len.ensures, ← view) (new_pushed inv.0 (kept_data [] l d) cell.0 cell.1 none);
+      added = rw cell.1 (rw (
+        more,
+        most,
+        c.refer.ensures.slots,
+        c.push.ensures.pushed,
+        c.len.ensures,
+        ← view,
+      ) (more_state _ _ _ _ ∙ state_pushed inv.0 (kept_data [] l d) cell.0 cell.1 none));
+      room = omega (arith, spare, more);
+    }

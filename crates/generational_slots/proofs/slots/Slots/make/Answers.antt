@@ -1,15 +1,14 @@
 -- A cell in a slot that is free, or in a new one.
 use Rattle.std.proofs.Common.{arith, ap, sym, ◌≡◌, ◌∙◌, ◌+◌, ◌<◌, [], IfSome, length, true, subst}
-use Rattle.std.proofs.Common.{slice_get, option_copied}
+use Rattle.std.proofs.Common.{slice_get}
 use Rattle.std.proofs.lemmas.List.{length-set}
 use Rattle.std.specs.FinMap as map
 use Rattle.std.specs.FinSet as set
 use Rattle.std.specs.Ordering.{nat_cmp}
 use Rattle.generational_entries.specs.Entries.{kept_data, target_of}
 use Rattle.generational_slots.proofs.Common.{HasTargets, free, is_shared}
-use Rattle.generational_containers.proofs.lists.Lists.{not_left, put_back}
 use Rattle.generational_slots.proofs.states.Changes.{next_told, state_is}
-use Rattle.generational_slots.proofs.states.Counting.{err_holds, if_named, lacking_refused}
+use Rattle.generational_slots.proofs.states.Counting.{err_holds, if_named}
 use Rattle.generational_slots.proofs.states.Counting.{made_few}
 use Rattle.generational_slots.proofs.states.Counting.{made_referred, made_within, more_length}
 use Rattle.generational_slots.proofs.states.Counting.{more_slotted, more_state, new_fresh}
@@ -21,8 +20,8 @@ use Rattle.generational_slots.proofs.states.Makings.{same_generation}
 use Rattle.generational_slots.proofs.states.States.{free_are, free_seen}
 use Rattle.generational_slots.proofs.slots.Slots.make.Goals as goal
 
-pub returns-then-is_err-clause-refused : goal.returns-then-is_err-clause-refused
-returns-then-is_err-clause-refused g c =
+pub returns-then-is_err-clause-needed : goal.returns-then-is_err-clause-needed
+returns-then-is_err-clause-needed g c =
     let inv = c.self.invariant in
     let view = state_is c.self.view_is in
     let none = ap set.len c.in_default.ensures.none ∙ set.len-empty nat_cmp in
@@ -30,9 +29,7 @@ returns-then-is_err-clause-refused g c =
     let same = ap set.len c.in_default.ensures.unchanged in
     let full = err_holds c.reserve_one.result (sym c.is_err.ensures.value ∙ c.if-is_err.true)
     c.reserve_one.ensures.needed in
-    lacking_refused c.args.self.now c.args.number c.args.records.now (option_copied c.args.owner) _
-    c.lacking.ensures
-    (sym (free_seen inv.0 view) ∙ none) (omega (arith, spare, same, full, c.take.ensures.rooms))
+    (sym (free_seen inv.0 view) ∙ none, omega (arith, spare, same, full, c.take.ensures.rooms))
 
 pub extend-requires-clause-none : goal.extend-requires-clause-none
 extend-requires-clause-none g c =
@@ -47,27 +44,6 @@ extend-requires-clause-linked g c =
 
 pub generation-requires : goal.generation-requires
 generation-requires g c = taken_within c.self.invariant.0 _ c.in-Some.ensures.member
-
-pub put-requires-clause-room : goal.put-requires-clause-room
-put-requires-clause-room g c =
-    let within = taken_within c.self.invariant.0 _ c.in-Some.ensures.member in
-    let room = c.self.invariant.0.roomy in
-    omega (arith, within, c.take.ensures.rooms)
-
-pub put-requires-clause-absent : goal.put-requires-clause-absent
-put-requires-clause-absent g c =
-    ap (λ free. set.contains free c.in-Some.slot) c.in-Some.ensures.taken
-    ∙ not_left _ _ c.in-Some.ensures.member
-
-pub invariant_of-self-in-Err : goal.invariant_of-self-in-Err
-invariant_of-self-in-Err g c =
-    let inv = c.self.invariant in (
-      rw (c.put.ensures.added, c.in-Some.ensures.taken, put_back _ _ c.in-Some.ensures.member)
-          (rw (c.put.ensures.rooms, c.take.ensures.rooms) inv.0),
-      rw (c.put.ensures.rooms, c.take.ensures.rooms) inv.1,
-      inv.2,
-      inv.3,
-    )
 
 pub refill-requires-clause-within : goal.refill-requires-clause-within
 refill-requires-clause-within g c = taken_within c.self.invariant.0 _ c.in-Some.ensures.member
@@ -167,18 +143,16 @@ returns-clause-ok g c =
     let less = taken_less inv.0 _ m in
     let free = ap set.len c.in-Some.ensures.taken in
     let long = ap length c.refer.ensures.slots ∙ (more_length c.refill.new.self.slots _
-    ∙ (ap length c.refill.ensures.filled ∙ length-set slots c.in-Some.slot _)) in (
-      record {
-        fits = rw (← view)
-            (new_reused inv.0 (kept_data [] l d) cell.0 cell.1 _ m (c.generation.result + 1) next);
-        added = rw cell.1 (rw (
-          long,
-          c.refer.ensures.slots,
-          c.refill.ensures.filled,
-          same,
-          ← view,
-        ) (more_state _ _ _ _ ∙ state_reused inv.0 (kept_data [] l d) cell.0 cell.1 _ m _ next));
-        room = omega (arith, spare, less, free, long, c.take.ensures.rooms);
-      },
-      (c.in_default-list_for.ensures.known, c.in_default-list_for.ensures.ok),
-    )
+    ∙ (ap length c.refill.ensures.filled ∙ length-set slots c.in-Some.slot _)) in
+    record {
+      fits = rw (← view)
+          (new_reused inv.0 (kept_data [] l d) cell.0 cell.1 _ m (c.generation.result + 1) next);
+      added = rw cell.1 (rw (
+        long,
+        c.refer.ensures.slots,
+        c.refill.ensures.filled,
+        same,
+        ← view,
+      ) (more_state _ _ _ _ ∙ state_reused inv.0 (kept_data [] l d) cell.0 cell.1 _ m _ next));
+      room = omega (arith, spare, less, free, long, c.take.ensures.rooms);
+    }

@@ -1,20 +1,22 @@
-use Rattle.std.proofs.Common.{◌≡◌}
+use Rattle.std.proofs.Common.{◌≡◌, refl, sym}
 use Rattle.generational_core.specs.Machine.{has_reader}
 use Rattle.generational_entries.specs.Entry.{less_read}
 use Rattle.generational_slots.proofs.Common.{name_of_cell}
-use Rattle.generational_slots.proofs.states.Changes.{changed_length, filled_in, held_in}
-use Rattle.generational_slots.proofs.states.Changes.{held_within}
+use Rattle.generational_slots.proofs.states.Changes.{changed_in, changed_length, held_told}
+use Rattle.generational_slots.proofs.states.Changes.{held_within, not_told}
 use Rattle.generational_slots.proofs.states.Changes.{referred_changed, seen_in, slotted_changed}
 use Rattle.generational_slots.proofs.states.Changes.{state_is}
 use Rattle.generational_slots.proofs.slots.Slots.release_read.Goals as goal
 
 pub release_read-requires : goal.release_read-requires
 release_read-requires g c =
-    held_within (held_in (state_is c.self.view_is) (name_of_cell c.args.name) c.requires)
+    held_within (held_told (state_is c.self.view_is) (name_of_cell c.args.name)
+    c.if-holds.ensures)
 
 pub invariant_of-self : goal.invariant_of-self
 invariant_of-self g c =
-    let f = held_in (state_is c.self.view_is) (name_of_cell c.args.name) c.requires in
+    let f = held_told (state_is c.self.view_is) (name_of_cell c.args.name)
+    c.if-holds.ensures in
     let inv = c.self.invariant in
     let released = c.release_read.ensures in (
       rw (released.after, changed_length f (less_read c.args.ticket))
@@ -24,17 +26,23 @@ invariant_of-self g c =
       rw (released.after, changed_length f (less_read c.args.ticket)) inv.3,
     )
 
-pub returns-clause-known : goal.returns-clause-known
-returns-clause-known g c =
+pub returns-then-holds-clause-known : goal.returns-then-holds-clause-known
+returns-then-holds-clause-known g c =
     let view = state_is c.self.view_is in
     let n = name_of_cell c.args.name in
-    seen_in view n (held_in view n c.requires) (λ o. has_reader o c.args.ticket)
+    seen_in view n (held_told view n c.if-holds.ensures) (λ o. has_reader o c.args.ticket)
     (λ b. c.release_read.result ≡ b) c.release_read.ensures.known
 
-pub returns-clause-after : goal.returns-clause-after
-returns-clause-after g c =
+pub returns-then-holds-clause-after : goal.returns-then-holds-clause-after
+returns-then-holds-clause-after g c =
     let view = state_is c.self.view_is in
     let n = name_of_cell c.args.name in
-    let f = held_in view n c.requires in
+    let f = held_told view n c.if-holds.ensures in
     rw (c.release_read.ensures.after, changed_length f (less_read c.args.ticket))
-    (filled_in view n f (less_read c.args.ticket))
+    (changed_in view n f (less_read c.args.ticket))
+
+pub returns-else-holds-clause-known : goal.returns-else-holds-clause-known
+returns-else-holds-clause-known g c = rw (c.if-holds.false, not_told c.self.inside.entries.slots (state_is c.self.view_is) (name_of_cell c.args.name) c.if-holds.ensures) refl
+
+pub returns-else-holds-clause-after : goal.returns-else-holds-clause-after
+returns-else-holds-clause-after g c = rw (not_told c.self.inside.entries.slots (state_is c.self.view_is) (name_of_cell c.args.name) c.if-holds.ensures) refl

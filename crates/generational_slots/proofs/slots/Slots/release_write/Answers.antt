@@ -1,20 +1,20 @@
-use Rattle.std.proofs.Common.{◌≡◌, ◌∙◌, ◌↔◌, ap, length, true, [], IsTrue, is_ok}
+use Rattle.std.proofs.Common.{◌≡◌, ◌∙◌, ◌↔◌, ap, length, sym, true, [], IsTrue, is_ok}
 use Rattle.generational_core.specs.Machine.{has_writer}
 use Rattle.generational_slots.proofs.Common.{count_of, fill, name_of_cell, state_of, Here}
 use Rattle.generational_entries.proofs.states.Entries.{ok_then}
 use Rattle.generational_slots.proofs.states.Changes.{back_then, changed}
-use Rattle.generational_slots.proofs.states.Changes.{changed_length, held_in, held_within}
+use Rattle.generational_slots.proofs.states.Changes.{changed_length, held_told, held_within, not_told}
 use Rattle.generational_slots.proofs.states.Changes.{referred_changed, returned, seen_in}
 use Rattle.generational_slots.proofs.states.Changes.{slotted_changed, state_changed, state_is}
 use Rattle.generational_slots.proofs.slots.Slots.release_write.Goals as goal
 
 pub release_write-requires : goal.release_write-requires
 release_write-requires g c =
-    held_within (held_in (state_is c.self.view_is) (name_of_cell c.args.name) c.requires)
+    held_within (held_told (state_is c.self.view_is) (name_of_cell c.args.name) c.if-holds.ensures)
 
 pub invariant_of-self : goal.invariant_of-self
 invariant_of-self g c =
-    let f = held_in (state_is c.self.view_is) (name_of_cell c.args.name) c.requires in
+    let f = held_told (state_is c.self.view_is) (name_of_cell c.args.name) c.if-holds.ensures in
     let inv = c.self.invariant in
     let back = c.release_write.ensures in (
       returned c.args.value c.release_write.result back.ok back.err
@@ -30,18 +30,18 @@ invariant_of-self g c =
           (λ e. rw (ap (λ x. x.slots) e) inv.3),
     )
 
-pub returns-clause-known : goal.returns-clause-known
-returns-clause-known g c =
+pub returns-then-holds-clause-known : goal.returns-then-holds-clause-known
+returns-then-holds-clause-known g c =
     let view = state_is c.self.view_is in
     let n = name_of_cell c.args.name in
-    seen_in view n (held_in view n c.requires) (λ o. has_writer o c.args.ticket)
+    seen_in view n (held_told view n c.if-holds.ensures) (λ o. has_writer o c.args.ticket)
     (λ b. IsTrue (is_ok c.release_write.result) ↔ (b ≡ true)) c.release_write.ensures.known
 
-pub returns-clause-ok : goal.returns-clause-ok
-returns-clause-ok g c =
+pub returns-then-holds-clause-ok : goal.returns-then-holds-clause-ok
+returns-then-holds-clause-ok g c =
     let view = state_is c.self.view_is in
     let n = name_of_cell c.args.name in
-    let f = held_in view n c.requires in
+    let f = held_told view n c.if-holds.ensures in
     ok_then c.release_write.result
     (λ (e : c.release_write.new.self.slots ≡ changed f (λ d. Here c.args.value [])).
     rw (e, changed_length f (λ d. Here c.args.value []))
@@ -49,9 +49,12 @@ returns-clause-ok g c =
     ∙ ap (λ S. fill S n (Here c.args.value [])) view))
     c.release_write.ensures.ok
 
-pub returns-clause-err : goal.returns-clause-err
-returns-clause-err g c =
+pub returns-then-holds-clause-err : goal.returns-then-holds-clause-err
+returns-then-holds-clause-err g c =
     back_then c.args.value c.release_write.result
     (λ e. ap (λ x. state_of c.self.inside.start
     (count_of c.self.inside.counts (length x.slots)).peak x.slots) e
     ∙ state_is c.self.view_is) c.release_write.ensures.err
+
+pub returns-clause-known : goal.returns-clause-known
+returns-clause-known g c = rw (not_told c.self.inside.entries.slots (state_is c.self.view_is) (name_of_cell c.args.name) c.if-holds.ensures) (λ h. h, λ h. h)

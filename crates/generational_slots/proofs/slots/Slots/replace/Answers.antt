@@ -1,27 +1,37 @@
-use Rattle.std.proofs.Common.{◌≡◌, true, Some, []}
-use Rattle.generational_entries.specs.Entry.{has_no_borrow}
-use Rattle.generational_slots.proofs.Common.{name_of_cell, Here}
+use Rattle.std.proofs.Common.{◌≡◌, ◌∙◌, ap, sym, true, Some, []}
+use Rattle.std.proofs.lemmas.Bool.{false≢true}
+use Rattle.generational_slots.specs.Slotted.{content_reached}
+use Rattle.generational_slots.proofs.Common.{has_no_borrow, name_of_cell, Here}
 use Rattle.generational_slots.proofs.states.Changes.{changed_length, heard_in, held_in, held_within}
 use Rattle.generational_slots.proofs.states.Changes.{referred_changed, seen_in, slotted_changed}
 use Rattle.generational_slots.proofs.states.Changes.{state_changed, state_is, unborrowed_there}
+use Rattle.generational_slots.proofs.states.Reaching.{reached_free, reached_seen}
 use Rattle.generational_slots.proofs.slots.Slots.replace.Goals as goal
 
 pub replace-requires-clause-within : goal.replace-requires-clause-within
 replace-requires-clause-within g c =
-    held_within (held_in (state_is c.self.view_is) (name_of_cell c.args.name)
-    (unborrowed_there _ c.requires))
+    let view = state_is c.self.view_is in
+    let to = reached_seen c.self.inside.entries.slots view (name_of_cell c.args.name) c.in-Some.ensures in
+    held_within (held_in view _ (unborrowed_there _ (reached_free c.args.self.now.state to c.requires)))
 
 pub replace-requires-clause-free : goal.replace-requires-clause-free
 replace-requires-clause-free g c =
     let view = state_is c.self.view_is in
-    let n = name_of_cell c.args.name in
-    heard_in view n (held_in view n (unborrowed_there _ c.requires)) has_no_borrow (λ b. b ≡ true)
-    c.requires
+    let to = reached_seen c.self.inside.entries.slots view (name_of_cell c.args.name) c.in-Some.ensures in
+    let free = reached_free c.args.self.now.state to c.requires in
+    heard_in view _ (held_in view _ (unborrowed_there _ free)) has_no_borrow (λ b. b ≡ true) free
+
+pub unreachable-requires : goal.unreachable-requires
+unreachable-requires g c =
+    let none = reached_seen c.self.inside.entries.slots (state_is c.self.view_is)
+    (name_of_cell c.args.name) c.in_default.ensures in
+    false≢true (ap (λ o. has_no_borrow (content_reached c.args.self.now.state o)) none ∙ c.requires)
 
 pub invariant_of-self : goal.invariant_of-self
 invariant_of-self g c =
-    let f = held_in (state_is c.self.view_is) (name_of_cell c.args.name)
-    (unborrowed_there _ c.requires) in
+    let view = state_is c.self.view_is in
+    let to = reached_seen c.self.inside.entries.slots view (name_of_cell c.args.name) c.in-Some.ensures in
+    let f = held_in view _ (unborrowed_there _ (reached_free c.args.self.now.state to c.requires)) in
     let inv = c.self.invariant in
     let written = c.replace.ensures in (
       rw (written.after, changed_length f (λ d. Here c.args.value []))
@@ -34,14 +44,15 @@ invariant_of-self g c =
 pub returns-clause-value : goal.returns-clause-value
 returns-clause-value g c =
     let view = state_is c.self.view_is in
-    let n = name_of_cell c.args.name in
-    seen_in view n (held_in view n (unborrowed_there _ c.requires)) (λ o. o)
-    (λ o. o ≡ Some (Here c.replace.result [])) c.replace.ensures.value
+    let to = reached_seen c.self.inside.entries.slots view (name_of_cell c.args.name) c.in-Some.ensures in
+    let free = reached_free c.args.self.now.state to c.requires in
+    rw (← to) (seen_in view _ (held_in view _ (unborrowed_there _ free)) (λ o. o)
+    (λ o. o ≡ Some (Here c.replace.result [])) c.replace.ensures.value)
 
 pub returns-clause-after : goal.returns-clause-after
 returns-clause-after g c =
     let view = state_is c.self.view_is in
-    let n = name_of_cell c.args.name in
-    let f = held_in view n (unborrowed_there _ c.requires) in
-    rw (c.replace.ensures.after, changed_length f (λ d. Here c.args.value []), ← view)
-    (state_changed f (λ d. Here c.args.value []) _ _)
+    let to = reached_seen c.self.inside.entries.slots view (name_of_cell c.args.name) c.in-Some.ensures in
+    let f = held_in view _ (unborrowed_there _ (reached_free c.args.self.now.state to c.requires)) in
+    rw (← to) (rw (c.replace.ensures.after, changed_length f (λ d. Here c.args.value []), ← view)
+    (state_changed f (λ d. Here c.args.value []) _ _))

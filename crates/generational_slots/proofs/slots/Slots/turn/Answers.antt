@@ -1,5 +1,5 @@
 -- A reference that names another shared value, and its old target.
-use Rattle.std.proofs.Common.{ap, sym, ◌≡◌, ◌∙◌, None, Some, refl}
+use Rattle.std.proofs.Common.{ap, sym, ◌≡◌, ◌∙◌, None, Some, refl, Err, Ok}
 use Rattle.std.proofs.Common.{true, false}
 use Rattle.std.proofs.lemmas.Bool.{false≢true}
 use Rattle.std.specs.FinMap as map
@@ -7,6 +7,8 @@ use Rattle.generational_slots.proofs.Common.{Ref, State, is_name}
 use Rattle.generational_slots.proofs.Common.{name_of_cell, name_test}
 use Rattle.generational_slots.proofs.states.Turns.{doomed_left, reference_cell, turns_done}
 use Rattle.generational_slots.proofs.states.Turns.{turns_refused, turns_same}
+use Rattle.generational_slots.proofs.states.Changes.{held_within, state_is}
+use Rattle.generational_slots.proofs.states.Reaching.{doomed_held, doomed_told}
 use Rattle.generational_slots.proofs.slots.Slots.turn.Goals as goal
 
 pub returns-then-eq : goal.returns-then-eq
@@ -19,6 +21,10 @@ returns-then-eq g c =
     let same : is_name o m ≡ true = name_test o m ∙ sym c.if-eq.ensures in
     rw r.1 (turns_same S n o m r.0 c.requires.linked r.1 same)
 
+pub borrow_mut_error-requires : goal.borrow_mut_error-requires
+borrow_mut_error-requires g c =
+    held_within (doomed_held c.self.inside.entries.slots (state_is c.self.view_is) c.requires.linked (name_of_cell c.args.name) _ c.in-Some.ensures)
+
 pub returns-in-Err : goal.returns-in-Err
 returns-in-Err g c =
     let S = c.args.self.now.state in
@@ -28,7 +34,8 @@ returns-in-Err g c =
     let r = reference_cell (map.get S.cells n) o c.requires.refers in
     let other : is_name o m ≡ false = name_test o m ∙ sym c.if-eq.ensures in
     rw r.1 (turns_refused S n o m r.0 c.requires.linked r.1 other _ c.in-Some.ensures
-    c.in-Err.refused c.in-Err.ensures)
+    c.in-Err.refused
+    (doomed_told c.self.inside.entries.slots (state_is c.self.view_is) c.requires.linked (name_of_cell c.args.name) _ c.in-Some.ensures (Err c.in-Err.refused) c.in-Err.ensures))
 
 pub returns-in_default : goal.returns-in_default
 returns-in_default g c =
@@ -75,7 +82,8 @@ returns g c =
       cells = map.insert S.cells n (Ref m r.0);
     } = rw r.1 at c.redirect-2.ensures in
     rw r.1 (turns_done S n o m r.0 c.requires.linked r.1 other
-    (Some (name_of_cell c.in-Some.doomed)) c.in-Some.ensures _ c.in-Ok.ensures
+    (Some (name_of_cell c.in-Some.doomed)) c.in-Some.ensures _
+    (doomed_told c.self.inside.entries.slots (state_is c.self.view_is) c.requires.linked (name_of_cell c.args.name) _ c.in-Some.ensures (Ok tt) c.in-Ok.ensures)
     (c.remove.ensures ∙ ap (λ (X : State _). record X {
       cells = map.remove X.cells (name_of_cell c.in-Some.doomed);
     }) redirected))

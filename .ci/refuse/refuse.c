@@ -1,0 +1,121 @@
+/* Refuses one thing that the program asks of the system into which this is preloaded: the
+   allocation, the read of standard input or the write to a stream that REFUSE_ALLOCATION,
+   REFUSE_READ or REFUSE_WRITE counts to, from 1. Zero, or nothing, refuses none. REFUSE_BEYOND is
+   how many bytes may be allocated at once: what would be more is refused. A read of standard input
+   gives one line at most. At the end the file REFUSE_REPORT is written: how many of each were asked
+   for, and whether one was refused. */
+#define _GNU_SOURCE
+#include <errno.h>
+#include <fcntl.h>
+#include <malloc.h>
+#include <stdio.h>
+#include <stdlib.h>
+#include <sys/syscall.h>
+#include <unistd.h>
+
+extern void *__libc_malloc(size_t);
+extern void *__libc_calloc(size_t, size_t);
+extern void *__libc_realloc(void *, size_t);
+extern void *__libc_memalign(size_t, size_t);
+extern void __libc_free(void *);
+
+struct counter {
+  const char *name;
+  long at, asked;
+};
+
+static struct counter allocations = {"REFUSE_ALLOCATION", -1, 0};
+static struct counter reads = {"REFUSE_READ", -1, 0};
+static struct counter writes = {"REFUSE_WRITE", -1, 0};
+static int refused = 0;
+
+static int refuses(struct counter *counter, int cause) {
+  if (counter->at < 0) {
+    const char *at = getenv(counter->name);
+    counter->at = at ? atol(at) : 0;
+  }
+  counter->asked++;
+  if (counter->asked != counter->at) return 0;
+  refused = 1;
+  errno = cause;
+  return 1;
+}
+
+/* How many bytes are allocated now. A reallocation has the old block and the new one for a while. */
+static size_t live = 0, most = 0;
+
+static int has_no_room(size_t size) {
+  static int asked = 0;
+  if (!asked) {
+    const char *beyond = getenv("REFUSE_BEYOND");
+    most = beyond ? strtoull(beyond, NULL, 10) : 0;
+    asked = 1;
+  }
+  if (!refuses(&allocations, ENOMEM) && (!most || live + size <= most)) return 0;
+  refused = 1;
+  errno = ENOMEM;
+  return 1;
+}
+
+static void *counted(void *made) {
+  live += malloc_usable_size(made);
+  return made;
+}
+
+void free(void *old) {
+  live -= malloc_usable_size(old);
+  __libc_free(old);
+}
+
+void *malloc(size_t size) { return has_no_room(size) ? NULL : counted(__libc_malloc(size)); }
+
+void *calloc(size_t count, size_t size) {
+  return has_no_room(count * size) ? NULL : counted(__libc_calloc(count, size));
+}
+
+void *realloc(void *old, size_t size) {
+  if (has_no_room(size)) return NULL;
+  size_t before = malloc_usable_size(old);
+  void *made = __libc_realloc(old, size);
+  if (made) live -= before;
+  return counted(made);
+}
+
+void *aligned_alloc(size_t align, size_t size) {
+  return has_no_room(size) ? NULL : counted(__libc_memalign(align, size));
+}
+
+int posix_memalign(void **made, size_t align, size_t size) {
+  *made = aligned_alloc(align, size);
+  return *made ? 0 : ENOMEM;
+}
+
+ssize_t read(int file, void *bytes, size_t room) {
+  if (file != 0) return syscall(SYS_read, file, bytes, room);
+  if (refuses(&reads, EIO)) return -1;
+  char *at = bytes;
+  size_t got = 0;
+  while (got < room) {
+    ssize_t one = syscall(SYS_read, file, at + got, 1);
+    if (one <= 0) return got > 0 ? (ssize_t)got : one;
+    if (at[got++] == '\n') break;
+  }
+  return got;
+}
+
+ssize_t write(int file, const void *bytes, size_t count) {
+  if (file == 1 && refuses(&writes, EIO)) return -1;
+  return syscall(SYS_write, file, bytes, count);
+}
+
+__attribute__((destructor)) static void report(void) {
+  const char *path = getenv("REFUSE_REPORT");
+  if (!path) return;
+  char text[96];
+  int length = snprintf(text, sizeof text, "%ld %ld %ld %d\n", allocations.asked, reads.asked,
+                        writes.asked, refused);
+  int file = open(path, O_CREAT | O_WRONLY | O_TRUNC, 0600);
+  if (file < 0) return;
+  if (syscall(SYS_write, file, text, length) != length) _exit(99);
+  close(file);
+}

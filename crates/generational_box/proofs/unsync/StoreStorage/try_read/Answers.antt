@@ -1,0 +1,35 @@
+use Rattle.std.proofs.Common.{ap, refl, subst, sym, ◌∙◌}
+use Rattle.generational_slots.specs.Slotted.{Slotted}
+use Rattle.generational_box.proofs.Common.{Meets, Read, with_records}
+use Rattle.generational_box.proofs.calls.Calls.{reach_own, reach_strange, read_gone, read_hindered}
+use Rattle.generational_box.proofs.calls.Calls.{read_own, state_is}
+use Rattle.generational_box.proofs.calls.EndCalls.{are_linked}
+use Rattle.generational_box.proofs.unsync.StoreStorage.try_read.Goals as goal
+
+pub returns-then-pointer-self : goal.returns-then-pointer-self
+returns-then-pointer-self g c =
+    let view = ap (λ (x : Slotted _). with_records x.state c.self.inside.number
+    c.self.inside.owners.owners c.self.inside.next) c.settle.ensures ∙ state_is c.self.view_is in
+    rw c.dropped.ensures (subst (Meets c.args.self.now.state
+    (Read c.args.pointer c.args.location) _) (sym view)
+    (read_gone c.args.pointer c.args.location
+    (reach_strange view c.args.pointer c.if-pointer-self.true)))
+
+pub readable-requires : goal.readable-requires
+readable-requires g c =
+    rw c.settle.ensures
+    (are_linked c.self.inside.slots.state (state_is c.self.view_is) c.args.self.now.sound)
+
+pub begin_read-requires-clause-to : goal.begin_read-requires-clause-to
+begin_read-requires-clause-to g c =
+    reach_own c.settle.new.self.state refl c.args.pointer c.cell_name.ensures
+    c.if-pointer-self.false ∙ c.in-Ok.ensures.ok.0
+
+pub returns-in-Err : goal.returns-in-Err
+returns-in-Err g c =
+    let view = ap (λ (x : Slotted _). with_records x.state c.self.inside.number
+    c.self.inside.owners.owners c.self.inside.next) c.settle.ensures ∙ state_is c.self.view_is in
+    subst (Meets c.args.self.now.state (Read c.args.pointer c.args.location) _) (sym view)
+    (read_hindered c.args.pointer c.args.location _
+    (read_own c.settle.new.self.state view c.args.pointer c.cell_name.ensures
+    c.if-pointer-self.false ∙ c.in-Err.ensures.err))

@@ -1,0 +1,117 @@
+-- Names of boxes: that they stay so, that they end for good, and what a box sees that was pointed
+-- elsewhere.
+use Rattle.std.specs.FinMap as map
+use Rattle.std.proofs.Common.{◌≡◌, ◌≤◌, true, false, cond, List, [], ◌∷◌, ◌||◌, Option, None, Some}
+use Rattle.std.proofs.Common.{refl, sym, ap, subst, ◌∙◌, ⊎_elim}
+use Rattle.std.specs.Prelude.{Result, Ok, Err, OnOk}
+use Rattle.std.specs.List.{AllByRecursion}
+use Rattle.std.proofs.lemmas.Bool.{true≢false, eqb-true, eq-eqb, or_cases}
+use Rattle.generational_core.specs.Answers.{end_answer, release_answer}
+use Rattle.generational_core.specs.Borrowing.{reach}
+use Rattle.generational_core.specs.Boxes.{name_of}
+use Rattle.generational_core.specs.Conditions.{IsEnded}
+use Rattle.generational_core.specs.Ending.{cells_after, close, hindrance_to}
+use Rattle.generational_core.specs.Machine.{Action, Answer, OwnerName, own_name, ownership}
+use Rattle.generational_core.specs.Machine.Action.{End, Point, ReleaseOwner}
+use Rattle.generational_core.specs.Machine.Answer.{Made, Done}
+use Rattle.generational_core.specs.Names.{Name, among}
+use Rattle.generational_core.specs.Seeing.{value_in}
+use Rattle.generational_core.specs.State.{State, IsSound, IsGiven, IsBoxed, Ownership}
+use Rattle.generational_core.specs.Steps.{Meets}
+use Rattle.generational_core.specs.declared.boxes.GenerationalPointer.{GenerationalPointer}
+use Rattle.generational_core.specs.declared.error.BorrowMutError.{BorrowMutError}
+use Rattle.generational_core.specs.declared.error.Refused.{Refused}
+use Rattle.generational_core.proofs.maps.Maps.{name_here, name_same}
+use Rattle.generational_core.proofs.machine.Calling.{points, unseen}
+use Rattle.generational_core.proofs.machine.Changes.{held_record}
+use Rattle.generational_core.proofs.machine.Releasing.{box_ends, done_only, last_cells, listed_boxed}
+use Rattle.generational_core.proofs.machine.Seeing.{kept_value, led_box, reached_live, reaches}
+use Rattle.generational_core.proofs.machine.Seeing.{value_in_reached}
+use Rattle.generational_core.proofs.machine.Soundness.{shared_still}
+use Rattle.generational_core.proofs.machine.Stepping.{meets_cases, meets_follows, meets_given}
+use Rattle.generational_core.proofs.machine.Stepping.{meets_says, meets_sound}
+
+module _ {T : Type 0} where
+  -- ---- names of boxes
+
+  -- a box that reaches something is the store's, and its name was given to a box
+  pub reached_boxed : (S : State T) (b : GenerationalPointer) (m : Name) → IsSound S
+      → reach S b ≡ Some m → (b.id.store ≡ S.number) × IsBoxed S (name_of b)
+  reached_boxed S b m s to =
+      let r = reaches S b m to in
+      let box = led_box _ (name_of b) m r.leads in
+      (eqb-true b.id.store S.number r.number, (s.given (name_of b) box.0, box.1))
+
+  module _ (S R : State T) (call : Action T) where
+    -- so it is of each box that a call gives
+    pub made_boxed : (b : GenerationalPointer) → Meets S call (Made b) R → IsBoxed R (name_of b)
+    made_boxed b m = (meets_says S R call (Made b) m).boxed
+
+    -- and it stays so
+    pub boxed_stays : (answer : Answer T) (n : Name) → IsSound S → Meets S call answer R
+        → IsBoxed S n → IsBoxed R n
+    boxed_stays answer n s m box = (
+      meets_given S R call answer m n box.0,
+      shared_still s (meets_follows S R call answer m) n box.0 box.1,
+    )
+
+  -- ---- ends
+
+  module _ {S R : State T} where
+    -- the name of a box has ended once the box was ended
+    pub ended : (b : GenerationalPointer) {U : Type 0} (r : Result U (Refused BorrowMutError))
+        → Meets S (End b) (end_answer r) R
+        → OnOk r (b.id.store ≡ S.number → IsBoxed S (name_of b) → IsEnded R (name_of b))
+    ended b (Ok u) m = λ own box. (
+      meets_given S R (End b) Done m (name_of b) box.0,
+      ap (λ (X : State T). map.get X.cells (name_of b)) left
+          ∙ (ap (λ o. map.get (cells_after S.cells (cond o (name_of b ∷ []) [])) (name_of b))
+          (eq-eqb b.id.store S.number own)
+          ∙ box_ends S.cells (name_of b ∷ []) (name_of b) box.1
+          (ap (λ x. x || false) (name_here (name_of b)))),
+    )
+      where
+        left : R ≡ close S (own_name S b)
+        left = ⊎_elim (λ refused. absurd (true≢false (sym refused.0)))
+            (λ acts. done_only (hindrance_to S (own_name S b)) S R _ acts.2)
+            (meets_cases S R (End b) Done m)
+    ended b (Err e) m = tt
+
+    -- so it is of each name of a list after its owner's last release
+    pub ended_owned : (o : OwnerName) {U V : Type 0} (r : Result U (V × Refused BorrowMutError))
+        → IsSound S → Meets S (ReleaseOwner o) (release_answer r) R
+        → OnOk r ((h : Ownership) (n : Name) → ownership S o ≡ Some h → h.count ≤ 1
+        → among h.names n ≡ true → IsEnded R n)
+    ended_owned o (Ok u) s m = λ h n held last there. (
+      meets_given S R (ReleaseOwner o) Done m n
+          (given h.names n (s.owned o.key h (held_record S o h held)) there),
+      ap (λ cells. map.get cells n) (last_cells (record { held = held; done = m }) last)
+          ∙ box_ends S.cells h.names n (listed_boxed S o h n s held there) there,
+    )
+      where
+        given : (names : List Name) (n : Name) → AllByRecursion (IsBoxed S) names
+            → among names n ≡ true → IsGiven S n
+        given [] n all there = absurd (true≢false (sym there))
+        given (k ∷ names) n all there = ⊎_elim
+            (λ is. subst (IsGiven S) (sym (name_same n k is)) all.0.0)
+            (λ rest. given names n all.1 rest) (or_cases _ _ there)
+    ended_owned o (Err e) s m = tt
+
+    -- ---- references that turn
+
+    -- a box that was pointed elsewhere sees what the other saw
+    pub points_seen : (a b : GenerationalPointer) {U : Type 0} (r : Result U (Refused BorrowMutError))
+        → IsSound S → Meets S (Point a b) (end_answer r) R → OnOk r (value_in R a ≡ value_in S b)
+    points_seen a b {U} (Ok u) s m = at (reach S b) refl
+      where
+        together : reach R a ≡ reach S b
+        together = points a b {U = U} (Ok u) m
+
+        at : (to : Option Name) → reach S b ≡ to → value_in R a ≡ value_in S b
+        at None is = unseen R a (together ∙ is) ∙ sym (unseen S b is)
+        at (Some n) is = value_in_reached R a n (together ∙ is)
+            ∙ (kept_value S R (Point a b) Done n s m (λ lent. lent) (λ set. set)
+            (reached_live S b n s is)
+            (reached_live R a n (meets_sound S R (Point a b) Done s m) (together ∙ is))
+            ∙ sym (value_in_reached S b n is))
+    points_seen a b (Err e) s m = tt

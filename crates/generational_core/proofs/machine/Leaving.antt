@@ -1,0 +1,254 @@
+-- What a call leaves of boxes, as equations: what a box reaches, the content there, and what it sees.
+use Rattle.std.specs.FinMap as map
+use Rattle.std.specs.FinSet as set
+use Rattle.std.proofs.Common.{◌≡◌, ◌≢◌, ℕ, Bool, true, false, cond, Option, None, Some, refl, sym, ap}
+use Rattle.std.proofs.Common.{subst, ◌∙◌, ⊎_elim, []}
+use Rattle.std.proofs.lemmas.Bool.{true≢false, cases_Bool}
+use Rattle.std.specs.Prelude.{is_some, nat_eq}
+use Rattle.generational_core.specs.Borrowing.{Trouble, reach, leads_to, read_trouble, write_trouble}
+use Rattle.generational_core.specs.Borrowing.{refusal_at, read_refusal, write_refusal}
+use Rattle.generational_core.specs.Boxes.{name_of}
+use Rattle.generational_core.specs.Cells.{Content, Cell, content_of}
+use Rattle.generational_core.specs.Cells.Cell.{Value, Shared, Ref}
+use Rattle.generational_core.specs.Cells.Content.{Here}
+use Rattle.generational_core.specs.Conditions.{names_in}
+use Rattle.generational_core.specs.Leaving.{GivesOther, IsBeside, IsLeft, LeavesContent}
+use Rattle.generational_core.specs.Machine.{Action, Answer, Fresh, Outcome, OwnerName, act, unless}
+use Rattle.generational_core.specs.Machine.{add_cell, cell_at, is_known, make, ownership, refer}
+use Rattle.generational_core.specs.Machine.Action.{Make, MakeShared, Refer, Read, ReleaseOwner}
+use Rattle.generational_core.specs.Machine.Action.{ReleaseReader}
+use Rattle.generational_core.specs.Machine.Answer.{Made}
+use Rattle.generational_core.specs.Names.{Name, among}
+use Rattle.generational_core.specs.Seeing.{value_in, LeavesBox, LeavesValue, Borrows}
+use Rattle.generational_core.specs.State.{State, IsSound, IsGiven, Ownership, content_at}
+use Rattle.generational_core.specs.Steps.{AreNew, Meets}
+use Rattle.generational_core.specs.declared.boxes.GenerationalPointer.{GenerationalPointer}
+use Rattle.generational_core.specs.declared.error.Location.{Location}
+use Rattle.generational_core.proofs.maps.Maps.{by_name, get-insert_here, get-insert_apart, name_cases}
+use Rattle.generational_core.proofs.machine.Calling.{unseen}
+use Rattle.generational_core.proofs.machine.Changes.{Filling, IsFilling, held_record, is_making}
+use Rattle.generational_core.proofs.machine.Changes.{new_content}
+use Rattle.generational_core.proofs.machine.Changes.Filling.{Reader, Writer, Leave, Return, Replace}
+use Rattle.generational_core.proofs.machine.Ends.{by_cond, none≢some}
+use Rattle.generational_core.proofs.machine.Seeing.{leaves_box, reach_stays, reached_live}
+use Rattle.generational_core.proofs.machine.Seeing.{refilled_leads, unlent, unset}
+use Rattle.generational_core.proofs.machine.Seeing.{value_stays}
+use Rattle.generational_core.proofs.machine.Soundness.{absent, keep_each}
+use Rattle.generational_core.proofs.machine.Stepping.{act_start, made_new, meets_cases, meets_follows}
+use Rattle.generational_core.proofs.machine.Stepping.{meets_number, meets_sound}
+use Rattle.generational_core.proofs.machine.Telling.{listed}
+
+module _ {T : Type 0} where
+  -- ---- a making, which gives another box
+
+  -- where a box of the store leads by a cell
+  abbrev led : State T → GenerationalPointer → Option (Cell T) → Option Name
+  led S b c = cond (nat_eq b.id.store S.number) (leads_to c (name_of b)) None
+
+  -- a cell under another name
+  added_beside : (S : State T) (n : Name) (c : Cell T) (b : GenerationalPointer)
+      → name_of b ≢ n → reach (add_cell S n c) b ≡ reach S b
+  unfolding reach
+  added_beside S n c b ne = ap (led S b) (get-insert_apart by_name S.cells n c (name_of b) ne)
+
+  -- and a Shared cell, which no box reaches by its name
+  shared_beside : (S : State T) (n : Name) (k : Content T) (l : Location) (b : GenerationalPointer)
+      → map.get S.cells n ≡ None → reach (add_cell S n (Shared k l)) b ≡ reach S b
+  unfolding reach
+  shared_beside S n k l b none = ⊎_elim
+      (λ is. ap (led S b) (ap (map.get (map.insert S.cells n (Shared k l))) is
+      ∙ get-insert_here by_name S.cells n (Shared k l))
+      ∙ sym (ap (led S b) (ap (map.get S.cells) is ∙ none)))
+      (λ ne. ap (led S b) (get-insert_apart by_name S.cells n (Shared k l) (name_of b) ne))
+      (name_cases (name_of b) n)
+
+  -- an outcome that gives another box lets a box reach what it reached
+  abbrev Reaches : State T → GenerationalPointer → Outcome T → Type 0
+  Reaches S b out = IsBeside out.0 b → reach out.1 b ≡ reach S b
+
+  reaches_unless : (S : State T) (b : GenerationalPointer) (t : Option Trouble) (out : Outcome T)
+      → Reaches S b out → Reaches S b (unless t S out)
+  reaches_unless S b None out h = h
+  reaches_unless S b (Some t) out h = λ _. refl
+
+  made_beside : (S Q : State T) (o : Option OwnerName) (n : Name) (c : Cell T) (l : Location)
+      (b : GenerationalPointer) → reach Q b ≡ reach S b → Reaches S b (make Q o n c l)
+  made_beside S Q o n c l b before other =
+      (listed (add_cell Q n c) o n b).0 ∙ (added_beside Q n c b (λ e. other (sym e)) ∙ before)
+
+  referred_beside : (S : State T) (o : Option OwnerName) (a b : GenerationalPointer)
+      (to : Option Name) (target : Option (Cell T)) (n : Name)
+      → Reaches S b (refer S o a to target n)
+  referred_beside S o a b (Some m) (Some (Shared c l)) n =
+      made_beside S S o n (Ref m l) l b refl
+  referred_beside S o a b to target n = λ _. refl
+
+  making_beside : (S : State T) → IsSound S → (call : Action T) (f : Fresh) → AreNew S call f
+      → is_making call ≡ true → (b : GenerationalPointer)
+      → GivesOther call (act S call f).0 b → reach (act S call f).1 b ≡ reach S b
+  making_beside S s (Make o v l) f new making b = by_cond (Reaches S b) (is_known S o)
+      (λ _. made_beside S S o f.first (Value (Here v []) l) l b refl) (λ _ _. refl)
+  making_beside S s (MakeShared o v l) f new making b = by_cond (Reaches S b) (is_known S o)
+      (λ _. made_beside S (add_cell S f.first (Shared (Here v []) l)) o f.second (Ref f.first l) l b
+      (shared_beside S f.first (Here v []) l b (absent S s f.first new.0.fresh))) (λ _ _. refl)
+  making_beside S s (Refer o a) f new making b = by_cond (Reaches S b) (is_known S o)
+      (λ _. reaches_unless S b (read_trouble S a) _
+      (referred_beside S o a b (reach S a) (cell_at S (reach S a)) f.first)) (λ _ _. refl)
+  making_beside S s _ f new making b = absurd (true≢false (sym making))
+
+  -- ---- what a box reaches
+
+  module _ (S R : State T) (call : Action T) (answer : Answer T) where
+    -- a box that reached nothing reaches nothing after a call that makes nothing
+    nothing_comes : Meets S call answer R → is_making call ≡ false → (b : GenerationalPointer)
+        → reach S b ≡ None → reach R b ≡ None
+    unfolding reach
+    nothing_comes m other b none =
+        ap (λ n. cond (nat_eq b.id.store n) (leads_to (map.get R.cells (name_of b)) (name_of b)) None)
+        (meets_number S R call answer m)
+        ∙ still (nat_eq b.id.store S.number) none
+      where
+        given : R.given ≡ S.given
+        given = ⊎_elim (λ refused. ap (λ (X : State T). X.given) refused.1)
+            (λ acts. ap (λ (out : Outcome T). out.1.given) acts.2
+            ∙ (act_start S call acts.0).given other)
+            (meets_cases S R call answer m)
+
+        leads : leads_to (map.get S.cells (name_of b)) (name_of b) ≡ None
+            → leads_to (map.get R.cells (name_of b)) (name_of b) ≡ None
+        leads = keep_each (meets_follows S R call answer m) (name_of b)
+            (λ x y. leads_to x (name_of b) ≡ None → leads_to y (name_of b) ≡ None)
+            (λ x e. e) (λ free e. refl)
+            (λ new is quiet e. absurd (true≢false
+            (sym is ∙ (ap (λ names. set.contains names (name_of b)) given ∙ new))))
+            (λ k c here law had has e. refilled_leads (new_content S k) c (name_of b) ∙ e)
+            (λ n k l e. absurd (none≢some (Some n) n e refl))
+
+        still : (own : Bool) → cond own (leads_to (map.get S.cells (name_of b)) (name_of b)) None ≡ None
+            → cond own (leads_to (map.get R.cells (name_of b)) (name_of b)) None ≡ None
+        still true e = leads e
+        still false e = refl
+
+    -- a box reaches what it reached, unless the call ends it, points it elsewhere or makes it
+    pub same_reach : IsSound S → Meets S call answer R → (b : GenerationalPointer)
+        → LeavesBox S call b → GivesOther call answer b → reach R b ≡ reach S b
+    same_reach s m b leaves other = ⊎_elim made unmade (cases_Bool (is_making call))
+      where
+        made : is_making call ≡ true → reach R b ≡ reach S b
+        made making = ⊎_elim (λ refused. ap (λ (X : State T). reach X b) refused.1)
+            (λ acts. ap (λ (out : Outcome T). reach out.1 b) acts.2
+            ∙ making_beside S s call acts.0 acts.1 making b
+            (subst (λ (out : Outcome T). GivesOther call out.0 b) acts.2 other))
+            (meets_cases S R call answer m)
+
+        unmade : is_making call ≡ false → reach R b ≡ reach S b
+        unmade none = at (reach S b) refl
+          where
+            at : (to : Option Name) → reach S b ≡ to → reach R b ≡ reach S b
+            at None is = nothing_comes m none b is ∙ sym is
+            at (Some n) is = reach_stays S R call answer b n s m leaves is ∙ sym is
+
+    -- and sees what it saw, unless the call lends its value or sets it, or takes it back
+    pub same_value : IsSound S → Meets S call answer R → (b : GenerationalPointer)
+        → LeavesValue S call b → GivesOther call answer b → value_in R b ≡ value_in S b
+    same_value s m b leaves other = at (reach S b) refl
+      where
+        at : (to : Option Name) → reach S b ≡ to → value_in R b ≡ value_in S b
+        at None is = unseen R b (same_reach s m b (leaves_box S call b leaves) other ∙ is)
+            ∙ sym (unseen S b is)
+        at (Some n) is = value_stays S R call answer b n s m leaves is
+
+  -- ---- the content there
+
+  leaves_value : (S : State T) (call : Action T) (b : GenerationalPointer)
+      → LeavesContent S call b → LeavesValue S call b
+  leaves_value S (Read a l) b h = tt
+  leaves_value S (ReleaseReader g) b h = tt
+  leaves_value S _ b h = h
+
+  unborrowed : (S : State T) (call : Action T) (b : GenerationalPointer) (m : Name)
+      → reach S b ≡ Some m → LeavesContent S call b → Borrows S call m → ⊥
+  unborrowed S (Read a l) b m e h t = h (t ∙ sym e)
+  unborrowed S (Action.Write a l) b m e h t = h (t ∙ sym e)
+  unborrowed S _ b m e h t = t
+
+  -- a call that leaves what stands at a name fills no content there
+  unfilled : (S : State T) (call : Action T) (next : ℕ) (b : GenerationalPointer) (m : Name)
+      → reach S b ≡ Some m → LeavesContent S call b
+      → (k : Filling T) → IsFilling S call next m k → ⊥
+  unfilled S call next b m e h (Reader v rs l) law = unborrowed S call b m e h law.1
+  unfilled S call next b m e h (Writer v l) law = unborrowed S call b m e h law.2
+  unfilled S call next b m e h (Leave v rs g) law =
+      subst (λ c. LeavesContent S c b) law.0 h (e ∙ ap Some (sym law.1))
+  unfilled S call next b m e h (Return w g v) law =
+      unlent S call b m e (leaves_value S call b h) law.2
+  unfilled S call next b m e h (Replace old v) law =
+      unset S call b m e (leaves_value S call b h) law
+
+  module _ (S R : State T) (call : Action T) (answer : Answer T) where
+    -- what a box reaches has the content that it had, unless the call borrows it, ends its borrow,
+    -- or sets it
+    same_content : IsSound S → Meets S call answer R → (b : GenerationalPointer) (m : Name)
+        → LeavesContent S call b → reach S b ≡ Some m → is_some (map.get R.cells m) ≡ true
+        → content_at R m ≡ content_at S m
+    same_content s meets b m leaves to =
+        keep_each (meets_follows S R call answer meets) m
+        (λ x y. is_some y ≡ true → content_of y ≡ content_of x)
+        (λ x e. refl) (λ _ e. absurd (true≢false (sym e)))
+        (λ new given quiet e. absurd (true≢false
+        (sym (s.given m (reached_live S b m s to)) ∙ new)))
+        (λ k c here law had has e. absurd (unfilled S call R.next b m to leaves k law))
+        (λ k n l e. refl)
+
+    -- so a box is left
+    pub leaves : IsSound S → Meets S call answer R → (b : GenerationalPointer)
+        → LeavesContent S call b → GivesOther call answer b → IsLeft S b R
+    leaves s m b h other =
+        let value = leaves_value S call b h in
+        let reach = same_reach S R call answer s m b (leaves_box S call b value) other in
+        record {
+          reached = reach;
+          content = λ n to. same_content s m b n h to
+              (reached_live R b n (meets_sound S R call answer s m) (reach ∙ to));
+          seen = same_value S R call answer s m b value other;
+        }
+
+  -- which is so of each box that isn't in the list, where an owner is released
+  pub release_leaves : (S R : State T) (o : OwnerName) (answer : Answer T) → IsSound S
+      → Meets S (ReleaseOwner o) answer R → (h : Ownership) → ownership S o ≡ Some h
+      → (b : GenerationalPointer) → among h.names (name_of b) ≡ false → IsLeft S b R
+  release_leaves S R o answer s m h held b out = leaves S R (ReleaseOwner o) answer s m b
+      (ap (λ r. among (names_in r) (name_of b)) (held_record S o h held) ∙ out) tt
+
+  -- what a borrow of a box that is left would be answered is the same
+  pub left_troubles : (S R : State T) (b : GenerationalPointer) → IsLeft S b R
+      → (read_trouble R b ≡ read_trouble S b) × (write_trouble R b ≡ write_trouble S b)
+  unfolding read_trouble write_trouble
+  left_troubles S R b left = (at read_refusal (reach S b) refl, at write_refusal (reach S b) refl)
+    where
+      at : (refusal : Option (Content T) → Option Trouble) (to : Option Name) → reach S b ≡ to
+          → refusal_at (reach R b) b.created_at (λ n. refusal (content_at R n))
+          ≡ refusal_at (reach S b) b.created_at (λ n. refusal (content_at S n))
+      at refusal None to =
+          ap (λ x. refusal_at x b.created_at (λ n. refusal (content_at R n))) (left.reached ∙ to)
+          ∙ sym (ap (λ x. refusal_at x b.created_at (λ n. refusal (content_at S n))) to)
+      at refusal (Some m) to =
+          ap (λ x. refusal_at x b.created_at (λ n. refusal (content_at R n))) (left.reached ∙ to)
+          ∙ (ap refusal (left.content m to)
+          ∙ sym (ap (λ x. refusal_at x b.created_at (λ n. refusal (content_at S n))) to))
+
+  -- a box whose name was given isn't the one that a call gives
+  pub given_other : (S R : State T) (call : Action T) (answer : Answer T) (b : GenerationalPointer)
+      → Meets S call answer R → IsGiven S (name_of b) → GivesOther call answer b
+  given_other S R call answer b m given = other call
+    where
+      beside : (answer : Answer T) → Meets S call answer R → IsBeside answer b
+      beside (Made a) m = λ is. true≢false (sym given
+          ∙ (ap (set.contains S.given) (sym is) ∙ (made_new S R call a m).1))
+      beside _ m = tt
+
+      other : (c : Action T) → GivesOther c answer b
+      other (Make o v l) = beside answer m
+      other (MakeShared o v l) = beside answer m
+      other (Refer o a) = beside answer m
+      other _ = tt

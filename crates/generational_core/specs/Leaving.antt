@@ -1,0 +1,102 @@
+-- What a call leaves as it was: a box, a guard, an owner's record, and that no borrow stands.
+use Rattle.std.specs.Prelude.{◌≡◌, ◌≢◌, Bool, true, false, List, [], None, Some}
+use Rattle.std.specs.FinMap as map
+use Rattle.generational_core.specs.declared.boxes.GenerationalPointer.{GenerationalPointer}
+use Rattle.generational_core.specs.Names.{Name, among}
+use Rattle.generational_core.specs.Boxes.{name_of}
+use Rattle.generational_core.specs.Cells.Content.{Here}
+use Rattle.generational_core.specs.State.{State, content_at, tickets_at}
+use Rattle.generational_core.specs.Borrowing.{Guard, reach, can_write, fill, take_ticket}
+use Rattle.generational_core.specs.Ending.{cells_after}
+use Rattle.generational_core.specs.Machine.{Action, Answer, OwnerName}
+use Rattle.generational_core.specs.Machine.Action.{Make, MakeShared, Refer, NewOwner, CloneOwner}
+use Rattle.generational_core.specs.Machine.Action.{ReleaseOwner, Read, Write, ReleaseReader, ReleaseWriter}
+use Rattle.generational_core.specs.Machine.Answer.{Made, Owned, Back, Troubled, Refused}
+use Rattle.generational_core.specs.Seeing.{value_in, LeavesValue}
+
+module _ {T : Type 0} where
+  -- an answer refuses its call: by a borrow or an end, by the store, or by handing the value back
+  abbrev pub refuses : Answer T → Bool
+  refuses (Troubled t) = true
+  refuses (Refused e) = true
+  refuses (Back v) = true
+  refuses _ = false
+
+  -- ---- boxes
+
+  -- an answer gives no box of this box's name; and so it is of the answer to a call, where that is
+  -- a making
+  abbrev pub IsBeside : Answer T → GenerationalPointer → Type 0
+  IsBeside (Made a) b = name_of a ≢ name_of b
+  IsBeside _ b = Unit {0}
+
+  abbrev pub GivesOther : Action T → Answer T → GenerationalPointer → Type 0
+  GivesOther (Make o v l) answer b = IsBeside answer b
+  GivesOther (MakeShared o v l) answer b = IsBeside answer b
+  GivesOther (Refer o a) answer b = IsBeside answer b
+  GivesOther _ answer b = Unit {0}
+
+  -- a call lets the content be that a box reaches, the value and the borrows, and the box as well
+  abbrev pub LeavesContent : State T → Action T → GenerationalPointer → Type 0
+  LeavesContent S (Read a l) b = reach S a ≢ reach S b
+  LeavesContent S (ReleaseReader g) b = reach S b ≢ Some g.cell
+  LeavesContent S call b = LeavesValue S call b
+
+  -- from S to R a box is left: it reaches what it reached, where the content is what it was, and it
+  -- sees what it saw
+  pub record IsLeft (S : State T) (b : GenerationalPointer) (R : State T) : Type 0 where
+    pub reached : reach R b ≡ reach S b
+    pub content : (m : Name) → reach S b ≡ Some m → content_at R m ≡ content_at S m
+    pub seen : value_in R b ≡ value_in S b
+
+  -- from S to R the value that a box reaches becomes another, and a ticket is used up: no borrow
+  -- stood there, and nothing else changes
+  pub record IsSet (S : State T) (b : GenerationalPointer) (v : T) (R : State T) : Type 0 where
+    pub name : Name
+    pub old : T
+    pub reached : reach S b ≡ Some name
+    pub content : content_at S name ≡ Some (Here old [])
+    pub after : R ≡ take_ticket (fill S name (Here v []))
+
+  -- ---- owners
+
+  -- an answer doesn't give this owner; and so it is of the answer to a call that makes one
+  abbrev pub IsOtherOwner : Answer T → OwnerName → Type 0
+  IsOtherOwner (Owned a) o = a ≢ o
+  IsOtherOwner _ o = Unit {0}
+
+  abbrev pub GivesOtherOwner : Action T → Answer T → OwnerName → Type 0
+  GivesOtherOwner NewOwner answer o = IsOtherOwner answer o
+  GivesOtherOwner _ answer o = Unit {0}
+
+  -- a call goes by another owner, or by none
+  abbrev pub LeavesOwner : Action T → OwnerName → Type 0
+  LeavesOwner (Make (Some a) v l) o = a ≢ o
+  LeavesOwner (MakeShared (Some a) v l) o = a ≢ o
+  LeavesOwner (Refer (Some a) b) o = a ≢ o
+  LeavesOwner (CloneOwner a) o = a ≢ o
+  LeavesOwner (ReleaseOwner a) o = a ≢ o
+  LeavesOwner _ o = Unit {0}
+
+  -- ---- borrows
+
+  -- a call isn't the release of this guard
+  abbrev pub LeavesGuard : Action T → Guard → Type 0
+  LeavesGuard (ReleaseReader h) g = h ≢ g
+  LeavesGuard (ReleaseWriter h v) g = h ≢ g
+  LeavesGuard _ g = Unit {0}
+
+  -- a call asks for no borrow
+  abbrev pub BeginsNoBorrow : Action T → Type 0
+  BeginsNoBorrow (Read b l) = ⊥
+  BeginsNoBorrow (Write b l) = ⊥
+  BeginsNoBorrow _ = Unit {0}
+
+  -- no borrow stands in the store
+  pub record IsUnborrowed (S : State T) : Type 0 where
+    pub none : (n : Name) → tickets_at S.cells n ≡ []
+
+  -- no borrow stands at what would end with these names
+  abbrev pub AreFree : State T → List Name → Type 0
+  AreFree S names = (b : GenerationalPointer) (m : Name) → among names (name_of b) ≡ true
+      → reach S b ≡ Some m → map.get (cells_after S.cells names) m ≡ None → can_write S b ≡ true

@@ -1,0 +1,13 @@
+use Rattle.std.proofs.Common.{ap, ◌∙◌}
+use Rattle.generational_entries.specs.Entry.{lend_to, change_entry}
+use Rattle.generational_entries.specs.Entries.{EntryList}
+use Rattle.generational_entries.proofs.states.Latest.{writer_noted}
+use Rattle.generational_entries.proofs.entries.Entries.begin_write.Goals as goal
+
+pub returns-clause-after : goal.returns-clause-after
+returns-clause-after g c =
+    rw c.take-value.ensures.after (writer_noted c.settle.new.settled.slots c.args.name.slot
+    c.args.writer)
+    ∙ ap (λ slots. change_entry slots c.args.name.slot
+    (λ e. record e { kept = lend_to c.args.writer e.kept }))
+    (c.settle.ensures.slots ∙ ap (λ (x : EntryList _). x.slots) c.self.view_is)

@@ -1,0 +1,15 @@
+-- The borrow that stands apart goes to the table.
+use Rattle.std.proofs.Common.{sym, slice_get, ◌∙◌}
+use Rattle.generational_entries.proofs.states.Latest.{apart_within, each_some, listed_same}
+use Rattle.generational_entries.proofs.entries.list_last.Goals as goal
+
+pub returns-then-not-has_no_borrow-clause-slots : goal.returns-then-not-has_no_borrow-clause-slots
+returns-then-not-has_no_borrow-clause-slots g c =
+    let slots = c.args.entries.now.slots in
+    listed_same c.args.last slots c.requires.apart (sym c.is_writer.ensures ∙ c.if-is_writer.false)
+    (each_some (slice_get slots c.args.last.slot)
+    (λ e h. sym h ∙ c.if-not-has_no_borrow.true) c.has_no_borrow.ensures)
+
+pub begin_read-requires-clause-within : goal.begin_read-requires-clause-within
+begin_read-requires-clause-within g c =
+    apart_within c.args.last c.args.entries.now.slots c.requires.fits c.requires.apart

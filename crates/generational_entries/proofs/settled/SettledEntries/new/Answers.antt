@@ -1,0 +1,24 @@
+-- A store's first slots: there are none.
+use Rattle.std.proofs.Common.{arith, refl, ap, length}
+use Rattle.generational_entries.proofs.states.Indexes.{indexed_none}
+unfoldable use Rattle.generational_entries.specs.Entries.{entries_of}
+use Rattle.generational_entries.proofs.settled.SettledEntries.new.Goals as goal
+
+pub invariant_of-result : goal.invariant_of-result
+invariant_of-result g c =
+    let none = ap length c.new.ensures.items in
+    let made = ap length c.new-2.ensures.items in (
+      indexed_none c.new.ensures.items c.new-3.ensures.lists c.new-3.ensures.free,
+      omega arith,
+      record {
+        filled = omega arith;
+        entries = omega arith;
+        details = omega arith;
+        borrows = omega arith;
+        indexes = omega arith;
+      },
+    )
+
+pub returns : goal.returns
+unfolding entries_of
+returns g c = rw c.new.ensures.items refl

@@ -1,0 +1,15 @@
+use Rattle.generational_core.proofs.machine.Guarding.{reader_kept, writer_kept, reader_sees}
+use Rattle.generational_core.proofs.machine.Guarding.{reader_opens, opens_value, reader_leaves}
+use Rattle.generational_core.proofs.machine.Guarding.{writer_returns}
+use Rattle.generational_sessions.proofs.caller_laws.guards_stay_known.Goals as goal
+
+pub returns : goal.returns
+returns g c = record {
+  reader = reader_kept;
+  writer = writer_kept;
+  same = reader_sees;
+  opens = reader_opens;
+  read = λ S R. opens_value;
+  released = λ S R. reader_leaves;
+  returned = λ S R h v r known m. (writer_returns h v r known m).0;
+}

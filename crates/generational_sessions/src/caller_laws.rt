@@ -1,0 +1,243 @@
+//! Laws for those who keep boxes: what a call leaves as it was, and which calls are never refused.
+//! Each is the contract of a function that does nothing.
+
+ghost use Rattle.std.specs.Prelude.{◌≡◌, ◌≢◌, ◌≤◌, ℕ, true, false, Bool, List, Some, None, is_some};
+ghost use Rattle.std.specs.Prelude.{Result, IfOk, IsOk, OnOk, OnErr};
+ghost use Rattle.std.specs.FinSet as set;
+ghost use Rattle.generational_core.specs.declared.boxes.GenerationalBox.{GenerationalBox};
+ghost use Rattle.generational_core.specs.declared.boxes.GenerationalPointer.{GenerationalPointer};
+ghost use Rattle.generational_core.specs.declared.error.BorrowError.{BorrowError};
+ghost use Rattle.generational_core.specs.declared.error.BorrowMutError.{BorrowMutError};
+ghost use Rattle.generational_core.specs.declared.error.Location.{Location};
+ghost use Rattle.generational_core.specs.declared.error.Refusal.{Refusal};
+ghost use Rattle.generational_core.specs.declared.error.Refused.{Refused};
+ghost use Rattle.generational_core.specs.declared.error.StoreError.{StoreError};
+ghost use Rattle.generational_core.specs.Names.{Name, among};
+ghost use Rattle.generational_core.specs.Boxes.{name_of};
+ghost use Rattle.generational_core.specs.Cells.{is_shared};
+ghost use Rattle.std.specs.FinMap as map;
+ghost use Rattle.generational_core.specs.State.{State, Ownership, IsSound, IsGiven};
+ghost use Rattle.generational_core.specs.State.{IsBoxed};
+ghost use Rattle.generational_core.specs.Borrowing.{Guard, reach, read_trouble, write_trouble};
+ghost use Rattle.generational_core.specs.Borrowing.{can_read, can_write};
+ghost use Rattle.generational_core.specs.Machine.{Action, Answer, OwnerName, ownership};
+ghost use Rattle.generational_core.specs.Machine.{knows_reader, knows_writer};
+ghost use Rattle.generational_core.specs.Machine.Action.{MakeShared, Refer, NewOwner, ReleaseOwner};
+ghost use Rattle.generational_core.specs.Machine.Action.{Read, Write, ReleaseReader};
+ghost use Rattle.generational_core.specs.Machine.Action.{ReleaseWriter, End, Point};
+ghost use Rattle.generational_core.specs.Machine.Answer.{Made, Reads, Writes, Flag};
+ghost use Rattle.generational_core.specs.Steps.{Meets};
+ghost use Rattle.generational_core.specs.Conditions.{fresh, one_listed, IsEnded};
+ghost use Rattle.generational_core.specs.Answers.{WriteGuard, value_behind, pointer_of};
+ghost use Rattle.generational_core.specs.Answers.{box_answer, reference_box_answer, read_answer};
+ghost use Rattle.generational_core.specs.Answers.{write_answer, back_answer, end_answer};
+ghost use Rattle.generational_core.specs.Answers.{owner_answer, release_answer};
+ghost use Rattle.generational_core.specs.Answers.{free_read_answer, free_write_answer};
+ghost use Rattle.generational_core.specs.Seeing.{value_in, LeavesBox, LeavesValue};
+ghost use Rattle.generational_core.specs.Leaving.{refuses, GivesOther, GivesOtherOwner};
+ghost use Rattle.generational_core.specs.Leaving.{LeavesContent, IsLeft, IsSet, LeavesOwner};
+ghost use Rattle.generational_core.specs.Leaving.{LeavesGuard, BeginsNoBorrow, IsUnborrowed};
+ghost use Rattle.generational_core.specs.Leaving.{AreFree};
+ghost use Rattle.generational_sessions.specs.Session.{SessionState, at_place};
+ghost use Rattle.generational_sessions.specs.Session.Held.{Boxed};
+ghost use Rattle.generational_sessions.specs.SoundSession.{IsSoundSession};
+
+/// A call that is refused changes nothing, whichever call it is: one that is answered by a borrow or
+/// an end that stands in its way, by the store's refusal, or by its value, which comes back. So it
+/// is of each result that tells a refusal. The release of a reader that the store doesn't know
+/// changes nothing either.
+pub fn refused_calls_change_nothing<T>()
+    ensures call { (S R : State T) (call : Action T) (answer : Answer T) →
+        Meets S call answer R → refuses answer ≡ true → R ≡ S }
+    ensures make { (S R : State T) (call : Action T) (r : Result (GenerationalBox T) (Refusal T)) →
+        Meets S call (box_answer r) R → OnErr r (R ≡ S) }
+    ensures refer { (S R : State T) (call : Action T)
+        (r : Result (GenerationalBox T) (Refused BorrowError)) →
+        Meets S call (reference_box_answer r) R → OnErr r (R ≡ S) }
+    ensures read { (S R : State T) (call : Action T) (r : Result Guard (Refused BorrowError)) →
+        Meets S call (read_answer r) R → OnErr r (R ≡ S) }
+    ensures write { (S R : State T) (call : Action T)
+        (r : Result (WriteGuard T) (Refused BorrowMutError)) →
+        Meets S call (write_answer r) R → OnErr r (R ≡ S) }
+    ensures free_read { (S R : State T) (call : Action T) (r : Result Guard StoreError) →
+        Meets S call (free_read_answer r) R → OnErr r (R ≡ S) }
+    ensures free_write { (S R : State T) (call : Action T) (r : Result (WriteGuard T) StoreError) →
+        Meets S call (free_write_answer r) R → OnErr r (R ≡ S) }
+    ensures back { (S R : State T) (call : Action T) (r : Result (Unit {0}) T) →
+        Meets S call (back_answer r) R → OnErr r (R ≡ S) }
+    ensures ends { (S R : State T) (call : Action T)
+        (r : Result (Unit {0}) (Refused BorrowMutError)) →
+        Meets S call (end_answer r) R → OnErr r (R ≡ S) }
+    ensures owner { (S R : State T) (call : Action T) (r : Result OwnerName StoreError) →
+        Meets S call (owner_answer r) R → OnErr r (R ≡ S) }
+    ensures release { (S R : State T) (call : Action T)
+        (r : Result (Unit {0}) (OwnerName × Refused BorrowMutError)) →
+        Meets S call (release_answer r) R → OnErr r (R ≡ S) }
+    ensures unknown { (S R : State T) (g : Guard) →
+        Meets S (ReleaseReader g) (Flag false) R → R ≡ S }
+{}
+
+/// What each call leaves of boxes, as equations. A box reaches what it reached, unless the call ends
+/// it, points it elsewhere, or gives it as a new one; it sees what it saw, unless the call does
+/// that, begins or ends a write of its value, or sets it; and the content there is what it was,
+/// unless the call borrows it or ends its borrow as well. So a box that saw nothing sees nothing, and
+/// a box that isn't in an owner's list is left by the owner's release. A box whose name was given
+/// before is none that a call gives. A box that is left is answered as before where a borrow is
+/// asked for.
+pub fn calls_leave_other_boxes<T>()
+    ensures reach { (S R : State T) (call : Action T) (answer : Answer T) →
+        IsSound S → Meets S call answer R → (b : GenerationalPointer) →
+        LeavesBox S call b → GivesOther call answer b → reach R b ≡ reach S b }
+    ensures seen { (S R : State T) (call : Action T) (answer : Answer T) →
+        IsSound S → Meets S call answer R → (b : GenerationalPointer) →
+        LeavesValue S call b → GivesOther call answer b → value_in R b ≡ value_in S b }
+    ensures left { (S R : State T) (call : Action T) (answer : Answer T) →
+        IsSound S → Meets S call answer R → (b : GenerationalPointer) →
+        LeavesContent S call b → GivesOther call answer b → IsLeft S b R }
+    ensures unowned { (S R : State T) (o : OwnerName) (answer : Answer T) →
+        IsSound S → Meets S (ReleaseOwner o) answer R →
+        (h : Ownership) → ownership S o ≡ Some h → (b : GenerationalPointer) →
+        among h.names (name_of b) ≡ false → IsLeft S b R }
+    ensures given { (S R : State T) (call : Action T) (answer : Answer T)
+        (b : GenerationalPointer) → Meets S call answer R →
+        IsGiven S (name_of b) → GivesOther call answer b }
+    ensures borrows { (S R : State T) (b : GenerationalPointer) → IsLeft S b R →
+        (read_trouble R b ≡ read_trouble S b) × (write_trouble R b ≡ write_trouble S b) }
+{}
+
+/// A guard stays known until that very guard is released, and a reader's opens the same value, which
+/// is there. The release of a known reader is answered so, and that of a known writer is Ok.
+pub fn guards_stay_known<T>()
+    ensures reader { (S R : State T) (call : Action T) (answer : Answer T) →
+        IsSound S → Meets S call answer R → (g : Guard) →
+        LeavesGuard call g → knows_reader S g ≡ true → knows_reader R g ≡ true }
+    ensures writer { (S R : State T) (call : Action T) (answer : Answer T) →
+        IsSound S → Meets S call answer R → (g : Guard) →
+        LeavesGuard call g → knows_writer S g ≡ true → knows_writer R g ≡ true }
+    ensures same { (S R : State T) (call : Action T) (answer : Answer T) →
+        IsSound S → Meets S call answer R → (g : Guard) →
+        LeavesGuard call g → knows_reader S g ≡ true → value_behind R g ≡ value_behind S g }
+    ensures opens { (S : State T) (g : Guard) →
+        knows_reader S g ≡ true → (v : T) × (value_behind S g ≡ Some v) }
+    ensures read { (S R : State T) (b : GenerationalPointer) (l : Location)
+        (r : Result Guard (Refused BorrowError)) → Meets S (Read b l) (read_answer r) R →
+        IfOk r (λ g. (v : T) × (value_behind R g ≡ Some v) × (value_in S b ≡ Some v)) }
+    ensures released { (S R : State T) (g : Guard) (known : Bool) →
+        knows_reader S g ≡ true → Meets S (ReleaseReader g) (Flag known) R → known ≡ true }
+    ensures returned { (S R : State T) (g : Guard) (v : T) (r : Result (Unit {0}) T) →
+        knows_writer S g ≡ true → Meets S (ReleaseWriter g v) (back_answer r) R → IsOk r }
+{}
+
+/// A read that was released leaves every box as it was. A write that was released leaves the state
+/// as it was, but for the value and a ticket (`IsSet`), and its release is Ok: each box that reaches
+/// the same sees the value, every other box is left, and so is each owner's record.
+pub fn released_borrows_leave_the_rest<T>()
+    ensures read { (S R Q : State T) (b : GenerationalPointer) (l : Location) (g : Guard)
+        (known : Bool) → IsSound S → Meets S (Read b l) (Reads g) R →
+        Meets R (ReleaseReader g) (Flag known) Q → (c : GenerationalPointer) → IsLeft S c Q }
+    ensures written { (S R Q : State T) (b : GenerationalPointer) (l : Location) (g : Guard)
+        (old v : T) (r : Result (Unit {0}) T) → Meets S (Write b l) (Writes g old) R →
+        Meets R (ReleaseWriter g v) (back_answer r) Q → IsOk r × IsSet S b v Q }
+    ensures seen { (S Q : State T) (b : GenerationalPointer) (v : T) → IsSet S b v Q →
+        (c : GenerationalPointer) → reach S c ≡ reach S b → value_in Q c ≡ Some v }
+    ensures others { (S Q : State T) (b : GenerationalPointer) (v : T) → IsSet S b v Q →
+        (c : GenerationalPointer) → reach S c ≢ reach S b → IsLeft S c Q }
+    ensures owners { (S Q : State T) (b : GenerationalPointer) (v : T) → IsSet S b v Q →
+        (o : OwnerName) → ownership Q o ≡ ownership S o }
+{}
+
+/// A box may be read exactly where it sees a value. In a store where no borrow stands it may be
+/// written exactly there, and one that sees nothing reaches nothing. No borrow stands in a fresh
+/// store; none does after a call that asks for none, and after a read or a write that was released.
+/// There no end and no owner's release is refused. An owner's release isn't refused either where no
+/// borrow stands at what would end with its list.
+pub fn stores_without_borrows_refuse_no_end<T>()
+    ensures reads { (S : State T) (b : GenerationalPointer) →
+        IsSound S → can_read S b ≡ is_some (value_in S b) }
+    ensures writes { (S : State T) → IsUnborrowed S → (b : GenerationalPointer) →
+        IsSound S → can_write S b ≡ is_some (value_in S b) }
+    ensures free { (S : State T) → IsUnborrowed S → (b : GenerationalPointer) (m : Name) →
+        reach S b ≡ Some m → can_write S b ≡ true }
+    ensures gone { (S : State T) → IsUnborrowed S → (b : GenerationalPointer) →
+        IsSound S → value_in S b ≡ None → reach S b ≡ None }
+    ensures fresh { (number start next : ℕ) → IsUnborrowed (fresh {T = T} number start next) }
+    ensures stays { (S R : State T) (call : Action T) (answer : Answer T) →
+        Meets S call answer R → BeginsNoBorrow call → IsUnborrowed S → IsUnborrowed R }
+    ensures read { (S R Q : State T) (b : GenerationalPointer) (l : Location) (g : Guard)
+        (known : Bool) → IsSound S → Meets S (Read b l) (Reads g) R →
+        Meets R (ReleaseReader g) (Flag known) Q → IsUnborrowed S → IsUnborrowed Q }
+    ensures written { (S Q : State T) (b : GenerationalPointer) (v : T) → IsSet S b v Q →
+        IsUnborrowed S → IsUnborrowed Q }
+    ensures ends { (S R : State T) (b : GenerationalPointer)
+        (r : Result (Unit {0}) (Refused BorrowMutError)) → IsUnborrowed S →
+        Meets S (End b) (end_answer r) R → IsOk r }
+    ensures releases { (S R : State T) (o : OwnerName) (h : Ownership)
+        (r : Result (Unit {0}) (OwnerName × Refused BorrowMutError)) →
+        ownership S o ≡ Some h → IsUnborrowed S →
+        Meets S (ReleaseOwner o) (release_answer r) R → IsOk r }
+    ensures owned { (S R : State T) (o : OwnerName) (h : Ownership)
+        (r : Result (Unit {0}) (OwnerName × Refused BorrowMutError)) →
+        ownership S o ≡ Some h → AreFree S h.names →
+        Meets S (ReleaseOwner o) (release_answer r) R → IsOk r }
+{}
+
+/// A call leaves each owner's record, but that of the owner by which it goes, and of the one that it
+/// gives; so the owners that a store knows keep theirs. A new owner is none that the store knew, and
+/// has the store's number. A shared value's box, and a reference's, that an owner makes stand at
+/// the end of its list. A name that was never given stands in no list.
+pub fn calls_leave_other_owners<T>()
+    ensures records { (S R : State T) (call : Action T) (answer : Answer T) →
+        Meets S call answer R → (o : OwnerName) →
+        LeavesOwner call o → GivesOtherOwner call answer o → ownership R o ≡ ownership S o }
+    ensures known { (S R : State T) (call : Action T) (answer : Answer T) →
+        IsSound S → Meets S call answer R → (o : OwnerName) (h : Ownership) →
+        LeavesOwner call o → ownership S o ≡ Some h → ownership R o ≡ Some h }
+    ensures unknown { (S R : State T) (r : Result OwnerName StoreError) →
+        IsSound S → Meets S NewOwner (owner_answer r) R → IfOk r (λ o. ownership S o ≡ None) }
+    ensures number { (S R : State T) (r : Result OwnerName StoreError) →
+        Meets S NewOwner (owner_answer r) R → IfOk r (λ o. o.store ≡ S.number) }
+    ensures lists_shared { (S R : State T) (o : OwnerName) (v : T) (l : Location)
+        (r : Result (GenerationalBox T) (Refusal T)) →
+        Meets S (MakeShared (Some o) v l) (box_answer r) R →
+        IfOk r (λ b. (h : Ownership) → ownership S o ≡ Some h →
+        ownership R o ≡ Some (one_listed (name_of (pointer_of b)) h)) }
+    ensures lists_reference { (S R : State T) (o : OwnerName) (c : GenerationalPointer)
+        (r : Result (GenerationalBox T) (Refused BorrowError)) →
+        Meets S (Refer (Some o) c) (reference_box_answer r) R →
+        IfOk r (λ b. (h : Ownership) → ownership S o ≡ Some h →
+        ownership R o ≡ Some (one_listed (name_of (pointer_of b)) h)) }
+    ensures unlisted { (S : State T) (o : OwnerName) (h : Ownership) (n : Name) →
+        IsSound S → ownership S o ≡ Some h → set.contains S.given n ≡ false →
+        among h.names n ≡ false }
+{}
+
+/// The name of a box is one that was given, and no shared value's own: so it is of each box that a
+/// call gives, stays so, and is so of each box that reaches something, and of those that a session
+/// holds. Such a name has ended for good (`ended_names_stay_ended`) once its box was ended, and each
+/// name of an owner's list has after its last release.
+pub fn boxes_end_for_good<T>()
+    ensures made { (S R : State T) (call : Action T) (b : GenerationalPointer) →
+        Meets S call (Made b) R → IsBoxed R (name_of b) }
+    ensures stays { (S R : State T) (call : Action T) (answer : Answer T) (n : Name) →
+        IsSound S → Meets S call answer R → IsBoxed S n → IsBoxed R n }
+    ensures reaches { (S : State T) (b : GenerationalPointer) (m : Name) → IsSound S →
+        reach S b ≡ Some m → (b.id.store ≡ S.number) × IsBoxed S (name_of b) }
+    ensures held { (s : SessionState T) (p : ℕ) (b : GenerationalPointer) → IsSoundSession s →
+        at_place s.table p ≡ Boxed b → is_shared (map.get s.state.cells (name_of b)) ≡ false }
+    ensures ends { (S R : State T) (b : GenerationalPointer)
+        (r : Result (Unit {0}) (Refused BorrowMutError)) → Meets S (End b) (end_answer r) R →
+        OnOk r (b.id.store ≡ S.number → IsBoxed S (name_of b) → IsEnded R (name_of b)) }
+    ensures ends_owned { (S R : State T) (o : OwnerName)
+        (r : Result (Unit {0}) (OwnerName × Refused BorrowMutError)) →
+        IsSound S → Meets S (ReleaseOwner o) (release_answer r) R →
+        OnOk r ((h : Ownership) (n : Name) → ownership S o ≡ Some h → h.count ≤ 1 →
+        among h.names n ≡ true → IsEnded R n) }
+{}
+
+/// A box that was pointed to what another reaches sees what the other saw.
+pub fn pointed_boxes_see_what_others_saw<T>()
+    ensures { (S R : State T) (a b : GenerationalPointer)
+        (r : Result (Unit {0}) (Refused BorrowMutError)) →
+        IsSound S → Meets S (Point a b) (end_answer r) R →
+        OnOk r (value_in R a ≡ value_in S b) }
+{}

@@ -1,0 +1,23 @@
+use Rattle.std.proofs.Common.{ap, sym, ◌∙◌}
+use Rattle.generational_slots.proofs.Common.{is_shared, name_of_cell}
+use Rattle.generational_slots.proofs.states.Changes.{cell_seen, state_is}
+use Rattle.generational_slots.proofs.states.Reaching.{refer_lent, refer_plain}
+use Rattle.generational_slots.proofs.slots.Slots.shared.Goals as goal
+
+pub returns-in-Err-clause-err : goal.returns-in-Err-clause-err
+returns-in-Err-clause-err g c =
+    refer_lent c.args.self.now.state (name_of_cell c.args.name) _ _ c.in-Err.ensures.err
+
+pub returns-then-is_shared-clause-ok : goal.returns-then-is_shared-clause-ok
+returns-then-is_shared-clause-ok g c =
+    let seen = cell_seen c.self.inside.entries.slots (state_is c.self.view_is)
+    (name_of_cell c.in-Ok.value) in
+    (c.in-Ok.ensures.ok.0, c.in-Ok.ensures.ok.1, sym (c.if-is_shared.ensures ∙ ap is_shared seen))
+
+pub returns-clause-err : goal.returns-clause-err
+returns-clause-err g c =
+    let seen = cell_seen c.self.inside.entries.slots (state_is c.self.view_is)
+    (name_of_cell c.in-Ok.value) in
+    rw c.dropped.ensures
+    (refer_plain c.args.self.now.state (name_of_cell c.args.name) _ c.in-Ok.ensures.ok.0
+    c.in-Ok.ensures.ok.1 (c.if-is_shared.ensures ∙ ap is_shared seen))

@@ -1,0 +1,76 @@
+-- What is answered where a name should name another value, as the machine says it.
+use Rattle.std.proofs.Common.{◌≡◌, true, false, Option, None, Some, Result, Err, IfSome, refl, sym}
+use Rattle.std.proofs.Common.{◌∙◌, is_some}
+use Rattle.std.proofs.lemmas.Bool.{false≢true, true≢false}
+use Rattle.generational_core.specs.Boxes.{box_of}
+use Rattle.generational_core.specs.Machine.{point, turn}
+use Rattle.generational_core.specs.declared.boxes.GenerationalPointer.{GenerationalPointer}
+use Rattle.generational_core.specs.declared.error.BorrowMutError.TheVariants as writes
+use Rattle.generational_core.specs.declared.error.Refused.{Refused}
+use Rattle.generational_core.specs.declared.error.Refused.TheVariants as refused
+use Rattle.generational_entries.specs.Entry.{target_in}
+use Rattle.generational_slots.specs.Slotted.{Turns}
+use Rattle.generational_slots.proofs.Common.{BorrowMutError, Cell, Location, Name, Ref, Shared}
+use Rattle.generational_slots.proofs.Common.{State, Value, content_of, is_shared, location_of}
+
+-- what is answered of a value that was made at a location
+abbrev pub dropped_answer : Location → Result (Unit {0}) (Refused BorrowMutError)
+dropped_answer l = Err (refused.Borrow (writes.Dropped (record { created_at = l })))
+
+module _ {T : Type 0} where
+  -- a cell with a content is live
+  pub some_cell : (o : Option (Cell T)) → is_some (content_of o) ≡ true → is_some o ≡ true
+  some_cell None h = h
+  some_cell (Some c) h = refl
+
+  module _ (S : State T) (n m : Name) (k : Location) (b : GenerationalPointer) where
+    -- nothing is there
+    pub points_gone : (own target : Option (Cell T)) → None ≡ target_in own
+        → false ≡ is_some (content_of own)
+        → Turns S S (dropped_answer k) (point S (box_of 0 n k) b own (Some m) target)
+    points_gone None target none gone = (refl, refl)
+    points_gone (Some (Value c l)) target none gone = absurd (false≢true gone)
+    points_gone (Some (Shared c l)) target none gone = absurd (false≢true gone)
+    points_gone (Some (Ref q l)) target none gone = absurd cc
+
+    module _ (l : Location) where
+      -- a value is there, which is no reference
+      pub points_value : (own target : Option (Cell T)) → location_of target ≡ Some l
+          → None ≡ target_in own → true ≡ is_some (content_of own)
+          → Turns S S (dropped_answer l) (point S (box_of 0 n k) b own (Some m) target)
+      points_value None target at none there = absurd (true≢false there)
+      points_value (Some (Value c i)) target at none there = rw at (refl, refl)
+      points_value (Some (Shared c i)) target at none there = rw at (refl, refl)
+      points_value (Some (Ref q i)) target at none there = absurd cc
+
+      -- a reference is there, but the other value isn't shared
+      pub points_plain : (own target : Option (Cell T)) (old : Name)
+          → location_of target ≡ Some l → Some old ≡ target_in own → false ≡ is_shared target
+          → Turns S S (dropped_answer l) (point S (box_of 0 n k) b own (Some m) target)
+      points_plain (Some (Ref q i)) (Some (Value c j)) old at refers plain =
+          let same : j ≡ l = cc in rw same (refl, refl)
+      points_plain (Some (Ref q i)) (Some (Ref p j)) old at refers plain =
+          let same : j ≡ l = cc in rw same (refl, refl)
+      points_plain (Some (Ref q i)) None old at refers plain = absurd cc
+      points_plain (Some (Ref q i)) (Some (Shared c j)) old at refers plain =
+          absurd (false≢true plain)
+      points_plain None target old at refers plain = absurd cc
+      points_plain (Some (Value c i)) target old at refers plain = absurd cc
+      points_plain (Some (Shared c i)) target old at refers plain = absurd cc
+
+    -- a reference is there that turns to a shared value
+    pub points_turn : (own target : Option (Cell T)) (old : Name) (R : State T)
+        (result : Result (Unit {0}) (Refused BorrowMutError))
+        → Some old ≡ target_in own → true ≡ is_shared target
+        → IfSome (location_of own) (λ l. Turns S R result (turn S n old m l))
+        → Turns S R result (point S (box_of 0 n k) b own (Some m) target)
+    points_turn (Some (Ref q l)) (Some (Shared c i)) old R result refers shared turns =
+        let same : old ≡ q = cc in rw same at turns
+    points_turn (Some (Ref q l)) None old R result refers shared turns = absurd (true≢false shared)
+    points_turn (Some (Ref q l)) (Some (Value c i)) old R result refers shared turns =
+        absurd (true≢false shared)
+    points_turn (Some (Ref q l)) (Some (Ref p i)) old R result refers shared turns =
+        absurd (true≢false shared)
+    points_turn None target old R result refers shared turns = absurd cc
+    points_turn (Some (Value c i)) target old R result refers shared turns = absurd cc
+    points_turn (Some (Shared c i)) target old R result refers shared turns = absurd cc

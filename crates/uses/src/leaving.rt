@@ -1,0 +1,118 @@
+//! What calls leave as it was: other boxes, guards, owners, and the whole store where a call is
+//! refused.
+
+ghost use Rattle.std.specs.Prelude.{◌≡◌, ◌≢◌, ℕ, IfSome, OnOk, OnErr, IsTrue, IsFalse, Some, is_some};
+ghost use Rattle.generational_core.specs.declared.boxes.GenerationalPointer.{GenerationalPointer};
+ghost use Rattle.generational_core.specs.Answers.{pointer_of};
+ghost use Rattle.generational_core.specs.Borrowing.{reach};
+ghost use Rattle.generational_core.specs.Boxes.{name_of};
+ghost use Rattle.generational_core.specs.Conditions.{IsEnded};
+ghost use Rattle.generational_core.specs.Leaving.{IsLeft, IsSet, IsUnborrowed};
+ghost use Rattle.generational_core.specs.Machine.{OwnerName, ownership};
+ghost use Rattle.generational_core.specs.Names.{Name};
+ghost use Rattle.generational_core.specs.Seeing.{value_in};
+ghost use Rattle.generational_core.specs.State.{Ownership};
+
+use generational_box::{BorrowMutResult, GenerationalBox, Location, Owner, Storage};
+
+/// Ends a value. It has ended for good then, or the end is refused and the store's state is as it
+/// was. A box of another name is left in either case.
+pub fn end_value<S: Storage<u64>>(
+    store: &mut S,
+    target: GenerationalBox<u64>,
+) -> BorrowMutResult<()>
+    ensures ended { OnOk result ((m : Name) →
+        reach (S.state store.old) (pointer_of target) ≡ Some m →
+        IsEnded (S.state store.new) (name_of (pointer_of target))) }
+    ensures refused { OnErr result (S.state store.new ≡ S.state store.old) }
+    ensures others { (b : GenerationalPointer) → name_of (pointer_of target) ≢ name_of b →
+        IsLeft (S.state store.old) b (S.state store.new) }
+{
+    target.manually_drop(store)
+}
+
+/// Lets a reference lead to where another box leads, and so see what that saw.
+pub fn follow<S: Storage<u64>>(
+    store: &mut S,
+    reference: GenerationalBox<u64>,
+    other: GenerationalBox<u64>,
+) -> BorrowMutResult<()>
+    ensures { OnOk result (value_in (S.state store.new) (pointer_of reference) ≡
+        value_in (S.state store.old) (pointer_of other)) }
+{
+    reference.point_to(store, other)
+}
+
+/// Reads a value while another is ended, as far as that can be: it is what the box saw. None where
+/// the read is refused.
+pub fn read_across_end<S: Storage<u64>>(
+    store: &mut S,
+    target: GenerationalBox<u64>,
+    other: GenerationalBox<u64>,
+    here: Location,
+) -> Option<u64>
+    ensures { IfSome result (λ seen.
+        value_in (S.state store.old) (pointer_of target) ≡ Some seen) }
+{
+    let Ok(guard) = target.try_read(store, here) else {
+        return None;
+    };
+    let _ended = other.manually_drop(store).is_ok();
+    let seen = guard.deref(store).map(|view| *view);
+    guard.release(store);
+    seen
+}
+
+/// Writes a value. Whether it was written: then nothing changes but the value and a ticket, and else
+/// nothing does. A guard's release in its own store is never refused.
+pub fn put_value<S: Storage<u64>>(
+    store: &mut S,
+    target: GenerationalBox<u64>,
+    value: u64,
+    here: Location,
+) -> bool
+    ensures set { IsTrue result →
+        IsSet (S.state store.old) (pointer_of target) value (S.state store.new) }
+    ensures refused { IsFalse result → S.state store.new ≡ S.state store.old }
+{
+    let mut guard = match target.try_write(store, here) {
+        Ok(guard) => guard,
+        Err(_) => return false,
+    };
+    guard.replace(value);
+    match guard.release(store) {
+        Ok(()) => true,
+        Err(_) => unreachable!(),
+    }
+}
+
+/// Whether a box sees a value.
+pub fn sees_value<S: Storage<u64>>(store: &S, target: GenerationalBox<u64>) -> bool
+    ensures { result ≡ is_some (value_in (S.state store.now) (pointer_of target)) }
+{
+    target.can_read(store)
+}
+
+/// Ends a value of a store in which no borrow stands. Never refused.
+pub fn end_unborrowed<S: Storage<u64>>(store: &mut S, target: GenerationalBox<u64>)
+    requires { IsUnborrowed (S.state store.old) }
+    ensures { IsUnborrowed (S.state store.new) }
+{
+    match target.manually_drop(store) {
+        Ok(()) => {}
+        Err(_) => unreachable!(),
+    }
+}
+
+/// Keeps a shared value by an owner. None where that is refused. Every other owner keeps its list.
+pub fn share_by<S: Storage<u64>>(
+    store: &mut S,
+    owner: &Owner,
+    value: u64,
+    here: Location,
+) -> Option<GenerationalBox<u64>>
+    ensures { (o : OwnerName) (h : Ownership) → owner.now ≢ o →
+        ownership (S.state store.old) o ≡ Some h → ownership (S.state store.new) o ≡ Some h }
+{
+    owner.insert_rc(store, value, here).ok()
+}
