@@ -242,8 +242,11 @@ module _ {T : Type 0} where
     records_listed : (n : Name) → IsBoxed S n → AreRecords S next (change owners key (one_listed n))
     records_listed n boxed k h is = ⊎_elim (λ e. all k h (sym e ∙ is))
         (λ e. let old = all k e.1 e.2 in let same : one_listed n e.1 ≡ h = cc in subst
-        (λ (x : Ownership). AllByRecursion (IsBoxed S) x.names × (k < next)) same (boxed_push S
-        e.1.names n old.0 boxed, old.1)) (changed_view by_number owners key (one_listed n) k)
+        (λ (x : Ownership). AllByRecursion (IsBoxed S) x.names × (k < next)) same (
+          boxed_push S
+              e.1.names n old.0 boxed,
+          old.1,
+        )) (changed_view by_number owners key (one_listed n) k)
 
     records_put : (h : Ownership) → AllByRecursion (IsBoxed S) h.names → key < next
         → AreRecords S next (map.insert owners key h)

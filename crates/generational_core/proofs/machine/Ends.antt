@@ -32,8 +32,11 @@ module _ {T : Type 0} where
       ⊎ ((map.get (sweep cells) n ≡ None)
       × (is_shared (map.get cells n) ≡ true) × (is_named cells n ≡ false))
   unfolding sweep
-  swept_view cells n = ⊎_elim (λ h. inl (h.0, ⊎_elim
-      (λ e. inl (not-true _ e)) (λ e. inr e) (or_cases _ _ h.1))) (λ h. let p = or_parts
+  swept_view cells n = ⊎_elim (λ h. inl (
+    h.0,
+    ⊎_elim
+        (λ e. inl (not-true _ e)) (λ e. inr e) (or_cases _ _ h.1),
+  )) (λ h. let p = or_parts
       (not (is_shared (map.get cells n))) (is_named cells n) h.1 in inr (h.0, not-false _ p.0, p.1))
       (keep_view by_name cells (λ n. not (is_shared (map.get cells n)) || is_named cells n) n)
 

@@ -135,8 +135,11 @@ kept_live m p n h = let it = some_live _ h in ap is_some (kept_cell m p n it.0 i
 insert_view : {X : Type 0} (m : NameMap X) (n : Name) (x : X) (q : Name)
     → ((q ≡ n) × (map.get (map.insert m n x) q ≡ Some x))
     ⊎ (map.get (map.insert m n x) q ≡ map.get m q)
-insert_view m n x q = ⊎_elim (λ is. inl (is, ap (map.get (map.insert m n x)) is ∙ get-insert_here
-    by_name m n x)) (λ ne. inr (get-insert_apart by_name m n x q ne)) (name_cases q n)
+insert_view m n x q = ⊎_elim (λ is. inl (
+  is,
+  ap (map.get (map.insert m n x)) is ∙ get-insert_here
+      by_name m n x,
+)) (λ ne. inr (get-insert_apart by_name m n x q ne)) (name_cases q n)
 
 module _ {f : Name → Name} {Knows : Name → Type 0}
     (apart : (j k : Name) → Knows j → Knows k → f j ≡ f k → j ≡ k) where
@@ -176,8 +179,12 @@ module _ {T U : Type 0} {f : Name → Name} {d : ℕ} {g : T → U} {Knows : Nam
     named_moved m km = both_ways (is_named S (f m)) (is_named A m) (λ h. let it = named_gives S
         (f m) h in let k = c.from it.0 (ap is_some it.2) in let was = was_ref f d g (map.get A k.0)
         (f m) it.1 (sym (c.at k.0 k.1) ∙ (ap (map.get S) k.2 ∙ it.2)) in let same = apart
-        was.0 m (c.leads k.0 was.0 it.1 was.1) km was.2 in named_from A m (k.0, it.1, was.1
-        ∙ ap (λ x. Some (Ref x it.1)) same)) (λ h. let it = named_gives A m h in named_from S (f m)
+        was.0 m (c.leads k.0 was.0 it.1 was.1) km was.2 in named_from A m (
+          k.0,
+          it.1,
+          was.1
+              ∙ ap (λ x. Some (Ref x it.1)) same,
+        )) (λ h. let it = named_gives A m h in named_from S (f m)
         (f it.0, it.1, c.at it.0 (c.known it.0 (ap is_some it.2)) ∙ ap (option_map cell) it.2))
 
     cells_keep : (p q : Name → Bool) → ((k : Name) → Knows k → p (f k) ≡ q k)

@@ -228,8 +228,10 @@ module _ {T : Type 0} {s a : SessionState T} (m : Matches s a) where
       making_step x r (λ i. act s.state (mine (MakeShared o v l)) (record {
         first = (old.0 ∙ back m.order new.first is) i;
         second = back one new.second two i;
-      })) (act_matched r.carries.state (MakeShared o v l) (next_numbers a) tt (old.1,
-      last_known one new.second two)) ((making s.state (mine (MakeShared o v l)) refl).left new)
+      })) (act_matched r.carries.state (MakeShared o v l) (next_numbers a) tt (
+        old.1,
+        last_known one new.second two,
+      )) ((making s.state (mine (MakeShared o v l)) refl).left new)
       ((making a.state (MakeShared o v l) refl).left (next_numbers a))
   asks_step x action new k unused = matched start (settled_alike m.carries x _ _
       (act_matched m.carries.state action (next_numbers a) k tt)) ((act_start s.state
@@ -263,8 +265,10 @@ module _ {T : Type 0} {s a : SessionState T} (m : Matches s a) where
       (matched start (e, placed_alike m.carries) refl refl)
   settles_step c x r p q asked (both_swap place g v old known) step =
       let guard = rename_guard (named_by m.order) m.difference a.state.number g in
-      answered c (Swaps place g v old) (SessionReply.TheOld old,
-      add_place (swap s place guard v) Held.Nothing) (λ i. (step.0 i, step.1 i))
+      answered c (Swaps place g v old) (
+        SessionReply.TheOld old,
+        add_place (swap s place guard v) Held.Nothing,
+      ) (λ i. (step.0 i, step.1 i))
       refl (matched start (refl, placed_alike (swapped_alike m.carries place g v known)) refl refl)
 
   -- whichever names are taken, the numbered machine answers the same, ids aside
