@@ -2,8 +2,8 @@
 use Rattle.std.specs.Prelude.{◌≡◌, ◌≢◌, ◌⊎◌, ◌<◌, ℕ, List, Option, None, Some, min, option_map}
 use Rattle.std.specs.Prelude.{String, string_bytes, nat_lt, if◌then◌else◌, map as list_map}
 use Rattle.std.specs.Prelude.{slice_get}
-use Rattle.generational_core.specs.Borrowing.{Trouble}
-use Rattle.generational_core.specs.Borrowing.Trouble.{Dropped, BeingWritten, BeingRead}
+use Rattle.generational_core.specs.Borrowing.{BorrowRefusal}
+use Rattle.generational_core.specs.Borrowing.BorrowRefusal.{Dropped, BeingWritten, BeingRead}
 use Rattle.generational_core.specs.declared.error.Location.{Location}
 use Rattle.generational_core.specs.declared.error.StoreError.TheVariants.{OutOfMemory}
 use Rattle.generational_sessions.specs.declared.calls.Reply.{Reply}
@@ -21,10 +21,10 @@ use Rattle.agreement.specs.declared.verdict.Verdict.TheVariants as verdict
 abbrev pub plain : Location → Location
 plain l = record l { file = record l.file { ref_ptr = (0, 0) } }
 
-abbrev pub plain_trouble : Trouble → Trouble
-plain_trouble (Dropped l) = Dropped (plain l)
-plain_trouble (BeingWritten l) = BeingWritten (plain l)
-plain_trouble (BeingRead ls) = BeingRead (list_map plain ls)
+abbrev pub plain_refusal : BorrowRefusal → BorrowRefusal
+plain_refusal (Dropped l) = Dropped (plain l)
+plain_refusal (BeingWritten l) = BeingWritten (plain l)
+plain_refusal (BeingRead ls) = BeingRead (list_map plain ls)
 
 module _ {T U : Type 0} (f : T → U) where
   -- a reply with its locations plain, and its values turned by a function
@@ -39,7 +39,7 @@ module _ {T U : Type 0} (f : T → U) where
   plain_reply (TheId id) = TheId id
   plain_reply (TheSlot n) = TheSlot n
   plain_reply (Created l) = Created (plain l)
-  plain_reply (Error t) = Error (plain_trouble t)
+  plain_reply (Error t) = Error (plain_refusal t)
   plain_reply (Lacking e) = Lacking e
   plain_reply (HandedBack v e) = HandedBack (f v) e
   plain_reply (Unready back) = Unready (option_map f back)

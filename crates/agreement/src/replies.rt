@@ -1,11 +1,11 @@
 //! Two replies, compared.
 
 ghost use Rattle.std.specs.Prelude.{◌≡◌, ◌↔◌, IsTrue, Some, option_map, string_bytes};
-ghost use Rattle.generational_core.specs.Answers.{trouble_of};
+ghost use Rattle.generational_core.specs.Answers.{refusal_of_error};
 ghost use Rattle.generational_core.specs.declared.error.StoreError.TheVariants.{OutOfMemory};
 ghost use Rattle.generational_sessions.specs.Numbered.{refusal_in};
 ghost use Rattle.generational_sessions.specs.Places.{as_reply};
-ghost use Rattle.agreement.specs.Told.{told, plain, plain_trouble};
+ghost use Rattle.agreement.specs.Told.{told, plain, plain_refusal};
 
 use generational_core::{BorrowMutError, Location, StoreError};
 use generational_sessions::Reply;
@@ -74,7 +74,7 @@ fn is_same_cause(one: &StoreError, other: &StoreError) -> bool
 #[tactic(auto, using(crate::proofs::Alike::readers_decide))]
 fn is_same_error(one: &BorrowMutError, other: &BorrowMutError) -> bool
     ensures { IsTrue result ↔
-        (plain_trouble (trouble_of one.now) ≡ plain_trouble (trouble_of other.now)) }
+        (plain_refusal (refusal_of_error one.now) ≡ plain_refusal (refusal_of_error other.now)) }
 {
     match (one, other) {
         (BorrowMutError::Dropped(one), BorrowMutError::Dropped(other)) => one == other,

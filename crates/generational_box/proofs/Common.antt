@@ -3,10 +3,10 @@ pub use Rattle.generational_entries.specs.Entry.{cell_of}
 pub use Rattle.generational_entries.specs.Entry.{has_no_borrow}
 pub use Rattle.generational_containers.specs.OwnerRecords.{AreCounted, IsCounted, IsRefusal}
 pub use Rattle.generational_containers.specs.OwnerRecords.{add_to_list_in, knows}
-pub use Rattle.generational_containers.specs.OwnerRecords.{IsListed, knows_any, record_of}
-pub use Rattle.generational_slots.specs.Slotted.{IsMade}
-pub use Rattle.generational_slots.specs.Slotted.{Slotted}
-pub use Rattle.generational_slots.specs.Slotted.{with_records}
+pub use Rattle.generational_containers.specs.OwnerRecords.{IsListed, permits, record_of}
+pub use Rattle.generational_slots.specs.SlotsState.{IsMade}
+pub use Rattle.generational_slots.specs.SlotsState.{SlotsState}
+pub use Rattle.generational_slots.specs.SlotsState.{with_records}
 pub use Rattle.generational_core.proofs.machine.Bounding.{fresh_bounded}
 pub use Rattle.generational_core.proofs.machine.Bounding.{meets_kept}
 pub use Rattle.generational_core.proofs.maps.Maps.{by_name, by_number, changed_there}
@@ -21,19 +21,21 @@ pub use Rattle.generational_core.proofs.machine.Soundness.{fresh_sound}
 pub use Rattle.generational_core.proofs.machine.Closing.{close_nothing}
 pub use Rattle.generational_core.proofs.machine.Linking.{sound_linked}
 pub use Rattle.generational_core.specs.Answers.{WriteGuard, back_answer, end_refused}
-pub use Rattle.generational_core.specs.Borrowing.{Guard, Trouble, fill, leads_to, read_refusal}
+pub use Rattle.generational_core.specs.Borrowing.{Guard, BorrowRefusal, fill, leads_to, read_refusal}
 pub use Rattle.generational_core.specs.Borrowing.{write_refusal}
-unfoldable pub use Rattle.generational_core.specs.Borrowing.{reach, read_trouble, write_trouble}
-pub use Rattle.generational_core.specs.Borrowing.Trouble.{BeingRead, Dropped}
+unfoldable pub use Rattle.generational_core.specs.Borrowing.{reach, refusal_to_read, refusal_to_write}
+pub use Rattle.generational_core.specs.Borrowing.BorrowRefusal.{BeingRead, Dropped}
 pub use Rattle.generational_core.specs.Boxes.{box_of, name_in, name_of}
 pub use Rattle.generational_core.specs.Cells.{Cell, Content, content_of, is_shared, location_of}
 pub use Rattle.generational_core.specs.Cells.{refill}
 pub use Rattle.generational_core.specs.Cells.Cell.{Value, Shared, Ref}
 pub use Rattle.generational_core.specs.Cells.Content.{Here, Lent}
-pub use Rattle.generational_core.specs.Conditions.{HasTargets, IsLinked}
+pub use Rattle.generational_core.specs.Conditions.{IsLinked}
+pub use Rattle.generational_core.specs.State.{HasTargets}
 pub use Rattle.generational_core.specs.Conditions.{IsBounded, IsFresh, count_in, count_under}
-pub use Rattle.generational_core.specs.Conditions.{names_in, names_under, one_less, one_listed}
-pub use Rattle.generational_core.specs.Conditions.{one_more}
+pub use Rattle.generational_core.specs.Conditions.{names_in, names_under}
+pub use Rattle.generational_core.specs.State.{one_less, one_listed}
+pub use Rattle.generational_core.specs.State.{one_more}
 pub use Rattle.generational_core.specs.Ending.{cells_after, close, first_hindrance, hindrance_of}
 unfoldable pub use Rattle.generational_core.specs.Ending.{hindrance_to, sweep}
 pub use Rattle.generational_core.specs.Machine.Action.{CloneOwner, End, Make, NewOwner, Read}

@@ -4,12 +4,13 @@ ghost use Rattle.std.specs.Prelude.{◌≡◌, ◌<◌, IfSome, [], true};
 ghost use Rattle.std.specs.FinMap as map;
 ghost use Rattle.generational_core.specs.Cells.{is_shared};
 ghost use Rattle.generational_core.specs.State.{IsSound};
-ghost use Rattle.generational_core.specs.Conditions.{IsBounded, HasTargets};
+ghost use Rattle.generational_core.specs.Conditions.{IsBounded};
+ghost use Rattle.generational_core.specs.State.{HasTargets};
 ghost use Rattle.generational_core.specs.Sound.{IsSound-prop, IsBounded-prop};
 ghost use Rattle.generational_containers.specs.CellNames.{name_of_cell};
 ghost use Rattle.generational_entries.specs.Entry.{cell_of};
 ghost use Rattle.generational_entries.specs.Entries.{IsUnborrowed, kept_data, target_of};
-ghost use Rattle.generational_slots.specs.Slotted.{IsMade, with_records};
+ghost use Rattle.generational_slots.specs.SlotsState.{IsMade, with_records};
 
 use crate::ids::{cell_name, id_in, pointer_in};
 use generational_containers::names::CellName;
@@ -54,7 +55,7 @@ impl<T, P: SlotPool> Model for Store<T, P> {
     ghost use Rattle.std.specs.Coded.{codes};
     ghost use Rattle.std.specs.FinMap as map;
     ghost use Rattle.generational_core.specs.Sound.{SoundState, same_sound};
-    ghost use Rattle.generational_slots.specs.Slotted.{with_records};
+    ghost use Rattle.generational_slots.specs.SlotsState.{with_records};
     ghost use Rattle.generational_containers.specs.OwnerRecords.{AreCounted};
 
     ghost Value = { SoundState T };
@@ -454,7 +455,7 @@ impl<T: Drop, P: SlotPool> Store<T, P> {
     fn knows(&self, owner: Option<&Owner>) -> bool
         ensures { result ≡ is_known self.now.state (option_copied owner.entry) }
     {
-        self.owners.knows_any(self.number, owner)
+        self.owners.permits(self.number, owner)
     }
 
     // Begins a read of the value that the box reaches, and no writer has.

@@ -8,31 +8,31 @@ use Rattle.generational_core.specs.Machine.{OwnerName}
 use Rattle.generational_core.specs.State.{Ownership, Owners}
 
 -- a record with the key under which it stands, and for how many names its list has room
-pub record Keyed : Type 0 where
+pub record KeyedOwnership : Type 0 where
   pub key : ℕ
   pub ownership : Ownership
   pub rooms : ℕ
 
 -- the same with another record under the key, and with other room
-abbrev pub with_ownership : (Ownership → Ownership) → Keyed → Keyed
+abbrev pub with_ownership : (Ownership → Ownership) → KeyedOwnership → KeyedOwnership
 with_ownership f r = record r { ownership = f r.ownership }
 
-abbrev pub with_rooms : ℕ → Keyed → Keyed
+abbrev pub with_rooms : ℕ → KeyedOwnership → KeyedOwnership
 with_rooms rooms r = record r { rooms = rooms }
 
 -- A place of the records: vacant, or with a record.
 abbrev pub Place : Type 0
-Place = Option Keyed
+Place = Option KeyedOwnership
 
 -- the records that stand at places, with their keys
-abbrev pub entries_of : List Place → List (ℕ × Ownership)
-entries_of [] = []
-entries_of (None ∷ places) = entries_of places
-entries_of (Some r ∷ places) = (r.key, r.ownership) ∷ entries_of places
+abbrev pub keyed_ownerships : List Place → List (ℕ × Ownership)
+keyed_ownerships [] = []
+keyed_ownerships (None ∷ places) = keyed_ownerships places
+keyed_ownerships (Some r ∷ places) = (r.key, r.ownership) ∷ keyed_ownerships places
 
 -- the records under their keys
 unfoldable pub owners_of : List Place → Owners
-owners_of places = map.from_entries (entries_of places)
+owners_of places = map.from_entries (keyed_ownerships places)
 
 -- the record at a place, if it stands there under this key
 abbrev pub record_in : ℕ → Place → Option Ownership
@@ -47,7 +47,7 @@ abbrev pub HasRecord : ℕ → Option Place → Type 0
 HasRecord key place = is_some (record_at key place) ≡ true
 
 -- no key stands at two places
-pub record AreApart (places : List Place) : Type 0 where
+pub record HasDistinctKeys (places : List Place) : Type 0 where
   pub one : (key i j : ℕ) → HasRecord key (slice_get places i) → HasRecord key (slice_get places j)
       → i ≡ j
 
@@ -61,7 +61,7 @@ pub record ArePlaced (vacant : set.FinSet nat_cmp) (rooms : ℕ) (places : List 
   pub pooled : (k : ℕ) → set.contains vacant k ≡ is_vacant (slice_get places k)
   -- there is room for all of them
   pub roomy : length places ≤ rooms
-  pub apart : AreApart places
+  pub apart : HasDistinctKeys places
 
 -- a record that has room for a name more on its list
 abbrev pub HasRoom : Option Place → Type 0
@@ -73,11 +73,11 @@ rooms_at (Some (Some r)) = r.rooms
 rooms_at _ = 0
 
 -- the places with the record at one of them changed by f, if there is one
-abbrev pub change_record_if : List Place → ℕ → (Keyed → Keyed) → Option Place → List Place
+abbrev pub change_record_if : List Place → ℕ → (KeyedOwnership → KeyedOwnership) → Option Place → List Place
 change_record_if places i f (Some (Some r)) = slice_set places i (Some (f r))
 change_record_if places i f _ = places
 
-abbrev pub change_record : List Place → ℕ → (Keyed → Keyed) → List Place
+abbrev pub change_record : List Place → ℕ → (KeyedOwnership → KeyedOwnership) → List Place
 change_record places i f = change_record_if places i f (slice_get places i)
 
 -- the same where its names or its count change

@@ -9,7 +9,7 @@ use Rattle.generational_core.specs.declared.error.StoreError.TheVariants.{Number
 use Rattle.generational_core.specs.Names.{Name, change, is_name}
 use Rattle.generational_core.specs.Machine.{OwnerName}
 use Rattle.generational_core.specs.State.{Ownership, Owners}
-use Rattle.generational_core.specs.Conditions.{one_listed}
+use Rattle.generational_core.specs.State.{one_listed}
 
 -- the record of an owner, if it is of a store with this number and these records
 abbrev pub record_of : ℕ → Owners → OwnerName → Option Ownership
@@ -20,15 +20,15 @@ abbrev pub knows : ℕ → Owners → OwnerName → Bool
 knows number owners o = is_some (record_of number owners o)
 
 -- the same of an owner, if there is one
-abbrev pub knows_any : ℕ → Owners → Option OwnerName → Bool
-knows_any number owners None = true
-knows_any number owners (Some o) = knows number owners o
+abbrev pub permits : ℕ → Owners → Option OwnerName → Bool
+permits number owners None = true
+permits number owners (Some o) = knows number owners o
 
 -- why a box isn't put on a list: the owner isn't known, or there is no memory for one that is
 abbrev pub IsRefusal : ℕ → Owners → Option OwnerName → StoreError → Type 0
-IsRefusal number owners o UnknownOwner = knows_any number owners o ≡ false
+IsRefusal number owners o UnknownOwner = permits number owners o ≡ false
 IsRefusal number owners o OutOfMemory =
-    IsSome o × (knows_any number owners o ≡ true)
+    IsSome o × (permits number owners o ≡ true)
 IsRefusal number owners o NumbersExhausted = ⊥
 
 -- the records with a name at the end of the owner's list
@@ -39,7 +39,7 @@ add_to_list_in owners (Some o) n = change owners o.key (one_listed n)
 -- a name more on the list of an owner that is known, if there is an owner
 abbrev pub IsListed : ℕ → Owners → Owners → Option OwnerName → Name → Type 0
 IsListed number old new o n =
-    (knows_any number old o ≡ true) × (new ≡ add_to_list_in old o n)
+    (permits number old o ≡ true) × (new ≡ add_to_list_in old o n)
 
 -- Each record stands for an owner value at least, and for no more than tickets were given. Its key
 -- was one of them. No box stands twice on its list.

@@ -6,11 +6,11 @@ ghost use Rattle.std.specs.Prelude.{length, OnOk, OnErr};
 ghost use Rattle.std.specs.Prelude.{option_copied, option_map, is_some, map as list_map};
 ghost use Rattle.std.specs.Prelude.{if◌then◌else◌, vec_len, slice_get, slice_set};
 ghost use Rattle.std.specs.FinMap as map;
-ghost use Rattle.generational_core.specs.Conditions.{one_more, one_less, one_listed};
+ghost use Rattle.generational_core.specs.State.{one_more, one_less, one_listed};
 ghost use Rattle.generational_core.specs.Conditions.{names_under, names_in};
 ghost use Rattle.generational_core.specs.Names.{change};
 ghost use Rattle.generational_containers.specs.CellNames.{name_of_cell};
-ghost use Rattle.generational_containers.specs.OwnerRecords.{knows, knows_any, record_of};
+ghost use Rattle.generational_containers.specs.OwnerRecords.{knows, permits, record_of};
 ghost use Rattle.generational_containers.specs.OwnerRecords.{add_to_list_in, IsRefusal};
 ghost use Rattle.generational_containers.specs.OwnerPlaces.{with_ownership, with_rooms};
 ghost use Rattle.generational_containers.specs.OwnerPlaces.{change_place, change_record, rooms_at};
@@ -37,10 +37,10 @@ pub struct OwnerRecord {
 
 impl Model for OwnerRecord {
     ghost use Rattle.std.specs.Prelude.{map as list_map, vec_capacity};
-    ghost use Rattle.generational_containers.specs.OwnerPlaces.{Keyed};
+    ghost use Rattle.generational_containers.specs.OwnerPlaces.{KeyedOwnership};
     ghost use Rattle.generational_containers.specs.CellNames.{name_of_cell};
 
-    ghost Value = { Keyed };
+    ghost Value = { KeyedOwnership };
 
     ghost view = { λ r. record {
       key = r.key;
@@ -202,8 +202,8 @@ impl OwnerRecords {
 
     /// The same of an owner, if there is one.
     #[inline(always)]
-    pub fn knows_any(&self, number: u64, owner: Option<&Owner>) -> bool
-        ensures { result ≡ knows_any number self.now.owners (option_copied owner.entry) }
+    pub fn permits(&self, number: u64, owner: Option<&Owner>) -> bool
+        ensures { result ≡ permits number self.now.owners (option_copied owner.entry) }
     {
         match owner {
             None => true,
@@ -220,7 +220,7 @@ impl OwnerRecords {
         owner: Option<&Owner>,
     ) -> Result<Option<usize>, StoreError>
         ensures same { self.new.owners ≡ self.old.owners }
-        ensures known { OnOk result (knows_any number self.old.owners (option_copied owner.entry)
+        ensures known { OnOk result (permits number self.old.owners (option_copied owner.entry)
             ≡ true) }
         ensures ok { IfOk result (λ place. IsReserved self.new (option_copied owner.entry) place) }
         ensures refused { IfErr result (λ cause. IsRefusal number self.old.owners

@@ -13,11 +13,11 @@ use Rattle.generational_core.specs.Cells.{Content}
 use Rattle.generational_core.specs.Cells.Content.{Here}
 use Rattle.generational_core.specs.Names.{Name}
 use Rattle.generational_core.specs.State.{State, content_at}
-use Rattle.generational_core.specs.Borrowing.{Trouble, Guard}
-use Rattle.generational_core.specs.Borrowing.Trouble.{Dropped, BeingRead, BeingWritten}
+use Rattle.generational_core.specs.Borrowing.{BorrowRefusal, Guard}
+use Rattle.generational_core.specs.Borrowing.BorrowRefusal.{Dropped, BeingRead, BeingWritten}
 use Rattle.generational_core.specs.declared.error.StoreError.{StoreError}
 use Rattle.generational_core.specs.Machine.{Answer, OwnerName, knows_reader}
-use Rattle.generational_core.specs.Machine.Answer.{Made, Owned, Reads, Writes, Back, Done, Troubled}
+use Rattle.generational_core.specs.Machine.Answer.{Made, Owned, Reads, Writes, Back, Done, BorrowRefused}
 use Rattle.generational_core.specs.Machine.Answer.{Refused as refuses}
 
 -- the box without its element type
@@ -30,22 +30,22 @@ pub record WriteGuard (T : Type 0) : Type 0 where
   pub value : T
 
 -- why a read, and why a write or an end, was refused
-abbrev pub read_trouble_of : BorrowError → Trouble
+abbrev pub read_trouble_of : BorrowError → BorrowRefusal
 read_trouble_of (reads.Dropped e) = Dropped e.created_at
 read_trouble_of (reads.AlreadyBorrowedMut e) = BeingWritten e.borrowed_mut_at
 
-abbrev pub trouble_of : BorrowMutError → Trouble
-trouble_of (writes.Dropped e) = Dropped e.created_at
-trouble_of (writes.AlreadyBorrowed e) = BeingRead e
-trouble_of (writes.AlreadyBorrowedMut e) = BeingWritten e.borrowed_mut_at
+abbrev pub refusal_of_error : BorrowMutError → BorrowRefusal
+refusal_of_error (writes.Dropped e) = Dropped e.created_at
+refusal_of_error (writes.AlreadyBorrowed e) = BeingRead e
+refusal_of_error (writes.AlreadyBorrowedMut e) = BeingWritten e.borrowed_mut_at
 
 module _ {T : Type 0} where
   abbrev pub read_refused : Refused BorrowError → Answer T
-  read_refused (refused.Borrow e) = Troubled (read_trouble_of e)
+  read_refused (refused.Borrow e) = BorrowRefused (read_trouble_of e)
   read_refused (refused.Store e) = refuses e
 
   abbrev pub end_refused : Refused BorrowMutError → Answer T
-  end_refused (refused.Borrow e) = Troubled (trouble_of e)
+  end_refused (refused.Borrow e) = BorrowRefused (refusal_of_error e)
   end_refused (refused.Store e) = refuses e
 
   -- what a making of a value answers

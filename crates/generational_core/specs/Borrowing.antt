@@ -14,10 +14,10 @@ use Rattle.generational_core.specs.Boxes.{name_of}
 
 -- Why a borrow is refused: the value is gone (with the location at which the box was made), it is
 -- being written (with the writer's location), or read (with the readers' locations in order).
-pub data Trouble : Type 0 where
-  Dropped : (created : Location) → Trouble
-  BeingWritten : (writer : Location) → Trouble
-  BeingRead : (readers : List Location) → Trouble
+pub data BorrowRefusal : Type 0 where
+  Dropped : (created : Location) → BorrowRefusal
+  BeingWritten : (writer : Location) → BorrowRefusal
+  BeingRead : (readers : List Location) → BorrowRefusal
 
 pub record Guard : Type 0 where  -- a guard: its store's number, its cell and its ticket
   pub store : ℕ
@@ -25,16 +25,16 @@ pub record Guard : Type 0 where  -- a guard: its store's number, its cell and it
   pub ticket : ℕ
 
 -- how a box is refused that was made at l: where it reaches nothing, its value is gone
-abbrev pub refusal_at : Option Name → Location → (Name → Option Trouble) → Option Trouble
+abbrev pub refusal_at : Option Name → Location → (Name → Option BorrowRefusal) → Option BorrowRefusal
 refusal_at None l at = Some (Dropped l)
 refusal_at (Some n) l at = at n
 
 module _ {T : Type 0} where
-  abbrev pub read_refusal : Option (Content T) → Option Trouble  -- how a read of it is refused
+  abbrev pub read_refusal : Option (Content T) → Option BorrowRefusal  -- how a read of it is refused
   read_refusal (Some (Lent w)) = Some (BeingWritten w.location)
   read_refusal _ = None
 
-  abbrev pub write_refusal : Option (Content T) → Option Trouble  -- and how a write of it is
+  abbrev pub write_refusal : Option (Content T) → Option BorrowRefusal  -- and how a write of it is
   write_refusal (Some (Here v (r ∷ rs))) = Some (BeingRead (list_map (λ b. b.location) (r ∷ rs)))
   write_refusal c = read_refusal c
 
@@ -49,18 +49,18 @@ module _ {T : Type 0} where
       then leads_to (map.get S.cells (name_of b)) (name_of b) else None
 
   -- how a read of a box is refused, and how a write of it is
-  unfoldable pub read_trouble : State T → GenerationalPointer → Option Trouble
-  read_trouble S b = refusal_at (reach S b) b.created_at (λ n. read_refusal (content_at S n))
+  unfoldable pub refusal_to_read : State T → GenerationalPointer → Option BorrowRefusal
+  refusal_to_read S b = refusal_at (reach S b) b.created_at (λ n. read_refusal (content_at S n))
 
-  unfoldable pub write_trouble : State T → GenerationalPointer → Option Trouble
-  write_trouble S b = refusal_at (reach S b) b.created_at (λ n. write_refusal (content_at S n))
+  unfoldable pub refusal_to_write : State T → GenerationalPointer → Option BorrowRefusal
+  refusal_to_write S b = refusal_at (reach S b) b.created_at (λ n. write_refusal (content_at S n))
 
   -- whether a read of a box is free, and whether a write of it is
   abbrev pub can_read : State T → GenerationalPointer → Bool
-  can_read S b = is_none (read_trouble S b)
+  can_read S b = is_none (refusal_to_read S b)
 
   abbrev pub can_write : State T → GenerationalPointer → Bool
-  can_write S b = is_none (write_trouble S b)
+  can_write S b = is_none (refusal_to_write S b)
 
   abbrev pub fill : State T → Name → Content T → State T  -- another content in a cell
   fill S n c = record S { cells = change S.cells n (refill c) }

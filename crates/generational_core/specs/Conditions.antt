@@ -1,7 +1,7 @@
 -- Conditions of states, of which the laws speak.
-use Rattle.std.specs.Prelude.{◌-◌, ◌++◌, ◌∷◌, List, [], Option, ◌≡◌, ℕ, ◌+◌, ◌≤◌, ◌<◌, true, false}
+use Rattle.std.specs.Prelude.{List, [], Option, ◌≡◌, ℕ, ◌+◌, ◌≤◌, ◌<◌, true, false}
 use Rattle.std.specs.Prelude.{Some, None, is_some}
-use Rattle.generational_core.specs.State.{Owners, State, Ownership, IsGiven}
+use Rattle.generational_core.specs.State.{Owners, State, Ownership, IsGiven, HasTargets}
 use Rattle.std.specs.FinMap as map
 use Rattle.std.specs.FinSet as set
 use Rattle.generational_core.specs.declared.error.Location.{Location}
@@ -42,17 +42,6 @@ count_in (Some h) = h.count
 abbrev pub count_under : Owners → ℕ → ℕ
 count_under owners key = count_in (map.get owners key)
 
--- one owner value more, and one less
-abbrev pub one_more : Ownership → Ownership
-one_more h = record h { count = h.count + 1 }
-
-abbrev pub one_less : Ownership → Ownership
-one_less h = record h { count = h.count - 1 }
-
--- one box more at the end of the list
-abbrev pub one_listed : Name → Ownership → Ownership
-one_listed n h = record h { names = h.names ++ n ∷ [] }
-
 module _ {T : Type 0} where
   -- no name was given, and no owner's record stands
   abbrev pub IsFresh : State T → Type 0
@@ -68,11 +57,6 @@ module _ {T : Type 0} where
   -- a live Ref names m
   abbrev pub IsNamed : NameMap (Cell T) → Name → Type 0
   IsNamed cells m = (n : Name) × (l : Location) × (map.get cells n ≡ Some (Ref m l))
-
-  -- each Ref names a Shared cell, and each Shared cell is named
-  abbrev pub HasTargets : NameMap (Cell T) → Type 0
-  HasTargets cells = (n m : Name) (l : Location)
-      → map.get cells n ≡ Some (Ref m l) → is_shared (map.get cells m) ≡ true
 
   pub record IsLinked (cells : NameMap (Cell T)) : Type 0 where
     pub targets : HasTargets cells

@@ -6,7 +6,7 @@ use Rattle.generational_core.specs.Names.{Name, NameMap, among}
 use Rattle.generational_core.specs.Cells.{Cell, content_of, is_shared}
 use Rattle.generational_core.specs.Cells.Cell.{Value, Ref}
 use Rattle.generational_core.specs.State.{State, is_named}
-use Rattle.generational_core.specs.Borrowing.{Trouble, write_refusal}
+use Rattle.generational_core.specs.Borrowing.{BorrowRefusal, write_refusal}
 
 module _ {T : Type 0} where
   unfoldable pub sweep : NameMap (Cell T) → NameMap (Cell T)  -- without unnamed Shared cells
@@ -25,22 +25,22 @@ module _ {T : Type 0} where
   close S names = record S { cells = cells_after S.cells names }
 
   -- what hinders the end of a cell that isn't left: a borrow of it
-  abbrev pub hindrance_at : NameMap (Cell T) → NameMap (Cell T) → Name → Option Trouble
+  abbrev pub hindrance_at : NameMap (Cell T) → NameMap (Cell T) → Name → Option BorrowRefusal
   hindrance_at cells left n =
       if not (is_some (map.get left n)) then write_refusal (content_of (map.get cells n)) else None
 
   -- what hinders the end of a name: a borrow of its Value, or of its Ref's target
   abbrev pub hindrance_of : NameMap (Cell T) → NameMap (Cell T)
-      → Option (Cell T) → Name → Option Trouble
+      → Option (Cell T) → Name → Option BorrowRefusal
   hindrance_of cells left (Some (Value c l)) n = hindrance_at cells left n
   hindrance_of cells left (Some (Ref m l)) n = hindrance_at cells left m
   hindrance_of cells left _ n = None
 
   -- what hinders the end of these names, at the first of them that is hindered
-  abbrev pub first_hindrance : NameMap (Cell T) → NameMap (Cell T) → List Name → Option Trouble
+  abbrev pub first_hindrance : NameMap (Cell T) → NameMap (Cell T) → List Name → Option BorrowRefusal
   first_hindrance cells left [] = None
   first_hindrance cells left (n ∷ names) =
       option_or (hindrance_of cells left (map.get cells n) n) (first_hindrance cells left names)
 
-  unfoldable pub hindrance_to : State T → List Name → Option Trouble
+  unfoldable pub hindrance_to : State T → List Name → Option BorrowRefusal
   hindrance_to S names = first_hindrance S.cells (cells_after S.cells names) names

@@ -11,13 +11,13 @@ use Rattle.generational_core.specs.Ending.{cells_after}
 use Rattle.generational_core.specs.Machine.{Action, Answer, OwnerName}
 use Rattle.generational_core.specs.Machine.Action.{Make, MakeShared, Refer, NewOwner, CloneOwner}
 use Rattle.generational_core.specs.Machine.Action.{ReleaseOwner, Read, Write, ReleaseReader, ReleaseWriter}
-use Rattle.generational_core.specs.Machine.Answer.{Made, Owned, Back, Troubled, Refused}
+use Rattle.generational_core.specs.Machine.Answer.{Made, Owned, Back, BorrowRefused, Refused}
 use Rattle.generational_core.specs.Seeing.{value_in, LeavesValue}
 
 module _ {T : Type 0} where
   -- an answer refuses its call: by a borrow or an end, by the store, or by handing the value back
   abbrev pub refuses : Answer T → Bool
-  refuses (Troubled t) = true
+  refuses (BorrowRefused t) = true
   refuses (Refused e) = true
   refuses (Back v) = true
   refuses _ = false

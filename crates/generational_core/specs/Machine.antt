@@ -1,6 +1,6 @@
 -- The machine: what each call answers and leaves, once the new names are chosen.
 use Rattle.generational_core.specs.Cells.{location_of, content_of, Content, Cell}
-use Rattle.std.specs.Prelude.{unwrap_or, ℕ, ◌+◌, ◌-◌, Bool, true, false, if◌then◌else◌, not, ◌&&◌}
+use Rattle.std.specs.Prelude.{unwrap_or, ℕ, Bool, true, false, if◌then◌else◌, not, ◌&&◌}
 use Rattle.std.specs.Prelude.{nat_eq, nat_lt, max, List, [], ◌∷◌, ◌++◌, Option, None, Some, is_some}
 use Rattle.std.specs.List.{list_any, filter}
 use Rattle.std.specs.FinMap as map
@@ -14,11 +14,12 @@ use Rattle.generational_core.specs.declared.boxes.GenerationalPointer.{Generatio
 use Rattle.generational_core.specs.Names.{Name, is_name, change}
 use Rattle.generational_core.specs.Cells.Content.{Here, Lent}
 use Rattle.generational_core.specs.Cells.Cell.{Value, Shared, Ref}
-use Rattle.generational_core.specs.State.{State, Ownership, content_at}
+use Rattle.generational_core.specs.State.{State, Ownership, content_at, one_more, one_less}
+use Rattle.generational_core.specs.State.{one_listed}
 use Rattle.generational_core.specs.Boxes.{name_in, name_of, box_of, has_same_id}
-use Rattle.generational_core.specs.Borrowing.{Trouble, Guard, reach, read_trouble, write_trouble}
+use Rattle.generational_core.specs.Borrowing.{BorrowRefusal, Guard, reach, refusal_to_read, refusal_to_write}
 use Rattle.generational_core.specs.Borrowing.{can_read, can_write, fill, take_ticket}
-use Rattle.generational_core.specs.Borrowing.Trouble.{Dropped}
+use Rattle.generational_core.specs.Borrowing.BorrowRefusal.{Dropped}
 use Rattle.generational_core.specs.Ending.{sweep, close, hindrance_to, hindrance_at}
 
 pub record OwnerName : Type 0 where  -- an owner: its store's number and its key
@@ -26,7 +27,7 @@ pub record OwnerName : Type 0 where  -- an owner: its store's number and its key
   pub key : ℕ
 
 -- The names that the machine takes for a making: the first, and for a shared value's Ref a second.
-pub record Fresh : Type 0 where
+pub record NewNames : Type 0 where
   pub first : Name
   pub second : Name
 
@@ -57,15 +58,15 @@ pub data Answer (T : Type 0) : Type 0 where
   Old : (value : T) → Answer T
   Flag : (yes : Bool) → Answer T
   Back : (value : T) → Answer T
-  Troubled : (trouble : Trouble) → Answer T
+  BorrowRefused : (refusal : BorrowRefusal) → Answer T
   Refused : (cause : StoreError) → Answer T
 
 abbrev pub Outcome : Type 0 → Type 0  -- what a call answers, and the state after it
 Outcome T = Answer T × State T
 
 module _ {T : Type 0} where
-  abbrev pub unless : Option Trouble → State T → Outcome T → Outcome T  -- a refusal changes nothing
-  unless (Some t) S other = (Troubled t, S)
+  abbrev pub unless : Option BorrowRefusal → State T → Outcome T → Outcome T  -- a refusal changes nothing
+  unless (Some t) S other = (BorrowRefused t, S)
   unless None S other = other
 
   abbrev pub ownership : State T → OwnerName → Option Ownership  -- if it is of this store
@@ -84,9 +85,7 @@ module _ {T : Type 0} where
   -- the state with a name at the end of the owner's list
   abbrev pub add_to_list : State T → Option OwnerName → Name → State T
   add_to_list S None n = S
-  add_to_list S (Some o) n =
-      let more = λ (h : Ownership). record h { names = h.names ++ n ∷ [] } in
-      record S { owners = change S.owners o.key more }
+  add_to_list S (Some o) n = record S { owners = change S.owners o.key (one_listed n) }
 
   -- a box of a new cell, which is added to the owner's list
   abbrev pub make : State T → Option OwnerName → Name → Cell T → Location → Outcome T
@@ -100,7 +99,7 @@ module _ {T : Type 0} where
   abbrev pub refer : State T → Option OwnerName → GenerationalPointer
       → Option Name → Option (Cell T) → Name → Outcome T
   refer S o b (Some m) (Some (Shared c l)) n = make S o n (Ref m l) l
-  refer S o b _ _ n = (Troubled (Dropped b.created_at), S)
+  refer S o b _ _ n = (BorrowRefused (Dropped b.created_at), S)
 
   abbrev pub set_ownership : State T → ℕ → Ownership → State T
   set_ownership S k h = record S { owners = map.insert S.owners k h }
@@ -108,14 +107,14 @@ module _ {T : Type 0} where
   abbrev pub clone_owner : State T → OwnerName → Option Ownership → Outcome T  -- one more
   clone_owner S o None = (Refused UnknownOwner, S)
   clone_owner S o (Some h) =
-      (Owned o, take_ticket (set_ownership S o.key (record h { count = h.count + 1 })))
+      (Owned o, take_ticket (set_ownership S o.key (one_more h)))
 
   -- one owner value less; with the last one all boxes of the list end, or nothing does
   abbrev pub release_owner : State T → OwnerName → Option Ownership → Outcome T
   release_owner S o None = (Refused UnknownOwner, S)
   release_owner S o (Some h) =
       if nat_lt 1 h.count
-      then (Done, set_ownership S o.key (record h { count = h.count - 1 }))
+      then (Done, set_ownership S o.key (one_less h))
       else unless (hindrance_to S h.names) S
       (Done, record (close S h.names) { owners = map.remove S.owners o.key })
 
@@ -161,7 +160,7 @@ module _ {T : Type 0} where
   -- another value where there is no borrow; the value comes back from what is read or lent
   abbrev pub set_at : State T → GenerationalPointer → T
       → Option Name → Option (Content T) → Outcome T
-  set_at S b v None c = (Troubled (Dropped b.created_at), S)
+  set_at S b v None c = (BorrowRefused (Dropped b.created_at), S)
   set_at S b v (Some m) (Some (Here old [])) = (Old old, fill S m (Here v []))
   set_at S b v (Some m) _ = (Back v, S)
 
@@ -182,13 +181,13 @@ module _ {T : Type 0} where
   -- a's own cell is asked after b was found free
   abbrev pub point : State T → GenerationalPointer → GenerationalPointer
       → Option (Cell T) → Option Name → Option (Cell T) → Outcome T
-  point S a b None to target = (Troubled (Dropped a.created_at), S)
+  point S a b None to target = (BorrowRefused (Dropped a.created_at), S)
   point S a b (Some (Ref old l)) (Some new) (Some (Shared c k)) = turn S (name_of a) old new l
   point S a b (Some _) to target =
-      (Troubled (Dropped (unwrap_or (location_of target) b.created_at)), S)
+      (BorrowRefused (Dropped (unwrap_or (location_of target) b.created_at)), S)
 
   -- what a call answers and leaves, but for tickets that run out and for want of memory
-  abbrev pub act : State T → Action T → Fresh → Outcome T
+  abbrev pub act : State T → Action T → NewNames → Outcome T
   act S (Make o v l) f =
       if is_known S o then make S o f.first (Value (Here v []) l) l else (Refused UnknownOwner, S)
   act S (MakeShared o v l) f =
@@ -196,7 +195,7 @@ module _ {T : Type 0} where
       if is_known S o then make shared o f.second (Ref f.first l) l else (Refused UnknownOwner, S)
   act S (Refer o b) f =
       if is_known S o
-      then unless (read_trouble S b) S (refer S o b (reach S b) (cell_at S (reach S b)) f.first)
+      then unless (refusal_to_read S b) S (refer S o b (reach S b) (cell_at S (reach S b)) f.first)
       else (Refused UnknownOwner, S)
   act S NewOwner f =
       let after = set_ownership S S.next (record { names = []; count = 1 }) in
@@ -205,9 +204,9 @@ module _ {T : Type 0} where
   act S (ReleaseOwner o) f = release_owner S o (ownership S o)
   act S (LeakOwner o) f = (Done, S)
   act S (Read b l) f =
-      unless (read_trouble S b) S (read_at S l (reach S b) (content_of (cell_at S (reach S b))))
+      unless (refusal_to_read S b) S (read_at S l (reach S b) (content_of (cell_at S (reach S b))))
   act S (Write b l) f =
-      unless (write_trouble S b) S (write_at S l (reach S b) (content_of (cell_at S (reach S b))))
+      unless (refusal_to_write S b) S (write_at S l (reach S b) (content_of (cell_at S (reach S b))))
   act S (ReleaseReader g) f =
       if knows_reader S g
       then (Flag true, remove_reader S g.cell g.ticket (content_at S g.cell))
@@ -219,7 +218,7 @@ module _ {T : Type 0} where
   act S (Point a b) f =
       if has_same_id a b
       then (Done, S)
-      else unless (read_trouble S b) S
+      else unless (refusal_to_read S b) S
       (point S a b (own_cell S a.id) (reach S b) (cell_at S (reach S b)))
   act S (CanRead b) f = (Flag (can_read S b), S)
   act S (CanWrite b) f = (Flag (can_write S b), S)

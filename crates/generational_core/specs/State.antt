@@ -1,6 +1,6 @@
 -- The state of a store, and when it is sound.
-use Rattle.std.specs.Prelude.{◌≡◌, ℕ, ◌<◌, Bool, true, false, List, [], ◌∷◌, Option, None, Some}
-use Rattle.std.specs.Prelude.{is_some, nat_eq, map as list_map}
+use Rattle.std.specs.Prelude.{◌≡◌, ℕ, ◌<◌, ◌+◌, ◌-◌, Bool, true, false, List, [], ◌∷◌, ◌++◌, Option}
+use Rattle.std.specs.Prelude.{None, Some, is_some, nat_eq, map as list_map}
 use Rattle.std.specs.Ordering.{nat_cmp}
 use Rattle.std.specs.List.{list_any, IsDistinct, AllByRecursion}
 use Rattle.std.specs.FinMap as map
@@ -15,6 +15,16 @@ use Rattle.generational_core.specs.Cells.Cell.{Ref}
 pub record Ownership : Type 0 where
   pub names : List Name
   pub count : ℕ
+
+abbrev pub one_more : Ownership → Ownership  -- an owner value more
+one_more h = record h { count = h.count + 1 }
+
+abbrev pub one_less : Ownership → Ownership  -- and one less
+one_less h = record h { count = h.count - 1 }
+
+-- a box more at the end of the list
+abbrev pub one_listed : Name → Ownership → Ownership
+one_listed n h = record h { names = h.names ++ n ∷ [] }
 
 abbrev pub Owners : Type 0  -- owners' records by their keys
 Owners = map.FinMap nat_cmp Ownership
@@ -53,6 +63,11 @@ module _ {T : Type 0} where
   abbrev pub IsBoxed : State T → Name → Type 0  -- and isn't a Shared cell's
   IsBoxed S n = IsGiven S n × (is_shared (map.get S.cells n) ≡ false)
 
+  -- each live Ref names a live Shared cell
+  abbrev pub HasTargets : NameMap (Cell T) → Type 0
+  HasTargets cells = (n m : Name) (l : Location) → map.get cells n ≡ Some (Ref m l)
+      → is_shared (map.get cells m) ≡ true
+
   -- (Borrows are a part of a content, which is lent under a writer alone, in any state.)
   pub record IsSound (S : State T) : Type 0 where
     -- live names and owners' names were given, and owners' names are names of boxes
@@ -60,8 +75,7 @@ module _ {T : Type 0} where
     pub owned : (k : ℕ) (h : Ownership) → map.get S.owners k ≡ Some h
         → AllByRecursion (IsBoxed S) h.names
     -- each live Ref names a live Shared cell, and each live Shared cell is named by a live Ref
-    pub targets : (n m : Name) (l : Location) → map.get S.cells n ≡ Some (Ref m l)
-        → is_shared (map.get S.cells m) ≡ true
+    pub targets : HasTargets S.cells
     pub shared : (m : Name) → is_shared (map.get S.cells m) ≡ true → is_named S.cells m ≡ true
     -- tickets and owners' keys are below the next ticket, and no ticket stands twice
     pub below : (n : Name) (t : ℕ) → Stands S.cells n t → t < S.next

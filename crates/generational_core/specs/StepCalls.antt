@@ -3,15 +3,15 @@ use Rattle.std.specs.Prelude.{Bool, true, false, not, Option, None, Some}
 use Rattle.generational_core.specs.declared.steps.StepCall.{StepCall}
 use Rattle.generational_core.specs.declared.steps.StepCall.TheVariants as call
 use Rattle.generational_core.specs.State.{State}
-use Rattle.generational_core.specs.Borrowing.{Trouble, read_trouble}
-use Rattle.generational_core.specs.Borrowing.Trouble.{Dropped}
+use Rattle.generational_core.specs.Borrowing.{BorrowRefusal, refusal_to_read}
+use Rattle.generational_core.specs.Borrowing.BorrowRefusal.{Dropped}
 use Rattle.generational_core.specs.Ending.{hindrance_to}
 use Rattle.generational_core.specs.Machine.{Action, Answer, own_name}
 use Rattle.generational_core.specs.Machine.Action.{Make, Read, ReleaseReader, End}
-use Rattle.generational_core.specs.Machine.Answer.{Troubled}
+use Rattle.generational_core.specs.Machine.Answer.{BorrowRefused}
 
 -- whether a refusal, if there is one, tells of a borrow
-abbrev pub tells_of_borrow : Option Trouble → Bool
+abbrev pub tells_of_borrow : Option BorrowRefusal → Bool
 tells_of_borrow None = false
 tells_of_borrow (Some (Dropped l)) = false
 tells_of_borrow _ = true
@@ -27,11 +27,11 @@ module _ {T : Type 0} where
 
   -- whether a call's answer tells of no borrow that stands in its way
   abbrev pub is_ready : State T → StepCall → Bool
-  is_ready S (call.Read b l) = not (tells_of_borrow (read_trouble S b))
+  is_ready S (call.Read b l) = not (tells_of_borrow (refusal_to_read S b))
   is_ready S (call.ManuallyDrop b) = not (tells_of_borrow (hindrance_to S (own_name S b)))
   is_ready S _ = true
 
   -- whether an answer tells of a borrow that stands in the call's way
   abbrev pub is_hindered : Answer T → Bool
-  is_hindered (Troubled t) = tells_of_borrow (Some t)
+  is_hindered (BorrowRefused t) = tells_of_borrow (Some t)
   is_hindered _ = false

@@ -2,7 +2,7 @@
 use Rattle.generational_core.specs.Borrowing.{write_refusal, reach}
 use Rattle.std.specs.Prelude.{is_some, ◌≡◌, ℕ, ◌-◌, ◌^◌, Bool, true, false, if◌then◌else◌, ◌&&◌}
 use Rattle.std.specs.Prelude.{◌⊎◌, nat_eq, nat_lt, [], Option, None, Some}
-use Rattle.generational_core.specs.Machine.{cell_at, Action, Answer, Fresh, Outcome, act, add_cell}
+use Rattle.generational_core.specs.Machine.{cell_at, Action, Answer, NewNames, Outcome, act, add_cell}
 use Rattle.generational_core.specs.Cells.{content_of}
 use Rattle.std.specs.FinSet as set
 use Rattle.generational_core.specs.declared.error.StoreError.{StoreError}
@@ -12,9 +12,9 @@ use Rattle.generational_core.specs.Names.{Name}
 use Rattle.generational_core.specs.Cells.Content.{Here}
 use Rattle.generational_core.specs.Cells.Cell.{Shared}
 use Rattle.generational_core.specs.State.{State}
-use Rattle.generational_core.specs.Borrowing.Trouble.{BeingRead}
+use Rattle.generational_core.specs.Borrowing.BorrowRefusal.{BeingRead}
 use Rattle.generational_core.specs.Machine.Action.{Make, MakeShared, Refer, NewOwner, Read}
-use Rattle.generational_core.specs.Machine.Answer.{Made, Owned, Reads, Writes, Troubled, Refused}
+use Rattle.generational_core.specs.Machine.Answer.{Made, Owned, Reads, Writes, BorrowRefused, Refused}
 use Rattle.generational_core.specs.Slots.{Fits, free}
 
 abbrev pub last_ticket : ℕ  -- the last number of all, which is never given as a ticket
@@ -25,18 +25,18 @@ abbrev pub want : StoreError → Option StoreError
 want UnknownOwner = None
 want e = Some e
 
-abbrev pub no_names : Fresh  -- names for calls that take none
+abbrev pub no_names : NewNames  -- names for calls that take none
 no_names =
     let none : Name = record { slot = 0; generation = 0 } in record { first = none; second = none }
 
 module _ {T : Type 0} where
   -- a name that was never given, and that fits
   pub record IsNew (S : State T) (n : Name) : Type 0 where
-    pub fresh : set.contains S.given n ≡ false
+    pub ungiven : set.contains S.given n ≡ false
     pub fits : Fits S n
 
   -- the names that a making takes; a shared value's second name is new beside its first
-  abbrev pub AreNew : State T → Action T → Fresh → Type 0
+  abbrev pub AreNew : State T → Action T → NewNames → Type 0
   AreNew S (Make o v l) f = IsNew S f.first
   AreNew S (MakeShared o v l) f =
       IsNew S f.first × IsNew (add_cell S f.first (Shared (Here v []) l)) f.second
@@ -44,7 +44,7 @@ module _ {T : Type 0} where
   AreNew S _ f = Unit {0}
 
   -- names are asked for only where the answer gives a box
-  abbrev pub Takes : State T → Action T → Answer T → Fresh → Type 0
+  abbrev pub Takes : State T → Action T → Answer T → NewNames → Type 0
   Takes S call (Made b) f = AreNew S call f
   Takes S call _ f = Unit {0}
 
@@ -72,7 +72,7 @@ module _ {T : Type 0} where
   needs_memory S (Owned o) NewOwner = true
   needs_memory S (Reads g) (Read b l) =
       is_some (write_refusal (content_of (cell_at S (reach S b))))
-  needs_memory S (Troubled (BeingRead readers)) call = true
+  needs_memory S (BorrowRefused (BeingRead readers)) call = true
   needs_memory S _ call = false
 
   -- the same of a call; of what kind its answer is doesn't depend on the names that it takes
@@ -83,5 +83,5 @@ module _ {T : Type 0} where
   -- or if memory lacked where it may, and then nothing changes.
   abbrev pub Meets : State T → Action T → Answer T → State T → Type 0
   Meets S call answer R =
-      ((new : Fresh) × Takes S call answer new × ((answer, R) ≡ limit_tickets S (act S call new)))
+      ((new : NewNames) × Takes S call answer new × ((answer, R) ≡ limit_tickets S (act S call new)))
       ⊎ ((may_lack S call ≡ true) × (answer ≡ Refused OutOfMemory) × (R ≡ S))

@@ -52,10 +52,10 @@ module _ {T : Type 0} where
   is_unborrowed_data _ = false
 
   -- the value, unless it's lent
-  abbrev pub value_in : StorageEntryData T → Option T
-  value_in (slot.Data k v) = Some v
-  value_in (slot.Read k i v) = Some v
-  value_in _ = None
+  abbrev pub data_value : StorageEntryData T → Option T
+  data_value (slot.Data k v) = Some v
+  data_value (slot.Read k i v) = Some v
+  data_value _ = None
 
   -- the value at which no reader is listed
   abbrev pub unread_in : StorageEntryData T → Option T
@@ -78,9 +78,9 @@ module _ {T : Type 0} where
   unread_data d = d
 
   -- listed readers have an index
-  abbrev pub IsListed : StorageEntryData T → Type 0
-  IsListed (slot.Read k i v) = i ≢ no_index
-  IsListed _ = Unit {0}
+  abbrev pub HasListIndex : StorageEntryData T → Type 0
+  HasListIndex (slot.Read k i v) = i ≢ no_index
+  HasListIndex _ = Unit {0}
 
   -- what a reference names
   abbrev pub target_of : StorageEntryData T → Option Name
@@ -133,9 +133,9 @@ module _ {T : Type 0} where
   index_in None = no_index
   index_in (Some e) = index_of e.content
 
-  abbrev pub IsListedIn : Option (StorageEntry T) → Type 0
-  IsListedIn None = Unit {0}
-  IsListedIn (Some e) = IsListed e.content
+  abbrev pub HasListIndexIn : Option (StorageEntry T) → Type 0
+  HasListIndexIn None = Unit {0}
+  HasListIndexIn (Some e) = HasListIndex e.content
 
   abbrev pub has_index : StorageEntry T → Bool
   has_index e = not (nat_eq (index_of e.content) no_index)
@@ -147,7 +147,7 @@ pub record AreIndexed {T : Type 0} (t : Table) (es : List (StorageEntry T)) : Ty
   pub apart : (j k : ℕ) → index_in (slice_get es j) ≢ no_index
       → index_in (slice_get es j) ≡ index_in (slice_get es k) → j ≡ k
   -- a slot whose value has listed readers has an index
-  pub listed : (k : ℕ) → IsListedIn (slice_get es k)
+  pub listed : (k : ℕ) → HasListIndexIn (slice_get es k)
   -- the indexes of slots and the free ones are all that there are, as many as slots at most
   pub counted : set.len t.free + how_many has_index es ≡ length t.lists
   pub few : length t.lists ≤ length es

@@ -15,10 +15,10 @@ use Rattle.generational_core.specs.Names.{Name}
 use Rattle.generational_core.specs.Cells.{Content, Cell}
 use Rattle.generational_core.specs.Cells.Cell.{Value, Shared, Ref}
 use Rattle.generational_core.specs.Cells.Content.{Here, Lent}
-use Rattle.generational_core.specs.Borrowing.{Trouble, write_refusal}
-use Rattle.generational_core.specs.Borrowing.Trouble.{BeingRead}
+use Rattle.generational_core.specs.Borrowing.{BorrowRefusal, write_refusal}
+use Rattle.generational_core.specs.Borrowing.BorrowRefusal.{BeingRead}
 use Rattle.generational_core.specs.Machine.{has_reader}
-use Rattle.generational_core.specs.Answers.{trouble_of, value_of}
+use Rattle.generational_core.specs.Answers.{refusal_of_error, value_of}
 
 -- What a slot has: nothing; a live value with its borrows, a box's own or a shared one; or a
 -- reference. The location is where the cell was made.
@@ -144,18 +144,18 @@ module _ {T : Type 0} where
 -- the locations of these readers, unless their list found no memory
 abbrev pub FoundReaders : List Borrow → Refused BorrowMutError → Type 0
 FoundReaders readers (refused.Borrow e) =
-    trouble_of e ≡ BeingRead (list_map (λ r. r.location) readers)
+    refusal_of_error e ≡ BeingRead (list_map (λ r. r.location) readers)
 FoundReaders readers (refused.Store OutOfMemory) = Unit {0}
 FoundReaders readers (refused.Store _) = ⊥
 
 -- readers stand in the way
-abbrev pub IsBeingRead : Option Trouble → Type 0
+abbrev pub IsBeingRead : Option BorrowRefusal → Type 0
 IsBeingRead (Some (BeingRead ls)) = Unit {0}
 IsBeingRead _ = ⊥
 
--- a call that meets this trouble, or none, is answered so, unless its list found no memory
-abbrev pub FoundBorrowed : Option Trouble → Result (Unit {0}) (Refused BorrowMutError) → Type 0
-FoundBorrowed trouble (Ok u) = trouble ≡ None
-FoundBorrowed trouble (Err (refused.Borrow e)) = trouble ≡ Some (trouble_of e)
-FoundBorrowed trouble (Err (refused.Store OutOfMemory)) = IsBeingRead trouble
-FoundBorrowed trouble (Err (refused.Store _)) = ⊥
+-- a call that meets this refusal, or none, is answered so, unless its list found no memory
+abbrev pub FoundBorrowed : Option BorrowRefusal → Result (Unit {0}) (Refused BorrowMutError) → Type 0
+FoundBorrowed refusal (Ok u) = refusal ≡ None
+FoundBorrowed refusal (Err (refused.Borrow e)) = refusal ≡ Some (refusal_of_error e)
+FoundBorrowed refusal (Err (refused.Store OutOfMemory)) = IsBeingRead refusal
+FoundBorrowed refusal (Err (refused.Store _)) = ⊥

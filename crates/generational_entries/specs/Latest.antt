@@ -14,9 +14,9 @@ use Rattle.generational_entries.specs.Entry.{with_content}
 use Rattle.generational_entries.specs.Entry.{change_entry}
 
 -- whether a borrow stands apart, and which
-abbrev pub is_apart : Standing → Bool
-is_apart standing.Nobody = false
-is_apart _ = true
+abbrev pub is_noted : Standing → Bool
+is_noted standing.Nobody = false
+is_noted _ = true
 
 abbrev pub is_reader : Standing → Bool
 is_reader standing.Reader = true
@@ -42,7 +42,7 @@ module _ {T : Type 0} where
   -- the slots with the borrow that stands apart, if there is one
   abbrev pub noted : LastBorrow → List (Entry T) → List (Entry T)
   noted r slots =
-      if is_apart r.standing then change_entry slots r.slot
+      if is_noted r.standing then change_entry slots r.slot
       (λ e. record e { kept = with_content (joined r.standing r.borrow) e.kept })
       else slots
 
@@ -65,4 +65,4 @@ module _ {T : Type 0} where
       (e.generation ≡ r.generation) × (may_join r.standing r.borrow.ticket (content_in e.kept) ≡ true)
 
   abbrev pub IsNoted : LastBorrow → List (Entry T) → Type 0
-  IsNoted r slots = is_apart r.standing ≡ true → HasApart r (slice_get slots r.slot)
+  IsNoted r slots = is_noted r.standing ≡ true → HasApart r (slice_get slots r.slot)

@@ -8,7 +8,7 @@ ghost use Rattle.std.specs.Prelude.{length};
 ghost use Rattle.std.specs.Prelude.{option_copied, option_map, slice_get, slice_set};
 ghost use Rattle.generational_core.specs.Cells.Content.{Here};
 ghost use Rattle.generational_core.specs.Borrowing.{read_refusal, write_refusal};
-ghost use Rattle.generational_core.specs.Borrowing.Trouble.{BeingWritten};
+ghost use Rattle.generational_core.specs.Borrowing.BorrowRefusal.{BeingWritten};
 ghost use Rattle.generational_core.specs.Machine.{has_reader, has_writer};
 ghost use Rattle.generational_core.specs.Slots.{last_generation};
 ghost use Rattle.generational_core.specs.declared.error.StoreError.TheVariants.{OutOfMemory};
@@ -27,7 +27,7 @@ ghost use Rattle.generational_entries.specs.Entry.{with_reader, value_for};
 ghost use Rattle.generational_entries.specs.Entry.{without_reader_in, lend_to, with_value};
 ghost use Rattle.generational_entries.specs.Entry.{FoundBorrowed};
 ghost use Rattle.generational_entries.specs.Entry.{cell_at, change_entry};
-ghost use Rattle.generational_entries.specs.Latest.{noted, IsAlone, IsNoted, IsReadable, is_apart};
+ghost use Rattle.generational_entries.specs.Latest.{noted, IsAlone, IsNoted, IsReadable, is_noted};
 ghost use Rattle.generational_entries.specs.Latest.{is_reader, is_writer, joined};
 ghost use Rattle.std.specs.Prelude.{false};
 
@@ -175,7 +175,7 @@ impl<T> Entries<T> {
         ensures { result
             ≡ is_some (content_of (cell_at self.now.slots (name_of_cell name))) }
     {
-        if self.last.is_apart()
+        if self.last.is_noted()
             && self.last.slot == name.slot
             && self.last.generation == name.generation
         {
@@ -189,7 +189,7 @@ impl<T> Entries<T> {
     pub fn has_unborrowed_value(&self, name: CellName) -> bool
         ensures { result ≡ is_unborrowed_value (cell_at self.now.slots (name_of_cell name)) }
     {
-        if self.last.is_apart() && self.last.slot == name.slot {
+        if self.last.is_noted() && self.last.slot == name.slot {
             return false;
         }
         match self.settled.entries.get(name.slot) {
@@ -218,7 +218,7 @@ impl<T> Entries<T> {
         ensures { IfSome (slice_get self.now.slots slot)
             (λ e. result ≡ is_none (write_refusal (content_in e.kept))) }
     {
-        if self.last.is_apart() && self.last.slot == slot {
+        if self.last.is_noted() && self.last.slot == slot {
             return false;
         }
         self.settled.is_unborrowed(slot)
@@ -231,7 +231,7 @@ impl<T> Entries<T> {
         ensures { IfSome (slice_get self.now.slots slot)
             (λ e. FoundBorrowed (write_refusal (content_in e.kept)) result) }
     {
-        if self.last.is_apart() && self.last.slot == slot {
+        if self.last.is_noted() && self.last.slot == slot {
             return last_error(&self.settled, self.last);
         }
         self.settled.borrow_mut_error(slot)
@@ -240,7 +240,7 @@ impl<T> Entries<T> {
     /// Whether no borrow stands apart.
     #[inline(always)]
     pub fn is_settled(&self) -> bool {
-        !self.last.is_apart()
+        !self.last.is_noted()
     }
 
     /// The value, where the reader stands.
@@ -331,13 +331,13 @@ impl<T: Drop> Entries<T> {
             self.last.standing = Standing::Nobody;
             return true;
         }
-        self.release_read_any(slot, ticket)
+        self.release_read_slow(slot, ticket)
     }
 
     // The same, for every reader.
     #[cold]
     #[inline(never)]
-    fn release_read_any(&mut self, slot: usize, ticket: u64) -> bool
+    fn release_read_slow(&mut self, slot: usize, ticket: u64) -> bool
         requires { slot < length self.old.slots }
         ensures known { IfSome (slice_get self.old.slots slot)
             (λ e. result ≡ has_reader (content_in e.kept) ticket) }
@@ -386,13 +386,13 @@ impl<T: Drop> Entries<T> {
             self.settled.put_back(slot, value);
             return Ok(());
         }
-        self.release_write_any(slot, ticket, value)
+        self.release_write_slow(slot, ticket, value)
     }
 
     // The same, for every writer.
     #[cold]
     #[inline(never)]
-    fn release_write_any(&mut self, slot: usize, ticket: u64, value: T) -> Result<(), T>
+    fn release_write_slow(&mut self, slot: usize, ticket: u64, value: T) -> Result<(), T>
         requires { slot < length self.old.slots }
         ensures known { IfSome (slice_get self.old.slots slot)
             (λ e. IsTrue (is_ok result) ↔ (has_writer (content_in e.kept) ticket ≡ true)) }
@@ -521,9 +521,9 @@ fn settle<T: Drop>(settled: &mut SettledEntries<T>, last: &mut LastBorrow)
     requires { IsNoted last.old settled.old.slots }
     ensures slots { settled.new.slots ≡ noted last.old settled.old.slots }
     ensures rooms { settled.new.rooms ≡ settled.old.rooms }
-    ensures none { is_apart last.new.standing ≡ false }
+    ensures none { is_noted last.new.standing ≡ false }
 {
-    if last.is_apart() {
+    if last.is_noted() {
         list_last(settled, *last);
         last.standing = Standing::Nobody;
     }
@@ -534,7 +534,7 @@ fn settle<T: Drop>(settled: &mut SettledEntries<T>, last: &mut LastBorrow)
 #[cold]
 #[inline(never)]
 fn last_error<T>(entries: &SettledEntries<T>, last: LastBorrow) -> BorrowMutResult<()>
-    requires apart { is_apart last.standing ≡ true }
+    requires apart { is_noted last.standing ≡ true }
     requires fits { IsNoted last entries.now.slots }
     ensures { IfSome (slice_get entries.now.slots last.slot) (λ e. FoundBorrowed
         (write_refusal (content_in (with_content (joined last.standing last.borrow) e.kept)))
@@ -553,7 +553,7 @@ fn last_error<T>(entries: &SettledEntries<T>, last: LastBorrow) -> BorrowMutResu
 #[cold]
 #[inline(never)]
 fn list_last<T: Drop>(entries: &mut SettledEntries<T>, last: LastBorrow)
-    requires apart { is_apart last.standing ≡ true }
+    requires apart { is_noted last.standing ≡ true }
     requires fits { IsNoted last entries.old.slots }
     ensures slots { entries.new.slots ≡ noted last entries.old.slots }
     ensures rooms { entries.new.rooms ≡ entries.old.rooms }

@@ -7,7 +7,7 @@ ghost use Rattle.std.specs.Prelude.{false};
 ghost use Rattle.generational_entries.specs.Entries.{is_unborrowed_data, lent_data};
 ghost use Rattle.generational_entries.specs.Entries.{read_data, unread_data, unread_in};
 ghost use Rattle.generational_entries.specs.Entries.{index_of, lead_of, kind_of, target_of};
-ghost use Rattle.generational_entries.specs.Entries.{value_in};
+ghost use Rattle.generational_entries.specs.Entries.{data_value};
 ghost use Rattle.generational_containers.specs.CellNames.{name_of_cell};
 
 use generational_containers::names::CellName;
@@ -211,8 +211,8 @@ impl<T> StorageEntryData<T> {
     pub fn into_value(self) -> T
     where
         T: Drop,
-        requires { IsSome (value_in self) }
-        ensures { value_in self ≡ Some result }
+        requires { IsSome (data_value self) }
+        ensures { data_value self ≡ Some result }
     {
         match self {
             StorageEntryData::Data(_, value) | StorageEntryData::Read(_, _, value) => value,

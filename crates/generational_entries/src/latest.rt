@@ -1,7 +1,7 @@
 //! The borrow that began last, if it stands apart from the lists.
 
 ghost use Rattle.std.specs.Prelude.{◌≡◌};
-ghost use Rattle.generational_entries.specs.Latest.{is_apart, is_reader, is_writer};
+ghost use Rattle.generational_entries.specs.Latest.{is_noted, is_reader, is_writer};
 
 use generational_core::parts::Borrow;
 
@@ -25,8 +25,8 @@ pub struct LastBorrow {
 impl LastBorrow {
     /// Whether a borrow stands apart.
     #[inline(always)]
-    pub fn is_apart(&self) -> bool
-        ensures { result ≡ is_apart self.now.standing }
+    pub fn is_noted(&self) -> bool
+        ensures { result ≡ is_noted self.now.standing }
     {
         !matches!(self.standing, Standing::Nobody)
     }

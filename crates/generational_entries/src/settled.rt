@@ -8,7 +8,7 @@ ghost use Rattle.std.specs.Prelude.{length};
 ghost use Rattle.std.specs.Prelude.{option_copied, option_map, slice_get, slice_set};
 ghost use Rattle.generational_core.specs.Cells.Content.{Here};
 ghost use Rattle.generational_core.specs.Borrowing.{read_refusal, write_refusal};
-ghost use Rattle.generational_core.specs.Borrowing.Trouble.{BeingWritten};
+ghost use Rattle.generational_core.specs.Borrowing.BorrowRefusal.{BeingWritten};
 ghost use Rattle.generational_core.specs.Machine.{has_reader, has_writer};
 ghost use Rattle.generational_core.specs.Slots.{last_generation};
 ghost use Rattle.generational_core.specs.declared.error.Refused.TheVariants as refused;

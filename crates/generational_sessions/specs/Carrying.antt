@@ -15,13 +15,13 @@ use Rattle.generational_core.specs.Cells.Cell.{Value, Shared, Ref}
 use Rattle.generational_core.specs.State.{State, Ownership}
 use Rattle.generational_core.specs.Borrowing.{Guard}
 use Rattle.generational_core.specs.Boxes.{name_of, box_of}
-use Rattle.generational_core.specs.Machine.{Action, Answer, OwnerName, Fresh}
+use Rattle.generational_core.specs.Machine.{Action, Answer, OwnerName, NewNames}
 use Rattle.generational_core.specs.Machine.Action.{Make, MakeShared, Refer, NewOwner, CloneOwner}
 use Rattle.generational_core.specs.Machine.Action.{ReleaseOwner, LeakOwner, Read, Write}
 use Rattle.generational_core.specs.Machine.Action.{ReleaseReader, ReleaseWriter, SetValue, End}
 use Rattle.generational_core.specs.Machine.Action.{Point, CanRead, CanWrite}
 use Rattle.generational_core.specs.Machine.Answer.{Made, Owned, Reads, Writes, Done, Old, Flag}
-use Rattle.generational_core.specs.Machine.Answer.{Back, Troubled, Refused}
+use Rattle.generational_core.specs.Machine.Answer.{Back, BorrowRefused, Refused}
 
 -- what becomes of the boxes, guards, owners and values in calls and answers
 pub record Mapping (T U : Type 0) : Type 0 where
@@ -58,7 +58,7 @@ module _ {T U : Type 0} (m : Mapping T U) where
   map_answer (Old v) = Old (m.value v)
   map_answer (Flag b) = Flag b
   map_answer (Back v) = Back (m.value v)
-  map_answer (Troubled t) = Troubled t
+  map_answer (BorrowRefused t) = BorrowRefused t
   map_answer (Refused cause) = Refused cause
 
 module _ (f : Name → Name) (d : ℕ) where
@@ -156,11 +156,11 @@ KnowsAnswer Knows number (Writes g v) = KnowsGuard Knows number g
 KnowsAnswer Knows number _ = Unit {0}
 
 -- the new names that a call takes are known
-abbrev pub KnowsFresh : {T : Type 0} → (Name → Type 0) → Action T → Fresh → Type 0
-KnowsFresh Knows (Make o v l) new = Knows new.first
-KnowsFresh Knows (MakeShared o v l) new = Knows new.first × Knows new.second
-KnowsFresh Knows (Refer o b) new = Knows new.first
-KnowsFresh Knows _ new = Unit {0}
+abbrev pub KnowsNewNames : {T : Type 0} → (Name → Type 0) → Action T → NewNames → Type 0
+KnowsNewNames Knows (Make o v l) new = Knows new.first
+KnowsNewNames Knows (MakeShared o v l) new = Knows new.first × Knows new.second
+KnowsNewNames Knows (Refer o b) new = Knows new.first
+KnowsNewNames Knows _ new = Unit {0}
 
-abbrev pub rename_fresh : (Name → Name) → Fresh → Fresh
-rename_fresh f new = record { first = f new.first; second = f new.second }
+abbrev pub rename_new_names : (Name → Name) → NewNames → NewNames
+rename_new_names f new = record { first = f new.first; second = f new.second }

@@ -10,7 +10,7 @@ use Rattle.generational_sessions.specs.declared.calls.Call.{Call}
 use Rattle.generational_core.specs.Names.{Name, Names, among}
 use Rattle.generational_core.specs.Boxes.{id_of}
 use Rattle.generational_core.specs.Conditions.{fresh}
-use Rattle.generational_core.specs.Machine.{Fresh, act}
+use Rattle.generational_core.specs.Machine.{NewNames, act}
 use Rattle.generational_core.specs.Steps.{want}
 use Rattle.generational_sessions.specs.Session.{SessionState, SessionReply, Request, add_place}
 use Rattle.generational_sessions.specs.Session.{refusal}
@@ -92,7 +92,7 @@ module _ {T : Type 0} where
   refusal_in _ = None
 
   -- the numbers behind all that were given
-  abbrev pub next_numbers : SessionState T → Fresh
+  abbrev pub next_numbers : SessionState T → NewNames
   next_numbers a =
       let count = set.len a.state.given in
       record { first = number count; second = number (count + 1) }

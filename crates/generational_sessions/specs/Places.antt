@@ -10,7 +10,7 @@ use Rattle.generational_core.specs.declared.error.BorrowMutError.{BorrowMutError
 use Rattle.generational_core.specs.declared.error.Refusal.{Refusal}
 use Rattle.generational_core.specs.declared.error.Refused.{Refused}
 use Rattle.generational_core.specs.declared.error.Refused.TheVariants as refused
-use Rattle.generational_core.specs.Answers.{pointer_of, read_trouble_of, trouble_of}
+use Rattle.generational_core.specs.Answers.{pointer_of, read_trouble_of, refusal_of_error}
 use Rattle.generational_sessions.specs.declared.calls.Call.{Call}
 use Rattle.generational_core.specs.State.{State}
 use Rattle.generational_core.specs.Machine.{Answer}
@@ -47,7 +47,7 @@ module _ {T : Type 0} where
   as_reply (reply.Id id) = TheId id
   as_reply (reply.Slot n) = TheSlot n
   as_reply (reply.Created l) = Created l
-  as_reply (reply.Error e) = Error (trouble_of e)
+  as_reply (reply.Error e) = Error (refusal_of_error e)
   as_reply (reply.Store e) = Lacking e
   as_reply (reply.Back v e) = HandedBack v e
   as_reply (reply.Unready back) = Unready back
@@ -58,7 +58,7 @@ module _ {T : Type 0} where
 
   -- what the reply to a refusal says, where no value was handed in
   abbrev pub as_refusal : Refused BorrowMutError → SessionReply T
-  as_refusal (refused.Borrow e) = Error (trouble_of e)
+  as_refusal (refused.Borrow e) = Error (refusal_of_error e)
   as_refusal (refused.Store e) = Lacking e
 
   -- the same of a refused read, and of a refused making of a reference

@@ -10,7 +10,7 @@ use Rattle.generational_sessions.specs.declared.calls.Call.TheVariants as call
 use Rattle.generational_core.specs.State.{State, Ownership}
 use Rattle.generational_core.specs.Conditions.{IsEnded, AreEnded}
 use Rattle.generational_core.specs.Boxes.{name_of}
-use Rattle.generational_core.specs.Borrowing.Trouble.{Dropped}
+use Rattle.generational_core.specs.Borrowing.BorrowRefusal.{Dropped}
 use Rattle.generational_core.specs.Machine.{Action, OwnerName, act, ownership}
 use Rattle.generational_sessions.specs.Numbered.{refusal_in}
 use Rattle.generational_sessions.specs.Session.{SessionState, SessionReply, Run, box_in, at_place}
@@ -52,7 +52,7 @@ module _ {T : Type 0} where
   -- a box of this store, whose name was never given before
   pub record IsFirstGiven (S : State T) (b : GenerationalPointer) : Type 0 where
     pub number : b.id.store ≡ S.number
-    pub fresh : set.contains S.given (name_of b) ≡ false
+    pub ungiven : set.contains S.given (name_of b) ≡ false
 
   -- a reply gives no box but one that is given for the first time
   abbrev pub GivesNewBox : SessionState T → SessionReply T → Type 0

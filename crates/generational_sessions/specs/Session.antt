@@ -13,13 +13,13 @@ use Rattle.generational_sessions.specs.declared.calls.Call.TheVariants as call
 use Rattle.generational_core.specs.Answers.{pointer_of, value_behind}
 use Rattle.generational_core.specs.Boxes.{has_same_id}
 use Rattle.generational_core.specs.State.{State}
-use Rattle.generational_core.specs.Borrowing.{Trouble, Guard, can_read, can_write}
+use Rattle.generational_core.specs.Borrowing.{BorrowRefusal, Guard, can_read, can_write}
 use Rattle.generational_core.specs.Machine.{Action, Answer, OwnerName, Outcome, act}
 use Rattle.generational_core.specs.Machine.Action.{Make, MakeShared, Refer, NewOwner, CloneOwner}
 use Rattle.generational_core.specs.Machine.Action.{ReleaseOwner, LeakOwner, Read, Write}
 use Rattle.generational_core.specs.Machine.Action.{ReleaseReader, ReleaseWriter, SetValue, End}
 use Rattle.generational_core.specs.Machine.Action.{Point, CanRead, CanWrite}
-use Rattle.generational_core.specs.Machine.Answer.{Made, Owned, Reads, Writes, Done, Flag, Troubled}
+use Rattle.generational_core.specs.Machine.Answer.{Made, Owned, Reads, Writes, Done, Flag, BorrowRefused}
 use Rattle.generational_core.specs.Machine.Answer.{Refused}
 use Rattle.generational_core.specs.Steps.{Meets, no_names}
 
@@ -48,7 +48,7 @@ pub data SessionReply (T : Type 0) : Type 0 where
   TheId : (id : GenerationalBoxId) → SessionReply T
   TheSlot : (slot : ℕ) → SessionReply T
   Created : (location : Location) → SessionReply T
-  Error : (trouble : Trouble) → SessionReply T
+  Error : (refusal : BorrowRefusal) → SessionReply T
   Lacking : (cause : StoreError) → SessionReply T
   HandedBack : (value : T) (cause : StoreError) → SessionReply T
   Unready : (back : Option T) → SessionReply T
@@ -166,7 +166,7 @@ module _ {T : Type 0} where
   reply_of c (Reads g) = AReader
   reply_of c (Writes g v) = AWriter
   reply_of c (Flag b) = if is_release c then IsDone else Yes b
-  reply_of c (Troubled t) = Error t
+  reply_of c (BorrowRefused t) = Error t
   reply_of c (Refused e) = refusal c e
   reply_of c _ = IsDone
 

@@ -18,7 +18,7 @@ ghost use Rattle.generational_core.specs.Cells.{is_shared};
 ghost use Rattle.std.specs.FinMap as map;
 ghost use Rattle.generational_core.specs.State.{State, Ownership, IsSound, IsGiven};
 ghost use Rattle.generational_core.specs.State.{IsBoxed};
-ghost use Rattle.generational_core.specs.Borrowing.{Guard, reach, read_trouble, write_trouble};
+ghost use Rattle.generational_core.specs.Borrowing.{Guard, reach, refusal_to_read, refusal_to_write};
 ghost use Rattle.generational_core.specs.Borrowing.{can_read, can_write};
 ghost use Rattle.generational_core.specs.Machine.{Action, Answer, OwnerName, ownership};
 ghost use Rattle.generational_core.specs.Machine.{knows_reader, knows_writer};
@@ -27,7 +27,8 @@ ghost use Rattle.generational_core.specs.Machine.Action.{Read, Write, ReleaseRea
 ghost use Rattle.generational_core.specs.Machine.Action.{ReleaseWriter, End, Point};
 ghost use Rattle.generational_core.specs.Machine.Answer.{Made, Reads, Writes, Flag};
 ghost use Rattle.generational_core.specs.Steps.{Meets};
-ghost use Rattle.generational_core.specs.Conditions.{fresh, one_listed, IsEnded};
+ghost use Rattle.generational_core.specs.Conditions.{fresh, IsEnded};
+ghost use Rattle.generational_core.specs.State.{one_listed};
 ghost use Rattle.generational_core.specs.Answers.{WriteGuard, value_behind, pointer_of};
 ghost use Rattle.generational_core.specs.Answers.{box_answer, reference_box_answer, read_answer};
 ghost use Rattle.generational_core.specs.Answers.{write_answer, back_answer, end_answer};
@@ -102,7 +103,7 @@ pub fn calls_leave_other_boxes<T>()
         (b : GenerationalPointer) → Meets S call answer R →
         IsGiven S (name_of b) → GivesOther call answer b }
     ensures borrows { (S R : State T) (b : GenerationalPointer) → IsLeft S b R →
-        (read_trouble R b ≡ read_trouble S b) × (write_trouble R b ≡ write_trouble S b) }
+        (refusal_to_read R b ≡ refusal_to_read S b) × (refusal_to_write R b ≡ refusal_to_write S b) }
 {}
 
 /// A guard stays known until that very guard is released, and a reader's opens the same value, which

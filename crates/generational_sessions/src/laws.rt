@@ -14,14 +14,14 @@ ghost use Rattle.generational_core.specs.State.{State, Ownership, IsSound};
 ghost use Rattle.generational_core.specs.Conditions.{IsLive, IsEnded, IsNamed};
 ghost use Rattle.generational_core.specs.Conditions.{fresh};
 ghost use Rattle.generational_core.specs.Boxes.{name_of, has_same_id};
-ghost use Rattle.generational_core.specs.Borrowing.{reach, read_trouble, write_trouble};
+ghost use Rattle.generational_core.specs.Borrowing.{reach, refusal_to_read, refusal_to_write};
 ghost use Rattle.generational_core.specs.Borrowing.{can_read, can_write};
-ghost use Rattle.generational_core.specs.Borrowing.Trouble.{Dropped};
-ghost use Rattle.generational_core.specs.Machine.{Action, Answer, Fresh, OwnerName, act, ownership};
+ghost use Rattle.generational_core.specs.Borrowing.BorrowRefusal.{Dropped};
+ghost use Rattle.generational_core.specs.Machine.{Action, Answer, NewNames, OwnerName, act, ownership};
 ghost use Rattle.generational_core.specs.Machine.{is_known};
 ghost use Rattle.generational_core.specs.Machine.Action.{ReleaseOwner, LeakOwner};
 ghost use Rattle.generational_core.specs.Machine.Answer.{Done};
-ghost use Rattle.generational_core.specs.Conditions.{one_less};
+ghost use Rattle.generational_core.specs.State.{one_less};
 ghost use Rattle.generational_core.specs.Conditions.{IsReleased};
 ghost use Rattle.generational_core.specs.Steps.{Meets};
 ghost use Rattle.generational_core.specs.Slots.{slots, retired, lasts};
@@ -68,7 +68,7 @@ ghost use Rattle.generational_core.specs.Answers.{box_answer, reference_box_answ
 ghost use Rattle.generational_core.specs.Answers.{write_answer, back_answer, end_answer};
 ghost use Rattle.generational_core.specs.Answers.{owner_answer, release_answer};
 ghost use Rattle.generational_core.specs.Answers.{free_read_answer, free_write_answer};
-ghost use Rattle.generational_core.specs.Conditions.{one_listed};
+ghost use Rattle.generational_core.specs.State.{one_listed};
 ghost use Rattle.std.specs.List.{AllByRecursion};
 
 /// A state in which nothing was made is sound, and each call leads from a sound state to a sound
@@ -85,9 +85,9 @@ pub fn ended_names_stay_ended<T>()
     ensures step { (S R : State T) (call : Action T) (answer : Answer T) (n : Name) →
         Meets S call answer R → IsEnded S n → IsEnded R n }
     ensures read { (S : State T) (b : GenerationalPointer) →
-        IsEnded S (name_of b) → read_trouble S b ≡ Some (Dropped b.created_at) }
+        IsEnded S (name_of b) → refusal_to_read S b ≡ Some (Dropped b.created_at) }
     ensures write { (S : State T) (b : GenerationalPointer) →
-        IsEnded S (name_of b) → write_trouble S b ≡ Some (Dropped b.created_at) }
+        IsEnded S (name_of b) → refusal_to_write S b ≡ Some (Dropped b.created_at) }
 {}
 
 /// In a sound state, a shared value is live exactly while a live Ref names it, and a box whose cell
@@ -359,7 +359,7 @@ pub fn sessions_are_bounded<T>()
 /// The machine without values takes the very same steps: what is answered, and what is left, are
 /// those of the machine with values, without the values.
 pub fn plain_states_step<T>()
-    ensures step { (S : State T) (call : Action T) (new : Fresh) →
+    ensures step { (S : State T) (call : Action T) (new : NewNames) →
         act (plain S) (plain_call call) new
         ≡ (plain_answer (act S call new).0, plain (act S call new).1) }
     ensures meets { (S R : State T) (call : Action T) (answer : Answer T) →
@@ -414,7 +414,7 @@ pub fn boxes_are_told_apart_by_ids()
 /// of readers nor of a writer; a release by a ticket is the release of any guard with that ticket.
 /// So a call that is ready is never answered so.
 pub fn calls_are_ready_where_no_borrow_is_told<T>()
-    ensures answer { (S : State T) (call : Action T) (step : StepCall) (new : Fresh) →
+    ensures answer { (S : State T) (call : Action T) (step : StepCall) (new : NewNames) →
         recorded_as call ≡ Some step → is_ready S step ≡ not (is_hindered (act S call new).0) }
     ensures ready { (S R : State T) (call : Action T) (step : StepCall) (answer : Answer T) →
         recorded_as call ≡ Some step → is_ready S step ≡ true → Meets S call answer R →

@@ -9,4 +9,4 @@ pub mod Recounts
 pub mod References
 pub mod States
 pub mod Turning
-pub mod Turns
+pub mod IsTurned

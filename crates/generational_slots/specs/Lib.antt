@@ -1,1 +1,1 @@
-pub mod Slotted
+pub mod SlotsState

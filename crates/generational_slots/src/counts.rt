@@ -1,7 +1,7 @@
 //! How many slots a store has, and how many of them were retired.
 
 ghost use Rattle.std.specs.Prelude.{◌≡◌, ◌+◌, ◌<◌, ◌≤◌};
-ghost use Rattle.generational_slots.specs.Slotted.{count_of};
+ghost use Rattle.generational_slots.specs.SlotsState.{count_of};
 
 use std::marker::Model;
 
@@ -29,7 +29,7 @@ pub struct Counts {
 }
 
 impl Model for Counts {
-    ghost use Rattle.generational_slots.specs.Slotted.{Retirements};
+    ghost use Rattle.generational_slots.specs.SlotsState.{Retirements};
 
     ghost Value = { Retirements };
 

@@ -7,11 +7,11 @@ ghost use Rattle.generational_core.specs.Ending.{cells_after, first_hindrance};
 ghost use Rattle.generational_core.specs.Names.{is_name};
 ghost use Rattle.generational_entries.specs.Entry.{FoundBorrowed, is_unborrowed_value};
 ghost use Rattle.generational_containers.specs.CellNames.{name_of_cell};
-ghost use Rattle.generational_slots.specs.Slotted.{AreReferred, cells_of, doomed_by};
+ghost use Rattle.generational_slots.specs.SlotsState.{AreReferred, cells_of, doomed_by};
 ghost use Rattle.generational_entries.specs.Entry.{cell_at};
-ghost use Rattle.generational_slots.specs.Slotted.{first_refusal, has_more, reaches_borrowed};
-ghost use Rattle.generational_slots.specs.Slotted.{refers_among};
-ghost use Rattle.generational_slots.specs.Slotted.{with_more};
+ghost use Rattle.generational_slots.specs.SlotsState.{first_refusal, has_more, reaches_borrowed};
+ghost use Rattle.generational_slots.specs.SlotsState.{refers_among};
+ghost use Rattle.generational_slots.specs.SlotsState.{with_more};
 
 use generational_containers::names::CellName;
 use generational_core::BorrowMutResult;

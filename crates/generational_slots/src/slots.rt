@@ -15,7 +15,8 @@ ghost use Rattle.generational_core.specs.Boxes.{box_of};
 ghost use Rattle.generational_core.specs.Cells.{is_shared, location_of};
 ghost use Rattle.generational_core.specs.Cells.Content.{Here, Lent};
 ghost use Rattle.generational_core.specs.Cells.Cell.{Ref};
-ghost use Rattle.generational_core.specs.Conditions.{fresh, HasTargets, IsFresh, IsLinked};
+ghost use Rattle.generational_core.specs.Conditions.{fresh, IsFresh, IsLinked};
+ghost use Rattle.generational_core.specs.State.{HasTargets};
 ghost use Rattle.generational_core.specs.Ending.{close, hindrance_to};
 ghost use Rattle.generational_core.specs.Machine.{has_reader, has_writer, point, turn};
 ghost use Rattle.generational_core.specs.Names.{is_name};
@@ -29,12 +30,12 @@ ghost use Rattle.generational_entries.specs.Entry.{FoundBorrowed, cell_at, cell_
 ghost use Rattle.generational_entries.specs.Entry.{less_read, one_read, readers_of};
 ghost use Rattle.generational_containers.specs.CellNames.{name_of_cell};
 ghost use Rattle.generational_entries.specs.Entry.{target_in, value_for};
-ghost use Rattle.generational_slots.specs.Slotted.{change_content, content_reached, reached};
-ghost use Rattle.generational_slots.specs.Slotted.{read_trouble_at, refer_trouble_at};
-ghost use Rattle.generational_slots.specs.Slotted.{write_trouble_at};
-ghost use Rattle.generational_slots.specs.Slotted.{count_less, count_more, doomed_by, IsMade};
-ghost use Rattle.generational_slots.specs.Slotted.{Turns};
-ghost use Rattle.generational_slots.specs.Slotted.{shared_target, with_records};
+ghost use Rattle.generational_slots.specs.SlotsState.{change_content, content_reached, reached};
+ghost use Rattle.generational_slots.specs.SlotsState.{refusal_to_read_at, refusal_to_refer_at};
+ghost use Rattle.generational_slots.specs.SlotsState.{refusal_to_write_at};
+ghost use Rattle.generational_slots.specs.SlotsState.{count_less, count_more, doomed_by, IsMade};
+ghost use Rattle.generational_slots.specs.SlotsState.{IsTurned};
+ghost use Rattle.generational_slots.specs.SlotsState.{shared_target, with_records};
 
 use crate::counts::{Counts, SlotCounts};
 use crate::hindrance::{doomed, find_hindrance};
@@ -65,10 +66,10 @@ impl<T, P: SlotPool> Model for Slots<T, P> {
     ghost use Rattle.std.specs.Coded.{codes};
     ghost use Rattle.std.specs.FinMap as map;
     ghost use Rattle.std.specs.FinSet as set;
-    ghost use Rattle.generational_slots.specs.Slotted.{Slotted, state_of, IsSlotted, AreReferred};
-    ghost use Rattle.generational_slots.specs.Slotted.{count_of};
+    ghost use Rattle.generational_slots.specs.SlotsState.{SlotsState, state_of, IsSlotTable, AreReferred};
+    ghost use Rattle.generational_slots.specs.SlotsState.{count_of};
 
-    ghost Value = { Slotted T };
+    ghost Value = { SlotsState T };
 
     ghost coded = { Prim.hlevel (codes, map.code) };
 
@@ -78,7 +79,7 @@ impl<T, P: SlotPool> Model for Slots<T, P> {
     } };
 
     ghost invariant = { λ s.
-        IsSlotted (record {
+        IsSlotTable (record {
           free = P.members s.pool;
           rooms = P.rooms s.pool;
           start = s.start;
@@ -151,7 +152,7 @@ impl<T: Drop, P: SlotPool> Slots<T, P> {
     pub fn can_read(&self, name: CellName) -> bool
         requires { IsLinked self.now.state.cells }
         ensures { (created : Location) → result
-            ≡ is_none (read_trouble_at self.now.state (name_of_cell name) created) }
+            ≡ is_none (refusal_to_read_at self.now.state (name_of_cell name) created) }
     {
         match self.entries.reach(name) {
             Some(value) => self.entries.borrow_error(value.slot).is_none(),
@@ -163,7 +164,7 @@ impl<T: Drop, P: SlotPool> Slots<T, P> {
     pub fn may_read(&self, name: CellName) -> bool
         requires { IsLinked self.now.state.cells }
         ensures { (created : Location) → result ≡ not (tells_of_borrow
-            (read_trouble_at self.now.state (name_of_cell name) created)) }
+            (refusal_to_read_at self.now.state (name_of_cell name) created)) }
     {
         match self.entries.reach(name) {
             Some(value) => self.entries.borrow_error(value.slot).is_none(),
@@ -176,7 +177,7 @@ impl<T: Drop, P: SlotPool> Slots<T, P> {
     pub fn can_write(&self, name: CellName) -> bool
         requires { IsLinked self.now.state.cells }
         ensures { (created : Location) → result
-            ≡ is_none (write_trouble_at self.now.state (name_of_cell name) created) }
+            ≡ is_none (refusal_to_write_at self.now.state (name_of_cell name) created) }
     {
         match self.entries.reach(name) {
             Some(value) => self.entries.is_unborrowed(value.slot),
@@ -199,18 +200,18 @@ impl<T: Drop, P: SlotPool> Slots<T, P> {
             × (read_refusal (content_at self.now.state (name_of_cell r.0)) ≡ None)
             × (r.1 ≡ true → write_refusal (content_at self.now.state (name_of_cell r.0)) ≡ None)) }
         ensures err { IfErr result (λ e.
-            read_trouble_at self.now.state (name_of_cell name) created_at
+            refusal_to_read_at self.now.state (name_of_cell name) created_at
             ≡ Some (read_trouble_of e)) }
     {
         if self.entries.has_unborrowed_value(name) {
             return Ok((name, true));
         }
-        self.readable_any(name, created_at)
+        self.readable_slow(name, created_at)
     }
 
     // The same, for every box.
     #[inline(always)]
-    fn readable_any(
+    fn readable_slow(
         &self,
         name: CellName,
         created_at: Location,
@@ -221,10 +222,10 @@ impl<T: Drop, P: SlotPool> Slots<T, P> {
             × (read_refusal (content_at self.now.state (name_of_cell r.0)) ≡ None)
             × (r.1 ≡ true → write_refusal (content_at self.now.state (name_of_cell r.0)) ≡ None)) }
         ensures err { IfErr result (λ e.
-            read_trouble_at self.now.state (name_of_cell name) created_at
+            refusal_to_read_at self.now.state (name_of_cell name) created_at
             ≡ Some (read_trouble_of e)) }
     {
-        let Some(value) = reach_apart(&self.entries, name) else {
+        let Some(value) = reach_slow(&self.entries, name) else {
             return Err(dropped(created_at));
         };
         match self.entries.borrow_error(value.slot) {
@@ -242,7 +243,7 @@ impl<T: Drop, P: SlotPool> Slots<T, P> {
             (reached self.now.state (name_of_cell name) ≡ Some (name_of_cell m))
             × (read_refusal (content_at self.now.state (name_of_cell m)) ≡ None)) }
         ensures err { IfErr result (λ e.
-            read_trouble_at self.now.state (name_of_cell name) created_at
+            refusal_to_read_at self.now.state (name_of_cell name) created_at
             ≡ Some (read_trouble_of e)) }
     {
         let Some(value) = self.entries.reach(name) else {
@@ -263,7 +264,7 @@ impl<T: Drop, P: SlotPool> Slots<T, P> {
             × (read_refusal (content_at self.now.state (name_of_cell m)) ≡ None)
             × (is_shared (map.get self.now.state.cells (name_of_cell m)) ≡ true)) }
         ensures err { IfErr result (λ e.
-            refer_trouble_at self.now.state (name_of_cell name) created_at
+            refusal_to_refer_at self.now.state (name_of_cell name) created_at
             ≡ Some (read_trouble_of e)) }
     {
         let value = match self.unlent(name, created_at) {
@@ -285,25 +286,25 @@ impl<T: Drop, P: SlotPool> Slots<T, P> {
             (reached self.now.state (name_of_cell name) ≡ Some (name_of_cell m))
             × (write_refusal (content_at self.now.state (name_of_cell m)) ≡ None)) }
         ensures err { IfErr result (λ e. FoundBorrowed
-            (write_trouble_at self.now.state (name_of_cell name) created_at) (Err e)) }
+            (refusal_to_write_at self.now.state (name_of_cell name) created_at) (Err e)) }
     {
         if self.entries.has_unborrowed_value(name) {
             return Ok(name);
         }
-        self.writable_any(name, created_at)
+        self.writable_slow(name, created_at)
     }
 
     // The same, for every box.
     #[inline(always)]
-    fn writable_any(&self, name: CellName, created_at: Location) -> BorrowMutResult<CellName>
+    fn writable_slow(&self, name: CellName, created_at: Location) -> BorrowMutResult<CellName>
         requires { IsLinked self.now.state.cells }
         ensures ok { IfOk result (λ m.
             (reached self.now.state (name_of_cell name) ≡ Some (name_of_cell m))
             × (write_refusal (content_at self.now.state (name_of_cell m)) ≡ None)) }
         ensures err { IfErr result (λ e. FoundBorrowed
-            (write_trouble_at self.now.state (name_of_cell name) created_at) (Err e)) }
+            (refusal_to_write_at self.now.state (name_of_cell name) created_at) (Err e)) }
     {
-        let Some(value) = reach_apart(&self.entries, name) else {
+        let Some(value) = reach_slow(&self.entries, name) else {
             return Err(dropped_mut(created_at));
         };
         match self.entries.borrow_mut_error(value.slot) {
@@ -584,12 +585,12 @@ impl<T: Drop, P: SlotPool> Slots<T, P> {
             self.remove(name, None, true);
             return Ok(());
         }
-        self.end_any(name)
+        self.end_slow(name)
     }
 
     // The same, for every cell.
     #[inline(always)]
-    fn end_any(&mut self, name: CellName) -> BorrowMutResult<()>
+    fn end_slow(&mut self, name: CellName) -> BorrowMutResult<()>
         requires { IsLinked self.old.state.cells }
         ensures found { FoundBorrowed (hindrance_to self.old.state (name_of_cell name ∷ []))
             result }
@@ -602,7 +603,7 @@ impl<T: Drop, P: SlotPool> Slots<T, P> {
                 Err(refused) => return Err(refused),
             }
         }
-        self.close_any(name);
+        self.close_slow(name);
         Ok(())
     }
 
@@ -617,13 +618,13 @@ impl<T: Drop, P: SlotPool> Slots<T, P> {
             self.remove(name, None, true);
             return;
         }
-        self.close_any(name);
+        self.close_slow(name);
     }
 
     // The same, for every cell.
     #[cold]
     #[inline(never)]
-    fn close_any(&mut self, name: CellName)
+    fn close_slow(&mut self, name: CellName)
         requires { IsLinked self.old.state.cells }
         ensures { self.new.state ≡ close self.old.state (name_of_cell name ∷ []) }
     {
@@ -648,7 +649,7 @@ impl<T: Drop, P: SlotPool> Slots<T, P> {
     ) -> BorrowMutResult<()>
         requires linked { IsLinked self.old.state.cells }
         requires there { IsSome (content_at self.old.state (name_of_cell new)) }
-        ensures { (b : GenerationalPointer) → Turns self.old.state self.new.state result
+        ensures { (b : GenerationalPointer) → IsTurned self.old.state self.new.state result
             (point self.old.state (box_of 0 (name_of_cell name) created_at) b
             (map.get self.old.state.cells (name_of_cell name)) (Some (name_of_cell new))
             (map.get self.old.state.cells (name_of_cell new))) }
@@ -672,7 +673,7 @@ impl<T: Drop, P: SlotPool> Slots<T, P> {
             ≡ Some (name_of_cell old) }
         requires shared { is_shared (map.get self.old.state.cells (name_of_cell new)) ≡ true }
         ensures { IfSome (location_of (map.get self.old.state.cells (name_of_cell name)))
-            (λ l. Turns self.old.state self.new.state result (turn self.old.state
+            (λ l. IsTurned self.old.state self.new.state result (turn self.old.state
             (name_of_cell name) (name_of_cell old) (name_of_cell new) l)) }
     {
         if old == new {
@@ -733,7 +734,7 @@ impl<T: Drop, P: SlotPool> Slots<T, P> {
 // What a box of this name reaches. The paths that few calls take ask this.
 #[cold]
 #[inline(never)]
-fn reach_apart<T: Drop>(entries: &Entries<T>, name: CellName) -> Option<CellName>
+fn reach_slow<T: Drop>(entries: &Entries<T>, name: CellName) -> Option<CellName>
     ensures { option_map name_of_cell result
         ≡ leads_to (cell_at entries.now.slots (name_of_cell name)) (name_of_cell name) }
 {

@@ -33,10 +33,10 @@ fits_to P n (inr e) = or_right _ _ (and_from _ _ e.0 (and_from _ _ e.1 (eq-eqb _
 
 pub new_from : (P : Plain) (n : Name) → is_new P n ≡ true → IsNew P n
 new_from P n h = let e = and_parts (not (set.contains P.given n)) _ h in
-    record { fresh = not-true _ e.0; fits = fits_from P n e.1 }
+    record { ungiven = not-true _ e.0; fits = fits_from P n e.1 }
 
 pub new_to : (P : Plain) (n : Name) → IsNew P n → is_new P n ≡ true
-new_to P n new = and_from _ _ (ap not new.fresh) (fits_to P n new.fits)
+new_to P n new = and_from _ _ (ap not new.ungiven) (fits_to P n new.fits)
 
 -- what a recorded reply gives is new, where it passes
 pub gives_from : (P : Plain) (r : StepReply) → gives_new P r ≡ true → GivesNew P r

@@ -14,17 +14,17 @@ use Rattle.generational_core.specs.Names.{Name}
 use Rattle.generational_core.specs.Cells.{Content, content_of}
 use Rattle.generational_core.specs.Cells.Content.{Here, Lent}
 use Rattle.generational_core.specs.State.{State, IsSound, content_at}
-use Rattle.generational_core.specs.Borrowing.{Trouble, Guard, read_trouble, reach}
-use Rattle.generational_core.specs.Borrowing.Trouble.{Dropped, BeingRead, BeingWritten}
+use Rattle.generational_core.specs.Borrowing.{BorrowRefusal, Guard, refusal_to_read, reach}
+use Rattle.generational_core.specs.Borrowing.BorrowRefusal.{Dropped, BeingRead, BeingWritten}
 use Rattle.generational_core.specs.Ending.{hindrance_to, close}
-use Rattle.generational_core.specs.Machine.{Action, Answer, Fresh, Outcome, act, unless, make}
+use Rattle.generational_core.specs.Machine.{Action, Answer, NewNames, Outcome, act, unless, make}
 use Rattle.generational_core.specs.Machine.{knows_reader, remove_reader, own_name, read_at, cell_at}
 use Rattle.generational_core.specs.Machine.Action.{Make, MakeShared, Refer, NewOwner, CloneOwner}
 use Rattle.generational_core.specs.Machine.Action.{ReleaseOwner, LeakOwner, Read, Write}
 use Rattle.generational_core.specs.Machine.Action.{ReleaseReader, ReleaseWriter, SetValue, End}
 use Rattle.generational_core.specs.Machine.Action.{Point, CanRead, CanWrite}
 use Rattle.generational_core.specs.Machine.Answer.{Made, Owned, Reads, Writes, Done, Old, Flag}
-use Rattle.generational_core.specs.Machine.Answer.{Back, Troubled, Refused}
+use Rattle.generational_core.specs.Machine.Answer.{Back, BorrowRefused, Refused}
 use Rattle.generational_core.specs.Steps.{IsNew, Meets, Takes, limit_tickets, takes_ticket}
 use Rattle.generational_core.specs.Steps.{last_ticket}
 use Rattle.generational_core.specs.StepCalls.{is_ready, recorded_as, is_hindered}
@@ -41,7 +41,7 @@ use Rattle.generational_sync.proofs.Finding.{reader_found}
 -- what the laws of the machine say: a call is ready where its answer tells of no borrow, and each
 -- call is one of the state without values
 abbrev IsTold : Type 0
-IsTold = (P : Plain) (a : Action (Unit {0})) (c : StepCall) (new : Fresh)
+IsTold = (P : Plain) (a : Action (Unit {0})) (c : StepCall) (new : NewNames)
     → recorded_as a ≡ Some c → is_ready P c ≡ not (is_hindered (act P a new).0)
 
 abbrev IsPlain : Type 0 → Type 0
@@ -53,9 +53,9 @@ IsPlain T = (S R : State T) (a : Action T) (answer : Answer T) → Meets S a ans
 -- an answer that is recorded tells of no borrow
 unhindered : (P : Plain) (out : Outcome (Unit {0})) (r : StepReply)
     → reply_to (limit_tickets P out).0 ≡ Some r → is_hindered out.0 ≡ false
-unhindered P (Troubled (BeingRead ls), Q) r h = absurd cc
-unhindered P (Troubled (BeingWritten l), Q) r h = absurd cc
-unhindered P (Troubled (Dropped l), Q) r h = refl
+unhindered P (BorrowRefused (BeingRead ls), Q) r h = absurd cc
+unhindered P (BorrowRefused (BeingWritten l), Q) r h = absurd cc
+unhindered P (BorrowRefused (Dropped l), Q) r h = refl
 unhindered P (Made b, Q) r h = refl
 unhindered P (Owned o, Q) r h = refl
 unhindered P (Reads g, Q) r h = refl
@@ -83,9 +83,9 @@ unnamed P (Reads g) (reply.Made c) none h = absurd cc
 unnamed P Done (reply.Made c) none h = absurd cc
 unnamed P (Flag true) (reply.Made c) none h = absurd cc
 unnamed P (Flag false) (reply.Made c) none h = absurd cc
-unnamed P (Troubled (Dropped l)) (reply.Made c) none h = absurd cc
-unnamed P (Troubled (BeingRead ls)) (reply.Made c) none h = absurd cc
-unnamed P (Troubled (BeingWritten l)) (reply.Made c) none h = absurd cc
+unnamed P (BorrowRefused (Dropped l)) (reply.Made c) none h = absurd cc
+unnamed P (BorrowRefused (BeingRead ls)) (reply.Made c) none h = absurd cc
+unnamed P (BorrowRefused (BeingWritten l)) (reply.Made c) none h = absurd cc
 unnamed P (Refused OutOfMemory) (reply.Made c) none h = absurd cc
 unnamed P (Refused NumbersExhausted) (reply.Made c) none h = absurd cc
 unnamed P (Refused UnknownOwner) (reply.Made c) none h = absurd cc
@@ -105,7 +105,7 @@ limited_unmade P out h = at (takes_ticket out.0 && nat_eq P.next last_ticket)
     at true = refl
     at false = h
 
-unless_unmade : (P : Plain) (t : Option Trouble) (out : Outcome (Unit {0}))
+unless_unmade : (P : Plain) (t : Option BorrowRefusal) (out : Outcome (Unit {0}))
     → is_made out.0 ≡ false → is_made (unless t P out).0 ≡ false
 unless_unmade P None out h = h
 unless_unmade P (Some t) out h = refl
@@ -157,7 +157,7 @@ module _ (tell : IsTold) (P : Plain) where
       lawful c r a as_call action (unnamed P _ r none reply) reply
       ∙ ap (λ (o : Outcome (Unit {0})). Some o.1) (sym m)
 
-  made_follows : (l : Location) (f : Fresh) (answer : Answer (Unit {0})) (Q : Plain)
+  made_follows : (l : Location) (f : NewNames) (answer : Answer (Unit {0})) (Q : Plain)
       (r : StepReply) → IsNew P f.first → (answer, Q) ≡ make P None f.first (Value (Here tt []) l) l
       → reply_to answer ≡ Some r → plain_step P (call.Leak l) r ≡ Some Q
   made_follows l f answer Q r new m h =
@@ -169,7 +169,7 @@ module _ (tell : IsTold) (P : Plain) where
       some_is : (x y : StepReply) → Some x ≡ Some y → x ≡ y
       some_is x y e = cc
 
-  release_follows : (g : Guard) (new : Fresh) (answer : Answer (Unit {0})) (Q : Plain)
+  release_follows : (g : Guard) (new : NewNames) (answer : Answer (Unit {0})) (Q : Plain)
       (r : StepReply) → IsSound P → (answer, Q) ≡ limit_tickets P (act P (ReleaseReader g) new)
       → reply_to answer ≡ Some r → plain_step P (call.ReleaseRead g.ticket) r ≡ Some Q
   release_follows g new answer Q r sound m h =
@@ -189,7 +189,7 @@ module _ (tell : IsTold) (P : Plain) where
       (flag_unmade (knows_reader P g) P left) m h
 
   -- a step of a recorded call, under the names that it takes
-  does : (a : Action (Unit {0})) (c : StepCall) (new : Fresh) (answer : Answer (Unit {0}))
+  does : (a : Action (Unit {0})) (c : StepCall) (new : NewNames) (answer : Answer (Unit {0}))
       (Q : Plain) (r : StepReply) → IsSound P → recorded_as a ≡ Some c
       → Takes P a answer new → (answer, Q) ≡ limit_tickets P (act P a new)
       → reply_to answer ≡ Some r
@@ -201,7 +201,7 @@ module _ (tell : IsTold) (P : Plain) where
   does (Read b l) c new answer Q r sound e takes m h =
       let same : call.Read b l ≡ c = cc in
       let read = read_at P l (reach P b) (content_of (cell_at P (reach P b))) in
-      let none = unless_unmade P (read_trouble P b) read
+      let none = unless_unmade P (refusal_to_read P b) read
       (read_unmade P l (reach P b) (content_of (cell_at P (reach P b)))) in
       subst (λ x. plain_step P x r ≡ Some Q) same
       (leads (call.Read b l) r (Read b l) answer Q refl refl (limited_unmade P _ none) m h)

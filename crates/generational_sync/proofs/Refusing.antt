@@ -22,24 +22,24 @@ use Rattle.generational_core.specs.Cells.{Content, Cell, content_of}
 use Rattle.generational_core.specs.Cells.Content.{Here, Lent}
 use Rattle.generational_core.specs.Cells.Cell.{Value, Shared, Ref}
 use Rattle.generational_core.specs.State.{State, content_at}
-use Rattle.generational_core.specs.Borrowing.{Trouble, reach, read_trouble, refusal_at}
+use Rattle.generational_core.specs.Borrowing.{BorrowRefusal, reach, refusal_to_read, refusal_at}
 use Rattle.generational_core.specs.Borrowing.{read_refusal, write_refusal}
-use Rattle.generational_core.specs.Borrowing.Trouble.{Dropped, BeingRead, BeingWritten}
+use Rattle.generational_core.specs.Borrowing.BorrowRefusal.{Dropped, BeingRead, BeingWritten}
 use Rattle.generational_core.specs.Ending.{hindrance_to, first_hindrance, hindrance_of, cells_after}
 use Rattle.generational_core.specs.Ending.{close}
 use Rattle.std.specs.Option.{option_or}
 use Rattle.generational_core.specs.Machine.{Answer, Outcome, unless, read_at, cell_at, own_name}
 use Rattle.generational_core.specs.Machine.Action.{Read, End}
-use Rattle.generational_core.specs.Machine.Answer.{Done, Troubled, Refused as refuses}
+use Rattle.generational_core.specs.Machine.Answer.{Done, BorrowRefused, Refused as refuses}
 use Rattle.generational_core.specs.Answers.{read_refused, end_refused, end_answer}
 use Rattle.generational_core.specs.StepCalls.{is_ready, tells_of_borrow}
 use Rattle.generational_sync.specs.Shared.{MayRefuseRead}
 
 module _ {T : Type 0} where
-  -- the trouble that an answer tells of, and whether it refuses for an unknown owner
-  abbrev trouble_in : Answer T → Option Trouble
-  trouble_in (Troubled t) = Some t
-  trouble_in _ = None
+  -- the refusal that an answer tells of, and whether it refuses for an unknown owner
+  abbrev refusal_in : Answer T → Option BorrowRefusal
+  refusal_in (BorrowRefused t) = Some t
+  refusal_in _ = None
 
   abbrev is_unknown : Answer T → Bool
   is_unknown (refuses UnknownOwner) = true
@@ -50,23 +50,23 @@ module _ {T : Type 0} where
   is_done _ = false
 
 -- what hinders an end is a borrow
-abbrev is_borrow : Option Trouble → Bool
+abbrev is_borrow : Option BorrowRefusal → Bool
 is_borrow None = true
 is_borrow (Some (Dropped l)) = false
 is_borrow (Some (BeingRead ls)) = true
 is_borrow (Some (BeingWritten l)) = true
 
-borrow_at : (b : Bool) (t : Option Trouble)
+borrow_at : (b : Bool) (t : Option BorrowRefusal)
     → is_borrow t ≡ true → is_borrow (cond b t None) ≡ true
 borrow_at true t h = h
 borrow_at false t h = refl
 
-borrow_first : (t u : Option Trouble)
+borrow_first : (t u : Option BorrowRefusal)
     → is_borrow t ≡ true → is_borrow u ≡ true → is_borrow (option_or t u) ≡ true
 borrow_first None u h k = k
 borrow_first (Some t) u h k = h
 
-none_hinders : (t : Option Trouble)
+none_hinders : (t : Option BorrowRefusal)
     → is_borrow t ≡ true → not (tells_of_borrow t) ≡ true → t ≡ None
 none_hinders None h k = refl
 none_hinders (Some (Dropped l)) h k = absurd (true≢false (sym h))
@@ -89,9 +89,9 @@ lacked_by T b (refused.Store UnknownOwner) same = absurd cc
 -- ---- reads
 
 module _ {T : Type 0} where
-  -- a read tells of its trouble and of no unknown owner
-  abbrev Tells : Option Trouble → Answer T → Type 0
-  Tells t answer = (trouble_in answer ≡ t) × (is_unknown answer ≡ false)
+  -- a read tells of its refusal and of no unknown owner
+  abbrev Tells : Option BorrowRefusal → Answer T → Type 0
+  Tells t answer = (refusal_in answer ≡ t) × (is_unknown answer ≡ false)
 
   read_tells : (S : State T) (l : Location) (o : Option Name) (c : Option (Content T))
       → Tells None (limit_tickets S (read_at S l o c)).0
@@ -108,7 +108,7 @@ module _ {T : Type 0} where
       at false = (refl, refl)
 
   unless_tells : (S : State T) (l : Location) (o : Option Name) (c : Option (Content T))
-      (t : Option Trouble) → Tells t (limit_tickets S (unless t S (read_at S l o c))).0
+      (t : Option BorrowRefusal) → Tells t (limit_tickets S (unless t S (read_at S l o c))).0
   unless_tells S l o c None = read_tells S l o c
   unless_tells S l o c (Some t) = (refl, refl)
 
@@ -124,12 +124,12 @@ module _ {T : Type 0} where
       at (Some (Lent w)) e = absurd cc
 
   read_told : (S : State T) (b : GenerationalPointer) (k : Location)
-      → read_trouble S b ≡ Some (Dropped k) → k ≡ b.created_at
-  unfolding read_trouble
+      → refusal_to_read S b ≡ Some (Dropped k) → k ≡ b.created_at
+  unfolding refusal_to_read
   read_told S b k e = told_own (reach S b) (content_at S) b.created_at k e
 
   refused_by : (S : State T) (b : GenerationalPointer) (e : Refused BorrowError)
-      → not (tells_of_borrow (read_trouble S b)) ≡ true → Tells (read_trouble S b) (read_refused e)
+      → not (tells_of_borrow (refusal_to_read S b)) ≡ true → Tells (refusal_to_read S b) (read_refused e)
       → MayRefuseRead b e
   refused_by S b (refused.Borrow (reads.Dropped d)) ready tells =
       read_told S b d.created_at (sym tells.0)
@@ -144,8 +144,8 @@ module _ {T : Type 0} where
       → is_ready S (call.Read b l) ≡ true → MayRefuseRead b e
   read_refused_so S R b l e (inl m) ready =
       refused_by S b e ready
-      (subst (Tells (read_trouble S b)) (sym (ap (λ (o : Outcome T). o.0) m.2))
-      (unless_tells S l (reach S b) (content_of (cell_at S (reach S b))) (read_trouble S b)))
+      (subst (Tells (refusal_to_read S b)) (sym (ap (λ (o : Outcome T). o.0) m.2))
+      (unless_tells S l (reach S b) (content_of (cell_at S (reach S b))) (refusal_to_read S b)))
   read_refused_so S R b l e (inr m) ready = lacked_by T b e m.1
 
   -- the same, where the state and the box are known by others
@@ -198,7 +198,7 @@ module _ {T : Type 0} where
 
       over : (limit_tickets S
           (unless (hindrance_to S (own_name S b)) S (Done, close S (own_name S b)))).0 ≡ Done
-      over = ap (λ (t : Option Trouble).
+      over = ap (λ (t : Option BorrowRefusal).
           (limit_tickets S (unless t S (Done, close S (own_name S b)))).0) free
 
       at : Meets S (End b) (end_refused e) R → ⊥

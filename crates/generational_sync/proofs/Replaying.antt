@@ -9,7 +9,7 @@ use Rattle.generational_core.specs.declared.steps.StepCall.TheVariants.{Manually
 use Rattle.generational_core.specs.Names.{Name}
 use Rattle.generational_core.specs.State.{State, IsSound}
 use Rattle.generational_core.specs.Boxes.{name_of}
-use Rattle.generational_core.specs.Machine.{Action, Answer, Fresh, Outcome, act}
+use Rattle.generational_core.specs.Machine.{Action, Answer, NewNames, Outcome, act}
 use Rattle.generational_core.specs.Machine.Action.{Make, Read as ReadBox, ReleaseReader, End}
 use Rattle.generational_core.specs.Machine.Answer.{Made}
 use Rattle.generational_core.specs.Steps.{AreNew, Takes, Meets, limit_tickets}
@@ -23,7 +23,7 @@ use Rattle.generational_sync.specs.History.{gives_new, is_lawful, guard_at, read
 use Rattle.generational_sync.specs.History.{replay_from, start, IsTaken, LeadsOver}
 use Rattle.generational_sync.proofs.Fitting.{new_from, gives_from}
 
-takes_any : (P : Plain) (a : Action (Unit {0})) (answer : Answer (Unit {0})) (f : Fresh)
+takes_any : (P : Plain) (a : Action (Unit {0})) (answer : Answer (Unit {0})) (f : NewNames)
     → AreNew P a f → Takes P a answer f
 takes_any P a (Made b) f new = new
 takes_any P a _ f new = tt

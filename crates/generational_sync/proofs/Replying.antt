@@ -11,10 +11,10 @@ use Rattle.generational_core.specs.declared.error.StoreError.TheVariants.{Unknow
 use Rattle.generational_core.specs.declared.boxes.GenerationalPointer.{GenerationalPointer}
 use Rattle.generational_core.specs.Boxes.{has_same_id}
 use Rattle.generational_core.specs.Texts.{same_location}
-use Rattle.generational_core.specs.Borrowing.Trouble.{Dropped, BeingRead, BeingWritten}
+use Rattle.generational_core.specs.Borrowing.BorrowRefusal.{Dropped, BeingRead, BeingWritten}
 use Rattle.generational_core.specs.Machine.{Answer}
 use Rattle.generational_core.specs.Machine.Answer.{Made, Owned, Reads, Writes, Done, Old, Flag}
-use Rattle.generational_core.specs.Machine.Answer.{Back, Troubled, Refused}
+use Rattle.generational_core.specs.Machine.Answer.{Back, BorrowRefused, Refused}
 use Rattle.generational_sessions.specs.History.{plain_answer}
 use Rattle.generational_sync.specs.declared.step.StepReply.{StepReply}
 use Rattle.generational_sync.specs.declared.step.StepReply.TheVariants as reply
@@ -62,9 +62,9 @@ plain_reply (Old v) = refl
 plain_reply (Flag true) = refl
 plain_reply (Flag false) = refl
 plain_reply (Back v) = refl
-plain_reply (Troubled (Dropped l)) = refl
-plain_reply (Troubled (BeingRead ls)) = refl
-plain_reply (Troubled (BeingWritten l)) = refl
+plain_reply (BorrowRefused (Dropped l)) = refl
+plain_reply (BorrowRefused (BeingRead ls)) = refl
+plain_reply (BorrowRefused (BeingWritten l)) = refl
 plain_reply (Refused OutOfMemory) = refl
 plain_reply (Refused NumbersExhausted) = refl
 plain_reply (Refused UnknownOwner) = refl

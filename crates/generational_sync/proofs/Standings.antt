@@ -16,7 +16,7 @@ use Rattle.generational_core.specs.Cells.{Content, Cell, content_of, refill, is_
 use Rattle.generational_core.specs.Cells.Content.{Here, Lent}
 use Rattle.generational_core.specs.Cells.Cell.{Value, Shared, Ref}
 use Rattle.generational_core.specs.State.{State, tickets_of, is_named, content_at}
-use Rattle.generational_core.specs.Borrowing.{Trouble, Guard, fill, reach, read_trouble}
+use Rattle.generational_core.specs.Borrowing.{BorrowRefusal, Guard, fill, reach, refusal_to_read}
 use Rattle.generational_core.specs.Ending.{sweep, take_away, close, hindrance_to}
 use Rattle.generational_core.specs.Machine.{Answer, Outcome, unless, read_at, cell_at, has_reader}
 use Rattle.generational_core.specs.Machine.{knows_reader, remove_reader, own_name}
@@ -95,7 +95,7 @@ module _ {T : Type 0} where
       at true = omega arith
       at false = h
 
-  unless_grows : (S : State T) (t : Option Trouble) (out : Outcome T)
+  unless_grows : (S : State T) (t : Option BorrowRefusal) (out : Outcome T)
       → Grows S out → Grows S (unless t S out)
   unless_grows S None out h = h
   unless_grows S (Some t) out h = omega arith
@@ -124,7 +124,7 @@ module _ {T : Type 0} where
       → Meets S (Read b l) answer R → borrows R ≤ borrows S + lends answer
   read_stand S R b l answer (inl m) =
       subst (λ (o : Outcome T). Grows S o) (sym m.2)
-      (limited_grows S _ (unless_grows S (read_trouble S b) _
+      (limited_grows S _ (unless_grows S (refusal_to_read S b) _
       (read_grows S l (reach S b) (content_of (cell_at S (reach S b))) refl)))
   read_stand S R b l answer (inr m) =
       let after = ap borrows m.2 in let none = ap lends m.1 in omega arith

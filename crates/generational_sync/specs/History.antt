@@ -11,7 +11,7 @@ use Rattle.generational_core.specs.Boxes.{name_of}
 use Rattle.generational_core.specs.State.{State, content_at}
 use Rattle.generational_core.specs.Conditions.{fresh}
 use Rattle.generational_core.specs.Borrowing.{Guard}
-use Rattle.generational_core.specs.Machine.{Action, Answer, Fresh, Outcome, act, has_reader}
+use Rattle.generational_core.specs.Machine.{Action, Answer, NewNames, Outcome, act, has_reader}
 use Rattle.generational_core.specs.Machine.Action.{Make, Read as ReadBox, ReleaseReader, End}
 use Rattle.generational_core.specs.Slots.{slots_of, slots, free, is_free, last_name}
 use Rattle.generational_core.specs.Steps.{Meets, IsNew, limit_tickets, no_names}
@@ -47,7 +47,7 @@ gives_new P (reply.Made b) = is_new P (name_of b)
 gives_new P _ = true
 
 -- the names that a recorded reply gives
-abbrev pub names_of_reply : StepReply → Fresh
+abbrev pub names_of_reply : StepReply → NewNames
 names_of_reply (reply.Made b) = record { first = name_of b; second = name_of b }
 names_of_reply _ = no_names
 

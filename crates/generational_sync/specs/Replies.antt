@@ -8,9 +8,9 @@ use Rattle.generational_core.specs.declared.error.StoreError.TheVariants.{Unknow
 use Rattle.generational_core.specs.declared.steps.StepCall.{StepCall}
 use Rattle.generational_core.specs.Boxes.{has_same_id}
 use Rattle.generational_core.specs.Texts.{same_location}
-use Rattle.generational_core.specs.Borrowing.Trouble.{Dropped}
+use Rattle.generational_core.specs.Borrowing.BorrowRefusal.{Dropped}
 use Rattle.generational_core.specs.Machine.{Answer}
-use Rattle.generational_core.specs.Machine.Answer.{Made, Reads, Done, Flag, Troubled, Refused}
+use Rattle.generational_core.specs.Machine.Answer.{Made, Reads, Done, Flag, BorrowRefused, Refused}
 use Rattle.generational_sync.specs.declared.step.Step.{Step}
 use Rattle.generational_sync.specs.declared.step.StepReply.{StepReply}
 use Rattle.generational_sync.specs.declared.step.StepReply.TheVariants as reply
@@ -24,7 +24,7 @@ reply_to (Made b) = Some (reply.Made b)
 reply_to (Reads g) = Some (reply.Reader g.ticket)
 reply_to Done = Some reply.Done
 reply_to (Flag true) = Some reply.Done
-reply_to (Troubled (Dropped l)) = Some (reply.Dropped l)
+reply_to (BorrowRefused (Dropped l)) = Some (reply.Dropped l)
 reply_to (Refused NumbersExhausted) = Some (reply.Store NumbersExhausted)
 reply_to (Refused UnknownOwner) = Some (reply.Store UnknownOwner)
 reply_to _ = None

@@ -17,9 +17,9 @@ use Rattle.generational_core.specs.Cells.{Cell, Content, refill}
 use Rattle.generational_core.specs.Cells.Content.{Here, Lent}
 use Rattle.generational_core.specs.State.{State, Ownership, Owners}
 use Rattle.generational_core.specs.Boxes.{name_of}
-use Rattle.generational_core.specs.Borrowing.{Guard, reach, read_trouble, write_trouble}
+use Rattle.generational_core.specs.Borrowing.{Guard, reach, refusal_to_read, refusal_to_write}
 use Rattle.generational_core.specs.Ending.{close, hindrance_to}
-use Rattle.generational_core.specs.Machine.{Action, Answer, Fresh, Outcome, act, read_at, write_at}
+use Rattle.generational_core.specs.Machine.{Action, Answer, NewNames, Outcome, act, read_at, write_at}
 use Rattle.generational_core.specs.Machine.{unless}
 use Rattle.generational_core.specs.Machine.Action.{Make, MakeShared, NewOwner, LeakOwner, End, Read}
 use Rattle.generational_core.specs.Machine.Action.{Write}
@@ -148,8 +148,8 @@ module _ {T : Type 0} where
 
     -- what each call comes to, once it is looked up what stands at its names
     module _ (hc : is_sorted name_cmp c ≡ true) (ho : is_sorted nat_cmp o ≡ true) where
-      abbrev pub outcome : (a : Action T) (f : Fresh) → OutcomeOf (act S a f)
-      unfolding reach read_trouble write_trouble
+      abbrev pub outcome : (a : Action T) (f : NewNames) → OutcomeOf (act S a f)
+      unfolding reach refusal_to_read refusal_to_write
       outcome (Make by v l) f = (_, refl)
       outcome (MakeShared by v l) f = (_, refl)
       outcome (LeakOwner by) f = (_, refl)
@@ -162,7 +162,7 @@ module _ {T : Type 0} where
       outcome (Write b l) f = outcome_by (λ z e. simp (write_same, get_there) at e)
       outcome a f = outcome_by (λ z e. simp get_there at e)
 
-      pub calls : (a : Action T) (f : Fresh) (told : Told T) (row : Row T)
+      pub calls : (a : Action T) (f : NewNames) (told : Told T) (row : Row T)
           → goes ((Call a f, told) ∷ row) ↔ hears S (outcome a f).0 told row
       unfolding goes hears Tells
       calls a f told row =

@@ -11,13 +11,13 @@ use Rattle.generational_core.specs.Cells.Content.{Here}
 use Rattle.generational_core.specs.State.{State}
 use Rattle.generational_core.specs.Conditions.{fresh}
 use Rattle.generational_core.specs.Boxes.{box_of}
-use Rattle.generational_core.specs.Borrowing.Trouble.{Dropped, BeingRead, BeingWritten}
+use Rattle.generational_core.specs.Borrowing.BorrowRefusal.{Dropped, BeingRead, BeingWritten}
 use Rattle.generational_core.specs.Machine.Action.{Make, MakeShared, Refer, NewOwner, CloneOwner}
 use Rattle.generational_core.specs.Machine.Action.{ReleaseOwner, LeakOwner, Read, Write}
 use Rattle.generational_core.specs.Machine.Action.{ReleaseReader, ReleaseWriter, SetValue, End}
 use Rattle.generational_core.specs.Machine.Action.{Point, CanRead, CanWrite}
 use Rattle.generational_core.specs.Machine.Answer.{Made, Owned, Reads, Writes, Done, Old, Flag}
-use Rattle.generational_core.specs.Machine.Answer.{Back, Troubled, Refused}
+use Rattle.generational_core.specs.Machine.Answer.{Back, BorrowRefused, Refused}
 use Rattle.machine_rows.specs.Rows.{Row, box, owner, guard, ◌#◌, ◌⇒◌, ◌takes◌⇒◌, ◌takes◌and◌⇒◌}
 use Rattle.machine_rows.specs.Rows.{◌opens◌, count_is}
 
@@ -38,7 +38,7 @@ module _ {T : Type 0} (u v w : T) (L M R W : Location) where
       ∷ guard (0 # 1) 2 opens Some v
       ∷ ReleaseReader (guard (0 # 1) 2) ⇒ Flag true
       ∷ ReleaseOwner (owner 1) ⇒ Done
-      ∷ Read (box (2 # 1) L) R ⇒ Troubled (Dropped L)
+      ∷ Read (box (2 # 1) L) R ⇒ BorrowRefused (Dropped L)
       ∷ count_is 3 3 0 0 3 ∷ []
 
   -- An owner's box of a shared value ends under a reader, where an outside reference keeps the
@@ -51,9 +51,9 @@ module _ {T : Type 0} (u v w : T) (L M R W : Location) where
       ∷ Read (box (1 # 1) L) R ⇒ Reads (guard (0 # 1) 1)
       ∷ ReleaseOwner (owner 0) ⇒ Done
       ∷ guard (0 # 1) 1 opens Some v
-      ∷ Read (box (1 # 1) L) R ⇒ Troubled (Dropped L)
+      ∷ Read (box (1 # 1) L) R ⇒ BorrowRefused (Dropped L)
       ∷ count_is 3 1 0 2 3
-      ∷ Write (box (2 # 1) L) M ⇒ Troubled (BeingRead (R ∷ [])) ∷ []
+      ∷ Write (box (2 # 1) L) M ⇒ BorrowRefused (BeingRead (R ∷ [])) ∷ []
 
   -- An owner's last release is refused where its second box is read, and its first box still reads.
   -- Without the reader both boxes end.
@@ -63,14 +63,14 @@ module _ {T : Type 0} (u v w : T) (L M R W : Location) where
       ∷ Make (Some (owner 0)) v L takes 0 # 1 ⇒ Made (box (0 # 1) L)
       ∷ Make (Some (owner 0)) w M takes 1 # 1 ⇒ Made (box (1 # 1) M)
       ∷ Read (box (1 # 1) M) R ⇒ Reads (guard (1 # 1) 1)
-      ∷ ReleaseOwner (owner 0) ⇒ Troubled (BeingRead (R ∷ []))
+      ∷ ReleaseOwner (owner 0) ⇒ BorrowRefused (BeingRead (R ∷ []))
       ∷ Read (box (0 # 1) L) L ⇒ Reads (guard (0 # 1) 2)
       ∷ guard (0 # 1) 2 opens Some v
       ∷ ReleaseReader (guard (0 # 1) 2) ⇒ Flag true
       ∷ ReleaseReader (guard (1 # 1) 1) ⇒ Flag true
       ∷ ReleaseOwner (owner 0) ⇒ Done
-      ∷ Read (box (0 # 1) L) R ⇒ Troubled (Dropped L)
-      ∷ Read (box (1 # 1) M) R ⇒ Troubled (Dropped M)
+      ∷ Read (box (0 # 1) L) R ⇒ BorrowRefused (Dropped L)
+      ∷ Read (box (1 # 1) M) R ⇒ BorrowRefused (Dropped M)
       ∷ count_is 2 2 0 0 2 ∷ []
 
   -- With a clone the first release ends no box, and the second ends it; a third finds no owner.
@@ -84,7 +84,7 @@ module _ {T : Type 0} (u v w : T) (L M R W : Location) where
       ∷ guard (0 # 1) 2 opens Some v
       ∷ ReleaseReader (guard (0 # 1) 2) ⇒ Flag true
       ∷ ReleaseOwner (owner 0) ⇒ Done
-      ∷ Read (box (0 # 1) L) R ⇒ Troubled (Dropped L)
+      ∷ Read (box (0 # 1) L) R ⇒ BorrowRefused (Dropped L)
       ∷ ReleaseOwner (owner 0) ⇒ Refused UnknownOwner ∷ []
 
   -- Where one of two owner values is leaked, the release of the other ends no box.
@@ -108,7 +108,7 @@ module _ {T : Type 0} (u v w : T) (L M R W : Location) where
       ∷ CanWrite (box (0 # 1) L) ⇒ Flag true
       ∷ SetValue (box (0 # 1) L) w ⇒ Old v
       ∷ End (box (0 # 1) L) ⇒ Done
-      ∷ Read (box (0 # 1) L) R ⇒ Troubled (Dropped L) ∷ []
+      ∷ Read (box (0 # 1) L) R ⇒ BorrowRefused (Dropped L) ∷ []
 
   -- One ticket is left for an owner, and none for its clone.
   abbrev pub the_ticket_before_the_last_is_given : Row T
@@ -123,13 +123,13 @@ module _ {T : Type 0} (u v w : T) (L M R W : Location) where
   abbrev pub boxes_of_another_store_reach_nothing : Row T
   boxes_of_another_store_reach_nothing =
       MakeShared None v M takes 0 # 1 and 1 # 1 ⇒ Made (box (1 # 1) M)
-      ∷ Read (box_of 8 (1 # 1) L) R ⇒ Troubled (Dropped L)
-      ∷ Write (box_of 8 (1 # 1) L) R ⇒ Troubled (Dropped L)
-      ∷ SetValue (box_of 8 (1 # 1) L) w ⇒ Troubled (Dropped L)
-      ∷ Refer None (box_of 8 (1 # 1) L) ⇒ Troubled (Dropped L)
+      ∷ Read (box_of 8 (1 # 1) L) R ⇒ BorrowRefused (Dropped L)
+      ∷ Write (box_of 8 (1 # 1) L) R ⇒ BorrowRefused (Dropped L)
+      ∷ SetValue (box_of 8 (1 # 1) L) w ⇒ BorrowRefused (Dropped L)
+      ∷ Refer None (box_of 8 (1 # 1) L) ⇒ BorrowRefused (Dropped L)
       ∷ End (box_of 8 (1 # 1) L) ⇒ Done
-      ∷ Point (box_of 8 (1 # 1) L) (box (1 # 1) M) ⇒ Troubled (Dropped L)
-      ∷ Point (box (1 # 1) M) (box_of 8 (1 # 1) L) ⇒ Troubled (Dropped L)
+      ∷ Point (box_of 8 (1 # 1) L) (box (1 # 1) M) ⇒ BorrowRefused (Dropped L)
+      ∷ Point (box (1 # 1) M) (box_of 8 (1 # 1) L) ⇒ BorrowRefused (Dropped L)
       ∷ Read (box (1 # 1) M) R ⇒ Reads (guard (0 # 1) 0)
       ∷ guard (0 # 1) 0 opens Some v ∷ []
 
@@ -147,7 +147,7 @@ module _ {T : Type 0} (u v w : T) (L M R W : Location) where
       ∷ ReleaseWriter (record { store = 8; cell = 0 # 1; ticket = 1 }) w ⇒ Back w
       ∷ ReleaseReader (record { store = 8; cell = 0 # 1; ticket = 1 }) ⇒ Flag false
       ∷ ReleaseReader (guard (0 # 1) 1) ⇒ Flag false
-      ∷ Read (box (0 # 1) L) R ⇒ Troubled (BeingWritten W) ∷ []
+      ∷ Read (box (0 # 1) L) R ⇒ BorrowRefused (BeingWritten W) ∷ []
 
   -- The end of one of two references is hindered by no reader of the value and leaves it; the end
   -- of the last one is hindered, and then ends it.
@@ -158,7 +158,7 @@ module _ {T : Type 0} (u v w : T) (L M R W : Location) where
       ∷ Read (box (2 # 1) L) R ⇒ Reads (guard (0 # 1) 0)
       ∷ End (box (1 # 1) L) ⇒ Done
       ∷ count_is 3 1 0 2 3
-      ∷ End (box (2 # 1) L) ⇒ Troubled (BeingRead (R ∷ []))
+      ∷ End (box (2 # 1) L) ⇒ BorrowRefused (BeingRead (R ∷ []))
       ∷ guard (0 # 1) 0 opens Some v
       ∷ ReleaseReader (guard (0 # 1) 0) ⇒ Flag true
       ∷ End (box (2 # 1) L) ⇒ Done
@@ -188,7 +188,7 @@ module _ {T : Type 0} (u v w : T) (L M R W : Location) where
       ∷ count_is 1 0 1 0 1
       ∷ Make None w M takes 1 # (2 ^ 64 - 1) ⇒ Made (box (1 # (2 ^ 64 - 1)) M)
       ∷ count_is 2 0 1 1 1
-      ∷ Read (box (0 # (2 ^ 64 - 1)) L) R ⇒ Troubled (Dropped L) ∷ []
+      ∷ Read (box (0 # (2 ^ 64 - 1)) L) R ⇒ BorrowRefused (Dropped L) ∷ []
 
   -- ---- readers, writers, and boxes that have ended
 
@@ -197,11 +197,11 @@ module _ {T : Type 0} (u v w : T) (L M R W : Location) where
   leave_by_their_tickets b =
       Read (box b M) L ⇒ Reads (guard (0 # 1) 0)
       ∷ Read (box b M) L ⇒ Reads (guard (0 # 1) 1)
-      ∷ Write (box b M) W ⇒ Troubled (BeingRead (L ∷ L ∷ []))
+      ∷ Write (box b M) W ⇒ BorrowRefused (BeingRead (L ∷ L ∷ []))
       ∷ ReleaseReader (guard (0 # 1) 0) ⇒ Flag true
-      ∷ Write (box b M) W ⇒ Troubled (BeingRead (L ∷ []))
+      ∷ Write (box b M) W ⇒ BorrowRefused (BeingRead (L ∷ []))
       ∷ ReleaseReader (guard (0 # 1) 0) ⇒ Flag false
-      ∷ Write (box b M) W ⇒ Troubled (BeingRead (L ∷ []))
+      ∷ Write (box b M) W ⇒ BorrowRefused (BeingRead (L ∷ []))
       ∷ ReleaseReader (guard (0 # 1) 1) ⇒ Flag true
       ∷ Write (box b M) W ⇒ Writes (guard (0 # 1) 2) v ∷ []
 
@@ -223,7 +223,7 @@ module _ {T : Type 0} (u v w : T) (L M R W : Location) where
       ∷ Read (box (0 # 1) R) M ⇒ Reads (guard (0 # 1) 1)
       ∷ Read (box (0 # 1) R) L ⇒ Reads (guard (0 # 1) 2)
       ∷ ReleaseReader (guard (0 # 1) 0) ⇒ Flag true
-      ∷ Write (box (0 # 1) R) W ⇒ Troubled (BeingRead (M ∷ L ∷ [])) ∷ []
+      ∷ Write (box (0 # 1) R) W ⇒ BorrowRefused (BeingRead (M ∷ L ∷ [])) ∷ []
 
   -- Of readers at L, M and L the last leaves, and the others stay in their order.
   abbrev pub the_last_of_three_readers_leaves : Row T
@@ -233,7 +233,7 @@ module _ {T : Type 0} (u v w : T) (L M R W : Location) where
       ∷ Read (box (0 # 1) R) M ⇒ Reads (guard (0 # 1) 1)
       ∷ Read (box (0 # 1) R) L ⇒ Reads (guard (0 # 1) 2)
       ∷ ReleaseReader (guard (0 # 1) 2) ⇒ Flag true
-      ∷ Write (box (0 # 1) R) W ⇒ Troubled (BeingRead (L ∷ M ∷ [])) ∷ []
+      ∷ Write (box (0 # 1) R) W ⇒ BorrowRefused (BeingRead (L ∷ M ∷ [])) ∷ []
 
   -- Under a writer reads and writes are refused with the writer's location, and the tests say so;
   -- its value comes back by its release, once.
@@ -242,8 +242,8 @@ module _ {T : Type 0} (u v w : T) (L M R W : Location) where
       CanRead (box b L) ⇒ Flag true
       ∷ CanWrite (box b L) ⇒ Flag true
       ∷ Write (box b L) W ⇒ Writes (guard (0 # 1) 0) v
-      ∷ Read (box b L) R ⇒ Troubled (BeingWritten W)
-      ∷ Write (box b L) R ⇒ Troubled (BeingWritten W)
+      ∷ Read (box b L) R ⇒ BorrowRefused (BeingWritten W)
+      ∷ Write (box b L) R ⇒ BorrowRefused (BeingWritten W)
       ∷ CanRead (box b L) ⇒ Flag false
       ∷ CanWrite (box b L) ⇒ Flag false
       ∷ ReleaseWriter (guard (0 # 1) 0) w ⇒ Done
@@ -288,7 +288,7 @@ module _ {T : Type 0} (u v w : T) (L M R W : Location) where
       ∷ SetValue (box (0 # 1) L) v ⇒ Old u
       ∷ SetValue (box (0 # 1) L) w ⇒ Old v
       ∷ End (box (0 # 1) L) ⇒ Done
-      ∷ SetValue (box (0 # 1) L) u ⇒ Troubled (Dropped L) ∷ []
+      ∷ SetValue (box (0 # 1) L) u ⇒ BorrowRefused (Dropped L) ∷ []
 
   -- A box whose slot has a new cell is told its own location, and its end leaves the new cell's
   -- writer alone.
@@ -298,10 +298,10 @@ module _ {T : Type 0} (u v w : T) (L M R W : Location) where
       ∷ End (box (0 # 1) L) ⇒ Done
       ∷ Make None w M takes 0 # 2 ⇒ Made (box (0 # 2) M)
       ∷ Write (box (0 # 2) M) W ⇒ Writes (guard (0 # 2) 0) w
-      ∷ Read (box (0 # 1) L) R ⇒ Troubled (Dropped L)
+      ∷ Read (box (0 # 1) L) R ⇒ BorrowRefused (Dropped L)
       ∷ End (box (0 # 1) L) ⇒ Done
-      ∷ End (box (0 # 2) M) ⇒ Troubled (BeingWritten W)
-      ∷ Read (box (0 # 2) M) R ⇒ Troubled (BeingWritten W)
+      ∷ End (box (0 # 2) M) ⇒ BorrowRefused (BeingWritten W)
+      ∷ Read (box (0 # 2) M) R ⇒ BorrowRefused (BeingWritten W)
       ∷ ReleaseWriter (guard (0 # 2) 0) w ⇒ Done
       ∷ End (box (0 # 2) M) ⇒ Done ∷ []
 
@@ -317,8 +317,8 @@ module _ {T : Type 0} (u v w : T) (L M R W : Location) where
       ∷ End (box (1 # 1) M) ⇒ Done
       ∷ Point (box (0 # 1) L) (box (0 # 1) L) ⇒ Done
       ∷ Point (box (0 # 1) L) (box (0 # 1) R) ⇒ Done
-      ∷ Point (box (0 # 1) L) (box (1 # 1) M) ⇒ Troubled (Dropped M)
-      ∷ Point (box (1 # 1) M) (box (0 # 1) L) ⇒ Troubled (Dropped L)
+      ∷ Point (box (0 # 1) L) (box (1 # 1) M) ⇒ BorrowRefused (Dropped M)
+      ∷ Point (box (1 # 1) M) (box (0 # 1) L) ⇒ BorrowRefused (Dropped L)
       ∷ count_is 2 2 0 0 2 ∷ []
 
   -- Between a plain box and a shared one the answer is the location of the one that is pointed to.
@@ -326,8 +326,8 @@ module _ {T : Type 0} (u v w : T) (L M R W : Location) where
   a_plain_box_neither_points_nor_is_pointed_to =
       Make None v L takes 0 # 1 ⇒ Made (box (0 # 1) L)
       ∷ MakeShared None w M takes 1 # 1 and 2 # 1 ⇒ Made (box (2 # 1) M)
-      ∷ Point (box (0 # 1) L) (box (2 # 1) M) ⇒ Troubled (Dropped M)
-      ∷ Point (box (2 # 1) M) (box (0 # 1) L) ⇒ Troubled (Dropped L)
+      ∷ Point (box (0 # 1) L) (box (2 # 1) M) ⇒ BorrowRefused (Dropped M)
+      ∷ Point (box (2 # 1) M) (box (0 # 1) L) ⇒ BorrowRefused (Dropped L)
       ∷ count_is 3 0 0 3 3 ∷ []
 
   -- A reference doesn't leave the value that no other names while it is read; afterwards it does,
@@ -337,7 +337,7 @@ module _ {T : Type 0} (u v w : T) (L M R W : Location) where
       MakeShared None v L takes 0 # 1 and 1 # 1 ⇒ Made (box (1 # 1) L)
       ∷ MakeShared None w M takes 2 # 1 and 3 # 1 ⇒ Made (box (3 # 1) M)
       ∷ Read (box (1 # 1) L) R ⇒ Reads (guard (0 # 1) 0)
-      ∷ Point (box (1 # 1) L) (box (3 # 1) M) ⇒ Troubled (BeingRead (R ∷ []))
+      ∷ Point (box (1 # 1) L) (box (3 # 1) M) ⇒ BorrowRefused (BeingRead (R ∷ []))
       ∷ guard (0 # 1) 0 opens Some v
       ∷ ReleaseReader (guard (0 # 1) 0) ⇒ Flag true
       ∷ Point (box (1 # 1) L) (box (3 # 1) M) ⇒ Done
@@ -363,9 +363,9 @@ module _ {T : Type 0} (u v w : T) (L M R W : Location) where
       ∷ ReleaseReader (guard (0 # 1) 3) ⇒ Flag true
       ∷ ReleaseOwner (owner 0) ⇒ Done
       ∷ ReleaseOwner (owner 1) ⇒ Done
-      ∷ Read (box (1 # 1) L) R ⇒ Troubled (Dropped L)
-      ∷ Read (box (4 # 1) M) R ⇒ Troubled (Dropped M)
-      ∷ Read (box (2 # 1) L) R ⇒ Troubled (Dropped L)
+      ∷ Read (box (1 # 1) L) R ⇒ BorrowRefused (Dropped L)
+      ∷ Read (box (4 # 1) M) R ⇒ BorrowRefused (Dropped M)
+      ∷ Read (box (2 # 1) L) R ⇒ BorrowRefused (Dropped L)
       ∷ count_is 5 5 0 0 5 ∷ []
 
   -- A reference to a plain box is refused with its location, also under a reader; under a writer it
@@ -373,12 +373,12 @@ module _ {T : Type 0} (u v w : T) (L M R W : Location) where
   abbrev pub a_plain_box_has_no_reference : Row T
   a_plain_box_has_no_reference =
       Make None v L takes 0 # 1 ⇒ Made (box (0 # 1) L)
-      ∷ Refer None (box (0 # 1) L) ⇒ Troubled (Dropped L)
+      ∷ Refer None (box (0 # 1) L) ⇒ BorrowRefused (Dropped L)
       ∷ Read (box (0 # 1) L) R ⇒ Reads (guard (0 # 1) 0)
-      ∷ Refer None (box (0 # 1) L) ⇒ Troubled (Dropped L)
+      ∷ Refer None (box (0 # 1) L) ⇒ BorrowRefused (Dropped L)
       ∷ ReleaseReader (guard (0 # 1) 0) ⇒ Flag true
       ∷ Write (box (0 # 1) L) W ⇒ Writes (guard (0 # 1) 1) v
-      ∷ Refer None (box (0 # 1) L) ⇒ Troubled (BeingWritten W)
+      ∷ Refer None (box (0 # 1) L) ⇒ BorrowRefused (BeingWritten W)
       ∷ count_is 1 0 0 1 1 ∷ []
 
   -- Where a box has turned to a value made at M, a plain box is refused with M, and a reference to
@@ -389,10 +389,10 @@ module _ {T : Type 0} (u v w : T) (L M R W : Location) where
       ∷ MakeShared None w M takes 2 # 1 and 3 # 1 ⇒ Made (box (3 # 1) M)
       ∷ Point (box (1 # 1) L) (box (3 # 1) M) ⇒ Done
       ∷ Make None v R takes 0 # 2 ⇒ Made (box (0 # 2) R)
-      ∷ Point (box (0 # 2) R) (box (1 # 1) L) ⇒ Troubled (Dropped M)
+      ∷ Point (box (0 # 2) R) (box (1 # 1) L) ⇒ BorrowRefused (Dropped M)
       ∷ Refer None (box (1 # 1) L) takes 4 # 1 ⇒ Made (box (4 # 1) M)
       ∷ End (box (0 # 2) R) ⇒ Done
-      ∷ Point (box (0 # 2) R) (box (1 # 1) L) ⇒ Troubled (Dropped R)
+      ∷ Point (box (0 # 2) R) (box (1 # 1) L) ⇒ BorrowRefused (Dropped R)
       ∷ End (box (1 # 1) L) ⇒ Done
       ∷ CanRead (box (1 # 1) L) ⇒ Flag false ∷ []
 
@@ -406,10 +406,10 @@ module _ {T : Type 0} (u v w : T) (L M R W : Location) where
       ∷ Read (box (1 # 1) L) R ⇒ Reads (guard (0 # 1) 0)
       ∷ Point (box (2 # 1) L) (box (1 # 1) L) ⇒ Done
       ∷ Write (box (4 # 1) M) W ⇒ Writes (guard (3 # 1) 1) w
-      ∷ Point (box (2 # 1) L) (box (4 # 1) M) ⇒ Troubled (BeingWritten W)
+      ∷ Point (box (2 # 1) L) (box (4 # 1) M) ⇒ BorrowRefused (BeingWritten W)
       ∷ ReleaseWriter (guard (3 # 1) 1) w ⇒ Done
       ∷ Point (box (2 # 1) L) (box (4 # 1) M) ⇒ Done
-      ∷ Point (box (1 # 1) L) (box (4 # 1) M) ⇒ Troubled (BeingRead (R ∷ []))
+      ∷ Point (box (1 # 1) L) (box (4 # 1) M) ⇒ BorrowRefused (BeingRead (R ∷ []))
       ∷ guard (0 # 1) 0 opens Some v ∷ []
 
   -- Where two of an owner's boxes are read, the one that was inserted first is told of, in whatever
@@ -423,9 +423,9 @@ module _ {T : Type 0} (u v w : T) (L M R W : Location) where
       ∷ Make (Some (owner 0)) w M takes 0 # 2 ⇒ Made (box (0 # 2) M)
       ∷ Read (box (0 # 2) M) W ⇒ Reads (guard (0 # 2) 1)
       ∷ Read (box (1 # 1) L) R ⇒ Reads (guard (1 # 1) 2)
-      ∷ ReleaseOwner (owner 0) ⇒ Troubled (BeingRead (R ∷ []))
+      ∷ ReleaseOwner (owner 0) ⇒ BorrowRefused (BeingRead (R ∷ []))
       ∷ ReleaseReader (guard (1 # 1) 2) ⇒ Flag true
-      ∷ ReleaseOwner (owner 0) ⇒ Troubled (BeingRead (W ∷ [])) ∷ []
+      ∷ ReleaseOwner (owner 0) ⇒ BorrowRefused (BeingRead (W ∷ [])) ∷ []
 
   -- one slot was made, and its cell has ended, or is live
   abbrev pub one_ended : State T

@@ -10,7 +10,7 @@ use Rattle.generational_core.specs.State.{State, content_at}
 use Rattle.generational_core.specs.Conditions.{fresh}
 use Rattle.generational_core.specs.Boxes.{box_of}
 use Rattle.generational_core.specs.Borrowing.{Guard}
-use Rattle.generational_core.specs.Machine.{Action, Answer, Fresh, Outcome, OwnerName, act}
+use Rattle.generational_core.specs.Machine.{Action, Answer, NewNames, Outcome, OwnerName, act}
 use Rattle.generational_core.specs.Machine.{knows_reader}
 use Rattle.generational_core.specs.Slots.{slots, free, retired}
 use Rattle.generational_core.specs.Steps.{limit_tickets, no_names}
@@ -18,7 +18,7 @@ use Rattle.generational_core.specs.Steps.{limit_tickets, no_names}
 -- A line of a row: a call with the names that it takes, a look at what a reader's guard opens, or
 -- the counts.
 pub data Line (T : Type 0) : Type 0 where
-  Call : (action : Action T) (names : Fresh) → Line T
+  Call : (action : Action T) (names : NewNames) → Line T
   Open : (guard : Guard) → Line T
   Count : Line T
 

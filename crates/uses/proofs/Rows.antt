@@ -5,7 +5,7 @@ use Rattle.std.specs.Prelude.{slice_index_or, slice_set, ◌+◌, Ok}
 use Rattle.std.proofs.lemmas.List.{map-append, map-set}
 use Rattle.std.proofs.lemmas.Option.{none-some, same_Some}
 use Rattle.generational_core.specs.Answers.{pointer_of}
-use Rattle.generational_core.specs.Borrowing.{reach, can_write, write_trouble}
+use Rattle.generational_core.specs.Borrowing.{reach, can_write, refusal_to_write}
 use Rattle.generational_core.specs.Machine.{Answer, OwnerName}
 use Rattle.generational_core.specs.Machine.Action.{Make, End}
 use Rattle.generational_core.specs.Machine.Answer.{Made, Done}
@@ -122,7 +122,7 @@ module _ {T : Type 0} where
   -- a state without a ticket keeps each box
   pub ticket_keeps : (S : State T) (b : GenerationalPointer)
       → Keeps S (record S { next = S.next + 1 }) b
-  unfolding value_in reach write_trouble
+  unfolding value_in reach refusal_to_write
   ticket_keeps S b = record { free = λ e. e; seen = λ v e. e }
 
   -- rows whose boxes are kept show what they showed

@@ -5,7 +5,7 @@ ghost use Rattle.std.specs.Prelude.{slice_get, map as list_map};
 ghost use Rattle.generational_core.specs.declared.boxes.GenerationalPointer.{GenerationalPointer};
 ghost use Rattle.generational_core.specs.Boxes.{name_of};
 ghost use Rattle.generational_core.specs.Conditions.{IsFresh, IsEnded};
-ghost use Rattle.generational_core.specs.Borrowing.Trouble.{Dropped};
+ghost use Rattle.generational_core.specs.Borrowing.BorrowRefusal.{Dropped};
 ghost use Rattle.generational_sessions.specs.Session.{at_place, SessionReply, SessionStep};
 ghost use Rattle.generational_sessions.specs.Session.Held.{Boxed};
 ghost use Rattle.generational_sessions.specs.Session.SessionReply.{Error};

@@ -11,7 +11,7 @@ use Rattle.generational_core.specs.declared.error.Refused.TheVariants as refused
 use Rattle.generational_core.specs.declared.error.Refused.{Refused}
 use Rattle.generational_core.specs.Machine.{Action, Outcome, act, read_at, write_at, own_cell}
 use Rattle.generational_core.specs.Machine.{next_guard, has_reader, has_writer, cell_at, unless}
-use Rattle.generational_core.specs.Machine.Answer.{Reads, Writes, Flag, Back, Troubled}
+use Rattle.generational_core.specs.Machine.Answer.{Reads, Writes, Flag, Back, BorrowRefused}
 use Rattle.generational_core.specs.Machine.Answer.{Refused as refuses}
 use Rattle.generational_core.specs.Boxes.{id_of}
 use Rattle.generational_core.specs.Sound.{SoundState, IsSound-prop, IsBounded-prop}
@@ -23,8 +23,8 @@ use Rattle.generational_entries.specs.Entry.{readers_of}
 use Rattle.generational_box.proofs.Common.{Borrow, GenerationalBoxId, GenerationalPointer}
 use Rattle.generational_box.proofs.Common.{BorrowMutError, Location, OutOfMemory, NumbersExhausted}
 use Rattle.generational_box.proofs.Common.{end_refused, back_answer, WriteGuard, IsSound, Owners}
-use Rattle.generational_box.proofs.Common.{Trouble, Guard, reach, leads_to, read_trouble, fill}
-use Rattle.generational_box.proofs.Common.{write_trouble, read_refusal, write_refusal, Dropped}
+use Rattle.generational_box.proofs.Common.{BorrowRefusal, Guard, reach, leads_to, refusal_to_read, fill}
+use Rattle.generational_box.proofs.Common.{refusal_to_write, read_refusal, write_refusal, Dropped}
 use Rattle.generational_box.proofs.Common.{BeingRead, name_of, name_in, Content, Cell, content_of}
 use Rattle.generational_box.proofs.Common.{refill, is_shared, Value, Shared, Ref, Here, Lent, Read}
 use Rattle.generational_box.proofs.Common.{Write, ReleaseReader, ReleaseWriter, Name, State}
@@ -33,8 +33,8 @@ use Rattle.generational_box.proofs.Common.{last_ticket, needs_memory, takes_tick
 use Rattle.generational_box.proofs.Common.{changed_there, insert_there, has_no_borrow, with_records}
 use Rattle.generational_box.proofs.Common.{IsBounded, IsFresh}
 use Rattle.generational_core.specs.Borrowing.{refusal_at}
-use Rattle.generational_slots.specs.Slotted.{change_content, change_content_if, reached}
-use Rattle.generational_slots.specs.Slotted.{read_trouble_at, write_trouble_at}
+use Rattle.generational_slots.specs.SlotsState.{change_content, change_content_if, reached}
+use Rattle.generational_slots.specs.SlotsState.{refusal_to_read_at, refusal_to_write_at}
 
 -- a list without the ticket stays as it is
 nothing_left : (t : ℕ) (rs : List Borrow) → list_any (λ r. nat_eq r.ticket t) rs ≡ false
@@ -74,7 +74,7 @@ module _ {T : Type 0} where
 
   -- borrows that stand in the way, or no memory for the list of their locations
   pub hindered_step : (S : State T) (call : Action T) (e : Refused BorrowMutError)
-      (t : Option Trouble) (out : Outcome T) → act S call no_names ≡ unless t S out
+      (t : Option BorrowRefusal) (out : Outcome T) → act S call no_names ≡ unless t S out
       → FoundBorrowed t (Err e) → Meets S call (end_refused e) S
   unfolding may_lack
   hindered_step S call (refused.Borrow e) t out is found =
@@ -167,13 +167,13 @@ module _ {T : Type 0} where
     pub reach_own : reach S b ≡ reached X n
     reach_own = rw (← view) reach_here
 
-    pub read_own : read_trouble S b ≡ read_trouble_at X n b.created_at
-    unfolding read_trouble
+    pub read_own : refusal_to_read S b ≡ refusal_to_read_at X n b.created_at
+    unfolding refusal_to_read
     read_own = rw (← view)
         (ap (λ o. refusal_at o b.created_at (λ m. read_refusal (content_at X m))) reach_here)
 
-    pub write_own : write_trouble S b ≡ write_trouble_at X n b.created_at
-    unfolding write_trouble
+    pub write_own : refusal_to_write S b ≡ refusal_to_write_at X n b.created_at
+    unfolding refusal_to_write
     write_own = rw (← view)
         (ap (λ o. refusal_at o b.created_at (λ m. write_refusal (content_at X m))) reach_here)
 
@@ -187,22 +187,22 @@ module _ {T : Type 0} where
 
   module _ {S : State T} (b : GenerationalPointer) (l : Location) where
     -- a box that reaches nothing
-    pub read_gone : None ≡ reach S b → Meets S (Read b l) (Troubled (Dropped b.created_at)) S
-    unfolding read_trouble
+    pub read_gone : None ≡ reach S b → Meets S (Read b l) (BorrowRefused (Dropped b.created_at)) S
+    unfolding refusal_to_read
     read_gone none = inl (no_names, tt, rw (← none) refl)
 
     -- the same
-    pub write_gone : None ≡ reach S b → Meets S (Write b l) (Troubled (Dropped b.created_at)) S
-    unfolding write_trouble
+    pub write_gone : None ≡ reach S b → Meets S (Write b l) (BorrowRefused (Dropped b.created_at)) S
+    unfolding refusal_to_write
     write_gone none = inl (no_names, tt, rw (← none) refl)
 
     -- what stands in the way of a read, and of a write
-    pub read_hindered : (t : Trouble) → read_trouble S b ≡ Some t → Meets S (Read b l) (Troubled t) S
+    pub read_hindered : (t : BorrowRefusal) → refusal_to_read S b ≡ Some t → Meets S (Read b l) (BorrowRefused t) S
     read_hindered t is = inl (no_names, tt, rw is refl)
 
-    pub write_hindered : (e : Refused BorrowMutError) → FoundBorrowed (write_trouble S b) (Err e)
+    pub write_hindered : (e : Refused BorrowMutError) → FoundBorrowed (refusal_to_write S b) (Err e)
         → Meets S (Write b l) (end_refused e) S
-    write_hindered e found = hindered_step S (Write b l) e (write_trouble S b)
+    write_hindered e found = hindered_step S (Write b l) e (refusal_to_write S b)
         (write_at S l (reach S b) (content_of (cell_at S (reach S b)))) refl found
 
     module _ (X : State T) {number next : ℕ} {owners : Owners} {m : Name}
@@ -212,12 +212,12 @@ module _ {T : Type 0} where
       V = with_records X number owners next
 
       -- what stands in the way of a read is the content's own refusal, and so of a write
-      reading : read_trouble V b ≡ read_refusal (content_at V m)
-      unfolding read_trouble
+      reading : refusal_to_read V b ≡ read_refusal (content_at V m)
+      unfolding refusal_to_read
       reading = rw o.to refl
 
-      writing : write_trouble V b ≡ write_refusal (content_at V m)
-      unfolding write_trouble
+      writing : refusal_to_write V b ≡ write_refusal (content_at V m)
+      unfolding refusal_to_write
       writing = rw o.to refl
 
       -- the guard of the next ticket

@@ -14,15 +14,15 @@ use Rattle.generational_entries.specs.Entry.{FoundBorrowed}
 use Rattle.generational_box.proofs.Common.{BorrowMutError, Cell, Content, End, GenerationalPointer}
 use Rattle.generational_box.proofs.Common.{Here, IsLinked, IsSound, Lent, Location, ManuallyDrop}
 use Rattle.generational_box.proofs.Common.{Meets, Name, NameMap, Owners, Ref, Shared, State}
-use Rattle.generational_box.proofs.Common.{Trouble, Value, cells_after, close, close_nothing}
+use Rattle.generational_box.proofs.Common.{BorrowRefusal, Value, cells_after, close, close_nothing}
 use Rattle.generational_box.proofs.Common.{content_at, content_of, first_hindrance, hindrance_of}
 use Rattle.generational_box.proofs.Common.{hindrance_to, is_ready, name_of, no_names, reach}
-use Rattle.generational_box.proofs.Common.{read_refusal, read_trouble, sound_linked}
+use Rattle.generational_box.proofs.Common.{read_refusal, refusal_to_read, sound_linked}
 use Rattle.generational_box.proofs.Common.{tells_of_borrow, with_records, write_refusal}
 use Rattle.generational_box.proofs.calls.Calls.{hindered_step}
 
--- a trouble that isn't a dropped value's tells of a borrow
-abbrev Tells : Option Trouble → Type 0
+-- a refusal that isn't a dropped value's tells of a borrow
+abbrev Tells : Option BorrowRefusal → Type 0
 Tells t = is_none t ≡ not (tells_of_borrow t)
 
 module _ {T : Type 0} where
@@ -90,7 +90,7 @@ module _ {T : Type 0} where
         one n (Some (Shared c l)) = refl
         one n (Some (Ref m l)) = spot_tells m
 
-        either : (a b : Option Trouble) → Tells a → Tells b → Tells (option_or a b)
+        either : (a b : Option BorrowRefusal) → Tells a → Tells b → Tells (option_or a b)
         either None b h k = k
         either (Some t) b h k = h
 
@@ -102,7 +102,7 @@ module _ {T : Type 0} where
   module _ {V S : State T} (view : V ≡ S) (b : GenerationalPointer) where
     -- a read meets no borrow where nothing is reached
     pub read_ready_gone : (l : Location) → None ≡ reach S b → true ≡ is_ready S (Reading b l)
-    unfolding read_trouble
+    unfolding refusal_to_read
     read_ready_gone l none = rw (← none) refl
 
     -- an end of another store's box meets none

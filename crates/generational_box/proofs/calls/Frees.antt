@@ -6,11 +6,11 @@ use Rattle.std.specs.FinMap as map
 use Rattle.generational_core.specs.Borrowing.{can_read, can_write, refusal_at}
 use Rattle.generational_core.specs.Machine.Action.{SetValue}
 use Rattle.generational_core.specs.Machine.Answer.{Old}
-use Rattle.generational_slots.specs.Slotted.{content_reached, reached}
+use Rattle.generational_slots.specs.SlotsState.{content_reached, reached}
 use Rattle.generational_box.proofs.Common.{Content, GenerationalPointer, Here, IsSound, Lent, Meets}
 use Rattle.generational_box.proofs.Common.{Name, Owners, State, content_at, fill, has_no_borrow}
-use Rattle.generational_box.proofs.Common.{leads_to, name_of, no_names, reach, read_trouble}
-use Rattle.generational_box.proofs.Common.{with_records, write_refusal, write_trouble}
+use Rattle.generational_box.proofs.Common.{leads_to, name_of, no_names, reach, refusal_to_read}
+use Rattle.generational_box.proofs.Common.{with_records, write_refusal, refusal_to_write}
 use Rattle.generational_box.proofs.calls.Calls.{reach_here, reach_own, reaches, write_own}
 
 module _ {T : Type 0} where
@@ -24,17 +24,17 @@ module _ {T : Type 0} where
   module _ {V S : State T} (view : V ≡ S) (b : GenerationalPointer) where
     -- what reaches nothing can't be read or written
     pub read_unreached : None ≡ reach S b → false ≡ can_read S b
-    unfolding read_trouble
+    unfolding refusal_to_read
     read_unreached none = rw (← none) refl
 
     pub write_unreached : None ≡ reach S b → false ≡ can_write S b
-    unfolding write_trouble
+    unfolding refusal_to_write
     write_unreached none = rw (← none) refl
 
   -- what can be written is of this store
   written_here : (number : ℕ) (V : State T) (b : GenerationalPointer) → V.number ≡ number
       → can_write V b ≡ true → b.id.store ≡ number
-  unfolding reach write_trouble
+  unfolding reach refusal_to_write
   written_here number V b is free =
       at (nat_eq b.id.store V.number) refl free
     where

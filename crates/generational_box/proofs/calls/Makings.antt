@@ -7,23 +7,23 @@ use Rattle.std.specs.FinMap as map
 use Rattle.std.specs.FinSet as set
 use Rattle.std.specs.List.{AllByRecursion}
 use Rattle.generational_core.specs.Borrowing.{read_refusal, refusal_at}
-use Rattle.generational_slots.specs.Slotted.{reached, refer_trouble_at, shared_reached}
+use Rattle.generational_slots.specs.SlotsState.{reached, refusal_to_refer_at, shared_reached}
 use Rattle.std.specs.Option.{option_or}
 use Rattle.generational_core.specs.Machine.{Action, OwnerName, act, add_cell, add_to_list, is_known}
-use Rattle.generational_core.specs.Machine.{cell_at, make, refer, unless, Fresh}
+use Rattle.generational_core.specs.Machine.{cell_at, make, refer, unless, NewNames}
 use Rattle.generational_box.proofs.Common.{MakeShared, Refer, HasTargets, by_name}
 use Rattle.generational_box.proofs.Common.{contains-insert_name, get-insert_apart, get-insert_here}
 use Rattle.generational_box.proofs.Common.{name_cases, cell_of, content_at, location_of}
 use Rattle.generational_box.proofs.Common.{AreCounted, Cell, Dropped, IsBounded, meets_kept, GenerationalPointer, Here}
 use Rattle.generational_box.proofs.Common.{IsListed, IsMade, IsNew, IsRefusal, IsSound}
 use Rattle.generational_box.proofs.Common.{Location, Make, Meets, Name, NumbersExhausted}
-use Rattle.generational_box.proofs.Common.{OutOfMemory, Ownership, Owners, Ref, Shared, Slotted}
-use Rattle.generational_box.proofs.Common.{State, StoreError, Trouble, UnknownOwner, Value}
+use Rattle.generational_box.proofs.Common.{OutOfMemory, Ownership, Owners, Ref, Shared, SlotsState}
+use Rattle.generational_box.proofs.Common.{State, StoreError, BorrowRefusal, UnknownOwner, Value}
 use Rattle.generational_box.proofs.Common.{add_to_list_in, among, box_of, free, is_shared}
-use Rattle.generational_box.proofs.Common.{knows_any, limit_tickets, may_lack, name_apart, name_of, names_in}
-use Rattle.generational_box.proofs.Common.{names_under, needs_memory, no_names, reach, read_trouble}
+use Rattle.generational_box.proofs.Common.{permits, limit_tickets, may_lack, name_apart, name_of, names_in}
+use Rattle.generational_box.proofs.Common.{names_under, needs_memory, no_names, reach, refusal_to_read}
 use Rattle.generational_box.proofs.Common.{with_records}
-use Rattle.generational_core.specs.Machine.Answer.{Made, Refused, Troubled}
+use Rattle.generational_core.specs.Machine.Answer.{Made, Refused, BorrowRefused}
 use Rattle.generational_core.specs.State.{IsBoxed}
 use Rattle.generational_entries.specs.declared.entry.StorageEntryData.{StorageEntryData}
 use Rattle.generational_entries.specs.declared.entry.StorageEntryData.TheVariants as slot
@@ -57,7 +57,7 @@ module _ {T : Type 0} where
   -- a name that is new to the slots of a store is new to the store
   new_name : (X : State T) {number next : ℕ} {owners : Owners} (n : Name) → IsNew X n
       → IsNew (with_records X number owners next) n
-  new_name X n new = record { fresh = new.fresh; fits = new.fits }
+  new_name X n new = record { ungiven = new.ungiven; fits = new.fits }
 
   -- where a making may lack memory
   value_lacks : (V : State T) (b : GenerationalPointer) (v : T) (l : Location)
@@ -88,8 +88,8 @@ module _ {T : Type 0} where
   module _ {S : State T} (b : GenerationalPointer) (o : Option OwnerName)
       (known : is_known S o ≡ true) where
     -- a box that reaches nothing
-    pub refer_gone : None ≡ reach S b → Meets S (Refer o b) (Troubled (Dropped b.created_at)) S
-    unfolding read_trouble
+    pub refer_gone : None ≡ reach S b → Meets S (Refer o b) (BorrowRefused (Dropped b.created_at)) S
+    unfolding refusal_to_read
     refer_gone none = inl (no_names, tt, rw (known, ← none) refl)
 
     -- what stands in the way of a reference to what the box's name reaches
@@ -98,9 +98,9 @@ module _ {T : Type 0} where
       abbrev W : State T
       W = with_records X number owners next
 
-      pub refer_hindered : {n : Name} → n ≡ name_of b → b.id.store ≡ number → (t : Trouble)
-          → refer_trouble_at X n b.created_at ≡ Some t → Meets S (Refer o b) (Troubled t) S
-      unfolding read_trouble
+      pub refer_hindered : {n : Name} → n ≡ name_of b → b.id.store ≡ number → (t : BorrowRefusal)
+          → refusal_to_refer_at X n b.created_at ≡ Some t → Meets S (Refer o b) (BorrowRefused t) S
+      unfolding refusal_to_read
       refer_hindered {n} at own t is = rw (← view) (inl (
         no_names,
         tt,
@@ -108,9 +108,9 @@ module _ {T : Type 0} where
             (sym (ap (limit_tickets W) (by (reached X n) is))),
       ))
         where
-          past : (m : Name) (x : Option Trouble) (cell : Option (Cell T))
+          past : (m : Name) (x : Option BorrowRefusal) (cell : Option (Cell T))
               → option_or x (cond (is_shared cell) None (Some (Dropped b.created_at))) ≡ Some t
-              → unless x W (refer W o b (Some m) cell no_names.first) ≡ (Troubled t, W)
+              → unless x W (refer W o b (Some m) cell no_names.first) ≡ (BorrowRefused t, W)
           past m (Some x) cell is = let same : x ≡ t = cc in rw same refl
           past m None (Some (Shared c k)) is = absurd cc
           past m None (Some (Value c k)) is = let same : Dropped b.created_at ≡ t = cc in rw same refl
@@ -121,7 +121,7 @@ module _ {T : Type 0} where
               → option_or (refusal_at r b.created_at (λ m. read_refusal (content_at X m)))
               (cond (shared_reached X r) None (Some (Dropped b.created_at))) ≡ Some t
               → unless (refusal_at r b.created_at (λ m. read_refusal (content_at X m))) W
-              (refer W o b r (cell_at W r) no_names.first) ≡ (Troubled t, W)
+              (refer W o b r (cell_at W r) no_names.first) ≡ (BorrowRefused t, W)
           by None is = let same : Dropped b.created_at ≡ t = cc in rw same refl
           by (Some m) is = past m (read_refusal (content_at X m)) (map.get X.cells m) is
 
@@ -133,7 +133,7 @@ module _ {T : Type 0} where
   -- a shared value that a box reaches, and that isn't lent
   abbrev ReachesShared : State T → GenerationalPointer → Name → Type 0
   ReachesShared S b m =
-      (reach S b ≡ Some m) × (read_trouble S b ≡ None) × (is_shared (map.get S.cells m) ≡ true)
+      (reach S b ≡ Some m) × (refusal_to_read S b ≡ None) × (is_shared (map.get S.cells m) ≡ true)
 
   -- a shared value that a name reaches is reached by the name's box
   pub reaches_shared : (X : State T) {S : State T} {number next : ℕ} {owners : Owners}
@@ -151,7 +151,7 @@ module _ {T : Type 0} where
 
   -- to it a reference is made
   refers : (V : State T) (b : GenerationalPointer) (m : Name) (l : Location)
-      (o : Option OwnerName) (f : Fresh)
+      (o : Option OwnerName) (f : NewNames)
       → ReachesShared V b m → location_of (map.get V.cells m) ≡ Some l
       → act V (Refer o b) f
       ≡ cond (is_known V o) (make V o f.first (Ref m l) l) (Refused UnknownOwner, V)
@@ -165,16 +165,16 @@ module _ {T : Type 0} where
       by (Some (Ref n k)) shared at = absurd (false≢true shared)
       by None shared at = absurd (false≢true shared)
 
-  module _ (s : Slotted T) {S : State T} {number next : ℕ} {owners : Owners}
+  module _ (s : SlotsState T) {S : State T} {number next : ℕ} {owners : Owners}
       (view : with_records s.state number owners next ≡ S) (o : Option OwnerName) where
     abbrev V : State T
     V = with_records s.state number owners next
 
     -- an owner is known to the machine if the records know it
-    known : knows_any number owners o ≡ is_known V o
+    known : permits number owners o ≡ is_known V o
     known = at o
       where
-        at : (o : Option OwnerName) → knows_any number owners o ≡ is_known V o
+        at : (o : Option OwnerName) → permits number owners o ≡ is_known V o
         at None = refl
         at (Some o) = refl
 
@@ -202,7 +202,7 @@ module _ {T : Type 0} where
         at (Some o) = refl
 
     -- a value of a box's own
-    pub value_made : (v : T) (l : Location) (r : Slotted T) (after : Owners) (n : Name)
+    pub value_made : (v : T) (l : Location) (r : SlotsState T) (after : Owners) (n : Name)
         (b : GenerationalPointer) → IsMade s r (Some (Value (Here v []) l)) n
         → IsListed number owners after o n → b ≡ box_of number n l
         → Meets S (Make o v l) (Made b) (with_records r.state number after next)
@@ -215,7 +215,7 @@ module _ {T : Type 0} where
         ))
 
     -- a reference to a shared value
-    pub reference_made : (inner : GenerationalPointer) (l : Location) (r : Slotted T)
+    pub reference_made : (inner : GenerationalPointer) (l : Location) (r : SlotsState T)
         (after : Owners) (m n : Name) (b : GenerationalPointer) (d : StorageEntryData T)
         → ReachesShared S inner m
         → location_of (map.get V.cells m) ≡ Some l → d ≡ slot.Reference m.slot m.generation
@@ -237,7 +237,7 @@ module _ {T : Type 0} where
 
     -- ---- a shared value, and then a reference to it
 
-    module _ (q r : Slotted T) (same : q.state ≡ s.state) (v : T) (l : Location) (m : Name)
+    module _ (q r : SlotsState T) (same : q.state ≡ s.state) (v : T) (l : Location) (m : Name)
         (first : IsMade q r (Some (Shared (Here v []) l)) m) where
       abbrev cell : Cell T
       cell = Shared (Here v []) l
@@ -279,7 +279,7 @@ module _ {T : Type 0} where
               ∙ get-insert_apart by_name s.state.cells m cell x apart
 
       -- the reference is listed
-      module _ (t : Slotted T) (d : StorageEntryData T) (n : Name) (after : Owners)
+      module _ (t : SlotsState T) (d : StorageEntryData T) (n : Name) (after : Owners)
           (refers_to : d ≡ slot.Reference m.slot m.generation)
           (second : IsMade r t (cell_of (kept_data [] l d)) n)
           (placed : after ≡ add_to_list_in owners o n) where
@@ -287,11 +287,11 @@ module _ {T : Type 0} where
         pub pair_counted : AreCounted next owners → IsSound S → AreCounted next after
         pair_counted counted sound = made_counted counted sound n after
             (second_false _ _ (sym (contains-insert_name s.state.given m n)
-            ∙ (ap (λ (X : State T). set.contains X.given n) (sym added) ∙ second.fits.fresh)))
+            ∙ (ap (λ (X : State T). set.contains X.given n) (sym added) ∙ second.fits.ungiven)))
             placed
 
         -- a shared value with a reference to it
-        pub shared_made : (b : GenerationalPointer) → knows_any number owners o ≡ true
+        pub shared_made : (b : GenerationalPointer) → permits number owners o ≡ true
             → b ≡ box_of number n l
             → Meets S (MakeShared o v l) (Made b) (with_records t.state number after next)
         shared_made b knew is =
@@ -312,8 +312,8 @@ module _ {T : Type 0} where
 
     -- why a making is refused that may lack memory
     abbrev Refuses : Bool → StoreError → Type 0
-    Refuses lacks UnknownOwner = knows_any number owners o ≡ false
-    Refuses lacks OutOfMemory = (knows_any number owners o ≡ true) × (lacks ≡ true)
+    Refuses lacks UnknownOwner = permits number owners o ≡ false
+    Refuses lacks OutOfMemory = (permits number owners o ≡ true) × (lacks ≡ true)
     Refuses lacks NumbersExhausted = ⊥
 
     -- the machine refuses so
@@ -345,7 +345,7 @@ module _ {T : Type 0} where
           by NumbersExhausted is = is
 
       -- no memory for its cells
-      making_full : knows_any number owners o ≡ true → P
+      making_full : permits number owners o ≡ true → P
           → Meets S call (Refused OutOfMemory) (with_records Y number after next)
       making_full knew few =
           rw (← view, same, unlisted) (refused call b R acts OutOfMemory (knew, lacks (inr few)))
@@ -358,7 +358,7 @@ module _ {T : Type 0} where
       value_refused = making_refused (Make o v l) _ _ refl
           (value_lacks V (box_of number no_names.first l) v l o) Y after same unlisted
 
-      pub value_full : knows_any number owners o ≡ true → free s.state ≡ 0
+      pub value_full : permits number owners o ≡ true → free s.state ≡ 0
           → Meets S (Make o v l) (Refused OutOfMemory) (with_records Y number after next)
       value_full = making_full (Make o v l) _ _ refl
           (value_lacks V (box_of number no_names.first l) v l o) Y after same unlisted
@@ -369,7 +369,7 @@ module _ {T : Type 0} where
       shared_refused = making_refused (MakeShared o v l) _ _ refl
           (pair_lacks V (box_of number no_names.second l) v l o) Y after same unlisted
 
-      pub shared_full : knows_any number owners o ≡ true → free s.state < 2
+      pub shared_full : permits number owners o ≡ true → free s.state < 2
           → Meets S (MakeShared o v l) (Refused OutOfMemory) (with_records Y number after next)
       shared_full = making_full (MakeShared o v l) _ _ refl
           (pair_lacks V (box_of number no_names.second l) v l o) Y after same unlisted
@@ -394,7 +394,7 @@ module _ {T : Type 0} where
           (refers V inner m made_at.0 o no_names (shared_here inner m reached) made_at.1)
           (reference_lacks V (box_of number no_names.first made_at.0) inner o) Y after same unlisted
 
-      pub reference_full : knows_any number owners o ≡ true → free s.state ≡ 0
+      pub reference_full : permits number owners o ≡ true → free s.state ≡ 0
           → Meets S (Refer o inner) (Refused OutOfMemory) (with_records Y number after next)
       reference_full = making_full (Refer o inner) _ _
           (refers V inner m made_at.0 o no_names (shared_here inner m reached) made_at.1)

@@ -4,24 +4,24 @@ use Rattle.std.proofs.Common.{Err, refl, ap, ◌∙◌, inl, nat_eq}
 use Rattle.std.proofs.lemmas.Bool.{eq-eqb, false≢true, ne_eqb}
 use Rattle.std.specs.FinMap as map
 use Rattle.generational_core.specs.declared.error.Refused.{Refused}
-use Rattle.generational_core.specs.Answers.{end_answer, read_trouble_of, trouble_of}
+use Rattle.generational_core.specs.Answers.{end_answer, read_trouble_of, refusal_of_error}
 use Rattle.generational_core.specs.Texts.{as_borrow_mut}
 use Rattle.generational_core.specs.declared.error.BorrowError.{BorrowError}
 use Rattle.generational_core.specs.declared.error.BorrowError.TheVariants as reads
 use Rattle.generational_core.specs.Boxes.{has_same_id}
 use Rattle.generational_core.specs.Ending.{hindrance_at}
 use Rattle.generational_core.specs.Machine.{act, own_cell, point, unless}
-use Rattle.generational_core.specs.Machine.Answer.{Done, Troubled}
+use Rattle.generational_core.specs.Machine.Answer.{Done, BorrowRefused}
 use Rattle.generational_entries.specs.Entry.{FoundBorrowed}
-use Rattle.generational_slots.specs.Slotted.{Turns}
+use Rattle.generational_slots.specs.SlotsState.{Turns}
 use Rattle.generational_box.proofs.Common.{BorrowMutError, Cell, Dropped, GenerationalPointer}
 use Rattle.generational_box.proofs.Common.{Meets, Name, NameMap, Owners, Point, Ref, box_of}
-use Rattle.generational_box.proofs.Common.{Shared, State, Trouble, Value, is_name, name_of}
-use Rattle.generational_box.proofs.Common.{content_at, no_names, reach, read_refusal, read_trouble, sweep, with_records}
+use Rattle.generational_box.proofs.Common.{Shared, State, BorrowRefusal, Value, is_name, name_of}
+use Rattle.generational_box.proofs.Common.{content_at, no_names, reach, read_refusal, refusal_to_read, sweep, with_records}
 use Rattle.generational_box.proofs.calls.Calls.{hindered_step}
 
 -- an error of a read tells the same as one of a write
-pub troubled_mut : (e : BorrowError) → trouble_of (as_borrow_mut e) ≡ read_trouble_of e
+pub troubled_mut : (e : BorrowError) → refusal_of_error (as_borrow_mut e) ≡ read_trouble_of e
 troubled_mut (reads.Dropped e) = refl
 troubled_mut (reads.AlreadyBorrowedMut e) = refl
 
@@ -29,8 +29,8 @@ module _ {T : Type 0} where
   -- nothing hinders a read of what is reached and not lent
   pub free_to : (X : State T) {S : State T} {number next : ℕ} {owners : Owners}
       → with_records X number owners next ≡ S → (b : GenerationalPointer) {m : Name}
-      → reach S b ≡ Some m → read_refusal (content_at X m) ≡ None → read_trouble S b ≡ None
-  unfolding read_trouble
+      → reach S b ≡ Some m → read_refusal (content_at X m) ≡ None → refusal_to_read S b ≡ None
+  unfolding refusal_to_read
   free_to X view b to free = rw to (rw (← view) free)
 
   module _ {S : State T} (a b : GenerationalPointer) where
@@ -41,35 +41,35 @@ module _ {T : Type 0} where
     module _ (other : false ≡ has_same_id a b) where
       -- the other box reaches nothing
       pub point_gone : None ≡ reach S b
-          → Meets S (Point a b) (Troubled (Dropped b.created_at)) S
-      unfolding read_trouble
+          → Meets S (Point a b) (BorrowRefused (Dropped b.created_at)) S
+      unfolding refusal_to_read
       point_gone none = inl (no_names, tt, rw (← other, ← none) refl)
 
       -- or a writer has what it reaches
-      pub point_hindered : (t : Trouble) → read_trouble S b ≡ Some t
-          → Meets S (Point a b) (Troubled t) S
+      pub point_hindered : (t : BorrowRefusal) → refusal_to_read S b ≡ Some t
+          → Meets S (Point a b) (BorrowRefused t) S
       point_hindered t is = inl (no_names, tt, rw (← other, is) refl)
 
       module _ (X : State T) {number next : ℕ} {owners : Owners} {m : Name}
           (view : with_records X number owners next ≡ S)
-          (to : reach S b ≡ Some m) (free : read_trouble S b ≡ None) where
+          (to : reach S b ≡ Some m) (free : refusal_to_read S b ≡ None) where
         abbrev V : State T
         V = with_records X number owners next
 
         -- else the box's own cell is asked
         points : act V (Point a b) no_names
             ≡ point V a b (own_cell V a.id) (Some m) (map.get V.cells m)
-        points = rw (← other, ap (λ R. read_trouble R b) view ∙ free, ap (λ R. reach R b) view ∙ to)
+        points = rw (← other, ap (λ R. refusal_to_read R b) view ∙ free, ap (λ R. reach R b) view ∙ to)
             refl
 
         -- which is another store's
         pub point_strange : a.id.store ≢ number
-            → Meets S (Point a b) (Troubled (Dropped a.created_at)) S
+            → Meets S (Point a b) (BorrowRefused (Dropped a.created_at)) S
         point_strange strange =
             rw (← view) (inl (no_names, tt, rw (points, ne_eqb a.id.store number strange) refl))
 
         -- the turn of the store's slots is the machine's
-        turned : (Y : State T) (same : Bool) (t : Option Trouble) (left : NameMap (Cell T))
+        turned : (Y : State T) (same : Bool) (t : Option BorrowRefusal) (left : NameMap (Cell T))
             (result : Result (Unit {0}) (Refused BorrowMutError))
             → act V (Point a b) no_names
             ≡ cond same (Done, V) (unless t V (Done, record V { cells = left }))
@@ -88,8 +88,8 @@ module _ {T : Type 0} where
             (Done, record V { cells = left }) acts turning.0)
 
         -- so is a refusal that tells where something was made
-        told : (Y : State T) (t : Trouble) (result : Result (Unit {0}) (Refused BorrowMutError))
-            → act V (Point a b) no_names ≡ (Troubled t, V)
+        told : (Y : State T) (t : BorrowRefusal) (result : Result (Unit {0}) (Refused BorrowMutError))
+            → act V (Point a b) no_names ≡ (BorrowRefused t, V)
             → FoundBorrowed (Some t) result × (Y ≡ X)
             → Meets V (Point a b) (end_answer result) (with_records Y number owners next)
         told Y t (Ok u) acts found = absurd cc

@@ -14,9 +14,9 @@ use Rattle.std.specs.FinMap as map
 use Rattle.std.specs.FinSet as set
 use Rattle.generational_containers.proofs.Common.{by_number, key_here, key_apart, changed_there}
 use Rattle.generational_containers.proofs.Common.{change}
-use Rattle.generational_containers.proofs.Common.{Ownership, Owners, Keyed, Place, entries_of}
+use Rattle.generational_containers.proofs.Common.{Ownership, Owners, KeyedOwnership, Place, keyed_ownerships}
 use Rattle.generational_containers.proofs.Common.{owners_of}
-use Rattle.generational_containers.proofs.Common.{record_in, record_at, HasRecord, AreApart}
+use Rattle.generational_containers.proofs.Common.{record_in, record_at, HasRecord, HasDistinctKeys}
 use Rattle.generational_containers.proofs.Common.{is_vacant}
 use Rattle.generational_core.specs.Machine.{OwnerName}
 use Rattle.generational_containers.proofs.Common.{get-changed_none, get-remove_here}
@@ -43,15 +43,15 @@ abbrev find_in : ℕ → List Place → Option Ownership
 find_in q [] = None
 find_in q (x ∷ xs) = option_or (record_in q x) (find_in q xs)
 
-find_is : (q : ℕ) (xs : List Place) → map.find nat_cmp q (entries_of xs) ≡ find_in q xs
+find_is : (q : ℕ) (xs : List Place) → map.find nat_cmp q (keyed_ownerships xs) ≡ find_in q xs
 find_is q [] = refl
 find_is q (None ∷ xs) = find_is q xs
 find_is q (Some r ∷ xs) =
-    ap (λ b. cond b (Some r.ownership) (map.find nat_cmp q (entries_of xs))) (number_test q r.key)
+    ap (λ b. cond b (Some r.ownership) (map.find nat_cmp q (keyed_ownerships xs))) (number_test q r.key)
     ∙ at (nat_eq q r.key) (find_is q xs)
   where
-    at : (b : Bool) → map.find nat_cmp q (entries_of xs) ≡ find_in q xs
-        → cond b (Some r.ownership) (map.find nat_cmp q (entries_of xs))
+    at : (b : Bool) → map.find nat_cmp q (keyed_ownerships xs) ≡ find_in q xs
+        → cond b (Some r.ownership) (map.find nat_cmp q (keyed_ownerships xs))
         ≡ option_or (cond b (Some r.ownership) None) (find_in q xs)
     at true rest = refl
     at false rest = rest
@@ -59,15 +59,15 @@ find_is q (Some r ∷ xs) =
 -- what the machine's map has under a key
 get_first : (xs : List Place) (q : ℕ) → map.get (owners_of xs) q ≡ find_in q xs
 unfolding owners_of
-get_first xs q = map.get-from_entries nat_cmp_total (entries_of xs) q ∙ find_is q xs
+get_first xs q = map.get-from_entries nat_cmp_total (keyed_ownerships xs) q ∙ find_is q xs
 
-apart_rest : {x : Place} {xs : List Place} → AreApart (x ∷ xs) → AreApart xs
+apart_rest : {x : Place} {xs : List Place} → HasDistinctKeys (x ∷ xs) → HasDistinctKeys xs
 apart_rest apart = record {
   one = λ key i j hi hj.
       let same : suc i ≡ suc j = apart.one key (suc i) (suc j) hi hj in omega arith;
 }
 
-find_one : (xs : List Place) → AreApart xs → (q i : ℕ) (h : Ownership)
+find_one : (xs : List Place) → HasDistinctKeys xs → (q i : ℕ) (h : Ownership)
     → record_at q (slice_get xs i) ≡ Some h → find_in q xs ≡ Some h
 find_one [] apart q i h is = absurd (none-some h is)
 find_one (x ∷ xs) apart q zero h is = rw is refl
@@ -86,7 +86,7 @@ find_none : (xs : List Place) (q : ℕ) → ((i : ℕ) → record_at q (slice_ge
 find_none [] q none = refl
 find_none (x ∷ xs) q none = rw (none 0) (find_none xs q (λ i. none (suc i)))
 
-pub get_one : {xs : List Place} → AreApart xs → (q i : ℕ) (h : Ownership)
+pub get_one : {xs : List Place} → HasDistinctKeys xs → (q i : ℕ) (h : Ownership)
     → record_at q (slice_get xs i) ≡ Some h → map.get (owners_of xs) q ≡ Some h
 get_one {xs} apart q i h is = get_first xs q ∙ find_one xs apart q i h is
 
@@ -109,13 +109,13 @@ find_push (z ∷ zs) q x new = ap (option_or (record_in q z)) (find_push zs q x 
 
 -- ---- records and their keys
 
-own_key : (r : Keyed) → record_in r.key (Some r) ≡ Some r.ownership
+own_key : (r : KeyedOwnership) → record_in r.key (Some r) ≡ Some r.ownership
 own_key r = ap (λ b. cond b (Some r.ownership) None) (eq-eqb r.key r.key refl)
 
-other_key : (q : ℕ) (r : Keyed) → q ≢ r.key → record_in q (Some r) ≡ None
+other_key : (q : ℕ) (r : KeyedOwnership) → q ≢ r.key → record_in q (Some r) ≡ None
 other_key q r ne = ap (λ b. cond b (Some r.ownership) None) (ne_eqb q r.key ne)
 
-key_is : (q : ℕ) (r : Keyed) → is_some (record_in q (Some r)) ≡ true → q ≡ r.key
+key_is : (q : ℕ) (r : KeyedOwnership) → is_some (record_in q (Some r)) ≡ true → q ≡ r.key
 key_is q r has = at (nat_eq q r.key) refl has
   where
     at : (b : Bool) → nat_eq q r.key ≡ b → is_some (cond b (Some r.ownership) None) ≡ true
@@ -124,7 +124,7 @@ key_is q r has = at (nat_eq q r.key) refl has
     at false other has = absurd (false≢true has)
 
 pub standing : (q : ℕ) (o : Option Place) → HasRecord q o
-    → (r : Keyed) × (o ≡ Some (Some r)) × (q ≡ r.key)
+    → (r : KeyedOwnership) × (o ≡ Some (Some r)) × (q ≡ r.key)
 standing q None has = absurd (false≢true has)
 standing q (Some None) has = absurd (false≢true has)
 standing q (Some (Some r)) has = (r, refl, key_is q r has)
@@ -150,9 +150,9 @@ updated xs ys k v here others q =
     ∙ sym (ap (λ b. cond b v (map.get (owners_of xs) q)) (key_apart by_number q k ne)))
     (cases_eq q k)
 
-apart_written : {xs ys : List Place} {i : ℕ} {x : Place} → IsWritten xs ys i x → AreApart xs
+apart_written : {xs ys : List Place} {i : ℕ} {x : Place} → IsWritten xs ys i x → HasDistinctKeys xs
     → ((q j : ℕ) → is_some (record_in q x) ≡ true → HasRecord q (slice_get xs j) → j ≡ i)
-    → AreApart ys
+    → HasDistinctKeys ys
 apart_written {xs} {ys} {i} {x} w apart alone = record {
   one = λ q a b ha hb.
       at q a b (nat_eq a i) refl (nat_eq b i) refl
@@ -181,10 +181,10 @@ pooled_written {xs} {ys} {i} {x} v w wr pooled new k =
     at false = pooled k
 
 -- a record is written where no other of its key stands
-module _ {xs ys : List Place} {i : ℕ} (r : Keyed) (w : IsWritten xs ys i (Some r))
-    (apart : AreApart xs) (alone : (j : ℕ) → HasRecord r.key (slice_get xs j) → j ≡ i)
+module _ {xs ys : List Place} {i : ℕ} (r : KeyedOwnership) (w : IsWritten xs ys i (Some r))
+    (apart : HasDistinctKeys xs) (alone : (j : ℕ) → HasRecord r.key (slice_get xs j) → j ≡ i)
     (others : (q : ℕ) → q ≢ r.key → find_in q ys ≡ find_in q xs) where
-  record_apart : AreApart ys
+  record_apart : HasDistinctKeys ys
   record_apart = apart_written w apart
       (λ q j hq hj. alone j (subst (λ k. HasRecord k (slice_get xs j)) (key_is q r hq) hj))
 
@@ -208,7 +208,7 @@ module _ {vacant : set.FinSet nat_cmp} {rooms : ℕ} {xs : List Place}
       at (Some h) is has = none-some h (sym absent ∙ get_one placed.apart q i h is)
 
   -- a record under a key that has none, at a vacant place
-  module _ (i : ℕ) (member : set.contains vacant i ≡ true) (r : Keyed)
+  module _ (i : ℕ) (member : set.contains vacant i ≡ true) (r : KeyedOwnership)
       (absent : map.get (owners_of xs) r.key ≡ None) where
     was : slice_get xs i ≡ Some None
     was = vacant_is (slice_get xs i) (sym (placed.pooled i) ∙ member)
@@ -235,7 +235,7 @@ module _ {vacant : set.FinSet nat_cmp} {rooms : ℕ} {xs : List Place}
     }
 
   -- the same at a new place
-  module _ (r : Keyed) (absent : map.get (owners_of xs) r.key ≡ None) where
+  module _ (r : KeyedOwnership) (absent : map.get (owners_of xs) r.key ≡ None) where
     new_others : (q : ℕ) → q ≢ r.key → find_in q (xs ++ Some r ∷ []) ≡ find_in q xs
     new_others q ne = find_push xs q (Some r) (other_key q r ne)
 
@@ -258,7 +258,7 @@ module _ {vacant : set.FinSet nat_cmp} {rooms : ℕ} {xs : List Place}
 
   -- the place of the record under a key
   module _ (k i : ℕ) (has : HasRecord k (slice_get xs i)) where
-    abbrev there : (r : Keyed) × (slice_get xs i ≡ Some (Some r)) × (k ≡ r.key)
+    abbrev there : (r : KeyedOwnership) × (slice_get xs i ≡ Some (Some r)) × (k ≡ r.key)
     there = standing k (slice_get xs i) has
 
     pub record_within : i < length xs
@@ -280,8 +280,8 @@ module _ {vacant : set.FinSet nat_cmp} {rooms : ℕ} {xs : List Place}
     holds_there P holds =
         rw there.1 (subst (λ o. IfSome o P) get_there holds)
 
-    module _ (g : Keyed → Keyed) (same : (g there.0).key ≡ there.0.key) where
-      abbrev r : Keyed
+    module _ (g : KeyedOwnership → KeyedOwnership) (same : (g there.0).key ≡ there.0.key) where
+      abbrev r : KeyedOwnership
       r = g there.0
 
       key_kept : k ≡ r.key
@@ -440,13 +440,13 @@ vacant_through xs n x before there vacant i within =
     (cases_lt i n)
 
 -- a change where there is no record changes nothing
-pub change_vacant : (xs : List Place) (i : ℕ) (x : Place) (g : Keyed → Keyed)
+pub change_vacant : (xs : List Place) (i : ℕ) (x : Place) (g : KeyedOwnership → KeyedOwnership)
     → slice_get xs i ≡ Some x → x ≡ None → slice_set xs i x ≡ change_record xs i g
 change_vacant xs i x g there vacant =
     set-own xs i x there ∙ sym (ap (change_record_if xs i g) (there ∙ ap Some vacant))
 
 -- a vacant place stays so
-pub vacant_stays : (xs : List Place) (i : ℕ) (x : Place) (P : Keyed → Type 0)
+pub vacant_stays : (xs : List Place) (i : ℕ) (x : Place) (P : KeyedOwnership → Type 0)
     → slice_get xs i ≡ Some x → x ≡ None
     → IfSome (slice_get (slice_set xs i x) i) (λ kept. IfSome kept P)
 vacant_stays xs i x P there vacant =
@@ -518,7 +518,7 @@ module _ (number : ℕ) (S : Owners) (o : OwnerName) where
       record_found x there =
           let r = standing o.key (slice_get xs i) has in
           let same : x ≡ Some r.0 = cc (there, r.1) in
-          ap (option_map (λ (r : Keyed). r.ownership)) same
+          ap (option_map (λ (r : KeyedOwnership). r.ownership)) same
           ∙ sym (seen ∙ get_there placed o.key i has)
 
       pub known_found : knows number S o ≡ true

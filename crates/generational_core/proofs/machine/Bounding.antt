@@ -3,7 +3,7 @@
 use Rattle.generational_core.proofs.machine
 use machine.{◌≡◌, ◌≢◌, ◌≤◌, ◌||◌, List, ◌∷◌, None, Some, refl, Bool, cond, Cell, Name, after, last}
 use machine.{ℕ, sym, ap, ◌∙◌, inl, inr, ◌+◌, not, ◌<◌, max, ◌⊎◌}
-use machine.{true, false, fresh, Action, Answer, Fresh, Names, State, Meets, AreNew, Change, absent}
+use machine.{true, false, fresh, Action, Answer, NewNames, Names, State, Meets, AreNew, Change, absent}
 use machine.{[], cases_lt, or_cases, or_right, and_from, len_three, by_number, key_cases, keep_view}
 use machine.{Option, not-true, list_any, list_map, add_cell, name_cmp, IsLawful, len_keys, kept_key}
 use machine.{subst, false_from_ne_true, length-le_from_is_member, eq_by_cmp_equiv, get-insert_apart}
@@ -216,19 +216,19 @@ module _ {T : Type 0} where
         (omega arith) (omega arith) (omega arith)) fits
 
   -- each change keeps the bound
-  change_bounded : (S : State T) (call : Action T) (f : Fresh) (next : ℕ) (c : Change T)
+  change_bounded : (S : State T) (call : Action T) (f : NewNames) (next : ℕ) (c : Change T)
       → IsSound S → IsBounded S → AreNew S call f → IsLawful S call f next c
       → ((q : Name) → is_some (map.get (after S f c).cells q) ≡ true
       → (is_some (map.get S.cells q) ≡ true)
       ⊎ ((set.contains S.given q ≡ false) × (set.contains (after S f c).given q ≡ true)))
       → IsBounded (after S f c)
   change_bounded S call f next (Change.Birth c) s b new law live =
-      let it = law.2 new in born_bounded S f.first c (absent S s f.first it.fresh) b it.fits
+      let it = law.2 new in born_bounded S f.first c (absent S s f.first it.ungiven) b it.fits
   change_bounded S call f next (Change.Pair v l) s b new law live =
       let c : Cell T = Cell.Shared (Content.Here v []) l in let it = law.1 new in
       born_bounded (add_cell S f.first c)
-      f.second (Cell.Ref f.first l) (absent_beside S s f.first f.second c it.1.fresh)
-      (born_bounded S f.first c (absent S s f.first it.0.fresh) b it.0.fits) it.1.fits
+      f.second (Cell.Ref f.first l) (absent_beside S s f.first f.second c it.1.ungiven)
+      (born_bounded S f.first c (absent S s f.first it.0.ungiven) b it.0.fits) it.1.fits
   change_bounded S call f next c s b new law live = kept_bounded S (after S f c) refl refl
       (λ q h. ⊎_elim (λ e. e) (λ e. absurd (true≢false (sym e.1 ∙ e.0))) (live q h)) b
 

@@ -4,16 +4,16 @@ use Rattle.generational_core.proofs.machine.Common
 use Common.{Bool, true, false, cond, List, [], ◌++◌, Option, subst, arith, ⊎_elim, ◌≡◌, ◌≢◌, ℕ, ◌+◌}
 use Common.{◌≤◌, ◌<◌, not, ◌∷◌, None, Some, refl, sym, ap, ◌∙◌, true≢false, or_right, or_left}
 use Common.{or_parts, and_parts, and_from, list_any-append, nat_eq_equiv, list_any, filter}
-use Common.{AllByRecursion, option_map, nat_eq, nat_lt, Trouble, Guard, reach, fill, refusal_at}
-use Common.{read_trouble, write_trouble, write_refusal, name_of, has_same_id, Content, Cell}
+use Common.{AllByRecursion, option_map, nat_eq, nat_lt, BorrowRefusal, Guard, reach, fill, refusal_at}
+use Common.{refusal_to_read, refusal_to_write, write_refusal, name_of, has_same_id, Content, Cell}
 use Common.{content_of, is_shared, refill, Value, Shared, Ref, Here, Lent, one_listed, one_less}
 use Common.{one_more, names_in, close, hindrance_to, hindrance_at, sweep, Sets, add_to_list}
 use Common.{release_owner, knows_reader, remove_reader, act, clone_owner, knows_writer, has_reader}
 use Common.{next_borrow, OwnerName, add_cell, is_known, ownership, has_writer, Action, Outcome}
-use Common.{cell_at, read_at, write_at, own_name, Answer, Fresh, unless, refer, set_at, point, Make}
+use Common.{cell_at, read_at, write_at, own_name, Answer, NewNames, unless, refer, set_at, point, Make}
 use Common.{MakeShared, Refer, NewOwner, CloneOwner, ReleaseOwner, Read, Write, ReleaseReader}
 use Common.{ReleaseWriter, SetValue, End, Point, Made, Owned, Reads, Writes, Done, Flag, Refused}
-use Common.{change, Name, Names, is_name, State, Ownership, Owners, IsGiven, IsBoxed, content_at}
+use Common.{change, Name, Names, is_name, State, Ownership, Owners, IsBoxed, content_at}
 use Common.{tickets_of, ending, Turns, Lends, Borrows, IsNew, AreNew, want, Borrow}
 use Common.{GenerationalPointer, Location, StoreError, UnknownOwner, by_name, by_number}
 use Common.{get-insert_here, get-insert_apart, get-remove_here, get-remove_apart, changed_view}
@@ -60,7 +60,7 @@ pub data Change (T : Type 0) : Type 0 where
 
 module _ {T : Type 0} where
   -- the names that a making takes were never given, and are two
-  abbrev pub AreFresh : State T → Action T → Fresh → Type 0
+  abbrev pub AreFresh : State T → Action T → NewNames → Type 0
   AreFresh S (Make o v l) f = set.contains S.given f.first ≡ false
   AreFresh S (MakeShared o v l) f = (set.contains S.given f.first ≡ false)
       × (set.contains S.given f.second ≡ false) × (f.first ≢ f.second)
@@ -68,12 +68,12 @@ module _ {T : Type 0} where
   AreFresh S _ f = Unit {0}
 
   -- new names were never given
-  pub new_fresh : (S : State T) (call : Action T) (f : Fresh) → AreNew S call f → AreFresh S call f
-  new_fresh S (Make o v l) f new = new.fresh
+  pub new_fresh : (S : State T) (call : Action T) (f : NewNames) → AreNew S call f → AreFresh S call f
+  new_fresh S (Make o v l) f new = new.ungiven
   new_fresh S (MakeShared o v l) f new =
-      let second = second_fresh S.given f.first f.second new.1.fresh in
-      (new.0.fresh, second.0, second.1)
-  new_fresh S (Refer o b) f new = new.fresh
+      let second = second_fresh S.given f.first f.second new.1.ungiven in
+      (new.0.ungiven, second.0, second.1)
+  new_fresh S (Refer o b) f new = new.ungiven
   new_fresh S _ f new = tt
 
   -- whether a call may make a cell
@@ -110,7 +110,7 @@ module _ {T : Type 0} where
   IsFilling S call next n (Replace old v) = Sets S call n
 
   -- the state after it, with names for what is made
-  abbrev pub after : State T → Fresh → Change T → State T
+  abbrev pub after : State T → NewNames → Change T → State T
   after S f Stay = S
   after S f (Birth c) = add_cell S f.first c
   after S f (Pair v l) =
@@ -125,7 +125,7 @@ module _ {T : Type 0} where
       × ((m : Name) (l : Location) → Some c ≡ Some (Ref m l) → is_shared (map.get S.cells m) ≡ true)
 
   -- what is known where a call makes a change
-  abbrev pub IsLawful : State T → Action T → Fresh → ℕ → Change T → Type 0
+  abbrev pub IsLawful : State T → Action T → NewNames → ℕ → Change T → Type 0
   IsLawful S call f next Stay = Unit {0}
   IsLawful S call f next (Birth c) = (is_making call ≡ true) × IsBirth S c
       × (AreNew S call f → IsNew S f.first)
@@ -143,7 +143,7 @@ module _ {T : Type 0} where
   -- a box of the store, at a name that was never given before, and is no Shared cell's
   pub record IsNewBox (S R : State T) (b : GenerationalPointer) : Type 0 where
     pub number : b.id.store ≡ S.number
-    pub fresh : set.contains S.given (name_of b) ≡ false
+    pub ungiven : set.contains S.given (name_of b) ≡ false
     pub boxed : IsBoxed R (name_of b)
 
   -- a ticket, which is spent from now on
@@ -178,7 +178,7 @@ module _ {T : Type 0} where
       → map.get owners k ≡ Some h → AllByRecursion (IsBoxed S) h.names × (k < next)
 
   -- a call leads to an outcome by one change of cells
-  pub record Leads (S : State T) (call : Action T) (f : Fresh) (out : Outcome T) : Type 0 where
+  pub record Leads (S : State T) (call : Action T) (f : NewNames) (out : Outcome T) : Type 0 where
     pub change : Change T
     pub owners : Owners
     pub next : ℕ
@@ -194,7 +194,7 @@ module _ {T : Type 0} where
   plain so able = record { so = so; able = able }
 
   -- an outcome with a change of cells, a table of owners and a next ticket
-  leads : {S : State T} {call : Action T} {f : Fresh} {answer : Answer T} (c : Change T)
+  leads : {S : State T} {call : Action T} {f : NewNames} {answer : Answer T} (c : Change T)
       (owners : Owners) (next : ℕ) → S.next ≤ next → IsLawful S call f next c
       → (AreRecords (after S f c) next (after S f c).owners → AreRecords (after S f c) next owners)
       → let out : Outcome T = (answer, record (after S f c) { owners = owners; next = next }) in
@@ -203,22 +203,22 @@ module _ {T : Type 0} where
       { change = c; owners = o; next = n; is = refl; up = u; lawful = l; recorded = r; said = s }
 
   -- nothing changes
-  still : {S : State T} {call : Action T} {f : Fresh} {answer : Answer T}
+  still : {S : State T} {call : Action T} {f : NewNames} {answer : Answer T}
       → IsSaid S (answer, S) → Leads S call f (answer, S)
   still {S} said = leads Stay _ S.next (omega arith) tt (λ h. h) (λ _. said)
 
-  -- a refusal where a trouble stands, or where an owner isn't known
-  leads_unless : {S : State T} {call : Action T} {f : Fresh} (t : Option Trouble) {x : Outcome T}
+  -- a refusal where a refusal stands, or where an owner isn't known
+  leads_unless : {S : State T} {call : Action T} {f : NewNames} (t : Option BorrowRefusal) {x : Outcome T}
       → (t ≡ None → Leads S call f x) → Leads S call f (unless t S x)
   leads_unless None h = h refl
   leads_unless (Some t) h = still (plain tt refl)
 
-  leads_known : {S : State T} {call : Action T} {f : Fresh} (known : Bool) {x : Outcome T}
+  leads_known : {S : State T} {call : Action T} {f : NewNames} (known : Bool) {x : Outcome T}
       → Leads S call f x → Leads S call f (cond known x (Refused UnknownOwner, S))
   leads_known true h = h
   leads_known false h = still (plain tt refl)
 
-  leads_if : {S : State T} {call : Action T} {f : Fresh} (b : Bool) {x y : Outcome T}
+  leads_if : {S : State T} {call : Action T} {f : NewNames} (b : Bool) {x y : Outcome T}
       → (b ≡ true → Leads S call f x) → Leads S call f y → Leads S call f (cond b x y)
   leads_if true h k = h refl
   leads_if false h k = k
@@ -262,14 +262,14 @@ module _ {T : Type 0} where
         (λ ne. all k x (sym (get-remove_apart by_number owners key k ne) ∙ is))
         (key_cases by_number k key)
 
-  leads_cloned : {S : State T} {f : Fresh} (o : OwnerName) (h : Option Ownership)
+  leads_cloned : {S : State T} {f : NewNames} (o : OwnerName) (h : Option Ownership)
       → ownership S o ≡ h → Leads S (CloneOwner o) f (clone_owner S o h)
   leads_cloned o None is = still (plain tt refl)
   leads_cloned {S} o (Some h) is = leads Stay _ (S.next + 1) (omega arith) tt
       (λ all. let old = all o.key h (held_record S o h is) in
       records_put S _ S.owners all o.key (one_more h) old.0 old.1) (λ _. plain refl refl)
 
-  leads_released : {S : State T} {f : Fresh} (o : OwnerName) (h : Option Ownership)
+  leads_released : {S : State T} {f : NewNames} (o : OwnerName) (h : Option Ownership)
       → ownership S o ≡ h → Leads S (ReleaseOwner o) f (release_owner S o h)
   leads_released o None is = still (plain tt refl)
   leads_released {S} o (Some h) is = leads_if (nat_lt 1 h.count) (λ _.
@@ -291,20 +291,20 @@ module _ {T : Type 0} where
 
   -- cells are made, and their box is listed
   leads_made : {S : State T}
-      {call : Action T} {f : Fresh} (c : Change T) (o : Option OwnerName) (b : GenerationalPointer)
+      {call : Action T} {f : NewNames} (c : Change T) (o : Option OwnerName) (b : GenerationalPointer)
       → S.next ≤ (after S f c).next → IsLawful S call f (after S f c).next c → b.id.store ≡ S.number
       → (AreFresh S call f → set.contains S.given (name_of b) ≡ false) → IsBoxed
       (after S f c) (name_of b) → Leads S call f (Made b, add_to_list (after S f c) o (name_of b))
   leads_made {S} {f = f} c None b up lawful number fresh boxed =
       leads c _ (after S f c).next up lawful (λ h. h)
-      (λ new. plain (record { number = number; fresh = fresh new; boxed = boxed }) refl)
+      (λ new. plain (record { number = number; ungiven = fresh new; boxed = boxed }) refl)
   leads_made {S} {f = f} c (Some o) b up lawful number fresh boxed =
       let Q = after S f c in
       leads c _ Q.next up lawful
       (λ all. records_listed Q _ Q.owners all o.key (name_of b) boxed)
-      (λ new. plain (record { number = number; fresh = fresh new; boxed = boxed }) refl)
+      (λ new. plain (record { number = number; ungiven = fresh new; boxed = boxed }) refl)
 
-  leads_referred : {S : State T} {f : Fresh} (o : Option OwnerName) (b : GenerationalPointer)
+  leads_referred : {S : State T} {f : NewNames} (o : Option OwnerName) (b : GenerationalPointer)
       (to : Option Name) (target : Option (Cell T)) → cell_at S to ≡ target
       → Leads S (Refer o b) f (refer S o b to target f.first)
   leads_referred {S} {f} o b (Some m) (Some (Shared c l)) is =
@@ -329,7 +329,7 @@ module _ {T : Type 0} where
       (λ b. cond b (option_map (refill c) (map.get S.cells m)) (map.get S.cells m)) (name_here m))
       ∙ refilled_content c old (map.get S.cells m) had
 
-  leads_read : {S : State T} {f : Fresh} (b : GenerationalPointer) (l : Location) (m : Option Name)
+  leads_read : {S : State T} {f : NewNames} (b : GenerationalPointer) (l : Location) (m : Option Name)
       (c : Option (Content T)) → content_of (cell_at S m) ≡ c → reach S b ≡ m
       → Leads S (Read b l) f (read_at S l m c)
   leads_read {S} b l (Some m) (Some (Here v readers)) had to =
@@ -341,7 +341,7 @@ module _ {T : Type 0} where
       (λ _. plain (record { is = refl; next = refl }, known) refl)
   leads_read b l m c had to = still (plain tt refl)
 
-  leads_write : {S : State T} {f : Fresh} (b : GenerationalPointer) (l : Location) (m : Option Name)
+  leads_write : {S : State T} {f : NewNames} (b : GenerationalPointer) (l : Location) (m : Option Name)
       (c : Option (Content T)) → content_of (cell_at S m) ≡ c
       → refusal_at m b.created_at (λ n. write_refusal (content_at S n)) ≡ None → reach S b ≡ m
       → Leads S (Write b l) f (write_at S l m c)
@@ -354,7 +354,7 @@ module _ {T : Type 0} where
       absurd (none≢some _ _ free (ap write_refusal had))
   leads_write b l m c had free to = still (plain tt refl)
 
-  leads_left : {S : State T} {f : Fresh} (g : Guard) (c : Option (Content T))
+  leads_left : {S : State T} {f : NewNames} (g : Guard) (c : Option (Content T))
       → content_at S g.cell ≡ c
       → Leads S (ReleaseReader g) f (Flag true, remove_reader S g.cell g.ticket c)
   leads_left {S} g (Some (Here v readers)) had =
@@ -362,14 +362,14 @@ module _ {T : Type 0} where
       (λ _. plain tt refl)
   leads_left g c had = still (plain tt refl)
 
-  leads_returned : {S : State T} {f : Fresh} (g : Guard) (v : T) (c : Option (Content T))
+  leads_returned : {S : State T} {f : NewNames} (g : Guard) (v : T) (c : Option (Content T))
       → content_at S g.cell ≡ c → has_writer c g.ticket ≡ true
       → Leads S (ReleaseWriter g v) f (Done, fill S g.cell (Here v []))
   leads_returned {S} g v (Some (Lent w)) had known = leads (Fill g.cell (Return w g v)) _
       S.next (omega arith) (had, (refl, known, refl)) (λ h. h) (λ _. plain tt refl)
   leads_returned g v c had known = absurd (true≢false (sym known))
 
-  leads_set : {S : State T} {f : Fresh} (b : GenerationalPointer) (v : T) (m : Option Name)
+  leads_set : {S : State T} {f : NewNames} (b : GenerationalPointer) (v : T) (m : Option Name)
       (c : Option (Content T)) → content_of (cell_at S m) ≡ c → reach S b ≡ m
       → Leads S (SetValue b v) f (set_at S b v m c)
   leads_set {S} b v (Some m) (Some (Here old [])) had is =
@@ -379,7 +379,7 @@ module _ {T : Type 0} where
 
   -- ---- references
 
-  leads_pointed : {S : State T} {f : Fresh} (a b : GenerationalPointer) (own : Bool)
+  leads_pointed : {S : State T} {f : NewNames} (a b : GenerationalPointer) (own : Bool)
       (cell : Option (Cell T)) (to : Option Name) (target : Option (Cell T))
       → map.get S.cells (name_of a) ≡ cell → cell_at S to ≡ target
       → Leads S (Point a b) f (point S a b (cond own cell None) to target)
@@ -393,8 +393,8 @@ module _ {T : Type 0} where
   leads_pointed a b true (Some _) to target at_a at_b = still (plain tt refl)
 
   -- what each call leads to
-  pub act_leads : (S : State T) (call : Action T) (f : Fresh) → Leads S call f (act S call f)
-  unfolding write_trouble
+  pub act_leads : (S : State T) (call : Action T) (f : NewNames) → Leads S call f (act S call f)
+  unfolding refusal_to_write
   act_leads S (Make o v l) f = leads_known (is_known S o)
       (leads_made (Birth (Value (Here v []) l)) o _ (omega arith)
       (refl, (refl, refl, λ m k e. absurd cc), λ new. new) refl (λ new. new)
@@ -403,15 +403,15 @@ module _ {T : Type 0} where
       (leads_made (Pair v l) o _ (omega arith) (refl, λ new. new) refl (λ new. new.1)
       (boxed_here (add_cell S f.first (Shared (Here v []) l)) f.second (Ref f.first l) refl))
   act_leads S (Refer o b) f = leads_known (is_known S o)
-      (leads_unless (read_trouble S b) (λ _. leads_referred o b (reach S b) _ refl))
+      (leads_unless (refusal_to_read S b) (λ _. leads_referred o b (reach S b) _ refl))
   act_leads S NewOwner f = leads Stay _ (S.next + 1) (omega arith) tt
       (λ all. records_put S _ S.owners all S.next _ tt (omega arith)) (λ _. plain refl refl)
   act_leads S (CloneOwner o) f = leads_cloned o (ownership S o) refl
   act_leads S (ReleaseOwner o) f = leads_released o (ownership S o) refl
   act_leads S (Read b l) f =
-      leads_unless (read_trouble S b) (λ _. leads_read b l (reach S b) _ refl refl)
+      leads_unless (refusal_to_read S b) (λ _. leads_read b l (reach S b) _ refl refl)
   act_leads S (Write b l) f =
-      leads_unless (write_trouble S b) (λ free. leads_write b l (reach S b) _ refl free refl)
+      leads_unless (refusal_to_write S b) (λ free. leads_write b l (reach S b) _ refl free refl)
   act_leads S (ReleaseReader g) f =
       leads_if (knows_reader S g) (λ _. leads_left g _ refl) (still (plain tt refl))
   act_leads S (ReleaseWriter g v) f = leads_if (knows_writer S g)
@@ -420,10 +420,10 @@ module _ {T : Type 0} where
   act_leads S (End b) f = leads_unless (hindrance_to S (own_name S b)) (λ free. leads
       (Close (own_name S b)) _ S.next (omega arith) (free, refl) (λ h. h) (λ _. plain tt refl))
   act_leads S (Point a b) f = leads_if (has_same_id a b) (λ _. still (plain tt refl))
-      (leads_unless (read_trouble S b) (λ _. leads_pointed a b _ _ (reach S b) _ refl refl))
+      (leads_unless (refusal_to_read S b) (λ _. leads_pointed a b _ _ (reach S b) _ refl refl))
   act_leads S _ f = still (plain tt refl)
 
   -- what each call answers is so
-  pub act_says : (S : State T) (call : Action T) (f : Fresh)
+  pub act_says : (S : State T) (call : Action T) (f : NewNames)
       → AreFresh S call f → IsSaid S (act S call f)
   act_says S call f new = (act_leads S call f).said new

@@ -2,7 +2,7 @@
 use Rattle.generational_core.proofs.machine
 use machine.{Bool, true, false, cond, ap, subst, ⊎_elim, Value, Shared, sweep, among, State, is_ref}
 use machine.{◌≡◌, or_cases, or_right, take_away, is_named, Location, name_here, name_same, get-keep}
-use machine.{◌≢◌, or_left, is_some, Trouble, NameMap, is_name, by_name, by_cond, IsLinked, box_ends}
+use machine.{◌≢◌, or_left, is_some, BorrowRefusal, NameMap, is_name, by_name, by_cond, IsLinked, box_ends}
 use machine.{not, ◌||◌, List, ◌∷◌, None, Some, refl, sym, ◌∙◌, Cell, Ref, Name}
 use machine.{[], write_refusal, cells_after, hindrance_at, hindrance_of, hindrance_to, without_view}
 use machine.{Option, both_ways, option_or, is_shared, refers_to, name_apart, named_from, swept_view}
@@ -278,14 +278,14 @@ module _ {T : Type 0} where
   hindered_unnamed cells left m false shared at = rw at refl
 
   -- what hinders the end of a cell, where a test tells what is named afterwards
-  abbrev pub borrowed_end : NameMap (Cell T) → (Name → Bool) → Option (Cell T) → Option Trouble
+  abbrev pub borrowed_end : NameMap (Cell T) → (Name → Bool) → Option (Cell T) → Option BorrowRefusal
   borrowed_end cells named (Some (Value c l)) = write_refusal (Some c)
   borrowed_end cells named (Some (Ref m l)) =
       cond (named m) None (write_refusal (content_of (map.get cells m)))
   borrowed_end cells named _ = None
 
   -- and the end of the cells of these names, at the first of them that is hindered
-  abbrev pub first_borrowed_end : NameMap (Cell T) → (Name → Bool) → List Name → Option Trouble
+  abbrev pub first_borrowed_end : NameMap (Cell T) → (Name → Bool) → List Name → Option BorrowRefusal
   first_borrowed_end cells named [] = None
   first_borrowed_end cells named (n ∷ names) =
       option_or (borrowed_end cells named (map.get cells n)) (first_borrowed_end cells named names)
@@ -330,7 +330,7 @@ module _ {T : Type 0} where
   one_hindered S n linked cell at =
       first_hindered S.cells (n ∷ []) linked ∙ (alone _ ∙ (rw at (by cell at)))
     where
-      alone : (t : Option Trouble) → option_or t None ≡ t
+      alone : (t : Option BorrowRefusal) → option_or t None ≡ t
       alone None = refl
       alone (Some t) = refl
 

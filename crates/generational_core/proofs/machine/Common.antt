@@ -2,27 +2,28 @@
 use Rattle.generational_core.specs
 pub use specs.Borrowing.{can_read, can_write, fill, Guard, leads_to, read_refusal, refusal_at}
 pub use specs.Cells.{Cell, Content, content_of, is_shared, location_of, refers_to, refill}
-pub use specs.Conditions.{fresh, HasTargets, IsBounded, IsEnded, IsLinked, IsNamed, IsReleased}
+pub use specs.Conditions.{fresh, IsBounded, IsEnded, IsLinked, IsNamed, IsReleased}
+pub use specs.State.{HasTargets}
 pub use specs.Ending.{cells_after, close, first_hindrance, hindrance_at, hindrance_of}
 pub use specs.Machine.{act, knows_reader, knows_writer, release_owner, remove_reader, set_ownership}
 pub use specs.Machine.{Action, Answer, make, Outcome, point, read_at, refer, set_at, unless}
-pub use specs.Machine.{add_cell, cell_at, Fresh, is_known, own_name, OwnerName, ownership, write_at}
+pub use specs.Machine.{add_cell, cell_at, NewNames, is_known, own_name, OwnerName, ownership, write_at}
 pub use specs.Machine.{add_to_list, clone_owner, has_reader, has_writer, next_borrow, next_guard}
 pub use specs.Machine.Action.{CloneOwner, End, Make, MakeShared, NewOwner, Point, Read, Refer}
 pub use specs.Machine.Action.{ReleaseOwner, ReleaseReader, ReleaseWriter, SetValue, Write}
-pub use specs.Machine.Answer.{Done, Flag, Made, Old, Owned, Reads, Refused, Troubled, Writes}
+pub use specs.Machine.Answer.{Done, Flag, Made, Old, Owned, Reads, Refused, BorrowRefused, Writes}
 pub use specs.Seeing.{Borrows, ending, LeavesBox, LeavesUnborrowed, LeavesValue, Lends, Turns}
 pub use specs.State.{content_at, IsBoxed, IsGiven, IsSound, Owners, Ownership, Stands, State}
 pub use specs.Steps.{AreNew, IsNew, last_ticket, limit_tickets, Meets, needs_memory, no_names}
 pub use specs.declared.error.StoreError.TheVariants.{NumbersExhausted, UnknownOwner}
 pub use specs.{Answers.value_at, Answers.value_of, Boxes.box_of, Cells.Cell.Value, State.tickets_at}
 pub use specs.{Borrowing.take_ticket, Borrowing.write_refusal, declared.borrow.Borrow.Borrow}
-pub use specs.{Borrowing.Trouble, Boxes.has_same_id, Cells.Cell.Shared, Steps.takes_ticket}
-pub use specs.{Borrowing.Trouble.Dropped, declared.boxes.GenerationalPointer.GenerationalPointer}
+pub use specs.{Borrowing.BorrowRefusal, Boxes.has_same_id, Cells.Cell.Shared, Steps.takes_ticket}
+pub use specs.{Borrowing.BorrowRefusal.Dropped, declared.boxes.GenerationalPointer.GenerationalPointer}
 pub use specs.{Boxes.name_of, Cells.Cell.Ref, Names.name_cmp, Names.NameMap, State.tickets_of}
 pub use specs.{Cells.Content.Here, declared.error.Refusal.Refusal, declared.steps.StepCall.StepCall}
-pub use specs.{Cells.Content.Lent, Conditions.names_in, Conditions.one_listed, Seeing.value_reached}
-pub use specs.{Conditions.one_less, Conditions.one_more, Keeping.location_at, Texts.location_text}
+pub use specs.{Cells.Content.Lent, Conditions.names_in, State.one_listed, Seeing.value_reached}
+pub use specs.{State.one_less, State.one_more, Keeping.location_at, Texts.location_text}
 pub use specs.{Keeping.Sets, Names.among, Names.Name, Names.Names, Steps.Takes, Steps.want}
 pub use specs.{declared.boxes.GenerationalBox.GenerationalBox, declared.error.StoreError.StoreError}
 pub use specs.{declared.boxes.GenerationalBoxId.GenerationalBoxId, declared.error.Location.Location}
@@ -47,7 +48,7 @@ pub use Maps.{get-insert_apart, get-insert_here, get-keep, get-remove_apart, get
 pub use Maps.{is_ref, keep_view, kept_key, key_cases, key_here, key_same, keys_apart, len_keys}
 pub use Maps.{len_three, len_within, name_apart, name_cases, name_exact, name_here, name_same}
 pub use Maps.{name_total, named_from, named_gives, remove_each, same_ids}
-unfoldable pub use specs.Borrowing.{reach, read_trouble, write_trouble}
+unfoldable pub use specs.Borrowing.{reach, refusal_to_read, refusal_to_write}
 unfoldable pub use specs.Ending.{hindrance_to, sweep, take_away}
 unfoldable pub use specs.Names.{change, is_name}
 unfoldable pub use specs.Seeing.{value_in}

@@ -2,7 +2,7 @@
 use Rattle.generational_core.proofs.machine.Common
 use Common.{Bool, ◌≡◌, true, false, cond, not, ◌||◌, List, [], ◌∷◌, Option, None, Some, refl, sym}
 use Common.{ap, subst, ◌∙◌, inl, inr, ⊎_elim, true≢false, or_cases, or_parts, not-false, not-true}
-use Common.{option_or, is_some, ◌⊎◌, Trouble, write_refusal, Cell, content_of, is_shared, Value}
+use Common.{option_or, is_some, ◌⊎◌, BorrowRefusal, write_refusal, Cell, content_of, is_shared, Value}
 use Common.{Shared, Ref, sweep, take_away, cells_after, hindrance_at, hindrance_of, first_hindrance}
 use Common.{hindrance_to, Name, among, NameMap, State, IsSound, is_named, Location, by_name}
 use Common.{name_cases, name_same, get-insert_here, get-insert_apart, keep_view, named_gives}
@@ -119,7 +119,7 @@ module _ {T : Type 0} where
       (λ k. hindrance_of cells left (map.get cells k) k ≡ None) (sym (name_same n m e)) both.0)
       (λ e. none_hindered cells left names both.1 n e) (or_cases _ _ at)
     where
-      parts : (a b : Option Trouble) → option_or a b ≡ None → (a ≡ None) × (b ≡ None)
+      parts : (a b : Option BorrowRefusal) → option_or a b ≡ None → (a ≡ None) × (b ≡ None)
       parts None b h = (refl, h)
       parts (Some t) b h = absurd (none≢some _ t h refl)
 

@@ -2,7 +2,7 @@
 use Rattle.generational_core.proofs.machine
 use machine.{◌≡◌, true, false, Option, None, Some, refl, sym, ap, subst, ◌∙◌, inl, inr, nat_eq}
 use machine.{◌&&◌, is_none, true≢false, cond_both, GenerationalPointer, Location, StoreError}
-use machine.{NumbersExhausted, Name, Content, Here, State, Guard, Trouble, can_write, Answer, Fresh}
+use machine.{NumbersExhausted, Name, Content, Here, State, Guard, BorrowRefusal, can_write, Answer, NewNames}
 use machine.{Outcome, act, unless, write_at, Write, Writes, Done, Refused, Meets, limit_tickets}
 use machine.{takes_ticket, last_ticket, may_lack, needs_memory, no_names}
 
@@ -17,7 +17,7 @@ module _ {T : Type 0} where
   limited S out h = cond_both (takes_ticket out.0 && nat_eq S.next last_ticket)
       (Refused NumbersExhausted, S) out (λ (o : Outcome T). Granted o.0) (λ _. ended) (λ _. h)
 
-  unhindered : (S : State T) (o : Option Trouble) (out : Outcome T)
+  unhindered : (S : State T) (o : Option BorrowRefusal) (out : Outcome T)
       → is_none o ≡ true → Granted out.0 → Granted (unless o S out).0
   unhindered S None out h g = g
   unhindered S (Some t) out h g = absurd (true≢false (sym h))
@@ -42,7 +42,7 @@ module _ {T : Type 0} where
 
   module _ (S R : State T) (b : GenerationalPointer) (l : Location) where
     act_write : can_write S b ≡ true
-        → (f : Fresh) → Granted (limit_tickets S (act S (Write b l) f)).0
+        → (f : NewNames) → Granted (limit_tickets S (act S (Write b l) f)).0
     act_write free f = limited S _ (unhindered S _ _ free (write_granted S l _ _))
 
     -- a free write is refused by the end of numbers alone

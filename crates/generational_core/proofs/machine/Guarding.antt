@@ -9,13 +9,13 @@ use Rattle.std.specs.Prelude.{is_some, nat_eq, option_map, ◌&&◌, map as list
 use Rattle.std.specs.Prelude.{Result, Ok, Err, IfOk, IsOk}
 use Rattle.std.proofs.lemmas.Bool.{true≢false, and_parts, cases_Bool, eqb-true, or_left}
 use Rattle.generational_core.specs.Answers.{value_of, value_at, value_behind, read_answer, back_answer}
-use Rattle.generational_core.specs.Borrowing.{Guard, Trouble, reach, write_trouble, write_refusal}
+use Rattle.generational_core.specs.Borrowing.{Guard, BorrowRefusal, reach, refusal_to_write, write_refusal}
 use Rattle.generational_core.specs.Borrowing.{refusal_at, fill, take_ticket}
 use Rattle.generational_core.specs.Cells.{Content, Cell, content_of, refill}
 use Rattle.generational_core.specs.Cells.Cell.{Value, Shared, Ref}
 use Rattle.generational_core.specs.Cells.Content.{Here, Lent}
 use Rattle.generational_core.specs.Leaving.{LeavesGuard, IsLeft, IsSet}
-use Rattle.generational_core.specs.Machine.{Action, Answer, Fresh, Outcome, OwnerName, act, unless}
+use Rattle.generational_core.specs.Machine.{Action, Answer, NewNames, Outcome, OwnerName, act, unless}
 use Rattle.generational_core.specs.Machine.{cell_at}
 use Rattle.generational_core.specs.Machine.{has_reader, has_writer, knows_reader, knows_writer}
 use Rattle.generational_core.specs.Machine.{next_borrow, next_guard, ownership, remove_reader}
@@ -107,7 +107,7 @@ module _ {T : Type 0} where
         ⊎_elim (λ refused. refused.1) (λ acts. at call acts.0 acts.2 leaves ends)
         (meets_cases S R call answer m)
       where
-        at : (call : Action T) (f : Fresh) → (answer, R) ≡ act S call f → LeavesGuard call g
+        at : (call : Action T) (f : NewNames) → (answer, R) ≡ act S call f → LeavesGuard call g
             → ends_reader call g.ticket ≡ true → R ≡ S
         at (ReleaseReader h) f acts leaves ends = ⊎_elim
             (λ is. absurd (leaves (one_guard has_reader reader_stands S s g h known is
@@ -124,7 +124,7 @@ module _ {T : Type 0} where
         ⊎_elim (λ refused. refused.1) (λ acts. at call acts.0 acts.2 leaves ends)
         (meets_cases S R call answer m)
       where
-        at : (call : Action T) (f : Fresh) → (answer, R) ≡ act S call f → LeavesGuard call g
+        at : (call : Action T) (f : NewNames) → (answer, R) ≡ act S call f → LeavesGuard call g
             → ends_writer call g.ticket ≡ true → R ≡ S
         at (ReleaseWriter h v) f acts leaves ends = ⊎_elim
             (λ is. absurd (leaves (one_guard has_writer writer_stands S s g h known is
@@ -253,16 +253,16 @@ module _ {T : Type 0} where
 
   wrote : (S R : State T) (b : GenerationalPointer) (l : Location) (g : Guard) (w : T)
       → Meets S (Write b l) (Writes g w) R → Wrote S b l g R
-  unfolding write_trouble
+  unfolding refusal_to_write
   wrote S R b l g w meets = ⊎_elim (λ refused. absurd (true≢false (sym refused.0)))
-      (λ acts. at (write_trouble S b) (reach S b) _ refl refl refl acts.2)
+      (λ acts. at (refusal_to_write S b) (reach S b) _ refl refl refl acts.2)
       (meets_cases S R (Write b l) (Writes g w) meets)
     where
       none : {out : Outcome T} → (Writes g w, R) ≡ out → takes_ticket out.0 ≡ false → ⊥
       none e given = true≢false (ap (λ (out : Outcome T). takes_ticket out.0) e ∙ given)
 
-      at : (t : Option Trouble) (to : Option Name) (c : Option (Content T))
-          → write_trouble S b ≡ t → reach S b ≡ to → content_of (cell_at S to) ≡ c
+      at : (t : Option BorrowRefusal) (to : Option Name) (c : Option (Content T))
+          → refusal_to_write S b ≡ t → reach S b ≡ to → content_of (cell_at S to) ≡ c
           → (Writes g w, R) ≡ unless t S (write_at S l to c) → Wrote S b l g R
       at None (Some m) (Some (Here v [])) free to had e =
           let guard : g ≡ next_guard S m = ap (λ (out : Outcome T). writer_of g out.0) e in

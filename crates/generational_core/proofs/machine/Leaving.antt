@@ -5,7 +5,7 @@ use Rattle.std.proofs.Common.{◌≡◌, ◌≢◌, ℕ, Bool, true, false, cond
 use Rattle.std.proofs.Common.{subst, ◌∙◌, ⊎_elim, []}
 use Rattle.std.proofs.lemmas.Bool.{true≢false, cases_Bool}
 use Rattle.std.specs.Prelude.{is_some, nat_eq}
-use Rattle.generational_core.specs.Borrowing.{Trouble, reach, leads_to, read_trouble, write_trouble}
+use Rattle.generational_core.specs.Borrowing.{BorrowRefusal, reach, leads_to, refusal_to_read, refusal_to_write}
 use Rattle.generational_core.specs.Borrowing.{refusal_at, read_refusal, write_refusal}
 use Rattle.generational_core.specs.Boxes.{name_of}
 use Rattle.generational_core.specs.Cells.{Content, Cell, content_of}
@@ -13,7 +13,7 @@ use Rattle.generational_core.specs.Cells.Cell.{Value, Shared, Ref}
 use Rattle.generational_core.specs.Cells.Content.{Here}
 use Rattle.generational_core.specs.Conditions.{names_in}
 use Rattle.generational_core.specs.Leaving.{GivesOther, IsBeside, IsLeft, LeavesContent}
-use Rattle.generational_core.specs.Machine.{Action, Answer, Fresh, Outcome, OwnerName, act, unless}
+use Rattle.generational_core.specs.Machine.{Action, Answer, NewNames, Outcome, OwnerName, act, unless}
 use Rattle.generational_core.specs.Machine.{add_cell, cell_at, is_known, make, ownership, refer}
 use Rattle.generational_core.specs.Machine.Action.{Make, MakeShared, Refer, Read, ReleaseOwner}
 use Rattle.generational_core.specs.Machine.Action.{ReleaseReader}
@@ -66,7 +66,7 @@ module _ {T : Type 0} where
   abbrev Reaches : State T → GenerationalPointer → Outcome T → Type 0
   Reaches S b out = IsBeside out.0 b → reach out.1 b ≡ reach S b
 
-  reaches_unless : (S : State T) (b : GenerationalPointer) (t : Option Trouble) (out : Outcome T)
+  reaches_unless : (S : State T) (b : GenerationalPointer) (t : Option BorrowRefusal) (out : Outcome T)
       → Reaches S b out → Reaches S b (unless t S out)
   reaches_unless S b None out h = h
   reaches_unless S b (Some t) out h = λ _. refl
@@ -83,16 +83,16 @@ module _ {T : Type 0} where
       made_beside S S o n (Ref m l) l b refl
   referred_beside S o a b to target n = λ _. refl
 
-  making_beside : (S : State T) → IsSound S → (call : Action T) (f : Fresh) → AreNew S call f
+  making_beside : (S : State T) → IsSound S → (call : Action T) (f : NewNames) → AreNew S call f
       → is_making call ≡ true → (b : GenerationalPointer)
       → GivesOther call (act S call f).0 b → reach (act S call f).1 b ≡ reach S b
   making_beside S s (Make o v l) f new making b = by_cond (Reaches S b) (is_known S o)
       (λ _. made_beside S S o f.first (Value (Here v []) l) l b refl) (λ _ _. refl)
   making_beside S s (MakeShared o v l) f new making b = by_cond (Reaches S b) (is_known S o)
       (λ _. made_beside S (add_cell S f.first (Shared (Here v []) l)) o f.second (Ref f.first l) l b
-      (shared_beside S f.first (Here v []) l b (absent S s f.first new.0.fresh))) (λ _ _. refl)
+      (shared_beside S f.first (Here v []) l b (absent S s f.first new.0.ungiven))) (λ _ _. refl)
   making_beside S s (Refer o a) f new making b = by_cond (Reaches S b) (is_known S o)
-      (λ _. reaches_unless S b (read_trouble S a) _
+      (λ _. reaches_unless S b (refusal_to_read S a) _
       (referred_beside S o a b (reach S a) (cell_at S (reach S a)) f.first)) (λ _ _. refl)
   making_beside S s _ f new making b = absurd (true≢false (sym making))
 
@@ -221,12 +221,12 @@ module _ {T : Type 0} where
       (ap (λ r. among (names_in r) (name_of b)) (held_record S o h held) ∙ out) tt
 
   -- what a borrow of a box that is left would be answered is the same
-  pub left_troubles : (S R : State T) (b : GenerationalPointer) → IsLeft S b R
-      → (read_trouble R b ≡ read_trouble S b) × (write_trouble R b ≡ write_trouble S b)
-  unfolding read_trouble write_trouble
-  left_troubles S R b left = (at read_refusal (reach S b) refl, at write_refusal (reach S b) refl)
+  pub left_refusals : (S R : State T) (b : GenerationalPointer) → IsLeft S b R
+      → (refusal_to_read R b ≡ refusal_to_read S b) × (refusal_to_write R b ≡ refusal_to_write S b)
+  unfolding refusal_to_read refusal_to_write
+  left_refusals S R b left = (at read_refusal (reach S b) refl, at write_refusal (reach S b) refl)
     where
-      at : (refusal : Option (Content T) → Option Trouble) (to : Option Name) → reach S b ≡ to
+      at : (refusal : Option (Content T) → Option BorrowRefusal) (to : Option Name) → reach S b ≡ to
           → refusal_at (reach R b) b.created_at (λ n. refusal (content_at R n))
           ≡ refusal_at (reach S b) b.created_at (λ n. refusal (content_at S n))
       at refusal None to =

@@ -9,15 +9,15 @@ use Rattle.std.specs.Prelude.{is_some, nat_eq, nat_lt, Result, Ok, Err, IfOk}
 use Rattle.std.proofs.lemmas.Bool.{true≢false, eqb-true, false_from_ne_true, or_cases}
 use Rattle.generational_core.specs.Answers.{box_answer, reference_box_answer, owner_answer}
 use Rattle.generational_core.specs.Answers.{pointer_of}
-use Rattle.generational_core.specs.Borrowing.{Trouble, read_trouble, write_trouble}
+use Rattle.generational_core.specs.Borrowing.{BorrowRefusal, refusal_to_read, refusal_to_write}
 use Rattle.generational_core.specs.Boxes.{name_of, has_same_id}
 use Rattle.generational_core.specs.Cells.{Content, Cell}
 use Rattle.generational_core.specs.Cells.Cell.{Value, Shared, Ref}
 use Rattle.generational_core.specs.Cells.Content.{Here}
-use Rattle.generational_core.specs.Conditions.{one_less, one_listed}
+use Rattle.generational_core.specs.State.{one_less, one_listed}
 use Rattle.generational_core.specs.Ending.{close, hindrance_to, hindrance_at, sweep}
 use Rattle.generational_core.specs.Leaving.{GivesOtherOwner, IsOtherOwner, LeavesOwner}
-use Rattle.generational_core.specs.Machine.{Action, Answer, Fresh, Outcome, OwnerName, act, unless}
+use Rattle.generational_core.specs.Machine.{Action, Answer, NewNames, Outcome, OwnerName, act, unless}
 use Rattle.generational_core.specs.Machine.{ownership, add_cell, make, refer, is_known}
 use Rattle.generational_core.specs.Machine.{clone_owner, release_owner, read_at, set_at, set_ownership, write_at}
 use Rattle.generational_core.specs.Machine.{knows_reader, knows_writer, own_name, point, remove_reader}
@@ -115,7 +115,7 @@ module _ {T : Type 0} where
 
   -- no call but those of owners changes a record
   module _ (S : State T) (o : OwnerName) where
-    keeps_unless : (t : Option Trouble) (out : Outcome T) → Keeps S o out → Keeps S o (unless t S out)
+    keeps_unless : (t : Option BorrowRefusal) (out : Outcome T) → Keeps S o out → Keeps S o (unless t S out)
     keeps_unless None out h = h
     keeps_unless (Some t) out h = refl
 
@@ -200,7 +200,7 @@ module _ {T : Type 0} where
         → nat_eq o.store S.number ≡ true → o.key ≢ x.key
     no_owner x is own = absurd (none≢some _ x refl is)
 
-    act_keeps : (call : Action T) (f : Fresh) → LeavesOwner call o → IsNotNext S call o
+    act_keeps : (call : Action T) (f : NewNames) → LeavesOwner call o → IsNotNext S call o
         → Keeps S o (act S call f)
     act_keeps (Make None v l) f ne next =
         keeps_made S None f.first (Value (Here v []) l) l refl refl no_owner
@@ -214,9 +214,9 @@ module _ {T : Type 0} where
         (λ known. keeps_made (add_cell S f.first (Shared (Here v []) l)) (Some a) f.second
         (Ref f.first l) l refl refl (other a ne known)) (λ _. refl)
     act_keeps (Refer None b) f ne next =
-        keeps_unless (read_trouble S b) _ (keeps_referred None b _ _ f.first no_owner)
+        keeps_unless (refusal_to_read S b) _ (keeps_referred None b _ _ f.first no_owner)
     act_keeps (Refer (Some a) b) f ne next = by_cond (Keeps S o) (is_known S (Some a))
-        (λ known. keeps_unless (read_trouble S b) _
+        (λ known. keeps_unless (refusal_to_read S b) _
         (keeps_referred (Some a) b _ _ f.first (other a ne known))) (λ _. refl)
     act_keeps NewOwner f ne next = same_record S (act S NewOwner f).1 o refl (λ own.
         get-insert_apart by_number S.owners S.next _ o.key (λ is. next
@@ -224,8 +224,8 @@ module _ {T : Type 0} where
     act_keeps (CloneOwner a) f ne next = keeps_cloned a (ownership S a) refl ne
     act_keeps (ReleaseOwner a) f ne next = keeps_released a (ownership S a) refl ne
     act_keeps (LeakOwner a) f ne next = refl
-    act_keeps (Read b l) f ne next = keeps_unless (read_trouble S b) _ (keeps_read l _ _)
-    act_keeps (Write b l) f ne next = keeps_unless (write_trouble S b) _ (keeps_write l _ _)
+    act_keeps (Read b l) f ne next = keeps_unless (refusal_to_read S b) _ (keeps_read l _ _)
+    act_keeps (Write b l) f ne next = keeps_unless (refusal_to_write S b) _ (keeps_write l _ _)
     act_keeps (ReleaseReader g) f ne next = by_cond (Keeps S o) (knows_reader S g)
         (λ _. keeps_left g.cell g.ticket _) (λ _. refl)
     act_keeps (ReleaseWriter g v) f ne next = by_cond (Keeps S o) (knows_writer S g)
@@ -233,7 +233,7 @@ module _ {T : Type 0} where
     act_keeps (SetValue b v) f ne next = keeps_set b v _ _
     act_keeps (End b) f ne next = keeps_unless (hindrance_to S (own_name S b)) _ refl
     act_keeps (Point a b) f ne next = by_cond (Keeps S o) (has_same_id a b) (λ _. refl)
-        (λ _. keeps_unless (read_trouble S b) _ (keeps_pointed a b _ _ _))
+        (λ _. keeps_unless (refusal_to_read S b) _ (keeps_pointed a b _ _ _))
     act_keeps (CanRead b) f ne next = refl
     act_keeps (CanWrite b) f ne next = refl
 
@@ -241,7 +241,7 @@ module _ {T : Type 0} where
     -- which is so of each call, where it doesn't make the owner
     kept : (call : Action T) (answer : Answer T) → Meets S call answer R → (o : OwnerName)
         → LeavesOwner call o
-        → ((f : Fresh) → (answer, R) ≡ act S call f → IsNotNext S call o)
+        → ((f : NewNames) → (answer, R) ≡ act S call f → IsNotNext S call o)
         → ownership R o ≡ ownership S o
     kept call answer m o ne next =
         ⊎_elim (λ refused. ap (λ (X : State T). ownership X o) refused.1)
@@ -255,7 +255,7 @@ module _ {T : Type 0} where
         → ownership R o ≡ ownership S o
     keeps_record call answer m o ne gives = kept call answer m o ne (next call gives)
       where
-        next : (call : Action T) → GivesOtherOwner call answer o → (f : Fresh)
+        next : (call : Action T) → GivesOtherOwner call answer o → (f : NewNames)
             → (answer, R) ≡ act S call f → IsNotNext S call o
         next NewOwner gives f is = subst (λ (out : Outcome T). IsOtherOwner out.0 o) is gives
         next _ gives f is = tt
@@ -266,7 +266,7 @@ module _ {T : Type 0} where
         → ownership S o ≡ Some h → ownership R o ≡ Some h
     keeps_known call answer s m o h ne held = kept call answer m o ne (next call) ∙ held
       where
-        next : (call : Action T) (f : Fresh) → (answer, R) ≡ act S call f → IsNotNext S call o
+        next : (call : Action T) (f : NewNames) → (answer, R) ≡ act S call f → IsNotNext S call o
         next NewOwner f is = λ same.
             let low = s.keys o.key (ap is_some (held_record S o h held)) in
             let key : S.next ≡ o.key = ap (λ (x : OwnerName). x.key) same in

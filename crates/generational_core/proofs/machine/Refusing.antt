@@ -7,15 +7,15 @@ use Rattle.generational_core.specs.Answers.{box_answer, reference_box_answer, re
 use Rattle.generational_core.specs.Answers.{write_answer, back_answer, end_answer, owner_answer}
 use Rattle.generational_core.specs.Answers.{release_answer, free_read_answer, free_write_answer}
 use Rattle.generational_core.specs.Answers.{WriteGuard, read_refused, end_refused}
-use Rattle.generational_core.specs.Borrowing.{Guard, Trouble, reach, read_trouble, write_trouble}
-use Rattle.generational_core.specs.Borrowing.Trouble.{Dropped}
+use Rattle.generational_core.specs.Borrowing.{Guard, BorrowRefusal, reach, refusal_to_read, refusal_to_write}
+use Rattle.generational_core.specs.Borrowing.BorrowRefusal.{Dropped}
 use Rattle.generational_core.specs.Boxes.{name_of, has_same_id}
 use Rattle.generational_core.specs.Cells.{Content, Cell, content_of}
 use Rattle.generational_core.specs.Cells.Cell.{Shared, Ref}
 use Rattle.generational_core.specs.Cells.Content.{Here}
 use Rattle.generational_core.specs.Ending.{hindrance_to}
 use Rattle.generational_core.specs.Leaving.{refuses}
-use Rattle.generational_core.specs.Machine.{Action, Answer, Fresh, Outcome, OwnerName, act, unless}
+use Rattle.generational_core.specs.Machine.{Action, Answer, NewNames, Outcome, OwnerName, act, unless}
 use Rattle.generational_core.specs.Machine.{cell_at, clone_owner, is_known, knows_reader}
 use Rattle.generational_core.specs.Machine.{knows_writer, own_cell, own_name, ownership, point}
 use Rattle.generational_core.specs.Machine.{read_at, refer, release_owner, set_at, turn, write_at}
@@ -23,7 +23,7 @@ use Rattle.generational_core.specs.Machine.Action.{Make, MakeShared, Refer, NewO
 use Rattle.generational_core.specs.Machine.Action.{ReleaseOwner, LeakOwner, Read, Write}
 use Rattle.generational_core.specs.Machine.Action.{ReleaseReader, ReleaseWriter, SetValue, End}
 use Rattle.generational_core.specs.Machine.Action.{Point, CanRead, CanWrite}
-use Rattle.generational_core.specs.Machine.Answer.{Done, Flag, Back, Troubled, Refused}
+use Rattle.generational_core.specs.Machine.Answer.{Done, Flag, Back, BorrowRefused, Refused}
 use Rattle.generational_core.specs.Names.{Name, is_name}
 use Rattle.generational_core.specs.State.{State, Ownership}
 use Rattle.generational_core.specs.Steps.{Meets}
@@ -45,7 +45,7 @@ module _ {T : Type 0} where
   -- A call of the machine is refused by a borrow, for its owner or with its value, and changes
   -- nothing then; or it isn't refused.
   pub data IsAnswered (S : State T) : Outcome T → Type 0 where
-    troubled : (t : Trouble) → IsAnswered S (Troubled t, S)
+    troubled : (t : BorrowRefusal) → IsAnswered S (BorrowRefused t, S)
     unknown : IsAnswered S (Refused UnknownOwner, S)
     back : (v : T) → IsAnswered S (Back v, S)
     goes : (out : Outcome T) → refuses out.0 ≡ false → IsAnswered S out
@@ -56,7 +56,7 @@ module _ {T : Type 0} where
     answered_if true h k = h
     answered_if false h k = k
 
-    answered_unless : (t : Option Trouble) {x : Outcome T}
+    answered_unless : (t : Option BorrowRefusal) {x : Outcome T}
         → IsAnswered S x → IsAnswered S (unless t S x)
     answered_unless None h = h
     answered_unless (Some t) h = troubled t
@@ -105,18 +105,18 @@ module _ {T : Type 0} where
         answered_turn (name_of a) old new l
     answered_point a b (Some c) m d = troubled _
 
-  pub act_answered : (S : State T) (call : Action T) (f : Fresh) → IsAnswered S (act S call f)
+  pub act_answered : (S : State T) (call : Action T) (f : NewNames) → IsAnswered S (act S call f)
   act_answered S (Make o v l) f = answered_if (is_known S o) (goes _ refl) unknown
   act_answered S (MakeShared o v l) f = answered_if (is_known S o) (goes _ refl) unknown
-  act_answered S (Refer o b) f = answered_if (is_known S o) (answered_unless (read_trouble S b)
+  act_answered S (Refer o b) f = answered_if (is_known S o) (answered_unless (refusal_to_read S b)
       (answered_refer o b (reach S b) (cell_at S (reach S b)) f.first)) unknown
   act_answered S NewOwner f = goes _ refl
   act_answered S (CloneOwner o) f = answered_clone o (ownership S o)
   act_answered S (ReleaseOwner o) f = answered_release o (ownership S o)
   act_answered S (LeakOwner o) f = goes _ refl
-  act_answered S (Read b l) f = answered_unless (read_trouble S b)
+  act_answered S (Read b l) f = answered_unless (refusal_to_read S b)
       (answered_read l (reach S b) (content_of (cell_at S (reach S b))))
-  act_answered S (Write b l) f = answered_unless (write_trouble S b)
+  act_answered S (Write b l) f = answered_unless (refusal_to_write S b)
       (answered_write l (reach S b) (content_of (cell_at S (reach S b))))
   act_answered S (ReleaseReader g) f = answered_if (knows_reader S g) (goes _ refl) (goes _ refl)
   act_answered S (ReleaseWriter g v) f = answered_if (knows_writer S g) (goes _ refl) (back v)
@@ -124,7 +124,7 @@ module _ {T : Type 0} where
       answered_set b v (reach S b) (content_of (cell_at S (reach S b)))
   act_answered S (End b) f = answered_unless (hindrance_to S (own_name S b)) (goes _ refl)
   act_answered S (Point a b) f = answered_if (has_same_id a b) (goes _ refl)
-      (answered_unless (read_trouble S b)
+      (answered_unless (refusal_to_read S b)
       (answered_point a b (own_cell S a.id) (reach S b) (cell_at S (reach S b))))
   act_answered S (CanRead b) f = goes _ refl
   act_answered S (CanWrite b) f = goes _ refl

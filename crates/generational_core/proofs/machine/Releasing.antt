@@ -3,13 +3,13 @@ use Rattle.generational_core.proofs.machine.Common
 use Common.{◌≡◌, true≢false, is_shared, content_of, IsReleased, content_at, named_gives, named_from}
 use Common.{◌≢◌, ◌≤◌, ◌<◌, [], ◌∷◌, not, sym, ap, ◌∙◌, inl, inr, act}
 use Common.{ℕ, or_cases, cases_lt, take_away, OwnerName, ownership, Ownership, by_number, name_same}
-use Common.{List, subst, le-ltb, nat_lt, nat_eq, reach, sweep, close, Answer, unless, Action, Fresh}
+use Common.{List, subst, le-ltb, nat_lt, nat_eq, reach, sweep, close, Answer, unless, Action, NewNames}
 use Common.{Bool, true, cond, ◌||◌, None, Some, refl, ◌&&◌, Cell, Done, Name, among, State, Meets}
-use Common.{false, read_trouble, cells_after, hindrance_to, knows_reader, takes_ticket, last_ticket}
+use Common.{false, refusal_to_read, cells_after, hindrance_to, knows_reader, takes_ticket, last_ticket}
 use Common.{Option, ⊎_elim, lt-ltb, Outcome, read_at, cell_at, NameMap, IsSound, IsBoxed, by_name}
 use Common.{false_from_ne_true, release_owner, get-remove_apart, get-insert_apart, NumbersExhausted}
 use Common.{not-true, Content, IsNamed, one_less, own_name, is_named, get-keep, Location, StepCall}
-use Common.{AllByRecursion, Trouble, set_ownership, remove_reader, get-remove_here, get-insert_here}
+use Common.{AllByRecursion, BorrowRefusal, set_ownership, remove_reader, get-remove_here, get-insert_here}
 use Rattle.generational_core.proofs.machine.Ends.{swept_ref, swept_was, by_cond}
 use Rattle.generational_core.proofs.machine.Changes.{held_record}
 use Rattle.generational_core.proofs.machine.Stepping.{is_refusal, meets_cases}
@@ -67,7 +67,7 @@ module _ {T : Type 0} where
   listed_boxed S o h n s is there =
       (boxed_among S h.names n (s.owned o.key h (held_record S o h is)) there).1
 
-  pub done_only : (t : Option Trouble) (S R last : State T)
+  pub done_only : (t : Option BorrowRefusal) (S R last : State T)
       → ◌≡◌ {A = Outcome T} (Done, R) (unless t S (Done, last)) → R ≡ last
   done_only None S R last e = ap (λ (out : Outcome T). out.1) e
   done_only (Some t) S R last e =
@@ -120,7 +120,7 @@ module _ {T : Type 0} where
   release_quiet S o None other = refl
   release_quiet S o (Some h) other = quiet (nat_lt 1 h.count) (hindrance_to S h.names) _ _ other
     where
-      quiet : (more : Bool) (t : Option Trouble) (less last : State T)
+      quiet : (more : Bool) (t : Option BorrowRefusal) (less last : State T)
           → let out : Outcome T = cond more (Done, less) (unless t S (Done, last)) in
           out.0 ≢ Done → out.1 ≡ S
       quiet false (Some t) less last other = refl
@@ -139,10 +139,10 @@ module _ {T : Type 0} where
 
 module _ {T : Type 0} where
   -- a refusal that may come tells of a borrow exactly where its answer does
-  unless_told : (S : State T) (t : Option Trouble) (other : Outcome T) → is_hindered other.0 ≡ false
+  unless_told : (S : State T) (t : Option BorrowRefusal) (other : Outcome T) → is_hindered other.0 ≡ false
       → not (tells_of_borrow t) ≡ not (is_hindered (unless t S other).0)
   unless_told S None other h = sym (ap not h)
-  unless_told S (Some (Trouble.Dropped l)) other h = refl
+  unless_told S (Some (BorrowRefusal.Dropped l)) other h = refl
   unless_told S t other h = refl
 
   read_free : (S : State T) (l : Location) (o : Option Name) (c : Option (Content T))
@@ -151,13 +151,13 @@ module _ {T : Type 0} where
   read_free S l o c = refl
 
   -- of a call and the call as it is recorded
-  pub ready_told : (S : State T) (call : Action T) (step : StepCall) (new : Fresh)
+  pub ready_told : (S : State T) (call : Action T) (step : StepCall) (new : NewNames)
       → recorded_as call ≡ Some step → is_ready S step ≡ not (is_hindered (act S call new).0)
   ready_told S (Action.Make None v l) step new e =
       let same : call.Leak l ≡ step = cc in ap (is_ready S) (sym same)
   ready_told S (Action.Read b l) step new e = let same : call.Read b l ≡ step = cc in
       ap (is_ready S) (sym same) ∙ unless_told S
-      (read_trouble S b) _ (read_free S l (reach S b) (content_of (cell_at S (reach S b))))
+      (refusal_to_read S b) _ (read_free S l (reach S b) (content_of (cell_at S (reach S b))))
   ready_told S (Action.ReleaseReader g) step new e =
       let same : call.ReleaseRead g.ticket ≡ step = cc in
       ap (is_ready S) (sym same)

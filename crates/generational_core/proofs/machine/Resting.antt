@@ -10,10 +10,10 @@ use machine.{[], list_map, or_right, value_of, leads_to, LeavesBox, IsFilling, n
 use machine.{subst, name_of, Content, Outcome, cell_at, read_at, NameMap, Borrows, IsSound, by_name}
 use machine.{arith, Guard, reach, Value, close, Write, Reads, change, State, Borrow, Reader, Writer}
 use machine.{list_any, cells_after, next_borrow, old_content, new_content, meets_cases, reads_known}
-use machine.{is_some, is_none, or_left, Trouble, can_read, own_name, value_in, may_lack, Location}
-use machine.{nat_eq_equiv, read_refusal, read_trouble, hindrance_to, limit_tickets, meets_follows}
+use machine.{is_some, is_none, or_left, BorrowRefusal, can_read, own_name, value_in, may_lack, Location}
+use machine.{nat_eq_equiv, read_refusal, refusal_to_read, hindrance_to, limit_tickets, meets_follows}
 use machine.{true≢false, false_from_ne_true, first_hindrance, LeavesUnborrowed, GenerationalPointer}
-use machine.{write_refusal, write_trouble, refusal_at, remove_reader, ReleaseReader, filled_content}
+use machine.{write_refusal, refusal_to_write, refusal_at, remove_reader, ReleaseReader, filled_content}
 use Rattle.generational_core.proofs.machine.Seeing.{reaches, reached_live, reach_stays}
 use Rattle.generational_core.proofs.machine.Seeing.{value_in_reached}
 use Rattle.std.specs.FinMap as map
@@ -43,7 +43,7 @@ module _ {T : Type 0} where
 
   pub rests : (S : State T) (b : GenerationalPointer)
       → can_write S b ≡ true → (m : Name) × Rests S b m
-  unfolding write_trouble
+  unfolding refusal_to_write
   rests S b h = at (reach S b) refl h
     where
       at : (to : Option Name) → reach S b ≡ to
@@ -54,14 +54,14 @@ module _ {T : Type 0} where
 
   pub rests_free : (S : State T) (b : GenerationalPointer) (m : Name)
       → Rests S b m → can_write S b ≡ true
-  unfolding write_trouble
+  unfolding refusal_to_write
   rests_free S b m r = ap (λ to. is_none (refusal_at to
       b.created_at (λ n. write_refusal (content_at S n)))) r.reaches ∙ ap is_none r.free
 
   -- it may be read too
   pub free_reads : (S : State T) (b : GenerationalPointer)
       → can_write S b ≡ true → can_read S b ≡ true
-  unfolding read_trouble
+  unfolding refusal_to_read
   free_reads S b h = let at = rests S b h in
       ap (λ to. is_none (refusal_at to b.created_at (λ n. read_refusal (content_at S n))))
       at.1.reaches ∙ ap is_none (unwritten (content_at S at.0) at.1.free)
@@ -156,7 +156,7 @@ module _ {T : Type 0} where
       → hindrance_of S.cells left c n ≡ None
   unhindered_leads S left c n m is e free = at c is e
     where
-      either : (b : Bool) (o : Option Trouble) → o ≡ None → cond b o None ≡ None
+      either : (b : Bool) (o : Option BorrowRefusal) → o ≡ None → cond b o None ≡ None
       either true o e = e
       either false o e = refl
 
@@ -210,12 +210,12 @@ module _ {T : Type 0} where
   began : (S R : State T) (b : GenerationalPointer) (l : Location) (g : Guard)
       → Meets S (Read b l) (Reads g) R → Began S l g R
   began S R b l g meets = ⊎_elim (λ refused. absurd (true≢false (sym refused.0))) (λ acts. at
-      (read_trouble S b) (reach S b) _ refl acts.2) (meets_cases S R (Read b l) (Reads g) meets)
+      (refusal_to_read S b) (reach S b) _ refl acts.2) (meets_cases S R (Read b l) (Reads g) meets)
     where
       no_reads : {out : Outcome T} → (Reads g, R) ≡ out → takes_ticket out.0 ≡ false → ⊥
       no_reads e none = true≢false (ap (λ (out : Outcome T). takes_ticket out.0) e ∙ none)
 
-      at : (t : Option Trouble) (to : Option Name) (c : Option (Content T)) → content_of
+      at : (t : Option BorrowRefusal) (to : Option Name) (c : Option (Content T)) → content_of
           (cell_at S to) ≡ c → (Reads g, R) ≡ unless t S (read_at S l to c) → Began S l g R
       at None (Some m) (Some (Here v rs)) had e = record {
         cell = m;

@@ -3,7 +3,7 @@ use Rattle.generational_core.proofs.machine
 use machine.{◌≡◌, ℕ, true, false, [], Option, None, Some, refl, sym, ap, subst, ◌∙◌, ⊎_elim}
 use machine.{true≢false, is_some, nat_eq, ◌||◌, value_of, value_at, reach, leads_to, name_of}
 use machine.{Content, Cell, content_of, is_shared, refill, Value, Shared, Ref, Here, Action, Answer}
-use machine.{Fresh, act, add_cell, ReleaseOwner, Write, ReleaseWriter, SetValue, End, Point, Sets}
+use machine.{NewNames, act, add_cell, ReleaseOwner, Write, ReleaseWriter, SetValue, End, Point, Sets}
 use machine.{Name, among, value_reached, value_in, ending, Turns, Lends, LeavesBox, LeavesValue}
 use machine.{State, IsSound, IsGiven, AreNew, Meets, GenerationalPointer, by_name, get-insert_apart}
 use machine.{changed_view, name_apart, Change, Filling, IsFilling, IsLawful, after, old_content}
@@ -68,21 +68,21 @@ module _ {T : Type 0} where
   -- ---- the cell of a box
 
   -- A Value or a Ref leads where it led, unless its name ends or it turns.
-  kept_cell : (S : State T) (call : Action T) (f : Fresh) (next : ℕ) (c : Change T)
+  kept_cell : (S : State T) (call : Action T) (f : NewNames) (next : ℕ) (c : Change T)
       → AreNew S call f → IsLawful S call f next c → (q : Name) → IsGiven S q
       → is_shared (map.get S.cells q) ≡ false → among (ending S call) q ≡ false → (Turns call q → ⊥)
       → leads_to (map.get (after S f c).cells q) q ≡ leads_to (map.get S.cells q) q
   kept_cell S call f next Stay new law q given box on unturned = refl
   kept_cell S call f next (Birth c) new law q given box on unturned =
       ap (λ x. leads_to x q) (get-insert_apart by_name S.cells f.first c q
-      (λ is. true≢false (sym given ∙ (ap (set.contains S.given) is ∙ (law.2 new).fresh))))
+      (λ is. true≢false (sym given ∙ (ap (set.contains S.given) is ∙ (law.2 new).ungiven))))
   kept_cell S call f next (Pair v l) new law q given box on unturned =
       let one = add_cell S f.first (Shared (Here v []) l) in
-      let names = law.1 new in let second = second_fresh S.given f.first f.second names.1.fresh in
+      let names = law.1 new in let second = second_fresh S.given f.first f.second names.1.ungiven in
       ap (λ x. leads_to x q) (get-insert_apart by_name one.cells f.second
       (Ref f.first l) q (λ is. true≢false (sym given ∙ (ap (set.contains S.given) is ∙ second.0)))
       ∙ get-insert_apart by_name S.cells f.first (Shared (Here v []) l) q
-      (λ is. true≢false (sym given ∙ (ap (set.contains S.given) is ∙ names.0.fresh))))
+      (λ is. true≢false (sym given ∙ (ap (set.contains S.given) is ∙ names.0.ungiven))))
   kept_cell S call f next (Fill n k) new law q given box on unturned =
       ⊎_elim (ap (λ x. leads_to x q)) (λ e. ap (λ x. leads_to x q) e.3
       ∙ (refilled_leads (new_content S k) e.1 q ∙ sym (ap (λ x. leads_to x q) e.2)))
@@ -118,7 +118,7 @@ module _ {T : Type 0} where
       same.1 ∙ e) (λ acts. ap (λ (o : Answer T × State T). reach o.1 b) acts.2
       ∙ acted acts.0 acts.1) (meets_cases S R call answer meets)
     where
-      acted : (f : Fresh) → AreNew S call f → reach (act S call f).1 b ≡ Some m
+      acted : (f : NewNames) → AreNew S call f → reach (act S call f).1 b ≡ Some m
       acted f new =
           let h = act_leads S call f in
           let r = reaches S b m e in

@@ -2,7 +2,7 @@
 use Rattle.generational_core.proofs.machine.Common
 use Common.{◌≡◌, false_from_ne_true, GenerationalPointer, contains-insert_here, contains-insert_old}
 use Common.{ℕ, ◌≤◌, ◌<◌, ◌∷◌, None, Some, refl, sym, ap, ◌∙◌, inl, inr, ◌⊎◌, Cell, Ref, Here, Name}
-use Common.{Bool, true, false, ◌||◌, List, ◌++◌, subst, arith, reach, fresh, Fresh, State, Borrow}
+use Common.{Bool, true, false, ◌||◌, List, ◌++◌, subst, arith, reach, fresh, NewNames, State, Borrow}
 use Common.{[], list_any-append, IsDistinct-push, AllByRecursion, get-insert_here, get-insert_apart}
 use Common.{Option, is_some, name_of, Content, IsNamed, IsEnded, Outcome, IsSound, IsGiven, IsBoxed}
 use Common.{⊎_elim, eq-eqb, filter, nat_eq, refill, Shared, Action, Stands, Owners, AreNew, by_name}
@@ -77,7 +77,7 @@ module _ {T : Type 0} where
         (new : map.get R.cells q ≡ Some (Ref to l)) → View S R call spot q
 
   -- the name at which a change fills a content
-  abbrev pub place : Fresh → Change T → Name
+  abbrev pub place : NewNames → Change T → Name
   place f (Fill n k) = n
   place f _ = f.first
 
@@ -91,22 +91,22 @@ module _ {T : Type 0} where
   )
 
   -- what each change leaves at each name
-  view : (S : State T) (call : Action T) (f : Fresh) (c : Change T) (owners : Owners) (next : ℕ)
+  view : (S : State T) (call : Action T) (f : NewNames) (c : Change T) (owners : Owners) (next : ℕ)
       → AreNew S call f → IsLawful S call f next c → (q : Name)
       → View S (record (after S f c) { owners = owners; next = next }) call (place f c) q
   view S call f Stay owners next new law q = Same refl
-  view S call f (Birth c) owners next new law q = let fresh = (law.2 new).fresh in
+  view S call f (Birth c) owners next new law q = let fresh = (law.2 new).ungiven in
       ⊎_elim (λ is. let born = born_here S f.first q c is law.1.1 in
       Born (ap (set.contains S.given) is ∙ fresh) born.0 born.1)
       (λ ne. Same (get-insert_apart by_name S.cells f.first c q ne)) (name_cases q f.first)
   view S call f (Pair v l) owners next new law q =
       let one = add_cell S f.first (Shared (Here v []) l) in
-      let names = law.1 new in let second = second_fresh S.given f.first f.second names.1.fresh in
+      let names = law.1 new in let second = second_fresh S.given f.first f.second names.1.ungiven in
       let other = get-insert_apart by_name one.cells f.second (Ref f.first l) q in
       ⊎_elim (λ is. let born = born_here one f.second q (Ref f.first l) is refl in
       Born (ap (set.contains S.given) is ∙ second.0) born.0 born.1)
       (λ no. ⊎_elim (λ is. let born = born_here S f.first q (Shared (Here v []) l) is refl in
-      Born (ap (set.contains S.given) is ∙ names.0.fresh)
+      Born (ap (set.contains S.given) is ∙ names.0.ungiven)
       (contains-insert_old by_name one.given f.second q born.0)
       (ap (λ x. tickets_of (content_of x)) (other no) ∙ born.1))
       (λ ne. Same (other no ∙ get-insert_apart by_name S.cells f.first (Shared (Here v []) l) q ne))
@@ -122,7 +122,7 @@ module _ {T : Type 0} where
       (turned_view S a old to l law.0 law.2 q)
 
   -- no change takes a name back
-  given_still : (S : State T) (f : Fresh) (c : Change T) (q : Name)
+  given_still : (S : State T) (f : NewNames) (c : Change T) (q : Name)
       → IsGiven S q → IsGiven (after S f c) q
   given_still S f (Birth c) q h = contains-insert_old by_name S.given f.first q h
   given_still S f (Pair v l) q h =
@@ -130,7 +130,7 @@ module _ {T : Type 0} where
   given_still S f _ q h = h
 
   -- nor another store's number, or a slot's first generation
-  pub same_store : (S : State T) (f : Fresh) (c : Change T)
+  pub same_store : (S : State T) (f : NewNames) (c : Change T)
       → ((after S f c).number ≡ S.number) × ((after S f c).start ≡ S.start)
   same_store S f (Birth c) = (refl, refl)
   same_store S f _ = (refl, refl)
@@ -155,11 +155,11 @@ module _ {T : Type 0} where
   }
 
   -- what a call leads to comes after it
-  abbrev pub last : {S : State T} {call : Action T} {f : Fresh} {out : Outcome T}
+  abbrev pub last : {S : State T} {call : Action T} {f : NewNames} {out : Outcome T}
       → Leads S call f out → State T
   last {S} {f = f} h = record (after S f h.change) { owners = h.owners; next = h.next }
 
-  pub change_follows : {S : State T} {call : Action T} {f : Fresh} {out : Outcome T}
+  pub change_follows : {S : State T} {call : Action T} {f : NewNames} {out : Outcome T}
       → AreNew S call f → (h : Leads S call f out) → Follows S call (last h)
   change_follows {S} {call} {f} new h = record {
     number = (same_store S f h.change).0;
@@ -170,7 +170,7 @@ module _ {T : Type 0} where
     view = view S call f h.change h.owners h.next new h.lawful;
   }
 
-  pub leads_follows : {S : State T} {call : Action T} {f : Fresh} {out : Outcome T}
+  pub leads_follows : {S : State T} {call : Action T} {f : NewNames} {out : Outcome T}
       → AreNew S call f → Leads S call f out → Follows S call out.1
   leads_follows {S} {call} new h = subst (Follows S call) (sym h.is) (change_follows new h)
 
@@ -261,15 +261,15 @@ module _ {T : Type 0} where
       get-insert_apart by_name S.cells m c n (λ is. apart.1 (sym is)) ∙ absent S s n apart.0
 
   -- after each change Refs name Shared cells, and Shared cells are named
-  linked : (S : State T) (call : Action T) (f : Fresh) (next : ℕ) (c : Change T)
+  linked : (S : State T) (call : Action T) (f : NewNames) (next : ℕ) (c : Change T)
       → IsSound S → AreNew S call f → IsLawful S call f next c → IsLinked (after S f c).cells
   linked S call f next Stay s new law = sound_linked S s
-  linked S call f next (Birth c) s new law = let none = absent S s f.first (law.2 new).fresh in
+  linked S call f next (Birth c) s new law = let none = absent S s f.first (law.2 new).ungiven in
       born_linked S.cells f.first c (sound_linked S s) none law.1.0 law.1.2
   linked S call f next (Pair v l) s new law =
-      let names = law.1 new in let apart = second_fresh S.given f.first f.second names.1.fresh in
+      let names = law.1 new in let apart = second_fresh S.given f.first f.second names.1.ungiven in
       pair_linked S.cells f.first f.second (Here v []) l l
-      (sound_linked S s) apart.1 (absent S s f.first names.0.fresh) (absent S s f.second apart.0)
+      (sound_linked S s) apart.1 (absent S s f.first names.0.ungiven) (absent S s f.second apart.0)
   linked S call f next (Fill n k) s new law =
       refilled_linked S.cells n (new_content S k) (sound_linked S s)
   linked S call f next (Close names) s new law = closed_linked S.cells names s.targets
@@ -325,12 +325,12 @@ module _ {T : Type 0} where
       keys = λ k live. let x = some_live _ live in (records k x.0 x.1).1;
     }
 
-  same_owners : (S : State T) (f : Fresh) (c : Change T) → (after S f c).owners ≡ S.owners
+  same_owners : (S : State T) (f : NewNames) (c : Change T) → (after S f c).owners ≡ S.owners
   same_owners S f (Birth c) = refl
   same_owners S f _ = refl
 
   -- each call, with new names, leads from a sound state to a sound state
-  pub leads_sound : {S : State T} {call : Action T} {f : Fresh} {out : Outcome T}
+  pub leads_sound : {S : State T} {call : Action T} {f : NewNames} {out : Outcome T}
       → IsSound S → AreNew S call f → Leads S call f out → IsSound out.1
   leads_sound {S} {call} {f} s new h =
       let follows = change_follows new h in

@@ -1,15 +1,15 @@
 -- What holds of each call of a store, whichever names it takes and whatever memory lacks.
 use Rattle.generational_core.proofs.machine.Common
 use Common.{◌≡◌, ◌+◌, ◌≤◌, not, ◌∷◌, sym, ap, ◌∙◌, inl, inr, ◌⊎◌, act, Made, Name}
-use Common.{ℕ, list_any-append, write_trouble, write_refusal, GenerationalPointer, NumbersExhausted}
+use Common.{ℕ, list_any-append, refusal_to_write, write_refusal, GenerationalPointer, NumbersExhausted}
 use Common.{Bool, true, cond, List, [], None, Some, refl, ◌&&◌, Cell, Here, Lent, Sets, Make, Meets}
 use Common.{false, ⊎_elim, nat_eq, refill, Shared, Action, Answer, unless, Writes, IsSound, IsGiven}
-use Common.{Option, is_some, Trouble, Dropped, name_of, Content, IsEnded, Outcome, cell_at, Refused}
-use Common.{subst, Guard, reach, Value, Fresh, refer, Refer, Reads, State, AreNew, Takes, Borrow}
+use Common.{Option, is_some, BorrowRefusal, Dropped, name_of, Content, IsEnded, Outcome, cell_at, Refused}
+use Common.{subst, Guard, reach, Value, NewNames, refer, Refer, Reads, State, AreNew, Takes, Borrow}
 use Common.{true≢false, content_of, location_of, location_at, has_reader, has_writer, last_ticket}
 use Common.{or_cases, or_right, and_parts, and_from, not-false, OwnerName, MakeShared, content_at}
-use Common.{or_left, eqb-true, list_any, value_of, value_at, leads_to, is_known, Troubled, no_names}
-use Common.{read_trouble, knows_reader, knows_writer, ReleaseReader, ReleaseWriter, takes_ticket}
+use Common.{or_left, eqb-true, list_any, value_of, value_at, leads_to, is_known, BorrowRefused, no_names}
+use Common.{refusal_to_read, knows_reader, knows_writer, ReleaseReader, ReleaseWriter, takes_ticket}
 use Rattle.generational_core.proofs.machine.Changes.{new_fresh, act_leads, is_making, IsLawful}
 use Rattle.generational_core.proofs.machine.Changes.{Change, after, Filling, IsFilling, Says}
 use Rattle.generational_core.proofs.machine.Changes.{act_says, without, old_content, new_content}
@@ -40,14 +40,14 @@ module _ {T : Type 0} where
     pub start : out.1.start ≡ S.start
     pub given : making ≡ false → out.1.given ≡ S.given
 
-  same_given : (S : State T) (call : Action T) (f : Fresh) (next : ℕ) (c : Change T)
+  same_given : (S : State T) (call : Action T) (f : NewNames) (next : ℕ) (c : Change T)
       → IsLawful S call f next c → is_making call ≡ false → (after S f c).given ≡ S.given
   same_given S call f next (Birth c) law other = absurd (true≢false (sym law.0 ∙ other))
   same_given S call f next (Pair v l) law other = absurd (true≢false (sym law.0 ∙ other))
   same_given S call f next _ law other = refl
 
   -- each call leaves the first generation, and none but a making gives names
-  pub act_start : (S : State T) (call : Action T) (f : Fresh)
+  pub act_start : (S : State T) (call : Action T) (f : NewNames)
       → Begins (is_making call) S (act S call f)
   act_start S call f =
       let h = act_leads S call f in
@@ -61,7 +61,7 @@ module _ {T : Type 0} where
 
   -- whether an answer refuses a call
   abbrev pub is_refusal : Answer T → Bool
-  is_refusal (Troubled t) = true
+  is_refusal (BorrowRefused t) = true
   is_refusal (Refused e) = true
   is_refusal _ = false
 
@@ -71,20 +71,20 @@ module _ {T : Type 0} where
 
   -- a call is a step of the machine that takes new names
   abbrev pub Acts : State T → Action T → Answer T → State T → Type 0
-  Acts S call answer R = (new : Fresh) × AreNew S call new × ((answer, R) ≡ act S call new)
+  Acts S call answer R = (new : NewNames) × AreNew S call new × ((answer, R) ≡ act S call new)
 
   -- an outcome takes new names, or is a refusal
-  abbrev TakesNew : State T → Action T → Fresh → Outcome T → Type 0
+  abbrev TakesNew : State T → Action T → NewNames → Outcome T → Type 0
   TakesNew S call f out = Takes S call out.0 f → AreNew S call f ⊎ IsRefused S out.0 out.1
 
-  takes_referred : (S : State T) (call : Action T) (f : Fresh) (t : Option Trouble)
+  takes_referred : (S : State T) (call : Action T) (f : NewNames) (t : Option BorrowRefusal)
       (o : Option OwnerName) (b : GenerationalPointer) (to : Option Name) (target : Option (Cell T))
       → TakesNew S call f (unless t S (refer S o b to target f.first))
   takes_referred S call f None o b (Some m) (Some (Shared c l)) = inl
   takes_referred S call f t o b to target = λ _. inr (refl, refl)
 
   -- a call takes new names, or is refused
-  pub takes_new : (S : State T) (call : Action T) (f : Fresh) → Takes S call (act S call f).0 f
+  pub takes_new : (S : State T) (call : Action T) (f : NewNames) → Takes S call (act S call f).0 f
       → AreNew S call f ⊎ IsRefused S (act S call f).0 (act S call f).1
   takes_new S (Make o v l) f =
       by_cond (TakesNew S (Make o v l) f) (is_known S o) (λ _. inl) (λ _ _. inr (refl, refl))
@@ -92,7 +92,7 @@ module _ {T : Type 0} where
       by_cond (TakesNew S (MakeShared o v l) f) (is_known S o) (λ _. inl) (λ _ _. inr (refl, refl))
   takes_new S (Refer o b) f =
       by_cond (TakesNew S (Refer o b) f) (is_known S o) (λ _. takes_referred S (Refer o b) f
-      (read_trouble S b) o b (reach S b) (cell_at S (reach S b))) (λ _ _. inr (refl, refl))
+      (refusal_to_read S b) o b (reach S b) (cell_at S (reach S b))) (λ _ _. inr (refl, refl))
   takes_new S _ f = λ _. inl tt
 
   -- a call is refused and changes nothing, or takes new names and does what the machine does
@@ -116,17 +116,17 @@ module _ {T : Type 0} where
       (λ _. ap (λ c. leads_to c (name_of b)) e.1) (λ _. refl)
 
   pub ended_read : (S : State T) (b : GenerationalPointer)
-      → IsEnded S (name_of b) → read_trouble S b ≡ Some (Dropped b.created_at)
-  unfolding read_trouble
+      → IsEnded S (name_of b) → refusal_to_read S b ≡ Some (Dropped b.created_at)
+  unfolding refusal_to_read
   ended_read S b e = rw (ended_reach S b e) refl
 
   pub ended_write : (S : State T) (b : GenerationalPointer)
-      → IsEnded S (name_of b) → write_trouble S b ≡ Some (Dropped b.created_at)
-  unfolding write_trouble
+      → IsEnded S (name_of b) → refusal_to_write S b ≡ Some (Dropped b.created_at)
+  unfolding refusal_to_write
   ended_write S b e = rw (ended_reach S b e) refl
 
   says_refused : (S R : State T) (answer : Answer T) → is_refusal answer ≡ true → Says S answer R
-  says_refused S R (Troubled t) h = tt
+  says_refused S R (BorrowRefused t) h = tt
   says_refused S R (Refused e) h = tt
   says_refused S R _ h = absurd (true≢false (sym h))
 
@@ -279,7 +279,7 @@ module _ {T : Type 0} where
       → Meets S call (Made b) R
       → (b.id.store ≡ S.number) × (set.contains S.given (name_of b) ≡ false) × IsGiven R (name_of b)
   made_new S R call b m =
-      let it = meets_says S R call (Made b) m in (it.number, it.fresh, it.boxed.0)
+      let it = meets_says S R call (Made b) m in (it.number, it.ungiven, it.boxed.0)
 
   -- a new reader is known, with the next ticket; so is a new writer
   pub reads_known : (S R : State T) (call : Action T) (g : Guard) → Meets S call (Reads g) R

@@ -2,14 +2,14 @@
 use Rattle.generational_core.proofs.machine
 use machine.{◌≡◌, ◌≢◌, Bool, true, false, cond, List, [], ◌∷◌, Option, None, Some, refl, sym, ap}
 use machine.{subst, ◌∙◌, ⊎_elim, inl, inr, ◌||◌, true≢false, and_parts, cases_Bool, nat_eq_equiv}
-use machine.{is_some, nat_eq, ◌⊎◌, value_at, value_of, Guard, Trouble, reach, leads_to, fill}
-use machine.{read_trouble, write_trouble, write_refusal, can_write, name_of, box_of, has_same_id}
+use machine.{is_some, nat_eq, ◌⊎◌, value_at, value_of, Guard, BorrowRefusal, reach, leads_to, fill}
+use machine.{refusal_to_read, refusal_to_write, write_refusal, can_write, name_of, box_of, has_same_id}
 use machine.{Content, Cell, content_of, is_shared, refill, Value, Shared, Ref, Here, Lent, sweep}
-use machine.{take_away, cells_after, close, hindrance_to, hindrance_at, Action, Answer, Fresh}
+use machine.{take_away, cells_after, close, hindrance_to, hindrance_at, Action, Answer, NewNames}
 use machine.{Outcome, OwnerName, act, add_cell, own_name, add_to_list, is_known, unless, refer}
 use machine.{cell_at, read_at, write_at, knows_writer, has_writer, make, point, next_borrow}
 use machine.{one_listed, ownership, Make, MakeShared, Refer, NewOwner, Read, Write, set_at}
-use machine.{ReleaseWriter, SetValue, End, Point, Made, Owned, Reads, Writes, Done, Old, Troubled}
+use machine.{ReleaseWriter, SetValue, End, Point, Made, Owned, Reads, Writes, Done, Old, BorrowRefused}
 use machine.{Name, NameMap, among, is_name, change, value_in, State, IsSound, Ownership, content_at}
 use machine.{Meets, GenerationalBoxId, GenerationalPointer, Location, by_name, by_number}
 use machine.{get-insert_here, get-insert_apart, get-changed_here, changed_view, name_here}
@@ -53,8 +53,8 @@ module _ {T : Type 0} where
   TellsOf S call out = Tells S call out.0 out.1
 
   -- a refusal that may come tells nothing
-  unless_told : (S : State T) (call : Action T) (t : Option Trouble) (out : Outcome T)
-      → ((why : Trouble) → Tells S call (Troubled why) S) → TellsOf S call out
+  unless_told : (S : State T) (call : Action T) (t : Option BorrowRefusal) (out : Outcome T)
+      → ((why : BorrowRefusal) → Tells S call (BorrowRefused why) S) → TellsOf S call out
       → TellsOf S call (unless t S out)
   unless_told S call None out h told = told
   unless_told S call (Some t) out h told = h t
@@ -71,7 +71,7 @@ module _ {T : Type 0} where
       → (reach (add_to_list S o n) b ≡ reach S b)
       × (value_in (add_to_list S o n) b ≡ value_in S b)
       × (can_write (add_to_list S o n) b ≡ can_write S b)
-  unfolding value_in reach write_trouble
+  unfolding value_in reach refusal_to_write
   listed S None n b = (refl, refl, refl)
   listed S (Some o) n b = (refl, refl, refl)
 
@@ -244,20 +244,20 @@ module _ {T : Type 0} where
 
   -- ---- each call
 
-  act_tells : (S : State T) (call : Action T) (f : Fresh)
+  act_tells : (S : State T) (call : Action T) (f : NewNames)
       → AreFresh S call f → TellsOf S call (act S call f)
   act_tells S (Make o v l) f new = by_cond (TellsOf S (Make o v l)) (is_known S o)
       (λ _. made_told S o v l f.first) (λ _. tt)
   act_tells S (MakeShared o v l) f new = by_cond (TellsOf S (MakeShared o v l)) (is_known S o)
       (λ _. shared_told S o v l f.first f.second new.2) (λ _. tt)
   act_tells S (Refer o b) f new = by_cond (TellsOf S (Refer o b)) (is_known S o)
-      (λ _. unless_told S (Refer o b) (read_trouble S b) _ (λ t. tt)
+      (λ _. unless_told S (Refer o b) (refusal_to_read S b) _ (λ t. tt)
       (referred_told S o b f.first (reach S b) _ new refl refl)) (λ _. tt)
   act_tells S NewOwner f new =
       rw (nat_eq_equiv.refl S.number) (get-insert_here by_number S.owners S.next _)
-  act_tells S (Read b l) f new = unless_told S (Read b l) (read_trouble S b) _ (λ t. tt)
+  act_tells S (Read b l) f new = unless_told S (Read b l) (refusal_to_read S b) _ (λ t. tt)
       (read_told S b l (reach S b) _ refl refl)
-  act_tells S (Write b l) f new = unless_told S (Write b l) (write_trouble S b) _ (λ t. tt)
+  act_tells S (Write b l) f new = unless_told S (Write b l) (refusal_to_write S b) _ (λ t. tt)
       (write_told S b l (reach S b) _ refl refl)
   act_tells S (ReleaseWriter g v) f new = by_cond (TellsOf S (ReleaseWriter g v)) (knows_writer S g)
       (λ known. written_told S g v _ refl (and_parts _ _ known).1) (λ _. tt)
@@ -266,7 +266,7 @@ module _ {T : Type 0} where
       (ended_told S b)
   act_tells S (Point a b) f new = by_cond (TellsOf S (Point a b)) (has_same_id a b)
       (λ same. same_reach S a b ((same_ids a b).0 same)) (λ _. unless_told S (Point a b)
-      (read_trouble S b) _ (λ t. tt) (turned_told S a b _ _ (reach S b) _ refl refl refl))
+      (refusal_to_read S b) _ (λ t. tt) (turned_told S a b _ _ (reach S b) _ refl refl refl))
   act_tells S _ f new = tt
 
   refused_tells : (S R : State T) (call : Action T) (answer : Answer T)

@@ -11,17 +11,18 @@ use Rattle.std.proofs.lemmas.Bool.{true≢false, or_left, or_right}
 use Rattle.std.proofs.lemmas.Option.{same_Some}
 use Rattle.generational_core.specs.Answers.{value_of, end_answer, release_answer}
 use Rattle.generational_core.specs.Borrowing.{Guard, reach, can_read, can_write, read_refusal}
-use Rattle.generational_core.specs.Borrowing.{write_refusal, read_trouble, write_trouble, refusal_at}
+use Rattle.generational_core.specs.Borrowing.{write_refusal, refusal_to_read, refusal_to_write, refusal_at}
 use Rattle.generational_core.specs.Borrowing.{fill, leads_to}
 use Rattle.generational_core.specs.Boxes.{name_of, box_of}
 use Rattle.generational_core.specs.Cells.{Content, Cell, content_of, refill}
 use Rattle.generational_core.specs.Cells.Cell.{Value, Shared, Ref}
 use Rattle.generational_core.specs.Cells.Content.{Here, Lent}
-use Rattle.generational_core.specs.Conditions.{fresh, one_less}
+use Rattle.generational_core.specs.Conditions.{fresh}
+use Rattle.generational_core.specs.State.{one_less}
 use Rattle.generational_core.specs.Ending.{cells_after, close, first_hindrance, hindrance_at}
 use Rattle.generational_core.specs.Ending.{hindrance_of, hindrance_to}
 use Rattle.generational_core.specs.Leaving.{AreFree, BeginsNoBorrow, IsSet, IsUnborrowed}
-use Rattle.generational_core.specs.Machine.{Action, Answer, Fresh, Outcome, OwnerName, act}
+use Rattle.generational_core.specs.Machine.{Action, Answer, NewNames, Outcome, OwnerName, act}
 use Rattle.generational_core.specs.Machine.{own_name, ownership, release_owner, set_ownership, unless}
 use Rattle.generational_core.specs.Machine.Action.{Read, Write, ReleaseReader, ReleaseOwner, End}
 use Rattle.generational_core.specs.Machine.Answer.{Reads, Done, Flag, Refused}
@@ -54,7 +55,7 @@ module _ {T : Type 0} where
   -- in a sound state a box may be read exactly where it sees a value
   pub test_sees : (S : State T) (b : GenerationalPointer) → IsSound S
       → can_read S b ≡ is_some (value_in S b)
-  unfolding read_trouble value_in
+  unfolding refusal_to_read value_in
   test_sees S b s = at (reach S b) refl
     where
       seen : (c : Option (Content T)) → is_some c ≡ true
@@ -95,7 +96,7 @@ module _ {T : Type 0} where
 
     -- and a box may be written exactly where it sees a value
     pub quiet_sees : IsSound S → can_write S b ≡ is_some (value_in S b)
-    unfolding write_trouble value_in
+    unfolding refusal_to_write value_in
     quiet_sees s = at (reach S b) refl
       where
         free : (m : Name) → reach S b ≡ Some m
@@ -168,11 +169,11 @@ module _ {T : Type 0} where
 
   -- a call that is done whatever names it takes is answered so: it lacks nothing
   done_always : (S R : State T) (call : Action T) (answer : Answer T)
-      → ((f : Fresh) → (act S call f).0 ≡ Done) → Meets S call answer R → answer ≡ Done
+      → ((f : NewNames) → (act S call f).0 ≡ Done) → Meets S call answer R → answer ≡ Done
   unfolding may_lack
   done_always S R call answer goes m = at m
     where
-      limited : (f : Fresh) → (limit_tickets S (act S call f)).0 ≡ Done
+      limited : (f : NewNames) → (limit_tickets S (act S call f)).0 ≡ Done
       limited f = ap (λ a. (cond {A = Outcome T} (takes_ticket a && nat_eq S.next last_ticket)
           (Refused NumbersExhausted, S) (a, (act S call f).1)).0) (goes f)
 
@@ -254,7 +255,7 @@ module _ {T : Type 0} where
         either true X Y = refl
         either false X Y = refl
 
-        goes : (f : Fresh) → (act S (ReleaseOwner o) f).0 ≡ Done
+        goes : (f : NewNames) → (act S (ReleaseOwner o) f).0 ≡ Done
         goes f =
             let less = set_ownership S o.key (one_less h) in
             let last = record (close S h.names) { owners = map.remove S.owners o.key } in
@@ -269,7 +270,7 @@ module _ {T : Type 0} where
         → Meets S (End b) (end_answer r) R → IsOk r
     quiet_ends b {U} r quiet m = ended_ok {U = U} r (done_always S R (End b) _ goes m)
       where
-        goes : (f : Fresh) → (act S (End b) f).0 ≡ Done
+        goes : (f : NewNames) → (act S (End b) f).0 ≡ Done
         goes f = ap (λ t. (unless t S (Done, close S (own_name S b))).0)
             (unhindered S (own_name S b) (λ a m there to gone. quiet_free S quiet a m to))
 

@@ -26,7 +26,7 @@ use Rattle.generational_entries.specs.Entry.{is_unborrowed_value, cell_in, chang
 use Rattle.generational_entries.specs.Entry.{change_entry_if, referring, value_for}
 use Rattle.generational_entries.specs.Entries.{EntryList, AreRoomy, IsUnborrowed, kept_data}
 use Rattle.generational_entries.specs.Entries.{is_unborrowed_data, kind_of, lead_of, target_of}
-use Rattle.generational_entries.specs.Entries.{index_in, index_of, entry_of, AreIndexed, IsListed}
+use Rattle.generational_entries.specs.Entries.{index_in, index_of, entry_of, AreIndexed, HasListIndex}
 use Rattle.generational_containers.specs.Table.{Releases, no_index, IsUsed, Table, list_at}
 use Rattle.generational_entries.specs.Entry.Kept.{Empty, Refers}
 use Rattle.generational_entries.specs.declared.entry.Kind.{Kind}
@@ -143,10 +143,10 @@ module _ {T : Type 0} (bs : List Borrow) (l : Location) (d : StorageEntryData T)
   no_writer n gone = grind (arith, gone)
 
   -- where no readers are listed and nothing is lent, nothing is in the way of a write
-  pub no_trouble : ((kd : Kind) (x : ℕ) (v : T) → d ≡ slot.Read kd x v → ⊥)
+  pub no_refusal : ((kd : Kind) (x : ℕ) (v : T) → d ≡ slot.Read kd x v → ⊥)
       → ((kd : Kind) (x : ℕ) → d ≡ slot.Lent kd x → ⊥)
       → write_refusal (content_in (kept_data bs l d)) ≡ None
-  no_trouble none gone = grind (arith, none, gone)
+  no_refusal none gone = grind (arith, none, gone)
 
   -- where no value is, none is seen, and no reader is added
   pub no_value : ((kd : Kind) (v : T) → d ≡ slot.Data kd v → ⊥)
@@ -394,7 +394,7 @@ module _ {T : Type 0} {t : Table} {es : List (StorageEntry T)} {ls : List EntryD
   -- a value with listed readers has an index, and one reader at least
   module _ {kd : Kind} {x : ℕ} {v : T} (is : e.content ≡ slot.Read kd x v) where
     pub has_place : x ≢ no_index
-    has_place = subst IsListed is (rw a.there at (a.store.indexed.listed i))
+    has_place = subst HasListIndex is (rw a.there at (a.store.indexed.listed i))
 
     pub used_at : IsUsed t x
     used_at = subst (λ d. index_of d ≢ no_index → IsUsed t (index_of d)) is used_here has_place

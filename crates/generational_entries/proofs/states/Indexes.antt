@@ -7,7 +7,7 @@ use Rattle.std.proofs.lemmas.Bool.{false≢true, eq-eqb, eqb-true}
 use Rattle.generational_entries.specs.declared.entry.StorageEntry.{StorageEntry}
 use Rattle.generational_entries.specs.declared.entry.StorageEntryData.{StorageEntryData}
 use Rattle.generational_entries.specs.Entries.{IsUnborrowed, index_in, index_of, has_index}
-use Rattle.generational_entries.specs.Entries.{AreIndexed, IsListed, IsListedIn}
+use Rattle.generational_entries.specs.Entries.{AreIndexed, HasListIndex, HasListIndexIn}
 use Rattle.generational_containers.specs.Table.{no_index, IsUsed, Table}
 use Rattle.generational_containers.specs.Lists.{how_many}
 use Rattle.generational_containers.proofs.lists.Lists.{IsWritten, passes}
@@ -26,7 +26,7 @@ module _ {T : Type 0} where
         at true same = subst (λ n. P n (Some e)) (sym (eqb-true k i same)) here
         at false other = others k (λ z. false≢true (sym other ∙ eq-eqb k i z))
 
-    pub indexed : {t t' : Table} → AreIndexed t es → IsListed e.content
+    pub indexed : {t t' : Table} → AreIndexed t es → HasListIndex e.content
         → ((k : ℕ) → k ≢ i → index_in (slice_get es k) ≢ no_index
         → IsUsed t' (index_in (slice_get es k)))
         → (index_of e.content ≢ no_index → IsUsed t' (index_of e.content))
@@ -36,7 +36,7 @@ module _ {T : Type 0} where
         → AreIndexed t' es'
     indexed {t} {t'} s fits others here alone counted few =
         record {
-          listed = over (λ k o. IsListedIn o) fits (λ k other. s.listed k);
+          listed = over (λ k o. HasListIndexIn o) fits (λ k other. s.listed k);
           used = over (λ k o. index_in o ≢ no_index → IsUsed t' (index_in o)) here others;
           apart = λ j k. over (λ j o. index_in o ≢ no_index → index_in o ≡ index_in (slice_get es'
               k)
@@ -58,7 +58,7 @@ module _ {T : Type 0} where
             (λ k at same. s.apart j k some same) k
 
 -- a slot with an index has listed readers, if it has readers
-pub has_listed : {T : Type 0} (d : StorageEntryData T) → index_of d ≢ no_index → IsListed d
+pub has_listed : {T : Type 0} (d : StorageEntryData T) → index_of d ≢ no_index → HasListIndex d
 has_listed d some = grind arith
 
 -- ---- slots without borrows
@@ -67,7 +67,7 @@ module _ {T : Type 0} where
   pub unborrowed_none : (d : StorageEntryData T) → IsUnborrowed d → index_of d ≡ no_index
   unborrowed_none d free = grind arith
 
-  pub unborrowed_listed : (d : StorageEntryData T) → IsUnborrowed d → IsListed d
+  pub unborrowed_listed : (d : StorageEntryData T) → IsUnborrowed d → HasListIndex d
   unborrowed_listed d free = grind arith
 
 pub indexed_none : {T : Type 0} {t : Table} {es : List (StorageEntry T)} → es ≡ []
@@ -88,7 +88,7 @@ module _ {T : Type 0} where
 
   -- a slot without borrows that is written where none stood
   pub indexed_free : {t : Table} {es es' : List (StorageEntry T)} {i : ℕ} {e : StorageEntry T}
-      → IsWritten es es' i e → AreIndexed t es → IsListed e.content → length es ≤ length es'
+      → IsWritten es es' i e → AreIndexed t es → HasListIndex e.content → length es ≤ length es'
       → index_in (slice_get es i) ≡ no_index → index_of e.content ≡ no_index
       → AreIndexed t es'
   indexed_free {t} {es} {es'} {i} {e} w s fits longer before none =

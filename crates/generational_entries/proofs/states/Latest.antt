@@ -24,7 +24,7 @@ use Rattle.generational_entries.specs.Entry.{change_entry_if}
 use Rattle.generational_entries.specs.declared.latest.LastBorrow.{LastBorrow}
 use Rattle.generational_entries.specs.Entry.Kept.{Empty}
 use Rattle.generational_entries.specs.Latest.{noted, HasApart, IsAlone, IsNoted, IsReadable}
-use Rattle.generational_entries.specs.Latest.{is_apart, is_reader, is_writer, joined, may_join}
+use Rattle.generational_entries.specs.Latest.{is_noted, is_reader, is_writer, joined, may_join}
 use Rattle.generational_entries.specs.declared.latest.Standing.{Standing}
 use Rattle.generational_entries.specs.Entries.{entry_of, taken, AreIndexed, AreRoomy, EntryList}
 use Rattle.generational_entries.specs.declared.entry.EntryDetails.{EntryDetails}
@@ -53,7 +53,7 @@ pub writer_is : (s : Standing) → is_writer s ≡ true → s ≡ standing.Write
 writer_is s is = grind arith
 
 -- one that isn't a writer is a reader
-pub other_is : (s : Standing) → is_apart s ≡ true → is_writer s ≡ false → s ≡ standing.Reader
+pub other_is : (s : Standing) → is_noted s ≡ true → is_writer s ≡ false → s ≡ standing.Reader
 other_is s apart is = grind arith
 
 module _ {T : Type 0} where
@@ -63,7 +63,7 @@ module _ {T : Type 0} where
 
   -- the slot was made at which it does
   pub apart_within : (r : LastBorrow) (slots : List (Entry T)) → IsNoted r slots
-      → is_apart r.standing ≡ true → r.slot < length slots
+      → is_noted r.standing ≡ true → r.slot < length slots
   apart_within r slots noted is = at (slice_get slots r.slot) refl (noted is)
     where
       at : (o : Option (Entry T)) → slice_get slots r.slot ≡ o → HasApart r o
@@ -74,13 +74,13 @@ module _ {T : Type 0} where
   -- what holds of a slot with that borrow, where it stands there and where it doesn't
   pub note_at : (r : LastBorrow) (slots : List (Entry T)) → IsNoted r slots → (k : ℕ)
       (Q : Option (Entry T) → Type 0)
-      → ((is_apart r.standing ≡ true → r.slot ≡ k → ⊥) → Q (slice_get slots k))
-      → ((e : Entry T) → is_apart r.standing ≡ true → r.slot ≡ k → slice_get slots k ≡ Some e
+      → ((is_noted r.standing ≡ true → r.slot ≡ k → ⊥) → Q (slice_get slots k))
+      → ((e : Entry T) → is_noted r.standing ≡ true → r.slot ≡ k → slice_get slots k ≡ Some e
       → HasApart r (Some e) → Q (Some (joining r e)))
       → Q (slice_get (noted r slots) k)
-  note_at r slots alone k Q away here = by (is_apart r.standing) refl
+  note_at r slots alone k Q away here = by (is_noted r.standing) refl
     where
-      there : is_apart r.standing ≡ true → r.slot ≡ k → (o : Option (Entry T))
+      there : is_noted r.standing ≡ true → r.slot ≡ k → (o : Option (Entry T))
           → slice_get slots r.slot ≡ o → HasApart r o
           → Q (slice_get (change_entry slots r.slot (joining r)) k)
       there is own None none has = absurd has
@@ -89,14 +89,14 @@ module _ {T : Type 0} where
           (rw (change_own slots r.slot (joining r) at)
           (here e is own (ap (slice_get slots) (sym own) ∙ at) has))
 
-      at : is_apart r.standing ≡ true → (b : Bool) → nat_eq r.slot k ≡ b
+      at : is_noted r.standing ≡ true → (b : Bool) → nat_eq r.slot k ≡ b
           → Q (slice_get (change_entry slots r.slot (joining r)) k)
       at is true same = there is (eqb-true r.slot k same) (slice_get slots r.slot) refl (alone is)
       at is false other =
           let no : r.slot ≡ k → ⊥ = λ z. false≢true (sym other ∙ eq-eqb r.slot k z) in
           rw (change_away slots r.slot k (joining r) no) (away (λ z. no))
 
-      by : (b : Bool) → is_apart r.standing ≡ b
+      by : (b : Bool) → is_noted r.standing ≡ b
           → Q (slice_get (if b then change_entry slots r.slot (joining r) else slots) k)
       by true is = at is (nat_eq r.slot k) refl
       by false is = away (λ z own. false≢true (sym is ∙ z))
@@ -138,7 +138,7 @@ module _ {T : Type 0} where
       (λ e. record e { kept = without_reader_in r.borrow.ticket e.kept })
   unread r slots is free =
       let reader : r.standing ≡ standing.Reader = reader_is r.standing is in
-      let apart : is_apart r.standing ≡ true = rw reader refl in
+      let apart : is_noted r.standing ≡ true = rw reader refl in
       let gone : (e : Entry T) → Entry T =
       λ e. record e { kept = without_reader_in r.borrow.ticket e.kept } in
       sym (rw apart (change_twice slots r.slot (joining r) gone)
@@ -157,7 +157,7 @@ module _ {T : Type 0} where
   first_there b k free = grind arith
 
   -- a reader that is listed changes nothing
-  pub listed_same : (r : LastBorrow) (slots : List (Entry T)) → is_apart r.standing ≡ true
+  pub listed_same : (r : LastBorrow) (slots : List (Entry T)) → is_noted r.standing ≡ true
       → is_writer r.standing ≡ false
       → IfSome (slice_get slots r.slot) (λ e. has_no_borrow (content_in e.kept) ≡ false)
       → slots ≡ noted r slots
@@ -178,7 +178,7 @@ module _ {T : Type 0} where
       ≡ change_entry (noted r slots) r.slot (λ e. record e { kept = with_value v e.kept })
   unwritten r slots v is =
       let writer : r.standing ≡ standing.Writer = writer_is r.standing is in
-      let apart : is_apart r.standing ≡ true = rw writer refl in
+      let apart : is_noted r.standing ≡ true = rw writer refl in
       sym (rw apart (kept_twice slots r.slot (with_content (joined r.standing r.borrow))
       (with_value v) (with_value v) (all_some (slice_get slots r.slot)
       (λ e. back_after v (joined r.standing r.borrow) e.kept))))
@@ -262,7 +262,7 @@ module _ {T : Type 0} where
 
   -- what the borrow that stands apart leaves true of its cell holds of all slots with it
   pub joined_says : (r : LastBorrow) (slots : List (Entry T)) → IsNoted r slots → (k : ℕ)
-      (P : Entry T → Type 0) → (is_apart r.standing ≡ true → r.slot ≡ k → (e : Entry T)
+      (P : Entry T → Type 0) → (is_noted r.standing ≡ true → r.slot ≡ k → (e : Entry T)
       → may_join r.standing r.borrow.ticket (content_in e.kept) ≡ true → P e → P (joining r e))
       → IfSome (slice_get slots k) P → IfSome (slice_get (noted r slots) k) P
   joined_says r slots alone k P stays h =
@@ -275,7 +275,7 @@ module _ {T : Type 0} where
   pub noted_order : (r : LastBorrow) (slots : List (Entry T)) (j : ℕ) (h : Entry T → Entry T)
       → ((e : Entry T) → joining r (h e) ≡ h (joining r e))
       → noted r (change_entry slots j h) ≡ change_entry (noted r slots) j h
-  noted_order r slots j h same = by (is_apart r.standing)
+  noted_order r slots j h same = by (is_noted r.standing)
     where
       by : (b : Bool) → (if b then change_entry (change_entry slots j h) r.slot (joining r)
           else change_entry slots j h)
@@ -302,7 +302,7 @@ module _ {T : Type 0} where
           (alone is)
 
   pub alone_apart : (r : LastBorrow) (slots : List (Entry T)) (j : ℕ) (h : Entry T → Entry T)
-      → IsNoted r slots → (is_apart r.standing ≡ true → r.slot ≡ j → ⊥)
+      → IsNoted r slots → (is_noted r.standing ≡ true → r.slot ≡ j → ⊥)
       → IsNoted r (change_entry slots j h)
   alone_apart r slots j h alone other is =
       rw (change_away slots j r.slot h (λ e. other is (sym e))) (alone is)
@@ -310,7 +310,7 @@ module _ {T : Type 0} where
   -- one more slot
   pub noted_pushed : (r : LastBorrow) (slots : List (Entry T)) (x : Entry T) → IsNoted r slots
       → noted r (slots ++ x ∷ []) ≡ noted r slots ++ x ∷ []
-  noted_pushed r slots x alone = by (is_apart r.standing) refl
+  noted_pushed r slots x alone = by (is_noted r.standing) refl
     where
       at : (o : Option (Entry T)) → slice_get slots r.slot ≡ o → HasApart r o
           → change_entry (slots ++ x ∷ []) r.slot (joining r)
@@ -322,7 +322,7 @@ module _ {T : Type 0} where
           ∙ (set_left slots (x ∷ []) r.slot e (joining r e) there
           ∙ ap (λ o. change_entry_if slots r.slot (joining r) o ++ x ∷ []) (sym there))
 
-      by : (b : Bool) → is_apart r.standing ≡ b
+      by : (b : Bool) → is_noted r.standing ≡ b
           → (if b then change_entry (slots ++ x ∷ []) r.slot (joining r) else (slots ++ x ∷ []))
           ≡ (if b then change_entry slots r.slot (joining r) else slots) ++ x ∷ []
       by true is = at (slice_get slots r.slot) refl (alone is)
@@ -335,7 +335,7 @@ module _ {T : Type 0} where
   -- it isn't where there is no cell
   pub away_from_empty : (r : LastBorrow) (slots : List (Entry T)) (j : ℕ) → IsNoted r slots
       → IfSome (slice_get (noted r slots) j) (λ e. e.kept ≡ Empty)
-      → is_apart r.standing ≡ true → r.slot ≡ j → ⊥
+      → is_noted r.standing ≡ true → r.slot ≡ j → ⊥
   away_from_empty r slots j alone empty is same =
       note_at r slots alone j (λ o. IfSome o (λ e. e.kept ≡ Empty) → ⊥) (λ away h. away is same)
       (λ e apart own there has h. full r.standing r.borrow.ticket (joined r.standing r.borrow)
@@ -344,11 +344,11 @@ module _ {T : Type 0} where
 
   -- another slot that is written
   pub noted_set : (r : LastBorrow) (slots : List (Entry T)) (j : ℕ) (x : Entry T)
-      → IsNoted r slots → (is_apart r.standing ≡ true → r.slot ≡ j → ⊥)
+      → IsNoted r slots → (is_noted r.standing ≡ true → r.slot ≡ j → ⊥)
       → noted r (slice_set slots j x) ≡ slice_set (noted r slots) j x
-  noted_set r slots j x alone other = by (is_apart r.standing) refl
+  noted_set r slots j x alone other = by (is_noted r.standing) refl
     where
-      at : is_apart r.standing ≡ true → (o : Option (Entry T)) → slice_get slots r.slot ≡ o
+      at : is_noted r.standing ≡ true → (o : Option (Entry T)) → slice_get slots r.slot ≡ o
           → HasApart r o → change_entry (slice_set slots j x) r.slot (joining r)
           ≡ slice_set (change_entry slots r.slot (joining r)) j x
       at is None empty has = absurd has
@@ -358,7 +358,7 @@ module _ {T : Type 0} where
           ∙ (set_apart slots j r.slot x (joining r e) (λ z. other is (sym z))
           ∙ ap (λ o. slice_set (change_entry_if slots r.slot (joining r) o) j x) (sym there))
 
-      by : (b : Bool) → is_apart r.standing ≡ b
+      by : (b : Bool) → is_noted r.standing ≡ b
           → (if b then change_entry (slice_set slots j x) r.slot (joining r)
           else slice_set slots j x)
           ≡ slice_set (if b then change_entry slots r.slot (joining r) else slots) j x
@@ -369,7 +369,7 @@ module _ {T : Type 0} where
   pub ended : (r : LastBorrow) (slots : List (Entry T))
       → change_entry slots r.slot (λ e. record e { kept = Empty })
       ≡ change_entry (noted r slots) r.slot (λ e. record e { kept = Empty })
-  ended r slots = by (is_apart r.standing)
+  ended r slots = by (is_noted r.standing)
     where
       by : (b : Bool) → change_entry slots r.slot (λ e. record e { kept = Empty })
           ≡ change_entry (if b then change_entry slots r.slot (joining r) else slots) r.slot
@@ -382,7 +382,7 @@ module _ {T : Type 0} where
   refer_order m f k = grind arith
 
   -- it opens to its own ticket alone
-  pub opens_same : (s : Standing) (b : Borrow) (t : ℕ) (k : Kept T) → is_apart s ≡ true
+  pub opens_same : (s : Standing) (b : Borrow) (t : ℕ) (k : Kept T) → is_noted s ≡ true
       → (is_reader s ≡ true → b.ticket ≡ t → ⊥) → may_join s b.ticket (content_in k) ≡ true
       → value_for t (content_in k) ≡ value_for t (content_in (with_content (joined s b) k))
   opens_same s b t k apart other fits = grind (arith, nat_tests)
@@ -393,7 +393,7 @@ module _ {T : Type 0} where
 
   -- other slots are as they were
   pub noted_away : (r : LastBorrow) (slots : List (Entry T)) → IsNoted r slots → (k : ℕ)
-      → (is_apart r.standing ≡ true → r.slot ≡ k → ⊥)
+      → (is_noted r.standing ≡ true → r.slot ≡ k → ⊥)
       → slice_get (noted r slots) k ≡ slice_get slots k
   noted_away r slots alone k away =
       note_at r slots alone k (λ o. o ≡ slice_get slots k) (λ no. refl)

@@ -11,7 +11,7 @@ use Rattle.generational_core.specs.declared.error.Location.{Location}
 use Rattle.generational_entries.specs.declared.entry.EntryDetails.{EntryDetails}
 use Rattle.generational_entries.specs.declared.entry.StorageEntry.{StorageEntry}
 use Rattle.generational_entries.specs.Entries.{EntryList, kept_data, index_in, index_of, has_index}
-use Rattle.generational_entries.specs.Entries.{AreIndexed, IsListed, unread_data}
+use Rattle.generational_entries.specs.Entries.{AreIndexed, HasListIndex, unread_data}
 use Rattle.generational_containers.specs.Table.{Releases, no_index, IsUsed, Table, list_at}
 use Rattle.generational_containers.specs.Table.{IsVacant, IsClosed}
 use Rattle.generational_entries.specs.Entry.Kept.{Live}
@@ -36,7 +36,7 @@ module _ {T : Type 0} {t : Table} {es : List (StorageEntry T)} {ls : List EntryD
     pub same_lists : SameLists t.lists t'.lists es i
     same_lists k other = c.lists (index_in (slice_get es k)) (alone k other)
 
-    pub step_indexed : (e' : StorageEntry T) → IsListed e'.content
+    pub step_indexed : (e' : StorageEntry T) → HasListIndex e'.content
         → (index_of e'.content ≢ no_index → (index_of e'.content ≡ x) × IsUsed t' x)
         → set.len t'.free + bit (has_index e') + length t.lists
         ≡ set.len t.free + bit (has_index e) + length t'.lists
@@ -155,7 +155,7 @@ module _ {T : Type 0} {t : Table} {es : List (StorageEntry T)} {ls : List EntryD
       pub close_lists : SameLists t.lists t'.lists es i
       close_lists = same_lists (closed c) used_below (used_alone x is some)
 
-      pub close_indexed : (e' : StorageEntry T) → IsListed e'.content
+      pub close_indexed : (e' : StorageEntry T) → HasListIndex e'.content
           → index_of e'.content ≡ no_index → AreIndexed t' (slice_set es i e')
       close_indexed e' fits none =
           let has : has_index e' ≡ false = rw none refl in
@@ -165,7 +165,7 @@ module _ {T : Type 0} {t : Table} {es : List (StorageEntry T)} {ls : List EntryD
           (λ z. absurd (z none)) (rw (has, has_some) (omega arith)) (omega arith)
 
   -- a cell without borrows is written where none stood
-  pub free_indexed : index_of e.content ≡ no_index → (e' : StorageEntry T) → IsListed e'.content
+  pub free_indexed : index_of e.content ≡ no_index → (e' : StorageEntry T) → HasListIndex e'.content
       → index_of e'.content ≡ no_index → AreIndexed t (slice_set es i e')
   free_indexed before e' fits none =
       indexed_free (set_written es i e' e a.there) a.store.indexed fits
@@ -189,7 +189,7 @@ module _ {T : Type 0} {t : Table} {es : List (StorageEntry T)} {ls : List EntryD
     given_lists = given_back (λ u. SameLists t.lists u.lists es i) (λ z k other. refl)
         (λ z c. close_lists x is z c)
 
-    pub given_indexed : (e' : StorageEntry T) → IsListed e'.content
+    pub given_indexed : (e' : StorageEntry T) → HasListIndex e'.content
         → index_of e'.content ≡ no_index → AreIndexed t' (slice_set es i e')
     given_indexed e' fits free =
         given_back (λ u. AreIndexed u (slice_set es i e'))

@@ -1,18 +1,18 @@
 -- A call is answered alike where one state carries another, and the states after it carry again.
 use Rattle.generational_sessions.proofs.sessions
-use sessions.{◌≡◌, eq_by_cmp, cond-true, content_at, has_reader, has_writer, KnowsFresh, rename_box}
-use sessions.{ℕ, UnknownOwner, read_trouble, hindrance_to, CarriesCells, shift_borrow, rename_fresh}
+use sessions.{◌≡◌, eq_by_cmp, cond-true, content_at, has_reader, has_writer, KnowsNewNames, rename_box}
+use sessions.{ℕ, UnknownOwner, refusal_to_read, hindrance_to, CarriesCells, shift_borrow, rename_new_names}
 use sessions.{◌+◌, ◌-◌, ◌≤◌, ◌∷◌, Some, refl, Name, Cell, Here, Lent, fill, make, Done, Flag, Back}
 use sessions.{Bool, Location, leads_to, can_read, is_known, add_cell, write_at, own_cell, by_number}
-use sessions.{true, cond, ◌&&◌, List, ◌++◌, None, State, reach, close, Fresh, refer, point, Owned}
+use sessions.{true, cond, ◌&&◌, List, ◌++◌, None, State, reach, close, NewNames, refer, point, Owned}
 use sessions.{false, subst, arith, Value, Shared, Owners, box_of, Action, Answer, unless, set_at}
 use sessions.{[], sym, ap, ◌∙◌, inl, inr, max, not, ◌⊎◌, Ref, act}
 use sessions.{Option, ⊎_elim, nat_eq, nat_lt, filter, eq-eqb, Outcome, read_at, Refused, Carries}
-use sessions.{unwrap_or, nat_cmp_total, write_trouble, set_ownership, release_owner, rename_content}
+use sessions.{unwrap_or, nat_cmp_total, refusal_to_write, set_ownership, release_owner, rename_content}
 use sessions.{is_some, has_same_id, take_ticket, add_to_list, clone_owner, next_borrow, KnowsAnswer}
 use sessions.{option_map, true≢false, cases_Bool, map-append, content_of, shift_owner, rename_cell}
 use sessions.{list_map, AllByRecursion, GenerationalPointer, rename_ownership, contains-insert_name}
-use sessions.{nat_cmp, NameMap, Content, name_of, Trouble, Dropped, Troubled, KnowsBox, key_same}
+use sessions.{nat_cmp, NameMap, Content, name_of, BorrowRefusal, Dropped, BorrowRefused, KnowsBox, key_same}
 use sessions.{nat_eq_equiv, location_of, remove_reader, rename_action, rename_answer, changed_there}
 use sessions.{eqb-true, cond_both, Ownership, can_write, OwnerName, ownership, KnowsCall, name_test}
 use Rattle.generational_sessions.proofs.carrying.CarriedCells
@@ -90,17 +90,17 @@ module _ {T U : Type 0} {f : Name → Name} {d : ℕ} {g : T → U}
       → a ≡ rename_answer f d g A.number b → KnowsAnswer Knows A.number b → Alike (a, S) (b, A)
   stays b e k = matches e k refl c
 
-  -- two outcomes by the same test, and by the same trouble
+  -- two outcomes by the same test, and by the same refusal
   if_alike : {b e : Bool} {x y : Outcome U} {v w : Outcome T}
       → b ≡ e → (e ≡ true → Alike x v) → Alike y w → Alike (cond b x y) (cond e v w)
   if_alike {e = e} {x = x} {y = y} {v = v} {w = w} is h k =
       rw is ((elim e as (λ e. (e ≡ true → Alike x v) → Alike (cond e x y) (cond e v w))
       [ true ↦ λ h. h refl | false ↦ λ h. k ]) h)
 
-  unless_alike : {t u : Option Trouble} {x : Outcome U} {v : Outcome T}
+  unless_alike : {t u : Option BorrowRefusal} {x : Outcome U} {v : Outcome T}
       → t ≡ u → Alike x v → Alike (unless t S x) (unless u A v)
   unless_alike {u = u} {x = x} {v = v} e h = rw e (elim u as
-      (λ u. Alike (unless u S x) (unless u A v)) [ None ↦ h | Some t ↦ stays (Troubled t) refl tt ])
+      (λ u. Alike (unless u S x) (unless u A v)) [ None ↦ h | Some t ↦ stays (BorrowRefused t) refl tt ])
 
   -- what is of this store has its number in both states, and what is of another in neither
   own_number : nat_eq A.number S.number ≡ true
@@ -244,9 +244,9 @@ module _ {T U : Type 0} {f : Name → Name} {d : ℕ} {g : T → U}
 
   -- a box whose value is gone is told its own location in both
   drop_alike : (b : GenerationalPointer)
-      → Alike (Troubled (Dropped (box b).created_at), S) (Troubled (Dropped b.created_at), A)
-  drop_alike b = stays (Troubled (Dropped b.created_at))
-      (ap (λ l. Troubled (Dropped l)) (created_moved b)) tt
+      → Alike (BorrowRefused (Dropped (box b).created_at), S) (BorrowRefused (Dropped b.created_at), A)
+  drop_alike b = stays (BorrowRefused (Dropped b.created_at))
+      (ap (λ l. BorrowRefused (Dropped l)) (created_moved b)) tt
 
   end_alike : (names : List Name) → AllByRecursion Knows names
       → Alike (unless (hindrance_to S (list_map f names)) S (Done, close S (list_map f names)))
@@ -282,20 +282,20 @@ module _ {T U : Type 0} {f : Name → Name} {d : ℕ} {g : T → U}
   point_alike a b new y ka k = by_store a.id.store
       (λ own. rw (own, own_number, c.cells.at (name_of a) (ka own))
       (at (map.get A.cells (name_of a)) y (known_target _ (c.cells.leads (name_of a))) (ka own)))
-      (λ s t. rw (s, t) (stays (Troubled (Dropped a.created_at)) refl tt))
+      (λ s t. rw (s, t) (stays (BorrowRefused (Dropped a.created_at)) refl tt))
     where
       at : (x y : Option (Cell T)) → IfThere x (KnowsTarget Knows) → Knows (name_of a)
           → Alike (point S (box_of A.number (f (name_of a)) a.created_at) (box b)
           (option_map cell x) (Some (f new)) (option_map cell y)) (point A a b x (Some new) y)
-      at None y kx kn = stays (Troubled (Dropped a.created_at)) refl tt
+      at None y kx kn = stays (BorrowRefused (Dropped a.created_at)) refl tt
       at (Some (Ref old l)) (Some (Shared y j)) kx kn =
           let cells = cells_swept c.apart
           (cells_insert c.apart c.cells (name_of a) (Ref new l) kn k) in
           if_alike (same_test c.apart old new kx k) (λ _. stays Done refl tt)
           (unless_alike (hindrance_at_moved c.apart c.cells cells old kx)
           (matches refl tt refl (with_cells cells)))
-      at x y kx kn = stays (Troubled (Dropped (unwrap_or (location_of y) b.created_at)))
-          (λ i. Troubled (Dropped (unwrap_or ((cell_moved f d g y).2 i) (created_moved b i)))) tt
+      at x y kx kn = stays (BorrowRefused (Dropped (unwrap_or (location_of y) b.created_at)))
+          (λ i. BorrowRefused (Dropped (unwrap_or ((cell_moved f d g y).2 i) (created_moved b i)))) tt
 
 module _ {T U : Type 0} {f : Name → Name} {d : ℕ} {g : T → U}
     {Knows : Name → Type 0} {S : State U} {A : State T} (c : Carries f d g Knows S A) where
@@ -331,7 +331,7 @@ module _ {T U : Type 0} {f : Name → Name} {d : ℕ} {g : T → U}
   -- a box that may be read, or written, may be so in both
   pub read_moved : (b : GenerationalPointer) → KnowsBox Knows A.number b
       → can_read S (rename_box f d A.number b) ≡ can_read A b
-  unfolding read_trouble
+  unfolding refusal_to_read
   read_moved b k = ⊎_elim (λ e. rw (e.0, e.1) refl) (λ e. rw (
     e.2,
     e.3,
@@ -341,7 +341,7 @@ module _ {T U : Type 0} {f : Name → Name} {d : ℕ} {g : T → U}
 
   pub write_moved : (b : GenerationalPointer) → KnowsBox Knows A.number b
       → can_write S (rename_box f d A.number b) ≡ can_write A b
-  unfolding write_trouble
+  unfolding refusal_to_write
   write_moved b k = ⊎_elim (λ e. rw (e.0, e.1) refl) (λ e. rw (
     e.2,
     e.3,
@@ -350,10 +350,10 @@ module _ {T U : Type 0} {f : Name → Name} {d : ℕ} {g : T → U}
   ) refl) (reach_cases c b k)
 
   -- each call of a carried state matches the call of the state that carries it
-  pub act_matched : (call : Action T) (new : Fresh)
-      → KnowsCall Knows A.number call → KnowsFresh Knows call new
-      → Alike c (act S (rename_action f d g A.number call) (rename_fresh f new)) (act A call new)
-  unfolding read_trouble write_trouble
+  pub act_matched : (call : Action T) (new : NewNames)
+      → KnowsCall Knows A.number call → KnowsNewNames Knows call new
+      → Alike c (act S (rename_action f d g A.number call) (rename_new_names f new)) (act A call new)
+  unfolding refusal_to_read refusal_to_write
   act_matched (Action.Make o v l) new k kn = if_alike c (known_moved c o)
       (make_alike o new.first (Value (Here v []) l) l tt kn) (unknown_alike c)
   act_matched (Action.MakeShared o v l) new k kn = if_alike c (known_moved c o) (λ ko.

@@ -4,7 +4,7 @@ use sessions.{◌≡◌, location_of, cells_after, hindrance_at, hindrance_of, C
 use sessions.{ℕ, [], sym, ap, ◌∙◌, inl, inr, ◌+◌, ◌≤◌, ◌⊎◌, Ref, Here, Lent}
 use sessions.{Bool, change_if, is_shared, take_away, name_total, keys_apart, named_from, true≢false}
 use sessions.{true, cond, ◌||◌, List, ◌∷◌, None, Some, refl, false, Name, among, Cell, Value, sweep}
-use sessions.{not, is_some, is_name, NameMap, Content, Trouble, by_name, nat_cmp, or_left, cases_eq}
+use sessions.{not, is_some, is_name, NameMap, Content, BorrowRefusal, by_name, nat_cmp, or_left, cases_eq}
 use sessions.{Option, ⊎_elim, arith, length, nat_eq, filter, change, refill, Shared, eq-eqb, Borrow}
 use sessions.{subst, Location, name_cmp, is_named, get-keep, key_here, len_keys, eqb-true, or_right}
 use sessions.{option_map, IsDistinct, content_of, rename_cell, name_cases, name_apart, named_gives}
@@ -46,7 +46,7 @@ module _ {T U : Type 0} (f : Name → Name) (d : ℕ) (g : T → U) where
   pub refusals_moved : (c : Option (Content T)) → (let moved = option_map content c in
       (read_refusal moved ≡ read_refusal c) × (write_refusal moved ≡ write_refusal c))
   refusals_moved (Some (Here v (r ∷ readers))) =
-      (refl, ap (λ ls. Some (Trouble.BeingRead (r.location ∷ ls))) (locations readers))
+      (refl, ap (λ ls. Some (BorrowRefusal.BeingRead (r.location ∷ ls))) (locations readers))
     where
       locations : (readers : List Borrow) → list_map (λ (b : Borrow). b.location)
           (list_map (shift_borrow f d) readers) ≡ list_map (λ b. b.location) readers

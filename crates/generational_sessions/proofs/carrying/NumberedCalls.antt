@@ -1,19 +1,19 @@
 -- Each call of a session, and each run, is answered as the numbered machine does it, ids aside.
 use Rattle.generational_sessions.proofs.sessions
-use sessions.{Bool, ap, State, fresh, reach, Fresh, refer, Refer, Meets, Takes, Tells, Swaps, erase}
+use sessions.{Bool, ap, State, fresh, reach, NewNames, refer, Refer, Meets, Takes, Tells, Swaps, erase}
 use sessions.{true, cond, List, ◌++◌, None, Some, refl, ◌&&◌, Call, Name, Cell, Make, Made, Held}
 use sessions.{false, subst, arith, [], nat_eq, Thing, Names, Action, Answer, unless, settle, number}
 use sessions.{length, Option, ⊎_elim, Refused, Request, Settles, refusal, Matches, by_name, unspent}
 use sessions.{◌≡◌, false_from_ne_true, GenerationalPointer, rename_ownership, contains-insert_apart}
 use sessions.{◌≢◌, length_push, add_to_list, SessionReply, next_numbers, numbered_act, refusal_told}
 use sessions.{◌+◌, cond_both, StoreError, OwnerName, MakeShared, session_in, refusal_in, is_refusal}
-use sessions.{◌-◌, or_cases, name_cmp, is_known, Troubled, named_by, numbered, act_start, takes_new}
+use sessions.{◌-◌, or_cases, name_cmp, is_known, BorrowRefused, named_by, numbered, act_start, takes_new}
 use sessions.{◌≤◌, ◌<◌, ◌∷◌, sym, ◌∙◌, inl, inr, act, Run, ask, swap, Asks, want, tell}
-use sessions.{ℕ, nat_cmp, IsSound, IsFresh, Trouble, Outcome, cell_at, key_same, AreFresh, act_says}
+use sessions.{ℕ, nat_cmp, IsSound, IsFresh, BorrowRefusal, Outcome, cell_at, key_same, AreFresh, act_says}
 use sessions.{is_some, rename_action, rename_answer, IsNumberBelow, AreNumbersBelow, CarriesSession}
 use sessions.{option_map, eq_by_cmp, true≢false, last_ticket, KnowsAnswer, shift_owner, SessionStep}
 use sessions.{list_any, KnowsCall, add_place, AreListed, AnswersAs, none≢some, new_fresh, is_making}
-use sessions.{read_trouble, takes_ticket, rename_guard, SessionState, empty_session, session_sound}
+use sessions.{refusal_to_read, takes_ticket, rename_guard, SessionState, empty_session, session_sound}
 use Rattle.generational_sessions.proofs.carrying.{some_map, last_known, back, both_tell, both_swap}
 use Rattle.generational_sessions.proofs.carrying.{Matched, Reserves, reserve, both_ask}
 use Rattle.generational_sessions.proofs.carrying.{act_matched, AskedAlike, asked_alike, box_agrees}
@@ -35,19 +35,19 @@ slot_behind (m ∷ names) =
 
 module _ {T : Type 0} where
   -- there are always names that were never given
-  fresh_names : (S : State T) (call : Action T) → (new : Fresh) × AreFresh S call new
+  fresh_names : (S : State T) (call : Action T) → (new : NewNames) × AreFresh S call new
   fresh_names S call =
       let behind = slot_behind (set.items S.given) in
       let new : (n : Name) → behind.0 ≤ n.slot → set.contains S.given n ≡ false =
       λ n from. false_from_ne_true _ (λ h.
       let below = behind.1 n (sym (set.contains-items S.given n) ∙ h) in omega arith) in
-      let both : Fresh = record { first = number behind.0; second = number (behind.0 + 1) } in (
+      let both : NewNames = record { first = number behind.0; second = number (behind.0 + 1) } in (
         both,
         are_fresh call both (new both.first (omega arith)) (new both.second (omega arith))
             (λ e. let same = ap (λ (n : Name). n.slot) e in omega arith),
       )
     where
-      are_fresh : (call : Action T) (new : Fresh) → set.contains S.given new.first ≡ false
+      are_fresh : (call : Action T) (new : NewNames) → set.contains S.given new.first ≡ false
           → set.contains S.given new.second ≡ false → new.first ≢ new.second → AreFresh S call new
       are_fresh (Make o v l) new one two apart = one
       are_fresh (MakeShared o v l) new one two apart = (one, two, apart)
@@ -60,17 +60,17 @@ module _ {T : Type 0} where
   Left false S given R = R.given ≡ given
 
   -- a making is refused whichever names it takes, or takes its names
-  record Making (S : State T) (given : Fresh → Names) (out : Fresh → Outcome T) : Type 0 where
-    left : (new : Fresh) → Left (is_refusal (out new).0) S (given new) (out new).1
-    unnamed : (f h : Fresh) → is_refusal (out f).0 ≡ true → out f ≡ out h
+  record Making (S : State T) (given : NewNames → Names) (out : NewNames → Outcome T) : Type 0 where
+    left : (new : NewNames) → Left (is_refusal (out new).0) S (given new) (out new).1
+    unnamed : (f h : NewNames) → is_refusal (out f).0 ≡ true → out f ≡ out h
 
-  making_if : {S : State T} {given : Fresh → Names} {f : Fresh → Outcome T} (b : Bool)
+  making_if : {S : State T} {given : NewNames → Names} {f : NewNames → Outcome T} (b : Bool)
       → Making S given f → Making S given (λ new. cond b (f new) (Refused error.UnknownOwner, S))
   making_if true h = h
   making_if false h = record { left = λ new. refl; unnamed = λ f h k. refl }
 
-  making_unless : {S : State T} {given : Fresh → Names} {out : Fresh → Outcome T}
-      (o : Option Trouble) → Making S given out → Making S given (λ new. unless o S (out new))
+  making_unless : {S : State T} {given : NewNames → Names} {out : NewNames → Outcome T}
+      (o : Option BorrowRefusal) → Making S given out → Making S given (λ new. unless o S (out new))
   making_unless None h = h
   making_unless (Some t) h = record { left = λ new. refl; unnamed = λ f h k. refl }
 
@@ -87,7 +87,7 @@ module _ {T : Type 0} where
   making_referred S o b to x = record { left = λ new. refl; unnamed = λ f h k. refl }
 
   -- the names given after a making
-  abbrev given_after : State T → Action T → Fresh → Names
+  abbrev given_after : State T → Action T → NewNames → Names
   given_after S (MakeShared o v l) new = set.insert (set.insert S.given new.first) new.second
   given_after S _ new = set.insert S.given new.first
 
@@ -98,11 +98,11 @@ module _ {T : Type 0} where
   making S (MakeShared o v l) h = making_if (is_known S o)
       (record { left = λ new. listed_given _ o _; unnamed = λ f h k. cc })
   making S (Refer o b) h = making_if (is_known S o) (making_unless
-      (read_trouble S b) (making_referred S o b (reach S b) (cell_at S (reach S b))))
+      (refusal_to_read S b) (making_referred S o b (reach S b) (cell_at S (reach S b))))
   making S _ h = absurd (true≢false (sym h))
 
   -- a call that is refused doesn't depend on the names
-  unnamed : (S : State T) (call : Action T) (f h : Fresh)
+  unnamed : (S : State T) (call : Action T) (f h : NewNames)
       → is_refusal (act S call f).0 ≡ true → act S call f ≡ act S call h
   unnamed S (Make o v l) f h k = (making S (Make o v l) refl).unnamed f h k
   unnamed S (MakeShared o v l) f h k = (making S (MakeShared o v l) refl).unnamed f h k
@@ -112,7 +112,7 @@ module _ {T : Type 0} where
   -- a call wants memory or tickets, or does what the machine does with names that were never given
   meets_fresh : {P : Type 0} (S R : State T) (call : Action T) (answer : Answer T)
       → ((e : StoreError) → want e ≡ Some e → ◌≡◌ {A = Outcome T} (answer, R) (Refused e, S) → P)
-      → ((new : Fresh) → AreFresh S call new → (answer, R) ≡ act S call new → P)
+      → ((new : NewNames) → AreFresh S call new → (answer, R) ≡ act S call new → P)
       → Meets S call answer R → P
   meets_fresh {P} S R call answer wanting acting (inl m) = cond_both (takes_ticket
       (act S call m.0).0 && nat_eq S.next last_ticket) (Refused error.NumbersExhausted, S)
@@ -132,7 +132,7 @@ module _ {T : Type 0} where
   refusal_same : (f h : Name → Name) (d n : ℕ) (Knows : Name → Type 0) (answer : Answer T)
       → is_refusal answer ≡ true → KnowsAnswer Knows n answer
       × (rename_answer h d (λ (v : T). v) n answer ≡ rename_answer f d (λ (v : T). v) n answer)
-  refusal_same f h d n Knows (Troubled t) r = (tt, refl)
+  refusal_same f h d n Knows (BorrowRefused t) r = (tt, refl)
   refusal_same f h d n Knows (Refused e) r = (tt, refl)
   refusal_same f h d n Knows _ r = absurd (true≢false (sym r))
 
@@ -197,7 +197,7 @@ module _ {T : Type 0} {s a : SessionState T} (m : Matches s a) where
             known = same.0;
           })) (ap (λ (R : State T). R.given) kept_s) (ap (λ (R : State T). R.given) kept_a)
 
-  asks_step : (x : Call T) (action : Action T) (new : Fresh) → KnowsCall
+  asks_step : (x : Call T) (action : Action T) (new : NewNames) → KnowsCall
       (IsNumberBelow (length m.order)) a.state.number action → AreFresh s.state (mine action) new
       → Settled x (act s.state (mine action) new) (act a.state action (next_numbers a))
   asks_step x (Make o v l) new k unused =

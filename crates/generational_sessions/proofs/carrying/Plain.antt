@@ -1,10 +1,10 @@
 -- A call does the same to a state without its values, and is answered the same without values.
 use Rattle.generational_sessions.proofs.sessions
-use sessions.{◌≡◌, list_map, eqb-true, name_cmp, add_cell, Troubled, may_lack, KnowsCall, act_start}
-use sessions.{ℕ, content_at, KnowsFresh, map_action, map_answer, rename_box, bare_cells, plain_call}
+use sessions.{◌≡◌, list_map, eqb-true, name_cmp, add_cell, BorrowRefused, may_lack, KnowsCall, act_start}
+use sessions.{ℕ, content_at, KnowsNewNames, map_action, map_answer, rename_box, bare_cells, plain_call}
 use sessions.{◌+◌, ◌∷◌, Some, refl, sym, ap, ◌∙◌, inl, inr, Name, Cell, act, Made, Done, bare}
-use sessions.{cond, ◌&&◌, List, None, reach, fresh, Fresh, Owned, Reads, IsNew, Takes, Meets, plain}
-use sessions.{[], is_some, NameMap, Content, Trouble, Outcome, cell_at, Refused, no_names, renaming}
+use sessions.{cond, ◌&&◌, List, None, reach, fresh, NewNames, Owned, Reads, IsNew, Takes, Meets, plain}
+use sessions.{[], is_some, NameMap, Content, BorrowRefusal, Outcome, cell_at, Refused, no_names, renaming}
 use sessions.{Option, content_of, last_ticket, rename_cell, rename_guard, shift_owner, plain_answer}
 use sessions.{subst, arith, nat_eq, nat_lt, map-id, State, Guard, Action, Answer, AreNew, Carries}
 use sessions.{⊎_elim, eq_by_cmp, cond_both, Ownership, OwnerName, answer_to, name_exact, name_total}
@@ -101,7 +101,7 @@ module _ {T : Type 0} where
   all_calls number Action.NewOwner = tt
   all_calls number _ = assumption tt
 
-  all_fresh : (call : Action T) (new : Fresh) → KnowsFresh Any call new
+  all_fresh : (call : Action T) (new : NewNames) → KnowsNewNames Any call new
   all_fresh Action.NewOwner new = tt
   all_fresh _ new = assumption tt
 
@@ -119,7 +119,7 @@ module _ {T : Type 0} where
   plain_out out = (plain_answer out.0, plain out.1)
 
   -- a call of the plain state answers alike and leaves the plain state after
-  pub plain_act : (S : State T) (call : Action T) (new : Fresh)
+  pub plain_act : (S : State T) (call : Action T) (new : NewNames)
       → act (plain S) (plain_call call) new ≡ plain_out (act S call new)
   plain_act S call new = let same = same_mapping S.number in
       let out = subst (λ m. Matched
@@ -134,7 +134,7 @@ module _ {T : Type 0} where
   plain_ticket Done = refl
   plain_ticket _ = refl
 
-  plain_limited : (S : State T) (call : Action T) (new : Fresh) → limit_tickets
+  plain_limited : (S : State T) (call : Action T) (new : NewNames) → limit_tickets
       (plain S) (act (plain S) (plain_call call) new) ≡ plain_out (limit_tickets S (act S call new))
   plain_limited S call new = let out = act S call new in
       rw (plain_act S call new, plain_ticket out.0) (cond_map plain_out
@@ -150,13 +150,13 @@ module _ {T : Type 0} where
   plain_free S = λ i. map.len (map.retain_keys (slots_of S) (λ s. plain_is_free S s i))
 
   plain_new : (S : State T) (n : Name) → IsNew S n → IsNew (plain S) n
-  plain_new S n new = record { fresh = new.fresh; fits = at new.fits }
+  plain_new S n new = record { ungiven = new.ungiven; fits = at new.fits }
     where
       at : Fits S n → Fits (plain S) n
       at (inl h) = inl (plain_free S ∙ h.0, h.1, h.2)
       at (inr h) = inr (h.0, plain_is_free S n.slot ∙ h.1, h.2)
 
-  plain_are_new : (S : State T) (call : Action T) (f : Fresh)
+  plain_are_new : (S : State T) (call : Action T) (f : NewNames)
       → AreNew S call f → AreNew (plain S) (plain_call call) f
   plain_are_new S (Action.Make o v l) f new = plain_new S f.first new
   plain_are_new S (Action.MakeShared o v l) f new =
@@ -168,7 +168,7 @@ module _ {T : Type 0} where
   plain_are_new S (Action.Refer o b) f new = plain_new S f.first new
   plain_are_new S _ f new = tt
 
-  plain_takes : (S : State T) (call : Action T) (answer : Answer T) (f : Fresh)
+  plain_takes : (S : State T) (call : Action T) (answer : Answer T) (f : NewNames)
       → Takes S call answer f → Takes (plain S) (plain_call call) (plain_answer answer) f
   plain_takes S call (Made b) f t = plain_are_new S call f t
   plain_takes S call _ f t = tt
@@ -192,7 +192,7 @@ module _ {T : Type 0} where
   plain_needs S (Made b) (Action.Refer None c) = ap (λ n. nat_eq n 0) (plain_free S)
   plain_needs S (Owned o) Action.NewOwner = refl
   plain_needs S (Reads g) (Action.Read b l) = plain_reached S b
-  plain_needs S (Troubled (Trouble.BeingRead readers)) call = refl
+  plain_needs S (BorrowRefused (BorrowRefusal.BeingRead readers)) call = refl
   plain_needs S _ _ = refl
 
   plain_lacks : (S : State T) (call : Action T)

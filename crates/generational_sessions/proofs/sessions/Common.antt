@@ -1,6 +1,6 @@
 -- The names that the proofs cite, passed on from one place.
 use Rattle.generational_core.proofs.machine.Common as core
-pub use core.{by_name, Trouble, Dropped, name_of, Content, Ref, IsEnded, cell_at, Outcome, list_any}
+pub use core.{by_name, BorrowRefusal, Dropped, name_of, Content, Ref, IsEnded, cell_at, Outcome, list_any}
 pub use core.{by_number, name_apart, name_cases, add_to_list, clone_owner, next_borrow, last_ticket}
 pub use core.{changed_view, read_refusal, hindrance_at, ReleaseWriter, limit_tickets, nat_cmp_total}
 pub use core.{contains-insert_here, contains-insert_name, contains-insert_old, GenerationalPointer}
@@ -14,10 +14,10 @@ pub use core.{name_exact, name_total, named_from, content_of, IsReleased, one_li
 pub use core.{Guard, take_ticket, has_same_id, location_of, cells_after, UnknownOwner, nat_eq_equiv}
 pub use core.{Cell, read_at, Refused, is_name, NameMap, IsGiven, IsSound, or_left, nat_cmp, is_none}
 pub use core.{refill, Shared, Here, Action, Answer, set_at, unless, Writes, Owners, AreNew, is_some}
-pub use core.{Value, one_more, add_cell, is_known, own_name, write_at, NewOwner, SetValue, Troubled}
+pub use core.{Value, one_more, add_cell, is_known, own_name, write_at, NewOwner, SetValue, BorrowRefused}
 pub use core.{Lent, make, Make, Read, Done, Flag, Made, Name, want, Bool, cond, false, List, subst}
 pub use core.{fresh, name_cmp, is_named, no_names, Location, cases_lt, eqb-true, or_cases, or_right}
-pub use core.{close, Fresh, point, refer, Borrow, Option, ⊎_elim, eq-eqb, filter, nat_eq, nat_lt}
+pub use core.{close, NewNames, point, refer, Borrow, Option, ⊎_elim, eq-eqb, filter, nat_eq, nat_lt}
 pub use core.{hindrance_of, knows_reader, knows_writer, ReleaseOwner, needs_memory, takes_ticket, ℕ}
 pub use core.{act, End, Old, inl, inr, None, not, refl, Some, sym, true, ◌++◌, ◌+◌, ◌<◌, ◌||◌, OnOk}
 pub use core.{has_writer, CloneOwner, MakeShared, content_at, tickets_of, StoreError, cases_Bool}
@@ -45,9 +45,9 @@ pub use Rattle.generational_core.specs.declared.error.StoreError.TheVariants.{Ou
 pub use Rattle.generational_core.specs.{Boxes.name_in, Machine.own_cell, Machine.turn}
 pub use Rattle.generational_core.specs.{Machine.Answer.Back, Names.change_if, Steps.answer_to}
 use Rattle.generational_sessions.specs
-pub use specs.Carrying.{Carries, CarriesCells, KnowsAnswer, KnowsBox, KnowsCall, KnowsFresh}
+pub use specs.Carrying.{Carries, CarriesCells, KnowsAnswer, KnowsBox, KnowsCall, KnowsNewNames}
 pub use specs.Carrying.{KnowsGuard, map_action, map_answer, rename_action, rename_answer}
-pub use specs.Carrying.{rename_box, rename_cell, rename_content, rename_fresh, rename_guard}
+pub use specs.Carrying.{rename_box, rename_cell, rename_content, rename_new_names, rename_guard}
 pub use specs.Carrying.{rename_ownership, renaming, shift_borrow, shift_owner}
 pub use specs.History.{bare, plain, plain_answer, plain_call, without_values}
 pub use specs.Numbered.{answers, AnswersAs, AreListed, AreNumbersBelow, CarriesSession}
@@ -80,7 +80,7 @@ pub use Rattle.std.proofs.{lemmas.List.Sums.sum_by_push, lemmas.Option.gets}
 pub use Rattle.std.proofs.{lemmas.Option.none-some}
 pub use Rattle.std.specs.Prelude.{is_err, map as list_map, map}
 pub use Rattle.std.specs.{Cmp.unsigned_tied, List.count_by}
-unfoldable pub use proofs.machine.Common.{reach, read_trouble, write_trouble, hindrance_to, sweep}
+unfoldable pub use proofs.machine.Common.{reach, refusal_to_read, refusal_to_write, hindrance_to, sweep}
 unfoldable pub use proofs.machine.Common.{take_away, change, may_lack, IsDistinct}
 unfoldable pub use Rattle.generational_core.specs.Slots.{lasts}
 unfoldable pub use specs.History.{bare_cells}

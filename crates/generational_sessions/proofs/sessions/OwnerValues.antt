@@ -3,12 +3,12 @@
 use Rattle.generational_sessions.proofs.sessions.Common
 use Common.{◌≡◌, Option, ⊎_elim, nat_eq, nat_lt, Action, Answer, Outcome, cell_at, read_at, Refused}
 use Common.{◌≢◌, ◌+◌, ◌≤◌, sym, ap, ◌∙◌, inl, inr, act, Old, Flag, Back, Held}
-use Common.{ℕ, name_of, Content, IsSound, Trouble, is_known, own_name, own_cell, write_at, Troubled}
+use Common.{ℕ, name_of, Content, IsSound, BorrowRefusal, is_known, own_name, own_cell, write_at, BorrowRefused}
 use Common.{Bool, true, cond, None, Some, refl, Name, Cell, turn, Made, Reads, Done, Meets, gives}
 use Common.{false, eqb-true, Location, count_in, one_less, one_more, add_cell, by_number, key_cases}
-use Common.{[], nat_eq_equiv, UnknownOwner, read_trouble, hindrance_to, remove_reader, changed_view}
-use Common.{subst, arith, State, reach, close, Fresh, unless, refer, set_at, point, Owned, Writes}
-use Common.{is_some, write_trouble, release_owner, set_ownership, get-insert_here, get-remove_apart}
+use Common.{[], nat_eq_equiv, UnknownOwner, refusal_to_read, hindrance_to, remove_reader, changed_view}
+use Common.{subst, arith, State, reach, close, NewNames, unless, refer, set_at, point, Owned, Writes}
+use Common.{is_some, refusal_to_write, release_owner, set_ownership, get-insert_here, get-remove_apart}
 use Common.{true≢false, false_from_ne_true, NumbersExhausted, GenerationalPointer, get-insert_apart}
 use Common.{ltb-false, OutOfMemory, has_same_id, count_under, add_to_list, clone_owner, holds_owner}
 use Common.{none-some, is_name, content_of, Ownership, content_at, one_listed, OwnerName, ownership}
@@ -71,10 +71,10 @@ module _ {T : Type 0} where
     counts_if true h k = h
     counts_if false h k = k
 
-    counts_unless : (o : Option Trouble) {x : Outcome T} → Counts S call x
+    counts_unless : (o : Option BorrowRefusal) {x : Outcome T} → Counts S call x
         → Counts S call (unless o S x)
     counts_unless None h = h
-    counts_unless (Some t) h = same (Troubled t) refl
+    counts_unless (Some t) h = same (BorrowRefused t) refl
 
     counts_read : (l : Location) (m : Option Name) (c : Option (Content T))
         → Counts S call (read_at S l m c)
@@ -98,11 +98,11 @@ module _ {T : Type 0} where
         (c : Option (Cell T)) (n : Name) → Counts S call (refer S o b m c n)
     counts_refer o b (Some m) (Some (Cell.Shared c l)) n =
         counts_made (add_cell S n (Cell.Ref m l)) o n _ refl
-    counts_refer o b m c n = same (Troubled (Trouble.Dropped b.created_at)) refl
+    counts_refer o b m c n = same (BorrowRefused (BorrowRefusal.Dropped b.created_at)) refl
 
     counts_set : (b : GenerationalPointer) (v : T) (m : Option Name) (c : Option (Content T))
         → Counts S call (set_at S b v m c)
-    counts_set b v None c = same (Troubled (Trouble.Dropped b.created_at)) refl
+    counts_set b v None c = same (BorrowRefused (BorrowRefusal.Dropped b.created_at)) refl
     counts_set b v (Some m) (Some (Content.Here old [])) =
         quiet _ (Old old) refl (λ key. omega arith)
     counts_set b v (Some m) c = same (Back v) refl
@@ -113,10 +113,10 @@ module _ {T : Type 0} where
 
     counts_point : (a b : GenerationalPointer) (c : Option (Cell T)) (m : Option Name)
         (d : Option (Cell T)) → Counts S call (point S a b c m d)
-    counts_point a b None m d = same (Troubled (Trouble.Dropped a.created_at)) refl
+    counts_point a b None m d = same (BorrowRefused (BorrowRefusal.Dropped a.created_at)) refl
     counts_point a b (Some (Cell.Ref old l)) (Some new) (Some (Cell.Shared c k)) =
         counts_turn (name_of a) old new l
-    counts_point a b (Some c) m d = same (Troubled _) refl
+    counts_point a b (Some c) m d = same (BorrowRefused _) refl
 
     counts_unread : (n : Name) (t : ℕ) (c : Option (Content T))
         → Counts S call (Flag true, remove_reader S n t c)
@@ -147,7 +147,7 @@ module _ {T : Type 0} where
     own = own;
   }
 
-  counts_new : (S : State T) (f : Fresh) → IsSound S
+  counts_new : (S : State T) (f : NewNames) → IsSound S
       → Counts S Action.NewOwner (act S Action.NewOwner f)
   counts_new S f sound = let h : Ownership = record { names = []; count = 1 } in
       let zero = none_next S sound in let one = itself S.next in
@@ -188,22 +188,22 @@ module _ {T : Type 0} where
           record_counts S left (Action.ReleaseOwner o) Done o.key (λ p e. cc) (λ key. omega arith)
           (get-remove_apart by_number S.owners o.key) (omega arith))
 
-  act_counts : (S : State T) (call : Action T) (f : Fresh) → IsSound S
+  act_counts : (S : State T) (call : Action T) (f : NewNames) → IsSound S
       → Counts S call (act S call f)
   act_counts S (Action.Make o v l) f sound =
       counts_if (is_known S o) (counts_made _ o f.first _ refl) (same _ refl)
   act_counts S (Action.MakeShared o v l) f sound =
       counts_if (is_known S o) (counts_made _ o f.second _ refl) (same _ refl)
   act_counts S (Action.Refer o b) f sound = counts_if (is_known S o)
-      (counts_unless (read_trouble S b)
+      (counts_unless (refusal_to_read S b)
       (counts_refer o b (reach S b) (cell_at S (reach S b)) f.first)) (same _ refl)
   act_counts S Action.NewOwner f sound = counts_new S f sound
   act_counts S (Action.CloneOwner o) f sound = counts_cloned S o (ownership S o) refl
   act_counts S (Action.ReleaseOwner o) f sound = counts_released S o (ownership S o) refl
   act_counts S (Action.LeakOwner o) f sound = same Done refl
-  act_counts S (Action.Read b l) f sound = counts_unless (read_trouble S b)
+  act_counts S (Action.Read b l) f sound = counts_unless (refusal_to_read S b)
       (counts_read l (reach S b) (content_of (cell_at S (reach S b))))
-  act_counts S (Action.Write b l) f sound = counts_unless (write_trouble S b)
+  act_counts S (Action.Write b l) f sound = counts_unless (refusal_to_write S b)
       (counts_write l (reach S b) (content_of (cell_at S (reach S b))))
   act_counts S (Action.ReleaseReader g) f sound = counts_if _
       (counts_unread g.cell g.ticket (content_at S g.cell)) (same (Flag false) refl)
@@ -214,7 +214,7 @@ module _ {T : Type 0} where
   act_counts S (Action.SetValue b v) f sound =
       counts_set b v (reach S b) (content_of (cell_at S (reach S b)))
   act_counts S (Action.Point a b) f sound = counts_if (has_same_id a b) (same Done refl)
-      (counts_unless (read_trouble S b)
+      (counts_unless (refusal_to_read S b)
       (counts_point a b (own_cell S a.id) (reach S b) (cell_at S (reach S b))))
   act_counts S (Action.CanRead b) f sound = same (Flag _) refl
   act_counts S (Action.CanWrite b) f sound = same (Flag _) refl

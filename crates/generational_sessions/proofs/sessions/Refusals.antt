@@ -4,16 +4,16 @@ use Common.{◌≡◌, hindrance_to, knows_reader, knows_writer, ReleaseOwner, S
 use Common.{Bool, true, cond, None, Some, refl, [], ◌&&◌, Call, Name, Cell, Here, turn, Make, wants}
 use Common.{false, nat_eq, nat_lt, eq-eqb, Shared, Action, Answer, unless, set_at, settle, Nothing}
 use Common.{Option, cell_at, read_at, CanRead, Refused, refuses, Request, Settles, refusal, release}
-use Common.{sym, subst, reach, Fresh, point, refer, Refer, Write, Point, gives, spend, State, Meets}
+use Common.{sym, subst, reach, NewNames, point, refer, Refer, Write, Point, gives, spend, State, Meets}
 use Common.{ap, true≢false, StoreError, content_of, MakeShared, CloneOwner, refusal_in, last_ticket}
 use Common.{◌∙◌, inl, inr, Ref, act, Read, End, Done, Flag, Back, want, Held, ask, Asks}
 use Common.{cond_both, and_parts, none-some, name_of, OwnerName, is_release, with_owner, is_refusal}
 use Common.{eqb-true, ownership, LeakOwner, TellsLack, add_place, Ownership, answer_to, is_making}
-use Common.{NumbersExhausted, GenerationalPointer, write_trouble, TellsExhaustion, RefusalLeavesAll}
+use Common.{NumbersExhausted, GenerationalPointer, refusal_to_write, TellsExhaustion, RefusalLeavesAll}
 use Common.{OutOfMemory, is_name, has_same_id, clone_owner, SessionStep, needs_memory, takes_ticket}
-use Common.{UnknownOwner, read_trouble, release_owner, ReleaseReader, ReleaseWriter, limit_tickets}
-use Common.{Location, Trouble, is_known, own_cell, own_name, write_at, NewOwner, SetValue, CanWrite}
-use Common.{Dropped, Content, Outcome, Troubled, at_place, owner_in, reply_of, may_lack, no_names}
+use Common.{UnknownOwner, refusal_to_read, release_owner, ReleaseReader, ReleaseWriter, limit_tickets}
+use Common.{Location, BorrowRefusal, is_known, own_cell, own_name, write_at, NewOwner, SetValue, CanWrite}
+use Common.{Dropped, Content, Outcome, BorrowRefused, at_place, owner_in, reply_of, may_lack, no_names}
 use Rattle.generational_core.proofs.machine.Refusing.{IsAnswered, act_answered, answered_still}
 use Rattle.generational_core.proofs.machine.Refusing.IsAnswered.{troubled, unknown, back, goes}
 use Rattle.generational_core.specs.Leaving.{refuses as is_refused}
@@ -31,7 +31,7 @@ module _ {T : Type 0} where
     back_given : (v : T) → Goes (Back v)
 
   abbrev AlwaysGoes : State T → Request T → Type 0
-  AlwaysGoes S (Asks action) = (new : Fresh) → Goes (limit_tickets S (act S action new)).0
+  AlwaysGoes S (Asks action) = (new : NewNames) → Goes (limit_tickets S (act S action new)).0
   AlwaysGoes S _ = Unit {0}
 
   needs_nothing : (S : State T) (action : Action T) (answer : Answer T)
@@ -95,7 +95,7 @@ module _ {T : Type 0} where
   tell c _ = (refl, refl)
 
   gives_nothing : (answer : Answer T) → is_refusal answer ≡ true → gives answer ≡ Nothing
-  gives_nothing (Troubled t) refused = refl
+  gives_nothing (BorrowRefused t) refused = refl
   gives_nothing (Refused e) refused = refl
   gives_nothing _ refused = absurd (true≢false (sym refused))
 
@@ -111,7 +111,7 @@ module _ {T : Type 0} where
   still S out how refused = answered_still S out how (told out.0 refused)
     where
       told : (answer : Answer T) → is_refusal answer ≡ true → is_refused answer ≡ true
-      told (Troubled t) h = refl
+      told (BorrowRefused t) h = refl
       told (Refused e) h = refl
       told _ h = absurd (true≢false (sym h))
 
@@ -133,7 +133,7 @@ module _ {T : Type 0} where
   refer_ticket S o b (Some m) (Some (Shared c l)) n = refl
   refer_ticket S o b m c n = refl
 
-  unless_ticket : (S : State T) (t : Option Trouble) (x : Outcome T)
+  unless_ticket : (S : State T) (t : Option BorrowRefusal) (x : Outcome T)
       → takes_ticket x.0 ≡ false → takes_ticket (unless t S x).0 ≡ false
   unless_ticket S None x h = h
   unless_ticket S (Some t) x h = refl
@@ -143,16 +143,16 @@ module _ {T : Type 0} where
   known_ticket S true x h = h
   known_ticket S false x h = refl
 
-  making_ticket : (S : State T) (action : Action T) (f : Fresh) → is_making action ≡ true
+  making_ticket : (S : State T) (action : Action T) (f : NewNames) → is_making action ≡ true
       → takes_ticket (act S action f).0 ≡ false
   making_ticket S (Make o v l) f making = known_ticket S (is_known S o) _ refl
   making_ticket S (MakeShared o v l) f making = known_ticket S (is_known S o) _ refl
   making_ticket S (Refer o b) f making = known_ticket S (is_known S o) _ (unless_ticket S
-      (read_trouble S b) _ (refer_ticket S o b (reach S b) (cell_at S (reach S b)) f.first))
+      (refusal_to_read S b) _ (refer_ticket S o b (reach S b) (cell_at S (reach S b)) f.first))
   making_ticket S _ f making = absurd (true≢false (sym making))
 
   -- whether a call takes a ticket doesn't depend on the names that it takes
-  same_ticket : (S : State T) (action : Action T) (f : Fresh)
+  same_ticket : (S : State T) (action : Action T) (f : NewNames)
       → takes_ticket (act S action f).0 ≡ takes_ticket (act S action no_names).0
   same_ticket S (Make o v l) f =
       making_ticket S (Make o v l) f refl ∙ sym (making_ticket S (Make o v l) no_names refl)
@@ -166,7 +166,7 @@ module _ {T : Type 0} where
   abbrev IsLast : State T → Action T → Type 0
   IsLast S action = (takes_ticket (act S action no_names).0 ≡ true) × (S.next ≡ last_ticket)
 
-  limited : (S : State T) (action : Action T) (f : Fresh) → IsLast S action
+  limited : (S : State T) (action : Action T) (f : NewNames) → IsLast S action
       → limit_tickets S (act S action f) ≡ (Refused NumbersExhausted, S)
   limited S action f last = λ i. cond ((same_ticket S action f ∙ last.0) i
       && eq-eqb S.next last_ticket last.1 i) (Refused NumbersExhausted, S) (act S action f)

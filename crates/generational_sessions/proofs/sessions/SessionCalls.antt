@@ -2,7 +2,7 @@
 use Rattle.generational_sessions.proofs.sessions
 use sessions.{◌≡◌, ◌≢◌, suc, ◌∷◌, sym, ap, ◌∙◌, inl, inr, Ok, Err, act, Run, ask, ABox, asks}
 use sessions.{ℕ, fresh_kept, map-append, append-nil, set-get_or, as_replies, session_in, as_refusal}
-use sessions.{zero, name_in, Trouble, Outcome, IsFresh, Request, Settles, replace, Writing, Nothing}
+use sessions.{zero, name_in, BorrowRefusal, Outcome, IsFresh, Request, Settles, replace, Writing, Nothing}
 use sessions.{Bool, true, cond, List, ◌++◌, None, Some, refl, OnOk, Call, Made, Flag, Done, Held}
 use sessions.{false, may_lack, no_names, at_place, box_held, with_box, reply_of, if_ready, NeedsBox}
 use sessions.{[], back_answer, SessionReply, meets_number, held_changed, session_kept, takes_no_box}
@@ -12,10 +12,10 @@ use sessions.{subst, BoxAt, Place, Action, Answer, unless, box_in, Owning, IsDon
 use sessions.{⊎_elim, Result, is_err, nat_eq, nat_lt, Unready, ComesTo, by_step, map-set, as_held}
 use sessions.{reverse, end_refused, SessionStep, GivesNewBox, AllTellEnds, ended_reply, ended_write}
 use sessions.{append_assoc, hindrance_to, limit_tickets, needs_memory, SessionState, session_ended}
-use sessions.{list_map, can_read, Troubled, add_place, TellsEnds, EndsOwned, KeepBoxes, none-some}
+use sessions.{list_map, can_read, BorrowRefused, add_place, TellsEnds, EndsOwned, KeepBoxes, none-some}
 use sessions.{true≢false, GenerationalPointer, Refused as refuses, AllKeepPromises, reverse-reverse}
 use sessions.{Foreign, IsSound, IsGiven, name_of, comes_to, refusals, IsNewBox, as_reply, exchange}
-use sessions.{State, Fresh, Meets, gives, spend, Boxed, Error, tells, swaps, Reply, Thing, Gives}
+use sessions.{State, NewNames, Meets, gives, spend, Boxed, Error, tells, swaps, Reply, Thing, Gives}
 use sessions.{pointer_of, IsReleased, owner_held, with_owner, ended_read, meets_says, meets_given}
 use Rattle.generational_core.proofs.machine.Releasing.{box_ends, box_stays, shared_ends}
 use Rattle.generational_core.proofs.machine.Releasing.{shared_stays, listed_boxed, last_cells}
@@ -52,10 +52,10 @@ module _ {T : Type 0} where
   answers_ended : (s r : SessionState T) (c : Call T) (x : SessionReply T)
       (o : Option GenerationalPointer) (action : GenerationalPointer → Action T)
       (b : GenerationalPointer)
-      → ((new : Fresh)
-      → act s.state (action b) new ≡ (Troubled (Trouble.Dropped b.created_at), s.state))
+      → ((new : NewNames)
+      → act s.state (action b) new ≡ (BorrowRefused (BorrowRefusal.Dropped b.created_at), s.state))
       → o ≡ Some b → Settles s c (with_box o None (λ b. Request.Asks (action b))) x r
-      → x ≡ Error (Trouble.Dropped b.created_at)
+      → x ≡ Error (BorrowRefusal.Dropped b.created_at)
   unfolding may_lack
   answers_ended s r c x o action b acts is step =
       let it : Settles s c (Request.Asks (action b)) x r =
@@ -63,7 +63,7 @@ module _ {T : Type 0} where
       reply_is s r c x (action b) _ it (answer_is it.0 it.1 it.2)
     where
       answer_is : (answer : Answer T) (R : State T) → Meets s.state (action b) answer R
-          → answer ≡ Troubled (Trouble.Dropped b.created_at)
+          → answer ≡ BorrowRefused (BorrowRefusal.Dropped b.created_at)
       answer_is answer R (inl m) =
           ap (λ (out : Outcome T). out.0) (m.2 ∙ ap (limit_tickets s.state) (acts m.0))
       answer_is answer R (inr m) = absurd (true≢false (sym m.0 ∙ ap (λ (out : Outcome T).
@@ -129,7 +129,7 @@ module _ {T : Type 0} where
   pub gives_new_box : (s r : SessionState T) (c : Call T) (x : SessionReply T)
       → SessionStep s c x r → GivesNewBox s x
   gives_new_box s r c x step b is =
-      let it = session_new s r c x step b is in record { number = it.number; fresh = it.fresh }
+      let it = session_new s r c x step b is in record { number = it.number; ungiven = it.ungiven }
 
   -- no reply gives a box of a name that was given before the run
   run_new : (calls : List (Call T)) (replies : List (SessionReply T)) (s r : SessionState T)
@@ -137,7 +137,7 @@ module _ {T : Type 0} where
       → slice_get replies i ≡ Some (ABox b) → IsGiven s.state (name_of b) → ⊥
   run_new [] [] s r run i b is given = cc
   run_new (c ∷ calls) (x ∷ replies) s r run zero b is given =
-      true≢false (sym given ∙ (session_new s run.0 c x run.1 b cc).fresh)
+      true≢false (sym given ∙ (session_new s run.0 c x run.1 b cc).ungiven)
   run_new (c ∷ calls) (x ∷ replies) s r run (suc i) b is given =
       run_new calls replies run.0 r run.2 i b is (by_step s run.0 c x (λ S. IsGiven S (name_of b))
       (λ S R action answer h meets. meets_given S R action answer meets (name_of b) h) run.1 given)
@@ -237,7 +237,7 @@ module _ {T : Type 0} where
   release_done S o None p e = cc
   release_done S o (Some h) p e = split (nat_lt 1 h.count) (hindrance_to S h.names) _ _ e
     where
-      split : (b : Bool) (t : Option Trouble) (less left : State T)
+      split : (b : Bool) (t : Option BorrowRefusal) (less left : State T)
           → let out = limit_tickets S (cond b (Done, less) (unless t S (Done, left))) in
           reply_of (call.ReleaseOwner p) out.0 ≡ IsDone → out.0 ≡ Done
       split true t less left e = refl

@@ -19,13 +19,13 @@ use Rattle.generational_slots.proofs.Common.{get-insert_name, contains-insert_na
 use Rattle.generational_slots.proofs.Common.{name_test, Empty, Live, Refers, Kind, Kept, Entry}
 use Rattle.generational_slots.proofs.Common.{cell_of, cells_of, given_of, state_of, cell_in}
 use Rattle.generational_slots.proofs.Common.{cell_at}
-use Rattle.generational_slots.proofs.Common.{given_in, is_spent, is_reusable, HasBegun, IsSlotted}
+use Rattle.generational_slots.proofs.Common.{given_in, is_spent, is_reusable, HasBegun, IsSlotTable}
 use Rattle.generational_slots.proofs.Common.{IsReferred, AreReferred, refers, how_many}
 use Rattle.generational_slots.proofs.Common.{change_entry}
 use Rattle.generational_slots.proofs.Common.{is_live, with_content, content_in, content_at, State}
 use Rattle.generational_slots.proofs.Common.{has_no_borrow}
-use Rattle.generational_slots.specs.Slotted.{change_content}
-use Rattle.generational_slots.proofs.Common.{Count, Inventory, Retirements, Slotted, count_of}
+use Rattle.generational_slots.specs.SlotsState.{change_content}
+use Rattle.generational_slots.proofs.Common.{Count, SlotTable, Retirements, SlotsState, count_of}
 use Rattle.generational_entries.specs.declared.entry.Kind.TheVariants as kind
 use Rattle.generational_containers.proofs.lists.Lists.{IsWritten, set_written, bit, passes}
 use Rattle.generational_containers.proofs.lists.Lists.{contains_own, contains-insert_at}
@@ -161,7 +161,7 @@ module _ {T : Type 0} {slots after : List (Entry T)} {i : ℕ} {t : Entry T}
 
 -- ---- what holds of the slots holds after a write
 
-module _ {T : Type 0} {p : Inventory T} (s : IsSlotted p) {after : List (Entry T)} {i : ℕ}
+module _ {T : Type 0} {p : SlotTable T} (s : IsSlotTable p) {after : List (Entry T)} {i : ℕ}
     {t : Entry T} (w : IsWritten p.slots after i t) where
   -- where the counts are right
   pub slotted : (free : set.FinSet nat_cmp) (rooms : ℕ) (counts : Count)
@@ -172,7 +172,7 @@ module _ {T : Type 0} {p : Inventory T} (s : IsSlotted p) {after : List (Entry T
       ≡ p.counts.usable + bit (is_live t.kept) + bit (is_spent t)
       → length after ≤ rooms → p.start ≤ t.generation → counts.usable ≤ counts.peak
       → counts.peak ≤ length after
-      → IsSlotted (record p { free = free; rooms = rooms; counts = counts; slots = after })
+      → IsSlotTable (record p { free = free; rooms = rooms; counts = counts; slots = after })
   slotted free rooms counts pooled stocked counted roomy begun few bounded =
       record {
         pooled = λ k. pooled k ∙ rw (w.at k) (by k (nat_eq k i));
@@ -196,7 +196,7 @@ module _ {T : Type 0} {p : Inventory T} (s : IsSlotted p) {after : List (Entry T
   -- where the slot is live, or free, as before
   pub slotted_still : {e : Entry T} → slice_get p.slots i ≡ Some e
       → t.generation ≡ e.generation → is_live t.kept ≡ is_live e.kept
-      → length after ≡ length p.slots → IsSlotted (record p { slots = after })
+      → length after ≡ length p.slots → IsSlotTable (record p { slots = after })
   slotted_still {e} there gen lives long =
       let spent : is_spent t ≡ is_spent e = λ j. not (lives j)
       && nat_lt (gen j) last_generation in
@@ -389,9 +389,9 @@ module _ {T : Type 0} {slots : List (Entry T)} {n : Name} (f : IsFound slots n) 
 
 -- ---- what holds of the slots holds after these changes
 
-module _ {T : Type 0} {p : Inventory T} (s : IsSlotted p) where
+module _ {T : Type 0} {p : SlotTable T} (s : IsSlotTable p) where
   pub slotted_changed : {n : Name} (f : IsHeld p.slots n) (h : Content T → Content T)
-      → IsSlotted (record p { slots = changed f h })
+      → IsSlotTable (record p { slots = changed f h })
   slotted_changed f h = slotted_still s (written f h) f.there refl refl (changed_length f h)
 
   -- the counts with one usable slot less
@@ -412,7 +412,7 @@ module _ {T : Type 0} {p : Inventory T} (s : IsSlotted p) where
         → ((k : ℕ) → set.contains now k ≡ cond (nat_eq k n.slot) spent (set.contains p.free k))
         → set.len now ≡ set.len p.free + bit spent → left + 1 ≡ p.counts.usable + bit spent
         → left ≤ p.counts.usable
-        → IsSlotted (record p {
+        → IsSlotTable (record p {
           free = now;
           counts = record p.counts { usable = left };
           slots = ended f;
@@ -427,7 +427,7 @@ module _ {T : Type 0} {p : Inventory T} (s : IsSlotted p) where
         (let b = s.bounded in omega arith)
 
     pub slotted_freed : n.generation < last_generation
-        → IsSlotted (record p { free = set.insert p.free n.slot; slots = ended f })
+        → IsSlotTable (record p { free = set.insert p.free n.slot; slots = ended f })
     slotted_freed below =
         let more : set.len (set.insert p.free n.slot) ≡ set.len p.free + 1 =
         set.len-insert nat_cmp_total p.free n.slot ∙ rw not_pooled refl in
@@ -437,7 +437,7 @@ module _ {T : Type 0} {p : Inventory T} (s : IsSlotted p) where
 
     -- a slot whose cell had the last generation is retired
     pub slotted_retired : last_generation ≤ n.generation
-        → IsSlotted (record p { counts = lowered; slots = ended f })
+        → IsSlotTable (record p { counts = lowered; slots = ended f })
     slotted_retired last =
         let one = some_live in
         slotted_by p.free (p.counts.usable - 1) false (le-ltb n.generation last_generation last)
@@ -520,9 +520,9 @@ module _ {T : Type 0} {S : State T} {start peak : ℕ} {slots : List (Entry T)}
       → IfSome (content_at S n) (λ c. state_of start peak (changed f h) ≡ fill S n (h c))
   filled_in f h = rw (← view, content_seen f) (state_changed f h start peak)
 
-pub state_is : {T : Type 0} {S : State T} {spare : ℕ} {now : Slotted T}
+pub state_is : {T : Type 0} {S : State T} {spare : ℕ} {now : SlotsState T}
     → record { state = S; spare = spare } ≡ now → S ≡ now.state
-state_is view = ap (λ (x : Slotted _). x.state) view
+state_is view = ap (λ (x : SlotsState _). x.state) view
 
 -- what holds of a result's two ways
 pub either : {A E : Type 0} (r : Result A E) {P Q X : Type 0} → OnOk r P → OnErr r Q → (P → X)

@@ -15,9 +15,9 @@ use Rattle.generational_entries.specs.declared.entry.StorageEntryData.TheVariant
 use Rattle.generational_entries.specs.Entries.{IsUnborrowed, kept_data, target_of}
 use Rattle.generational_entries.specs.Entry.{change_entry_if}
 use Rattle.generational_slots.proofs.Common.{AreReferred, Cell, CellName, Empty, Entry, HasTargets}
-use Rattle.generational_slots.proofs.Common.{Inventory, IsReferred, IsSlotted, Kept, Live, Location}
+use Rattle.generational_slots.proofs.Common.{SlotTable, IsReferred, IsSlotTable, Kept, Live, Location}
 use Rattle.generational_slots.proofs.Common.{Name, Ref}
-use Rattle.generational_slots.proofs.Common.{Kind, Shared, Slotted}
+use Rattle.generational_slots.proofs.Common.{Kind, Shared, SlotsState}
 use Rattle.generational_slots.proofs.Common.{StoreError, UnknownOwner, Value, cell_in, free}
 use Rattle.generational_entries.specs.Entry.{target_in}
 use Rattle.generational_core.specs.Machine.{OwnerName}
@@ -88,22 +88,22 @@ module _ {T : Type 0} where
             let p = ap (λ o. bit (passes (refers q) o)) there in omega (arith, c, p)
 
   -- what holds of the slots holds with other counts
-  module _ {p : Inventory T} (s : IsSlotted p) where
+  module _ {p : SlotTable T} (s : IsSlotTable p) where
     recounted_slotted : (i : ℕ) (f : Entry T → ℕ)
-        → IsSlotted (record p { slots = recounted p.slots i f })
+        → IsSlotTable (record p { slots = recounted p.slots i f })
     recounted_slotted i f = at (slice_get p.slots i) refl
       where
         at : (o : Option (Entry T)) → slice_get p.slots i ≡ o
-            → IsSlotted (record p { slots = recounted p.slots i f })
+            → IsSlotTable (record p { slots = recounted p.slots i f })
         at None there = rw there s
         at (Some e) there = slotted_still s (recounted_written p.slots i f e there) there refl refl
             (recounted_length p.slots i f)
 
-    pub more_slotted : (o : Option Name) → IsSlotted (record p { slots = count_more p.slots o })
+    pub more_slotted : (o : Option Name) → IsSlotTable (record p { slots = count_more p.slots o })
     more_slotted None = s
     more_slotted (Some m) = recounted_slotted m.slot (λ e. e.references + 1)
 
-    pub less_slotted : (o : Option Name) → IsSlotted (record p { slots = count_less p.slots o })
+    pub less_slotted : (o : Option Name) → IsSlotTable (record p { slots = count_less p.slots o })
     less_slotted None = s
     less_slotted (Some m) = recounted_slotted m.slot (λ e. e.references - 1)
 

@@ -6,14 +6,14 @@ use Rattle.std.specs.FinMap as map
 use Rattle.generational_core.proofs.machine.Closing.{close_one, one_hindered}
 use Rattle.generational_core.proofs.maps.Maps.{get-remove_apart}
 use Rattle.generational_entries.specs.Entry.{is_unborrowed_value, target_in}
-use Rattle.generational_slots.specs.Slotted.{refusal_of}
+use Rattle.generational_slots.specs.SlotsState.{refusal_of}
 use Rattle.generational_slots.proofs.Common.{Cell, IsLinked, Name, Ref, Shared, State, Value}
 use Rattle.generational_slots.proofs.Common.{by_name}
 use Rattle.generational_slots.proofs.Common.{cells_after, close, content_of, doomed_by}
 use Rattle.generational_slots.proofs.Common.{first_hindrance}
 unfoldable use Rattle.generational_slots.proofs.Common.{hindrance_to}
 use Rattle.generational_slots.proofs.Common.{is_named, is_shared, write_refusal, Location}
-use Rattle.generational_slots.proofs.Common.{Content, Trouble, content_at, has_no_borrow}
+use Rattle.generational_slots.proofs.Common.{Content, BorrowRefusal, content_at, has_no_borrow}
 use Rattle.generational_entries.proofs.states.Latest.{unrefused}
 use Rattle.std.proofs.Common.{is_none}
 
@@ -129,7 +129,7 @@ module _ {T : Type 0} where
         → (k : Content T) × (l : Location) × (c ≡ Some (Value k l)) × (write_refusal (Some k) ≡ None)
     own_value (Some (Value k l)) free = (k, l, refl, none (write_refusal (Some k)) free)
       where
-        none : (t : Option Trouble) → is_none t ≡ true → t ≡ None
+        none : (t : Option BorrowRefusal) → is_none t ≡ true → t ≡ None
         none None free = refl
         none (Some t) free = absurd (false≢true free)
     own_value None free = absurd (false≢true free)

@@ -15,7 +15,7 @@ use Rattle.generational_core.proofs.machine.Closing.{borrowed_end, first_borrowe
 use Rattle.generational_core.proofs.machine.Closing.{first_borrowed_end, first_hindered}
 use Rattle.generational_slots.proofs.Common.{AreReferred, Cell, CellName, Entry, HasTargets}
 use Rattle.generational_slots.proofs.Common.{IsLinked}
-use Rattle.generational_slots.proofs.Common.{Name, Trouble, leads_to, name_of_cell, take_away}
+use Rattle.generational_slots.proofs.Common.{Name, BorrowRefusal, leads_to, name_of_cell, take_away}
 use Rattle.generational_slots.proofs.Common.{NameMap, Ref, Shared, Value, cell_at, cell_of}
 use Rattle.generational_slots.proofs.Common.{cells_after, cells_of, content_in, content_of}
 use Rattle.generational_slots.proofs.Common.{doomed_by}
@@ -24,8 +24,8 @@ use Rattle.generational_slots.proofs.Common.{is_shared, name_here, refers, refer
 use Rattle.generational_slots.proofs.Common.{write_refusal, Kept, Empty, Live, Refers}
 use Rattle.generational_entries.specs.declared.entry.Kind.TheVariants as kind
 use Rattle.generational_entries.specs.Entry.{is_unborrowed_value, kind_in, target_in}
-use Rattle.generational_slots.specs.Slotted.{first_refusal, has_more_in, refers_among, refusal_of}
-use Rattle.generational_slots.specs.Slotted.{reaches_borrowed, with_more}
+use Rattle.generational_slots.specs.SlotsState.{first_refusal, has_more_in, refers_among, refusal_of}
+use Rattle.generational_slots.specs.SlotsState.{reaches_borrowed, with_more}
 use Rattle.generational_containers.proofs.lists.Lists.{bit}
 use Rattle.generational_slots.proofs.states.Recounts.{cells_off, many_more, referred_more}
 use Rattle.generational_slots.proofs.states.References.{HasSlot, among_within, count_of}
@@ -81,7 +81,7 @@ first_at p xs i some = by (nat_lt (position_or_len p xs) (length xs)) some
     by true e = cc
     by false e = absurd (none-some _ e)
 
-none_of : (t : Option Trouble) → is_some t ≡ false → t ≡ None
+none_of : (t : Option BorrowRefusal) → is_some t ≡ false → t ≡ None
 none_of None free = refl
 none_of (Some t) free = absurd (true≢false free)
 
@@ -104,7 +104,7 @@ module _ {T : Type 0} (slots : List (Entry T)) (told : Name → Bool) where
   abbrev borrowed : Name → Bool
   borrowed = reaches_borrowed slots
 
-  abbrev all : List Name → Option Trouble
+  abbrev all : List Name → Option BorrowRefusal
   all names = first_refusal (cells_of slots) told names
 
   from_first : (names : List Name) → all names ≡ all (drop (position_or_len borrowed names) names)
@@ -201,11 +201,11 @@ module _ {T : Type 0} where
       (first_refusal cells told rest)) (get_cells slots n)
       ∙ by told n _ (cell_at slots n) own (ap (reaches_borrowed slots) (sym is) ∙ found.1))))))
     where
-      some_or : (t u : Option Trouble) → is_some t ≡ true → option_or t u ≡ t
+      some_or : (t u : Option BorrowRefusal) → is_some t ≡ true → option_or t u ≡ t
       some_or None u is = absurd (false≢true is)
       some_or (Some t) u is = refl
 
-      by : (told : Name → Bool) (n : Name) (u : Option Trouble) (cell : Option (Cell T))
+      by : (told : Name → Bool) (n : Name) (u : Option BorrowRefusal) (cell : Option (Cell T))
           → Some kind.Value ≡ kind_in cell
           → is_some (refusal_of (cells_of slots) (leads_to cell n)) ≡ true
           → option_or (refusal_of (cells_of slots) (doomed_by told cell n)) u
@@ -322,7 +322,7 @@ module _ {T : Type 0} where
       ∙ (ap is_some (sym (refusal_there slots m s))
       ∙ ap (λ o. is_some (refusal_of (cells_of slots) o)) leads)
     where
-      some : (t : Option Trouble) → not (is_none t) ≡ is_some t
+      some : (t : Option BorrowRefusal) → not (is_none t) ≡ is_some t
       some None = refl
       some (Some t) = refl
 
@@ -331,7 +331,7 @@ module _ {T : Type 0} where
       → is_unborrowed_value (cell_at slots n) ≡ true → false ≡ reaches_borrowed slots n
   reached_free slots n free = by (cell_at slots n) refl free
     where
-      none : (t : Option Trouble) → is_none t ≡ true → false ≡ is_some t
+      none : (t : Option BorrowRefusal) → is_none t ≡ true → false ≡ is_some t
       none None free = refl
       none (Some t) free = absurd (false≢true free)
 

@@ -15,7 +15,7 @@ use Rattle.generational_core.specs.Machine.{add_cell}
 use Rattle.generational_slots.proofs.Common.{Cell, IsNew, free, last_generation, Empty}
 use Rattle.generational_slots.proofs.Common.{Live, Refers, Kept, Entry, cell_of, cell_in, cells_of}
 use Rattle.generational_slots.proofs.Common.{given_in, how_many, is_live, is_spent, is_reusable}
-use Rattle.generational_slots.proofs.Common.{Count, Inventory, IsSlotted, Retirements, State}
+use Rattle.generational_slots.proofs.Common.{Count, SlotTable, IsSlotTable, Retirements, State}
 use Rattle.generational_slots.proofs.Common.{count_of, state_of}
 use Rattle.generational_containers.proofs.lists.Lists.{IsWritten, set_written, push_written, passes}
 use Rattle.generational_containers.proofs.lists.Lists.{cond_same, contains-remove_at, not_left}
@@ -36,7 +36,7 @@ one_made r made few =
     ≡ max (count_of r made).peak ((count_of r made).usable + 1) = omega arith in
     λ j. record { usable = one j; peak = most j }
 
-module _ {T : Type 0} {p : Inventory T} (s : IsSlotted p) where
+module _ {T : Type 0} {p : SlotTable T} (s : IsSlotTable p) where
   -- the state for which the slots stand
   abbrev before : State T
   before = state_of p.start p.counts.peak p.slots
@@ -160,7 +160,7 @@ module _ {T : Type 0} {p : Inventory T} (s : IsSlotted p) where
               → (leb p.start h && leb h g) ≡ (nat_eq h g || (leb p.start h && leb h last))
           at_next h last g is le = grind (arith, nat_tests)
 
-      pub slotted_reused : IsSlotted (record p {
+      pub slotted_reused : IsSlotTable (record p {
         free = set.remove p.free i;
         slots = slice_set p.slots i next_entry;
       })
@@ -212,7 +212,7 @@ module _ {T : Type 0} {p : Inventory T} (s : IsSlotted p) where
           at_first : (h : ℕ) → (leb p.start h && leb h p.start) ≡ (nat_eq h p.start || false)
           at_first h = grind (arith, nat_tests)
 
-      pub slotted_pushed : (more : ℕ) → length p.slots < more → IsSlotted (record p {
+      pub slotted_pushed : (more : ℕ) → length p.slots < more → IsSlotTable (record p {
         rooms = more;
         counts = raised;
         slots = p.slots ++ first_entry ∷ [];

@@ -9,7 +9,7 @@ use Rattle.generational_core.specs.declared.error.BorrowMutError.TheVariants as 
 use Rattle.generational_core.specs.declared.error.Refused.{Refused}
 use Rattle.generational_core.specs.declared.error.Refused.TheVariants as refused
 use Rattle.generational_entries.specs.Entry.{target_in}
-use Rattle.generational_slots.specs.Slotted.{Turns}
+use Rattle.generational_slots.specs.SlotsState.{IsTurned}
 use Rattle.generational_slots.proofs.Common.{BorrowMutError, Cell, Location, Name, Ref, Shared}
 use Rattle.generational_slots.proofs.Common.{State, Value, content_of, is_shared, location_of}
 
@@ -27,7 +27,7 @@ module _ {T : Type 0} where
     -- nothing is there
     pub points_gone : (own target : Option (Cell T)) → None ≡ target_in own
         → false ≡ is_some (content_of own)
-        → Turns S S (dropped_answer k) (point S (box_of 0 n k) b own (Some m) target)
+        → IsTurned S S (dropped_answer k) (point S (box_of 0 n k) b own (Some m) target)
     points_gone None target none gone = (refl, refl)
     points_gone (Some (Value c l)) target none gone = absurd (false≢true gone)
     points_gone (Some (Shared c l)) target none gone = absurd (false≢true gone)
@@ -37,7 +37,7 @@ module _ {T : Type 0} where
       -- a value is there, which is no reference
       pub points_value : (own target : Option (Cell T)) → location_of target ≡ Some l
           → None ≡ target_in own → true ≡ is_some (content_of own)
-          → Turns S S (dropped_answer l) (point S (box_of 0 n k) b own (Some m) target)
+          → IsTurned S S (dropped_answer l) (point S (box_of 0 n k) b own (Some m) target)
       points_value None target at none there = absurd (true≢false there)
       points_value (Some (Value c i)) target at none there = rw at (refl, refl)
       points_value (Some (Shared c i)) target at none there = rw at (refl, refl)
@@ -46,7 +46,7 @@ module _ {T : Type 0} where
       -- a reference is there, but the other value isn't shared
       pub points_plain : (own target : Option (Cell T)) (old : Name)
           → location_of target ≡ Some l → Some old ≡ target_in own → false ≡ is_shared target
-          → Turns S S (dropped_answer l) (point S (box_of 0 n k) b own (Some m) target)
+          → IsTurned S S (dropped_answer l) (point S (box_of 0 n k) b own (Some m) target)
       points_plain (Some (Ref q i)) (Some (Value c j)) old at refers plain =
           let same : j ≡ l = cc in rw same (refl, refl)
       points_plain (Some (Ref q i)) (Some (Ref p j)) old at refers plain =
@@ -62,8 +62,8 @@ module _ {T : Type 0} where
     pub points_turn : (own target : Option (Cell T)) (old : Name) (R : State T)
         (result : Result (Unit {0}) (Refused BorrowMutError))
         → Some old ≡ target_in own → true ≡ is_shared target
-        → IfSome (location_of own) (λ l. Turns S R result (turn S n old m l))
-        → Turns S R result (point S (box_of 0 n k) b own (Some m) target)
+        → IfSome (location_of own) (λ l. IsTurned S R result (turn S n old m l))
+        → IsTurned S R result (point S (box_of 0 n k) b own (Some m) target)
     points_turn (Some (Ref q l)) (Some (Shared c i)) old R result refers shared turns =
         let same : old ≡ q = cc in rw same at turns
     points_turn (Some (Ref q l)) None old R result refers shared turns = absurd (true≢false shared)

@@ -5,14 +5,14 @@ use Rattle.std.proofs.Common.{slice_get}
 use Rattle.std.proofs.lemmas.Bool.{false≢true, true≢false}
 use Rattle.std.specs.FinMap as map
 use Rattle.generational_core.specs.Borrowing.{refusal_at}
-use Rattle.generational_core.specs.Borrowing.Trouble.{Dropped}
+use Rattle.generational_core.specs.Borrowing.BorrowRefusal.{Dropped}
 use Rattle.generational_entries.specs.Entry.{is_unborrowed_value, kind_in}
 use Rattle.generational_entries.specs.declared.entry.Kind.{Kind}
 use Rattle.generational_entries.specs.declared.entry.Kind.TheVariants as kind
-use Rattle.generational_slots.specs.Slotted.{content_reached, read_trouble_at, reached}
-use Rattle.generational_slots.specs.Slotted.{refer_trouble_at, shared_reached, write_trouble_at}
+use Rattle.generational_slots.specs.SlotsState.{content_reached, refusal_to_read_at, reached}
+use Rattle.generational_slots.specs.SlotsState.{refusal_to_refer_at, shared_reached, refusal_to_write_at}
 use Rattle.generational_slots.proofs.Common.{Cell, Content, Entry, IsLinked, Location, Name, Ref}
-use Rattle.generational_slots.proofs.Common.{Shared, State, Trouble, Value, cell_at, content_at}
+use Rattle.generational_slots.proofs.Common.{Shared, State, BorrowRefusal, Value, cell_at, content_at}
 use Rattle.generational_slots.proofs.Common.{Here, Lent, content_of, doomed_by, has_no_borrow}
 use Rattle.generational_slots.proofs.Common.{is_named}
 use Rattle.generational_slots.proofs.Common.{is_shared, leads_to, read_refusal, state_of}
@@ -58,27 +58,27 @@ module _ {T : Type 0} where
     module _ (n : Name) (l : Location) where
       -- how a call of a box is refused that reaches a cell
       module _ {m : Name} (to : Some m ≡ reached S n) where
-        pub read_to : read_trouble_at S n l ≡ read_refusal (content_at S m)
+        pub read_to : refusal_to_read_at S n l ≡ read_refusal (content_at S m)
         read_to = ap (λ o. refusal_at o l (λ m. read_refusal (content_at S m))) (sym to)
 
-        pub write_to : write_trouble_at S n l ≡ write_refusal (content_at S m)
+        pub write_to : refusal_to_write_at S n l ≡ write_refusal (content_at S m)
         write_to = ap (λ o. refusal_at o l (λ m. write_refusal (content_at S m))) (sym to)
 
       -- so is a reference, and also where what is reached isn't shared
-      pub refer_lent : (t : Trouble) → read_trouble_at S n l ≡ Some t
-          → refer_trouble_at S n l ≡ Some t
+      pub refer_lent : (t : BorrowRefusal) → refusal_to_read_at S n l ≡ Some t
+          → refusal_to_refer_at S n l ≡ Some t
       refer_lent t is = rw is refl
 
       pub refer_plain : {m : Name} → reached S n ≡ Some m → read_refusal (content_at S m) ≡ None
-          → false ≡ is_shared (map.get S.cells m) → refer_trouble_at S n l ≡ Some (Dropped l)
+          → false ≡ is_shared (map.get S.cells m) → refusal_to_refer_at S n l ≡ Some (Dropped l)
       refer_plain to free plain = rw (to, free, ← plain) refl
 
       -- and of one that reaches nothing
       module _ (none : None ≡ reached S n) where
-        pub read_none : read_trouble_at S n l ≡ Some (Dropped l)
+        pub read_none : refusal_to_read_at S n l ≡ Some (Dropped l)
         read_none = ap (λ o. refusal_at o l (λ m. read_refusal (content_at S m))) (sym none)
 
-        pub write_none : write_trouble_at S n l ≡ Some (Dropped l)
+        pub write_none : refusal_to_write_at S n l ≡ Some (Dropped l)
         write_none = ap (λ o. refusal_at o l (λ m. write_refusal (content_at S m))) (sym none)
 
   -- where the slots lead is what the state sees reached

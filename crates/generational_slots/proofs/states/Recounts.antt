@@ -11,7 +11,7 @@ use Rattle.generational_slots.proofs.Common.{refers, how_many, live_from, with_c
 use Rattle.generational_slots.proofs.Common.{IsReferred, count_less, count_more, HasTargets}
 use Rattle.generational_entries.specs.Entry.{target_in}
 use Rattle.generational_entries.specs.Entry.{change_entry_if}
-use Rattle.generational_slots.specs.Slotted.{refers_among, with_more}
+use Rattle.generational_slots.specs.SlotsState.{refers_among, with_more}
 use Rattle.generational_containers.proofs.lists.Lists.{bit}
 use Rattle.generational_slots.proofs.states.References.{FoundTarget, HasSlot, count_of}
 use Rattle.generational_slots.proofs.states.References.{found_target}

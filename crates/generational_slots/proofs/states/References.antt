@@ -22,7 +22,7 @@ use Rattle.generational_slots.proofs.Common.{name_total, Entry, Empty, cell_of, 
 use Rattle.generational_slots.proofs.Common.{cell_in, refers, how_many, HasTargets, AreReferred}
 use Rattle.generational_slots.proofs.Common.{IsReferred}
 use Rattle.generational_entries.specs.Entry.{target_in}
-use Rattle.generational_slots.specs.Slotted.{refers_among}
+use Rattle.generational_slots.specs.SlotsState.{refers_among}
 use Rattle.generational_containers.proofs.lists.Lists.{bit, many_some, set_written, some_of_many}
 use Rattle.generational_slots.proofs.states.Changes.{cells_taken}
 use Rattle.generational_slots.proofs.states.States.{get_cells}

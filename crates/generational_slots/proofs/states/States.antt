@@ -26,7 +26,7 @@ use Rattle.generational_slots.proofs.Common.{name_test, Empty, Live, Refers, nam
 use Rattle.generational_slots.proofs.Common.{cell_of, with_cell, live_from, cells_of, given_from}
 use Rattle.generational_slots.proofs.Common.{given_of, state_of, cell_in, cell_at, given_in}
 use Rattle.generational_slots.proofs.Common.{is_spent}
-use Rattle.generational_slots.proofs.Common.{HasBegun, Inventory, IsSlotted, Entry, Kept, is_live}
+use Rattle.generational_slots.proofs.Common.{HasBegun, SlotTable, IsSlotTable, Entry, Kept, is_live}
 use Rattle.generational_entries.specs.declared.entry.Kind.TheVariants as kind
 use Rattle.generational_containers.proofs.lists.Lists.{cond_same, bit, passes, count_all}
 use Rattle.generational_containers.proofs.lists.Lists.{len_passing}
@@ -174,7 +174,7 @@ module _ {T : Type 0} (start : ℕ) where
       set.contains-from_list name_total (given_from start 0 slots) q
       ∙ any_at 0 slots q q.slot (omega arith)
 
-module _ {T : Type 0} {p : Inventory T} (s : IsSlotted p) where
+module _ {T : Type 0} {p : SlotTable T} (s : IsSlotTable p) where
   abbrev here : State T
   here = state_of p.start p.counts.peak p.slots
 
@@ -323,8 +323,8 @@ module _ {T : Type 0} where
   unfolding cells_of given_of
   new_state start slots none = rw none refl
 
-  pub slotted_new : (p : Inventory T) → p.free ≡ set.empty
-      → p.counts ≡ record { usable = 0; peak = 0 } → p.slots ≡ [] → IsSlotted p
+  pub slotted_new : (p : SlotTable T) → p.free ≡ set.empty
+      → p.counts ≡ record { usable = 0; peak = 0 } → p.slots ≡ [] → IsSlotTable p
   slotted_new p unused uncounted none = record {
     pooled = λ k. rw (unused, none) (set.contains-empty nat_cmp k);
     roomy = rw none (omega arith);

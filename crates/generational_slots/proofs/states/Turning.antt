@@ -5,7 +5,7 @@ use Rattle.std.proofs.lemmas.Bool.{eq-eqb, false≢true, ne_eqb, true≢false}
 use Rattle.std.specs.FinMap as map
 use Rattle.generational_entries.specs.Entry.{referring, target_in}
 use Rattle.generational_entries.specs.declared.entry.Kind.TheVariants as kind
-use Rattle.generational_slots.proofs.Common.{AreReferred, Cell, Empty, Entry, Inventory, IsSlotted}
+use Rattle.generational_slots.proofs.Common.{AreReferred, Cell, Empty, Entry, SlotTable, IsSlotTable}
 use Rattle.generational_slots.proofs.Common.{Kept, Live}
 use Rattle.generational_slots.proofs.Common.{Location, Name, Ref, Refers, cell_at, cell_of}
 use Rattle.generational_slots.proofs.Common.{cells_of}
@@ -152,7 +152,7 @@ module _ {T : Type 0} where
         ∙ shared)
 
   -- what holds of the slots holds then
-  pub turned_slotted : {p : Inventory T} → IsSlotted p → {n old : Name}
-      (f : HasReference p.slots n old) (new : Name) → IsSlotted (record p { slots = turned f new })
+  pub turned_slotted : {p : SlotTable T} → IsSlotTable p → {n old : Name}
+      (f : HasReference p.slots n old) (new : Name) → IsSlotTable (record p { slots = turned f new })
   turned_slotted s f new =
       slotted_still s (turned_written f new) f.there refl refl (turned_length f new)

@@ -9,10 +9,10 @@ use Rattle.generational_core.specs.Machine.{turn}
 use Rattle.generational_core.specs.declared.error.Refused.{Refused}
 use Rattle.generational_core.specs.declared.error.Refused.TheVariants as refused
 use Rattle.generational_entries.specs.Entry.{FoundBorrowed, target_in}
-use Rattle.generational_slots.specs.Slotted.{Turns, refusal_of}
+use Rattle.generational_slots.specs.SlotsState.{IsTurned, refusal_of}
 use Rattle.generational_slots.proofs.Common.{BorrowMutError, Cell, IsLinked, Location, Name}
 use Rattle.generational_slots.proofs.Common.{NameMap}
-use Rattle.generational_slots.proofs.Common.{OutOfMemory, Ref, State, Trouble, Value, Shared}
+use Rattle.generational_slots.proofs.Common.{OutOfMemory, Ref, State, BorrowRefusal, Value, Shared}
 use Rattle.generational_slots.proofs.Common.{content_of}
 use Rattle.generational_slots.proofs.Common.{by_name, doomed_by, get-insert_apart, is_name}
 use Rattle.generational_slots.proofs.Common.{is_named}
@@ -20,9 +20,9 @@ use Rattle.generational_slots.proofs.Common.{is_shared, write_refusal}
 unfoldable use Rattle.generational_slots.proofs.Common.{sweep}
 use Rattle.generational_slots.proofs.states.Endings.{without}
 
--- the trouble that a refusal tells is there
-troubled : (t : Option Trouble) (e : Refused BorrowMutError) → FoundBorrowed t (Err e)
-    → (x : Trouble) × (t ≡ Some x)
+-- the refusal that a refusal tells is there
+troubled : (t : Option BorrowRefusal) (e : Refused BorrowMutError) → FoundBorrowed t (Err e)
+    → (x : BorrowRefusal) × (t ≡ Some x)
 troubled (Some x) e found = (x, refl)
 troubled None (refused.Borrow e) found = absurd cc
 troubled None (refused.Store OutOfMemory) found = absurd found
@@ -42,7 +42,7 @@ module _ {T : Type 0} where
     abbrev left : NameMap (Cell T)
     left = sweep (map.insert S.cells n (Ref new l))
 
-    pub turns_same : is_name old new ≡ true → Turns S S (Ok tt) (turn S n old new l)
+    pub turns_same : is_name old new ≡ true → IsTurned S S (Ok tt) (turn S n old new l)
     turns_same same = rw same (refl, refl)
 
     module _ (other : is_name old new ≡ false) (d : Option Name)
@@ -91,14 +91,14 @@ module _ {T : Type 0} where
               (ap is_some kept ∙ v.0, v.1 ∙ ap target_in (sym kept))
 
       pub turns_refused : (e : Refused BorrowMutError) → FoundBorrowed (refusal_of S.cells d) (Err e)
-          → Turns S S (Err e) (turn S n old new l)
+          → IsTurned S S (Err e) (turn S n old new l)
       turns_refused e found =
           let t = troubled (refusal_of S.cells d) e found in
           rw (other, hinders ∙ t.1) (subst (λ x. FoundBorrowed x (Err e)) t.1 found, refl)
 
       pub turns_done : (R : State T) → refusal_of S.cells d ≡ None
           → R ≡ without (record S { cells = map.insert S.cells n (Ref new l) }) d
-          → Turns S R (Ok tt) (turn S n old new l)
+          → IsTurned S R (Ok tt) (turn S n old new l)
       turns_done R free after =
           rw (other, hinders ∙ free) (
             refl,

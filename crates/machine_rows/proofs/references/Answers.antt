@@ -3,7 +3,7 @@ use Rattle.std.specs.FinSet as set
 use Rattle.generational_core.specs.Names.{is_name}
 use Rattle.generational_core.specs.Cells.Cell.{Value, Shared, Ref}
 use Rattle.generational_core.specs.Cells.Content.{Here}
-use Rattle.generational_core.specs.Borrowing.{reach, read_trouble, write_trouble}
+use Rattle.generational_core.specs.Borrowing.{reach, refusal_to_read, refusal_to_write}
 use Rattle.generational_core.specs.Ending.{hindrance_to}
 use Rattle.machine_rows.specs.Rows.{◌#◌}
 use Rattle.machine_rows.proofs.Playing.{plays, none_given, more_given, cut, one_owner, reader}
@@ -12,7 +12,7 @@ use Rattle.machine_rows.proofs.references.Goals as goal
 -- A long row is cut where a state is written out: its cells, the names given, the owners, the next
 -- ticket and the peak.
 pub returns : goal.returns
-unfolding is_name reach read_trouble write_trouble hindrance_to
+unfolding is_name reach refusal_to_read refusal_to_write hindrance_to
 returns g c =
     let none = none_given c.slots_follow_from_names.ensures.none in
     let more = more_given c.slots_follow_from_names.ensures.more in record {

@@ -1,5 +1,5 @@
 use Rattle.generational_core.proofs.machine.Leaving.{same_reach, same_value, leaves, release_leaves}
-use Rattle.generational_core.proofs.machine.Leaving.{given_other, left_troubles}
+use Rattle.generational_core.proofs.machine.Leaving.{given_other, left_refusals}
 use Rattle.generational_sessions.proofs.caller_laws.calls_leave_other_boxes.Goals as goal
 
 pub returns : goal.returns
@@ -9,5 +9,5 @@ returns g c = record {
   left = leaves;
   unowned = release_leaves;
   given = given_other;
-  borrows = left_troubles;
+  borrows = left_refusals;
 }

@@ -9,7 +9,7 @@ use Rattle.generational_slots.proofs.Common.{cell_at}
 use Rattle.generational_slots.proofs.Common.{cells_of, count_more, name_here, name_of_cell, refers}
 use Rattle.generational_slots.proofs.Common.{refers_to}
 use Rattle.generational_entries.specs.Entry.{target_in}
-use Rattle.generational_slots.specs.Slotted.{refers_among, with_more}
+use Rattle.generational_slots.specs.SlotsState.{refers_among, with_more}
 use Rattle.generational_containers.proofs.lists.Lists.{bit, many_within}
 use Rattle.generational_slots.proofs.states.Recounts.{cell_more, cells_more, lacking, more_none}
 use Rattle.generational_slots.proofs.states.Recounts.{told_more}

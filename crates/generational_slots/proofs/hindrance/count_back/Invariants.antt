@@ -1,6 +1,6 @@
 use Rattle.std.proofs.Common.{◌≡◌, map as list_map, drop}
 use Rattle.generational_containers.specs.CellNames.{name_of_cell}
-use Rattle.generational_slots.specs.Slotted.{refers_among, with_more}
+use Rattle.generational_slots.specs.SlotsState.{refers_among, with_more}
 use Rattle.generational_slots.proofs.hindrance.count_back.Given as goal
 
 -- the references that are left are off the counts still

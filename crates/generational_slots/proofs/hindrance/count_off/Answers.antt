@@ -10,7 +10,7 @@ use Rattle.generational_slots.proofs.Common.{cell_at}
 use Rattle.generational_slots.proofs.Common.{cells_of, count_less, how_many, is_name, name_here}
 use Rattle.generational_slots.proofs.Common.{name_of_cell, refers, refers_to}
 use Rattle.generational_entries.specs.Entry.{target_in}
-use Rattle.generational_slots.specs.Slotted.{refers_among, with_more}
+use Rattle.generational_slots.specs.SlotsState.{refers_among, with_more}
 use Rattle.generational_containers.proofs.lists.Lists.{bit}
 use Rattle.generational_slots.proofs.states.Recounts.{cell_more, lacking, many_more, more_none}
 use Rattle.generational_slots.proofs.states.Recounts.{told_less}

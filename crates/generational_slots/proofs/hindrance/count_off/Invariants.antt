@@ -1,6 +1,6 @@
 use Rattle.std.proofs.Common.{◌≡◌, map as list_map, take}
 use Rattle.generational_containers.specs.CellNames.{name_of_cell}
-use Rattle.generational_slots.specs.Slotted.{refers_among, with_more}
+use Rattle.generational_slots.specs.SlotsState.{refers_among, with_more}
 use Rattle.generational_slots.proofs.hindrance.count_off.Given as goal
 
 -- the references so far are off the counts

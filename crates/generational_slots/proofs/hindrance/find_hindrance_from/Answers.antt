@@ -4,7 +4,7 @@ use Rattle.std.proofs.Math.ListN.{get_or-map}
 use Rattle.std.proofs.lemmas.List.{drop-map, length-drop, take_all}
 use Rattle.generational_slots.proofs.Common.{AreReferred, CellName, IsLinked, cells_of, has_more}
 use Rattle.generational_slots.proofs.Common.{cell_at, name_of_cell}
-use Rattle.generational_slots.specs.Slotted.{first_refusal}
+use Rattle.generational_slots.specs.SlotsState.{first_refusal}
 use Rattle.generational_entries.specs.Entry.{FoundBorrowed, kind_in}
 use Rattle.generational_entries.specs.declared.entry.Kind.TheVariants as kind
 use Rattle.generational_slots.proofs.states.Hindrance.{own_hindered, own_live, refusal_from, refusal_there}

@@ -5,7 +5,7 @@ use Rattle.std.proofs.Math.ListN.{get_or-map}
 use Rattle.std.proofs.lemmas.Bool.{lt-ltb}
 use Rattle.std.proofs.lemmas.List.{at_drop_more, length-map}
 use Rattle.generational_slots.proofs.Common.{CellName, Entry, Name, name_of_cell}
-use Rattle.generational_slots.specs.Slotted.{reaches_borrowed}
+use Rattle.generational_slots.specs.SlotsState.{reaches_borrowed}
 use Rattle.generational_slots.proofs.hindrance.first_borrowed.Goals as goal
 
 abbrev none : CellName

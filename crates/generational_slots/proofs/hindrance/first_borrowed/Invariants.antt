@@ -1,7 +1,7 @@
 use Rattle.std.proofs.Common.{◌≡◌, ◌+◌, drop, map as list_map}
 use Rattle.std.specs.List.{position_or_len}
 use Rattle.generational_containers.specs.CellNames.{name_of_cell}
-use Rattle.generational_slots.specs.Slotted.{reaches_borrowed}
+use Rattle.generational_slots.specs.SlotsState.{reaches_borrowed}
 use Rattle.generational_slots.proofs.hindrance.first_borrowed.Given as goal
 
 -- none of the names so far reaches a borrowed value

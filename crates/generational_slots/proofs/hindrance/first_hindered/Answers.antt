@@ -8,17 +8,17 @@ use Rattle.std.proofs.lemmas.Option.{slice_get_within}
 use Rattle.generational_core.specs.declared.error.Refused.TheVariants as refused
 use Rattle.generational_core.specs.declared.error.Refused.{Refused}
 use Rattle.generational_slots.proofs.Common.{BorrowMutError, CellName, Entry, HasTargets, Name}
-use Rattle.generational_slots.proofs.Common.{OutOfMemory, Trouble, cell_at, cells_of, content_in}
+use Rattle.generational_slots.proofs.Common.{OutOfMemory, BorrowRefusal, cell_at, cells_of, content_in}
 use Rattle.generational_slots.proofs.Common.{doomed_by, has_more, name_of_cell, write_refusal}
 use Rattle.generational_entries.specs.Entry.{FoundBorrowed}
-use Rattle.generational_slots.specs.Slotted.{first_refusal, refusal_of}
+use Rattle.generational_slots.specs.SlotsState.{first_refusal, refusal_of}
 use Rattle.generational_slots.proofs.states.Hindrance.{doomed_live, refusal_there}
 use Rattle.generational_slots.proofs.states.States.{get_cells}
 use Rattle.generational_slots.proofs.hindrance.first_hindered.Goals as goal
 use Rattle.generational_slots.proofs.hindrance.first_hindered.Goals.{in-Some+in-Ok, in_default}
 
 -- what is found first stays so, whatever comes after
-found_first : (e : Refused BorrowMutError) (t u : Option Trouble)
+found_first : (e : Refused BorrowMutError) (t u : Option BorrowRefusal)
     → FoundBorrowed t (Err e) → FoundBorrowed (option_or t u) (Err e)
 found_first (refused.Borrow e) None u found = cc
 found_first (refused.Borrow e) (Some t) u found = found
@@ -26,7 +26,7 @@ found_first (refused.Store OutOfMemory) (Some t) u found = found
 found_first (refused.Store e) t u found = absurd found
 
 -- what hinders all is what comes after that which doesn't hinder
-passed : {t u all : Option Trouble} → t ≡ None → option_or t u ≡ all → u ≡ all
+passed : {t u all : Option BorrowRefusal} → t ≡ None → option_or t u ≡ all → u ≡ all
 passed {u = u} none whole = sym (ap (λ t. option_or t u) none) ∙ whole
 
 abbrev none : CellName
@@ -34,11 +34,11 @@ none = record { slot = 0; generation = 0 }
 
 module _ {T : Type 0} (slots : List (Entry T)) where
   -- what hinders the end of names
-  abbrev left : List Name → Option Trouble
+  abbrev left : List Name → Option BorrowRefusal
   left names = first_refusal (cells_of slots) (has_more slots 0) names
 
   -- what hinders the end of a name
-  abbrev own : Name → Option Trouble
+  abbrev own : Name → Option BorrowRefusal
   own n = refusal_of (cells_of slots) (doomed_by (has_more slots 0) (cell_at slots n) n)
 
   -- what hinders the names from the i-th on: what hinders the i-th, or what comes after

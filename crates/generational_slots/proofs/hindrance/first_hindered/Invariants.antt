@@ -1,6 +1,6 @@
 use Rattle.std.proofs.Common.{◌≡◌, drop, map as list_map}
 use Rattle.generational_containers.specs.CellNames.{name_of_cell}
-use Rattle.generational_slots.specs.Slotted.{cells_of, first_refusal, has_more}
+use Rattle.generational_slots.specs.SlotsState.{cells_of, first_refusal, has_more}
 use Rattle.generational_slots.proofs.hindrance.first_hindered.Given as goal
 
 -- what hinders the rest is what hinders all

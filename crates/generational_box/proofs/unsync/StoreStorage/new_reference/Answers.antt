@@ -57,7 +57,7 @@ invariant_of-self-2 g c =
     let o = option_copied c.args.owner in
     let n = name_of_cell c.in-Ok-make.name in
     made_counted c.self.inside.slots (state_is c.self.view_is) o c.self.invariant
-    c.args.self.now.sound n _ c.in-Ok-make.ensures.ok.fits.fresh
+    c.args.self.now.sound n _ c.in-Ok-make.ensures.ok.fits.ungiven
     (c.list.ensures o c.in-Ok-reserve.ensures.ok
     ∙ ap (λ x. add_to_list_in x o n) c.reserve.ensures.same)
 

@@ -1,5 +1,5 @@
 use Rattle.std.proofs.Common.{ap, refl, subst, sym, ◌∙◌}
-use Rattle.generational_slots.specs.Slotted.{Slotted}
+use Rattle.generational_slots.specs.SlotsState.{SlotsState}
 use Rattle.generational_box.proofs.Common.{Meets, Read, with_records}
 use Rattle.generational_box.proofs.calls.Calls.{reach_own, reach_strange, read_gone, read_hindered}
 use Rattle.generational_box.proofs.calls.Calls.{read_own, state_is}
@@ -8,7 +8,7 @@ use Rattle.generational_box.proofs.unsync.StoreStorage.try_read.Goals as goal
 
 pub returns-then-pointer-self : goal.returns-then-pointer-self
 returns-then-pointer-self g c =
-    let view = ap (λ (x : Slotted _). with_records x.state c.self.inside.number
+    let view = ap (λ (x : SlotsState _). with_records x.state c.self.inside.number
     c.self.inside.owners.owners c.self.inside.next) c.settle.ensures ∙ state_is c.self.view_is in
     rw c.dropped.ensures (subst (Meets c.args.self.now.state
     (Read c.args.pointer c.args.location) _) (sym view)
@@ -27,7 +27,7 @@ begin_read-requires-clause-to g c =
 
 pub returns-in-Err : goal.returns-in-Err
 returns-in-Err g c =
-    let view = ap (λ (x : Slotted _). with_records x.state c.self.inside.number
+    let view = ap (λ (x : SlotsState _). with_records x.state c.self.inside.number
     c.self.inside.owners.owners c.self.inside.next) c.settle.ensures ∙ state_is c.self.view_is in
     subst (Meets c.args.self.now.state (Read c.args.pointer c.args.location) _) (sym view)
     (read_hindered c.args.pointer c.args.location _

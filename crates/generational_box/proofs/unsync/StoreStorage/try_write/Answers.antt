@@ -1,6 +1,6 @@
 use Rattle.std.proofs.Common.{subst, sym, ◌∙◌, Err}
 use Rattle.generational_entries.specs.Entry.{FoundBorrowed}
-use Rattle.generational_core.specs.Machine.Answer.{Troubled}
+use Rattle.generational_core.specs.Machine.Answer.{BorrowRefused}
 use Rattle.generational_box.proofs.Common.{Dropped, Meets, Write, end_refused}
 use Rattle.generational_box.proofs.calls.Calls.{reach_own, reach_strange, write_gone, write_hindered}
 use Rattle.generational_box.proofs.calls.Calls.{write_own, state_is}
@@ -11,7 +11,7 @@ pub returns-then-pointer-self : goal.returns-then-pointer-self
 returns-then-pointer-self g c =
     rw c.dropped_mut.ensures (subst
     (λ S. Meets S (Write c.args.pointer c.args.location)
-    (Troubled (Dropped c.args.pointer.created_at)) c.settle.new.self.state)
+    (BorrowRefused (Dropped c.args.pointer.created_at)) c.settle.new.self.state)
     c.settle.ensures (write_gone c.args.pointer c.args.location
     (reach_strange (state_is c.self.view_is) c.args.pointer c.if-pointer-self.true)))
 

@@ -1,6 +1,6 @@
 use Rattle.std.proofs.Common.{arith, ap, length, option_map, refl, sym, ◌∙◌}
 use Rattle.std.proofs.lemmas.Option.{slice_get_read}
-use Rattle.generational_containers.proofs.Common.{Keyed}
+use Rattle.generational_containers.proofs.Common.{KeyedOwnership}
 use Rattle.generational_containers.proofs.records.Places.{owners_is}
 use Rattle.generational_containers.proofs.records.Places.{record_within, record_missing}
 use Rattle.generational_containers.proofs.records.Places.{record_found}
@@ -15,7 +15,7 @@ pub returns-in-Some : goal.returns-in-Some
 returns-in-Some c =
     let items = c.self.inside.places.items in
     let found = c.in-Some.ensures.found in
-    ap (option_map (λ (r : Keyed). r.ownership)) c.as_ref.ensures.value
+    ap (option_map (λ (r : KeyedOwnership). r.ownership)) c.as_ref.ensures.value
     ∙ record_found c.args.number _ c.args.owner.now items (owners_is c.self.view_is)
     (sym c.number_of.ensures ∙ c.if-number_of-number.false) c.self.invariant c.in-Some.place found
     c.index.result.now

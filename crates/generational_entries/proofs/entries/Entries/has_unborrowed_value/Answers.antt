@@ -5,12 +5,12 @@ use Rattle.std.proofs.lemmas.Option.{slice_get_read}
 use Rattle.generational_containers.specs.CellNames.{name_of_cell}
 use Rattle.generational_entries.specs.Entries.{EntryList}
 use Rattle.generational_entries.specs.Entry.{cell_at, cell_in, is_unborrowed_value}
-use Rattle.generational_entries.specs.Latest.{is_apart}
+use Rattle.generational_entries.specs.Latest.{is_noted}
 use Rattle.generational_entries.proofs.states.Entries.{here, value_test}
 use Rattle.generational_entries.proofs.states.Latest.{noted_away, seen, seen_past}
 use Rattle.generational_entries.proofs.entries.Entries.has_unborrowed_value.Goals as goal
-use Rattle.generational_entries.proofs.entries.Entries.has_unborrowed_value.Goals.{else-is_apart-via-then-is_apart+else-self-name}
-use Rattle.generational_entries.proofs.entries.Entries.has_unborrowed_value.Goals.{else-is_apart-via-else-is_apart}
+use Rattle.generational_entries.proofs.entries.Entries.has_unborrowed_value.Goals.{else-is_noted-via-then-is_noted+else-self-name}
+use Rattle.generational_entries.proofs.entries.Entries.has_unborrowed_value.Goals.{else-is_noted-via-else-is_noted}
 
 pub returns-in-Some : goal.returns-in-Some
 returns-in-Some g c =
@@ -21,12 +21,12 @@ returns-in-Some g c =
     c.in-Some.entry.now refl found.3.0 found.1) in
     let same = ap (λ x. x.last) c.self-inside.view_is in
     let away = noted_away c.self.inside.last c.self.inside.settled.slots o.alone c.args.name.slot
-    (elim c.else-is_apart.branch [
-      | else-is_apart-via-then-is_apart+else-self-name w ↦ λ is at.
+    (elim c.else-is_noted.branch [
+      | else-is_noted-via-then-is_noted+else-self-name w ↦ λ is at.
           w.if-self-name.false (ap (λ l. l.slot) same ∙ at)
-      | else-is_apart-via-else-is_apart w ↦
-          λ is at. absurd (false≢true (sym w.if-is_apart.false
-          ∙ (c.is_apart.ensures ∙ (ap (λ l. is_apart l.standing) same ∙ is))))
+      | else-is_noted-via-else-is_noted w ↦
+          λ is at. absurd (false≢true (sym w.if-is_noted.false
+          ∙ (c.is_noted.ensures ∙ (ap (λ l. is_noted l.standing) same ∙ is))))
     ]) in
     let n = name_of_cell c.args.name in
     c.has_unborrowed_value.ensures

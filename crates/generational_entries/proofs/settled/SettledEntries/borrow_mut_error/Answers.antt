@@ -10,7 +10,7 @@ use Rattle.generational_entries.specs.declared.entry.StorageEntryData.{StorageEn
 use Rattle.generational_entries.specs.Entries.{index_of, kept_data, writer_in}
 use Rattle.generational_entries.specs.Entry.{FoundBorrowed, FoundReaders, content_in}
 use Rattle.generational_containers.specs.Table.{list_at}
-use Rattle.generational_entries.proofs.states.Entries.{kept, says, lent_used, used_at, no_trouble}
+use Rattle.generational_entries.proofs.states.Entries.{kept, says, lent_used, used_at, no_refusal}
 use Rattle.generational_entries.proofs.states.Entries.{list_none, says_of, read_details, found}
 use Rattle.generational_core.specs.declared.error.BorrowMutError.TheVariants as writes
 use Rattle.generational_core.specs.declared.error.Refused.TheVariants as refused
@@ -61,7 +61,7 @@ pub returns-in_default : goal.returns-in_default
 returns-in_default g c =
     let a = found c.self.view_is c.self.invariant c.requires c.self.inside.entries.ok.0
     c.index.ensures in
-    says a _ (λ l. rw (no_trouble (list_at c.self.inside.borrows.lists
+    says a _ (λ l. rw (no_refusal (list_at c.self.inside.borrows.lists
     (index_of c.index.result.now.content)) l.created_at c.index.result.now.content
     c.in_default.not-Read c.in_default.not-Lent) refl)
 

@@ -1,7 +1,7 @@
 use Rattle.std.proofs.Common.{refl, ◌≡◌, is_none, true, false}
 use Rattle.generational_core.specs.Borrowing.{write_refusal}
 use Rattle.generational_entries.specs.Entry.{content_in}
-use Rattle.generational_entries.proofs.states.Entries.{no_trouble, says, read_test, found}
+use Rattle.generational_entries.proofs.states.Entries.{no_refusal, says, read_test, found}
 use Rattle.generational_entries.specs.Entries.{index_of}
 use Rattle.generational_containers.specs.Table.{list_at}
 use Rattle.generational_entries.proofs.settled.SettledEntries.is_unborrowed.Goals as goal
@@ -18,7 +18,7 @@ returns-in_default g c =
     let a = found c.self.view_is c.self.invariant c.requires c.self.inside.entries.ok.0
     c.index.ensures in
     says a (λ e. true ≡ is_none (write_refusal (content_in e.kept)))
-    (λ l. rw (no_trouble (list_at c.self.inside.borrows.lists (index_of c.index.result.now.content))
+    (λ l. rw (no_refusal (list_at c.self.inside.borrows.lists (index_of c.index.result.now.content))
     l.created_at c.index.result.now.content c.in_default.not-Read
     c.in_default.not-Lent) refl)
 

@@ -1,5 +1,5 @@
 use Rattle.std.proofs.Common.{◌≡◌, ◌∙◌, ap, is_none, option_map, sym}
-use Rattle.generational_core.specs.Borrowing.Trouble.{BeingWritten}
+use Rattle.generational_core.specs.Borrowing.BorrowRefusal.{BeingWritten}
 use Rattle.generational_slots.proofs.Common.{name_of_cell, read_refusal}
 use Rattle.generational_slots.proofs.states.Changes.{held_within, seen_in, state_is}
 use Rattle.generational_slots.proofs.states.Reaching.{none_map, reached_held, reached_seen, read_none}

@@ -2,7 +2,7 @@ use Rattle.std.proofs.Common.{◌≡◌, sym, ap, subst, ◌∙◌}
 use Rattle.std.specs.FinMap as map
 use Rattle.generational_slots.proofs.Common.{HasTargets, cells_of, doomed_by, is_named}
 use Rattle.generational_slots.proofs.Common.{name_of_cell}
-use Rattle.generational_slots.specs.Slotted.{Slotted}
+use Rattle.generational_slots.specs.SlotsState.{SlotsState}
 use Rattle.generational_slots.proofs.states.Hindrance.{doomed_alone}
 use Rattle.generational_slots.proofs.slots.Slots.doomed.Goals as goal
 
@@ -11,7 +11,7 @@ returns g c =
     let n = name_of_cell c.args.name in
     let slots = c.self.inside.entries.slots in
     let same : cells_of slots ≡ c.args.self.now.state.cells =
-    ap (λ (s : Slotted _). s.state.cells) c.self.view_is in
+    ap (λ (s : SlotsState _). s.state.cells) c.self.view_is in
     c.doomed.ensures
     ∙ (doomed_alone slots (subst HasTargets (sym same) c.requires.targets) c.self.invariant.2 n
     ∙ ap (λ cells. doomed_by (is_named (map.remove cells n)) (map.get cells n) n) same)

@@ -1,6 +1,6 @@
 use Rattle.std.proofs.Common.{◌≡◌, ◌∙◌, ap, sym, true, Some, []}
 use Rattle.std.proofs.lemmas.Bool.{false≢true}
-use Rattle.generational_slots.specs.Slotted.{content_reached}
+use Rattle.generational_slots.specs.SlotsState.{content_reached}
 use Rattle.generational_slots.proofs.Common.{has_no_borrow, name_of_cell, Here}
 use Rattle.generational_slots.proofs.states.Changes.{changed_length, heard_in, held_in, held_within}
 use Rattle.generational_slots.proofs.states.Changes.{referred_changed, seen_in, slotted_changed}

@@ -1,5 +1,5 @@
 use Rattle.std.proofs.Common.{◌≡◌, ◌∙◌, sym, None, Some}
-use Rattle.generational_core.specs.Borrowing.Trouble.{BeingWritten}
+use Rattle.generational_core.specs.Borrowing.BorrowRefusal.{BeingWritten}
 use Rattle.generational_slots.proofs.Common.{name_of_cell, read_refusal}
 use Rattle.generational_slots.proofs.states.Changes.{held_within, seen_in, state_is}
 use Rattle.generational_slots.proofs.states.Reaching.{read_none, read_to, reached_held, reached_seen}

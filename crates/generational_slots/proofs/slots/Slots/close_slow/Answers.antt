@@ -5,13 +5,13 @@ use Rattle.generational_slots.proofs.states.Endings.{target_there}
 use Rattle.std.proofs.Common.{ap, sym, ◌≡◌, ◌∙◌, option_map, refl}
 use Rattle.std.proofs.lemmas.Bool.{false≢true}
 use Rattle.std.specs.FinMap as map
-use Rattle.generational_slots.specs.Slotted.{Slotted}
+use Rattle.generational_slots.specs.SlotsState.{SlotsState}
 use Rattle.generational_slots.proofs.Common.{State, name_of_cell}
 use Rattle.generational_slots.proofs.states.Endings.{reference_closes, reference_left, value_closes}
 use Rattle.generational_slots.proofs.states.Endings.{without}
 use Rattle.generational_slots.proofs.states.Changes.{cell_seen, has_target, state_is}
-use Rattle.generational_slots.proofs.slots.Slots.close_any.Goals as goal
-use Rattle.generational_slots.proofs.slots.Slots.close_any.Goals.{in-Some, in_default}
+use Rattle.generational_slots.proofs.slots.Slots.close_slow.Goals as goal
+use Rattle.generational_slots.proofs.slots.Slots.close_slow.Goals.{in-Some, in_default}
 
 pub remove-requires-then-is_reference : goal.remove-requires-then-is_reference
 remove-requires-then-is_reference g c =
@@ -21,8 +21,8 @@ remove-requires-then-is_reference g c =
     ∙ ap target_in (cell_seen c.self.inside.entries.slots (state_is c.self.view_is) n) in
     let gone : c.match-doomed.self.state ≡ without S (option_map name_of_cell c.doomed.result) =
     elim c.match-doomed.branch [
-      | in-Some w ↦ ap (λ (x : Slotted _). x.state) w.self-is ∙ rw w.in-Some.is w.remove.ensures
-      | in_default w ↦ ap (λ (x : Slotted _). x.state) w.self-is ∙ rw w.in_default.is refl
+      | in-Some w ↦ ap (λ (x : SlotsState _). x.state) w.self-is ∙ rw w.in-Some.is w.remove.ensures
+      | in_default w ↦ ap (λ (x : SlotsState _). x.state) w.self-is ∙ rw w.in_default.is refl
     ] in
     let names = has_target name_of_cell c.target-target.result told
     (sym c.is_some-is_reference.ensures ∙ c.if-is_reference.true) in
@@ -41,8 +41,8 @@ returns-then-is_reference g c =
     ∙ ap target_in (cell_seen c.self.inside.entries.slots (state_is c.self.view_is) n) in
     let gone : c.match-doomed.self.state ≡ without S (option_map name_of_cell c.doomed.result) =
     elim c.match-doomed.branch [
-      | in-Some w ↦ ap (λ (x : Slotted _). x.state) w.self-is ∙ rw w.in-Some.is w.remove.ensures
-      | in_default w ↦ ap (λ (x : Slotted _). x.state) w.self-is ∙ rw w.in_default.is refl
+      | in-Some w ↦ ap (λ (x : SlotsState _). x.state) w.self-is ∙ rw w.in-Some.is w.remove.ensures
+      | in_default w ↦ ap (λ (x : SlotsState _). x.state) w.self-is ∙ rw w.in_default.is refl
     ] in
     c.remove-then-is_reference.ensures
     ∙ (ap (λ (X : State _). record X { cells = map.remove X.cells n }) gone
@@ -58,8 +58,8 @@ returns-else-is_reference g c =
     ∙ ap target_in (cell_seen c.self.inside.entries.slots (state_is c.self.view_is) n) in
     let gone : c.match-doomed.self.state ≡ without S (option_map name_of_cell c.doomed.result) =
     elim c.match-doomed.branch [
-      | in-Some w ↦ ap (λ (x : Slotted _). x.state) w.self-is ∙ rw w.in-Some.is w.remove.ensures
-      | in_default w ↦ ap (λ (x : Slotted _). x.state) w.self-is ∙ rw w.in_default.is refl
+      | in-Some w ↦ ap (λ (x : SlotsState _). x.state) w.self-is ∙ rw w.in-Some.is w.remove.ensures
+      | in_default w ↦ ap (λ (x : SlotsState _). x.state) w.self-is ∙ rw w.in_default.is refl
     ] in
     gone ∙ value_closes S n c.requires _ c.doomed.ensures
     (has_target name_of_cell c.target-target.result told

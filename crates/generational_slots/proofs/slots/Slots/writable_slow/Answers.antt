@@ -4,7 +4,7 @@ use Rattle.generational_slots.proofs.Common.{name_of_cell, write_refusal}
 use Rattle.generational_slots.proofs.states.Changes.{held_within, seen_in, state_is}
 use Rattle.generational_slots.proofs.states.Reaching.{reached_held, reached_seen, write_none}
 use Rattle.generational_slots.proofs.states.Reaching.{write_to}
-use Rattle.generational_slots.proofs.slots.Slots.writable_any.Goals as goal
+use Rattle.generational_slots.proofs.slots.Slots.writable_slow.Goals as goal
 
 pub returns-in_default-clause-err : goal.returns-in_default-clause-err
 returns-in_default-clause-err g c =

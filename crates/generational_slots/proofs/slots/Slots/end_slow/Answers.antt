@@ -5,8 +5,8 @@ use Rattle.generational_slots.proofs.Common.{name_of_cell}
 use Rattle.generational_slots.proofs.states.Endings.{doomed_hinders}
 use Rattle.generational_slots.proofs.states.Changes.{held_within, state_is}
 use Rattle.generational_slots.proofs.states.Reaching.{doomed_held, doomed_told}
-use Rattle.generational_slots.proofs.slots.Slots.end_any.Goals as goal
-use Rattle.generational_slots.proofs.slots.Slots.end_any.Goals.{in-Some+in-Ok, in_default}
+use Rattle.generational_slots.proofs.slots.Slots.end_slow.Goals as goal
+use Rattle.generational_slots.proofs.slots.Slots.end_slow.Goals.{in-Some+in-Ok, in_default}
 
 pub borrow_mut_error-requires : goal.borrow_mut_error-requires
 borrow_mut_error-requires g c =

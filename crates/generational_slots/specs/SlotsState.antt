@@ -10,14 +10,14 @@ use Rattle.std.specs.FinMap as map
 use Rattle.std.specs.FinSet as set
 use Rattle.generational_core.specs.Names.{Name, NameMap, Names}
 use Rattle.generational_core.specs.declared.error.Location.{Location}
-use Rattle.generational_core.specs.Borrowing.{Trouble, fill, leads_to, read_refusal, refusal_at}
+use Rattle.generational_core.specs.Borrowing.{BorrowRefusal, fill, leads_to, read_refusal, refusal_at}
 use Rattle.generational_core.specs.Borrowing.{write_refusal}
-use Rattle.generational_core.specs.Borrowing.Trouble.{Dropped}
+use Rattle.generational_core.specs.Borrowing.BorrowRefusal.{Dropped}
 use Rattle.generational_core.specs.Cells.{Cell, Content, content_of, is_shared, refers_to}
 use Rattle.generational_core.specs.Cells.Cell.{Value, Ref}
 use Rattle.generational_core.specs.State.{State, Owners, content_at}
 use Rattle.generational_core.specs.Machine.{add_cell, Outcome}
-use Rattle.generational_core.specs.Machine.Answer.{Done, Troubled}
+use Rattle.generational_core.specs.Machine.Answer.{Done, BorrowRefused}
 use Rattle.generational_core.specs.declared.error.BorrowMutError.{BorrowMutError}
 use Rattle.generational_core.specs.declared.error.Refused.{Refused}
 use Rattle.generational_core.specs.Slots.{last_generation}
@@ -28,7 +28,7 @@ use Rattle.generational_entries.specs.Entry.{cell_at, change_entry}
 
 -- The slots of a store: the state for which they stand, without owners and numbers, and how many
 -- cells more take no memory.
-pub record Slotted (T : Type 0) : Type 0 where
+pub record SlotsState (T : Type 0) : Type 0 where
   pub state : State T
   pub spare : ℕ
 
@@ -50,7 +50,7 @@ count_of r made =
 
 -- What a store has of slots: the free ones, for how many there is room, the first generation of
 -- each, how many are live or free, with the most that were, and the slots themselves.
-pub record Inventory (T : Type 0) : Type 0 where
+pub record SlotTable (T : Type 0) : Type 0 where
   pub free : set.FinSet nat_cmp
   pub rooms : ℕ
   pub start : ℕ
@@ -126,19 +126,19 @@ module _ {T : Type 0} where
   content_reached S (Some m) = content_at S m
 
   -- how a read is refused of what a box reaches that was made at l, and how a write is
-  abbrev pub read_trouble_at : State T → Name → Location → Option Trouble
-  read_trouble_at S n l = refusal_at (reached S n) l (λ m. read_refusal (content_at S m))
+  abbrev pub refusal_to_read_at : State T → Name → Location → Option BorrowRefusal
+  refusal_to_read_at S n l = refusal_at (reached S n) l (λ m. read_refusal (content_at S m))
 
-  abbrev pub write_trouble_at : State T → Name → Location → Option Trouble
-  write_trouble_at S n l = refusal_at (reached S n) l (λ m. write_refusal (content_at S m))
+  abbrev pub refusal_to_write_at : State T → Name → Location → Option BorrowRefusal
+  refusal_to_write_at S n l = refusal_at (reached S n) l (λ m. write_refusal (content_at S m))
 
   -- how a reference to it is refused: as a read is, and where what is reached isn't shared
   abbrev pub shared_reached : State T → Option Name → Bool
   shared_reached S None = false
   shared_reached S (Some m) = is_shared (map.get S.cells m)
 
-  abbrev pub refer_trouble_at : State T → Name → Location → Option Trouble
-  refer_trouble_at S n l = option_or (read_trouble_at S n l)
+  abbrev pub refusal_to_refer_at : State T → Name → Location → Option BorrowRefusal
+  refusal_to_refer_at S n l = option_or (refusal_to_read_at S n l)
       (if shared_reached S (reached S n) then None else Some (Dropped l))
 
   -- whether a generation of a slot was given
@@ -159,7 +159,7 @@ module _ {T : Type 0} where
   HasBegun start (Some e) = start ≤ e.generation
 
   -- What holds of a store's slots and of the set of its free slots.
-  pub record IsSlotted (p : Inventory T) : Type 0 where
+  pub record IsSlotTable (p : SlotTable T) : Type 0 where
     -- the free slots are those that may be used again
     pub pooled : (k : ℕ) → set.contains p.free k ≡ is_reusable (slice_get p.slots k)
     -- there is room for all of them
@@ -232,7 +232,7 @@ module _ {T : Type 0} where
 
   -- what hinders the end of these names, at the first of them that is hindered: a borrow of the
   -- value that goes, where a test tells what is named afterwards
-  abbrev pub refusal_of : NameMap (Cell T) → Option Name → Option Trouble
+  abbrev pub refusal_of : NameMap (Cell T) → Option Name → Option BorrowRefusal
   refusal_of cells None = None
   refusal_of cells (Some m) = write_refusal (content_of (map.get cells m))
 
@@ -240,21 +240,21 @@ module _ {T : Type 0} where
   abbrev pub reaches_borrowed : List (Entry T) → Name → Bool
   reaches_borrowed slots n = is_some (refusal_of (cells_of slots) (leads_to (cell_at slots n) n))
 
-  abbrev pub first_refusal : NameMap (Cell T) → (Name → Bool) → List Name → Option Trouble
+  abbrev pub first_refusal : NameMap (Cell T) → (Name → Bool) → List Name → Option BorrowRefusal
   first_refusal cells named [] = None
   first_refusal cells named (n ∷ names) =
       option_or (refusal_of cells (doomed_by named (map.get cells n) n))
       (first_refusal cells named names)
 
   -- a cell more, under a new name, for which there was room or memory
-  pub record IsMade (s r : Slotted T) (cell : Option (Cell T)) (n : Name) : Type 0 where
+  pub record IsMade (s r : SlotsState T) (cell : Option (Cell T)) (n : Name) : Type 0 where
     pub fits : IsNew s.state n
     pub added : IfSome cell (λ c. r.state ≡ add_cell s.state n c)
     pub room : s.spare ≤ r.spare + 1
 
 -- a call that lets a reference name another value does and answers what the machine does
-abbrev pub Turns : {T : Type 0} → State T → State T → Result (Unit {0}) (Refused BorrowMutError)
+abbrev pub IsTurned : {T : Type 0} → State T → State T → Result (Unit {0}) (Refused BorrowMutError)
     → Outcome T → Type 0
-Turns S R result (Done, after) = (IsTrue (is_ok result)) × (R ≡ after)
-Turns S R result (Troubled t, after) = FoundBorrowed (Some t) result × (R ≡ S)
-Turns S R result _ = ⊥
+IsTurned S R result (Done, after) = (IsTrue (is_ok result)) × (R ≡ after)
+IsTurned S R result (BorrowRefused t, after) = FoundBorrowed (Some t) result × (R ≡ S)
+IsTurned S R result _ = ⊥
