@@ -5,8 +5,7 @@ pub mod Hindrance
 pub mod Makings
 pub mod Pointing
 pub mod Reaching
-pub mod Recounts
 pub mod References
 pub mod States
 pub mod Turning
-pub mod IsTurned
+pub mod Turns

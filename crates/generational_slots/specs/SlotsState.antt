@@ -2,7 +2,7 @@
 use Rattle.std.specs.Prelude.{◌≡◌, ℕ, ◌+◌, ◌-◌, ◌≤◌, suc, zero, Bool, true, false, ◌&&◌, nat_eq}
 use Rattle.std.specs.Prelude.{nat_le, nat_lt, not, if◌then◌else◌, length, List, [], ◌∷◌, ◌++◌}
 use Rattle.std.specs.Prelude.{Option, None, Some, IfSome, IsTrue, Result, is_ok, slice_get}
-use Rattle.std.specs.Prelude.{max, is_some, IsSome, ◌⊎◌}
+use Rattle.std.specs.Prelude.{max, is_some}
 use Rattle.std.specs.List.{count_by}
 use Rattle.std.specs.Option.{option_or}
 use Rattle.std.specs.Ordering.{nat_cmp}
@@ -223,28 +223,18 @@ module _ {T : Type 0} where
   abbrev pub refers_among : List (Entry T) → List Name → Name → ℕ
   refers_among slots names m = count_by (λ n. refers_to m (cell_at slots n)) names
 
-  -- the slots from the i-th on, each with as many references more as is told by its cell's name
-  abbrev pub with_more : (Name → ℕ) → ℕ → List (Entry T) → List (Entry T)
-  with_more more i [] = []
-  with_more more i (e ∷ slots) =
-      record e { references = e.references + more (record { slot = i; generation = e.generation }) }
-      ∷ with_more more (i + 1) slots
-
-  -- what hinders the end of these names, at the first of them that is hindered: a borrow of the
-  -- value that goes, where a test tells what is named afterwards
+  -- what hinders the end of a value, if there is one: a borrow of it
   abbrev pub refusal_of : NameMap (Cell T) → Option Name → Option BorrowRefusal
   refusal_of cells None = None
   refusal_of cells (Some m) = write_refusal (content_of (map.get cells m))
 
-  -- whether a name reaches a borrowed value: its own, or the one that its reference names
-  abbrev pub reaches_borrowed : List (Entry T) → Name → Bool
-  reaches_borrowed slots n = is_some (refusal_of (cells_of slots) (leads_to (cell_at slots n) n))
+  -- the borrowed value that a name reaches: its own, or the one that its reference names
+  abbrev pub if_borrowed : NameMap (Cell T) → Option Name → Option Name
+  if_borrowed cells None = None
+  if_borrowed cells (Some m) = if is_some (refusal_of cells (Some m)) then Some m else None
 
-  abbrev pub first_refusal : NameMap (Cell T) → (Name → Bool) → List Name → Option BorrowRefusal
-  first_refusal cells named [] = None
-  first_refusal cells named (n ∷ names) =
-      option_or (refusal_of cells (doomed_by named (map.get cells n) n))
-      (first_refusal cells named names)
+  abbrev pub borrowed_at : List (Entry T) → Name → Option Name
+  borrowed_at slots n = if_borrowed (cells_of slots) (leads_to (cell_at slots n) n)
 
   -- a cell more, under a new name, for which there was room or memory
   pub record IsMade (s r : SlotsState T) (cell : Option (Cell T)) (n : Name) : Type 0 where

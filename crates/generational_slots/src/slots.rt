@@ -9,7 +9,7 @@ ghost use Rattle.std.specs.List.{IsDistinct};
 ghost use Rattle.std.specs.FinMap as map;
 ghost use Rattle.generational_core.specs.declared.boxes.GenerationalPointer.{GenerationalPointer};
 ghost use Rattle.generational_core.specs.declared.error.StoreError.TheVariants.{OutOfMemory};
-ghost use Rattle.generational_core.specs.Answers.{read_trouble_of};
+ghost use Rattle.generational_core.specs.Answers.{refusal_of_read_error};
 ghost use Rattle.generational_core.specs.Borrowing.{fill, leads_to, read_refusal, write_refusal};
 ghost use Rattle.generational_core.specs.Boxes.{box_of};
 ghost use Rattle.generational_core.specs.Cells.{is_shared, location_of};
@@ -38,7 +38,7 @@ ghost use Rattle.generational_slots.specs.SlotsState.{IsTurned};
 ghost use Rattle.generational_slots.specs.SlotsState.{shared_target, with_records};
 
 use crate::counts::{Counts, SlotCounts};
-use crate::hindrance::{doomed, find_hindrance};
+use crate::hindrance::{doomed, find_hindered, find_hindrance};
 use crate::refusals::{dropped, dropped_mut};
 use generational_containers::names::CellName;
 use generational_containers::pool::SlotPool;
@@ -201,7 +201,7 @@ impl<T: Drop, P: SlotPool> Slots<T, P> {
             × (r.1 ≡ true → write_refusal (content_at self.now.state (name_of_cell r.0)) ≡ None)) }
         ensures err { IfErr result (λ e.
             refusal_to_read_at self.now.state (name_of_cell name) created_at
-            ≡ Some (read_trouble_of e)) }
+            ≡ Some (refusal_of_read_error e)) }
     {
         if self.entries.has_unborrowed_value(name) {
             return Ok((name, true));
@@ -223,7 +223,7 @@ impl<T: Drop, P: SlotPool> Slots<T, P> {
             × (r.1 ≡ true → write_refusal (content_at self.now.state (name_of_cell r.0)) ≡ None)) }
         ensures err { IfErr result (λ e.
             refusal_to_read_at self.now.state (name_of_cell name) created_at
-            ≡ Some (read_trouble_of e)) }
+            ≡ Some (refusal_of_read_error e)) }
     {
         let Some(value) = reach_slow(&self.entries, name) else {
             return Err(dropped(created_at));
@@ -244,7 +244,7 @@ impl<T: Drop, P: SlotPool> Slots<T, P> {
             × (read_refusal (content_at self.now.state (name_of_cell m)) ≡ None)) }
         ensures err { IfErr result (λ e.
             refusal_to_read_at self.now.state (name_of_cell name) created_at
-            ≡ Some (read_trouble_of e)) }
+            ≡ Some (refusal_of_read_error e)) }
     {
         let Some(value) = self.entries.reach(name) else {
             return Err(dropped(created_at));
@@ -265,7 +265,7 @@ impl<T: Drop, P: SlotPool> Slots<T, P> {
             × (is_shared (map.get self.now.state.cells (name_of_cell m)) ≡ true)) }
         ensures err { IfErr result (λ e.
             refusal_to_refer_at self.now.state (name_of_cell name) created_at
-            ≡ Some (read_trouble_of e)) }
+            ≡ Some (refusal_of_read_error e)) }
     {
         let value = match self.unlent(name, created_at) {
             Ok(value) => value,
@@ -558,7 +558,7 @@ impl<T: Drop, P: SlotPool> Slots<T, P> {
             (is_named (map.remove self.now.state.cells (name_of_cell name)))
             (map.get self.now.state.cells (name_of_cell name)) (name_of_cell name) }
     {
-        doomed(&self.entries, name, 1)
+        doomed(&self.entries, name)
     }
 
     /// Whether no borrow stands in the way of a name's end.
@@ -709,6 +709,15 @@ impl<T: Drop, P: SlotPool> Slots<T, P> {
         refer(&mut self.entries, Some(new));
     }
 
+    /// Whether no borrow stands in the way of the end of a list of names. Takes no memory.
+    pub fn may_end_all(&self, names: &[CellName]) -> bool
+        requires linked { IsLinked self.now.state.cells }
+        requires apart { IsDistinct is_name (list_map name_of_cell names.now) }
+        ensures { result ≡ is_none (hindrance_to self.now.state (list_map name_of_cell names.now)) }
+    {
+        find_hindered(&self.entries, names).is_none()
+    }
+
     /// Ends the names of a list, from the first to the last, or none of them, where a borrow stands
     /// in the way: then the first name that it hinders is told.
     pub fn end_all(&mut self, names: &[CellName]) -> BorrowMutResult<()>
@@ -720,7 +729,7 @@ impl<T: Drop, P: SlotPool> Slots<T, P> {
             (self.new.state ≡ close self.old.state (list_map name_of_cell names.now)) }
         ensures err { OnErr result (self.new.state ≡ self.old.state) }
     {
-        match find_hindrance(&mut self.entries, names) {
+        match find_hindrance(&self.entries, names) {
             Ok(()) => {}
             Err(refused) => return Err(refused),
         }

@@ -17,11 +17,10 @@ use Rattle.generational_entries.specs.Entry.{change_entry_if}
 use Rattle.generational_slots.proofs.Common.{AreReferred, Cell, CellName, Empty, Entry, HasTargets}
 use Rattle.generational_slots.proofs.Common.{SlotTable, IsReferred, IsSlotTable, Kept, Live, Location}
 use Rattle.generational_slots.proofs.Common.{Name, Ref}
-use Rattle.generational_slots.proofs.Common.{Kind, Shared, SlotsState}
-use Rattle.generational_slots.proofs.Common.{StoreError, UnknownOwner, Value, cell_in, free}
+use Rattle.generational_slots.proofs.Common.{Kind, Shared}
+use Rattle.generational_slots.proofs.Common.{Value, cell_in, free}
 use Rattle.generational_entries.specs.Entry.{target_in}
-use Rattle.generational_core.specs.Machine.{OwnerName}
-use Rattle.std.proofs.Common.{Err, Ok, OnErr, Result, inr}
+use Rattle.std.proofs.Common.{Err, Ok, OnErr, Result}
 use Rattle.std.specs.Result.{is_err}
 use Rattle.generational_slots.proofs.Common.{Refers, cell_at, cell_of, cells_of, change_entry}
 use Rattle.generational_slots.proofs.Common.{count_less, count_more, how_many, is_live, is_name}

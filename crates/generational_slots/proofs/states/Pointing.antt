@@ -1,6 +1,6 @@
 -- What is answered where a name should name another value, as the machine says it.
-use Rattle.std.proofs.Common.{◌≡◌, true, false, Option, None, Some, Result, Err, IfSome, refl, sym}
-use Rattle.std.proofs.Common.{◌∙◌, is_some}
+use Rattle.std.proofs.Common.{◌≡◌, true, false, Option, None, Some, Result, Err, IfSome, refl}
+use Rattle.std.proofs.Common.{is_some}
 use Rattle.std.proofs.lemmas.Bool.{false≢true, true≢false}
 use Rattle.generational_core.specs.Boxes.{box_of}
 use Rattle.generational_core.specs.Machine.{point, turn}

@@ -1,16 +1,14 @@
 -- What the box of a name reaches, as the slots tell it and as the state sees it.
 use Rattle.std.proofs.Common.{◌≡◌, ℕ, Bool, true, false, cond, Option, None, Some, refl, sym, ap, ◌∙◌}
-use Rattle.std.proofs.Common.{is_none, is_some, not, option_map, subst, IfSome, List, [], ◌∷◌, Result}
+use Rattle.std.proofs.Common.{is_none, is_some, not, option_map, IfSome, List, [], ◌∷◌, Result}
 use Rattle.std.proofs.Common.{slice_get}
-use Rattle.std.proofs.lemmas.Bool.{false≢true, true≢false}
+use Rattle.std.proofs.lemmas.Bool.{false≢true}
 use Rattle.std.specs.FinMap as map
 use Rattle.generational_core.specs.Borrowing.{refusal_at}
 use Rattle.generational_core.specs.Borrowing.BorrowRefusal.{Dropped}
-use Rattle.generational_entries.specs.Entry.{is_unborrowed_value, kind_in}
-use Rattle.generational_entries.specs.declared.entry.Kind.{Kind}
-use Rattle.generational_entries.specs.declared.entry.Kind.TheVariants as kind
+use Rattle.generational_entries.specs.Entry.{is_unborrowed_value}
 use Rattle.generational_slots.specs.SlotsState.{content_reached, refusal_to_read_at, reached}
-use Rattle.generational_slots.specs.SlotsState.{refusal_to_refer_at, shared_reached, refusal_to_write_at}
+use Rattle.generational_slots.specs.SlotsState.{refusal_to_refer_at, refusal_to_write_at}
 use Rattle.generational_slots.proofs.Common.{Cell, Content, Entry, IsLinked, Location, Name, Ref}
 use Rattle.generational_slots.proofs.Common.{Shared, State, BorrowRefusal, Value, cell_at, content_at}
 use Rattle.generational_slots.proofs.Common.{Here, Lent, content_of, doomed_by, has_no_borrow}

@@ -23,6 +23,6 @@ returns-in-Some g c =
     let slots = c.args.entries.now.slots in
     let t = found_target slots c.requires.targets (name_of_cell c.args.name) _
     (rw c.in-Some.is at c.target.ensures) in
-    let more = more_there slots _ _ c.args.last t.slot.entry t.slot.there
-    c.details.ensures.references c.if-details-last.false in
+    let more = more_there slots _ _ 1 t.slot.entry t.slot.there
+    c.details.ensures.references c.if-details-eq1.false in
     rw (t.ref, t.slot.there, more) refl

@@ -1,16 +1,24 @@
-use Rattle.std.proofs.Common.{sym, ◌∙◌, map as list_map}
+use Rattle.std.proofs.Common.{sym, subst, ◌∙◌}
+use Rattle.std.proofs.lemmas.Option.{slice_get_within}
+use Rattle.generational_entries.specs.Entry.{FoundBorrowed}
 use Rattle.generational_slots.proofs.Common.{name_of_cell}
-use Rattle.generational_slots.proofs.states.Hindrance.{none_before, none_hindered, reached_frees}
+use Rattle.generational_slots.proofs.states.Hindrance.{refused_live, refusal_there}
 use Rattle.generational_slots.proofs.hindrance.find_hindrance.Goals as goal
 
-pub returns-then-are_unborrowed_values-clause-found : goal.returns-then-are_unborrowed_values-clause-found
-returns-then-are_unborrowed_values-clause-found g c =
-    none_hindered c.args.entries.now.slots (list_map name_of_cell c.args.names.now)
-    c.requires.linked (reached_frees c.args.entries.now.slots c.args.names.now
-    (sym c.are_unborrowed_values.ensures ∙ c.if-are_unborrowed_values.true))
+pub borrow_mut_error-requires : goal.borrow_mut_error-requires
+borrow_mut_error-requires g c =
+    let s = refused_live c.args.entries.now.slots (name_of_cell c.in-Some.value)
+    (rw c.in-Some.is at c.find_hindered.ensures.borrowed) in
+    slice_get_within _ _ s.entry s.there
 
-pub returns-in-None-clause-found : goal.returns-in-None-clause-found
-returns-in-None-clause-found g c =
-    none_hindered c.args.entries.now.slots (list_map name_of_cell c.args.names.now)
-    c.requires.linked (none_before _ (list_map name_of_cell c.args.names.now)
-    (rw c.in-None.is at c.first_borrowed.ensures))
+pub returns-in-Some : goal.returns-in-Some
+returns-in-Some g c =
+    let slots = c.args.entries.now.slots in
+    let m = name_of_cell c.in-Some.value in
+    let s = refused_live slots m (rw c.in-Some.is at c.find_hindered.ensures.borrowed) in
+    subst (λ t. FoundBorrowed t c.borrow_mut_error.result)
+    (sym ((rw c.in-Some.is at c.find_hindered.ensures.hindrance) ∙ refusal_there slots m s))
+    (rw s.there at c.borrow_mut_error.ensures)
+
+pub returns-in-None : goal.returns-in-None
+returns-in-None g c = rw c.in-None.is at c.find_hindered.ensures.hindrance

@@ -1,5 +1,5 @@
 -- The end of a name.
-use Rattle.std.proofs.Common.{sym, ◌∙◌}
+use Rattle.std.proofs.Common.{◌∙◌}
 use Rattle.generational_slots.proofs.Common.{name_of_cell}
 use Rattle.generational_slots.proofs.states.Endings.{free_alone, free_closes, free_names_none}
 use Rattle.generational_slots.proofs.states.Endings.{free_there}

@@ -5,11 +5,10 @@ use Rattle.std.proofs.lemmas.List.{at_drop_more, at_drop_all}
 use Rattle.generational_core.proofs.machine.Closing.{close_each, close_nothing}
 use Rattle.generational_core.proofs.machine.Linking.{closing_linked}
 use Rattle.generational_slots.proofs.Common.{CellName, IsLinked, NameMap, Cell, close, name_of_cell}
-use Rattle.generational_slots.proofs.Common.{count_of, state_of}
 use Rattle.generational_slots.proofs.Common.{cells_after, first_hindrance}
 use Rattle.generational_entries.specs.Entry.{FoundBorrowed}
 use Rattle.generational_slots.proofs.states.Endings.{hindrance_is}
-use Rattle.std.proofs.Common.{Err, length}
+use Rattle.std.proofs.Common.{Err, refl}
 use Rattle.generational_slots.proofs.states.Changes.{state_is}
 use Rattle.generational_slots.proofs.slots.Slots.end_all.Goals as goal
 
@@ -19,16 +18,10 @@ returns-in-Err-clause-found g c =
     let names = list_map name_of_cell c.args.names.now in
     subst (λ t. FoundBorrowed t (Err c.in-Err.refused))
     (ap (λ X. first_hindrance X.cells (cells_after X.cells names) names) (state_is c.self.view_is)
-    ∙ sym (hindrance_is S names)) c.in-Err.ensures.found
+    ∙ sym (hindrance_is S names)) c.in-Err.ensures
 
 pub loop-name-init : goal.loop-name-init
-loop-name-init g c =
-    let same = ap (λ e. state_of c.self.inside.start
-    (count_of c.self.inside.counts (length e.slots)).peak e.slots)
-    c.find_hindrance.ensures.same ∙ state_is c.self.view_is in (
-      subst (λ X. IsLinked X.cells) (sym same) c.requires.linked,
-      ap (λ X. close X (list_map name_of_cell c.args.names.now)) same,
-    )
+loop-name-init g c = (c.requires.linked, refl)
 
 pub close-requires : goal.close-requires
 close-requires g c = c.loop-name.invariant.0
@@ -58,7 +51,7 @@ returns-clause-found g c =
     let names = list_map name_of_cell c.args.names.now in
     hindrance_is S names
     ∙ (sym (ap (λ X. first_hindrance X.cells (cells_after X.cells names) names)
-    (state_is c.self.view_is)) ∙ c.in-Ok.ensures.found)
+    (state_is c.self.view_is)) ∙ c.in-Ok.ensures)
 
 pub returns-clause-ok : goal.returns-clause-ok
 returns-clause-ok g c =

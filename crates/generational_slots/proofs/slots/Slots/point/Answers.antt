@@ -1,5 +1,5 @@
 -- A name that is to name another value.
-use Rattle.std.proofs.Common.{ap, sym, ◌∙◌, is_some, option_map}
+use Rattle.std.proofs.Common.{ap, sym, ◌∙◌, is_some}
 use Rattle.std.specs.FinMap as map
 use Rattle.generational_core.specs.Cells.{content_of}
 use Rattle.generational_entries.specs.Entry.{target_in}

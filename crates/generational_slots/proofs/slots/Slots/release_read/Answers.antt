@@ -1,4 +1,4 @@
-use Rattle.std.proofs.Common.{◌≡◌, refl, sym}
+use Rattle.std.proofs.Common.{◌≡◌, refl}
 use Rattle.generational_core.specs.Machine.{has_reader}
 use Rattle.generational_entries.specs.Entry.{less_read}
 use Rattle.generational_slots.proofs.Common.{name_of_cell}

@@ -1,4 +1,4 @@
-use Rattle.std.proofs.Common.{◌≡◌, ◌∙◌, ◌↔◌, ap, length, sym, true, [], IsTrue, is_ok}
+use Rattle.std.proofs.Common.{◌≡◌, ◌∙◌, ◌↔◌, ap, length, true, [], IsTrue, is_ok}
 use Rattle.generational_core.specs.Machine.{has_writer}
 use Rattle.generational_slots.proofs.Common.{count_of, fill, name_of_cell, state_of, Here}
 use Rattle.generational_entries.proofs.states.Entries.{ok_then}

@@ -1,4 +1,4 @@
-use Rattle.std.proofs.Common.{◌≡◌, ◌∙◌, ap, sym, true, Some, []}
+use Rattle.std.proofs.Common.{◌≡◌, ◌∙◌, ap, true, Some, []}
 use Rattle.std.proofs.lemmas.Bool.{false≢true}
 use Rattle.generational_slots.specs.SlotsState.{content_reached}
 use Rattle.generational_slots.proofs.Common.{has_no_borrow, name_of_cell, Here}

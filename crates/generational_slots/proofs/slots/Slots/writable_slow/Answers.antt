@@ -1,4 +1,4 @@
-use Rattle.std.proofs.Common.{◌≡◌, sym, subst, Err, Ok}
+use Rattle.std.proofs.Common.{sym, subst, Err, Ok}
 use Rattle.generational_entries.specs.Entry.{FoundBorrowed}
 use Rattle.generational_slots.proofs.Common.{name_of_cell, write_refusal}
 use Rattle.generational_slots.proofs.states.Changes.{held_within, seen_in, state_is}

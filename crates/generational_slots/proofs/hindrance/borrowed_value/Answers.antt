@@ -1,8 +1,9 @@
-use Rattle.std.proofs.Common.{sym, ap, ◌∙◌, not}
+use Rattle.std.proofs.Common.{sym, ap, cond, ◌∙◌, None, Some}
 use Rattle.std.proofs.lemmas.Option.{slice_get_within}
 use Rattle.generational_slots.proofs.Common.{name_of_cell}
+use Rattle.generational_slots.specs.SlotsState.{if_borrowed}
 use Rattle.generational_slots.proofs.states.Hindrance.{reached_borrow, reached_free, reached_live}
-use Rattle.generational_slots.proofs.hindrance.reaches_borrow.Goals as goal
+use Rattle.generational_slots.proofs.hindrance.borrowed_value.Goals as goal
 
 pub returns-then-has_unborrowed_value : goal.returns-then-has_unborrowed_value
 returns-then-has_unborrowed_value g c =
@@ -15,11 +16,23 @@ is_unborrowed-requires g c =
     (name_of_cell c.in-Some.value) (rw c.in-Some.is at c.reach.ensures) in
     slice_get_within _ _ s.entry s.there
 
-pub returns-in-Some : goal.returns-in-Some
-returns-in-Some g c =
+pub returns-then-is_unborrowed : goal.returns-then-is_unborrowed
+returns-then-is_unborrowed g c =
     let slots = c.args.entries.now.slots in
     let m = name_of_cell c.in-Some.value in
     let leads = rw c.in-Some.is at c.reach.ensures in
     let s = reached_live slots c.requires.targets (name_of_cell c.args.name) m leads in
-    ap not (rw s.there at c.is_unborrowed.ensures)
+    ap (λ b. cond b None (Some m)) (sym c.if-is_unborrowed.true ∙ (rw s.there at c.is_unborrowed.ensures))
+    ∙ reached_borrow slots (name_of_cell c.args.name) m leads s
+
+pub returns-in_default : goal.returns-in_default
+returns-in_default g c = ap (if_borrowed _) (rw c.in_default.is at c.reach.ensures)
+
+pub returns : goal.returns
+returns g c =
+    let slots = c.args.entries.now.slots in
+    let m = name_of_cell c.in-Some.value in
+    let leads = rw c.in-Some.is at c.reach.ensures in
+    let s = reached_live slots c.requires.targets (name_of_cell c.args.name) m leads in
+    ap (λ b. cond b None (Some m)) (sym c.if-is_unborrowed.false ∙ (rw s.there at c.is_unborrowed.ensures))
     ∙ reached_borrow slots (name_of_cell c.args.name) m leads s

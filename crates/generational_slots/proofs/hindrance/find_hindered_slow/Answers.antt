@@ -1,0 +1,96 @@
+use Rattle.std.proofs.Common.{◌≡◌, ◌≤◌, ◌&&◌, Bool, true, None, Some, Option, sym, ap}
+use Rattle.std.proofs.Common.{◌∙◌, arith, length, IfSome, map as list_map}
+use Rattle.std.proofs.Common.{slice_index_or}
+use Rattle.std.specs.Option.{option_eq}
+use Rattle.std.proofs.lemmas.Bool.{and_parts, eqb-true, false≢true}
+use Rattle.std.proofs.lemmas.List.{at_drop_all, length-map}
+use Rattle.generational_slots.proofs.Common.{CellName, Name, cell_at, cells_of, is_named, is_shared}
+use Rattle.generational_slots.proofs.Common.{name_of_cell, take_away}
+use Rattle.generational_slots.proofs.states.Hindrance.{all, as_listed, borrowed_leads, doomed_own}
+use Rattle.generational_slots.proofs.states.Hindrance.{free_own, passed, spared_own, stopped}
+use Rattle.generational_slots.proofs.hindrance.find_hindered_slow.Goals as goal
+
+abbrev none : CellName
+none = record { slot = 0; generation = 0 }
+
+-- what is the same name as what was spared has what that has
+spared_same : (same : CellName → CellName → Bool)
+    → ((a b : CellName) → same a b ≡ true → name_of_cell a ≡ name_of_cell b)
+    → (lives : Name → Bool) (o : Option CellName) (v : CellName)
+    → IfSome o (λ k. lives (name_of_cell k) ≡ true) → option_eq same o (Some v) ≡ true
+    → lives (name_of_cell v) ≡ true
+spared_same same is lives None v known e = absurd (false≢true e)
+spared_same same is lives (Some k) v known e = ap lives (sym (is k v e)) ∙ known
+
+pub loop-name-preserved-in_default : goal.loop-name-preserved-in_default
+loop-name-preserved-in_default g c =
+    let slots = c.args.entries.now.slots in
+    let items = c.args.names.now in
+    let i = c.loop-name.name-index in
+    let named = is_named (take_away (cells_of slots) (list_map name_of_cell items)) in (
+      passed slots named items i none c.loop-name-test.true
+          (free_own slots named _ (rw c.in_default.is at c.borrowed_value.ensures))
+          ∙ c.loop-name.invariant.0,
+      c.loop-name.invariant.1,
+    )
+
+pub loop-name-preserved-then-eq : goal.loop-name-preserved-then-eq
+loop-name-preserved-then-eq g c =
+    let slots = c.args.entries.now.slots in
+    let items = c.args.names.now in
+    let i = c.loop-name.name-index in
+    let named = is_named (take_away (cells_of slots) (list_map name_of_cell items)) in
+    let n = name_of_cell (slice_index_or items i none) in
+    let m = name_of_cell c.in-Some.value in
+    let leads = borrowed_leads slots named _ m (rw c.in-Some.is at c.borrowed_value.ensures) in
+    let lives = spared_same _ (λ a b e. let both = and_parts _ _ e in λ j. record {
+      slot = eqb-true a.slot b.slot both.0 j;
+      generation = eqb-true a.generation b.generation both.1 j;
+    }) (λ m. is_shared (cell_at slots m) && named m) c.loop-name.spared c.in-Some.value
+    c.loop-name.invariant.1 (sym c.eq.ensures ∙ c.if-eq.true) in (
+      passed slots named items i none c.loop-name-test.true
+          (spared_own slots named n m leads.0 lives)
+          ∙ c.loop-name.invariant.0,
+      c.loop-name.invariant.1,
+    )
+
+pub returns-then-not-lives_on-clause-hindrance : goal.returns-then-not-lives_on-clause-hindrance
+returns-then-not-lives_on-clause-hindrance g c =
+    let slots = c.args.entries.now.slots in
+    let items = c.args.names.now in
+    let i = c.loop-name.name-index in
+    let named = is_named (take_away (cells_of slots) (list_map name_of_cell items)) in
+    let n = name_of_cell (slice_index_or items i none) in
+    let m = name_of_cell c.in-Some.value in
+    let leads = borrowed_leads slots named _ m (rw c.in-Some.is at c.borrowed_value.ensures) in
+    as_listed (cells_of slots) (list_map name_of_cell items) c.requires.linked
+    ∙ (sym c.loop-name.invariant.0
+    ∙ stopped slots named items i none m c.loop-name-test.true
+    (doomed_own slots named c.requires.linked.targets n m leads.0
+    (sym c.lives_on.ensures ∙ c.if-not-lives_on.true)) leads.1)
+
+pub loop-name-preserved : goal.loop-name-preserved
+loop-name-preserved g c =
+    let slots = c.args.entries.now.slots in
+    let items = c.args.names.now in
+    let i = c.loop-name.name-index in
+    let named = is_named (take_away (cells_of slots) (list_map name_of_cell items)) in
+    let n = name_of_cell (slice_index_or items i none) in
+    let m = name_of_cell c.in-Some.value in
+    let leads = borrowed_leads slots named _ m (rw c.in-Some.is at c.borrowed_value.ensures) in
+    let lives = sym c.lives_on.ensures ∙ c.if-not-lives_on.false in (
+      passed slots named items i none c.loop-name-test.true
+          (spared_own slots named n m leads.0 lives)
+          ∙ c.loop-name.invariant.0,
+      lives,
+    )
+
+pub returns-clause-hindrance : goal.returns-clause-hindrance
+returns-clause-hindrance g c =
+    let slots = c.args.entries.now.slots in
+    let names = list_map name_of_cell c.args.names.now in
+    let named = is_named (take_away (cells_of slots) names) in
+    let past : length names ≤ c.loop-name.name-index =
+    omega (arith, length-map c.args.names.now name_of_cell, c.loop-name-test.false) in
+    as_listed (cells_of slots) names c.requires.linked
+    ∙ (sym c.loop-name.invariant.0 ∙ at_drop_all (all slots named) names _ past)
