@@ -22,7 +22,7 @@ pub use crate::error::{
     AlreadyBorrowedError, AlreadyBorrowedMutError, BorrowError, BorrowMutError, BorrowMutResult,
     BorrowResult, Location, Refusal, Refused, StoreError, ValueDroppedError,
 };
-pub use crate::owner::Owner;
+pub use crate::owner::{Owner, OwnerId};
 pub use crate::references::{GenerationalRef, GenerationalRefMut, Mut, MutPart, Ref};
 pub use crate::steps::StepCall;
 pub use crate::storage::{AnyStorage, Storage};

@@ -9,6 +9,17 @@ use crate::storage::{AnyStorage, Storage};
 use std::fmt;
 use std::marker::Model;
 
+/// The name of an owner's record: its store's number, and its key, which is never given twice in a
+/// store.
+#[derive(Clone, Copy, Debug, PartialEq, Eq, Hash)]
+#[non_exhaustive]
+pub struct OwnerId {
+    /// The number of the store.
+    pub store: u64,
+    /// The key.
+    pub key: u64,
+}
+
 /// An owner of boxes. Contracts see it as its store's number and its key.
 ///
 /// It names a record in its store and holds no reference. It has no `Drop`: `release` or `leak`
@@ -43,6 +54,17 @@ impl Owner {
     ghost use Rattle.generational_core.specs.Steps.{Meets};
     ghost use Rattle.generational_core.specs.Answers.{box_answer, owner_answer, release_answer};
     ghost use Rattle.generational_core.specs.Answers.{pointer_of, reference_box_answer};
+    ghost use Rattle.generational_core.specs.StepCalls.{id_of_owner};
+
+    /// The id of the owner's record. Takes no memory.
+    pub fn id(&self) -> OwnerId
+        ensures { result ≡ id_of_owner self.now }
+    {
+        OwnerId {
+            store: self.store,
+            key: self.key,
+        }
+    }
 
     /// Makes a box of a value, which ends when the last owner value of this record is released.
     /// Its id was never given before, and it stands at the end of the record's list.

@@ -259,6 +259,14 @@ impl<T> GenerationalRefMut<T> {
     ghost use Rattle.generational_core.specs.Answers.{back_answer};
     ghost use Rattle.generational_core.specs.Steps.{Meets};
 
+    /// The number of the borrow, by which a recorded release names it.
+    #[inline(always)]
+    pub fn ticket(&self) -> u64
+        ensures { result ≡ self.now.guard.ticket }
+    {
+        self.ticket
+    }
+
     /// The value. Takes no memory.
     #[inline(always)]
     pub fn deref(&self) -> &T

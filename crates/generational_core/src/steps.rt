@@ -2,16 +2,42 @@
 
 use crate::boxes::GenerationalPointer;
 use crate::error::Location;
+use crate::owner::OwnerId;
 
-/// A call of a store, without a value that was handed in.
+/// A call of a store, without a value that was handed in. A guard is named by its ticket, and an
+/// owner by its id.
 #[derive(Clone, Copy, Debug, PartialEq)]
 pub enum StepCall {
     /// A making of a value, at a location.
     Leak(Location),
+    /// A making of a shared value and its first reference, at a location.
+    LeakRc(Location),
+    /// A making of a reference to what a box reaches.
+    LeakReference(GenerationalPointer),
+    /// A making of an owner.
+    Owner,
+    /// Another owner value of a record.
+    CloneOwner(OwnerId),
+    /// A making of a value by an owner, at a location.
+    Insert(OwnerId, Location),
+    /// A making of a shared value and its first reference by an owner, at a location.
+    InsertRc(OwnerId, Location),
+    /// A making of a reference by an owner, to what a box reaches.
+    InsertReference(OwnerId, GenerationalPointer),
     /// A read of a box, at a location.
     Read(GenerationalPointer, Location),
-    /// The release of the reader with this ticket.
-    ReleaseRead(u64),
+    /// A write of a box, at a location.
+    Write(GenerationalPointer, Location),
+    /// Another value for a box.
+    Set(GenerationalPointer),
     /// The end of a box's cell.
     ManuallyDrop(GenerationalPointer),
+    /// A reference that is pointed to what another box reaches.
+    PointTo(GenerationalPointer, GenerationalPointer),
+    /// The release of the reader with this ticket.
+    ReleaseRead(u64),
+    /// The release of the writer with this ticket.
+    ReleaseWrite(u64),
+    /// The release of an owner value.
+    ReleaseOwner(OwnerId),
 }

@@ -11,12 +11,12 @@ ghost use Rattle.generational_core.specs.Machine.Action.{End, MakeShared, Refer,
 ghost use Rattle.generational_core.specs.Machine.Answer.{Flag, Old};
 ghost use Rattle.generational_core.specs.Borrowing.{can_read, can_write};
 ghost use Rattle.generational_core.specs.Steps.{Meets, last_ticket};
-ghost use Rattle.generational_core.specs.StepCalls.{is_ready};
+ghost use Rattle.generational_core.specs.StepCalls.{is_free, is_ready, target_of};
 ghost use Rattle.generational_core.specs.Answers.{make_answer, owner_answer, release_answer};
 ghost use Rattle.generational_core.specs.Answers.{read_answer, write_answer, back_answer};
 ghost use Rattle.generational_core.specs.Answers.{reference_answer, end_answer, value_behind};
 
-use crate::boxes::GenerationalPointer;
+use crate::boxes::{GenerationalBoxId, GenerationalPointer};
 use crate::error::{
     BorrowMutError, BorrowMutResult, BorrowResult, Location, Refusal, Refused, StoreError,
 };
@@ -72,10 +72,22 @@ pub trait AnyStorage<T> {
     fn data_ptr(&self, pointer: GenerationalPointer) -> usize
         ensures { result ≡ pointer.id.slot };
 
-    /// Whether the call would be answered without telling of a borrow in its way: a read meets no
-    /// writer, and an end no borrow of a value that would end. Takes no memory.
+    /// Whether the call would be answered without telling of a borrow in its way. A read, or a
+    /// making of a reference, meets no writer; a write, or another value, no borrow; the end of a
+    /// box or of an owner's boxes, and a reference that is pointed elsewhere, no borrow of a value
+    /// that would end. Takes no memory.
     fn ready(&self, call: &StepCall) -> bool
         ensures { result ≡ is_ready (state self.now) call.now };
+
+    /// The same of an owner's release, whose record is found at once: `ready` has to look for it
+    /// among all records. Takes no memory.
+    fn may_release(&self, owner: &Owner) -> bool
+        ensures { result ≡ is_free (state self.now) (ReleaseOwner owner.now) };
+
+    /// What the pointer's own cell names, exactly where that is a live reference of this store. Takes
+    /// no memory.
+    fn target(&self, pointer: GenerationalPointer) -> Option<GenerationalBoxId>
+        ensures { result ≡ target_of (state self.now) pointer };
 
     /// Whether a read of the value that the pointer reaches is free: whether it reaches a value at
     /// which no writer stands. Takes no memory.

@@ -415,10 +415,11 @@ pub fn boxes_are_told_apart_by_ids()
 /// So a call that is ready is never answered so.
 pub fn calls_are_ready_where_no_borrow_is_told<T>()
     ensures answer { (S : State T) (call : Action T) (step : StepCall) (new : NewNames) →
-        recorded_as call ≡ Some step → is_ready S step ≡ not (is_hindered (act S call new).0) }
+        recorded_as call ≡ Some step →
+        is_ready S step ≡ not (is_hindered call (act S call new).0) }
     ensures ready { (S R : State T) (call : Action T) (step : StepCall) (answer : Answer T) →
         recorded_as call ≡ Some step → is_ready S step ≡ true → Meets S call answer R →
-        is_hindered answer ≡ false }
+        is_hindered call answer ≡ false }
 {}
 
 /// No call changes the store's number or the first generation of its slots. Tickets never go

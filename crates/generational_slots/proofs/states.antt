@@ -5,6 +5,7 @@ pub mod Hindrance
 pub mod Makings
 pub mod Pointing
 pub mod Reaching
+pub mod Readiness
 pub mod References
 pub mod States
 pub mod Turning

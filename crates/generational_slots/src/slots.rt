@@ -11,7 +11,7 @@ ghost use Rattle.generational_core.specs.declared.boxes.GenerationalPointer.{Gen
 ghost use Rattle.generational_core.specs.declared.error.StoreError.TheVariants.{OutOfMemory};
 ghost use Rattle.generational_core.specs.Answers.{refusal_of_read_error};
 ghost use Rattle.generational_core.specs.Borrowing.{fill, leads_to, read_refusal, write_refusal};
-ghost use Rattle.generational_core.specs.Boxes.{box_of};
+ghost use Rattle.generational_core.specs.Boxes.{box_of, name_of};
 ghost use Rattle.generational_core.specs.Cells.{is_shared, location_of};
 ghost use Rattle.generational_core.specs.Cells.Content.{Here, Lent};
 ghost use Rattle.generational_core.specs.Cells.Cell.{Ref};
@@ -19,10 +19,11 @@ ghost use Rattle.generational_core.specs.Conditions.{fresh, IsFresh, IsLinked};
 ghost use Rattle.generational_core.specs.State.{HasTargets};
 ghost use Rattle.generational_core.specs.Ending.{close, hindrance_to};
 ghost use Rattle.generational_core.specs.Machine.{has_reader, has_writer, point, turn};
+ghost use Rattle.generational_core.specs.Machine.Action.{Point};
 ghost use Rattle.generational_core.specs.Names.{is_name};
 ghost use Rattle.generational_core.specs.Slots.{slots, free, retired};
 ghost use Rattle.generational_core.specs.State.{content_at, is_named};
-ghost use Rattle.generational_core.specs.StepCalls.{tells_of_borrow};
+ghost use Rattle.generational_core.specs.StepCalls.{is_hindered, may_set, tells_of_borrow};
 ghost use Rattle.generational_entries.specs.declared.entry.StorageEntryData.TheVariants as content;
 ghost use Rattle.generational_containers.specs.Borrows.{AreBelow};
 ghost use Rattle.generational_entries.specs.Entries.{IsUnborrowed, kept_data, target_of};
@@ -183,6 +184,46 @@ impl<T: Drop, P: SlotPool> Slots<T, P> {
             Some(value) => self.entries.is_unborrowed(value.slot),
             None => false,
         }
+    }
+
+    /// Whether no borrow stands at what a box of this name reaches, if it reaches a value.
+    pub fn may_write(&self, name: CellName) -> bool
+        requires { IsLinked self.now.state.cells }
+        ensures write { (created : Location) → result ≡ not (tells_of_borrow
+            (refusal_to_write_at self.now.state (name_of_cell name) created)) }
+        ensures set { result ≡ may_set (reached self.now.state (name_of_cell name))
+            (content_reached self.now.state (reached self.now.state (name_of_cell name))) }
+    {
+        match self.entries.reach(name) {
+            Some(value) => self.entries.is_unborrowed(value.slot),
+            None => true,
+        }
+    }
+
+    /// Whether no borrow stands in the way where the reference of this name is to name another
+    /// value.
+    pub fn may_point(&self, name: CellName, new: CellName) -> bool
+        requires { IsLinked self.now.state.cells }
+        ensures { (a b : GenerationalPointer) → name_of a ≡ name_of_cell name
+            → result ≡ not (is_hindered (Point a b) (point self.now.state a b
+            (map.get self.now.state.cells (name_of_cell name)) (Some (name_of_cell new))
+            (map.get self.now.state.cells (name_of_cell new))).0) }
+    {
+        let Some(old) = self.entries.target(name) else {
+            return true;
+        };
+        if old == new || !is_shared(&self.entries, new) {
+            return true;
+        }
+        self.may_end(name)
+    }
+
+    /// What the reference of this name names, if it is one.
+    pub fn target(&self, name: CellName) -> Option<CellName>
+        ensures { option_map name_of_cell result
+            ≡ target_in (map.get self.now.state.cells (name_of_cell name)) }
+    {
+        self.entries.target(name)
     }
 
     /// The value that a box of this name reaches, unless a writer has it, and whether it is known

@@ -14,6 +14,13 @@ use Rattle.generational_core.proofs.machine.Ends.{swept_ref, swept_was, by_cond}
 use Rattle.generational_core.proofs.machine.Changes.{held_record}
 use Rattle.generational_core.proofs.machine.Stepping.{is_refusal, meets_cases}
 use Rattle.generational_core.specs.StepCalls.{is_ready, tells_of_borrow, recorded_as, is_hindered}
+use Rattle.generational_core.specs.StepCalls.{may_set}
+use Rattle.std.specs.Prelude.{IfSome}
+use Rattle.generational_core.specs.Machine.{clone_owner, is_known, knows_writer, refer, set_at}
+use Rattle.generational_core.specs.Machine.{write_at}
+use Rattle.generational_core.specs.Borrowing.{fill, refusal_to_write}
+use Rattle.generational_core.specs.declared.error.StoreError.TheVariants.{UnknownOwner}
+use Rattle.generational_core.specs.declared.boxes.GenerationalPointer.{GenerationalPointer}
 use Rattle.std.specs.FinMap as map
 use Rattle.generational_core.specs.declared.steps.StepCall.TheVariants as call
 
@@ -139,43 +146,106 @@ module _ {T : Type 0} where
 
 module _ {T : Type 0} where
   -- a refusal that may come tells of a borrow exactly where its answer does
-  unless_told : (S : State T) (t : Option BorrowRefusal) (other : Outcome T) → is_hindered other.0 ≡ false
-      → not (tells_of_borrow t) ≡ not (is_hindered (unless t S other).0)
-  unless_told S None other h = sym (ap not h)
-  unless_told S (Some (BorrowRefusal.Dropped l)) other h = refl
-  unless_told S t other h = refl
+  unless_told : (S : State T) (a : Action T) (t : Option BorrowRefusal) (other : Outcome T)
+      → is_hindered a other.0 ≡ false
+      → not (tells_of_borrow t) ≡ not (is_hindered a (unless t S other).0)
+  unless_told S a None other h = sym (ap not h)
+  unless_told S a (Some (BorrowRefusal.Dropped l)) other h = refl
+  unless_told S a t other h = refl
 
-  read_free : (S : State T) (l : Location) (o : Option Name) (c : Option (Content T))
-      → is_hindered (read_at S l o c).0 ≡ false
-  read_free S l (Some m) (Some (Content.Here v rs)) = refl
-  read_free S l o c = refl
+  -- an unknown owner is told of before any borrow
+  known_told : (S : State T) (a : Action T) (known told : Bool) (out : Outcome T)
+      → not told ≡ not (is_hindered a out.0) → not (known && told)
+      ≡ not (is_hindered a (cond known out (Answer.Refused UnknownOwner, S)).0)
+  known_told S a true told out h = h
+  known_told S a false told out h = refl
+
+  made_told : (S : State T) (a : Action T) (known : Bool) (out : Outcome T)
+      → is_hindered a out.0 ≡ false
+      → true ≡ not (is_hindered a (cond known out (Answer.Refused UnknownOwner, S)).0)
+  made_told S a true out h = sym (ap not h)
+  made_told S a false out h = refl
+
+  read_free : (S : State T) (a : Action T) (l : Location) (o : Option Name) (c : Option (Content T))
+      → is_hindered a (read_at S l o c).0 ≡ false
+  read_free S a l (Some m) (Some (Content.Here v rs)) = refl
+  read_free S a l o c = refl
+
+  write_free : (S : State T) (a : Action T) (l : Location) (o : Option Name)
+      (c : Option (Content T)) → is_hindered a (write_at S l o c).0 ≡ false
+  write_free S a l (Some m) (Some (Content.Here v rs)) = refl
+  write_free S a l o c = refl
+
+  refer_free : (S : State T) (a : Action T) (o : Option OwnerName) (b : GenerationalPointer)
+      (to : Option Name) (c : Option (Cell T)) (n : Name)
+      → is_hindered a (refer S o b to c n).0 ≡ false
+  refer_free S a o b (Some m) (Some (Cell.Shared c l)) n = refl
+  refer_free S a o b to c n = refl
+
+  clone_free : (S : State T) (a : Action T) (o : OwnerName) (h : Option Ownership)
+      → is_hindered a (clone_owner S o h).0 ≡ false
+  clone_free S a o None = refl
+  clone_free S a o (Some h) = refl
+
+  set_told : (S : State T) (b : GenerationalPointer) (v : T) (o : Option Name)
+      (c : Option (Content T))
+      → may_set o c ≡ not (is_hindered (Action.SetValue b v) (set_at S b v o c).0)
+  set_told S b v None c = refl
+  set_told S b v (Some m) (Some (Content.Here old [])) = refl
+  set_told S b v (Some m) c = refl
 
   -- of a call and the call as it is recorded
   pub ready_told : (S : State T) (call : Action T) (step : StepCall) (new : NewNames)
-      → recorded_as call ≡ Some step → is_ready S step ≡ not (is_hindered (act S call new).0)
-  ready_told S (Action.Make None v l) step new e =
-      let same : call.Leak l ≡ step = cc in ap (is_ready S) (sym same)
-  ready_told S (Action.Read b l) step new e = let same : call.Read b l ≡ step = cc in
-      ap (is_ready S) (sym same) ∙ unless_told S
-      (refusal_to_read S b) _ (read_free S l (reach S b) (content_of (cell_at S (reach S b))))
-  ready_told S (Action.ReleaseReader g) step new e =
-      let same : call.ReleaseRead g.ticket ≡ step = cc in
-      ap (is_ready S) (sym same)
-      ∙ sym (ap not (by_cond (λ (out : Outcome T). is_hindered out.0 ≡ false) (knows_reader S g)
-      {x = (Answer.Flag true, remove_reader S g.cell g.ticket (content_at S g.cell))}
-      {y = (Answer.Flag false, S)}
-      (λ _. refl) (λ _. refl)))
-  ready_told S (Action.End b) step new e = let same : call.ManuallyDrop b ≡ step = cc in
-      ap (is_ready S) (sym same) ∙ unless_told S (hindrance_to S (own_name S b)) _ refl
-  ready_told S (Action.Make (Some o) v l) step new e = absurd cc
-  ready_told S _ step new e = absurd cc
+      → recorded_as call ≡ Some step → is_ready S step ≡ not (is_hindered call (act S call new).0)
+  ready_told S call step new e = subst (λ o. IfSome o (λ s. is_ready S s
+      ≡ not (is_hindered call (act S call new).0))) e (told call)
+    where
+      told : (a : Action T) → IfSome (recorded_as a) (λ s. is_ready S s
+          ≡ not (is_hindered a (act S a new).0))
+      told (Action.Make None v l) = refl
+      told (Action.Make (Some o) v l) = made_told S (Action.Make (Some o) v l)
+          (is_known S (Some o)) _ refl
+      told (Action.MakeShared None v l) = refl
+      told (Action.MakeShared (Some o) v l) = made_told S (Action.MakeShared (Some o) v l)
+          (is_known S (Some o)) _ refl
+      told (Action.Refer None b) = unless_told S (Action.Refer None b) (refusal_to_read S b) _
+          (refer_free S (Action.Refer None b) None b (reach S b) (cell_at S (reach S b)) new.first)
+      told (Action.Refer (Some o) b) = let a = Action.Refer (Some o) b in
+          known_told S a (is_known S (Some o)) _ _ (unless_told S a (refusal_to_read S b) _
+          (refer_free S a (Some o) b (reach S b) (cell_at S (reach S b)) new.first))
+      told Action.NewOwner = refl
+      told (Action.CloneOwner o) =
+          sym (ap not (clone_free S (Action.CloneOwner o) o (ownership S o)))
+      told (Action.ReleaseOwner o) = refl
+      told (Action.LeakOwner o) = tt
+      told (Action.Read b l) = unless_told S (Action.Read b l) (refusal_to_read S b) _
+          (read_free S (Action.Read b l) l (reach S b) (content_of (cell_at S (reach S b))))
+      told (Action.Write b l) = unless_told S (Action.Write b l) (refusal_to_write S b) _
+          (write_free S (Action.Write b l) l (reach S b) (content_of (cell_at S (reach S b))))
+      told (Action.ReleaseReader g) = sym (ap not (by_cond
+          (λ (out : Outcome T). is_hindered (Action.ReleaseReader g) out.0 ≡ false)
+          (knows_reader S g)
+          {x = (Answer.Flag true, remove_reader S g.cell g.ticket (content_at S g.cell))}
+          {y = (Answer.Flag false, S)} (λ _. refl) (λ _. refl)))
+      told (Action.ReleaseWriter g v) = sym (ap not (by_cond
+          (λ (out : Outcome T). is_hindered (Action.ReleaseWriter g v) out.0 ≡ false)
+          (knows_writer S g) {x = (Done, fill S g.cell (Content.Here v []))}
+          {y = (Answer.Back v, S)} (λ _. refl) (λ _. refl)))
+      told (Action.SetValue b v) =
+          set_told S b v (reach S b) (content_of (cell_at S (reach S b)))
+      told (Action.End b) = unless_told S (Action.End b) (hindrance_to S (own_name S b)) _ refl
+      told (Action.Point a b) = refl
+      told (Action.CanRead b) = tt
+      told (Action.CanWrite b) = tt
 
   -- a call that is ready is answered by no borrow
   pub ready_free : (S R : State T) (call : Action T) (step : StepCall) (answer : Answer T)
       → recorded_as call ≡ Some step → is_ready S step ≡ true → Meets S call answer R
-      → is_hindered answer ≡ false
-  ready_free S R call step answer is ready (inl m) = ap (λ (o : Outcome T). is_hindered o.0) m.2
-      ∙ by_cond (λ (out : Outcome T). is_hindered out.0 ≡ false) (takes_ticket (act S call m.0).0 &&
-      nat_eq S.next last_ticket) {x = (Answer.Refused NumbersExhausted, S)} {y = act S call m.0}
+      → is_hindered call answer ≡ false
+  ready_free S R call step answer is ready (inl m) =
+      ap (λ (o : Outcome T). is_hindered call o.0) m.2
+      ∙ by_cond (λ (out : Outcome T). is_hindered call out.0 ≡ false)
+      (takes_ticket (act S call m.0).0 && nat_eq S.next last_ticket)
+      {x = (Answer.Refused NumbersExhausted, S)} {y = act S call m.0}
       (λ _. refl) (λ _. not-true _ (sym (ready_told S call step m.0 is) ∙ ready))
-  ready_free S R call step answer is ready (inr m) = ap is_hindered m.1
+  ready_free S R call step answer is ready (inr m) = ap (is_hindered call) m.1

@@ -99,7 +99,7 @@ module _ {T : Type 0} where
     named_there l is = shared_content (map.get S.cells m) (linked.targets n m l is)
 
     -- in linked cells something stands where a name leads
-    reached_there : Some m ≡ reached S n → is_some (content_at S m) ≡ true
+    pub reached_there : Some m ≡ reached S n → is_some (content_at S m) ≡ true
     reached_there to = at (map.get S.cells n) refl to
       where
         at : (o : Option (Cell T)) → map.get S.cells n ≡ o → Some m ≡ leads_to o n

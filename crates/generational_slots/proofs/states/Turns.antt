@@ -39,7 +39,7 @@ module _ {T : Type 0} where
 
   module _ (S : State T) (n old new : Name) (l : Location) (linked : IsLinked S.cells)
       (there : map.get S.cells n ≡ Some (Ref old l)) where
-    abbrev left : NameMap (Cell T)
+    abbrev pub left : NameMap (Cell T)
     left = sweep (map.insert S.cells n (Ref new l))
 
     pub turns_same : is_name old new ≡ true → IsTurned S S (Ok tt) (turn S n old new l)
@@ -51,7 +51,7 @@ module _ {T : Type 0} where
       target_doomed = doomed ∙ ap (λ c. doomed_by (is_named (map.remove S.cells n)) c n) there
 
       -- the old target hinders it where it would go
-      hinders : hindrance_at S.cells left old ≡ refusal_of S.cells d
+      pub hinders : hindrance_at S.cells left old ≡ refusal_of S.cells d
       hinders =
           turn_hindered S.cells n old new l linked there other
           ∙ (at (is_named (map.remove S.cells n) old)

@@ -1,0 +1,51 @@
+use Rattle.std.proofs.Common.{◌≡◌, ap, sym, subst, ◌∙◌, true, false, refl, not, is_none, Some, [], ◌∷◌}
+use Rattle.std.specs.FinMap as map
+use Rattle.generational_core.specs.Machine.{point}
+use Rattle.generational_core.specs.Machine.Action.{Point}
+use Rattle.generational_core.specs.StepCalls.{is_hindered}
+unfoldable use Rattle.generational_slots.proofs.Common.{hindrance_to}
+use Rattle.generational_entries.specs.Entry.{target_in}
+use Rattle.generational_slots.proofs.Common.{is_name, is_shared, name_of_cell, name_test}
+use Rattle.generational_slots.proofs.states.Changes.{cell_seen, state_is}
+use Rattle.generational_slots.proofs.states.Readiness.{plain_free, same_free, turned_free}
+use Rattle.generational_slots.proofs.states.Readiness.{unshared_free}
+use Rattle.generational_slots.proofs.slots.Slots.may_point.Goals as goal
+use Rattle.generational_slots.proofs.slots.Slots.may_point.Goals.{then-eq-via-then-eq}
+use Rattle.generational_slots.proofs.slots.Slots.may_point.Goals.{then-eq-via-else-eq+then-not-is_shared}
+
+pub returns-in_default : goal.returns-in_default
+returns-in_default g c a b at =
+    let S = c.args.self.now.state in
+    plain_free S a b (name_of_cell c.args.new) _ _ (c.in_default.ensures
+    ∙ ap target_in (cell_seen c.self.inside.entries.slots (state_is c.self.view_is)
+    (name_of_cell c.args.name)))
+
+pub returns-then-eq : goal.returns-then-eq
+returns-then-eq g c a b at =
+    let S = c.args.self.now.state in
+    let view = state_is c.self.view_is in
+    let m = name_of_cell c.args.new in
+    let seen = cell_seen c.self.inside.entries.slots view (name_of_cell c.args.name) in
+    elim c.then-eq.branch [
+      | then-eq-via-then-eq w ↦ same_free S a b m _ _ (name_of_cell c.in-Some.old)
+          (c.in-Some.ensures ∙ ap target_in seen)
+          (name_test _ m ∙ (sym c.eq.ensures ∙ w.if-eq.true))
+      | then-eq-via-else-eq+then-not-is_shared w ↦ unshared_free S a b m _ _
+          (w.if-not-is_shared.ensures ∙ ap is_shared (cell_seen c.self.inside.entries.slots view m))
+    ]
+
+pub returns : goal.returns
+returns g c a b at =
+    let S = c.args.self.now.state in
+    let view = state_is c.self.view_is in
+    let n = name_of_cell c.args.name in
+    let m = name_of_cell c.args.new in
+    let seen = cell_seen c.self.inside.entries.slots view n in
+    let refers = c.in-Some.ensures ∙ ap target_in seen in
+    c.may_end.ensures
+    ∙ subst (λ k. is_none (hindrance_to S (k ∷ [])) ≡ not (is_hindered (Point a b) (point S a b
+    (map.get S.cells k) (Some m) (map.get S.cells m)).0)) at
+    (turned_free S a b m _ _ (name_of_cell c.in-Some.old) refl c.requires
+    (subst (λ k. Some (name_of_cell c.in-Some.old) ≡ target_in (map.get S.cells k)) (sym at) refers)
+    (c.if-not-is_shared.ensures ∙ ap is_shared (cell_seen c.self.inside.entries.slots view m))
+    (name_test _ m ∙ (sym c.eq.ensures ∙ c.if-eq.false)))

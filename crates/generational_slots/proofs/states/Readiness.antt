@@ -1,0 +1,129 @@
+-- Which calls no borrow hinders, as the machine answers them.
+use Rattle.std.proofs.Common.{◌≡◌, Bool, true, false, cond, not, Option, None, Some, [], ◌∷◌, refl}
+use Rattle.std.proofs.Common.{sym, ap, ◌∙◌, is_none, is_some}
+use Rattle.std.proofs.lemmas.Bool.{false≢true, true≢false}
+use Rattle.std.specs.FinMap as map
+use Rattle.generational_core.specs.Boxes.{name_of}
+use Rattle.generational_core.specs.Ending.{hindrance_at}
+use Rattle.generational_core.specs.Machine.{Action, Outcome, point, turn, unless}
+use Rattle.generational_core.specs.Machine.Answer.{Done}
+use Rattle.generational_core.specs.StepCalls.{is_hindered, may_set, tells_of_borrow}
+use Rattle.generational_core.specs.declared.boxes.GenerationalPointer.{GenerationalPointer}
+use Rattle.generational_entries.specs.Entry.{target_in}
+use Rattle.generational_slots.specs.SlotsState.{content_reached, reached, refusal_of}
+use Rattle.generational_slots.proofs.Common.{Cell, Content, Here, IsLinked, Lent, Location, Name}
+use Rattle.generational_slots.proofs.Common.{BorrowRefusal, Ref, Shared, State, Value, content_at}
+use Rattle.generational_slots.proofs.Common.{content_of, doomed_by, is_name, is_named, is_shared}
+use Rattle.generational_slots.proofs.Common.{write_refusal}
+unfoldable use Rattle.generational_slots.proofs.Common.{hindrance_to}
+use Rattle.generational_slots.proofs.states.Endings.{doomed_hinders}
+use Rattle.generational_slots.proofs.states.Turns.{hinders, left}
+
+module _ {T : Type 0} where
+  -- what stands in the way of a write tells of a borrow
+  pub write_tells : (c : Option (Content T))
+      → is_none (write_refusal c) ≡ not (tells_of_borrow (write_refusal c))
+  write_tells None = refl
+  write_tells (Some (Here v [])) = refl
+  write_tells (Some (Here v (r ∷ rs))) = refl
+  write_tells (Some (Lent w)) = refl
+
+  -- and in the way of another value
+  set_tells : (m : Name) (c : Option (Content T)) → is_some c ≡ true
+      → is_none (write_refusal c) ≡ may_set (Some m) c
+  set_tells m None there = absurd (false≢true there)
+  set_tells m (Some (Here v [])) there = refl
+  set_tells m (Some (Here v (r ∷ rs))) there = refl
+  set_tells m (Some (Lent w)) there = refl
+
+  pub set_reached : (S : State T) (m : Name) (o : Option Name) → Some m ≡ o
+      → is_some (content_at S m) ≡ true
+      → is_none (write_refusal (content_at S m)) ≡ may_set o (content_reached S o)
+  set_reached S m (Some k) to there =
+      let same : m ≡ k = cc in
+      set_tells m (content_at S m) there ∙ ap (λ j. may_set (Some j) (content_at S j)) same
+  set_reached S m None to there = absurd cc
+
+  pub set_nothing : (S : State T) (o : Option Name) → None ≡ o
+      → true ≡ may_set o (content_reached S o)
+  set_nothing S None to = refl
+  set_nothing S (Some m) to = absurd cc
+
+  -- an answer is free where nothing refuses it, or what was dropped
+  free_unless : (S : State T) (a : Action T) (t : Option BorrowRefusal) (R : State T)
+      → is_none t ≡ not (tells_of_borrow t)
+      → is_none t ≡ not (is_hindered a (unless t S (Done, R)).0)
+  free_unless S a None R tells = refl
+  free_unless S a (Some t) R tells = tells
+
+  -- what hinders the turn of a reference is what hinders its end
+  pub turn_free : (S : State T) (n old new : Name) (l : Location) (a : Action T)
+      → IsLinked S.cells → map.get S.cells n ≡ Some (Ref old l) → is_name old new ≡ false
+      → is_none (hindrance_to S (n ∷ [])) ≡ not (is_hindered a (turn S n old new l).0)
+  turn_free S n old new l a linked there other =
+      let d = doomed_by (is_named (map.remove S.cells n)) (map.get S.cells n) n in
+      let same = doomed_hinders S n linked d refl
+      ∙ sym (hinders S n old new l linked there other d refl) in
+      let cells = left S n old new l linked there in
+      rw other (ap is_none same ∙ free_unless S a (hindrance_at S.cells cells old) _
+      (spot (is_some (map.get cells old))))
+    where
+      spot : (b : Bool) → is_none (cond (not b) (write_refusal (content_of (map.get S.cells old)))
+          None) ≡ not (tells_of_borrow (cond (not b)
+          (write_refusal (content_of (map.get S.cells old))) None))
+      spot true = refl
+      spot false = write_tells (content_of (map.get S.cells old))
+
+  module _ (S : State T) (a b : GenerationalPointer) (m : Name) where
+    abbrev IsFree : Option (Cell T) → Option (Cell T) → Bool → Type 0
+    IsFree own target free =
+        free ≡ not (is_hindered (Action.Point a b) (point S a b own (Some m) target).0)
+
+    -- what is no reference is told of as dropped
+    pub plain_free : (own target : Option (Cell T)) → None ≡ target_in own → IsFree own target true
+    plain_free None target none = refl
+    plain_free (Some (Value c l)) target none = refl
+    plain_free (Some (Shared c l)) target none = refl
+    plain_free (Some (Ref q l)) target none = absurd cc
+
+    -- and so is what isn't shared
+    pub unshared_free : (own target : Option (Cell T)) → false ≡ is_shared target
+        → IsFree own target true
+    unshared_free None target plain = refl
+    unshared_free (Some (Value c l)) target plain = refl
+    unshared_free (Some (Shared c l)) target plain = refl
+    unshared_free (Some (Ref q l)) None plain = refl
+    unshared_free (Some (Ref q l)) (Some (Value c k)) plain = refl
+    unshared_free (Some (Ref q l)) (Some (Ref p k)) plain = refl
+    unshared_free (Some (Ref q l)) (Some (Shared c k)) plain = absurd (false≢true plain)
+
+    -- a reference that names the value already stays
+    pub same_free : (own target : Option (Cell T)) (old : Name) → Some old ≡ target_in own
+        → is_name old m ≡ true → IsFree own target true
+    same_free (Some (Ref q l)) (Some (Shared c k)) old refers same =
+        let is : old ≡ q = cc in rw (ap (λ x. is_name x m) (sym is) ∙ same) refl
+    same_free (Some (Ref q l)) (Some (Value c k)) old refers same = refl
+    same_free (Some (Ref q l)) (Some (Ref p k)) old refers same = refl
+    same_free (Some (Ref q l)) None old refers same = refl
+    same_free (Some (Value c l)) target old refers same = refl
+    same_free (Some (Shared c l)) target old refers same = refl
+    same_free None target old refers same = refl
+
+    -- else what hinders its end hinders it
+    pub turned_free : (own target : Option (Cell T)) (old : Name)
+        → map.get S.cells (name_of a) ≡ own → IsLinked S.cells → Some old ≡ target_in own
+        → true ≡ is_shared target → is_name old m ≡ false
+        → IsFree own target (is_none (hindrance_to S (name_of a ∷ [])))
+    turned_free (Some (Ref q l)) (Some (Shared c k)) old there linked refers shared other =
+        let is : old ≡ q = cc in
+        turn_free S (name_of a) q m l (Action.Point a b) linked there
+        (ap (λ x. is_name x m) (sym is) ∙ other)
+    turned_free (Some (Ref q l)) (Some (Value c k)) old there linked refers shared other =
+        absurd (true≢false shared)
+    turned_free (Some (Ref q l)) (Some (Ref p k)) old there linked refers shared other =
+        absurd (true≢false shared)
+    turned_free (Some (Ref q l)) None old there linked refers shared other =
+        absurd (true≢false shared)
+    turned_free (Some (Value c l)) target old there linked refers shared other = absurd cc
+    turned_free (Some (Shared c l)) target old there linked refers shared other = absurd cc
+    turned_free None target old there linked refers shared other = absurd cc
