@@ -4,3 +4,4 @@ pub mod Frees
 pub mod Makings
 pub mod OwnerCalls
 pub mod Points
+pub mod Readiness

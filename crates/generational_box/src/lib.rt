@@ -21,7 +21,7 @@ pub use generational_containers::pool::{LastFirst, OldestFirst, SlotPool};
 pub use generational_core::{
     AlreadyBorrowedError, AlreadyBorrowedMutError, AnyStorage, BorrowError, BorrowMutError,
     BorrowMutResult, BorrowResult, GenerationalBox, GenerationalBoxId, GenerationalPointer,
-    GenerationalRef, GenerationalRefMut, Location, Mut, MutPart, Owner, Ref, Refusal, Refused,
-    StepCall, Storage, StoreError, ValueDroppedError,
+    GenerationalRef, GenerationalRefMut, Location, Mut, MutPart, Owner, OwnerId, Ref, Refusal,
+    Refused, StepCall, Storage, StoreError, ValueDroppedError,
 };
 pub use generational_sessions::{BoxAt, Call, Reply, Session, caller_laws, laws};

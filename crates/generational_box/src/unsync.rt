@@ -14,15 +14,15 @@ ghost use Rattle.generational_slots.specs.SlotsState.{IsMade, with_records};
 
 use crate::ids::{cell_name, id_in, pointer_in};
 use generational_containers::names::CellName;
-use generational_containers::owners::OwnerRecords;
+use generational_containers::owners::{OwnerRecord, OwnerRecords};
 use generational_containers::pool::{LastFirst, SlotPool};
 use generational_core::parts::{
     Borrow, id_read, into_reader, into_writer, key_of, owner_at, reader_at, writer_at,
 };
 use generational_core::{
-    AnyStorage, BorrowMutError, BorrowMutResult, BorrowResult, GenerationalPointer,
-    GenerationalRef, GenerationalRefMut, Location, Owner, Refusal, Refused, StepCall, Storage,
-    StoreError,
+    AnyStorage, BorrowError, BorrowMutError, BorrowMutResult, BorrowResult, GenerationalBoxId,
+    GenerationalPointer, GenerationalRef, GenerationalRefMut, Location, Owner, Refusal, Refused,
+    StepCall, Storage, StoreError,
 };
 use generational_entries::entry::{Kind, StorageEntryData};
 use generational_slots::refusals::{dropped, dropped_mut};
@@ -236,15 +236,36 @@ impl<T: Drop, P: SlotPool> AnyStorage<T> for Store<T, P> {
     }
 
     fn ready(&self, call: &StepCall) -> bool {
-        match call {
-            StepCall::Leak(_) | StepCall::ReleaseRead(_) => true,
-            StepCall::Read(pointer, _) => {
-                pointer.id.store != self.number || self.slots.may_read(cell_name(pointer.id))
+        match *call {
+            StepCall::LeakReference(pointer) | StepCall::Read(pointer, _) => {
+                self.may_read(pointer)
             }
-            StepCall::ManuallyDrop(pointer) => {
-                pointer.id.store != self.number || self.slots.may_end(cell_name(pointer.id))
+            StepCall::InsertReference(owner, pointer) => {
+                self.may_read(pointer) || self.owners.find_id(self.number, owner).is_none()
             }
+            StepCall::Write(pointer, _) => self.may_write(pointer),
+            StepCall::Set(pointer) => self.may_write(pointer),
+            StepCall::ManuallyDrop(pointer) => self.may_end(pointer),
+            StepCall::PointTo(pointer, other) => self.may_point(pointer, other),
+            StepCall::ReleaseOwner(owner) => {
+                let record = self.owners.find_id(self.number, owner);
+                self.may_end_record(record)
+            }
+            _ => true,
         }
+    }
+
+    fn may_release(&self, owner: &Owner) -> bool {
+        let record = self.owners.find(self.number, owner);
+        self.may_end_record(record)
+    }
+
+    fn target(&self, pointer: GenerationalPointer) -> Option<GenerationalBoxId> {
+        if pointer.id.store != self.number {
+            return None;
+        }
+        let name = self.slots.target(cell_name(pointer.id))?;
+        Some(id_in(self.number, name))
     }
 
     #[inline(always)]
@@ -443,13 +464,75 @@ impl<T: Drop, P: SlotPool> Storage<T> for Store<T, P> {
 // What the calls ask and do.
 impl<T: Drop, P: SlotPool> Store<T, P> {
     ghost use Rattle.std.specs.Prelude.{◌≡◌, true, None, Some, option_copied};
+    ghost use Rattle.std.specs.Prelude.{not, option_map};
+    ghost use Rattle.std.specs.List.{IsDistinct};
     ghost use Rattle.generational_core.specs.Answers.{read_answer, write_answer};
     ghost use Rattle.generational_core.specs.Borrowing.{reach, read_refusal, write_refusal};
-    ghost use Rattle.generational_core.specs.Machine.{is_known};
-    ghost use Rattle.generational_core.specs.Machine.Action.{Read, Write};
+    ghost use Rattle.generational_core.specs.Borrowing.{refusal_to_read, refusal_to_write};
+    ghost use Rattle.generational_core.specs.Cells.{content_of};
+    ghost use Rattle.generational_core.specs.Ending.{hindrance_to};
+    ghost use Rattle.generational_core.specs.Machine.{OwnerName, cell_at, is_known, own_name};
+    ghost use Rattle.generational_core.specs.Machine.{ownership};
+    ghost use Rattle.generational_core.specs.Machine.Action.{Point, Read, ReleaseOwner, Write};
+    ghost use Rattle.generational_core.specs.Names.{is_name};
+    ghost use Rattle.generational_core.specs.StepCalls.{is_free, may_set, tells_of_borrow};
     ghost use Rattle.generational_core.specs.State.{content_at};
     ghost use Rattle.generational_core.specs.Steps.{Meets};
     ghost use Rattle.generational_containers.specs.CellNames.{name_of_cell};
+
+    // Whether no writer has what the box reaches, if it reaches a value.
+    fn may_read(&self, pointer: GenerationalPointer) -> bool
+        ensures { result ≡ not (tells_of_borrow (refusal_to_read self.now.state pointer)) }
+    {
+        pointer.id.store != self.number || self.slots.may_read(cell_name(pointer.id))
+    }
+
+    // Whether no borrow stands at what the box reaches, if it reaches a value.
+    fn may_write(&self, pointer: GenerationalPointer) -> bool
+        ensures write { result ≡ not (tells_of_borrow (refusal_to_write self.now.state pointer)) }
+        ensures set { result ≡ may_set (reach self.now.state pointer)
+            (content_of (cell_at self.now.state (reach self.now.state pointer))) }
+    {
+        pointer.id.store != self.number || self.slots.may_write(cell_name(pointer.id))
+    }
+
+    // Whether no borrow stands in the way of the end of the box's cell.
+    fn may_end(&self, pointer: GenerationalPointer) -> bool
+        ensures { result
+            ≡ not (tells_of_borrow (hindrance_to self.now.state (own_name self.now.state pointer))) }
+    {
+        pointer.id.store != self.number || self.slots.may_end(cell_name(pointer.id))
+    }
+
+    // Whether no borrow stands in the way where a box is pointed to what another reaches.
+    fn may_point(&self, pointer: GenerationalPointer, other: GenerationalPointer) -> bool
+        ensures { result ≡ is_free self.now.state (Point pointer other) }
+    {
+        if pointer == other || other.id.store != self.number {
+            return true;
+        }
+        match self.slots.unlent(cell_name(other.id), other.created_at) {
+            Err(BorrowError::AlreadyBorrowedMut(_)) => false,
+            Err(BorrowError::Dropped(_)) => true,
+            Ok(new) => {
+                pointer.id.store != self.number || self.slots.may_point(cell_name(pointer.id), new)
+            }
+        }
+    }
+
+    // Whether no borrow stands in the way of the release of an owner value of a record, if the
+    // store has it.
+    fn may_end_record(&self, held: Option<&OwnerRecord>) -> bool
+        requires { IfSome (option_copied held) (λ r. IsDistinct is_name r.ownership.names) }
+        ensures { (o : OwnerName)
+            → option_map (λ r. r.ownership) (option_copied held.entry) ≡ ownership self.now.state o
+            → result ≡ is_free self.now.state (ReleaseOwner o) }
+    {
+        match held {
+            Some(record) if record.count() <= 1 => self.slots.may_end_all(record.boxes()),
+            _ => true,
+        }
+    }
 
     // Whether the store knows the owner, if there is one.
     fn knows(&self, owner: Option<&Owner>) -> bool

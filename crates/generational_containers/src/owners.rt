@@ -7,6 +7,7 @@ ghost use Rattle.std.specs.Prelude.{option_copied, option_map, is_some, map as l
 ghost use Rattle.std.specs.Prelude.{if◌then◌else◌, vec_len, slice_get, slice_set};
 ghost use Rattle.std.specs.FinMap as map;
 ghost use Rattle.generational_core.specs.State.{one_more, one_less, one_listed};
+ghost use Rattle.generational_core.specs.StepCalls.{owner_of};
 ghost use Rattle.generational_core.specs.Conditions.{names_under, names_in};
 ghost use Rattle.generational_core.specs.Names.{change};
 ghost use Rattle.generational_containers.specs.CellNames.{name_of_cell};
@@ -22,7 +23,7 @@ ghost use Rattle.generational_containers.specs.OwnerPlaces.{record_at, HasRecord
 use crate::names::CellName;
 use crate::pool::{LastFirst, SlotPool, make_room};
 use generational_core::parts::{key_of, number_of, place_of};
-use generational_core::{Owner, StoreError};
+use generational_core::{Owner, OwnerId, StoreError};
 use std::alloc::{AllocError, Global};
 use std::marker::Model;
 
@@ -188,6 +189,21 @@ impl OwnerRecords {
             return None;
         }
         match find_place(&self.places, owner) {
+            Some(place) => self.places[place].as_ref(),
+            None => None,
+        }
+    }
+
+    /// The record of an owner's id, if it is of a store with this number and these records. An id
+    /// has no hint of its record's place, so all places are asked.
+    pub fn find_id(&self, number: u64, id: OwnerId) -> Option<&OwnerRecord>
+        ensures { option_map (λ r. r.ownership) (option_copied result) ≡
+            record_of number self.now.owners (owner_of id) }
+    {
+        if id.store != number {
+            return None;
+        }
+        match search_place(&self.places, id.key) {
             Some(place) => self.places[place].as_ref(),
             None => None,
         }

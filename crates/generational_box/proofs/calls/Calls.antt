@@ -9,7 +9,7 @@ use Rattle.std.specs.Cmp.{nat_eq_equiv}
 use Rattle.std.specs.FinMap as map
 use Rattle.generational_core.specs.declared.error.Refused.TheVariants as refused
 use Rattle.generational_core.specs.declared.error.Refused.{Refused}
-use Rattle.generational_core.specs.Machine.{Action, Outcome, act, read_at, write_at, own_cell}
+use Rattle.generational_core.specs.Machine.{Action, Outcome, act, read_at, write_at}
 use Rattle.generational_core.specs.Machine.{next_guard, has_reader, has_writer, cell_at, unless}
 use Rattle.generational_core.specs.Machine.Answer.{Reads, Writes, Flag, Back, BorrowRefused}
 use Rattle.generational_core.specs.Machine.Answer.{Refused as refuses}

@@ -6,18 +6,17 @@ use Rattle.std.proofs.lemmas.Bool.{eq-eqb, ne_eqb}
 use Rattle.std.specs.FinMap as map
 use Rattle.std.specs.Option.{option_or}
 use Rattle.generational_core.specs.declared.error.Refused.{Refused}
-use Rattle.generational_core.specs.declared.steps.StepCall.TheVariants.{Read as Reading}
 use Rattle.generational_core.specs.Answers.{end_answer}
 use Rattle.generational_core.specs.Ending.{hindrance_at}
 use Rattle.generational_core.specs.Machine.Answer.{Done}
 use Rattle.generational_entries.specs.Entry.{FoundBorrowed}
 use Rattle.generational_box.proofs.Common.{BorrowMutError, Cell, Content, End, GenerationalPointer}
-use Rattle.generational_box.proofs.Common.{Here, IsLinked, IsSound, Lent, Location, ManuallyDrop}
+use Rattle.generational_box.proofs.Common.{Here, IsLinked, IsSound, Lent, ManuallyDrop}
 use Rattle.generational_box.proofs.Common.{Meets, Name, NameMap, Owners, Ref, Shared, State}
 use Rattle.generational_box.proofs.Common.{BorrowRefusal, Value, cells_after, close, close_nothing}
-use Rattle.generational_box.proofs.Common.{content_at, content_of, first_hindrance, hindrance_of}
-use Rattle.generational_box.proofs.Common.{hindrance_to, is_ready, name_of, no_names, reach}
-use Rattle.generational_box.proofs.Common.{read_refusal, refusal_to_read, sound_linked}
+use Rattle.generational_box.proofs.Common.{content_of, first_hindrance, hindrance_of}
+use Rattle.generational_box.proofs.Common.{hindrance_to, is_ready, name_of, no_names}
+use Rattle.generational_box.proofs.Common.{sound_linked}
 use Rattle.generational_box.proofs.Common.{tells_of_borrow, with_records, write_refusal}
 use Rattle.generational_box.proofs.calls.Calls.{hindered_step}
 
@@ -95,16 +94,11 @@ module _ {T : Type 0} where
         either (Some t) b h k = h
 
   -- and of names of a store
-  end_tells : (S : State T) (names : List Name) → Tells (hindrance_to S names)
+  pub end_tells : (S : State T) (names : List Name) → Tells (hindrance_to S names)
   unfolding hindrance_to
   end_tells S names = first_tells S.cells (cells_after S.cells names) names
 
   module _ {V S : State T} (view : V ≡ S) (b : GenerationalPointer) where
-    -- a read meets no borrow where nothing is reached
-    pub read_ready_gone : (l : Location) → None ≡ reach S b → true ≡ is_ready S (Reading b l)
-    unfolding refusal_to_read
-    read_ready_gone l none = rw (← none) refl
-
     -- an end of another store's box meets none
     pub end_ready_strange : b.id.store ≢ V.number → true ≡ is_ready S (ManuallyDrop b)
     unfolding hindrance_to

@@ -1,7 +1,7 @@
 -- The makings of cells, as steps of the machine.
-use Rattle.std.proofs.Common.{◌≡◌, ◌≢◌, IfSome, is_some, is_err, OnErr, ⊎_elim, Result, Err, Ok, ℕ}
+use Rattle.std.proofs.Common.{◌≡◌, ◌≢◌, IfSome, is_some, ⊎_elim, ℕ}
 use Rattle.std.proofs.Common.{◌<◌, ◌⊎◌, Bool, true, false, cond, ◌||◌, List, [], ◌∷◌, Option, None}
-use Rattle.std.proofs.Common.{Some, IsSome, IfOk, refl, sym, ap, ◌∙◌, inl, inr, subst}
+use Rattle.std.proofs.Common.{Some, IsSome, refl, sym, ap, ◌∙◌, inl, inr, subst}
 use Rattle.std.proofs.lemmas.Bool.{eq-eqb, lt-ltb, false≢true, true≢false}
 use Rattle.std.specs.FinMap as map
 use Rattle.std.specs.FinSet as set
@@ -14,7 +14,7 @@ use Rattle.generational_core.specs.Machine.{cell_at, make, refer, unless, NewNam
 use Rattle.generational_box.proofs.Common.{MakeShared, Refer, HasTargets, by_name}
 use Rattle.generational_box.proofs.Common.{contains-insert_name, get-insert_apart, get-insert_here}
 use Rattle.generational_box.proofs.Common.{name_cases, cell_of, content_at, location_of}
-use Rattle.generational_box.proofs.Common.{AreCounted, Cell, Dropped, IsBounded, meets_kept, GenerationalPointer, Here}
+use Rattle.generational_box.proofs.Common.{AreCounted, Cell, Dropped, GenerationalPointer, Here}
 use Rattle.generational_box.proofs.Common.{IsListed, IsMade, IsNew, IsRefusal, IsSound}
 use Rattle.generational_box.proofs.Common.{Location, Make, Meets, Name, NumbersExhausted}
 use Rattle.generational_box.proofs.Common.{OutOfMemory, Ownership, Owners, Ref, Shared, SlotsState}

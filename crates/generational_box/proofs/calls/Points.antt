@@ -1,6 +1,6 @@
 -- The change of what a reference names, as a step of the machine.
 use Rattle.std.proofs.Common.{◌≡◌, ◌≢◌, ℕ, Bool, true, false, cond, Option, None, Some, Result, Ok}
-use Rattle.std.proofs.Common.{Err, refl, ap, ◌∙◌, inl, nat_eq}
+use Rattle.std.proofs.Common.{Err, refl, ap, ◌∙◌, inl}
 use Rattle.std.proofs.lemmas.Bool.{eq-eqb, false≢true, ne_eqb}
 use Rattle.std.specs.FinMap as map
 use Rattle.generational_core.specs.declared.error.Refused.{Refused}
@@ -53,11 +53,11 @@ module _ {T : Type 0} where
       module _ (X : State T) {number next : ℕ} {owners : Owners} {m : Name}
           (view : with_records X number owners next ≡ S)
           (to : reach S b ≡ Some m) (free : refusal_to_read S b ≡ None) where
-        abbrev V : State T
+        abbrev pub V : State T
         V = with_records X number owners next
 
         -- else the box's own cell is asked
-        points : act V (Point a b) no_names
+        pub points : act V (Point a b) no_names
             ≡ point V a b (own_cell V a.id) (Some m) (map.get V.cells m)
         points = rw (← other, ap (λ R. refusal_to_read R b) view ∙ free, ap (λ R. reach R b) view ∙ to)
             refl

@@ -1,17 +1,14 @@
 -- How many owner values the records stand for, below which key they stand, and what is put on their
 -- lists.
 use Rattle.std.proofs.Common.{◌≡◌, ℕ, ◌+◌, ◌<◌, Bool, true, false, cond, Option, None, Some, refl}
-use Rattle.std.proofs.Common.{sym, arith, subst, nat_eq, List, [], ◌∷◌, ◌++◌, ◌-◌, ◌∙◌, length}
-use Rattle.std.proofs.Common.{option_map, slice_set}
-use Rattle.std.proofs.lemmas.List.{length-append}
-use Rattle.std.proofs.Math.Seq.{set-append_seam}
+use Rattle.std.proofs.Common.{sym, arith, subst, nat_eq, []}
 use Rattle.std.specs.List.{IsDistinct}
 use Rattle.std.proofs.lemmas.Map.Keys.{IsDistinct-push}
 use Rattle.std.proofs.lemmas.Option.{none-some}
 use Rattle.generational_box.proofs.Common.{record_of, by_number, key_same, AreCounted, IsCounted}
 use Rattle.generational_box.proofs.Common.{change, change_if, Ownership, Owners, one_more, one_less}
 use Rattle.generational_box.proofs.Common.{Name, one_listed, count_in, count_under, add_to_list_in}
-use Rattle.generational_box.proofs.Common.{among, get-changed, is_name, name_total, names_in}
+use Rattle.generational_box.proofs.Common.{among, is_name, name_total, names_in}
 use Rattle.generational_box.proofs.Common.{names_under}
 use Rattle.std.specs.Ordering.{nat_cmp, eq_by_cmp}
 use Rattle.std.specs.Cmp.{nat_cmp_total, IsEquivalence}

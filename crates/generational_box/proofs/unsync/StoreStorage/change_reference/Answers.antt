@@ -1,4 +1,4 @@
-use Rattle.std.proofs.Common.{ap, sym, ◌∙◌}
+use Rattle.std.proofs.Common.{sym, ◌∙◌}
 use Rattle.generational_box.proofs.calls.Calls.{reach_own, reach_strange, reaches, has_content}
 use Rattle.generational_box.proofs.calls.Calls.{read_own, state_is}
 use Rattle.generational_box.proofs.calls.EndCalls.{are_linked}

@@ -1,0 +1,131 @@
+-- Which calls of a store no borrow hinders, as its slots tell it.
+use Rattle.std.proofs.Common.{◌≡◌, ◌≢◌, ◌≤◌, ◌<◌, ℕ, Bool, true, false, cond, not, Option, None, Some}
+use Rattle.std.proofs.Common.{List, refl, sym, ap, ◌∙◌, is_none}
+use Rattle.std.proofs.lemmas.Bool.{eq-eqb, le-ltb, lt-ltb, ne_eqb}
+use Rattle.std.specs.FinMap as map
+use Rattle.generational_core.specs.Borrowing.{refusal_to_write}
+use Rattle.generational_core.specs.Boxes.{has_same_id}
+use Rattle.generational_core.specs.Ending.{hindrance_at}
+use Rattle.generational_core.specs.Machine.{Outcome, cell_at, own_cell, ownership, point}
+use Rattle.generational_core.specs.Machine.{unless}
+use Rattle.generational_core.specs.Machine.Answer.{Done}
+use Rattle.generational_core.specs.StepCalls.{is_free, is_hindered, may_set, tells_of_borrow}
+use Rattle.generational_box.proofs.Common.{Cell, GenerationalPointer, Name, NameMap, Owners}
+use Rattle.generational_core.specs.Machine.{OwnerName}
+use Rattle.generational_box.proofs.Common.{Ownership, Point, Ref, ReleaseOwner, Shared}
+use Rattle.generational_box.proofs.Common.{State, BorrowRefusal, Value, close, content_of, hindrance_to}
+use Rattle.generational_box.proofs.Common.{is_name, name_of, reach, refusal_to_read}
+use Rattle.generational_box.proofs.Common.{sweep, with_records}
+use Rattle.generational_box.proofs.calls.EndCalls.{end_tells}
+use Rattle.generational_box.proofs.calls.Points.{points}
+
+module _ {T : Type 0} where
+  module _ (S : State T) (b : GenerationalPointer) (gone : None ≡ reach S b) where
+    -- a box that reaches nothing meets no borrow
+    pub gone_read : true ≡ not (tells_of_borrow (refusal_to_read S b))
+    unfolding refusal_to_read
+    gone_read = rw (← gone) refl
+
+    pub gone_write : true ≡ not (tells_of_borrow (refusal_to_write S b))
+    unfolding refusal_to_write
+    gone_write = rw (← gone) refl
+
+    pub gone_set : true ≡ may_set (reach S b) (content_of (cell_at S (reach S b)))
+    gone_set = rw (← gone) refl
+
+  module _ (S : State T) (a b : GenerationalPointer) where
+    -- a box that names itself changes nothing
+    pub same_free : true ≡ has_same_id a b → true ≡ is_free S (Point a b)
+    same_free same = rw (← same) refl
+
+    module _ (other : false ≡ has_same_id a b) where
+      -- the other box reaches nothing
+      pub gone_free : None ≡ reach S b → true ≡ is_free S (Point a b)
+      unfolding refusal_to_read
+      gone_free none = rw (← other, ← none) refl
+
+      -- or is refused a read
+      pub read_told : (t : BorrowRefusal) → refusal_to_read S b ≡ Some t
+          → not (tells_of_borrow (Some t)) ≡ is_free S (Point a b)
+      read_told t is = rw (← other, is) refl
+
+      module _ (X : State T) {number next : ℕ} {owners : Owners} {m : Name}
+          (view : with_records X number owners next ≡ S)
+          (to : reach S b ≡ Some m) (free : refusal_to_read S b ≡ None) where
+        abbrev V : State T
+        V = with_records X number owners next
+
+        -- the box's own cell is another store's
+        pub strange_free : a.id.store ≢ number → true ≡ is_free S (Point a b)
+        strange_free strange = rw (← view)
+            (rw (points a b other X view to free, ne_eqb a.id.store number strange) refl)
+
+        -- or this store's, which the slots are asked for
+        pub own_free : (flag : Bool) (n : Name) → n ≡ name_of a → a.id.store ≡ number
+            → flag ≡ not (is_hindered (Point a b) (point X a b (map.get X.cells n)
+            (Some m) (map.get X.cells m)).0)
+            → flag ≡ is_free S (Point a b)
+        own_free flag n at own is =
+            let cell : own_cell V a.id ≡ map.get X.cells (name_of a) =
+            rw (eq-eqb a.id.store number own) refl in
+            rw (← view) ((rw at at is) ∙ (by (map.get X.cells (name_of a)) (map.get X.cells m)
+            ∙ ap (λ (out : Outcome T). not (is_hindered (Point a b) out.0))
+            (sym (points a b other X view to free
+            ∙ ap (λ x. point V a b x (Some m) (map.get X.cells m)) cell))))
+          where
+            told : Outcome T → Bool
+            told out = not (is_hindered (Point a b) out.0)
+
+            turned : (same : Bool) (t : Option BorrowRefusal) (left : NameMap (Cell T))
+                → told (cond same (Done, X) (unless t X (Done, record X { cells = left })))
+                ≡ told (cond same (Done, V) (unless t V (Done, record V { cells = left })))
+            turned true t left = refl
+            turned false None left = refl
+            turned false (Some t) left = refl
+
+            by : (own target : Option (Cell T)) → told (point X a b own (Some m) target)
+                ≡ told (point V a b own (Some m) target)
+            by None target = refl
+            by (Some (Value c k)) target = refl
+            by (Some (Shared c k)) target = refl
+            by (Some (Ref old k)) None = refl
+            by (Some (Ref old k)) (Some (Value c l)) = refl
+            by (Some (Ref old k)) (Some (Ref q l)) = refl
+            by (Some (Ref old k)) (Some (Shared c l)) =
+                let left = sweep (map.insert X.cells (name_of a) (Ref m k)) in
+                turned (is_name old m) (hindrance_at X.cells left old) left
+
+  -- ---- the release of an owner value
+
+  module _ (S : State T) (o : OwnerName) where
+    -- of a record that the store hasn't
+    pub unknown_free : None ≡ ownership S o → true ≡ is_free S (ReleaseOwner o)
+    unknown_free none = rw (← none) refl
+
+    -- of a record with others
+    pub several_free : (h : Ownership) → Some h ≡ ownership S o → 1 < h.count
+        → true ≡ is_free S (ReleaseOwner o)
+    several_free h found several = rw (← found, lt-ltb 1 h.count several) refl
+
+    -- and the last one, whose boxes end
+    pub last_free : (X : State T) {number next : ℕ} {owners : Owners}
+        → with_records X number owners next ≡ S → (h : Ownership) (names : List Name) (free : Bool)
+        → Some h ≡ ownership S o → h.count ≤ 1 → names ≡ h.names
+        → free ≡ is_none (hindrance_to X names) → free ≡ is_free S (ReleaseOwner o)
+    unfolding hindrance_to
+    last_free X {number = number} {next = next} {owners = owners} view h names free found few are
+        is = let V = with_records X number owners next in
+        let here : Some h ≡ ownership V o = found ∙ ap (λ R. ownership R o) (sym view) in
+        rw (← view) (is ∙ (ap (λ ns. is_none (hindrance_to X ns)) are
+        ∙ (told V (hindrance_to X h.names) (end_tells X h.names) _
+        ∙ sym (last V here))))
+      where
+        last : (V : State T) → Some h ≡ ownership V o → is_free V (ReleaseOwner o)
+            ≡ not (is_hindered (ReleaseOwner o) (unless (hindrance_to V h.names) V
+            (Done, record (close V h.names) { owners = map.remove V.owners o.key })).0)
+        last V here = rw (← here, le-ltb 1 h.count few) refl
+
+        told : (V : State T) (t : Option BorrowRefusal) → is_none t ≡ not (tells_of_borrow t)
+            → (R : State T) → is_none t ≡ not (is_hindered (ReleaseOwner o) (unless t V (Done, R)).0)
+        told V None tells R = refl
+        told V (Some t) tells R = tells
