@@ -1,4 +1,4 @@
--- In a sound state a ticket alone names a reader.
+-- In a sound state a ticket alone names a reader, or a writer.
 use Rattle.std.proofs.Common.{◌≡◌, ℕ, Bool, true, false, cond, List, [], ◌∷◌, Option, None, Some}
 use Rattle.std.proofs.Common.{refl, sym, ap, ◌∙◌, inl, inr, ⊎_elim}
 use Rattle.std.specs.Prelude.{is_some, nat_eq, ◌⊎◌, map as list_map}
@@ -11,8 +11,8 @@ use Rattle.generational_core.specs.Names.{Name, name_cmp}
 use Rattle.generational_core.specs.Cells.{Content, Cell, content_of}
 use Rattle.generational_core.specs.Cells.Content.{Here, Lent}
 use Rattle.generational_core.specs.State.{IsSound, tickets_of, content_at}
-use Rattle.generational_core.specs.Machine.{has_reader}
-use Rattle.generational_sync.specs.History.{Plain, first_name, reader_cell}
+use Rattle.generational_core.specs.Machine.{has_reader, has_writer}
+use Rattle.generational_sync.specs.History.{Plain, first_name, reader_cell, writer_cell}
 use Rattle.generational_sync.proofs.Naming.{name_same}
 
 -- an element that passes one test passes another
@@ -68,3 +68,29 @@ reader_found P m t s h =
     (λ n e. ap test (sym (name_same m n e)) ∙ h)
     (map.keys P.cells)
     (sym (map.contains_key-keys P.cells m) ∙ reader_live (map.get P.cells m) t h))
+
+module _ {T : Type 0} where
+  writer_stands : (c : Option (Content T)) (t : ℕ) → has_writer c t ≡ true
+      → list_any (nat_eq t) (tickets_of c) ≡ true
+  writer_stands None t h = absurd (true≢false (sym h))
+  writer_stands (Some (Here v rs)) t h = absurd (true≢false (sym h))
+  writer_stands (Some (Lent w)) t h =
+      or_left _ _ (eq-eqb t w.ticket (sym (eqb-true w.ticket t h)))
+
+  writer_live : (o : Option (Cell T)) (t : ℕ)
+      → has_writer (content_of o) t ≡ true → is_some o ≡ true
+  writer_live None t h = absurd (true≢false (sym h))
+  writer_live (Some c) t h = refl
+
+pub writer_found : (P : Plain) (m : Name) (t : ℕ) → IsSound P
+    → has_writer (content_at P m) t ≡ true → writer_cell P t ≡ Some m
+writer_found P m t s h =
+    let test : Name → Bool = λ n. has_writer (content_at P n) t in
+    one_found test m
+    (λ n e.
+    s.one_cell n m t (writer_stands (content_at P n) t e) (writer_stands (content_at P m) t h))
+    (map.keys P.cells)
+    (passes_both test (eq_by_cmp name_cmp m)
+    (λ n e. ap test (sym (name_same m n e)) ∙ h)
+    (map.keys P.cells)
+    (sym (map.contains_key-keys P.cells m) ∙ writer_live (map.get P.cells m) t h))

@@ -1,17 +1,18 @@
 -- The test whether a name is new says what it should.
-use Rattle.std.proofs.Common.{◌≡◌, true, not, ap, inl, inr, ⊎_elim}
+use Rattle.std.proofs.Common.{◌≡◌, true, not, refl, ap, inl, inr, ⊎_elim}
 use Rattle.std.specs.Prelude.{nat_eq}
 use Rattle.std.proofs.lemmas.Bool.{and_parts, and_from, or_left, or_right, or_cases, eqb-true}
 use Rattle.std.proofs.lemmas.Bool.{eq-eqb, not-true}
 use Rattle.std.specs.FinMap as map
 use Rattle.std.specs.FinSet as set
 use Rattle.generational_core.specs.Names.{Name}
-use Rattle.generational_core.specs.Boxes.{name_of}
 use Rattle.generational_core.specs.Slots.{Fits, slots_of, slots, free, is_free}
-use Rattle.generational_core.specs.Steps.{IsNew}
+use Rattle.generational_core.specs.Machine.{Action, NewNames}
+use Rattle.generational_core.specs.Machine.Action.{Make, MakeShared, Refer}
+use Rattle.generational_core.specs.Steps.{AreNew, IsNew}
 use Rattle.generational_sync.specs.declared.step.StepReply.{StepReply}
 use Rattle.generational_sync.specs.declared.step.StepReply.TheVariants as reply
-use Rattle.generational_sync.specs.History.{Plain, GivesNew, fits, is_new, gives_new}
+use Rattle.generational_sync.specs.History.{Plain, GivesNew, are_new, fits, gives_new, is_new}
 
 -- what passes the test fits, and what fits passes it
 pub fits_from : (P : Plain) (n : Name) → fits P n ≡ true → Fits P n
@@ -38,10 +39,27 @@ new_from P n h = let e = and_parts (not (set.contains P.given n)) _ h in
 pub new_to : (P : Plain) (n : Name) → IsNew P n → is_new P n ≡ true
 new_to P n new = and_from _ _ (ap not new.ungiven) (fits_to P n new.fits)
 
+-- so with the names that a making takes
+pub are_from : (P : Plain) (a : Action (Unit {0})) (f : NewNames) → are_new P a f ≡ true
+    → AreNew P a f
+are_from P (Make o v l) f h = new_from P f.first h
+are_from P (MakeShared o v l) f h =
+    let both = and_parts (is_new P f.first) _ h in
+    (new_from P f.first both.0, new_from _ f.second both.1)
+are_from P (Refer o b) f h = new_from P f.first h
+are_from P _ f h = tt
+
+pub are_to : (P : Plain) (a : Action (Unit {0})) (f : NewNames) → AreNew P a f
+    → are_new P a f ≡ true
+are_to P (Make o v l) f new = new_to P f.first new
+are_to P (MakeShared o v l) f new =
+    and_from _ _ (new_to P f.first new.0) (new_to _ f.second new.1)
+are_to P (Refer o b) f new = new_to P f.first new
+are_to P _ f new = refl
+
 -- what a recorded reply gives is new, where it passes
-pub gives_from : (P : Plain) (r : StepReply) → gives_new P r ≡ true → GivesNew P r
-gives_from P (reply.Made b) h = new_from P (name_of b) h
-gives_from P (reply.Reader t) h = tt
-gives_from P reply.Done h = tt
-gives_from P (reply.Dropped l) h = tt
-gives_from P (reply.Store e) h = tt
+pub gives_from : (P : Plain) (a : Action (Unit {0})) (r : StepReply) → gives_new P a r ≡ true
+    → GivesNew P a r
+gives_from P a (reply.Made b) h = are_from P a _ h
+gives_from P a (reply.MadeShared id b) h = are_from P a _ h
+gives_from P a _ h = tt

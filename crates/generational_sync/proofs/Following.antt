@@ -1,48 +1,52 @@
 -- The state without values takes the recorded step.
-use Rattle.std.proofs.Common.{[], ◌≡◌, Bool, true, false, cond, not, ◌&&◌, Option, None, Some, refl}
-use Rattle.std.proofs.Common.{sym, ap, subst, ◌∙◌, inl, inr}
-use Rattle.generational_core.specs.Cells.Cell.{Value}
+use Rattle.std.proofs.Common.{[], ◌≡◌, ℕ, Bool, true, false, cond, not, ◌&&◌, Option, None, Some}
+use Rattle.std.proofs.Common.{refl, sym, ap, subst, ◌∙◌, inl, inr, IfSome}
 use Rattle.std.specs.Prelude.{nat_eq, option_map}
-use Rattle.std.proofs.lemmas.Bool.{true≢false, and_parts, and_from, eqb-true}
+use Rattle.std.specs.FinMap as map
+use Rattle.std.proofs.lemmas.Bool.{true≢false, and_parts, and_from, eq-eqb, eqb-true}
 use Rattle.generational_core.specs.declared.error.Location.{Location}
 use Rattle.generational_core.specs.declared.error.StoreError.TheVariants.{OutOfMemory}
 use Rattle.generational_core.specs.declared.error.StoreError.TheVariants.{NumbersExhausted}
 use Rattle.generational_core.specs.declared.error.StoreError.TheVariants.{UnknownOwner}
+use Rattle.generational_core.specs.declared.boxes.GenerationalPointer.{GenerationalPointer}
 use Rattle.generational_core.specs.declared.steps.StepCall.{StepCall}
 use Rattle.generational_core.specs.declared.steps.StepCall.TheVariants as call
+use Rattle.generational_core.specs.Boxes.{box_of, id_of, name_in, name_of}
 use Rattle.generational_core.specs.Names.{Name}
-use Rattle.generational_core.specs.Cells.{Content, content_of}
+use Rattle.generational_core.specs.Cells.{Cell, Content, content_of}
 use Rattle.generational_core.specs.Cells.Content.{Here, Lent}
+use Rattle.generational_core.specs.Cells.Cell.{Value, Shared, Ref}
 use Rattle.generational_core.specs.State.{State, IsSound, content_at}
 use Rattle.generational_core.specs.Borrowing.{BorrowRefusal, Guard, refusal_to_read, reach}
 use Rattle.generational_core.specs.Borrowing.BorrowRefusal.{Dropped, BeingRead, BeingWritten}
-use Rattle.generational_core.specs.Ending.{hindrance_to, close}
-use Rattle.generational_core.specs.Machine.{Action, Answer, NewNames, Outcome, act, unless, make}
-use Rattle.generational_core.specs.Machine.{knows_reader, remove_reader, own_name, read_at, cell_at}
+use Rattle.generational_core.specs.Machine.{Action, Answer, NewNames, OwnerName, Outcome, act, unless}
+use Rattle.generational_core.specs.Machine.{add_cell, cell_at, is_known, knows_reader, knows_writer}
+use Rattle.generational_core.specs.Machine.{make, refer, remove_reader}
 use Rattle.generational_core.specs.Machine.Action.{Make, MakeShared, Refer, NewOwner, CloneOwner}
 use Rattle.generational_core.specs.Machine.Action.{ReleaseOwner, LeakOwner, Read, Write}
 use Rattle.generational_core.specs.Machine.Action.{ReleaseReader, ReleaseWriter, SetValue, End}
 use Rattle.generational_core.specs.Machine.Action.{Point, CanRead, CanWrite}
 use Rattle.generational_core.specs.Machine.Answer.{Made, Owned, Reads, Writes, Done, Old, Flag}
 use Rattle.generational_core.specs.Machine.Answer.{Back, BorrowRefused, Refused}
-use Rattle.generational_core.specs.Steps.{IsNew, Meets, Takes, limit_tickets, takes_ticket}
-use Rattle.generational_core.specs.Steps.{last_ticket}
-use Rattle.generational_core.specs.StepCalls.{is_ready, recorded_as, is_hindered}
+use Rattle.generational_core.specs.Steps.{AreNew, IsNew, Meets, Takes, limit_tickets, takes_ticket}
+use Rattle.generational_core.specs.Steps.{last_ticket, no_names}
+use Rattle.generational_core.specs.StepCalls.{is_ready, recorded_as, is_hindered, target_of}
+use Rattle.generational_core.proofs.maps.Maps.{by_name, get-insert_here}
 use Rattle.generational_sessions.specs.History.{plain, plain_call, plain_answer}
 use Rattle.generational_sync.specs.declared.step.StepReply.{StepReply}
 use Rattle.generational_sync.specs.declared.step.StepReply.TheVariants as reply
-use Rattle.generational_sync.specs.Replies.{reply_to}
+use Rattle.generational_sync.specs.Replies.{made_reply, reply_of}
 use Rattle.generational_sync.specs.History.{Plain, plain_step, step_by, action_of, names_of_reply}
 use Rattle.generational_sync.specs.History.{gives_new, guard_at}
-use Rattle.generational_sync.proofs.Replying.{recorded_is, plain_reply}
+use Rattle.generational_sync.proofs.Replying.{plain_reply, recorded_is}
 use Rattle.generational_sync.proofs.Fitting.{new_to}
-use Rattle.generational_sync.proofs.Finding.{reader_found}
+use Rattle.generational_sync.proofs.Finding.{reader_found, writer_found}
 
 -- what the laws of the machine say: a call is ready where its answer tells of no borrow, and each
 -- call is one of the state without values
 abbrev IsTold : Type 0
 IsTold = (P : Plain) (a : Action (Unit {0})) (c : StepCall) (new : NewNames)
-    → recorded_as a ≡ Some c → is_ready P c ≡ not (is_hindered (act P a new).0)
+    → recorded_as a ≡ Some c → is_ready P c ≡ not (is_hindered a (act P a new).0)
 
 abbrev IsPlain : Type 0 → Type 0
 IsPlain T = (S R : State T) (a : Action T) (answer : Answer T) → Meets S a answer R
@@ -50,190 +54,276 @@ IsPlain T = (S R : State T) (a : Action T) (answer : Answer T) → Meets S a ans
 
 -- ---- what answers are recorded
 
+-- how an outcome is recorded
+abbrev recorded_of : Plain → Action (Unit {0}) → Outcome (Unit {0}) → Option StepReply
+recorded_of P a out = reply_of (limit_tickets P out).1 a (limit_tickets P out).0
+
 -- an answer that is recorded tells of no borrow
-unhindered : (P : Plain) (out : Outcome (Unit {0})) (r : StepReply)
-    → reply_to (limit_tickets P out).0 ≡ Some r → is_hindered out.0 ≡ false
-unhindered P (BorrowRefused (BeingRead ls), Q) r h = absurd cc
-unhindered P (BorrowRefused (BeingWritten l), Q) r h = absurd cc
-unhindered P (BorrowRefused (Dropped l), Q) r h = refl
-unhindered P (Made b, Q) r h = refl
-unhindered P (Owned o, Q) r h = refl
-unhindered P (Reads g, Q) r h = refl
-unhindered P (Writes g v, Q) r h = refl
-unhindered P (Done, Q) r h = refl
-unhindered P (Old v, Q) r h = refl
-unhindered P (Flag b, Q) r h = refl
-unhindered P (Back v, Q) r h = refl
-unhindered P (Refused e, Q) r h = refl
+unhindered : (P : Plain) (a : Action (Unit {0})) (out : Outcome (Unit {0})) (r : StepReply)
+    → recorded_of P a out ≡ Some r → is_hindered a out.0 ≡ false
+unhindered P a (BorrowRefused (BeingRead ls), Q) r h = absurd cc
+unhindered P a (BorrowRefused (BeingWritten l), Q) r h = absurd cc
+unhindered P a (BorrowRefused (Dropped l), Q) r h = refl
+unhindered P a (Made b, Q) r h = refl
+unhindered P a (Owned o, Q) r h = refl
+unhindered P a (Reads g, Q) r h = refl
+unhindered P a (Writes g v, Q) r h = refl
+unhindered P a (Done, Q) r h = refl
+unhindered P a (Old v, Q) r h = refl
+unhindered P a (Flag b, Q) r h = refl
+unhindered P a (Back v, Q) r h = absurd cc
+unhindered P a (Refused e, Q) r h = refl
 
--- whether an answer gives a box
-abbrev is_made : {T : Type 0} → Answer T → Bool
-is_made (Made b) = true
-is_made _ = false
-
--- an answer that gives no box is recorded without one
-unnamed : (P : Plain) (answer : Answer (Unit {0})) (r : StepReply)
-    → is_made answer ≡ false → reply_to answer ≡ Some r → gives_new P r ≡ true
-unnamed P (Made b) r none h = absurd (true≢false none)
-unnamed P answer (reply.Reader t) none h = refl
-unnamed P answer reply.Done none h = refl
-unnamed P answer (reply.Dropped l) none h = refl
-unnamed P answer (reply.Store e) none h = refl
-unnamed P (Reads g) (reply.Made c) none h = absurd cc
-unnamed P Done (reply.Made c) none h = absurd cc
-unnamed P (Flag true) (reply.Made c) none h = absurd cc
-unnamed P (Flag false) (reply.Made c) none h = absurd cc
-unnamed P (BorrowRefused (Dropped l)) (reply.Made c) none h = absurd cc
-unnamed P (BorrowRefused (BeingRead ls)) (reply.Made c) none h = absurd cc
-unnamed P (BorrowRefused (BeingWritten l)) (reply.Made c) none h = absurd cc
-unnamed P (Refused OutOfMemory) (reply.Made c) none h = absurd cc
-unnamed P (Refused NumbersExhausted) (reply.Made c) none h = absurd cc
-unnamed P (Refused UnknownOwner) (reply.Made c) none h = absurd cc
-unnamed P (Owned o) (reply.Made c) none h = absurd cc
-unnamed P (Writes g v) (reply.Made c) none h = absurd cc
-unnamed P (Old v) (reply.Made c) none h = absurd cc
-unnamed P (Back v) (reply.Made c) none h = absurd cc
-
--- a read gives no box
-limited_unmade : (P : Plain) (out : Outcome (Unit {0}))
-    → is_made out.0 ≡ false → is_made (limit_tickets P out).0 ≡ false
-limited_unmade P out h = at (takes_ticket out.0 && nat_eq P.next last_ticket)
-  where
-    at : (b : Bool)
-        → let x : Outcome (Unit {0}) = cond b (Refused NumbersExhausted, P) out in
-        is_made x.0 ≡ false
-    at true = refl
-    at false = h
-
-unless_unmade : (P : Plain) (t : Option BorrowRefusal) (out : Outcome (Unit {0}))
-    → is_made out.0 ≡ false → is_made (unless t P out).0 ≡ false
-unless_unmade P None out h = h
-unless_unmade P (Some t) out h = refl
-
-read_unmade : (P : Plain) (l : Location) (o : Option Name) (c : Option (Content (Unit {0})))
-    → is_made (read_at P l o c).0 ≡ false
-read_unmade P l None c = refl
-read_unmade P l (Some m) None = refl
-read_unmade P l (Some m) (Some (Here v rs)) = refl
-read_unmade P l (Some m) (Some (Lent w)) = refl
-
--- a release whose answer is recorded was of a guard that the state knew
-known_by : (b : Bool) (P Q : Plain) (r : StepReply)
-    → let out : Outcome (Unit {0}) = limit_tickets P (cond b (Flag true, Q) (Flag false, P)) in
-    reply_to out.0 ≡ Some r → b ≡ true
-known_by true P Q r h = refl
-known_by false P Q r h = absurd cc
-
-flag_unmade : (b : Bool) (P Q : Plain)
-    → let out : Outcome (Unit {0}) = limit_tickets P (cond b (Flag true, Q) (Flag false, P)) in
-    is_made out.0 ≡ false
-flag_unmade true P Q = refl
-flag_unmade false P Q = refl
+-- a call that makes no box is recorded without one
+unmade : (P Q : Plain) (a : Action (Unit {0})) (answer : Answer (Unit {0}))
+    → ((b : GenerationalPointer) → made_reply a Q b ≡ None)
+    → IfSome (reply_of Q a answer) (λ r. gives_new P a r ≡ true)
+unmade P Q a (Made b) none = subst (λ o. IfSome o (λ r. gives_new P a r ≡ true)) (sym (none b)) tt
+unmade P Q a (Owned o) none = refl
+unmade P Q a (Reads g) none = refl
+unmade P Q a (Writes g v) none = refl
+unmade P Q a Done none = refl
+unmade P Q a (Old v) none = refl
+unmade P Q a (Flag true) none = refl
+unmade P Q a (Flag false) none = tt
+unmade P Q a (Back v) none = tt
+unmade P Q a (BorrowRefused (Dropped l)) none = refl
+unmade P Q a (BorrowRefused (BeingRead ls)) none = tt
+unmade P Q a (BorrowRefused (BeingWritten l)) none = tt
+unmade P Q a (Refused OutOfMemory) none = tt
+unmade P Q a (Refused NumbersExhausted) none = refl
+unmade P Q a (Refused UnknownOwner) none = refl
 
 -- ---- a step without values
 
 module _ (tell : IsTold) (P : Plain) where
   -- a call is a lawful step, where the names in its reply are those that it takes
   lawful : (c : StepCall) (r : StepReply) (a : Action (Unit {0})) → recorded_as a ≡ Some c
-      → action_of P c ≡ Some a → gives_new P r ≡ true
-      → reply_to (limit_tickets P (act P a (names_of_reply r))).0 ≡ Some r
+      → action_of P c ≡ Some a → gives_new P a r ≡ true
+      → recorded_of P a (act P a (names_of_reply r)) ≡ Some r
       → plain_step P c r ≡ Some (limit_tickets P (act P a (names_of_reply r))).1
   unfolding plain_step
   lawful c r a as_call action new h =
       let out : Outcome (Unit {0}) = limit_tickets P (act P a (names_of_reply r)) in
-      let free = ap not (unhindered P (act P a (names_of_reply r)) r h) in
+      let free = ap not (unhindered P a (act P a (names_of_reply r)) r h) in
       let ready = tell P a c (names_of_reply r) as_call ∙ free in
       ap (step_by P c r) action ∙ ap (λ b. cond b (Some out.1) None)
-      (and_from _ _ ready (and_from _ _ new (recorded_is (reply_to out.0) r h)))
+      (and_from _ _ ready (and_from _ _ new (recorded_is (reply_of out.1 a out.0) r h)))
 
-  -- the same, by what is left
-  leads : (c : StepCall) (r : StepReply) (a : Action (Unit {0})) (answer : Answer (Unit {0}))
-      (Q : Plain) → recorded_as a ≡ Some c → action_of P c ≡ Some a
-      → is_made (limit_tickets P (act P a (names_of_reply r))).0 ≡ false
-      → (answer, Q) ≡ limit_tickets P (act P a (names_of_reply r)) → reply_to answer ≡ Some r
-      → plain_step P c r ≡ Some Q
-  leads c r a answer Q as_call action none m h =
-      let reply = ap (λ (o : Outcome (Unit {0})). reply_to o.0) (sym m) ∙ h in
-      lawful c r a as_call action (unnamed P _ r none reply) reply
-      ∙ ap (λ (o : Outcome (Unit {0})). Some o.1) (sym m)
+  -- what a recorded call leads to
+  abbrev Leads : StepCall → Action (Unit {0}) → Outcome (Unit {0}) → Type 0
+  Leads c a out = (r : StepReply) → recorded_of P a out ≡ Some r
+      → plain_step P c r ≡ Some (limit_tickets P out).1
 
-  made_follows : (l : Location) (f : NewNames) (answer : Answer (Unit {0})) (Q : Plain)
-      (r : StepReply) → IsNew P f.first → (answer, Q) ≡ make P None f.first (Value (Here tt []) l) l
-      → reply_to answer ≡ Some r → plain_step P (call.Leak l) r ≡ Some Q
-  made_follows l f answer Q r new m h =
-      let reply = ap (λ (o : Outcome (Unit {0})). reply_to o.0) (sym m) ∙ h in
-      subst (λ x. plain_step P (call.Leak l) x ≡ Some Q) (some_is _ _ reply)
-      (lawful (call.Leak l) _ (Make None tt l) refl refl (new_to P f.first new) refl
-      ∙ ap (λ (o : Outcome (Unit {0})). Some o.1) (sym m))
-    where
-      some_is : (x y : StepReply) → Some x ≡ Some y → x ≡ y
-      some_is x y e = cc
+  -- a call whose reply tells the names that it takes
+  named : (c : StepCall) (a : Action (Unit {0})) (new : NewNames) → recorded_as a ≡ Some c
+      → action_of P c ≡ Some a
+      → ((r : StepReply) → recorded_of P a (act P a new) ≡ Some r
+      → (act P a (names_of_reply r) ≡ act P a new) × (gives_new P a r ≡ true))
+      → Leads c a (act P a new)
+  named c a new as_call action tells r h =
+      let it = tells r h in
+      lawful c r a as_call action it.1 (ap (recorded_of P a) it.0 ∙ h)
+      ∙ ap (λ out. Some (limit_tickets P out).1) it.0
 
-  release_follows : (g : Guard) (new : NewNames) (answer : Answer (Unit {0})) (Q : Plain)
-      (r : StepReply) → IsSound P → (answer, Q) ≡ limit_tickets P (act P (ReleaseReader g) new)
-      → reply_to answer ≡ Some r → plain_step P (call.ReleaseRead g.ticket) r ≡ Some Q
-  release_follows g new answer Q r sound m h =
-      let reply = ap (λ (o : Outcome (Unit {0})). reply_to o.0) (sym m) ∙ h in
-      let left = remove_reader P g.cell g.ticket (content_at P g.cell) in
+  -- a call that takes none
+  nameless : (c : StepCall) (a : Action (Unit {0})) (new : NewNames) → recorded_as a ≡ Some c
+      → action_of P c ≡ Some a → ((f : NewNames) → act P a f ≡ act P a new)
+      → ((Q : Plain) (b : GenerationalPointer) → made_reply a Q b ≡ None)
+      → Leads c a (act P a new)
+  nameless c a new as_call action same none = named c a new as_call action (λ r h. (
+    same (names_of_reply r),
+    (let out : Outcome (Unit {0}) = limit_tickets P (act P a new) in
+        subst (λ o. IfSome o (λ x. gives_new P a x ≡ true)) h (unmade P out.1 a out.0 (none out.1))),
+  ))
+
+  -- ---- makings
+
+  abbrev Tells : Action (Unit {0}) → NewNames → Outcome (Unit {0}) → StepReply → Type 0
+  Tells a new out r = (act P a (names_of_reply r) ≡ out) × (gives_new P a r ≡ true)
+
+  some_is : (x y : StepReply) → Some x ≡ Some y → x ≡ y
+  some_is x y e = cc
+
+  -- a refusal for an unknown owner tells no name
+  unknown : (a : Action (Unit {0})) (new : NewNames) (r : StepReply)
+      → ((f : NewNames) → act P a f ≡ (Refused UnknownOwner, P))
+      → Some (reply.Store UnknownOwner) ≡ Some r
+      → Tells a new (Refused UnknownOwner, P) r
+  unknown a new r same e = subst (Tells a new (Refused UnknownOwner, P))
+      (some_is (reply.Store UnknownOwner) r e) (same no_names, refl)
+
+  make_tells : (o : Option OwnerName) (l : Location) (new : NewNames) (known : Bool)
+      → is_known P o ≡ known → let out : Outcome (Unit {0}) = cond known
+      (make P o new.first (Value (Here tt []) l) l) (Refused UnknownOwner, P) in
+      Takes P (Make o tt l) (limit_tickets P out).0 new → (r : StepReply)
+      → recorded_of P (Make o tt l) out ≡ Some r → Tells (Make o tt l) new out r
+  make_tells o l new false is takes r h =
+      unknown (Make o tt l) new r (λ f. rw is refl) h
+  make_tells o l new true is takes r h = subst (Tells (Make o tt l) new
+      (make P o new.first (Value (Here tt []) l) l))
+      (some_is (reply.Made (box_of P.number new.first l)) r h)
+      (rw is refl, new_to P new.first takes)
+
+  -- the box of a new reference tells the cell that it names
+  target_made : (S : Plain) (o : Option OwnerName) (n m : Name) (l : Location)
+      → target_of (make S o n (Ref m l) l).1 (box_of S.number n l) ≡ Some (id_of S.number m)
+  target_made S None n m l = rw (
+    eq-eqb S.number S.number refl,
+    get-insert_here by_name S.cells n (Ref m l),
+  ) refl
+  target_made S (Some o) n m l = rw (
+    eq-eqb S.number S.number refl,
+    get-insert_here by_name S.cells n (Ref m l),
+  ) refl
+
+  shared_tells : (o : Option OwnerName) (l : Location) (new : NewNames) (known : Bool)
+      → is_known P o ≡ known → let out : Outcome (Unit {0}) = cond known
+      (make (add_cell P new.first (Shared (Here tt []) l)) o new.second (Ref new.first l) l)
+      (Refused UnknownOwner, P) in
+      Takes P (MakeShared o tt l) (limit_tickets P out).0 new → (r : StepReply)
+      → recorded_of P (MakeShared o tt l) out ≡ Some r → Tells (MakeShared o tt l) new out r
+  shared_tells o l new false is takes r h =
+      unknown (MakeShared o tt l) new r (λ f. rw is refl) h
+  shared_tells o l new true is takes r h =
+      let shared = add_cell P new.first (Shared (Here tt []) l) in
+      let out : Outcome (Unit {0}) = make shared o new.second (Ref new.first l) l in
+      let box = box_of P.number new.second l in
+      let at : recorded_of P (MakeShared o tt l) out
+      ≡ Some (reply.MadeShared (id_of P.number new.first) box) =
+      ap (option_map (λ id. reply.MadeShared id box)) (target_made shared o new.second new.first l) in
+      subst (Tells (MakeShared o tt l) new out)
+      (some_is (reply.MadeShared (id_of P.number new.first) box) r (sym at ∙ h)) (
+        rw is refl,
+        and_from _ _ (new_to P new.first takes.0) (new_to shared new.second takes.1),
+      )
+
+  -- a reference, to what is reached
+  refer_tells : (o : Option OwnerName) (b : GenerationalPointer) (new : NewNames) (known : Bool)
+      → is_known P o ≡ known → (t : Option BorrowRefusal) → refusal_to_read P b ≡ t
+      → (to : Option Name) → reach P b ≡ to → (c : Option (Cell (Unit {0}))) → cell_at P to ≡ c
+      → let out : Outcome (Unit {0}) = cond known (unless t P (refer P o b to c new.first))
+      (Refused UnknownOwner, P) in
+      Takes P (Refer o b) (limit_tickets P out).0 new → (r : StepReply)
+      → recorded_of P (Refer o b) out ≡ Some r → Tells (Refer o b) new out r
+  refer_tells o b new false is t told to reaches c at takes r h =
+      unknown (Refer o b) new r (λ f. rw is refl) h
+  refer_tells o b new true is (Some (Dropped l)) told to reaches c at takes r h =
+      subst (Tells (Refer o b) new (BorrowRefused (Dropped l), P))
+      (some_is (reply.Dropped l) r h) (rw (is, told) refl, refl)
+  refer_tells o b new true is (Some (BeingRead ls)) told to reaches c at takes r h = absurd cc
+  refer_tells o b new true is (Some (BeingWritten l)) told to reaches c at takes r h = absurd cc
+  refer_tells o b new true is None told (Some m) reaches (Some (Shared c l)) at takes r h =
+      subst (Tells (Refer o b) new (make P o new.first (Ref m l) l))
+      (some_is (reply.Made (box_of P.number new.first l)) r h)
+      (rw (is, told, reaches, at) refl, new_to P new.first takes)
+  refer_tells o b new true is None told None reaches c at takes r h =
+      subst (Tells (Refer o b) new (BorrowRefused (Dropped b.created_at), P))
+      (some_is (reply.Dropped b.created_at) r h) (rw (is, told, reaches) refl, refl)
+  refer_tells o b new true is None told (Some m) reaches None at takes r h =
+      subst (Tells (Refer o b) new (BorrowRefused (Dropped b.created_at), P))
+      (some_is (reply.Dropped b.created_at) r h) (rw (is, told, reaches, at) refl, refl)
+  refer_tells o b new true is None told (Some m) reaches (Some (Value c l)) at takes r h =
+      subst (Tells (Refer o b) new (BorrowRefused (Dropped b.created_at), P))
+      (some_is (reply.Dropped b.created_at) r h) (rw (is, told, reaches, at) refl, refl)
+  refer_tells o b new true is None told (Some m) reaches (Some (Ref k l)) at takes r h =
+      subst (Tells (Refer o b) new (BorrowRefused (Dropped b.created_at), P))
+      (some_is (reply.Dropped b.created_at) r h) (rw (is, told, reaches, at) refl, refl)
+
+  -- ---- releases
+
+  -- a release whose answer is recorded was of a guard that the state knew
+  known_by : (g : Guard) (b : Bool) (Q : Plain) (r : StepReply)
+      → let out : Outcome (Unit {0}) = cond b (Flag true, Q) (Flag false, P) in
+      recorded_of P (ReleaseReader g) out ≡ Some r → b ≡ true
+  known_by g true Q r h = refl
+  known_by g false Q r h = absurd cc
+
+  written_by : (g : Guard) (b : Bool) (Q : Plain) (r : StepReply)
+      → let out : Outcome (Unit {0}) = cond b (Done, Q) (Back tt, P) in
+      recorded_of P (ReleaseWriter g tt) out ≡ Some r → b ≡ true
+  written_by g true Q r h = refl
+  written_by g false Q r h = absurd cc
+
+  own_guard : (g : Guard) → nat_eq g.store P.number ≡ true → guard_at P g.ticket g.cell ≡ g
+  own_guard g own = λ i. record {
+    store = sym (eqb-true g.store P.number own) i;
+    cell = g.cell;
+    ticket = g.ticket;
+  }
+
+  reader_leads : (g : Guard) (new : NewNames) → IsSound P
+      → Leads (call.ReleaseRead g.ticket) (ReleaseReader g) (act P (ReleaseReader g) new)
+  reader_leads g new sound r h =
       let parts = and_parts (nat_eq g.store P.number) _
-      (known_by (knows_reader P g) P left r reply) in
-      let own : guard_at P g.ticket g.cell ≡ g = λ i.
-      record {
-        store = sym (eqb-true g.store P.number parts.0) i;
-        cell = g.cell;
-        ticket = g.ticket;
-      } in
-      leads (call.ReleaseRead g.ticket) r (ReleaseReader g) answer Q refl
+      (known_by g (knows_reader P g) (remove_reader P g.cell g.ticket (content_at P g.cell)) r h) in
+      nameless (call.ReleaseRead g.ticket) (ReleaseReader g) new refl
       (ap (option_map (λ n. ReleaseReader (guard_at P g.ticket n)))
-      (reader_found P g.cell g.ticket sound parts.1) ∙ ap (λ x. Some (ReleaseReader x)) own)
-      (flag_unmade (knows_reader P g) P left) m h
+      (reader_found P g.cell g.ticket sound parts.1)
+      ∙ ap (λ x. Some (ReleaseReader x)) (own_guard g parts.0)) (λ f. refl) (λ Q b. refl) r h
+
+  writer_leads : (g : Guard) (new : NewNames) → IsSound P
+      → Leads (call.ReleaseWrite g.ticket) (ReleaseWriter g tt) (act P (ReleaseWriter g tt) new)
+  writer_leads g new sound r h =
+      let parts = and_parts (nat_eq g.store P.number) _
+      (written_by g (knows_writer P g) _ r h) in
+      nameless (call.ReleaseWrite g.ticket) (ReleaseWriter g tt) new refl
+      (ap (option_map (λ n. ReleaseWriter (guard_at P g.ticket n) tt))
+      (writer_found P g.cell g.ticket sound parts.1)
+      ∙ ap (λ x. Some (ReleaseWriter x tt)) (own_guard g parts.0)) (λ f. refl) (λ Q b. refl) r h
 
   -- a step of a recorded call, under the names that it takes
-  does : (a : Action (Unit {0})) (c : StepCall) (new : NewNames) (answer : Answer (Unit {0}))
-      (Q : Plain) (r : StepReply) → IsSound P → recorded_as a ≡ Some c
-      → Takes P a answer new → (answer, Q) ≡ limit_tickets P (act P a new)
-      → reply_to answer ≡ Some r
-      → plain_step P c r ≡ Some Q
-  does (Make None v l) c new answer Q r sound e takes m h =
-      let same : call.Leak l ≡ c = cc in
-      let fits = subst (λ (o : Outcome (Unit {0})). Takes P (Make None v l) o.0 new) m takes in
-      subst (λ x. plain_step P x r ≡ Some Q) same (made_follows l new answer Q r fits m h)
-  does (Read b l) c new answer Q r sound e takes m h =
-      let same : call.Read b l ≡ c = cc in
-      let read = read_at P l (reach P b) (content_of (cell_at P (reach P b))) in
-      let none = unless_unmade P (refusal_to_read P b) read
-      (read_unmade P l (reach P b) (content_of (cell_at P (reach P b)))) in
-      subst (λ x. plain_step P x r ≡ Some Q) same
-      (leads (call.Read b l) r (Read b l) answer Q refl refl (limited_unmade P _ none) m h)
-  does (ReleaseReader g) c new answer Q r sound e takes m h =
-      let same : call.ReleaseRead g.ticket ≡ c = cc in
-      subst (λ x. plain_step P x r ≡ Some Q) same (release_follows g new answer Q r sound m h)
-  does (End b) c new answer Q r sound e takes m h =
-      let same : call.ManuallyDrop b ≡ c = cc in
-      let none =
-      unless_unmade P (hindrance_to P (own_name P b)) (Done, close P (own_name P b)) refl in
-      subst (λ x. plain_step P x r ≡ Some Q) same
-      (leads (call.ManuallyDrop b) r (End b) answer Q refl refl (limited_unmade P _ none) m h)
-  does (Make (Some o) v l) c new answer Q r sound e takes m h = absurd cc
-  does (MakeShared o v l) c new answer Q r sound e takes m h = absurd cc
-  does (Refer o b) c new answer Q r sound e takes m h = absurd cc
-  does NewOwner c new answer Q r sound e takes m h = absurd cc
-  does (CloneOwner o) c new answer Q r sound e takes m h = absurd cc
-  does (ReleaseOwner o) c new answer Q r sound e takes m h = absurd cc
-  does (LeakOwner o) c new answer Q r sound e takes m h = absurd cc
-  does (Write b l) c new answer Q r sound e takes m h = absurd cc
-  does (ReleaseWriter g v) c new answer Q r sound e takes m h = absurd cc
-  does (SetValue b v) c new answer Q r sound e takes m h = absurd cc
-  does (Point a b) c new answer Q r sound e takes m h = absurd cc
-  does (CanRead b) c new answer Q r sound e takes m h = absurd cc
-  does (CanWrite b) c new answer Q r sound e takes m h = absurd cc
+  does : (a : Action (Unit {0})) (new : NewNames) → IsSound P
+      → Takes P a (limit_tickets P (act P a new)).0 new
+      → IfSome (recorded_as a) (λ c. Leads c a (act P a new))
+  does (Make None tt l) new sound takes = named (call.Leak l) (Make None tt l) new refl refl
+      (make_tells None l new true refl takes)
+  does (Make (Some o) tt l) new sound takes =
+      named (call.Insert _ l) (Make (Some o) tt l) new refl refl
+      (make_tells (Some o) l new (is_known P (Some o)) refl takes)
+  does (MakeShared None tt l) new sound takes =
+      named (call.LeakRc l) (MakeShared None tt l) new refl refl
+      (shared_tells None l new true refl takes)
+  does (MakeShared (Some o) tt l) new sound takes =
+      named (call.InsertRc _ l) (MakeShared (Some o) tt l) new refl refl
+      (shared_tells (Some o) l new (is_known P (Some o)) refl takes)
+  does (Refer None b) new sound takes =
+      named (call.LeakReference b) (Refer None b) new refl refl
+      (refer_tells None b new true refl _ refl _ refl _ refl takes)
+  does (Refer (Some o) b) new sound takes =
+      named (call.InsertReference _ b) (Refer (Some o) b) new refl refl
+      (refer_tells (Some o) b new (is_known P (Some o)) refl _ refl _ refl _ refl takes)
+  does NewOwner new sound takes = nameless call.Owner NewOwner new refl refl (λ f. refl) (λ Q b. refl)
+  does (CloneOwner o) new sound takes =
+      nameless (call.CloneOwner _) (CloneOwner o) new refl refl (λ f. refl) (λ Q b. refl)
+  does (ReleaseOwner o) new sound takes =
+      nameless (call.ReleaseOwner _) (ReleaseOwner o) new refl refl (λ f. refl) (λ Q b. refl)
+  does (LeakOwner o) new sound takes = tt
+  does (Read b l) new sound takes =
+      nameless (call.Read b l) (Read b l) new refl refl (λ f. refl) (λ Q b. refl)
+  does (Write b l) new sound takes =
+      nameless (call.Write b l) (Write b l) new refl refl (λ f. refl) (λ Q b. refl)
+  does (ReleaseReader g) new sound takes = reader_leads g new sound
+  does (ReleaseWriter g tt) new sound takes = writer_leads g new sound
+  does (SetValue b tt) new sound takes =
+      nameless (call.Set b) (SetValue b tt) new refl refl (λ f. refl) (λ Q b. refl)
+  does (End b) new sound takes =
+      nameless (call.ManuallyDrop b) (End b) new refl refl (λ f. refl) (λ Q b. refl)
+  does (Point a b) new sound takes =
+      nameless (call.PointTo a b) (Point a b) new refl refl (λ f. refl) (λ Q b. refl)
+  does (CanRead b) new sound takes = tt
+  does (CanWrite b) new sound takes = tt
 
   follows : (a : Action (Unit {0})) (c : StepCall) (answer : Answer (Unit {0})) (Q : Plain)
       (r : StepReply) → IsSound P → recorded_as a ≡ Some c → Meets P a answer Q
-      → reply_to answer ≡ Some r → plain_step P c r ≡ Some Q
-  follows a c answer Q r sound e (inl m) h = does a c m.0 answer Q r sound e m.1 m.2 h
+      → reply_of Q a answer ≡ Some r → plain_step P c r ≡ Some Q
+  follows a c answer Q r sound e (inl m) h =
+      let takes = subst (λ (o : Outcome (Unit {0})). Takes P a o.0 m.0) m.2 m.1 in
+      subst (λ o. IfSome o (λ c. Leads c a (act P a m.0))) e (does a m.0 sound takes) r
+      (ap (λ (o : Outcome (Unit {0})). reply_of o.1 a o.0) (sym m.2) ∙ h)
+      ∙ ap (λ (o : Outcome (Unit {0})). Some o.1) (sym m.2)
   follows a c answer Q r sound e (inr m) h =
-      let none : reply_to answer ≡ None = ap reply_to m.1 in absurd cc
+      let none : reply_of Q a answer ≡ None = ap (reply_of Q a) m.1 in absurd cc
 
 -- ---- a step of the store, without values
 
@@ -241,8 +331,10 @@ module _ {T : Type 0} where
   plain_recorded : (a : Action T) → recorded_as (plain_call a) ≡ recorded_as a
   plain_recorded (Make None v l) = refl
   plain_recorded (Make (Some o) v l) = refl
-  plain_recorded (MakeShared o v l) = refl
-  plain_recorded (Refer o b) = refl
+  plain_recorded (MakeShared None v l) = refl
+  plain_recorded (MakeShared (Some o) v l) = refl
+  plain_recorded (Refer None b) = refl
+  plain_recorded (Refer (Some o) b) = refl
   plain_recorded NewOwner = refl
   plain_recorded (CloneOwner o) = refl
   plain_recorded (ReleaseOwner o) = refl
@@ -259,8 +351,8 @@ module _ {T : Type 0} where
 
   pub plain_follows : IsTold → IsPlain T → (S R : State T) (a : Action T) (c : StepCall)
       (answer : Answer T) (r : StepReply) → IsSound (plain S) → recorded_as a ≡ Some c
-      → Meets S a answer R → reply_to answer ≡ Some r
+      → Meets S a answer R → reply_of R a answer ≡ Some r
       → plain_step (plain S) c r ≡ Some (plain R)
   plain_follows tell without S R a c answer r sound e m h =
       follows tell (plain S) (plain_call a) c (plain_answer answer) (plain R) r sound
-      (plain_recorded a ∙ e) (without S R a answer m) (plain_reply answer ∙ h)
+      (plain_recorded a ∙ e) (without S R a answer m) (plain_reply R a answer ∙ h)

@@ -1,47 +1,111 @@
 -- What holds of each history that replays: its states are sound, and of the one store.
 use Rattle.std.proofs.Common.{◌≡◌, ℕ, Bool, true, false, cond, List, [], ◌∷◌, ◌++◌, Option, None}
-use Rattle.std.proofs.Common.{Some, refl, sym, ap, subst, ◌∙◌, inl}
+use Rattle.std.proofs.Common.{Some, refl, sym, ap, subst, ◌∙◌, inl, IfSome}
 use Rattle.std.specs.Prelude.{option_map}
-use Rattle.std.proofs.lemmas.Bool.{and_parts}
+use Rattle.std.proofs.lemmas.Bool.{and_parts, true≢false}
 use Rattle.generational_core.specs.declared.steps.StepCall.{StepCall}
-use Rattle.generational_core.specs.declared.steps.StepCall.TheVariants.{Leak, Read, ReleaseRead}
-use Rattle.generational_core.specs.declared.steps.StepCall.TheVariants.{ManuallyDrop}
-use Rattle.generational_core.specs.Names.{Name}
 use Rattle.generational_core.specs.State.{State, IsSound}
-use Rattle.generational_core.specs.Boxes.{name_of}
 use Rattle.generational_core.specs.Machine.{Action, Answer, NewNames, Outcome, act}
-use Rattle.generational_core.specs.Machine.Action.{Make, Read as ReadBox, ReleaseReader, End}
+use Rattle.generational_core.specs.Machine.Action.{Make, MakeShared, Refer, NewOwner, CloneOwner}
+use Rattle.generational_core.specs.Machine.Action.{ReleaseOwner, LeakOwner, Read as ReadBox, Write}
+use Rattle.generational_core.specs.Machine.Action.{ReleaseReader, ReleaseWriter, SetValue, End}
+use Rattle.generational_core.specs.Machine.Action.{Point, CanRead, CanWrite}
+use Rattle.generational_core.specs.declared.boxes.GenerationalBoxId.{GenerationalBoxId}
+use Rattle.generational_core.specs.declared.boxes.GenerationalPointer.{GenerationalPointer}
 use Rattle.generational_core.specs.Machine.Answer.{Made}
 use Rattle.generational_core.specs.Steps.{AreNew, Takes, Meets, limit_tickets}
-use Rattle.generational_core.specs.StepCalls.{is_ready}
+use Rattle.generational_core.specs.StepCalls.{is_ready, target_of}
+use Rattle.generational_sync.specs.Replies.{is_recorded, made_reply, reply_of}
 use Rattle.generational_sessions.specs.History.{plain}
 use Rattle.generational_sync.specs.declared.step.Step.{Step}
 use Rattle.generational_sync.specs.declared.step.StepReply.{StepReply}
 use Rattle.generational_sync.specs.declared.step.StepReply.TheVariants as reply
 use Rattle.generational_sync.specs.History.{Plain, plain_step, step_by, names_of_reply, action_of}
-use Rattle.generational_sync.specs.History.{gives_new, is_lawful, guard_at, reader_cell, replay_on}
+use Rattle.generational_sync.specs.History.{gives_new, is_lawful, replay_on}
 use Rattle.generational_sync.specs.History.{replay_from, start, IsTaken, LeadsOver}
-use Rattle.generational_sync.proofs.Fitting.{new_from, gives_from}
+use Rattle.generational_sync.proofs.Fitting.{are_from, gives_from}
 
 takes_any : (P : Plain) (a : Action (Unit {0})) (answer : Answer (Unit {0})) (f : NewNames)
     → AreNew P a f → Takes P a answer f
 takes_any P a (Made b) f new = new
 takes_any P a _ f new = tt
 
+-- whether a reply gives a box
+abbrev gives_box : StepReply → Bool
+gives_box (reply.Made b) = true
+gives_box (reply.MadeShared id b) = true
+gives_box _ = false
+
+-- a box that was made is recorded as one
+made_gives : (a : Action (Unit {0})) (Q : Plain) (b : GenerationalPointer)
+    → IfSome (made_reply a Q b) (λ r. gives_box r ≡ true)
+made_gives (Make o v l) Q b = refl
+made_gives (MakeShared o v l) Q b = at (target_of Q b)
+  where
+    at : (t : Option GenerationalBoxId)
+        → IfSome (option_map (λ id. reply.MadeShared id b) t) (λ r. gives_box r ≡ true)
+    at None = tt
+    at (Some id) = refl
+made_gives (Refer o c) Q b = refl
+made_gives NewOwner Q b = tt
+made_gives (CloneOwner o) Q b = tt
+made_gives (ReleaseOwner o) Q b = tt
+made_gives (LeakOwner o) Q b = tt
+made_gives (ReadBox c l) Q b = tt
+made_gives (Write c l) Q b = tt
+made_gives (ReleaseReader g) Q b = tt
+made_gives (ReleaseWriter g v) Q b = tt
+made_gives (SetValue c v) Q b = tt
+made_gives (End c) Q b = tt
+made_gives (Point c d) Q b = tt
+made_gives (CanRead c) Q b = tt
+made_gives (CanWrite c) Q b = tt
+
+-- so a reply that gives none is another answer's
+recorded_box : (o : Option StepReply) (r : StepReply) → IfSome o (λ s. gives_box s ≡ true)
+    → gives_box r ≡ false → is_recorded o r ≡ true → ⊥
+recorded_box None r box none h = true≢false (sym h)
+recorded_box (Some (reply.Made b)) (reply.Made c) box none h = true≢false none
+recorded_box (Some (reply.Made b)) (reply.MadeShared i c) box none h = true≢false none
+recorded_box (Some (reply.MadeShared i b)) (reply.Made c) box none h = true≢false none
+recorded_box (Some (reply.MadeShared i b)) (reply.MadeShared j c) box none h = true≢false none
+recorded_box (Some (reply.Made b)) (reply.Owner o) box none h = true≢false (sym h)
+recorded_box (Some (reply.Made b)) (reply.Reader t) box none h = true≢false (sym h)
+recorded_box (Some (reply.Made b)) (reply.Writer t) box none h = true≢false (sym h)
+recorded_box (Some (reply.Made b)) reply.Done box none h = true≢false (sym h)
+recorded_box (Some (reply.Made b)) (reply.Dropped l) box none h = true≢false (sym h)
+recorded_box (Some (reply.Made b)) (reply.Store e) box none h = true≢false (sym h)
+recorded_box (Some (reply.MadeShared i b)) (reply.Owner o) box none h = true≢false (sym h)
+recorded_box (Some (reply.MadeShared i b)) (reply.Reader t) box none h = true≢false (sym h)
+recorded_box (Some (reply.MadeShared i b)) (reply.Writer t) box none h = true≢false (sym h)
+recorded_box (Some (reply.MadeShared i b)) reply.Done box none h = true≢false (sym h)
+recorded_box (Some (reply.MadeShared i b)) (reply.Dropped l) box none h = true≢false (sym h)
+recorded_box (Some (reply.MadeShared i b)) (reply.Store e) box none h = true≢false (sym h)
+recorded_box (Some s) r box none h = absurd (true≢false (sym box))
+
+-- the names of a recorded reply are those that the call takes
+takes_named : (P Q : Plain) (a : Action (Unit {0})) (answer : Answer (Unit {0})) (r : StepReply)
+    → gives_new P a r ≡ true → is_recorded (reply_of Q a answer) r ≡ true
+    → Takes P a answer (names_of_reply r)
+takes_named P Q a answer (reply.Made b) new h = takes_any P a answer _ (are_from P a _ new)
+takes_named P Q a answer (reply.MadeShared i b) new h =
+    takes_any P a answer _ (are_from P a _ new)
+takes_named P Q a (Made b) r new h = absurd (recorded_box _ r (made_gives a Q b) refl h)
+takes_named P Q a _ r new h = tt
+
 -- a step that is lawful is taken
 taken_by : (P Q : Plain) (c : StepCall) (r : StepReply) (a : Action (Unit {0}))
-    → action_of P c ≡ Some a → (gives_new P r ≡ true → AreNew P a (names_of_reply r))
-    → step_by P c r (Some a) ≡ Some Q → IsTaken P c r Q
-taken_by P Q c r a asks new e = at (is_lawful P c r out.0) refl e
+    → action_of P c ≡ Some a → step_by P c r (Some a) ≡ Some Q → IsTaken P c r Q
+taken_by P Q c r a asks e = at (is_lawful P c a r (reply_of out.1 a out.0)) refl e
   where
     out : Outcome (Unit {0})
     out = limit_tickets P (act P a (names_of_reply r))
 
-    at : (b : Bool) → is_lawful P c r out.0 ≡ b → cond b (Some out.1) None ≡ Some Q
-        → IsTaken P c r Q
+    at : (b : Bool) → is_lawful P c a r (reply_of out.1 a out.0) ≡ b
+        → cond b (Some out.1) None ≡ Some Q → IsTaken P c r Q
     at true is e =
         let ready = and_parts (is_ready P c) _ is in
-        let gives = and_parts (gives_new P r) _ ready.1 in
+        let gives = and_parts (gives_new P a r) _ ready.1 in
         let same : out.1 ≡ Q = cc in
         record {
           action = a;
@@ -50,34 +114,23 @@ taken_by P Q c r a asks new e = at (is_lawful P c r out.0) refl e
           answer = out.0;
           met = inl (
             names_of_reply r,
-            takes_any P a out.0 (names_of_reply r) (new gives.0),
+            takes_named P out.1 a out.0 r gives.0 gives.1,
             λ i. (out.0, sym same i),
           );
-          replied = gives.1;
-          named = gives_from P r gives.0;
+          replied = ap (λ R. is_recorded (reply_of R a out.0) r) (sym same) ∙ gives.1;
+          named = gives_from P a r gives.0;
         }
     at false is e = absurd cc
 
 pub step_taken : (P Q : Plain) (c : StepCall) (r : StepReply)
     → plain_step P c r ≡ Some Q → IsTaken P c r Q
 unfolding plain_step
-step_taken P Q (Leak l) (reply.Made b) e =
-    taken_by P Q (Leak l) (reply.Made b) (Make None tt l) refl (new_from P (name_of b)) e
-step_taken P Q (Leak l) (reply.Reader t) e = absurd cc
-step_taken P Q (Leak l) reply.Done e = absurd cc
-step_taken P Q (Leak l) (reply.Dropped d) e = absurd cc
-step_taken P Q (Leak l) (reply.Store s) e = absurd cc
-step_taken P Q (Read b l) r e = taken_by P Q (Read b l) r (ReadBox b l) refl (λ h. tt) e
-step_taken P Q (ReleaseRead t) r e = at (reader_cell P t) refl e
+step_taken P Q c r e = at (action_of P c) refl e
   where
-    at : (o : Option Name) → reader_cell P t ≡ o
-        → step_by P (ReleaseRead t) r (option_map (λ n. ReleaseReader (guard_at P t n)) o) ≡ Some Q
-        → IsTaken P (ReleaseRead t) r Q
-    at None is e = absurd cc
-    at (Some n) is e =
-        taken_by P Q (ReleaseRead t) r (ReleaseReader (guard_at P t n))
-        (ap (option_map (λ m. ReleaseReader (guard_at P t m))) is) (λ h. tt) e
-step_taken P Q (ManuallyDrop b) r e = taken_by P Q (ManuallyDrop b) r (End b) refl (λ h. tt) e
+    at : (o : Option (Action (Unit {0}))) → action_of P c ≡ o → step_by P c r o ≡ Some Q
+        → IsTaken P c r Q
+    at None asks e = absurd cc
+    at (Some a) asks e = taken_by P Q c r a asks e
 
 -- ---- a step within a history
 

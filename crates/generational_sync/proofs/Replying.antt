@@ -1,6 +1,6 @@
 -- A reply is the same as itself, and is recorded alike with and without values.
-use Rattle.std.proofs.Common.{◌≡◌, ℕ, true, false, List, [], ◌∷◌, Option, Some, refl, ap, ◌∙◌}
-use Rattle.std.specs.Prelude.{nat_eq}
+use Rattle.std.proofs.Common.{◌≡◌, ℕ, Bool, true, false, cond, List, [], ◌∷◌, Option, None, Some, refl, ap, ◌∙◌}
+use Rattle.std.specs.Prelude.{nat_eq, option_map}
 use Rattle.std.specs.Cmp.Lexicographic.{pointwise}
 use Rattle.std.proofs.lemmas.Bool.{eq-eqb, and_from}
 use Rattle.generational_core.specs.declared.error.Location.{Location}
@@ -12,13 +12,26 @@ use Rattle.generational_core.specs.declared.boxes.GenerationalPointer.{Generatio
 use Rattle.generational_core.specs.Boxes.{has_same_id}
 use Rattle.generational_core.specs.Texts.{same_location}
 use Rattle.generational_core.specs.Borrowing.BorrowRefusal.{Dropped, BeingRead, BeingWritten}
-use Rattle.generational_core.specs.Machine.{Answer}
+use Rattle.std.specs.FinMap as map
+use Rattle.generational_core.specs.Boxes.{name_in}
+use Rattle.generational_core.specs.Cells.{Cell}
+use Rattle.generational_core.specs.Cells.Cell.{Value, Shared, Ref}
+use Rattle.generational_core.specs.State.{State}
+use Rattle.generational_core.specs.StepCalls.{target_in, target_of}
+use Rattle.generational_core.specs.Machine.{Action, Answer}
+use Rattle.generational_core.specs.Machine.Action.{Make, MakeShared, Refer, NewOwner, CloneOwner}
+use Rattle.generational_core.specs.Machine.Action.{ReleaseOwner, LeakOwner, Read, Write}
+use Rattle.generational_core.specs.Machine.Action.{ReleaseReader, ReleaseWriter, SetValue, End}
+use Rattle.generational_core.specs.Machine.Action.{Point, CanRead, CanWrite}
 use Rattle.generational_core.specs.Machine.Answer.{Made, Owned, Reads, Writes, Done, Old, Flag}
 use Rattle.generational_core.specs.Machine.Answer.{Back, BorrowRefused, Refused}
-use Rattle.generational_sessions.specs.History.{plain_answer}
+use Rattle.generational_sessions.specs.Carrying.{rename_cell}
+use Rattle.generational_sessions.specs.History.{bare, plain, plain_answer, plain_call}
+unfoldable use Rattle.generational_sessions.specs.History.{bare_cells}
+use Rattle.generational_sessions.proofs.carrying.Plain.{get_bare}
 use Rattle.generational_sync.specs.declared.step.StepReply.{StepReply}
 use Rattle.generational_sync.specs.declared.step.StepReply.TheVariants as reply
-use Rattle.generational_sync.specs.Replies.{reply_to, same_reply, same_error, is_recorded}
+use Rattle.generational_sync.specs.Replies.{reply_of, same_box, same_reply, same_error, is_recorded}
 
 same_number : (n : ℕ) → nat_eq n n ≡ true
 same_number n = eq-eqb n n refl
@@ -40,8 +53,15 @@ error_refl OutOfMemory = refl
 error_refl NumbersExhausted = refl
 error_refl UnknownOwner = refl
 
+box_refl : (b : GenerationalPointer) → same_box b b ≡ true
+box_refl b = and_from _ _ (id_refl b) (location_refl b.created_at)
+
 reply_refl : (r : StepReply) → same_reply r r ≡ true
-reply_refl (reply.Made b) = and_from _ _ (id_refl b) (location_refl b.created_at)
+reply_refl (reply.Made b) = box_refl b
+reply_refl (reply.MadeShared i b) = and_from _ _ (and_from _ _ (same_number i.store)
+    (and_from _ _ (same_number i.slot) (same_number i.generation))) (box_refl b)
+reply_refl (reply.Owner o) = and_from _ _ (same_number o.store) (same_number o.key)
+reply_refl (reply.Writer t) = same_number t
 reply_refl (reply.Reader t) = same_number t
 reply_refl reply.Done = refl
 reply_refl (reply.Dropped l) = location_refl l
@@ -51,20 +71,55 @@ reply_refl (reply.Store e) = error_refl e
 pub recorded_is : (o : Option StepReply) (r : StepReply) → o ≡ Some r → is_recorded o r ≡ true
 recorded_is o r is = ap (λ p. is_recorded p r) is ∙ reply_refl r
 
-pub plain_reply : {T : Type 0} (answer : Answer T)
-    → reply_to (plain_answer answer) ≡ reply_to answer
-plain_reply (Made b) = refl
-plain_reply (Owned o) = refl
-plain_reply (Reads g) = refl
-plain_reply (Writes g v) = refl
-plain_reply Done = refl
-plain_reply (Old v) = refl
-plain_reply (Flag true) = refl
-plain_reply (Flag false) = refl
-plain_reply (Back v) = refl
-plain_reply (BorrowRefused (Dropped l)) = refl
-plain_reply (BorrowRefused (BeingRead ls)) = refl
-plain_reply (BorrowRefused (BeingWritten l)) = refl
-plain_reply (Refused OutOfMemory) = refl
-plain_reply (Refused NumbersExhausted) = refl
-plain_reply (Refused UnknownOwner) = refl
+-- a state without its values has the targets of its references
+target_cell : {T : Type 0} (number : ℕ) (o : Option (Cell T))
+    → target_in number (option_map (rename_cell (λ n. n) 0 bare) o) ≡ target_in number o
+target_cell number None = refl
+target_cell number (Some (Value c l)) = refl
+target_cell number (Some (Shared c l)) = refl
+target_cell number (Some (Ref m l)) = refl
+
+plain_target : {T : Type 0} (R : State T) (b : GenerationalPointer)
+    → target_of (plain R) b ≡ target_of R b
+plain_target R b = at (nat_eq b.id.store R.number)
+  where
+    at : (own : Bool) → target_in R.number
+        (cond own (map.get (bare_cells R.cells) (name_in b.id)) None)
+        ≡ target_in R.number (cond own (map.get R.cells (name_in b.id)) None)
+    at true = ap (target_in R.number) (get_bare R.cells (name_in b.id))
+        ∙ target_cell R.number (map.get R.cells (name_in b.id))
+    at false = refl
+
+pub plain_reply : {T : Type 0} (R : State T) (a : Action T) (answer : Answer T)
+    → reply_of (plain R) (plain_call a) (plain_answer answer) ≡ reply_of R a answer
+plain_reply R (Make o v l) (Made b) = refl
+plain_reply R (MakeShared o v l) (Made b) =
+    ap (option_map (λ id. reply.MadeShared id b)) (plain_target R b)
+plain_reply R (Refer o c) (Made b) = refl
+plain_reply R NewOwner (Made b) = refl
+plain_reply R (CloneOwner o) (Made b) = refl
+plain_reply R (ReleaseOwner o) (Made b) = refl
+plain_reply R (LeakOwner o) (Made b) = refl
+plain_reply R (Read c l) (Made b) = refl
+plain_reply R (Write c l) (Made b) = refl
+plain_reply R (ReleaseReader g) (Made b) = refl
+plain_reply R (ReleaseWriter g v) (Made b) = refl
+plain_reply R (SetValue c v) (Made b) = refl
+plain_reply R (End c) (Made b) = refl
+plain_reply R (Point c d) (Made b) = refl
+plain_reply R (CanRead c) (Made b) = refl
+plain_reply R (CanWrite c) (Made b) = refl
+plain_reply R a (Owned o) = refl
+plain_reply R a (Reads g) = refl
+plain_reply R a (Writes g v) = refl
+plain_reply R a Done = refl
+plain_reply R a (Old v) = refl
+plain_reply R a (Flag true) = refl
+plain_reply R a (Flag false) = refl
+plain_reply R a (Back v) = refl
+plain_reply R a (BorrowRefused (Dropped l)) = refl
+plain_reply R a (BorrowRefused (BeingRead ls)) = refl
+plain_reply R a (BorrowRefused (BeingWritten l)) = refl
+plain_reply R a (Refused OutOfMemory) = refl
+plain_reply R a (Refused NumbersExhausted) = refl
+plain_reply R a (Refused UnknownOwner) = refl

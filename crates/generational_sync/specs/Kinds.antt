@@ -15,7 +15,10 @@ step_of worker call r = record { worker = worker; call = call; reply = r }
 -- the kind of a step with this reply
 abbrev pub kind_of : StepReply → Kind
 kind_of (reply.Made b) = Made
+kind_of (reply.MadeShared id b) = Made
+kind_of (reply.Owner o) = Made
 kind_of (reply.Reader t) = Lent
+kind_of (reply.Writer t) = Lent
 kind_of reply.Done = Changed
 kind_of (reply.Dropped l) = Refused
 kind_of (reply.Store e) = Refused

@@ -1,6 +1,6 @@
 -- Which reply of a call is recorded, and what is recorded and counted of it.
 use Rattle.std.specs.Prelude.{ℕ, Bool, true, false, ◌&&◌, nat_eq, List, ◌∷◌, [], ◌++◌, Option, Some}
-use Rattle.std.specs.Prelude.{None}
+use Rattle.std.specs.Prelude.{None, option_map}
 use Rattle.generational_core.specs.declared.error.StoreError.{StoreError}
 use Rattle.generational_core.specs.declared.error.StoreError.TheVariants.{OutOfMemory}
 use Rattle.generational_core.specs.declared.error.StoreError.TheVariants.{NumbersExhausted}
@@ -9,35 +9,73 @@ use Rattle.generational_core.specs.declared.steps.StepCall.{StepCall}
 use Rattle.generational_core.specs.Boxes.{has_same_id}
 use Rattle.generational_core.specs.Texts.{same_location}
 use Rattle.generational_core.specs.Borrowing.BorrowRefusal.{Dropped}
-use Rattle.generational_core.specs.Machine.{Answer}
-use Rattle.generational_core.specs.Machine.Answer.{Made, Reads, Done, Flag, BorrowRefused, Refused}
+use Rattle.generational_core.specs.declared.boxes.GenerationalBoxId.{GenerationalBoxId}
+use Rattle.generational_core.specs.declared.boxes.GenerationalPointer.{GenerationalPointer}
+use Rattle.generational_core.specs.declared.owner.OwnerId.{OwnerId}
+use Rattle.generational_core.specs.State.{State}
+use Rattle.generational_core.specs.StepCalls.{id_of_owner, target_of}
+use Rattle.generational_core.specs.Machine.{Action, Answer}
+use Rattle.generational_core.specs.Machine.Action.{Make, MakeShared, Refer}
+use Rattle.generational_core.specs.Machine.Answer.{Made, Owned, Reads, Writes, Done, Old, Flag}
+use Rattle.generational_core.specs.Machine.Answer.{BorrowRefused, Refused}
 use Rattle.generational_sync.specs.declared.step.Step.{Step}
 use Rattle.generational_sync.specs.declared.step.StepReply.{StepReply}
 use Rattle.generational_sync.specs.declared.step.StepReply.TheVariants as reply
+use Rattle.generational_sync.specs.declared.step.Kind.{Kind}
+use Rattle.generational_sync.specs.declared.step.Kind.TheVariants as kind
 use Rattle.generational_sync.specs.Counts.{Counts, raised}
 use Rattle.generational_sync.specs.Kinds.{kind_of, step_of}
 
--- how the answer of the machine is recorded; an answer that tells of a borrow or of want of memory
--- isn't, and neither is the release of a guard that the store doesn't know
-abbrev pub reply_to : {T : Type 0} → Answer T → Option StepReply
-reply_to (Made b) = Some (reply.Made b)
-reply_to (Reads g) = Some (reply.Reader g.ticket)
-reply_to Done = Some reply.Done
-reply_to (Flag true) = Some reply.Done
-reply_to (BorrowRefused (Dropped l)) = Some (reply.Dropped l)
-reply_to (Refused NumbersExhausted) = Some (reply.Store NumbersExhausted)
-reply_to (Refused UnknownOwner) = Some (reply.Store UnknownOwner)
-reply_to _ = None
+module _ {T : Type 0} where
+  -- how a box that was made is recorded: a shared value's with the cell that it names
+  abbrev pub made_reply : Action T → State T → GenerationalPointer → Option StepReply
+  made_reply (Make o v l) R b = Some (reply.Made b)
+  made_reply (MakeShared o v l) R b = option_map (λ id. reply.MadeShared id b) (target_of R b)
+  made_reply (Refer o c) R b = Some (reply.Made b)
+  made_reply _ R b = None
+
+  -- How the answer of the machine to a call is recorded, after which its state is R. An answer that
+  -- tells of a borrow or of want of memory isn't recorded, and neither is the release of a guard
+  -- that the store doesn't know.
+  abbrev pub reply_of : State T → Action T → Answer T → Option StepReply
+  reply_of R call (Made b) = made_reply call R b
+  reply_of R call (Owned o) = Some (reply.Owner (id_of_owner o))
+  reply_of R call (Reads g) = Some (reply.Reader g.ticket)
+  reply_of R call (Writes g v) = Some (reply.Writer g.ticket)
+  reply_of R call Done = Some reply.Done
+  reply_of R call (Old v) = Some reply.Done
+  reply_of R call (Flag true) = Some reply.Done
+  reply_of R call (BorrowRefused (Dropped l)) = Some (reply.Dropped l)
+  reply_of R call (Refused NumbersExhausted) = Some (reply.Store NumbersExhausted)
+  reply_of R call (Refused UnknownOwner) = Some (reply.Store UnknownOwner)
+  reply_of R call _ = None
 
 -- the history after a call of this worker, if its reply is recorded
 abbrev pub recorded : List Step → ℕ → StepCall → Option StepReply → List Step
 recorded steps worker call None = steps
 recorded steps worker call (Some r) = steps ++ step_of worker call r ∷ []
 
--- the tally after it
+-- the kind of an answer's step, if it is one
+abbrev pub kind_in : {T : Type 0} → Answer T → Option Kind
+kind_in (Made b) = Some kind.Made
+kind_in (Owned o) = Some kind.Made
+kind_in (Reads g) = Some kind.Lent
+kind_in (Writes g v) = Some kind.Lent
+kind_in Done = Some kind.Changed
+kind_in (Old v) = Some kind.Changed
+kind_in (Flag true) = Some kind.Changed
+kind_in (BorrowRefused (Dropped l)) = Some kind.Refused
+kind_in (Refused NumbersExhausted) = Some kind.Refused
+kind_in (Refused UnknownOwner) = Some kind.Refused
+kind_in _ = None
+
+-- a tally after a step of a kind, if there is one, and after a call with this reply
+abbrev pub raised_by : Option Kind → Counts → Counts
+raised_by None c = c
+raised_by (Some k) c = raised k c
+
 abbrev pub tallied : Option StepReply → Counts → Counts
-tallied None c = c
-tallied (Some r) c = raised (kind_of r) c
+tallied r c = raised_by (option_map kind_of r) c
 
 -- whether two refusals of the store are the same
 abbrev pub same_error : StoreError → StoreError → Bool
@@ -46,11 +84,24 @@ same_error NumbersExhausted NumbersExhausted = true
 same_error UnknownOwner UnknownOwner = true
 same_error e f = false
 
+-- whether two ids are the same, and two owners', by their numbers
+abbrev pub same_id : GenerationalBoxId → GenerationalBoxId → Bool
+same_id a b =
+    nat_eq a.store b.store && (nat_eq a.slot b.slot && nat_eq a.generation b.generation)
+
+abbrev pub same_owner : OwnerId → OwnerId → Bool
+same_owner a b = nat_eq a.store b.store && nat_eq a.key b.key
+
+abbrev pub same_box : GenerationalPointer → GenerationalPointer → Bool
+same_box b c = has_same_id b c && same_location b.created_at c.created_at
+
 -- whether two replies are the same, locations by their texts, lines and columns
 abbrev pub same_reply : StepReply → StepReply → Bool
-same_reply (reply.Made b) (reply.Made c) =
-    has_same_id b c && same_location b.created_at c.created_at
+same_reply (reply.Made b) (reply.Made c) = same_box b c
+same_reply (reply.MadeShared i b) (reply.MadeShared j c) = same_id i j && same_box b c
+same_reply (reply.Owner o) (reply.Owner p) = same_owner o p
 same_reply (reply.Reader t) (reply.Reader u) = nat_eq t u
+same_reply (reply.Writer t) (reply.Writer u) = nat_eq t u
 same_reply reply.Done reply.Done = true
 same_reply (reply.Dropped l) (reply.Dropped m) = same_location l m
 same_reply (reply.Store e) (reply.Store f) = same_error e f

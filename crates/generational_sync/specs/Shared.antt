@@ -17,7 +17,7 @@ use Rattle.generational_core.specs.Steps.{Meets}
 use Rattle.generational_sessions.specs.History.{plain}
 use Rattle.generational_sync.specs.declared.step.Step.{Step}
 use Rattle.generational_sync.specs.Counts.{Counts}
-use Rattle.generational_sync.specs.Replies.{reply_to, recorded, tallied}
+use Rattle.generational_sync.specs.Replies.{kind_in, raised_by, recorded, reply_of}
 use Rattle.generational_sync.specs.History.{start, replay_from}
 use Rattle.generational_sync.specs.Standing.{borrows}
 
@@ -58,14 +58,14 @@ abbrev pub Replays : {T : Type 0} → ℕ → SharedState T → Type 0
 Replays number s = replay_from (start number) s.history ≡ Some (plain s.state)
 
 -- the step of a call of the tally's worker is appended, if its answer is recorded
-abbrev pub Records : {T : Type 0} → SharedState T → Counts → StepCall → Answer T → SharedState T
-    → Type 0
-Records old tally call answer new =
-    new.history ≡ recorded old.history tally.worker call (reply_to answer)
+abbrev pub Records : {T : Type 0} → SharedState T → Counts → StepCall → Action T → Answer T
+    → SharedState T → Type 0
+Records old tally call action answer new =
+    new.history ≡ recorded old.history tally.worker call (reply_of new.state action answer)
 
 -- and the count of its kind is raised by one
 abbrev pub Raises : {T : Type 0} → Counts → Answer T → Counts → Type 0
-Raises old answer new = new ≡ tallied (reply_to answer) old
+Raises old answer new = new ≡ raised_by (kind_in answer) old
 
 -- a box of the store with this number, made at this location
 abbrev pub IsBoxOf : ℕ → Location → GenerationalPointer → Type 0

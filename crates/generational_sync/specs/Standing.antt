@@ -1,11 +1,32 @@
 -- How many borrows stand in a state.
-use Rattle.std.specs.Prelude.{ℕ, ◌+◌, List, [], ◌∷◌, Some, length}
+use Rattle.std.specs.Prelude.{ℕ, ◌+◌, Bool, true, false, List, [], ◌∷◌, Option, None, Some, length}
 use Rattle.std.specs.FinMap as map
 use Rattle.generational_core.specs.Names.{Name}
 use Rattle.generational_core.specs.Cells.{Cell, content_of}
 use Rattle.generational_core.specs.State.{State, tickets_of}
+use Rattle.generational_core.specs.Machine.{Action, Answer}
+use Rattle.generational_core.specs.Machine.Answer.{Reads, Writes, BorrowRefused, Refused, Back, Flag}
+use Rattle.generational_core.specs.Machine.Action.{ReleaseReader, ReleaseWriter}
+use Rattle.generational_sync.specs.declared.step.StepReply.{StepReply}
+use Rattle.generational_sync.specs.declared.step.StepReply.TheVariants as reply
+
+-- how many borrows a recorded reply gives
+abbrev pub lent_by : StepReply → ℕ
+lent_by (reply.Reader t) = 1
+lent_by (reply.Writer t) = 1
+lent_by _ = 0
+
+abbrev pub lent_in : Option StepReply → ℕ
+lent_in None = 0
+lent_in (Some r) = lent_by r
 
 module _ {T : Type 0} where
+  -- whether a call ends a borrow
+  abbrev pub ends_borrow : Action T → Bool
+  ends_borrow (ReleaseReader g) = true
+  ends_borrow (ReleaseWriter g v) = true
+  ends_borrow _ = false
+
   -- at a cell
   abbrev pub borrows_of : Cell T → ℕ
   borrows_of cell = length (tickets_of (content_of (Some cell)))
@@ -18,3 +39,16 @@ module _ {T : Type 0} where
   -- at all live cells
   abbrev pub borrows : State T → ℕ
   borrows S = borrows_in (map.entries S.cells)
+
+  -- how many borrows an answer gives, and whether it is one that leaves all as it was
+  abbrev pub given_by : Answer T → ℕ
+  given_by (Reads g) = 1
+  given_by (Writes g v) = 1
+  given_by _ = 0
+
+  abbrev pub leaves : Answer T → Bool
+  leaves (BorrowRefused t) = true
+  leaves (Refused e) = true
+  leaves (Back v) = true
+  leaves (Flag false) = true
+  leaves _ = false

@@ -10,7 +10,7 @@ ghost use Rattle.generational_core.specs.StepCalls.{recorded_as};
 ghost use Rattle.generational_sessions.specs.History.{plain};
 ghost use Rattle.generational_sync.specs.declared.step.Step.{Step};
 ghost use Rattle.generational_sync.specs.declared.step.StepReply.{StepReply};
-ghost use Rattle.generational_sync.specs.Replies.{reply_to};
+ghost use Rattle.generational_sync.specs.Replies.{reply_of};
 ghost use Rattle.generational_sync.specs.History.{Plain, IsTaken, LeadsOver, plain_step, start};
 ghost use Rattle.generational_sync.specs.History.{replay_from};
 
@@ -18,8 +18,8 @@ use generational_box::laws;
 
 /// Each recorded step of a history that replays is the machine's step of this very call, taken
 /// without values in the state to which the steps before it led. No borrow stood in its way there,
-/// the machine's answer is the recorded reply, and the name of a box that it gave was never given
-/// before and fits. The steps after it go on from where it led. Boxes are compared by their ids
+/// the machine's answer is the recorded reply, and the names that it gave were never given before
+/// and fit. The steps after it go on from where it led. Boxes are compared by their ids
 /// and locations, and locations by text, line and column.
 pub fn recorded_steps_are_taken()
     ensures step { (P Q : Plain) (call : StepCall) (reply : StepReply) →
@@ -35,7 +35,8 @@ pub fn recorded_calls_are_lawful<T>()
     ensures step { (S R : State T) (action : Action T) (call : StepCall) (answer : Answer T)
         (reply : StepReply) →
         IsSound (plain S) → recorded_as action ≡ Some call → Meets S action answer R →
-        reply_to answer ≡ Some reply → plain_step (plain S) call reply ≡ Some (plain R) }
+        reply_of R action answer ≡ Some reply →
+        plain_step (plain S) call reply ≡ Some (plain R) }
 {
     laws::fresh_states_are_plain::<T>();
     laws::plain_states_step::<T>();

@@ -13,6 +13,7 @@
 
 pub mod laws;
 mod log;
+mod replies;
 mod state;
 mod step;
 mod storage;

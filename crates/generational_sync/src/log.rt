@@ -4,8 +4,9 @@ ghost use Rattle.std.specs.Prelude.{◌≡◌, ◌+◌, ◌<◌, ◌≤◌, [], 
 ghost use Rattle.std.specs.Prelude.{vec_len, vec_capacity};
 ghost use Rattle.generational_sync.specs.Counts.{raised};
 ghost use Rattle.generational_sync.specs.Kinds.{IsCounted, kind_of, step_of};
-ghost use Rattle.generational_sync.specs.declared.step.Kind.TheVariants.{Changed};
-ghost use Rattle.generational_sync.specs.declared.step.StepReply.TheVariants as reply;
+ghost use Rattle.generational_sync.specs.Standing.{lent_in};
+ghost use Rattle.generational_sync.specs.Replies.{recorded, tallied};
+ghost use Rattle.std.specs.Prelude.{IfSome, length, option_to_list};
 
 use crate::step::{Kind, Step, StepReply};
 use crate::tally::{Count, Tally};
@@ -83,7 +84,7 @@ impl<M: Count, L: Count, C: Count, R: Count> Log<M, L, C, R> {
     }
 
     // Appends a step of the tally's worker, for which there is room.
-    pub(crate) fn append(&mut self, call: StepCall, reply: StepReply, tally: &mut Tally<M, L, C, R>)
+    fn append(&mut self, call: StepCall, reply: StepReply, tally: &mut Tally<M, L, C, R>)
         requires { 0 < self.old.room }
         ensures steps { self.new.steps ≡
             self.old.steps ++ step_of tally.old.worker call reply ∷ [] }
@@ -101,8 +102,47 @@ impl<M: Count, L: Count, C: Count, R: Count> Log<M, L, C, R> {
         }
     }
 
+    // Appends the step of the tally's worker, if the reply is one that is recorded. Where it begins
+    // a borrow, that stands from then on.
+    pub(crate) fn settle(
+        &mut self,
+        call: StepCall,
+        reply: Option<StepReply>,
+        tally: &mut Tally<M, L, C, R>,
+    )
+        requires { 1 < self.old.room }
+        ensures steps { self.new.steps ≡ recorded self.old.steps tally.old.worker call reply }
+        ensures standing { self.new.standing ≡ self.old.standing + lent_in reply }
+        ensures tally { tally.new ≡ tallied reply tally.old }
+    {
+        let Some(reply) = reply else {
+            return;
+        };
+        self.append(call, reply, tally);
+        if let StepReply::Reader(_) | StepReply::Writer(_) = reply {
+            self.borrow_begins();
+        }
+    }
+
+    // The same for the end of a borrow, which has room since the borrow began.
+    pub(crate) fn settle_end(
+        &mut self,
+        call: StepCall,
+        reply: Option<StepReply>,
+        tally: &mut Tally<M, L, C, R>,
+    )
+        requires { IfSome reply (λ r. 0 < self.old.standing) }
+        ensures steps { self.new.steps ≡ recorded self.old.steps tally.old.worker call reply }
+        ensures standing { self.new.standing + length (option_to_list reply) ≡ self.old.standing }
+        ensures tally { tally.new ≡ tallied reply tally.old }
+    {
+        if let Some(reply) = reply {
+            self.borrow_ends(call, reply, tally);
+        }
+    }
+
     // One borrow more stands, for whose release there is room.
-    pub(crate) fn borrow_begins(&mut self)
+    fn borrow_begins(&mut self)
         requires { 0 < self.old.room }
         ensures steps { self.new.steps ≡ self.old.steps }
         ensures standing { self.new.standing ≡ self.old.standing + 1 }
@@ -111,15 +151,15 @@ impl<M: Count, L: Count, C: Count, R: Count> Log<M, L, C, R> {
     }
 
     // A borrow that stood is over: its release is appended, without any memory.
-    pub(crate) fn borrow_ends(&mut self, call: StepCall, tally: &mut Tally<M, L, C, R>)
+    fn borrow_ends(&mut self, call: StepCall, reply: StepReply, tally: &mut Tally<M, L, C, R>)
         requires { 0 < self.old.standing }
-        ensures steps { self.new.steps ≡ self.old.steps ++ step_of tally.old.worker call reply.Done
+        ensures steps { self.new.steps ≡ self.old.steps ++ step_of tally.old.worker call reply
             ∷ [] }
         ensures standing { self.new.standing + 1 ≡ self.old.standing }
-        ensures tally { tally.new ≡ raised Changed tally.old }
+        ensures tally { tally.new ≡ raised (kind_of reply) tally.old }
     {
         self.standing -= 1;
-        self.append(call, StepReply::Done, tally);
+        self.append(call, reply, tally);
     }
 
     // A copy of the steps, which a whole tally has counted by their kinds.

@@ -22,7 +22,8 @@ ghost use Rattle.generational_sync.specs.Shared.{IsBoxOf, MayRefuseRead};
 // A law does nothing when it is called: the caller's proof cites it.
 use crate::laws::{histories_lead_to_sound_states, recorded_calls_are_lawful};
 use crate::log::Log;
-use crate::step::{Step, StepReply, read_refusal};
+use crate::replies::{end_reply, flag_reply, make_reply, read_reply};
+use crate::step::Step;
 use crate::tally::{Count, Tally, tallies};
 use generational_box::laws::boxes_and_guards_are_new;
 use generational_box::{
@@ -122,8 +123,9 @@ impl<T: Drop, const NUMBER: u64, M: Count, L: Count, C: Count, R: Count> SyncSta
         Ok((state, tallies))
     }
 
-    /// Whether no borrow stands in the call's way: a read meets no writer, and an end no borrow of
-    /// a value that would end. Takes no memory.
+    /// Whether no borrow stands in the call's way. A read, or a making of a reference, meets no
+    /// writer; a write, or another value, no borrow; an end, or a box that is pointed elsewhere, no
+    /// borrow of a value that would end. Takes no memory.
     pub fn ready(&self, call: &StepCall) -> bool
         ensures ready { result ≡ is_ready self.now.state call.now }
         ensures replays { Replays NUMBER self.now }
@@ -154,21 +156,20 @@ impl<T: Drop, const NUMBER: u64, M: Count, L: Count, C: Count, R: Count> SyncSta
         ensures step { Does self.old (Make None value location) (box_answer result) self.new }
         ensures refusal { IfErr result (λ r. (r.value ≡ value) × (r.cause ≡ OutOfMemory)) }
         ensures made { IfOk result (λ b. IsBoxOf NUMBER location (pointer_of b)) }
-        ensures recorded { Records self.old tally.old (call.Leak location) (box_answer result)
-            self.new }
+        ensures recorded { Records self.old tally.old (call.Leak location)
+            (Make None value location) (box_answer result) self.new }
         ensures tallied { Raises tally.old (box_answer result) tally.new }
     {
         recorded_calls_are_lawful::<T>();
         histories_lead_to_sound_states();
         boxes_and_guards_are_new::<T>();
-        if self.log.reserve(1).is_err() {
+        if self.log.reserve(2).is_err() {
             let cause = StoreError::OutOfMemory;
             return Err(Refusal { value, cause });
         }
-        let made = self.store.new(value, location, None)?;
-        let call = StepCall::Leak(location);
-        self.log.append(call, StepReply::Made(made), tally);
-        Ok(box_at(made))
+        let made = self.store.new(value, location, None);
+        self.log.settle(StepCall::Leak(location), make_reply(&made), tally);
+        Ok(box_at(made?))
     }
 
     /// Begins a read of the box's value, in whose way no writer stands. The guard has the store's
@@ -191,7 +192,7 @@ impl<T: Drop, const NUMBER: u64, M: Count, L: Count, C: Count, R: Count> SyncSta
         ensures guard { IfOk result (λ guard. guard.store ≡ NUMBER) }
         ensures refusal { IfErr result (λ e. MayRefuseRead (pointer_of asked) e) }
         ensures recorded { Records self.old tally.old (call.Read (pointer_of asked) location)
-            (read_answer result) self.new }
+            (Read (pointer_of asked) location) (read_answer result) self.new }
         ensures tallied { Raises {T = T} tally.old (read_answer result) tally.new }
     {
         recorded_calls_are_lawful::<T>();
@@ -201,21 +202,9 @@ impl<T: Drop, const NUMBER: u64, M: Count, L: Count, C: Count, R: Count> SyncSta
             return Err(Refused::Store(StoreError::OutOfMemory));
         }
         let pointer = asked.pointer();
-        let call = StepCall::Read(pointer, location);
-        match begin_read(&mut self.store, pointer, location) {
-            Ok(guard) => {
-                let reply = StepReply::Reader(guard.ticket());
-                self.log.append(call, reply, tally);
-                self.log.borrow_begins();
-                Ok(guard)
-            }
-            Err(refused) => {
-                if let Some(reply) = read_refusal(&refused) {
-                    self.log.append(call, reply, tally);
-                }
-                Err(refused)
-            }
-        }
+        let read = self.store.try_read(pointer, location);
+        self.log.settle(StepCall::Read(pointer, location), read_reply(&read), tally);
+        read
     }
 
     /// Ends a read. The answer is whether the store knew the guard; where it didn't, the guard is
@@ -224,18 +213,16 @@ impl<T: Drop, const NUMBER: u64, M: Count, L: Count, C: Count, R: Count> SyncSta
     pub fn release_read(&mut self, guard: GenerationalRef<T>, tally: &mut Tally<M, L, C, R>) -> bool
         ensures step { Meets self.old.state (ReleaseReader guard) (Flag result) self.new.state }
         ensures known { result ≡ knows_reader self.old.state guard }
-        ensures recorded { Records self.old tally.old (call.ReleaseRead guard.ticket) (Flag result)
-            self.new }
+        ensures recorded { Records self.old tally.old (call.ReleaseRead guard.ticket)
+            (ReleaseReader guard) (Flag result) self.new }
         ensures tallied { Raises {T = T} tally.old (Flag result) tally.new }
     {
         recorded_calls_are_lawful::<T>();
         histories_lead_to_sound_states();
         let call = StepCall::ReleaseRead(guard.ticket());
-        if !self.store.release_read(guard) {
-            return false;
-        }
-        self.log.borrow_ends(call, tally);
-        true
+        let known = self.store.release_read(guard);
+        self.log.settle_end(call, flag_reply::<T>(known), tally);
+        known
     }
 
     /// Ends the box's cell, in whose way no borrow stands, and the value with it. A box whose cell
@@ -252,21 +239,18 @@ impl<T: Drop, const NUMBER: u64, M: Count, L: Count, C: Count, R: Count> SyncSta
         ensures step { Does self.old (End (pointer_of asked)) (end_answer result) self.new }
         ensures refusal { IfErr result (λ e. e ≡ refused.Store OutOfMemory) }
         ensures recorded { Records self.old tally.old (call.ManuallyDrop (pointer_of asked))
-            (end_answer result) self.new }
+            (End (pointer_of asked)) (end_answer result) self.new }
         ensures tallied { Raises {T = T} tally.old (end_answer result) tally.new }
     {
         recorded_calls_are_lawful::<T>();
         histories_lead_to_sound_states();
-        if self.log.reserve(1).is_err() {
+        if self.log.reserve(2).is_err() {
             return Err(Refused::Store(StoreError::OutOfMemory));
         }
         let pointer = asked.pointer();
-        if self.store.recycle(pointer).is_err() {
-            unreachable!()
-        }
-        let call = StepCall::ManuallyDrop(pointer);
-        self.log.append(call, StepReply::Done, tally);
-        Ok(())
+        let ended = self.store.recycle(pointer);
+        self.log.settle(StepCall::ManuallyDrop(pointer), end_reply::<T>(&ended), tally);
+        ended
     }
 
     // A copy of the history, which the whole tally has counted.
@@ -284,15 +268,4 @@ impl<T: Drop, const NUMBER: u64, M: Count, L: Count, C: Count, R: Count> SyncSta
             Err(_) => Err(StoreError::OutOfMemory),
         }
     }
-}
-
-// Begins a read in the store, before it is recorded.
-fn begin_read<T: Drop>(
-    store: &mut UnsyncStorage<T>,
-    asked: GenerationalPointer,
-    location: Location,
-) -> BorrowResult<GenerationalRef<T>>
-    ensures { Meets store.old.state (Read asked location) (read_answer result) store.new.state }
-{
-    store.try_read(asked, location)
 }

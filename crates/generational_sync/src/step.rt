@@ -1,19 +1,25 @@
 //! Steps and their kinds.
 
 ghost use Rattle.std.specs.Prelude.{◌≡◌};
-ghost use Rattle.generational_core.specs.Answers.{read_refused};
 ghost use Rattle.generational_sync.specs.Kinds.{kind_of};
-ghost use Rattle.generational_sync.specs.Replies.{reply_to};
 
-use generational_box::{BorrowError, GenerationalPointer, Location, Refused, StepCall, StoreError};
+use generational_box::{
+    GenerationalBoxId, GenerationalPointer, Location, OwnerId, StepCall, StoreError,
+};
 
 /// What a step was answered.
 #[derive(Clone, Copy, Debug, PartialEq)]
 pub enum StepReply {
     /// A box was made.
     Made(GenerationalPointer),
+    /// A shared value was made, whose cell has this id, and the box of its first reference.
+    MadeShared(GenerationalBoxId, GenerationalPointer),
+    /// An owner was given.
+    Owner(OwnerId),
     /// A read began, with this ticket.
     Reader(u64),
+    /// A write began, with this ticket.
+    Writer(u64),
     /// The call was carried out.
     Done,
     /// The box reached nothing. It was made at this location.
@@ -36,11 +42,12 @@ pub struct Step {
 /// The kind of a step, by its reply.
 #[derive(Clone, Copy, Debug, PartialEq, Eq)]
 pub enum Kind {
-    /// A box was made.
+    /// A box or an owner was given.
     Made,
     /// A guard was given.
     Lent,
-    /// A guard was released, or a box was ended. The end of a box that reached nothing counts too.
+    /// A value was set, a box was ended or pointed elsewhere, or a guard or an owner was released.
+    /// The end of a box that reached nothing counts too.
     Changed,
     /// A box reached nothing, or the store refused the call for another reason than memory.
     Refused,
@@ -52,24 +59,10 @@ impl Step {
         ensures { result ≡ kind_of self.now.reply }
     {
         match self.reply {
-            StepReply::Made(_) => Kind::Made,
-            StepReply::Reader(_) => Kind::Lent,
+            StepReply::Made(_) | StepReply::MadeShared(_, _) | StepReply::Owner(_) => Kind::Made,
+            StepReply::Reader(_) | StepReply::Writer(_) => Kind::Lent,
             StepReply::Done => Kind::Changed,
             StepReply::Dropped(_) | StepReply::Store(_) => Kind::Refused,
         }
-    }
-}
-
-// How the refusal of a read is recorded, if it is.
-pub(crate) fn read_refusal(refused: &Refused<BorrowError>) -> Option<StepReply>
-    ensures { result ≡ reply_to {T = Unit {0}} (read_refused refused.now) }
-{
-    match refused {
-        Refused::Borrow(BorrowError::Dropped(error)) => Some(StepReply::Dropped(
-            error.created_at(),
-        )),
-        Refused::Borrow(BorrowError::AlreadyBorrowedMut(_)) => None,
-        Refused::Store(StoreError::OutOfMemory) => None,
-        Refused::Store(error) => Some(StepReply::Store(*error)),
     }
 }

@@ -57,7 +57,7 @@ find_each h q (e ∷ es) = rw (find_each h q es)
     (cond_map (option_map h) (eq_by_cmp name_cmp q e.0) (Some e.1) (map.find name_cmp q es))
 
 module _ {T : Type 0} where
-  get_bare : (cells : NameMap (Cell T)) (n : Name)
+  pub get_bare : (cells : NameMap (Cell T)) (n : Name)
       → map.get (bare_cells cells) n ≡ option_map (rename_cell same_name 0 bare) (map.get cells n)
   unfolding bare_cells
   get_bare cells n = map.get-from_entries name_total _ n

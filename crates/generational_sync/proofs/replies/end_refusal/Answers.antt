@@ -1,0 +1,8 @@
+use Rattle.std.proofs.Common.{ap, sym, ◌∙◌}
+use Rattle.generational_core.specs.Answers.{end_refused}
+use Rattle.generational_sync.specs.Replies.{reply_of}
+use Rattle.generational_sync.proofs.replies.end_refusal.Goals as goal
+
+pub returns-in-Store-clause-reply : goal.returns-in-Store-clause-reply
+returns-in-Store-clause-reply g c R call =
+    c.store_reply.ensures.reply R call ∙ ap (λ e. reply_of R call (end_refused e)) (sym c.in-Store.is)

@@ -1,0 +1,103 @@
+//! How the answers of the sequential store are recorded.
+
+ghost use Rattle.std.specs.Prelude.{◌≡◌};
+ghost use Rattle.generational_core.specs.declared.boxes.GenerationalPointer.{GenerationalPointer};
+ghost use Rattle.generational_core.specs.declared.error.Location.{Location};
+ghost use Rattle.generational_core.specs.Answers.{end_answer, end_refused, make_answer, read_answer};
+ghost use Rattle.generational_core.specs.Answers.{read_refused};
+ghost use Rattle.generational_core.specs.Borrowing.{Guard};
+ghost use Rattle.generational_core.specs.Machine.{Action, OwnerName};
+ghost use Rattle.generational_core.specs.Machine.Action.{End, Make, Read, ReleaseReader};
+ghost use Rattle.generational_core.specs.Machine.Answer.{Flag, Refused as refuses};
+ghost use Rattle.generational_core.specs.State.{State};
+ghost use Rattle.std.specs.Prelude.{Option, option_map};
+ghost use Rattle.generational_sync.specs.Replies.{kind_in, reply_of};
+ghost use Rattle.generational_sync.specs.Kinds.{kind_of};
+
+use crate::step::StepReply;
+use generational_box::{
+    BorrowError, BorrowMutError, BorrowMutResult, BorrowResult, GenerationalPointer,
+    GenerationalRef, Refusal, Refused, StoreError,
+};
+
+// How a refusal of the store is recorded.
+fn store_reply<T>(error: StoreError) -> Option<StepReply>
+    ensures reply { (R : State T) (call : Action T) → result ≡ reply_of R call (refuses error) }
+    ensures kind { option_map kind_of result ≡ kind_in {T = T} (refuses error) }
+{
+    match error {
+        StoreError::OutOfMemory => None,
+        _ => Some(StepReply::Store(error)),
+    }
+}
+
+// How the refusal of a read is recorded, and that of a write or an end.
+fn read_refusal<T>(refused: &Refused<BorrowError>) -> Option<StepReply>
+    ensures reply { (R : State T) (call : Action T)
+        → result ≡ reply_of R call (read_refused refused.now) }
+    ensures kind { option_map kind_of result ≡ kind_in {T = T} (read_refused refused.now) }
+{
+    match refused {
+        Refused::Borrow(BorrowError::Dropped(error)) => Some(StepReply::Dropped(
+            error.created_at(),
+        )),
+        Refused::Borrow(BorrowError::AlreadyBorrowedMut(_)) => None,
+        Refused::Store(error) => store_reply::<T>(*error),
+    }
+}
+
+fn end_refusal<T>(refused: &Refused<BorrowMutError>) -> Option<StepReply>
+    ensures reply { (R : State T) (call : Action T)
+        → result ≡ reply_of R call (end_refused refused.now) }
+    ensures kind { option_map kind_of result ≡ kind_in {T = T} (end_refused refused.now) }
+{
+    match refused {
+        Refused::Borrow(BorrowMutError::Dropped(error)) => Some(StepReply::Dropped(
+            error.created_at(),
+        )),
+        Refused::Borrow(_) => None,
+        Refused::Store(error) => store_reply::<T>(*error),
+    }
+}
+
+/// How the answer of a making is recorded.
+pub(crate) fn make_reply<T>(made: &Result<GenerationalPointer, Refusal<T>>) -> Option<StepReply>
+    ensures reply { (R : State T) (owner : Option OwnerName) (value : T) (l : Location)
+        → result ≡ reply_of R (Make owner value l) (make_answer made.now) }
+    ensures kind { option_map kind_of result ≡ kind_in {T = T} (make_answer made.now) }
+{
+    match made {
+        Ok(pointer) => Some(StepReply::Made(*pointer)),
+        Err(refusal) => store_reply::<T>(refusal.cause),
+    }
+}
+
+/// How the answer of a read is recorded.
+pub(crate) fn read_reply<T>(read: &BorrowResult<GenerationalRef<T>>) -> Option<StepReply>
+    ensures reply { (R : State T) (call : Action T) → result ≡ reply_of R call (read_answer read.now) }
+    ensures kind { option_map kind_of result ≡ kind_in {T = T} (read_answer read.now) }
+{
+    match read {
+        Ok(guard) => Some(StepReply::Reader(guard.ticket())),
+        Err(refused) => read_refusal::<T>(refused),
+    }
+}
+
+/// How the answer of an end is recorded.
+pub(crate) fn end_reply<T>(ended: &BorrowMutResult<()>) -> Option<StepReply>
+    ensures reply { (R : State T) (call : Action T) → result ≡ reply_of R call (end_answer ended.now) }
+    ensures kind { option_map kind_of result ≡ kind_in {T = T} (end_answer ended.now) }
+{
+    match ended {
+        Ok(_) => Some(StepReply::Done),
+        Err(refused) => end_refusal::<T>(refused),
+    }
+}
+
+/// How the end of a read is recorded.
+pub(crate) fn flag_reply<T>(known: bool) -> Option<StepReply>
+    ensures reply { (R : State T) (call : Action T) → result ≡ reply_of R call (Flag known) }
+    ensures kind { option_map kind_of result ≡ kind_in {T = T} (Flag known) }
+{
+    if known { Some(StepReply::Done) } else { None }
+}
