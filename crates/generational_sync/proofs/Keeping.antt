@@ -1,5 +1,5 @@
 -- What lies under the lock stays as it is kept.
-use Rattle.std.proofs.Common.{◌≡◌, ℕ, ◌+◌, ◌≤◌, true, List, [], ◌∷◌, ◌++◌, length, None, Result, Ok}
+use Rattle.std.proofs.Common.{◌≡◌, ℕ, ◌+◌, ◌≤◌, Bool, true, List, [], ◌∷◌, ◌++◌, length, None, Result, Ok}
 use Rattle.std.proofs.Common.{Err, false, Some, refl, sym, ap, ◌∙◌, arith, inl, inr}
 use Rattle.std.specs.Result.{is_err}
 use Rattle.std.proofs.lemmas.Bool.{true≢false}
@@ -32,13 +32,16 @@ use Rattle.generational_sync.specs.declared.step.Step.{Step}
 use Rattle.generational_sync.specs.declared.step.StepReply.{StepReply}
 use Rattle.generational_sync.specs.declared.step.StepReply.TheVariants as reply
 use Rattle.generational_sync.specs.Kinds.{step_of}
-use Rattle.generational_sync.specs.Replies.{reply_to}
+use Rattle.generational_sync.specs.Replies.{reply_of}
 use Rattle.generational_sync.specs.History.{Plain, start, plain_step, replay_from}
 use Rattle.generational_sync.specs.Standing.{borrows, borrows_in}
 use Rattle.generational_sync.specs.Shared.{LogState, IsKept}
+use Rattle.generational_sync.specs.Standing.{given_by, leaves, lent_in}
+use Rattle.generational_sync.specs.Replies.{recorded}
+use Rattle.generational_sync.proofs.Counting.{meets_fine}
 use Rattle.generational_sync.proofs.Replaying.{replays_on}
-use Rattle.generational_sync.proofs.Standings.{made_stand, read_stand, end_stand, release_stand}
-use Rattle.generational_sync.proofs.Standings.{lends}
+use Rattle.generational_sync.proofs.Standings.{release_stand}
+use Rattle.std.specs.Prelude.{◌<◌, IfSome, Option, option_to_list}
 
 -- the history with one step more
 abbrev pub Appended : LogState → LogState → ℕ → StepCall → StepReply → Type 0
@@ -48,24 +51,11 @@ no_borrows : {T : Type 0} (es : List (Name × Cell T)) → length es ≡ 0 → b
 no_borrows [] e = refl
 no_borrows (e ∷ es) none = absurd (omega arith)
 
--- the refusal of a read lends nothing, and is recorded alike with and without values
-refusal_lends : (T : Type 0) (e : Refused BorrowError) → lends {T = T} (read_refused e) ≡ 0
-refusal_lends T (refused.Borrow e) = refl
-refusal_lends T (refused.Store e) = refl
-
-refusal_alike : (T : Type 0) (e : Refused BorrowError)
-    → reply_to {T = T} (read_refused e) ≡ reply_to {T = Unit {0}} (read_refused e)
-refusal_alike T (refused.Borrow (reads.Dropped d)) = refl
-refusal_alike T (refused.Borrow (reads.AlreadyBorrowedMut w)) = refl
-refusal_alike T (refused.Store OutOfMemory) = refl
-refusal_alike T (refused.Store NumbersExhausted) = refl
-refusal_alike T (refused.Store UnknownOwner) = refl
-
 -- what the laws say: recorded calls are lawful, and histories lead to sound states, of the store
 -- with the number of their start
 abbrev AreLawful : Type 0 → Type 0
 AreLawful T = (S R : State T) (a : Action T) (c : StepCall) (answer : Answer T) (r : StepReply)
-    → IsSound (plain S) → recorded_as a ≡ Some c → Meets S a answer R → reply_to answer ≡ Some r
+    → IsSound (plain S) → recorded_as a ≡ Some c → Meets S a answer R → reply_of R a answer ≡ Some r
     → plain_step (plain S) c r ≡ Some (plain R)
 
 abbrev LeadTo : (ℕ → Plain → Type 0) → Type 0
@@ -96,73 +86,65 @@ module _ {T : Type 0} where
     -- the history with the recorded step replays to the state after it
     replays : (a : Action T) (c : StepCall) (answer : Answer T) (r : StepReply)
         → Appended room after worker c r → recorded_as a ≡ Some c → Meets S a answer R
-        → reply_to answer ≡ Some r → replay_from (start number) after.steps ≡ Some (plain R)
+        → reply_of R a answer ≡ Some r → replay_from (start number) after.steps ≡ Some (plain R)
     replays a c answer r more e m h =
         replays_on (start number) log.steps room.steps after.steps S R _ kept.0 same more
         (lawful S R a c answer r (sound number log.steps (plain S) kept.0) e m h)
 
-    pub made_kept : (v : T) (l : Location) (b : GenerationalPointer)
-        → Appended room after worker (call.Leak l) (reply.Made b)
-        → room.standing ≡ log.standing → after.standing ≡ room.standing
-        → Meets S (Make None v l) (Made b) R → IsKept number R after
-    made_kept v l b more still stays m = (
-      replays (Make None v l) (call.Leak l) (Made b) (reply.Made b) more refl m refl,
-      (let had = kept.1 in let now = made_stand S R v l b m in omega arith),
+    -- where nothing is recorded, all is as it was
+    stays : (answer : Answer T) → R ≡ S → after.steps ≡ room.steps
+        → replay_from (start number) after.steps ≡ Some (plain R)
+    stays answer left more =
+        ap (replay_from (start number)) (more ∙ same) ∙ (kept.0 ∙ ap (λ s. Some (plain s)) (sym left))
+
+    -- any call that ends no borrow by itself, whether its answer is recorded or not
+    pub settled : (a : Action T) (c : StepCall) (answer : Answer T) (reply : Option StepReply)
+        → recorded_as a ≡ Some c → Meets S a answer R → reply ≡ reply_of R a answer
+        → lent_in reply ≡ given_by answer → (reply ≡ None → leaves answer ≡ true)
+        → room.standing ≡ log.standing
+        → after.steps ≡ recorded room.steps worker c reply
+        → after.standing ≡ room.standing + lent_in reply → IsKept number R after
+    settled a c answer (Some r) e m h lent left still more stay = (
+      replays a c answer r more e m (sym h),
+      (let had = kept.1 in let now = (meets_fine S R a answer m).0 in omega arith),
     )
+    settled a c answer None e m h lent left still more stay =
+        let same = (meets_fine S R a answer m).1 (left refl) in (
+          stays answer same more,
+          (let had = kept.1 in let as_it_was = ap borrows same in omega arith),
+        )
 
-    pub read_kept : (b : GenerationalPointer) (l : Location) (g : Guard) (t : ℕ) → t ≡ g.ticket
-        → Appended room after worker (call.Read b l) (reply.Reader t)
-        → room.standing ≡ log.standing → after.standing ≡ room.standing + 1
-        → Meets S (Read b l) (Reads g) R → IsKept number R after
-    read_kept b l g t is more still stays m = (
-      replays (Read b l) (call.Read b l) (Reads g) (reply.Reader t) more refl m
-          (ap (λ u. Some (reply.Reader u)) (sym is)),
-      (let had = kept.1 in let now = read_stand S R b l (Reads g) m in omega arith),
+    -- the end of a borrow
+    pub settled_end : (a : Action T) (c : StepCall) (answer : Answer T) (reply : Option StepReply)
+        → recorded_as a ≡ Some c → Meets S a answer R → reply ≡ reply_of R a answer
+        → IfSome reply (λ r. borrows R + 1 ≤ borrows S) → (reply ≡ None → leaves answer ≡ true)
+        → room.standing ≡ log.standing
+        → after.steps ≡ recorded room.steps worker c reply
+        → after.standing + length (option_to_list reply) ≡ room.standing → IsKept number R after
+    settled_end a c answer (Some r) e m h ends left still more less = (
+      replays a c answer r more e m (sym h),
+      (let had = kept.1 in omega arith),
     )
+    settled_end a c answer None e m h ends left still more less =
+        let same = (meets_fine S R a answer m).1 (left refl) in (
+          stays answer same more,
+          (let had = kept.1 in let as_it_was = ap borrows same in omega arith),
+        )
 
-    pub refused_kept : (b : GenerationalPointer) (l : Location) (e : Refused BorrowError)
-        (r : StepReply) → Appended room after worker (call.Read b l) r
-        → room.standing ≡ log.standing → after.standing ≡ room.standing
-        → Some r ≡ reply_to {T = Unit {0}} (read_refused e)
-        → Meets S (Read b l) (read_refused e) R → IsKept number R after
-    refused_kept b l e r more still stays h m = (
-      replays (Read b l) (call.Read b l) (read_refused e) r more refl m
-          (refusal_alike T e ∙ sym h),
-      (let had = kept.1 in let now = read_stand S R b l (read_refused e) m in
-          let none = refusal_lends T e in omega arith),
-    )
-
-    end_kept : (b : GenerationalPointer)
-        → Appended room after worker (call.ManuallyDrop b) reply.Done
-        → room.standing ≡ log.standing → after.standing ≡ room.standing
-        → Meets S (End b) Done R → IsKept number R after
-    end_kept b more still stays m = (
-      replays (End b) (call.ManuallyDrop b) Done reply.Done more refl m refl,
-      (let had = kept.1 in let now = end_stand S R b m in omega arith),
-    )
-
-    pub ok_kept : {U : Type 0} (b : GenerationalPointer) (r : Result U (Refused BorrowMutError))
-        → Appended room after worker (call.ManuallyDrop b) reply.Done
-        → room.standing ≡ log.standing → after.standing ≡ room.standing
-        → Meets S (End b) (end_answer r) R → false ≡ is_err r → IsKept number R after
-    ok_kept b (Ok u) more still stays m ok = end_kept b more still stays m
-    ok_kept b (Err e) more still stays m ok = absurd (true≢false (sym ok))
-
-  pub release_kept : AreLawful T → LeadTo Sound → (number : ℕ) (S R : State T)
-      (log after : LogState) → IsKept number S log → (worker : ℕ) (g : Guard) (t : ℕ)
-      → t ≡ g.ticket → Appended log after worker (call.ReleaseRead t) reply.Done
-      → after.standing + 1 ≡ log.standing
-      → Meets S (ReleaseReader g) (Flag true) R → IsKept number R after
-  release_kept lawful sound number S R log after kept worker g t is more less m = (
-    replays lawful sound number S R log log after worker kept refl (ReleaseReader g)
-        (call.ReleaseRead t) (Flag true) reply.Done more
-        (ap (λ u. Some (call.ReleaseRead u)) (sym is)) m refl,
-    (let had = kept.1 in let now = release_stand S R g m in omega arith),
-  )
+  -- a known reader's borrow stood, so there is room for the step of its release
+  pub released : (S R : State T) (g : Guard) (known : Bool) (reply : Option StepReply)
+      → Meets S (ReleaseReader g) (Flag known) R → reply ≡ reply_of R (ReleaseReader g) (Flag known)
+      → IfSome reply (λ r. borrows R + 1 ≤ borrows S)
+  released S R g true (Some r) m h = release_stand S R g m
+  released S R g true None m h = tt
+  released S R g false (Some r) m h = absurd cc
+  released S R g false None m h = tt
 
   module _ (number : ℕ) (S R : State T) (log : LogState) (kept : IsKept number S log) where
-    pub release_counts : (g : Guard) → Meets S (ReleaseReader g) (Flag true) R → 1 ≤ log.standing
-    release_counts g m = let had = kept.1 in let now = release_stand S R g m in omega arith
+    pub end_counts : (reply : Option StepReply) → IfSome reply (λ r. borrows R + 1 ≤ borrows S)
+        → IfSome reply (λ r. 0 < log.standing)
+    end_counts (Some r) ends = let had = kept.1 in omega arith
+    end_counts None ends = tt
 
     -- the store has the number of its history's start
     pub number_kept : LeadTo Numbered → S.number ≡ number

@@ -2,7 +2,7 @@
 use Rattle.generational_core.specs.Steps.{may_lack, needs_memory, Meets, limit_tickets, last_ticket}
 use Rattle.std.proofs.Common.{is_some, ◌≡◌, Bool, true, false, cond, not, List, [], ◌∷◌, Option}
 use Rattle.std.proofs.Common.{None, Some, refl, sym, ap, subst, ◌∙◌, inl, inr, Result, Ok, Err}
-use Rattle.std.specs.Prelude.{nat_eq}
+use Rattle.std.specs.Prelude.{nat_eq, IfErr}
 use Rattle.std.specs.Result.{is_err}
 use Rattle.std.proofs.lemmas.Bool.{true≢false}
 use Rattle.std.specs.FinMap as map
@@ -31,7 +31,8 @@ use Rattle.std.specs.Option.{option_or}
 use Rattle.generational_core.specs.Machine.{Answer, Outcome, unless, read_at, cell_at, own_name}
 use Rattle.generational_core.specs.Machine.Action.{Read, End}
 use Rattle.generational_core.specs.Machine.Answer.{Done, BorrowRefused, Refused as refuses}
-use Rattle.generational_core.specs.Answers.{read_refused, end_refused, end_answer}
+use Rattle.generational_core.specs.Answers.{read_refused, read_answer, end_refused, end_answer}
+use Rattle.generational_core.specs.Borrowing.{Guard}
 use Rattle.generational_core.specs.StepCalls.{is_ready, tells_of_borrow}
 use Rattle.generational_sync.specs.Shared.{MayRefuseRead}
 
@@ -214,3 +215,21 @@ module _ {T : Type 0} where
       let here = ap (λ s. is_ready s (call.ManuallyDrop b)) same
       ∙ ap (λ p. is_ready seen (call.ManuallyDrop p)) is in
       end_done S R b r m (here ∙ ready)
+
+  -- the same of what a call answers
+  pub read_refused_in : (S R seen : State T)
+      (b asked : GenerationalPointer) (l : Location) (r : Result Guard (Refused BorrowError))
+      → S ≡ seen → b ≡ asked → Meets S (Read b l) (read_answer r) R
+      → is_ready seen (call.Read asked l) ≡ true
+      → IfErr r (λ e. MayRefuseRead asked e)
+  read_refused_in S R seen b asked l (Ok u) same is m ready = tt
+  read_refused_in S R seen b asked l (Err e) same is m ready =
+      read_refused_as S R seen b asked l e same is m ready
+
+  pub end_refused_in : (U : Type 0) (S R seen : State T) (b asked : GenerationalPointer)
+      (r : Result U (Refused BorrowMutError)) → S ≡ seen → b ≡ asked
+      → Meets S (End b) (end_answer r) R → is_ready seen (call.ManuallyDrop asked) ≡ true
+      → IfErr r (λ e. e ≡ refused.Store OutOfMemory)
+  end_refused_in U S R seen b asked (Ok u) same is m ready = tt
+  end_refused_in U S R seen b asked (Err e) same is m ready =
+      absurd (end_done_as {U = U} S R seen b asked (Err e) same is m ready refl)

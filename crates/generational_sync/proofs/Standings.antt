@@ -56,14 +56,14 @@ shorter t (r ∷ rs) h = split (shorter t rs) (nat_eq r.ticket t) refl
         omega arith
 
 module _ {T : Type 0} where
-  abbrev size : Content T → ℕ
+  abbrev pub size : Content T → ℕ
   size c = length (tickets_of (Some c))
 
-  size_here : (v : T) (rs : List Borrow) → size (Here v rs) ≡ length rs
+  pub size_here : (v : T) (rs : List Borrow) → size (Here v rs) ≡ length rs
   size_here v rs = length-map rs (λ r. r.ticket)
 
   -- another content in a cell
-  filled_borrows : (S : State T) (m : Name) (c old : Content T) → content_at S m ≡ Some old
+  pub filled_borrows : (S : State T) (m : Name) (c old : Content T) → content_at S m ≡ Some old
       → borrows (fill S m c) + size old ≡ borrows S + size c
   filled_borrows S m c old had = at (map.get S.cells m) refl had
     where
@@ -85,22 +85,10 @@ module _ {T : Type 0} where
   lends (Reads g) = 1
   lends _ = 0
 
-  abbrev Grows : State T → Outcome T → Type 0
+  abbrev pub Grows : State T → Outcome T → Type 0
   Grows S out = borrows out.1 ≤ borrows S + lends out.0
 
-  limited_grows : (S : State T) (out : Outcome T) → Grows S out → Grows S (limit_tickets S out)
-  limited_grows S out h = at (takes_ticket out.0 && nat_eq S.next last_ticket)
-    where
-      at : (b : Bool) → Grows S (cond b (Refused NumbersExhausted, S) out)
-      at true = omega arith
-      at false = h
-
-  unless_grows : (S : State T) (t : Option BorrowRefusal) (out : Outcome T)
-      → Grows S out → Grows S (unless t S out)
-  unless_grows S None out h = h
-  unless_grows S (Some t) out h = omega arith
-
-  read_grows : (S : State T) (l : Location) (o : Option Name) (c : Option (Content T))
+  pub read_grows : (S : State T) (l : Location) (o : Option Name) (c : Option (Content T))
       → content_of (cell_at S o) ≡ c → Grows S (read_at S l o c)
   read_grows S l None c is = omega arith
   read_grows S l (Some m) None is = omega arith
@@ -112,24 +100,7 @@ module _ {T : Type 0} where
       let one = size_here v rs in let two = size_here v (rs ++ r ∷ []) in
       omega arith
 
-  pub made_stand : (S R : State T) (v : T) (l : Location) (b : GenerationalPointer)
-      → Meets S (Make None v l) (Made b) R → borrows R ≤ borrows S
-  made_stand S R v l b (inl m) =
-      let after = ap (λ (o : Outcome T). borrows o.1) m.2 in
-      let weighs = borrows_inserted S.cells m.0.first (Value (Here v []) l) in
-      omega arith
-  made_stand S R v l b (inr m) = absurd cc
-
-  pub read_stand : (S R : State T) (b : GenerationalPointer) (l : Location) (answer : Answer T)
-      → Meets S (Read b l) answer R → borrows R ≤ borrows S + lends answer
-  read_stand S R b l answer (inl m) =
-      subst (λ (o : Outcome T). Grows S o) (sym m.2)
-      (limited_grows S _ (unless_grows S (refusal_to_read S b) _
-      (read_grows S l (reach S b) (content_of (cell_at S (reach S b))) refl)))
-  read_stand S R b l answer (inr m) =
-      let after = ap borrows m.2 in let none = ap lends m.1 in omega arith
-
-  swept_fewer : (cells : NameMap (Cell T))
+  pub swept_fewer : (cells : NameMap (Cell T))
       → borrows_in (map.entries (sweep cells)) ≤ borrows_in (map.entries cells)
   unfolding sweep
   swept_fewer cells =
@@ -141,22 +112,13 @@ module _ {T : Type 0} where
   without_fewer cells names =
       borrows_retained cells (λ n. is_shared (map.get cells n) || not (among names n))
 
-  end_grows : (S : State T) (names : List Name) → Grows S (Done, close S names)
+  pub end_grows : (S : State T) (names : List Name) → Grows S (Done, close S names)
   end_grows S names =
       let first = without_fewer S.cells names in
       let second = swept_fewer (take_away S.cells names) in
       omega arith
 
-  pub end_stand : (S R : State T) (b : GenerationalPointer)
-      → Meets S (End b) Done R → borrows R ≤ borrows S
-  end_stand S R b (inl m) =
-      let grows = subst (λ (o : Outcome T). Grows S o) (sym m.2)
-      (limited_grows S _ (unless_grows S (hindrance_to S (own_name S b)) _
-      (end_grows S (own_name S b)))) in
-      omega arith
-  end_stand S R b (inr m) = absurd cc
-
-  without_stand : (S : State T) (n : Name) (t : ℕ) (c : Option (Content T)) → content_at S n ≡ c
+  pub without_stand : (S : State T) (n : Name) (t : ℕ) (c : Option (Content T)) → content_at S n ≡ c
       → has_reader c t ≡ true → borrows (remove_reader S n t c) + 1 ≤ borrows S
   without_stand S n t None is h = absurd (true≢false (sym h))
   without_stand S n t (Some (Lent w)) is h = absurd (true≢false (sym h))

@@ -169,7 +169,10 @@ impl<T: Drop, const NUMBER: u64, M: Count, L: Count, C: Count, R: Count> SyncSta
         }
         let made = self.store.new(value, location, None);
         self.log.settle(StepCall::Leak(location), make_reply(&made), tally);
-        Ok(box_at(made?))
+        match made {
+            Ok(pointer) => Ok(box_at(pointer)),
+            Err(refusal) => Err(refusal),
+        }
     }
 
     /// Begins a read of the box's value, in whose way no writer stands. The guard has the store's
@@ -202,7 +205,7 @@ impl<T: Drop, const NUMBER: u64, M: Count, L: Count, C: Count, R: Count> SyncSta
             return Err(Refused::Store(StoreError::OutOfMemory));
         }
         let pointer = asked.pointer();
-        let read = self.store.try_read(pointer, location);
+        let read = begin_read(&mut self.store, pointer, location);
         self.log.settle(StepCall::Read(pointer, location), read_reply(&read), tally);
         read
     }
@@ -268,4 +271,15 @@ impl<T: Drop, const NUMBER: u64, M: Count, L: Count, C: Count, R: Count> SyncSta
             Err(_) => Err(StoreError::OutOfMemory),
         }
     }
+}
+
+// Begins a read in the store, before it is recorded.
+fn begin_read<T: Drop>(
+    store: &mut UnsyncStorage<T>,
+    asked: GenerationalPointer,
+    location: Location,
+) -> BorrowResult<GenerationalRef<T>>
+    ensures { Meets store.old.state (Read asked location) (read_answer result) store.new.state }
+{
+    store.try_read(asked, location)
 }

@@ -1,17 +1,28 @@
-use Rattle.generational_sync.proofs.Keeping.{release_kept, release_counts}
+use Rattle.std.proofs.Common.{refl, ap, sym, Some}
+use Rattle.generational_core.specs.Machine.Action.{ReleaseReader}
+use Rattle.generational_core.specs.Machine.Answer.{Flag}
+use Rattle.generational_core.specs.declared.steps.StepCall.TheVariants as call
+use Rattle.generational_sync.proofs.Keeping.{end_counts, released, settled_end}
 use Rattle.generational_sync.proofs.state.SyncState.release_read.Goals as goal
 
-pub borrow_ends-requires : goal.borrow_ends-requires
-borrow_ends-requires g c =
-    release_counts g.row.NUMBER c.self.inside.store.state c.release_read.new.self.state
-    c.self.inside.log
-    c.self.invariant c.args.guard c.if-not-release_read.ensures
+pub settle_end-requires : goal.settle_end-requires
+settle_end-requires g c =
+    end_counts g.row.NUMBER c.self.inside.store.state c.release_read-known.new.self.state
+    c.self.inside.log c.self.invariant c.flag_reply.result
+    (released c.self.inside.store.state c.release_read-known.new.self.state c.args.guard
+    c.release_read-known.result c.flag_reply.result c.release_read-known.ensures
+    (c.flag_reply.ensures.reply c.release_read-known.new.self.state (ReleaseReader c.args.guard)))
 
-pub invariant_of-self-2 : goal.invariant_of-self-2
-invariant_of-self-2 g c =
-    release_kept c.recorded_calls_are_lawful.ensures.step
-    c.histories_lead_to_sound_states.ensures.sound g.row.NUMBER c.self.inside.store.state
-    c.release_read.new.self.state c.self.inside.log c.borrow_ends.new.self c.self.invariant
-    c.args.tally.now.worker c.args.guard c.ticket.result c.ticket.ensures
-    c.borrow_ends.ensures.steps
-    c.borrow_ends.ensures.standing c.if-not-release_read.ensures
+pub invariant_of-self : goal.invariant_of-self
+invariant_of-self g c =
+    let reply = c.flag_reply.ensures.reply c.release_read-known.new.self.state (ReleaseReader c.args.guard) in
+    settled_end c.recorded_calls_are_lawful.ensures.step
+    c.histories_lead_to_sound_states.ensures.sound
+    g.row.NUMBER c.self.inside.store.state c.release_read-known.new.self.state c.self.inside.log
+    c.self.inside.log c.settle_end.new.self c.args.tally.now.worker c.self.invariant
+    refl (ReleaseReader c.args.guard) (call.ReleaseRead c.ticket.result)
+    (Flag c.release_read-known.result) c.flag_reply.result
+    (ap (λ t. Some (call.ReleaseRead t)) (sym c.ticket.ensures)) c.release_read-known.ensures reply
+    (released c.self.inside.store.state c.release_read-known.new.self.state c.args.guard
+    c.release_read-known.result c.flag_reply.result c.release_read-known.ensures reply)
+    c.flag_reply.ensures.left refl c.settle_end.ensures.steps c.settle_end.ensures.standing

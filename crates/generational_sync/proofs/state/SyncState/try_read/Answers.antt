@@ -1,43 +1,27 @@
-use Rattle.std.proofs.Common.{ap, ◌∙◌, arith}
+use Rattle.std.proofs.Common.{refl, ap, ◌∙◌}
+use Rattle.generational_core.specs.Answers.{read_answer}
 use Rattle.generational_core.specs.Machine.Action.{Read}
+use Rattle.generational_core.specs.declared.steps.StepCall.TheVariants as call
 use Rattle.generational_sync.specs.Shared.{SharedState}
-use Rattle.generational_sync.proofs.Keeping.{read_kept, refused_kept, number_kept}
-use Rattle.generational_sync.proofs.Refusing.{read_refused_as}
+use Rattle.generational_sync.proofs.Keeping.{number_kept, settled}
+use Rattle.generational_sync.proofs.Refusing.{read_refused_in}
 use Rattle.generational_sync.proofs.state.SyncState.try_read.Goals as goal
 
-pub invariant_of-self-in-Ok : goal.invariant_of-self-in-Ok
-invariant_of-self-in-Ok g c =
-    read_kept c.recorded_calls_are_lawful.ensures.step
-    c.histories_lead_to_sound_states.ensures.sound
-    g.row.NUMBER c.self.inside.store.state c.begin_read.new.store.state c.self.inside.log
-    c.reserve.new.self c.borrow_begins.new.self c.args.tally.now.worker c.self.invariant
-    c.reserve.ensures.steps c.pointer-pointer.result c.args.location c.in-Ok.guard
-    c.ticket.result c.ticket.ensures (c.borrow_begins.ensures.steps ∙ c.append.ensures.steps)
-    c.reserve.ensures.standing
-    (omega (arith, c.borrow_begins.ensures.standing, c.append.ensures.standing))
-    c.in-Ok.ensures
+pub invariant_of-self-2 : goal.invariant_of-self-2
+invariant_of-self-2 g c =
+    settled c.recorded_calls_are_lawful.ensures.step c.histories_lead_to_sound_states.ensures.sound
+    g.row.NUMBER c.self.inside.store.state c.begin_read-read.new.store.state c.self.inside.log
+    c.reserve.new.self c.settle.new.self c.args.tally.now.worker c.self.invariant
+    c.reserve.ensures.steps (Read c.pointer-pointer.result c.args.location)
+    (call.Read c.pointer-pointer.result c.args.location)
+    (read_answer c.begin_read-read.result) c.read_reply.result refl c.begin_read-read.ensures
+    (c.read_reply.ensures.reply c.begin_read-read.new.store.state (Read c.pointer-pointer.result c.args.location))
+    c.read_reply.ensures.lent c.read_reply.ensures.left c.reserve.ensures.standing
+    c.settle.ensures.steps c.settle.ensures.standing
 
-pub invariant_of-self-in-Some : goal.invariant_of-self-in-Some
-invariant_of-self-in-Some g c =
-    refused_kept c.recorded_calls_are_lawful.ensures.step
-    c.histories_lead_to_sound_states.ensures.sound
-    g.row.NUMBER c.self.inside.store.state c.begin_read.new.store.state c.self.inside.log
-    c.reserve.new.self c.append-in-Some.new.self c.args.tally.now.worker c.self.invariant
-    c.reserve.ensures.steps c.pointer-pointer.result c.args.location c.in-Err.refused
-    c.in-Some.reply c.append-in-Some.ensures.steps c.reserve.ensures.standing
-    c.append-in-Some.ensures.standing c.in-Some.ensures c.in-Err.ensures
-
-pub returns-in-Ok-clause-guard : goal.returns-in-Ok-clause-guard
-returns-in-Ok-clause-guard g c =
-    c.boxes_and_guards_are_new.ensures.guard c.self.inside.store.state c.begin_read.new.store.state
-    (Read c.pointer-pointer.result c.args.location) c.in-Ok.guard c.in-Ok.ensures
-    ∙ number_kept g.row.NUMBER c.self.inside.store.state c.begin_read.new.store.state
-    c.self.inside.log
-    c.self.invariant c.histories_lead_to_sound_states.ensures.number
-
-pub returns-after-read_refusal-clause-refusal : goal.returns-after-read_refusal-clause-refusal
-returns-after-read_refusal-clause-refusal g c =
-    read_refused_as c.self.inside.store.state c.begin_read.new.store.state c.args.self.now.state
-    c.pointer-pointer.result _ c.args.location c.in-Err.refused
-    (ap (λ (s : SharedState _). s.state) c.self.view_is) c.pointer-pointer.ensures c.in-Err.ensures
-    c.requires
+pub returns-clause-refusal : goal.returns-clause-refusal
+returns-clause-refusal g c =
+    read_refused_in c.self.inside.store.state c.begin_read-read.new.store.state c.args.self.now.state
+    c.pointer-pointer.result _ c.args.location c.begin_read-read.result
+    (ap (λ (s : SharedState _). s.state) c.self.view_is) c.pointer-pointer.ensures
+    c.begin_read-read.ensures c.requires
