@@ -30,9 +30,9 @@ pub record WriteGuard (T : Type 0) : Type 0 where
   pub value : T
 
 -- why a read, and why a write or an end, was refused
-abbrev pub read_trouble_of : BorrowError → BorrowRefusal
-read_trouble_of (reads.Dropped e) = Dropped e.created_at
-read_trouble_of (reads.AlreadyBorrowedMut e) = BeingWritten e.borrowed_mut_at
+abbrev pub refusal_of_read_error : BorrowError → BorrowRefusal
+refusal_of_read_error (reads.Dropped e) = Dropped e.created_at
+refusal_of_read_error (reads.AlreadyBorrowedMut e) = BeingWritten e.borrowed_mut_at
 
 abbrev pub refusal_of_error : BorrowMutError → BorrowRefusal
 refusal_of_error (writes.Dropped e) = Dropped e.created_at
@@ -41,7 +41,7 @@ refusal_of_error (writes.AlreadyBorrowedMut e) = BeingWritten e.borrowed_mut_at
 
 module _ {T : Type 0} where
   abbrev pub read_refused : Refused BorrowError → Answer T
-  read_refused (refused.Borrow e) = BorrowRefused (read_trouble_of e)
+  read_refused (refused.Borrow e) = BorrowRefused (refusal_of_read_error e)
   read_refused (refused.Store e) = refuses e
 
   abbrev pub end_refused : Refused BorrowMutError → Answer T

@@ -10,7 +10,7 @@ use Rattle.generational_core.specs.declared.error.BorrowMutError.{BorrowMutError
 use Rattle.generational_core.specs.declared.error.Refusal.{Refusal}
 use Rattle.generational_core.specs.declared.error.Refused.{Refused}
 use Rattle.generational_core.specs.declared.error.Refused.TheVariants as refused
-use Rattle.generational_core.specs.Answers.{pointer_of, read_trouble_of, refusal_of_error}
+use Rattle.generational_core.specs.Answers.{pointer_of, refusal_of_read_error, refusal_of_error}
 use Rattle.generational_sessions.specs.declared.calls.Call.{Call}
 use Rattle.generational_core.specs.State.{State}
 use Rattle.generational_core.specs.Machine.{Answer}
@@ -63,7 +63,7 @@ module _ {T : Type 0} where
 
   -- the same of a refused read, and of a refused making of a reference
   abbrev pub as_read_refusal : Refused BorrowError → SessionReply T
-  as_read_refusal (refused.Borrow e) = Error (read_trouble_of e)
+  as_read_refusal (refused.Borrow e) = Error (refusal_of_read_error e)
   as_read_refusal (refused.Store e) = Lacking e
 
   -- the reply to a making of a value, and what it gives

@@ -9,4 +9,4 @@ pub mod Recounts
 pub mod References
 pub mod States
 pub mod Turning
-pub mod IsTurned
+pub mod Turns

@@ -9,7 +9,7 @@ ghost use Rattle.std.specs.List.{IsDistinct};
 ghost use Rattle.std.specs.FinMap as map;
 ghost use Rattle.generational_core.specs.declared.boxes.GenerationalPointer.{GenerationalPointer};
 ghost use Rattle.generational_core.specs.declared.error.StoreError.TheVariants.{OutOfMemory};
-ghost use Rattle.generational_core.specs.Answers.{read_trouble_of};
+ghost use Rattle.generational_core.specs.Answers.{refusal_of_read_error};
 ghost use Rattle.generational_core.specs.Borrowing.{fill, leads_to, read_refusal, write_refusal};
 ghost use Rattle.generational_core.specs.Boxes.{box_of};
 ghost use Rattle.generational_core.specs.Cells.{is_shared, location_of};
@@ -201,7 +201,7 @@ impl<T: Drop, P: SlotPool> Slots<T, P> {
             × (r.1 ≡ true → write_refusal (content_at self.now.state (name_of_cell r.0)) ≡ None)) }
         ensures err { IfErr result (λ e.
             refusal_to_read_at self.now.state (name_of_cell name) created_at
-            ≡ Some (read_trouble_of e)) }
+            ≡ Some (refusal_of_read_error e)) }
     {
         if self.entries.has_unborrowed_value(name) {
             return Ok((name, true));
@@ -223,7 +223,7 @@ impl<T: Drop, P: SlotPool> Slots<T, P> {
             × (r.1 ≡ true → write_refusal (content_at self.now.state (name_of_cell r.0)) ≡ None)) }
         ensures err { IfErr result (λ e.
             refusal_to_read_at self.now.state (name_of_cell name) created_at
-            ≡ Some (read_trouble_of e)) }
+            ≡ Some (refusal_of_read_error e)) }
     {
         let Some(value) = reach_slow(&self.entries, name) else {
             return Err(dropped(created_at));
@@ -244,7 +244,7 @@ impl<T: Drop, P: SlotPool> Slots<T, P> {
             × (read_refusal (content_at self.now.state (name_of_cell m)) ≡ None)) }
         ensures err { IfErr result (λ e.
             refusal_to_read_at self.now.state (name_of_cell name) created_at
-            ≡ Some (read_trouble_of e)) }
+            ≡ Some (refusal_of_read_error e)) }
     {
         let Some(value) = self.entries.reach(name) else {
             return Err(dropped(created_at));
@@ -265,7 +265,7 @@ impl<T: Drop, P: SlotPool> Slots<T, P> {
             × (is_shared (map.get self.now.state.cells (name_of_cell m)) ≡ true)) }
         ensures err { IfErr result (λ e.
             refusal_to_refer_at self.now.state (name_of_cell name) created_at
-            ≡ Some (read_trouble_of e)) }
+            ≡ Some (refusal_of_read_error e)) }
     {
         let value = match self.unlent(name, created_at) {
             Ok(value) => value,

@@ -4,7 +4,7 @@ use Rattle.std.proofs.Common.{Err, refl, ap, ◌∙◌, inl, nat_eq}
 use Rattle.std.proofs.lemmas.Bool.{eq-eqb, false≢true, ne_eqb}
 use Rattle.std.specs.FinMap as map
 use Rattle.generational_core.specs.declared.error.Refused.{Refused}
-use Rattle.generational_core.specs.Answers.{end_answer, read_trouble_of, refusal_of_error}
+use Rattle.generational_core.specs.Answers.{end_answer, refusal_of_read_error, refusal_of_error}
 use Rattle.generational_core.specs.Texts.{as_borrow_mut}
 use Rattle.generational_core.specs.declared.error.BorrowError.{BorrowError}
 use Rattle.generational_core.specs.declared.error.BorrowError.TheVariants as reads
@@ -21,9 +21,9 @@ use Rattle.generational_box.proofs.Common.{content_at, no_names, reach, read_ref
 use Rattle.generational_box.proofs.calls.Calls.{hindered_step}
 
 -- an error of a read tells the same as one of a write
-pub troubled_mut : (e : BorrowError) → refusal_of_error (as_borrow_mut e) ≡ read_trouble_of e
-troubled_mut (reads.Dropped e) = refl
-troubled_mut (reads.AlreadyBorrowedMut e) = refl
+pub refusal_mut : (e : BorrowError) → refusal_of_error (as_borrow_mut e) ≡ refusal_of_read_error e
+refusal_mut (reads.Dropped e) = refl
+refusal_mut (reads.AlreadyBorrowedMut e) = refl
 
 module _ {T : Type 0} where
   -- nothing hinders a read of what is reached and not lent

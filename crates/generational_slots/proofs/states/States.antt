@@ -278,7 +278,7 @@ module _ {T : Type 0} {p : SlotTable T} (s : IsSlotTable p) where
   pub new_first : free here ≡ 0
       → IsNew here (record { slot = length p.slots; generation = p.start })
   new_first none = record {
-    fresh = get_given p.start p.slots (record { slot = length p.slots; generation = p.start })
+    ungiven = get_given p.start p.slots (record { slot = length p.slots; generation = p.start })
         ∙ rw (slice_get_past p.slots (length p.slots) (omega arith)) refl;
     fits = inl (none, sym slots_are, refl);
   }
@@ -287,7 +287,7 @@ module _ {T : Type 0} {p : SlotTable T} (s : IsSlotTable p) where
   pub new_next : (i : ℕ) (e : Entry T) → slice_get p.slots i ≡ Some e → is_spent e ≡ true
       → IsNew here (record { slot = i; generation = e.generation + 1 })
   new_next i e there spent = record {
-    fresh = get_given p.start p.slots (record { slot = i; generation = e.generation + 1 })
+    ungiven = get_given p.start p.slots (record { slot = i; generation = e.generation + 1 })
         ∙ rw there (above p.start e.generation);
     fits = inr (
       ap is_some (get_last i) ∙ rw there refl,

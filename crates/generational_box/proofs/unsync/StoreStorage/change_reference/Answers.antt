@@ -3,7 +3,7 @@ use Rattle.generational_box.proofs.calls.Calls.{reach_own, reach_strange, reache
 use Rattle.generational_box.proofs.calls.Calls.{read_own, state_is}
 use Rattle.generational_box.proofs.calls.EndCalls.{are_linked}
 use Rattle.generational_box.proofs.calls.Points.{free_to, point_gone, point_hindered, point_same}
-use Rattle.generational_box.proofs.calls.Points.{point_strange, pointed, troubled_mut}
+use Rattle.generational_box.proofs.calls.Points.{point_strange, pointed, refusal_mut}
 use Rattle.generational_box.proofs.Common.{Point, meets_kept}
 use Rattle.generational_box.proofs.unsync.StoreStorage.change_reference.Goals as goal
 
@@ -22,7 +22,7 @@ pub returns-in-Err : goal.returns-in-Err
 returns-in-Err g c =
     let here = read_own c.self.inside.slots.state (state_is c.self.view_is) c.args.other
     c.cell_name.ensures c.if-other-self.false in
-    rw (c.from.ensures, troubled_mut c.in-Err.error)
+    rw (c.from.ensures, refusal_mut c.in-Err.error)
     (point_hindered c.args.pointer c.args.other c.if-eq.ensures _ (here ∙ c.in-Err.ensures.err))
 
 pub returns-then-pointer-self : goal.returns-then-pointer-self
