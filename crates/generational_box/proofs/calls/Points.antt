@@ -13,7 +13,7 @@ use Rattle.generational_core.specs.Ending.{hindrance_at}
 use Rattle.generational_core.specs.Machine.{act, own_cell, point, unless}
 use Rattle.generational_core.specs.Machine.Answer.{Done, BorrowRefused}
 use Rattle.generational_entries.specs.Entry.{FoundBorrowed}
-use Rattle.generational_slots.specs.SlotsState.{Turns}
+use Rattle.generational_slots.specs.SlotsState.{IsTurned}
 use Rattle.generational_box.proofs.Common.{BorrowMutError, Cell, Dropped, GenerationalPointer}
 use Rattle.generational_box.proofs.Common.{Meets, Name, NameMap, Owners, Point, Ref, box_of}
 use Rattle.generational_box.proofs.Common.{Shared, State, BorrowRefusal, Value, is_name, name_of}
@@ -73,7 +73,7 @@ module _ {T : Type 0} where
             (result : Result (Unit {0}) (Refused BorrowMutError))
             → act V (Point a b) no_names
             ≡ cond same (Done, V) (unless t V (Done, record V { cells = left }))
-            → Turns X Y result
+            → IsTurned X Y result
             (cond same (Done, X) (unless t X (Done, record X { cells = left })))
             → Meets V (Point a b) (end_answer result) (with_records Y number owners next)
         turned Y true t left (Ok u) acts turning =
@@ -99,7 +99,7 @@ module _ {T : Type 0} where
         -- and all that the slots answer
         pub pointed : (Y : State T) (n : Name) (result : Result (Unit {0}) (Refused BorrowMutError))
             → n ≡ name_of a → a.id.store ≡ number
-            → Turns X Y result (point X (box_of 0 n a.created_at) b (map.get X.cells n) (Some m)
+            → IsTurned X Y result (point X (box_of 0 n a.created_at) b (map.get X.cells n) (Some m)
             (map.get X.cells m))
             → Meets S (Point a b) (end_answer result) (with_records Y number owners next)
         pointed Y n result at own turning =
@@ -110,7 +110,7 @@ module _ {T : Type 0} where
           where
             by : (own target : Option (Cell T))
                 → act V (Point a b) no_names ≡ point V a b own (Some m) target
-                → Turns X Y result
+                → IsTurned X Y result
                 (point X (box_of 0 (name_of a) a.created_at) b own (Some m) target)
                 → Meets V (Point a b) (end_answer result) (with_records Y number owners next)
             by None target acts found = told Y _ result acts found
