@@ -1,9 +1,12 @@
--- A signal as its box, and what makings of signals answer.
-use Rattle.std.specs.Prelude.{Result, Ok, Err}
+-- A signal as its box, what makings of signals answer, and what boxes see that lead to one value.
+use Rattle.std.specs.Prelude.{◌≡◌, Result, Ok, Err, Some}
 use Rattle.generational_core.specs.Answers.{pointer_of, read_refused}
+use Rattle.generational_core.specs.Borrowing.{reach}
 use Rattle.generational_core.specs.Machine.{Answer}
 use Rattle.generational_core.specs.Machine.Answer.{Made}
 use Rattle.generational_core.specs.Machine.Answer.{Refused as refuses}
+use Rattle.generational_core.specs.Seeing.{value_in}
+use Rattle.generational_core.specs.State.{State}
 use Rattle.generational_core.specs.declared.boxes.GenerationalBox.{GenerationalBox}
 use Rattle.generational_core.specs.declared.boxes.GenerationalPointer.{GenerationalPointer}
 use Rattle.generational_core.specs.declared.error.BorrowError.{BorrowError}
@@ -27,3 +30,7 @@ module _ {T : Type 0} where
   abbrev pub alias_answer : Result (Signal T) (Refused BorrowError) → Answer T
   alias_answer (Ok s) = Made (pointer_in s)
   alias_answer (Err e) = read_refused e
+
+  -- from S to R each box that reaches what a box reaches has come to see a value
+  abbrev pub AllSee : State T → GenerationalPointer → T → State T → Type 0
+  AllSee S b v R = (c : GenerationalPointer) → reach S c ≡ reach S b → value_in R c ≡ Some v

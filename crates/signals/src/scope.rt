@@ -101,6 +101,43 @@ impl Scope {
         Ok(signal_at(raw))
     }
 
+    /// Makes a signal of the value to which another signal leads. It reaches and sees what the other
+    /// does, and each other box is left as it was. It ends with the scope, and the value lives at
+    /// least as long.
+    ///
+    /// Refused, in this order: `UnknownOwner`, where the scope is another store's; `Dropped`, where
+    /// the other has ended; `AlreadyBorrowedMut`, where its value is written; `OutOfMemory`. The
+    /// store stays as it was then. Takes memory where no slot is free, or the scope's list has no
+    /// room. O(1), but for finding room.
+    pub fn alias<T, S: Storage<T>>(&self, store: &mut S, of: Signal<T>) -> BorrowResult<Signal<T>>
+        ensures step { Meets (S.state store.old) (Refer (Some self.now) (pointer_in of))
+            (alias_answer result) (S.state store.new) }
+        ensures reached { IfOk result (λ signal.
+            reach (S.state store.new) (pointer_in signal) ≡
+            reach (S.state store.old) (pointer_in of)) }
+        ensures together { IfOk result (λ signal.
+            reach (S.state store.new) (pointer_in signal) ≡
+            reach (S.state store.new) (pointer_in of)) }
+        ensures seen { IfOk result (λ signal.
+            value_in (S.state store.new) (pointer_in signal) ≡
+            value_in (S.state store.old) (pointer_in of)) }
+        ensures others { IfOk result (λ signal. (b : GenerationalPointer) →
+            name_of (pointer_in signal) ≢ name_of b →
+            IsLeft (S.state store.old) b (S.state store.new)) }
+        ensures listed { IfOk result (λ signal. (names : List Name) →
+            HasSignals (S.state store.old) self.now names →
+            HasSignals (S.state store.new) self.now (names ++ name_of (pointer_in signal) ∷ [])) }
+        ensures scopes { LeavesOtherScopes (S.state store.old) self.now (S.state store.new) }
+        ensures refused { OnErr result (S.state store.new ≡ S.state store.old) }
+    {
+        made_boxes_see_their_values::<T>();
+        calls_leave_other_boxes::<T>();
+        calls_leave_other_owners::<T>();
+        refused_calls_change_nothing::<T>();
+        let raw = self.owner.insert_reference(store, of.as_box())?;
+        Ok(signal_at(raw))
+    }
+
     /// Ends the scope and all of its signals: each name of its list has ended, and each other box is
     /// left as it was. A value ends with the last signal that leads to it, so one to which a signal
     /// of another scope leads lives on.
@@ -140,5 +177,11 @@ impl Scope {
             Ok(()) => Ok(()),
             Err((owner, refused)) => Err((Scope { owner }, refused)),
         }
+    }
+    /// Spends the scope and leaves its signals as they are: they never end by a scope from then on.
+    /// So it lets go of a scope whose end was refused.
+    pub fn leak(self) {
+        let Scope { owner } = self;
+        owner.leak();
     }
 }

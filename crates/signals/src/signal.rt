@@ -1,24 +1,30 @@
 //! Signals.
 
-ghost use Rattle.std.specs.Prelude.{◌≡◌, ◌≢◌, Some, IfOk, IfErr, OnOk, OnErr};
-ghost use Rattle.std.specs.Fn.{FnOnceReturnsAt};
+ghost use Rattle.std.specs.Prelude.{◌≡◌, ◌≢◌, Some, is_some, IfOk, IfErr, OnOk, OnErr};
+ghost use Rattle.std.specs.Fn.{FnOnceReturnsAt, FnOnceReturnsAtMut};
 ghost use Rattle.generational_core.specs.declared.boxes.GenerationalPointer.{GenerationalPointer};
-ghost use Rattle.generational_core.specs.Answers.{read_refused, end_refused};
+ghost use Rattle.generational_core.specs.Answers.{read_refused, end_refused, end_answer};
+ghost use Rattle.generational_core.specs.Boxes.{name_of};
 ghost use Rattle.generational_core.specs.Borrowing.{reach, take_ticket};
 ghost use Rattle.generational_core.specs.Leaving.{IsLeft, IsSet};
-ghost use Rattle.generational_core.specs.Machine.Action.{Read, Write};
+ghost use Rattle.generational_core.specs.Machine.Action.{Read, Write, Point};
 ghost use Rattle.generational_core.specs.Seeing.{value_in};
 ghost use Rattle.generational_core.specs.Steps.{Meets};
 ghost use Rattle.signals.specs.Scopes.{LeavesScopes};
-ghost use Rattle.signals.specs.Signals.{box_in, pointer_in};
+ghost use Rattle.signals.specs.Signals.{box_in, pointer_in, AllSee};
 
 use generational_core::{
-    BorrowMutError, BorrowResult, GenerationalBox, Location, Refused, Storage,
+    BorrowMutError, BorrowMutResult, BorrowResult, GenerationalBox, GenerationalRefMut, Location,
+    Refused, Storage,
 };
 use generational_sessions::caller_laws::{
-    guards_stay_known, refused_calls_change_nothing, released_borrows_leave_the_rest,
+    calls_leave_other_boxes, calls_leave_other_owners, guards_stay_known,
+    pointed_boxes_see_what_others_saw, refused_calls_change_nothing,
+    released_borrows_leave_the_rest, stores_without_borrows_refuse_no_end,
 };
-use generational_sessions::laws::unborrowed_boxes_are_free;
+use generational_sessions::laws::{
+    guards_hold_what_boxes_see, made_boxes_see_their_values, unborrowed_boxes_are_free,
+};
 use std::alloc::AllocError;
 
 /// A signal: it leads to a value that other signals may lead to as well, and is copied freely.
@@ -101,9 +107,8 @@ impl<T> Signal<T> {
         T: Drop,
         ensures set { OnOk result (
             IsSet (S.state store.old) (pointer_in self) value (S.state store.new)) }
-        ensures seen { OnOk result ((b : GenerationalPointer) →
-            reach (S.state store.old) b ≡ reach (S.state store.old) (pointer_in self) →
-            value_in (S.state store.new) b ≡ Some value) }
+        ensures seen { OnOk result (
+            AllSee (S.state store.old) (pointer_in self) value (S.state store.new)) }
         ensures others { OnOk result ((b : GenerationalPointer) →
             reach (S.state store.old) b ≢ reach (S.state store.old) (pointer_in self) →
             IsLeft (S.state store.old) b (S.state store.new)) }
@@ -125,6 +130,86 @@ impl<T> Signal<T> {
             Err(_) => unreachable!(),
         }
     }
+
+    /// Changes the value by a closure, which is called once, and answers what that answers: each box
+    /// that reaches the same sees what the closure made of the value, the others are left, and
+    /// nothing else changes but a ticket that is used up.
+    ///
+    /// Refused as `set` is. The closure isn't called then, and the store stays as it was.
+    pub fn update<S: Storage<T>, R, F: FnOnce(&mut T) -> R>(
+        self,
+        store: &mut S,
+        location: Location,
+        f: F,
+    ) -> BorrowMutResult<R>
+        requires { F.IsAlwaysCallable f }
+        ensures changed { IfOk result (λ answer. (old : T) × (changed : T) ×
+            (value_in (S.state store.old) (pointer_in self) ≡ Some old) ×
+            FnOnceReturnsAtMut F.FnOnce f old answer changed ×
+            IsSet (S.state store.old) (pointer_in self) changed (S.state store.new) ×
+            AllSee (S.state store.old) (pointer_in self) changed (S.state store.new)) }
+        ensures others { OnOk result ((b : GenerationalPointer) →
+            reach (S.state store.old) b ≢ reach (S.state store.old) (pointer_in self) →
+            IsLeft (S.state store.old) b (S.state store.new)) }
+        ensures scopes { LeavesScopes (S.state store.old) (S.state store.new) }
+        ensures refused { IfErr result (λ cause. (S.state store.new ≡ S.state store.old) ×
+            Meets (S.state store.old) (Write (pointer_in self) location) (end_refused cause)
+            (S.state store.new)) }
+    {
+        guards_hold_what_boxes_see::<T>();
+        released_borrows_leave_the_rest::<T>();
+        refused_calls_change_nothing::<T>();
+        let mut guard = self.raw.try_write(store, location)?;
+        let answer = change_value(&mut guard, f);
+        match guard.release(store) {
+            Ok(()) => Ok(answer),
+            Err(_) => unreachable!(),
+        }
+    }
+
+    /// Whether a read of the signal is free: whether it sees a value, and no writer has that.
+    /// Takes no memory, and is O(1).
+    pub fn is_readable<S: Storage<T>>(self, store: &S) -> bool
+        ensures { result ≡ is_some (value_in (S.state store.now) (pointer_in self)) }
+    {
+        stores_without_borrows_refuse_no_end::<T>();
+        self.raw.can_read(store)
+    }
+
+    /// Lets the signal lead to the value to which another leads: it reaches and sees what the other
+    /// did, and each other box is left as it was. The value to which it led before ends where no
+    /// signal leads there any more.
+    ///
+    /// Answered as `GenerationalBox::point_to` is; where it is refused, the store stays as it was.
+    /// Takes memory for a refusal's locations alone. O(1), but for that list.
+    pub fn swap_source<S: Storage<T>>(self, store: &mut S, to: Signal<T>) -> BorrowMutResult<()>
+        ensures step { Meets (S.state store.old) (Point (pointer_in self) (pointer_in to))
+            (end_answer result) (S.state store.new) }
+        ensures reached { OnOk result (
+            reach (S.state store.new) (pointer_in self) ≡ reach (S.state store.old) (pointer_in to)) }
+        ensures seen { OnOk result (value_in (S.state store.new) (pointer_in self) ≡
+            value_in (S.state store.old) (pointer_in to)) }
+        ensures others { (b : GenerationalPointer) → name_of (pointer_in self) ≢ name_of b →
+            IsLeft (S.state store.old) b (S.state store.new) }
+        ensures scopes { LeavesScopes (S.state store.old) (S.state store.new) }
+        ensures refused { OnErr result (S.state store.new ≡ S.state store.old) }
+    {
+        made_boxes_see_their_values::<T>();
+        pointed_boxes_see_what_others_saw::<T>();
+        calls_leave_other_boxes::<T>();
+        calls_leave_other_owners::<T>();
+        refused_calls_change_nothing::<T>();
+        self.raw.point_to(store, to.raw)
+    }
+}
+
+// Changes the value of a writer's guard by a closure, which is called once.
+fn change_value<T, R, F: FnOnce(&mut T) -> R>(guard: &mut GenerationalRefMut<T>, f: F) -> R
+    requires { F.IsAlwaysCallable f }
+    ensures changed { FnOnceReturnsAtMut F.FnOnce f guard.old.value result guard.new.value }
+    ensures guard { guard.new ≡ record guard.old { value = guard.new.value } }
+{
+    f(&mut *guard.deref_mut())
 }
 
 /// The signal of a box.
