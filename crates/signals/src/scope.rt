@@ -16,7 +16,7 @@ ghost use Rattle.generational_core.specs.Steps.{Meets};
 ghost use Rattle.signals.specs.Scopes.{HasSignals, LeavesScopes, LeavesOtherScopes};
 ghost use Rattle.signals.specs.Signals.{pointer_in, signal_answer, alias_answer};
 
-use crate::signal::{Signal, signal_at};
+use crate::signal::Signal;
 use generational_core::{
     AnyStorage, BorrowMutError, BorrowResult, Location, Owner, Refusal, Refused, Storage,
     StoreError,
@@ -98,7 +98,7 @@ impl Scope {
         calls_leave_other_owners::<T>();
         refused_calls_change_nothing::<T>();
         let raw = self.owner.insert_rc(store, value, location)?;
-        Ok(signal_at(raw))
+        Ok(Signal { raw })
     }
 
     /// Makes a signal of the value to which another signal leads. It reaches and sees what the other
@@ -134,8 +134,8 @@ impl Scope {
         calls_leave_other_boxes::<T>();
         calls_leave_other_owners::<T>();
         refused_calls_change_nothing::<T>();
-        let raw = self.owner.insert_reference(store, of.as_box())?;
-        Ok(signal_at(raw))
+        let raw = self.owner.insert_reference(store, of.raw)?;
+        Ok(Signal { raw })
     }
 
     /// Ends the scope and all of its signals: each name of its list has ended, and each other box is

@@ -1,11 +1,11 @@
 //! Signals.
 
-ghost use Rattle.std.specs.Prelude.{◌≡◌, ◌≢◌, Some, is_some, IfOk, IfErr, OnOk, OnErr};
+ghost use Rattle.std.specs.Prelude.{◌≡◌, ◌≢◌, Some, IfOk, IfErr, OnOk, OnErr};
 ghost use Rattle.std.specs.Fn.{FnOnceReturnsAt, FnOnceReturnsAtMut};
 ghost use Rattle.generational_core.specs.declared.boxes.GenerationalPointer.{GenerationalPointer};
 ghost use Rattle.generational_core.specs.Answers.{read_refused, end_refused, end_answer};
 ghost use Rattle.generational_core.specs.Boxes.{name_of};
-ghost use Rattle.generational_core.specs.Borrowing.{reach, take_ticket};
+ghost use Rattle.generational_core.specs.Borrowing.{reach, can_read, take_ticket};
 ghost use Rattle.generational_core.specs.Leaving.{IsLeft, IsSet};
 ghost use Rattle.generational_core.specs.Machine.Action.{Read, Write, Point};
 ghost use Rattle.generational_core.specs.Seeing.{value_in};
@@ -20,7 +20,7 @@ use generational_core::{
 use generational_sessions::caller_laws::{
     calls_leave_other_boxes, calls_leave_other_owners, guards_stay_known,
     pointed_boxes_see_what_others_saw, refused_calls_change_nothing,
-    released_borrows_leave_the_rest, stores_without_borrows_refuse_no_end,
+    released_borrows_leave_the_rest,
 };
 use generational_sessions::laws::{
     guards_hold_what_boxes_see, made_boxes_see_their_values, unborrowed_boxes_are_free,
@@ -32,7 +32,7 @@ use std::alloc::AllocError;
 ///
 /// A signal owns nothing: it reads its value until its scope ends.
 pub struct Signal<T> {
-    raw: GenerationalBox<T>,
+    pub(crate) raw: GenerationalBox<T>,
 }
 
 /// Never refused, and takes no memory.
@@ -167,12 +167,11 @@ impl<T> Signal<T> {
         }
     }
 
-    /// Whether a read of the signal is free: whether it sees a value, and no writer has that.
-    /// Takes no memory, and is O(1).
+    /// Whether a read of the signal is free: false where it has ended or is of another store, or a
+    /// writer has the value. Takes no memory, and is O(1).
     pub fn is_readable<S: Storage<T>>(self, store: &S) -> bool
-        ensures { result ≡ is_some (value_in (S.state store.now) (pointer_in self)) }
+        ensures { result ≡ can_read (S.state store.now) (pointer_in self) }
     {
-        stores_without_borrows_refuse_no_end::<T>();
         self.raw.can_read(store)
     }
 
@@ -210,11 +209,4 @@ fn change_value<T, R, F: FnOnce(&mut T) -> R>(guard: &mut GenerationalRefMut<T>,
     ensures guard { guard.new ≡ record guard.old { value = guard.new.value } }
 {
     f(&mut *guard.deref_mut())
-}
-
-/// The signal of a box.
-pub(crate) fn signal_at<T>(raw: GenerationalBox<T>) -> Signal<T>
-    ensures { box_in result ≡ raw }
-{
-    Signal { raw }
 }
