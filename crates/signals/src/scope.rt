@@ -8,7 +8,7 @@ ghost use Rattle.generational_core.specs.Borrowing.{reach};
 ghost use Rattle.generational_core.specs.Boxes.{name_of};
 ghost use Rattle.generational_core.specs.Conditions.{IsEnded};
 ghost use Rattle.generational_core.specs.Leaving.{IsLeft};
-ghost use Rattle.generational_core.specs.Machine.{ownership};
+ghost use Rattle.generational_core.specs.Machine.{OwnerName, ownership};
 ghost use Rattle.generational_core.specs.Machine.Action.{NewOwner, MakeShared, Refer, ReleaseOwner};
 ghost use Rattle.generational_core.specs.Names.{Name, among};
 ghost use Rattle.generational_core.specs.Seeing.{value_in};
@@ -26,7 +26,7 @@ use generational_sessions::caller_laws::{
     refused_calls_change_nothing,
 };
 use generational_sessions::laws::{
-    ended_boxes_see_nothing, made_boxes_see_their_values, owners_list_their_boxes,
+    boxes_and_guards_are_new, made_boxes_see_their_values, owners_list_their_boxes,
 };
 use std::marker::Model;
 
@@ -67,8 +67,8 @@ impl Scope {
         Ok(Scope { owner })
     }
 
-    /// Makes a signal of a value, which ends with the scope. The signal sees the value, and each
-    /// other box is left as it was.
+    /// Makes a signal of a value, which ends with the scope and with no other. The signal sees the
+    /// value, and each other box is left as it was.
     ///
     /// Refused, in this order: `UnknownOwner`, where the scope is another store's; `OutOfMemory`.
     /// The value comes back then, and the store stays as it was. Takes memory where fewer than two
@@ -89,11 +89,15 @@ impl Scope {
         ensures listed { IfOk result (λ signal. (names : List Name) →
             HasSignals (S.state store.old) self.now names →
             HasSignals (S.state store.new) self.now (names ++ name_of (pointer_in signal) ∷ [])) }
+        ensures unlisted { IfOk result (λ signal. (scope : OwnerName) (names : List Name) →
+            HasSignals (S.state store.old) scope names →
+            among names (name_of (pointer_in signal)) ≡ false) }
         ensures scopes { LeavesOtherScopes (S.state store.old) self.now (S.state store.new) }
         ensures refused { OnErr result (S.state store.new ≡ S.state store.old) }
         ensures back { IfErr result (λ refusal. refusal.value ≡ value) }
     {
         made_boxes_see_their_values::<T>();
+        boxes_and_guards_are_new::<T>();
         calls_leave_other_boxes::<T>();
         calls_leave_other_owners::<T>();
         refused_calls_change_nothing::<T>();
@@ -102,8 +106,8 @@ impl Scope {
     }
 
     /// Makes a signal of the value to which another signal leads. It reaches and sees what the other
-    /// does, and each other box is left as it was. It ends with the scope, and the value lives at
-    /// least as long.
+    /// does, and each other box is left as it was. It ends with the scope and with no other, and
+    /// the value lives at least as long.
     ///
     /// Refused, in this order: `UnknownOwner`, where the scope is another store's; `Dropped`, where
     /// the other has ended; `AlreadyBorrowedMut`, where its value is written; `OutOfMemory`. The
@@ -127,10 +131,14 @@ impl Scope {
         ensures listed { IfOk result (λ signal. (names : List Name) →
             HasSignals (S.state store.old) self.now names →
             HasSignals (S.state store.new) self.now (names ++ name_of (pointer_in signal) ∷ [])) }
+        ensures unlisted { IfOk result (λ signal. (scope : OwnerName) (names : List Name) →
+            HasSignals (S.state store.old) scope names →
+            among names (name_of (pointer_in signal)) ≡ false) }
         ensures scopes { LeavesOtherScopes (S.state store.old) self.now (S.state store.new) }
         ensures refused { OnErr result (S.state store.new ≡ S.state store.old) }
     {
         made_boxes_see_their_values::<T>();
+        boxes_and_guards_are_new::<T>();
         calls_leave_other_boxes::<T>();
         calls_leave_other_owners::<T>();
         refused_calls_change_nothing::<T>();
@@ -155,10 +163,6 @@ impl Scope {
         ensures ended { OnOk result ((names : List Name) →
             HasSignals (S.state store.old) self names →
             (n : Name) → among names n ≡ true → IsEnded (S.state store.new) n) }
-        ensures unread { OnOk result ((names : List Name) →
-            HasSignals (S.state store.old) self names →
-            (b : GenerationalPointer) → among names (name_of b) ≡ true →
-            reach (S.state store.new) b ≡ None) }
         ensures others { OnOk result ((names : List Name) →
             HasSignals (S.state store.old) self names →
             (b : GenerationalPointer) → among names (name_of b) ≡ false →
@@ -168,7 +172,6 @@ impl Scope {
         ensures back { IfErr result (λ refusal. refusal.0 ≡ self) }
     {
         boxes_end_for_good::<T>();
-        ended_boxes_see_nothing::<T>();
         calls_leave_other_boxes::<T>();
         calls_leave_other_owners::<T>();
         refused_calls_change_nothing::<T>();

@@ -13,6 +13,8 @@ returns g c =
       seen = made.referred _ _ _ _ (Ok c.in_ok-raw.raw) (sound _) step;
       others = λ b apart. c.calls_leave_other_boxes.ensures.left _ _ _ _ (sound _) step b tt apart;
       listed = λ names. owners.lists_reference _ _ _ _ (Ok c.in_ok-raw.raw) step _;
-      scopes = λ scope names. owners.known _ _ _ _ (sound _) step scope _;
+      unlisted = λ o _ has. owners.unlisted _ o _ _ (sound _) has
+          (c.boxes_and_guards_are_new.ensures.name _ _ _ _ step);
+      scopes = λ o _. owners.known _ _ _ _ (sound _) step o _;
       refused = tt;
     })

@@ -8,11 +8,8 @@ returns-in-Ok g c =
       step = step;
       ended = λ names has n. c.boxes_end_for_good.ensures.ends_owned _ _ _ (Ok tt) (sound _)
           step _ n has (omega arith);
-      unread = λ names has b. c.ended_boxes_see_nothing.ensures.ends_owned _ _ _ (Ok tt) step _ b
-          has (omega arith);
       others = λ names. c.calls_leave_other_boxes.ensures.unowned _ _ _ _ (sound _) step _;
-      scopes = λ scope names.
-          c.calls_leave_other_owners.ensures.known _ _ _ _ (sound _) step scope _;
+      scopes = λ o _. c.calls_leave_other_owners.ensures.known _ _ _ _ (sound _) step o _;
       refused = tt;
       back = tt;
     })

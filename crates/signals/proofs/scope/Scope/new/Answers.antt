@@ -10,6 +10,6 @@ returns g c =
       empty = c.owners_list_their_boxes.ensures.owned _ _ (Ok c.in_ok-owner.owner) step;
       unknown = owners.unknown _ _ (Ok c.in_ok-owner.owner) (sound _) step;
       others = λ b. c.calls_leave_other_boxes.ensures.left _ _ _ _ (sound _) step b tt tt;
-      scopes = λ scope names. owners.known _ _ _ _ (sound _) step scope _ tt;
+      scopes = λ o _. owners.known _ _ _ _ (sound _) step o _ tt;
       refused = tt;
     }

@@ -15,7 +15,7 @@ returns g c =
       set = set;
       seen = rest.seen _ _ _ _ set;
       others = rest.others _ _ _ _ set;
-      scopes = λ scope names has. rest.owners _ _ _ _ set scope ∙ has;
+      scopes = λ o _ has. rest.owners _ _ _ _ set o ∙ has;
       refused = tt;
       back = tt;
     }

@@ -8,7 +8,6 @@ returns g c =
       reached = c.made_boxes_see_their_values.ensures.points _ _ _ _ _ step;
       seen = c.pointed_boxes_see_what_others_saw.ensures _ _ _ _ _ (sound _) step;
       others = λ b apart. c.calls_leave_other_boxes.ensures.left _ _ _ _ (sound _) step b apart tt;
-      scopes = λ scope names.
-          c.calls_leave_other_owners.ensures.known _ _ _ _ (sound _) step scope _ tt;
+      scopes = λ o _. c.calls_leave_other_owners.ensures.known _ _ _ _ (sound _) step o _ tt;
       refused = c.refused_calls_change_nothing.ensures.ends _ _ _ _ step;
     }

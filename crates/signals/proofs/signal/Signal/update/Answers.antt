@@ -17,6 +17,6 @@ returns g c =
     record {
       changed = (_, _, old, c.change_value-answer.ensures.changed, set, rest.seen _ _ _ _ set);
       others = rest.others _ _ _ _ set;
-      scopes = λ scope names has. rest.owners _ _ _ _ set scope ∙ has;
+      scopes = λ o _ has. rest.owners _ _ _ _ set o ∙ has;
       refused = tt;
     }
