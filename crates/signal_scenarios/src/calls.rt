@@ -127,6 +127,20 @@ pub(crate) fn set_ended<S: Storage<u64>>(
     assert_eq!(rt; answer, Err((value, Refused::Borrow(error))));
 }
 
+/// Changes a signal that has ended: the closure isn't called.
+pub(crate) fn update_ended<S: Storage<u64>>(
+    rt: &impl Abort,
+    store: &mut S,
+    signal: Signal<u64>,
+    made: Location,
+) {
+    let mut called = false;
+    let answer = signal.update(store, asked(), |_| called = true);
+    let error = BorrowMutError::Dropped(ValueDroppedError::new(made));
+    assert_eq!(rt; answer, Err(Refused::Borrow(error)));
+    assert!(rt; !called);
+}
+
 /// Doubles a signal's value, and answers the one before.
 pub(crate) fn double<S: Storage<u64>>(
     rt: &impl Abort,

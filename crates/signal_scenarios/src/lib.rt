@@ -1,8 +1,7 @@
-//! Proved callers of scopes and signals, by their contracts, and tests of both over either order of
-//! free slots. The expected values are worked out by hand.
+//! Tests of scopes and signals, and of their callers in `uses`, over stores of either order of free
+//! slots. The expected values are worked out by hand.
 #![tactic(auto)]
 
-pub mod callers;
 #[cfg(test)]
 mod calls;
 #[cfg(test)]

@@ -6,6 +6,7 @@ pub mod conditions;
 pub mod kinds;
 pub mod leaving;
 pub mod owned;
+pub mod scopes;
 pub mod sessions;
 pub mod shared;
 pub mod slots;

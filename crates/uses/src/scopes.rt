@@ -1,4 +1,4 @@
-//! Callers of scopes and signals, which show that their contracts say what a caller needs.
+//! Scopes and their signals.
 
 ghost use Rattle.std.specs.Prelude.{◌≡◌, ◌≢◌, ◌+◌, ◌%◌, ◌^◌, ℕ, [], Some, IfSome};
 ghost use Rattle.generational_core.specs.Seeing.{value_in};
@@ -28,8 +28,8 @@ pub fn outlived<S: Storage<u64>>(store: &mut S, value: u64, here: Location) -> O
     seen
 }
 
-/// The same of two scopes, of which the first has no signals yet.
-pub fn alias_outlives<S: Storage<u64>>(
+// The same of two scopes, of which the first has no signals yet.
+fn alias_outlives<S: Storage<u64>>(
     store: &mut S,
     inner: Scope,
     outer: &Scope,
