@@ -124,7 +124,7 @@ impl<T> Signal<T> {
             Ok(guard) => guard,
             Err(refused) => return Err((value, refused)),
         };
-        guard.replace(value);
+        set_value(&mut guard, value);
         match guard.release(store) {
             Ok(()) => Ok(()),
             Err(_) => unreachable!(),
@@ -200,6 +200,13 @@ impl<T> Signal<T> {
         refused_calls_change_nothing::<T>();
         self.raw.point_to(store, to.raw)
     }
+}
+
+// Sets the value of a writer's guard, and lets the old one go.
+fn set_value<T: Drop>(guard: &mut GenerationalRefMut<T>, value: T)
+    ensures { guard.new ≡ record guard.old { value = value } }
+{
+    guard.replace(value);
 }
 
 // Changes the value of a writer's guard by a closure, which is called once.
