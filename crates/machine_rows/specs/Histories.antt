@@ -19,7 +19,7 @@ use Rattle.generational_core.specs.Machine.Action.{Point, CanRead, CanWrite}
 use Rattle.generational_core.specs.Machine.Answer.{Made, Owned, Reads, Writes, Done, Old, Flag}
 use Rattle.generational_core.specs.Machine.Answer.{Back, BorrowRefused, Refused}
 use Rattle.machine_rows.specs.Rows.{Row, box, owner, guard, ◌#◌, ◌⇒◌, ◌takes◌⇒◌, ◌takes◌and◌⇒◌}
-use Rattle.machine_rows.specs.Rows.{◌opens◌, count_is}
+use Rattle.machine_rows.specs.Rows.{◌lacks◌, ◌opens◌, count_is}
 
 module _ {T : Type 0} (u v w : T) (L M R W : Location) where
   -- ---- owners, slots, strangers, and numbers that run out
@@ -304,6 +304,31 @@ module _ {T : Type 0} (u v w : T) (L M R W : Location) where
       ∷ Read (box (0 # 2) M) R ⇒ BorrowRefused (BeingWritten W)
       ∷ ReleaseWriter (guard (0 # 2) 0) w ⇒ Done
       ∷ End (box (0 # 2) M) ⇒ Done ∷ []
+
+  -- Memory may lack for a slot where too few are free, for an owner's record and list, for a reader
+  -- beside another, and for a list of readers that is told; else it doesn't.
+  abbrev pub memory_may_lack_where_room_is_needed : Row T
+  memory_may_lack_where_room_is_needed =
+      Make None v L lacks true
+      ∷ NewOwner lacks true
+      ∷ Make None v L takes 0 # 1 ⇒ Made (box (0 # 1) L)
+      ∷ Read (box (0 # 1) L) R lacks false
+      ∷ Write (box (0 # 1) L) W lacks false
+      ∷ End (box (0 # 1) L) lacks false
+      ∷ Read (box (0 # 1) L) R ⇒ Reads (guard (0 # 1) 0)
+      ∷ Read (box (0 # 1) L) R lacks true
+      ∷ Write (box (0 # 1) L) W lacks true
+      ∷ End (box (0 # 1) L) lacks true
+      ∷ ReleaseReader (guard (0 # 1) 0) lacks false
+      ∷ ReleaseReader (guard (0 # 1) 0) ⇒ Flag true
+      ∷ End (box (0 # 1) L) ⇒ Done
+      ∷ Make None v L lacks false
+      ∷ MakeShared None v L lacks true
+      ∷ Read (box (0 # 1) L) R lacks false
+      ∷ NewOwner ⇒ Owned (owner 1)
+      ∷ Make (Some (owner 1)) v L lacks true
+      ∷ CloneOwner (owner 1) lacks false
+      ∷ ReleaseOwner (owner 1) lacks false ∷ []
 
   -- ---- references, where they point, and what a turn and a release ask first
 

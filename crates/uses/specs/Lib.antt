@@ -1,1 +1,3 @@
+pub mod Lacking
+pub mod Sessions
 pub mod Table

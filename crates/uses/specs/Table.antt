@@ -1,5 +1,5 @@
 -- Rows of boxes in a store: what they show, and how a table keeps them.
-use Rattle.std.specs.Prelude.{◌≡◌, ◌≢◌, true, List, [], ◌∷◌, Option, None, Some, map}
+use Rattle.std.specs.Prelude.{◌≡◌, ◌≢◌, ℕ, true, List, [], ◌∷◌, Option, None, Some, map}
 use Rattle.generational_core.specs.Answers.{pointer_of}
 use Rattle.generational_core.specs.Borrowing.{can_write}
 use Rattle.generational_core.specs.Boxes.{name_of}
@@ -13,6 +13,11 @@ Rows T = List (Option (GenerationalBox T))
 
 abbrev pub HasOtherName : GenerationalPointer → GenerationalPointer → Type 0
 HasOtherName a b = name_of a ≢ name_of b
+
+-- what a caller sees of a table: what each row shows, and how many more values can surely be looked at
+pub record TableState (T : Type 0) : Type 0 where
+  pub rows : List (Option T)
+  pub looks : ℕ
 
 module _ {T : Type 0} where
   -- what a row shows in a state: the value that its box sees

@@ -8,7 +8,7 @@ use Rattle.generational_core.specs.Cells.Content.{Here}
 use Rattle.generational_core.specs.Borrowing.{reach, refusal_to_read, refusal_to_write}
 use Rattle.generational_core.specs.Ending.{hindrance_to}
 use Rattle.machine_rows.specs.Rows.{◌#◌}
-use Rattle.machine_rows.proofs.Playing.{plays, none_given, more_given, cut, one_owner, reader}
+use Rattle.machine_rows.proofs.Playing.{plays, plays_tell, none_given, more_given, cut, one_owner, reader}
 use Rattle.machine_rows.proofs.owners.Goals as goal
 
 one_not_none : ◌≡◌ {A = ℕ} 1 0 → ⊥
@@ -21,31 +21,30 @@ unfolding is_name reach refusal_to_read refusal_to_write hindrance_to
 returns g c =
     let none = none_given c.slots_follow_from_names.ensures.none in
     let more = more_given c.slots_follow_from_names.ensures.more in record {
-      reference_outlives = λ u v w L M R W.
-          cut ((0 # 1, Shared (Here v []) L) ∷ (2 # 1, Ref (0 # 1) L) ∷ [])
+      reference_outlives = λ u v w L M R W. plays_tell _ _ _ (cut 1 ((0 # 1, Shared (Here v []) L) ∷ (2 # 1, Ref (0 # 1) L) ∷ [])
           (set.from_list (2 # 1 ∷ 1 # 1 ∷ 0 # 1 ∷ [])) ((1, one_owner (2 # 1 ∷ [])) ∷ []) 2 3 _ _ 6
-          (λ rest h. simp (plays, none, more) h) (simp (plays, none, more) tt);
-      lasting_borrow = λ u v w L M R W. simp (plays, none, more) tt;
-      release_under_a_reader = λ u v w L M R W.
-          cut ((0 # 1, Value (Here v (reader 2 L ∷ [])) L)
+          (λ rest h. simp (plays, none, more) h) (simp (plays, none, more) tt));
+      lasting_borrow = λ u v w L M R W. plays_tell _ _ _ (
+          cut 1 ((0 # 1, Shared (Here v []) L) ∷ (1 # 1, Ref (0 # 1) L) ∷ (2 # 1, Ref (0 # 1) L) ∷ [])
+          (set.from_list (2 # 1 ∷ 1 # 1 ∷ 0 # 1 ∷ [])) ((0, one_owner (1 # 1 ∷ [])) ∷ []) 1 3 _ _ 3
+          (λ rest h. simp (plays, none, more) h) (simp (plays, none, more) tt));
+      release_under_a_reader = λ u v w L M R W. plays_tell _ _ _ (cut 1 ((0 # 1, Value (Here v (reader 2 L ∷ [])) L)
           ∷ (1 # 1, Value (Here w (reader 1 R ∷ [])) M) ∷ []) (set.from_list (1 # 1 ∷ 0 # 1 ∷ []))
           ((0, one_owner (0 # 1 ∷ 1 # 1 ∷ [])) ∷ []) 3 2 _ _ 7
-          (λ rest h. simp (plays, none, more) h) (simp (plays, none, more) tt);
-      last_release = λ u v w L M R W.
-          cut ((0 # 1, Value (Here v []) L) ∷ []) (set.from_list (0 # 1 ∷ []))
+          (λ rest h. simp (plays, none, more) h) (simp (plays, none, more) tt));
+      last_release = λ u v w L M R W. plays_tell _ _ _ (cut 1 ((0 # 1, Value (Here v []) L) ∷ []) (set.from_list (0 # 1 ∷ []))
           ((0, one_owner (0 # 1 ∷ [])) ∷ []) 2 1 _ _ 4 (λ rest h. simp (plays, none, more) h)
-          (simp (plays, none, more) tt);
-      leaked_clone = λ u v w L M R W. simp (plays, none, more) tt;
-      last_ticket = λ u v w L M R W. simp (plays, none, more) tt;
-      second_last_ticket = λ u v w L M R W. simp (plays, none, more) tt;
-      strange_boxes = λ u v w L M R W. simp (plays, none, more) tt;
-      strange_owners = λ u v w L M R W. simp (plays, none, more) tt;
-      last_reference = λ u v w L M R W.
-          cut ((0 # 1, Shared (Here v (reader 0 R ∷ [])) L) ∷ (2 # 1, Ref (0 # 1) L) ∷ [])
+          (simp (plays, none, more) tt));
+      leaked_clone = λ u v w L M R W. plays_tell _ _ _ (simp (plays, none, more) tt);
+      last_ticket = λ u v w L M R W. plays_tell _ _ _ (simp (plays, none, more) tt);
+      second_last_ticket = λ u v w L M R W. plays_tell _ _ _ (simp (plays, none, more) tt);
+      strange_boxes = λ u v w L M R W. plays_tell _ _ _ (simp (plays, none, more) tt);
+      strange_owners = λ u v w L M R W. plays_tell _ _ _ (simp (plays, none, more) tt);
+      last_reference = λ u v w L M R W. plays_tell _ _ _ (cut 1 ((0 # 1, Shared (Here v (reader 0 R ∷ [])) L) ∷ (2 # 1, Ref (0 # 1) L) ∷ [])
           (set.from_list (2 # 1 ∷ 1 # 1 ∷ 0 # 1 ∷ [])) [] 1 3 _ _ 5
-          (λ rest h. simp (plays, none, more) h) (simp (plays, none, more) tt);
-      free_slot = λ u v w L M R W. simp (plays, none, more) tt;
-      last_generation = λ u v w L M R W. simp (plays, none, more) tt;
+          (λ rest h. simp (plays, none, more) h) (simp (plays, none, more) tt));
+      free_slot = λ u v w L M R W. plays_tell _ _ _ (simp (plays, none, more) tt);
+      last_generation = λ u v w L M R W. plays_tell _ _ _ (simp (plays, none, more) tt);
       next_generation_fits = λ u v w L M R W.
           inr (simp (plays, none, more), simp (plays, none, more), simp (plays, none, more));
       no_new_slot_fits = λ u v w L M R W h.
