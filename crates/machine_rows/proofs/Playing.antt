@@ -42,22 +42,22 @@ use Rattle.machine_rows.proofs.Entries.{entries, by_number, get_there, put_there
 -- ---- names, as they are computed
 
 module _ {T : Type 0} where
-  abbrev fits : State T → Name → Bool
+  abbrev pub fits : State T → Name → Bool
   fits S n = (nat_eq (free S) 0 && (nat_eq n.slot (slots S) && nat_eq n.generation S.start))
       || (map.contains_key (slots_of S) n.slot && (is_free S n.slot
       && nat_eq n.generation ((last_name S n.slot).generation + 1)))
 
-  abbrev is_new : State T → Name → Bool
+  abbrev pub is_new : State T → Name → Bool
   is_new S n = not (set.contains S.given n) && fits S n
 
-  abbrev are_new : State T → Action T → NewNames → Bool
+  abbrev pub are_new : State T → Action T → NewNames → Bool
   are_new S (Make o v l) f = is_new S f.first
   are_new S (MakeShared o v l) f =
       is_new S f.first && is_new (add_cell S f.first (Shared (Here v []) l)) f.second
   are_new S (Refer o b) f = is_new S f.first
   are_new S _ f = true
 
-  abbrev takes : State T → Action T → Answer T → NewNames → Bool
+  abbrev pub takes : State T → Action T → Answer T → NewNames → Bool
   takes S a (Made b) f = are_new S a f
   takes S a _ f = true
 
@@ -89,7 +89,7 @@ module _ {T : Type 0} where
   new_names S (Refer o b) f h = new_name S f.first h
   new_names S _ f h = tt
 
-  taken : (S : State T) (a : Action T) (answer : Answer T) (f : NewNames)
+  pub taken : (S : State T) (a : Action T) (answer : Answer T) (f : NewNames)
       → takes S a answer f ≡ true → Takes S a answer f
   taken S a (Made b) f h = new_names S a f h
   taken S a _ f h = tt
@@ -189,7 +189,7 @@ module _ {T : Type 0} where
   outcome_by {x = x} {y = y} f = (y, f x refl)
 
   -- whether a call can't have its ticket, and what a row tells after an outcome
-  abbrev is_short : Answer T → ℕ → Bool
+  abbrev pub is_short : Answer T → ℕ → Bool
   is_short answer next = takes_ticket answer && nat_eq next last_ticket
 
   abbrev limit : Bool → State T → Action T → NewNames → Outcome T → Told T → Row T → Type 0

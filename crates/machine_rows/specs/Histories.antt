@@ -20,6 +20,11 @@ use Rattle.generational_core.specs.Machine.Answer.{Made, Owned, Reads, Writes, D
 use Rattle.generational_core.specs.Machine.Answer.{Back, BorrowRefused, Refused}
 use Rattle.machine_rows.specs.Rows.{Row, box, owner, guard, ◌#◌, ◌⇒◌, ◌takes◌⇒◌, ◌takes◌and◌⇒◌}
 use Rattle.machine_rows.specs.Rows.{◌lacks◌, ◌opens◌, count_is}
+use Rattle.machine_rows.specs.SessionRows.{SessionRow, ◌answers◌, ◌gives◌answers◌}
+use Rattle.generational_sessions.specs.declared.calls.BoxAt.TheVariants.{Place}
+use Rattle.generational_sessions.specs.declared.calls.Call.TheVariants as call
+use Rattle.generational_sessions.specs.Session.SessionReply.{ABox, AnOwner, AReader, AWriter, IsDone}
+use Rattle.generational_sessions.specs.Session.SessionReply.{TheOld, Error, NoSuch}
 
 module _ {T : Type 0} (u v w : T) (L M R W : Location) where
   -- ---- owners, slots, strangers, and numbers that run out
@@ -451,6 +456,46 @@ module _ {T : Type 0} (u v w : T) (L M R W : Location) where
       ∷ ReleaseOwner (owner 0) ⇒ BorrowRefused (BeingRead (R ∷ []))
       ∷ ReleaseReader (guard (1 # 1) 2) ⇒ Flag true
       ∷ ReleaseOwner (owner 0) ⇒ BorrowRefused (BeingRead (W ∷ [])) ∷ []
+
+  -- ---- sessions
+
+  -- An owner's value is read, written and ended by places. A release that a reader hinders leaves
+  -- the owner at its place. A guard that was spent, and an owner, are no such then.
+  abbrev pub places_keep_what_calls_gave : SessionRow T
+  places_keep_what_calls_gave =
+      call.Owner answers AnOwner
+      ∷ call.Insert 0 v L gives 0 # 1 answers ABox (box (0 # 1) L)
+      ∷ call.TryRead (Place 1) R answers AReader
+      ∷ call.ReleaseOwner 0 answers Error (BeingRead (R ∷ []))
+      ∷ call.Release 2 answers IsDone
+      ∷ call.Release 2 answers NoSuch None
+      ∷ call.TryWrite (Place 1) W answers AWriter
+      ∷ call.Replace 6 w answers TheOld v
+      ∷ call.Release 6 answers IsDone
+      ∷ call.ReleaseOwner 0 answers IsDone
+      ∷ call.TryRead (Place 1) R answers Error (Dropped L)
+      ∷ call.Insert 0 u M answers NoSuch (Some u) ∷ []
+
+  -- Two values are made and ended, and a third is made: in the slot that was freed last, or first.
+  abbrev taken_again : Name → SessionRow T
+  taken_again n =
+      call.Leak u L gives 0 # 1 answers ABox (box (0 # 1) L)
+      ∷ call.Leak v M gives 1 # 1 answers ABox (box (1 # 1) M)
+      ∷ call.ManuallyDrop (Place 0) answers IsDone
+      ∷ call.ManuallyDrop (Place 1) answers IsDone
+      ∷ call.Leak w R gives n answers ABox (box n R) ∷ []
+
+  abbrev pub the_slot_freed_last_is_taken_again : SessionRow T
+  the_slot_freed_last_is_taken_again = taken_again (1 # 2)
+
+  abbrev pub the_slot_freed_first_is_taken_again : SessionRow T
+  the_slot_freed_first_is_taken_again = taken_again (0 # 2)
+
+  -- one name is given twice, which no store does
+  abbrev pub one_name_twice : Row T
+  one_name_twice =
+      Make None v L takes 0 # 1 ⇒ Made (box (0 # 1) L)
+      ∷ Make None w M takes 0 # 1 ⇒ Made (box (0 # 1) M) ∷ []
 
   -- one slot was made, and its cell has ended, or is live
   abbrev pub one_ended : State T

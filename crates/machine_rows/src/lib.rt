@@ -3,10 +3,13 @@
 //! nothing and does nothing: its contract is what was computed.
 #![tactic(auto)]
 
-ghost use Rattle.std.specs.Prelude.{◌-◌, ◌^◌};
+ghost use Rattle.std.specs.Prelude.{◌≡◌, ◌-◌, ◌^◌, map as list_map};
 ghost use Rattle.generational_core.specs.declared.error.Location.{Location};
 ghost use Rattle.generational_core.specs.Slots.{Fits};
-ghost use Rattle.machine_rows.specs.Rows.{TellsFrom, ◌#◌};
+ghost use Rattle.generational_core.specs.Conditions.{fresh};
+ghost use Rattle.generational_sessions.specs.Numbered.{erase};
+ghost use Rattle.machine_rows.specs.Rows.{Tells, TellsFrom, ◌#◌};
+ghost use Rattle.machine_rows.specs.SessionRows.{RepliesFrom};
 ghost use Rattle.machine_rows.specs.Histories as row;
 
 use generational_sessions::laws;
@@ -31,8 +34,27 @@ pub fn owners<T>()
         Fits (row.one_ended u v w L M R W) (1 # 1) → ⊥ }
     ensures new_slot_fits { (u v w : T) (L M R W : Location) →
         Fits (row.one_live u v w L M R W) (1 # 1) }
+    ensures no_name_twice { (u v w : T) (L M R W : Location) →
+        Tells (fresh 7 1 0) (row.one_name_twice u v w L M R W) → ⊥ }
     ensures no_other_name_fits { (u v w : T) (L M R W : Location) →
         Fits (row.one_live u v w L M R W) (0 # 2) → ⊥ }
+{
+    laws::slots_follow_from_names();
+}
+
+/// Sessions: what their places keep, and two orders of slots.
+pub fn sessions<T>()
+    ensures places { RepliesFrom T row.places_keep_what_calls_gave }
+    ensures last_first { RepliesFrom T row.the_slot_freed_last_is_taken_again }
+    ensures oldest_first { RepliesFrom T row.the_slot_freed_first_is_taken_again }
+    // The calls of the two are the same, and so are the replies, ids aside.
+    ensures same_calls { (u v w : T) (L M R W : Location) →
+        list_map (λ line. line.call) (row.the_slot_freed_last_is_taken_again u v w L M R W)
+        ≡ list_map (λ line. line.call) (row.the_slot_freed_first_is_taken_again u v w L M R W) }
+    ensures same_replies { (u v w : T) (L M R W : Location) →
+        list_map (λ line. erase line.reply) (row.the_slot_freed_last_is_taken_again u v w L M R W)
+        ≡ list_map (λ line. erase line.reply)
+        (row.the_slot_freed_first_is_taken_again u v w L M R W) }
 {
     laws::slots_follow_from_names();
 }

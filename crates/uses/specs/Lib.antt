@@ -1,3 +1,2 @@
-pub mod Lacking
 pub mod Sessions
 pub mod Table

@@ -6,11 +6,13 @@ ghost use Rattle.generational_core.specs.declared.boxes.GenerationalPointer.{Gen
 ghost use Rattle.generational_core.specs.declared.error.StoreError.TheVariants.{NumbersExhausted};
 ghost use Rattle.generational_core.specs.Answers.{pointer_of};
 ghost use Rattle.generational_core.specs.Borrowing.{reach, can_write};
+ghost use Rattle.generational_core.specs.Boxes.{name_of};
 ghost use Rattle.generational_core.specs.Leaving.{IsLeft, IsSet};
 ghost use Rattle.generational_core.specs.Machine.Action.{Read};
 ghost use Rattle.generational_core.specs.Machine.Answer.{Refused};
 ghost use Rattle.generational_core.specs.Seeing.{value_in};
 ghost use Rattle.generational_core.specs.Steps.{Meets, last_ticket};
+ghost use Rattle.generational_sessions.specs.PlainStores.{IsPlain};
 
 use generational_box::{GenerationalBox, Location, Storage, StoreError};
 
@@ -32,6 +34,20 @@ pub fn set_value<S: Storage<u64>>(store: &mut S, target: GenerationalBox<u64>, v
     }
     target.set(store, value);
     true
+}
+
+/// The same in a store without references, where each box of another name is left as it was.
+pub fn set_plain<S: Storage<u64>>(store: &mut S, given: GenerationalBox<u64>, value: u64) -> bool
+    requires { IsPlain (S.state store.old) }
+    ensures plain { IsPlain (S.state store.new) }
+    ensures others { (b : GenerationalPointer) → name_of (pointer_of given) ≢ name_of b →
+        IsLeft (S.state store.old) b (S.state store.new) }
+{
+    if given.can_write(store) {
+        given.set(store, value);
+        return true;
+    }
+    false
 }
 
 /// The value that a box sees, read where no writer has it. None where one has it, and where the

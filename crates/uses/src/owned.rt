@@ -6,7 +6,7 @@ ghost use Rattle.generational_core.specs.Answers.{pointer_of};
 ghost use Rattle.generational_core.specs.Boxes.{name_of};
 ghost use Rattle.generational_core.specs.Conditions.{IsEnded};
 ghost use Rattle.generational_core.specs.Leaving.{IsLeft};
-ghost use Rattle.uses.specs.Lacking.{Lacks};
+ghost use Rattle.generational_sessions.specs.Lacking.{Lacks};
 
 use generational_box::{GenerationalBox, Location, Refusal, Storage, StoreError};
 

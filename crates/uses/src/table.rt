@@ -21,7 +21,8 @@ pub struct Table<T, S: Storage<T>> {
 impl<T, S: Storage<T>> Model for Table<T, S> {
     ghost use Rattle.std.specs.Prelude.{◌-◌};
     ghost use Rattle.generational_core.specs.Steps.{last_ticket};
-    ghost use Rattle.uses.specs.Table.{TableState, values_in, AreKept};
+    ghost use Rattle.generational_sessions.specs.BoxRows.{values_in, AreKept};
+    ghost use Rattle.uses.specs.Table.{TableState};
 
     ghost Value = { TableState T };
 

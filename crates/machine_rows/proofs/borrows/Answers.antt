@@ -23,7 +23,8 @@ returns g c =
       writer = λ u v w L M R W. plays_tell _ _ _ (simp (plays, none, more) tt);
       shared_writer = λ u v w L M R W. plays_tell _ _ _ (simp (plays, none, more) tt);
       new_value = λ u v w L M R W. plays_tell _ _ _ (simp (plays, none, more) tt);
-      no_setting = λ u v w L M R W. plays_tell _ _ _ (cut 1 ((0 # 1, Value (Here u []) L) ∷ []) (set.from_list (0 # 1 ∷ [])) [] 1 1 _ _ 5
+      no_setting = λ u v w L M R W. plays_tell _ _ _ (
+          cut 1 ((0 # 1, Value (Here u []) L) ∷ []) (set.from_list (0 # 1 ∷ [])) [] 1 1 _ _ 5
           (λ rest h. simp (plays, none, more) h) (simp (plays, none, more) tt));
       ended_box = λ u v w L M R W. plays_tell _ _ _ (
           cut 1 ((0 # 2, Value (Here w []) M) ∷ []) (set.from_list (0 # 2 ∷ 0 # 1 ∷ [])) [] 0 1 _ _ 3

@@ -4,7 +4,7 @@ use Rattle.std.proofs.lemmas.Bool.{true≢false}
 use Rattle.std.proofs.lemmas.Grind.{common_steps}
 use Rattle.std.proofs.lemmas.Option.{same_Some}
 use Rattle.generational_core.proofs.machine.Calling.{lends}
-use Rattle.uses.proofs.Lefts.{written_by}
+use Rattle.generational_sessions.proofs.callers.Lefts.{written_by}
 use Rattle.uses.specs.declared.kinds.Entry.TheVariants as entry
 use Rattle.uses.proofs.kinds.toggle.Goals as goal
 

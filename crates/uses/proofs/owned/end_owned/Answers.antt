@@ -25,7 +25,7 @@ use Rattle.generational_core.proofs.machine.Refusing.{refused_make}
 use Rattle.generational_core.proofs.machine.Resting.{rests, rests_free}
 use Rattle.generational_core.proofs.machine.Seeing.{reaches}
 use Rattle.generational_core.proofs.machine.Unborrowed.{frees_owned}
-use Rattle.uses.proofs.Lefts.{left_still, left_twice}
+use Rattle.generational_sessions.proofs.callers.Lefts.{left_still, left_twice}
 use Rattle.uses.proofs.owned.end_owned.Goals as goal
 
 -- a record of one owner value, with these boxes

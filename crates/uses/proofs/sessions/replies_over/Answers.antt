@@ -1,7 +1,7 @@
 use Rattle.std.proofs.Common.{subst}
 use Rattle.generational_sessions.specs.Places.{as_replies}
 use Rattle.generational_sessions.specs.Session.{Run}
-use Rattle.uses.proofs.Results.{some_so}
+use Rattle.generational_sessions.proofs.callers.Results.{some_so}
 use Rattle.uses.proofs.sessions.replies_over.Goals as goal
 
 pub returns-clause-run : goal.returns-clause-run

@@ -1,7 +1,7 @@
 use Rattle.std.proofs.Common.{Ok, sym, ◌∙◌}
 use Rattle.std.proofs.lemmas.Option.{same_Some}
 use Rattle.generational_core.proofs.machine.Calling.{made_shared, referred, referred_apart, keeps}
-use Rattle.uses.proofs.Results.{some_so}
+use Rattle.generational_sessions.proofs.callers.Results.{some_so}
 use Rattle.uses.proofs.shared.outlived.Goals as goal
 
 pub returns : goal.returns

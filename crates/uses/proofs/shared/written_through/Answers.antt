@@ -1,7 +1,7 @@
 use Rattle.std.proofs.Common.{sym, ◌∙◌}
 use Rattle.std.proofs.lemmas.Option.{same_Some}
 use Rattle.generational_core.proofs.machine.Calling.{referred_together}
-use Rattle.uses.proofs.Results.{of_ok, on_ok, some_so}
+use Rattle.generational_sessions.proofs.callers.Results.{of_ok, on_ok, some_so}
 use Rattle.uses.proofs.shared.written_through.Goals as goal
 
 pub returns : goal.returns

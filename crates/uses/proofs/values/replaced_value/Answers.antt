@@ -3,7 +3,7 @@ use Rattle.std.proofs.lemmas.Bool.{true≢false}
 use Rattle.std.proofs.lemmas.Option.{same_Some}
 use Rattle.generational_core.proofs.machine.Calling.{lends}
 use Rattle.generational_core.proofs.machine.Guarding.{set_seen, set_beside}
-use Rattle.uses.proofs.Lefts.{left_twice, written_by}
+use Rattle.generational_sessions.proofs.callers.Lefts.{left_twice, written_by}
 use Rattle.uses.proofs.values.replaced_value.Goals as goal
 
 pub unreachable-requires : goal.unreachable-requires

@@ -2,7 +2,7 @@ use Rattle.std.proofs.Common.{Ok, Err, sym, arith}
 use Rattle.std.proofs.lemmas.Bool.{true≢false}
 use Rattle.std.proofs.lemmas.Grind.{common_steps}
 use Rattle.generational_core.proofs.machine.Guarding.{set_seen, set_beside}
-use Rattle.uses.proofs.Lefts.{written_by}
+use Rattle.generational_sessions.proofs.callers.Lefts.{written_by}
 use Rattle.uses.proofs.values.write_value.Goals as goal
 
 pub unreachable-requires : goal.unreachable-requires

@@ -3,9 +3,9 @@ use Rattle.std.proofs.lemmas.Grind.{common_steps}
 use Rattle.generational_core.proofs.machine.Calling.{opens_free, reads_back}
 use Rattle.generational_core.proofs.machine.Resting.{free_reads}
 use Rattle.generational_core.proofs.machine.Refusing.{refused_free_read}
-use Rattle.uses.proofs.Lacking.{free_read_lacks}
-use Rattle.uses.proofs.Rows.{each_at, read_beside, shown_at}
-use Rattle.uses.specs.Table.{IsFree, shown_in}
+use Rattle.generational_sessions.proofs.callers.Lacking.{free_read_lacks}
+use Rattle.generational_sessions.proofs.callers.Rows.{each_at, read_beside, shown_at}
+use Rattle.generational_sessions.specs.BoxRows.{IsFree, shown_in}
 use Rattle.uses.proofs.table.Table.get.Goals as goal
 
 pub read-requires : goal.read-requires

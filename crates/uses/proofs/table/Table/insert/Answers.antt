@@ -1,6 +1,7 @@
 use Rattle.std.proofs.Common.{None, refl, rules}
-use Rattle.uses.proofs.Lacking.{made_next, make_lacks}
-use Rattle.uses.proofs.Rows.{made_last, same_table}
+use Rattle.generational_sessions.proofs.callers.Lacking.{made_next, make_lacks}
+use Rattle.uses.proofs.Tables.{same_table}
+use Rattle.generational_sessions.proofs.callers.Rows.{made_last}
 use Rattle.uses.proofs.table.Table.insert.Goals as goal
 
 pub invariant_of-self-2 : goal.invariant_of-self-2

@@ -3,9 +3,10 @@ use Rattle.std.proofs.lemmas.Bool.{true≢false}
 use Rattle.std.specs.Prelude.{is_some}
 use Rattle.generational_core.proofs.machine.Calling.{ends_free}
 use Rattle.generational_core.proofs.machine.Resting.{free_sees}
-use Rattle.uses.proofs.Lacking.{ended_next}
-use Rattle.uses.proofs.Rows.{each_at, empty_again, ended_row, same_table, shown_at}
-use Rattle.uses.specs.Table.{IsFree, shown_in}
+use Rattle.generational_sessions.proofs.callers.Lacking.{ended_next}
+use Rattle.uses.proofs.Tables.{same_table}
+use Rattle.generational_sessions.proofs.callers.Rows.{each_at, empty_again, ended_row, shown_at}
+use Rattle.generational_sessions.specs.BoxRows.{IsFree, shown_in}
 use Rattle.uses.proofs.table.Table.remove.Goals as goal
 
 pub returns-in_default-clause-removed : goal.returns-in_default-clause-removed

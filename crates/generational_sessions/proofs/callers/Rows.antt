@@ -1,7 +1,7 @@
 -- Rows of boxes: one more, one emptied, and a state in which they show what they showed.
 use Rattle.std.proofs.Common.{◌≡◌, ℕ, zero, suc, true, [], ◌∷◌, ◌++◌, Option, None}
 use Rattle.std.proofs.Common.{Some, refl, sym, ap, subst, ◌∙◌, ◌<◌, length, arith}
-use Rattle.std.specs.Prelude.{slice_index_or, slice_set, ◌+◌, ◌-◌, List, Ok}
+use Rattle.std.specs.Prelude.{slice_index_or, slice_set, ◌+◌, Ok}
 use Rattle.std.proofs.lemmas.List.{map-append, map-set}
 use Rattle.std.proofs.lemmas.Option.{none-some, same_Some}
 use Rattle.generational_core.specs.Answers.{pointer_of}
@@ -11,14 +11,14 @@ use Rattle.generational_core.specs.Machine.Action.{Make, End}
 use Rattle.generational_core.specs.Machine.Answer.{Made, Done}
 use Rattle.generational_core.specs.Seeing.{value_in}
 use Rattle.generational_core.specs.State.{State, IsSound}
-use Rattle.generational_core.specs.Steps.{Meets, last_ticket}
+use Rattle.generational_core.specs.Steps.{Meets}
 use Rattle.generational_core.specs.declared.boxes.GenerationalBox.{GenerationalBox}
 use Rattle.generational_core.specs.declared.boxes.GenerationalPointer.{GenerationalPointer}
 use Rattle.generational_core.specs.declared.error.Location.{Location}
 use Rattle.generational_core.proofs.machine.Calling.{made, made_apart, made_free, keeps, keeps_free}
 use Rattle.generational_core.proofs.machine.Resting.{free_sees}
-use Rattle.uses.specs.Table.{Rows, TableState, IsFree, shown_in, values_in, EachBox, HasOtherName}
-use Rattle.uses.specs.Table.{AreApart, AreKept}
+use Rattle.generational_sessions.specs.BoxRows.{Rows, IsFree, shown_in, values_in, EachBox, HasOtherName}
+use Rattle.generational_sessions.specs.BoxRows.{AreApart, AreKept}
 
 module _ {T : Type 0} where
   -- ---- what holds of each box
@@ -143,16 +143,7 @@ module _ {T : Type 0} where
   still_free S R (Some b ∷ rows) free all =
       (all.0.free free.0, still_free S R rows free.1 all.1)
 
-  -- what a caller sees of a table, part by part
-  pub same_table : {rows shown : List (Option T)} (next next' : ℕ) → rows ≡ shown → next ≡ next'
-      → ◌≡◌ {A = TableState T} (record { rows = rows; looks = last_ticket - next })
-      (record { rows = shown; looks = last_ticket - next' })
-  same_table next next' same tickets = λ i. record {
-    rows = same i;
-    looks = last_ticket - tickets i;
-  }
-
-  -- ---- the rows of a table after a call of its store
+  -- ---- rows after a call of their store
 
   module _ {S R : State T} (s : IsSound S) (rows : Rows T) (k : AreKept S rows) where
     -- rows whose boxes are all kept

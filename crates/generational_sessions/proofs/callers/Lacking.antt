@@ -23,7 +23,7 @@ use Rattle.generational_core.specs.declared.error.StoreError.{StoreError}
 use Rattle.generational_core.specs.declared.error.StoreError.TheVariants.{OutOfMemory, NumbersExhausted}
 use Rattle.generational_core.proofs.machine.Resting.{free_reads, rests}
 use Rattle.generational_core.proofs.machine.Stepping.{meets_cases}
-use Rattle.uses.specs.Lacking.{Lacks}
+use Rattle.generational_sessions.specs.Lacking.{Lacks}
 
 module _ {T : Type 0} where
   -- whether an answer is a store's own refusal
