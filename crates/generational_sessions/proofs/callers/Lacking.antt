@@ -1,20 +1,19 @@
 -- What a store lacks where it refuses a call by itself, and what such a call leaves.
 use Rattle.std.proofs.Common.{◌≡◌, Bool, true, false, cond, Option, None, Some, refl, sym, ap, subst}
-use Rattle.std.proofs.Common.{◌∙◌, inl, inr, ⊎_elim, []}
+use Rattle.std.proofs.Common.{◌∙◌, inl, inr, ⊎_elim}
 use Rattle.std.specs.Prelude.{is_some, is_none, nat_eq, ◌&&◌, ◌⊎◌}
 use Rattle.std.proofs.lemmas.Bool.{true≢false, and_parts, eqb-true, cond_both}
 use Rattle.generational_core.specs.Borrowing.{BorrowRefusal, Guard, reach, can_write, write_refusal}
 use Rattle.generational_core.specs.Borrowing.{refusal_to_read, refusal_to_write}
-use Rattle.generational_core.specs.Boxes.{name_of}
 use Rattle.generational_core.specs.Cells.{Content, content_of}
 use Rattle.generational_core.specs.Cells.Content.{Here}
 use Rattle.generational_core.specs.Ending.{close, hindrance_to}
 use Rattle.generational_core.specs.Machine.{Action, Answer, NewNames, Outcome, OwnerName, act, unless}
 use Rattle.generational_core.specs.Machine.{cell_at, is_known, own_name, read_at, write_at}
 use Rattle.generational_core.specs.Machine.Action.{Make, NewOwner, Read, Write, End}
-use Rattle.generational_core.specs.Machine.Answer.{Reads, Done, BorrowRefused, Refused}
+use Rattle.generational_core.specs.Machine.Answer.{Reads, Done, Refused}
 use Rattle.generational_core.specs.Names.{Name}
-use Rattle.generational_core.specs.State.{State, content_at}
+use Rattle.generational_core.specs.State.{State}
 use Rattle.generational_core.specs.Steps.{Meets, limit_tickets, takes_ticket, last_ticket, may_lack}
 use Rattle.generational_core.specs.Steps.{needs_memory, no_names}
 use Rattle.generational_core.specs.declared.boxes.GenerationalPointer.{GenerationalPointer}

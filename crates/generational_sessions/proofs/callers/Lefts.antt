@@ -1,5 +1,5 @@
 -- What calls leave: one that changed nothing, one after another, and a write that was released.
-use Rattle.std.proofs.Common.{◌≡◌, refl, sym, ap, subst, ◌∙◌}
+use Rattle.std.proofs.Common.{◌≡◌, refl, sym, subst, ◌∙◌}
 use Rattle.std.specs.Prelude.{Result, IsOk}
 use Rattle.generational_core.specs.Answers.{WriteGuard, back_answer}
 use Rattle.generational_core.specs.Leaving.{IsLeft, IsSet}

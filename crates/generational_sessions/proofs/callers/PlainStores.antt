@@ -1,9 +1,9 @@
 -- Stores without references: a box reaches its own cell, and which calls leave a store so.
 use Rattle.std.specs.FinMap as map
 use Rattle.std.specs.FinSet as set
-use Rattle.std.proofs.Common.{◌≡◌, Bool, true, false, cond, Option, None, Some, refl, sym, ap, subst}
+use Rattle.std.proofs.Common.{◌≡◌, false, Option, None, Some, refl, sym, ap, subst}
 use Rattle.std.proofs.Common.{◌∙◌, ⊎_elim, ℕ, []}
-use Rattle.std.proofs.lemmas.Bool.{true≢false, cases_Bool}
+use Rattle.std.proofs.lemmas.Bool.{true≢false}
 use Rattle.std.proofs.lemmas.Option.{same_Some}
 use Rattle.generational_core.specs.Borrowing.{reach, leads_to}
 use Rattle.generational_core.specs.Boxes.{name_of}
@@ -11,7 +11,7 @@ use Rattle.generational_core.specs.Cells.{Cell, Content, refill}
 use Rattle.generational_core.specs.Cells.Cell.{Value, Shared, Ref}
 use Rattle.generational_core.specs.Cells.Content.{Here}
 use Rattle.generational_core.specs.Conditions.{fresh}
-use Rattle.generational_core.specs.Machine.{Action, Answer, NewNames, Outcome, OwnerName, act}
+use Rattle.generational_core.specs.Machine.{Action, Answer, Outcome, OwnerName}
 use Rattle.generational_core.specs.Machine.{add_cell, add_to_list, is_known}
 use Rattle.generational_core.specs.Machine.Action.{Make, MakeShared, Refer}
 use Rattle.generational_core.specs.Names.{Name, NameMap, name_cmp}

@@ -1,4 +1,4 @@
-use Rattle.std.proofs.Common.{Ok, sym, arith, ◌∙◌}
+use Rattle.std.proofs.Common.{Ok, arith, ◌∙◌}
 use Rattle.std.proofs.lemmas.Grind.{common_steps}
 use Rattle.generational_core.proofs.machine.Guarding.{opens_value, reader_sees}
 use Rattle.generational_core.proofs.machine.Leaving.{same_value}

@@ -1,23 +1,23 @@
-use Rattle.std.proofs.Common.{◌≡◌, ◌≢◌, true, false, List, [], ◌∷◌, ◌||◌, Ok, Err, Some, refl, sym, ap}
+use Rattle.std.proofs.Common.{◌≡◌, true, false, List, [], ◌∷◌, ◌||◌, Ok, Err, Some, refl, sym, ap}
 use Rattle.std.proofs.Common.{subst, ⊎_elim, arith, ◌∙◌}
-use Rattle.std.specs.Prelude.{Result, IsOk}
+use Rattle.std.specs.Prelude.{Result}
 use Rattle.std.specs.FinMap as map
 use Rattle.std.proofs.lemmas.Bool.{true≢false, or_cases}
 use Rattle.std.proofs.lemmas.Option.{same_Some}
-use Rattle.generational_core.specs.Answers.{pointer_of, box_answer, release_answer}
+use Rattle.generational_core.specs.Answers.{pointer_of, box_answer}
 use Rattle.generational_core.specs.Borrowing.{reach, leads_to, can_write, write_refusal}
 use Rattle.generational_core.specs.Boxes.{name_of}
-use Rattle.generational_core.specs.Leaving.{AreFree, IsLeft}
+use Rattle.generational_core.specs.Leaving.{AreFree}
 use Rattle.generational_core.specs.Machine.{OwnerName, ownership}
 use Rattle.generational_core.specs.Machine.Action.{Make}
-use Rattle.generational_core.specs.Names.{Name, among, is_name}
-use Rattle.generational_core.specs.State.{State, IsSound, Ownership, content_at}
+use Rattle.generational_core.specs.Names.{Name}
+use Rattle.generational_core.specs.State.{State, Ownership, content_at}
 use Rattle.generational_core.specs.Steps.{Meets}
 use Rattle.generational_core.specs.declared.boxes.GenerationalBox.{GenerationalBox}
 use Rattle.generational_core.specs.declared.boxes.GenerationalPointer.{GenerationalPointer}
 use Rattle.generational_core.specs.declared.error.Location.{Location}
 use Rattle.generational_core.specs.declared.error.Refusal.{Refusal}
-use Rattle.generational_core.proofs.maps.Maps.{name_apart, name_here, name_same}
+use Rattle.generational_core.proofs.maps.Maps.{name_apart, name_same}
 use Rattle.generational_core.proofs.machine.Boxing.{ended_owned}
 use Rattle.generational_core.proofs.machine.Calling.{owned, lists, made_free, listed_last}
 use Rattle.generational_core.proofs.machine.Leaving.{leaves, release_leaves}

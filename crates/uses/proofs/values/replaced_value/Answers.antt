@@ -1,4 +1,4 @@
-use Rattle.std.proofs.Common.{◌≡◌, Ok, Err, Some, refl, sym, ap, ◌∙◌}
+use Rattle.std.proofs.Common.{Ok, Err, Some, refl, sym, ap, ◌∙◌}
 use Rattle.std.proofs.lemmas.Bool.{true≢false}
 use Rattle.std.proofs.lemmas.Option.{same_Some}
 use Rattle.generational_core.proofs.machine.Calling.{lends}
