@@ -13,4 +13,5 @@ pub mod slots;
 pub mod soundness;
 pub mod table;
 pub mod values;
+pub mod wrapping;
 pub mod writing;
