@@ -66,7 +66,8 @@ impl BorrowTable {
         }
     }
 
-    /// Makes room for this many lists. The only refusal is want of memory, which changes no list.
+    /// Makes room for this many lists. The only refusal is want of memory, which changes no list,
+    /// and gives back what was taken before it.
     pub fn grow(&mut self, room: usize) -> Result<(), StoreError>
         ensures lists { self.new.lists ≡ self.old.lists }
         ensures free { self.new.free ≡ self.old.free }
@@ -75,7 +76,11 @@ impl BorrowTable {
         ensures cause { IfErr result (λ error. error ≡ OutOfMemory) }
     {
         reserve_room(&mut self.lists, self.alloc, room)?;
-        self.free.reserve(self.alloc, room)
+        let reserved = self.free.reserve(self.alloc, room);
+        if reserved.is_err() {
+            self.lists.shrink_to(self.free.room());
+        }
+        reserved
     }
 
     /// Begins a list with one borrow, at an index that wasn't in use. Takes no memory.
