@@ -166,14 +166,14 @@ fn push_behind(queue: &mut VecDeque<Borrow>, borrow: Borrow) -> Result<(), Alloc
     ensures err { OnErr result (queue.new.items ≡ queue.old.items) }
 {
     if queue.reserve(1).is_err() {
-        let beside = queue.len() / 2;
+        let beside = queue.len().saturating_sub(1) / 2;
         reserve_beside(queue, beside)?;
     }
     queue.push_back_reserved(borrow);
     Ok(())
 }
 
-// Makes room for one borrow more, with room for so many beside it, or for half of those and so on.
+// Makes room for one borrow more, and for so many beside it, or for half of those and so on.
 #[cold]
 #[inline(never)]
 fn reserve_beside(queue: &mut VecDeque<Borrow>, beside: usize) -> Result<(), AllocError>

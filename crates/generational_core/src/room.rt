@@ -6,9 +6,9 @@ ghost use Rattle.std.specs.Prelude.{vec_len, vec_capacity};
 use std::alloc::AllocError;
 
 /// Makes room for so many elements more, as `reserve` does: mostly for as many again as there are,
-/// so that few calls pay for it. Where memory is refused it asks for room for half of them beside
-/// what the call needs, then for a quarter and so on, and at last for that alone. The only refusal
-/// is want of memory, which changes nothing.
+/// so that few calls pay for it. Where memory is refused it asks for half of the room beyond what
+/// the call needs, then for a quarter and so on, and at last for what it needs alone. The only
+/// refusal is want of memory, which changes nothing.
 #[inline(always)]
 pub fn reserve_more<X>(items: &mut Vec<X>, more: usize) -> Result<(), AllocError>
     ensures items { items.new.items ≡ items.old.items }
@@ -19,7 +19,7 @@ pub fn reserve_more<X>(items: &mut Vec<X>, more: usize) -> Result<(), AllocError
     if items.reserve(more).is_ok() {
         return Ok(());
     }
-    let beside = items.len() / 2;
+    let beside = items.len().saturating_sub(more) / 2;
     reserve_beside(items, more, beside)
 }
 
