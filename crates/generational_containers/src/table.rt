@@ -66,8 +66,23 @@ impl BorrowTable {
         }
     }
 
-    /// Makes room for this many lists. The only refusal is want of memory, which changes no list,
-    /// and gives back what was taken before it.
+    /// Makes the buffer of the lists large enough for this many, without counting them as room. The
+    /// only refusal is want of memory.
+    pub fn reserve(&mut self, room: usize) -> Result<(), StoreError>
+        ensures same { self.new ≡ self.old }
+        ensures cause { IfErr result (λ error. error ≡ OutOfMemory) }
+    {
+        reserve_room(&mut self.lists, self.alloc, room)
+    }
+
+    /// Gives back what the buffer of the lists has beyond the room.
+    pub fn give_back_room(&mut self)
+        ensures { self.new ≡ self.old }
+    {
+        self.lists.shrink_to(self.free.room());
+    }
+
+    /// Makes room for this many lists. The only refusal is want of memory, which changes no list.
     pub fn grow(&mut self, room: usize) -> Result<(), StoreError>
         ensures lists { self.new.lists ≡ self.old.lists }
         ensures free { self.new.free ≡ self.old.free }
@@ -76,11 +91,7 @@ impl BorrowTable {
         ensures cause { IfErr result (λ error. error ≡ OutOfMemory) }
     {
         reserve_room(&mut self.lists, self.alloc, room)?;
-        let reserved = self.free.reserve(self.alloc, room);
-        if reserved.is_err() {
-            self.lists.shrink_to(self.free.room());
-        }
-        reserved
+        self.free.reserve(self.alloc, room)
     }
 
     /// Begins a list with one borrow, at an index that wasn't in use. Takes no memory.

@@ -157,9 +157,11 @@ impl<T> SettledEntries<T> {
     {
         self.entries.shrink_to(self.room);
         self.details.shrink_to(self.room);
+        self.borrows.give_back_room();
     }
 
-    // Makes room for this many slots in all.
+    // Makes room for this many slots in all. The lists of borrows come first: their buffer, mostly
+    // the largest, mostly has nothing to be moved. So few refusals come after slots were moved.
     fn reserve(&mut self, room: usize) -> Result<(), StoreError>
     where
         T: Drop,
@@ -170,6 +172,7 @@ impl<T> SettledEntries<T> {
         ensures err { OnErr result (self.new.rooms ≡ self.old.rooms) }
         ensures cause { IfErr result (λ error. error ≡ OutOfMemory) }
     {
+        self.borrows.reserve(room)?;
         reserve_room(&mut self.entries, self.alloc, room)?;
         reserve_room(&mut self.details, self.alloc, room)?;
         self.borrows.grow(room)?;
