@@ -1,9 +1,10 @@
 /* Refuses one thing that the program asks of the system into which this is preloaded: the
    allocation, the read of standard input or the write to a stream that REFUSE_ALLOCATION,
-   REFUSE_READ or REFUSE_WRITE counts to, from 1. Zero, or nothing, refuses none. REFUSE_BEYOND is
-   how many bytes may be allocated at once: what would be more is refused. A read of standard input
-   gives one line at most. At the end the file REFUSE_REPORT is written: how many of each were asked
-   for, and whether one was refused. */
+   REFUSE_READ or REFUSE_WRITE counts to, from 1. Zero, or nothing, refuses none. Where REFUSE_LESS
+   is set, what is asked for next is refused too, as long as it is less each time and nothing is
+   read. REFUSE_BEYOND is how many bytes may be allocated at once: what would be more is refused.
+   Where it isn't set, a read of standard input gives one line at most. At the end the file
+   REFUSE_REPORT is written: how many of each were asked for, and whether one was refused. */
 #define _GNU_SOURCE
 #include <errno.h>
 #include <fcntl.h>
@@ -41,17 +42,25 @@ static int refuses(struct counter *counter, int cause) {
   return 1;
 }
 
-/* How many bytes are allocated now. A reallocation has the old block and the new one for a while. */
-static size_t live = 0, most = 0;
+/* How many bytes are allocated now, how many may be, and how many the last refusal was of, if
+   nothing was given since and what is less is refused too. */
+static size_t live = 0, most = 0, last = 0;
+static int goes_on = 0;
 
-static int has_no_room(size_t size) {
+/* Whether so many bytes are refused, where so many may be had beside those that are live. */
+static int has_no_room(size_t size, size_t beside) {
   static int asked = 0;
   if (!asked) {
     const char *beyond = getenv("REFUSE_BEYOND");
     most = beyond ? strtoull(beyond, NULL, 10) : 0;
+    goes_on = getenv("REFUSE_LESS") != NULL;
     asked = 1;
   }
-  if (!refuses(&allocations, ENOMEM) && (!most || live + size <= most)) return 0;
+  if (!refuses(&allocations, ENOMEM) && size >= last && (!most || live + beside <= most)) {
+    last = 0;
+    return 0;
+  }
+  last = goes_on ? size : 0;
   refused = 1;
   errno = ENOMEM;
   return 1;
@@ -67,22 +76,25 @@ void free(void *old) {
   __libc_free(old);
 }
 
-void *malloc(size_t size) { return has_no_room(size) ? NULL : counted(__libc_malloc(size)); }
+void *malloc(size_t size) { return has_no_room(size, size) ? NULL : counted(__libc_malloc(size)); }
 
 void *calloc(size_t count, size_t size) {
-  return has_no_room(count * size) ? NULL : counted(__libc_calloc(count, size));
+  size_t all = count * size;
+  return has_no_room(all, all) ? NULL : counted(__libc_calloc(count, size));
 }
 
+/* While a block grows, there are the old one and the new one. One that becomes smaller stays where
+   it is. */
 void *realloc(void *old, size_t size) {
-  if (has_no_room(size)) return NULL;
   size_t before = malloc_usable_size(old);
+  if (has_no_room(size, size <= before ? 0 : size)) return NULL;
   void *made = __libc_realloc(old, size);
   if (made) live -= before;
   return counted(made);
 }
 
 void *aligned_alloc(size_t align, size_t size) {
-  return has_no_room(size) ? NULL : counted(__libc_memalign(align, size));
+  return has_no_room(size, size) ? NULL : counted(__libc_memalign(align, size));
 }
 
 int posix_memalign(void **made, size_t align, size_t size) {
@@ -93,6 +105,8 @@ int posix_memalign(void **made, size_t align, size_t size) {
 ssize_t read(int file, void *bytes, size_t room) {
   if (file != 0) return syscall(SYS_read, file, bytes, room);
   if (refuses(&reads, EIO)) return -1;
+  last = 0;
+  if (most) return syscall(SYS_read, file, bytes, room);
   char *at = bytes;
   size_t got = 0;
   while (got < room) {

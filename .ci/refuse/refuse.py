@@ -7,25 +7,31 @@ PROGRAM is `boxes` and TESTS those of `scenarios`, as `rt ci` leaves them in the
 
 A row is a script with its replies, in rows/: lines of a mark, a command, a bar and the reply. The
 mark is `!` where the reply has memory of its own to ask for, so that one run or another is refused
-there, and a space where none is. For each N the row is run with the N-th allocation refused:
+there, and a space where none is. For each N the row is run with the N-th allocation refused, and
+again with what is asked for next refused too, as long as it is less each time:
 
 - A command that is refused says so, and only a marked one may. Asked again in the next line it
   gives the row's reply, and so does every other line: the refusal left nothing behind.
 - Where a line finds no memory before it is a command, the run ends with status 3 and its text,
   after the replies to all lines before.
-- Each marked command was refused in some run.
+- Each marked command was refused in some run. How often each row is, docs/memory.md says.
+- Where what is less is given, only readers beside others are refused, and refusals with a list: who
+  is refused a step of room takes a smaller one.
 
 Then each read and each write fails in turn: status 1, its text, and the replies to all lines before
 a read that failed; what was written is a beginning of the replies.
 
-Drawn lists are run as `fuzz SEED 200`, for the seeds 1 to 4, with each allocation refused: they say
-`refused at N`, or nothing where it wasn't a call that lacked memory, and then `same`.
+Drawn lists are run so as `fuzz SEED 200`, for the seeds 1 to 4: they say `refused at N`, or nothing
+where it wasn't a call that lacked memory, and `same` where none did.
 
-The tests in the modules `memory`, `scarcity` and `shortage` are run with each allocation refused.
-They ask again what lacked memory, and pass.
+The tests in the modules `memory`, `scarcity` and `shortage` are run so. They ask again what lacked
+memory, and pass.
 
-At the end a few wrong rows are made of one of these, and a program that is refused nothing: all are
-found out.
+A script of 100,000 leaks is run with less memory than it takes, from 3 to 40 megabytes. It ends
+with status 0 or 3, and makes nearly as many values as fit.
+
+At the end a few wrong rows are made of one of these, and a program that is refused nothing, and
+more values are wanted than fit: all are found out.
 """
 
 import os
@@ -33,8 +39,10 @@ import subprocess
 import sys
 import tempfile
 from dataclasses import dataclass
+from itertools import count
 
 HERE = os.path.dirname(os.path.abspath(__file__))
+PAGE = os.path.join(HERE, "..", "..", "docs", "memory.md")
 REFUSED = "refused: out of memory"
 ERRORS = {
     "dropped: ": "error: Failed to borrow because the value was dropped.created_at: ",
@@ -47,6 +55,14 @@ ONE = ("leak_reference insert insert_rc clone leak_owner try_read try_write show
 NAMES = dict.fromkeys(ONE.split(), 1) | dict.fromkeys(["insert_reference", "point_to", "ptr_eq"], 2)
 SEEDS = range(1, 5)
 COUNT = 200
+LEAKS = 100_000
+MEGABYTES = range(3, 41)
+# What the program has besides, and what a leak takes there, in bytes: its slot 40, the slot's details 32, a list of
+# borrows 40 with its index 4, a link 4, the place of its call 64, that of its line 24 and its text 24.
+BESIDES = 30_000
+LEAK = 232
+# While a buffer grows there are the old one and the new one. So the largest, that of the places, counts twice.
+MOVED = 64
 MODULES = ("memory::", "scarcity::", "shortage::")
 WRONG = "every_command.row"
 
@@ -123,20 +139,19 @@ def moved(line, at):
     return Line(line.may_lack, " ".join(words), "script:".join(parts))
 
 
-def ask_again(program, row, at, n):
+def ask_again(program, row, at, refusal):
     """After a command was refused the store counts what it did; asked again, the command gives the
     row's reply, and so do all others."""
     before = program.run(script=script_of(row[:at - 1]) + "stats\n").output[-1]
     refused, counted = Line(True, row[at - 1].command, REFUSED), Line(False, "stats", before)
     lines = row[:at - 1] + [refused, counted] + [moved(it, at) for it in row[at - 1:]]
-    run = program.run(script=script_of(lines), allocation=n)
+    run = program.run(script=script_of(lines), **refusal)
     wanted((run.status, run.output) == (0, [it.reply for it in lines]), f"asked again after line {at}: {run}")
 
 
-def refuse_in_row(program, row, n):
-    """Which line the n-th allocation's refusal refused: 0 where it refused none, and None where there is no such
-    allocation."""
-    run = program.run(script=script_of(row), allocation=n)
+def refuse_in_row(program, row, **refusal):
+    """Which line the refusal refused: 0 where it refused none, and None where there is no such allocation."""
+    run, n = program.run(script=script_of(row), **refusal), refusal["allocation"]
     replies = [it.reply for it in row]
     if not run.refused:
         wanted((run.status, run.output, run.faults) == (0, replies, ""), f"undisturbed: {run}")
@@ -153,38 +168,46 @@ def refuse_in_row(program, row, n):
     at = lost[0]
     wanted(run.output[:at - 1] == replies[:at - 1], f"before line {at}: {run}")
     wanted(row[at - 1].may_lack, f"line {at} asks for no memory, and was refused: {row[at - 1].command}")
-    ask_again(program, row, at, n)
+    ask_again(program, row, at, refusal)
     return at
 
 
+def refused_lines(program, row, **how):
+    """The lines that were refused, one for each run where one was."""
+    found = []
+    for n in count(1):
+        at = refuse_in_row(program, row, allocation=n, **how)
+        if at is None:
+            return found
+        found += [at] * (at > 0)
+
+
 def refuse_memory(program, row):
-    """How many runs met a refusal."""
-    refused, met, n = set(), 0, 1
-    while (at := refuse_in_row(program, row, n)) is not None:
-        refused |= {at} - {0}
-        met, n = met + (at > 0), n + 1
+    """How many runs met a refusal: of one allocation, and of what is less too."""
+    once, refused = refused_lines(program, row), refused_lines(program, row, less=1)
     never = [i + 1 for i, it in enumerate(row) if it.may_lack and i + 1 not in refused]
     wanted(not never, f"marked, and never refused: lines {never}")
-    return met
+    stiff = [at for at in once if not row[at - 1].reply.startswith(("reader", ERRORS["read: "]))]
+    wanted(not stiff, f"refused, though there was memory for less: lines {stiff}")
+    return len(once), len(refused)
 
 
-def fail_each(program, row, what, count):
+def fail_each(program, row, what, times):
     """How many reads, or writes, failed in turn. Before the n-th one the replies to n - 1 lines were written."""
     replies, text = [it.reply for it in row], {"read": "input", "write": "output"}[what]
-    for n in range(1, count + 1):
+    for n in range(1, times + 1):
         run = program.run(script=script_of(row), **{what: n})
         wanted(run.refused and run.status == 1, f"{what} {n}: {run}")
         wanted(run.faults == f"boxes: {text} failed\n", f"{what} {n}: {run.faults}")
         wanted(run.output == replies[:n - 1], f"the replies before {what} {n}: {run.output}")
-    return count
+    return times
 
 
-def refuse_in_drawn_list(program, seed):
+def refuse_in_drawn_list(program, seed, **how):
     """How many runs of the list met a refusal of a call."""
-    words, met, n = ("fuzz", str(seed), str(COUNT)), 0, 0
-    while True:
-        n += 1
-        run = program.run(words, allocation=n)
+    words, met = ("fuzz", str(seed), str(COUNT)), 0
+    for n in count(1):
+        run = program.run(words, allocation=n, **how)
         if not run.refused:
             wanted((run.status, run.output) == (0, ["same"]), f"fuzz {seed}: {run}")
             return met
@@ -199,15 +222,13 @@ def refuse_in_drawn_list(program, seed):
             met += 1
 
 
-def refuse_in_test(tests, name):
+def refuse_in_test(tests, name, **how):
     """How many allocations of a test were refused in turn."""
-    n = 1
-    while True:
-        run = tests.run([name], allocation=n)
+    for n in count(1):
+        run = tests.run([name], allocation=n, **how)
         wanted(run.status == 0, f"{name}, {n}: {run}")
         if not run.refused:
             return n - 1
-        n += 1
 
 
 def refuse_in_tests(tests):
@@ -215,9 +236,21 @@ def refuse_in_tests(tests):
     names = [name for name in listed if name.startswith(MODULES)]
     wanted(names, "no test of want of memory is listed")
     for name in names:
-        met = refuse_in_test(tests, name)
-        wanted(met > 0, f"{name}: nothing was refused")
-        print(f"{name}: {met} allocations refused")
+        met = refuse_in_test(tests, name), refuse_in_test(tests, name, less=1)
+        wanted(min(met) > 0, f"{name}: nothing was refused")
+        print(f"{name}: {met[0]} allocations refused, {met[1]} with what is less")
+
+
+def refuse_beyond(program, size):
+    """Runs the leaks with less memory than they take, where size is what one takes."""
+    script = "leak a\n" * LEAKS
+    for megabytes in MEGABYTES:
+        run = program.run(script=script, beyond=megabytes * 1_000_000)
+        made = sum(reply.startswith("box ") for reply in run.output)
+        wanted(run.status == 0 and len(run.output) == LEAKS or run.status == 3, f"{megabytes} megabytes: {run.status}")
+        wanted(made + run.output.count(REFUSED) == len(run.output), f"{megabytes} megabytes: other replies")
+        fit = min(LEAKS, (megabytes * 1_000_000 - BESIDES) // size)
+        wanted(made >= 0.8 * fit, f"{megabytes} megabytes: {made} values, where {fit} fit")
 
 
 def wrong_rows(row):
@@ -227,17 +260,16 @@ def wrong_rows(row):
             yield i + 1, row[:i] + [other] + row[i + 1:]
 
 
-def find_out_wrong_rows(program, row):
-    for at, wrong in wrong_rows(row):
-        try:
-            refuse_memory(program, wrong)
-        except Failure:
-            continue
-        raise Failure(f"a wrong row passed: line {at}")
+def find_out(what, act, *given):
+    try:
+        act(*given)
+    except Failure:
+        return
+    raise Failure(f"{what} passed")
 
 
 class Generous(Program):
-    """A program that is refused nothing."""
+    """The program, refused nothing."""
 
     def run(self, words=(), script="", **refusals):
         return super().run(words, script)
@@ -254,21 +286,30 @@ def rows():
     return [(name, row_at(os.path.join(folder, name))) for name in sorted(os.listdir(folder))]
 
 
+def counts_on_page():
+    """How often each row's calls are refused, as the page says: alone, and with what is less."""
+    with open(PAGE, encoding="utf-8") as page:
+        cells = [[cell.strip(" `") for cell in line.split("|")[1:-1]] for line in page]
+    return {it[0]: (int(it[1]), int(it[2])) for it in cells if len(it) == 3 and it[0].endswith(".row")}
+
+
 def refuse_in_rows(program):
+    told = counts_on_page()
+    wanted(sorted(told) == [name for name, _ in rows()], "the page has other rows")
     for name, row in rows():
         met = refuse_memory(program, row)
-        wanted(met > 0, f"{name}: nothing was refused")
+        wanted(met == told[name], f"{name}: {met} allocations of calls were refused, and not {told[name]}")
         # A read for each line and one at the end, and a write for each line.
         reads = fail_each(program, row, "read", len(row) + 1)
         writes = fail_each(program, row, "write", len(row))
-        print(f"{name}: {met} allocations of calls, {reads} reads, {writes} writes refused")
+        print(f"{name}: {met[0]} allocations of calls, {met[1]} with what is less, {reads} reads, {writes} writes refused")
 
 
 def refuse_in_drawn_lists(program):
     for seed in SEEDS:
-        met = refuse_in_drawn_list(program, seed)
-        wanted(met > 0, f"fuzz {seed}: nothing was refused")
-        print(f"fuzz {seed} {COUNT}: {met} allocations of calls refused")
+        met = refuse_in_drawn_list(program, seed), refuse_in_drawn_list(program, seed, less=1)
+        wanted(met[1] > 0, f"fuzz {seed}: nothing was refused")
+        print(f"fuzz {seed} {COUNT}: {met[0]} allocations of calls, {met[1]} with what is less refused")
 
 
 def drive(path, tests):
@@ -278,13 +319,13 @@ def drive(path, tests):
         refuse_in_rows(program)
         refuse_in_drawn_lists(program)
         refuse_in_tests(Program(os.path.abspath(tests), library, room))
+        refuse_beyond(program, LEAK + MOVED)
+        print(f"{LEAKS} leaks: nearly as many values as fit into {MEGABYTES[0]} to {MEGABYTES[-1]} megabytes")
         row = dict(rows())[WRONG]
-        find_out_wrong_rows(program, row)
-        try:
-            refuse_memory(Generous(program.path, library, room), row)
-        except Failure:
-            return
-        raise Failure("a program that is refused nothing passed")
+        for at, wrong in wrong_rows(row):
+            find_out(f"a row that is wrong at line {at}", refuse_memory, program, wrong)
+        find_out("a program that is refused nothing", refuse_memory, Generous(program.path, library, room), row)
+        find_out("a size at which more fit", refuse_beyond, program, LEAK // 2)
 
 
 def main():

@@ -4,6 +4,7 @@ ghost use Rattle.generational_core.specs.Conditions.{IsFresh};
 
 use crate::fault::Fault;
 use generational_box::{BoxAt, Call, Location, Reply, Session, Storage, StoreError};
+use generational_core::room::reserve_more;
 use line_number::line_number;
 use std::alloc::{AllocError, Global};
 use std::io;
@@ -72,7 +73,8 @@ impl Places {
     fn add_line(&mut self) -> Result<(), AllocError>
         ensures room { OnOk result (self.new.given < vec_len self.new.by_line) }
     {
-        self.by_line.push(None)?;
+        reserve_more(&mut self.by_line, 1)?;
+        self.by_line.push_reserved(None);
         Ok(())
     }
 

@@ -2,6 +2,7 @@
 
 ghost use Rattle.std.specs.Prelude.{◌≡◌, ◌<◌, ◌∷◌, ◌++◌, [], IfOk, OnOk, OnErr, map, not, nat_eq};
 ghost use Rattle.std.specs.Prelude.{slice_get, Some};
+ghost use Rattle.std.specs.VecDeque.{deque_len, deque_capacity};
 ghost use Rattle.std.specs.List.{list_any, filter};
 ghost use Rattle.generational_containers.specs.Borrows.{AreBelow, Ascend, IsRemoval};
 
@@ -86,7 +87,7 @@ impl Borrows {
                 let queue = queue_of(alloc, *first, borrow)?;
                 self.standing = OneOrSeveral::Several(queue);
             }
-            OneOrSeveral::Several(queue) => queue.push_back(borrow)?,
+            OneOrSeveral::Several(queue) => push_behind(queue, borrow)?,
         }
         Ok(())
     }
@@ -157,6 +158,35 @@ fn queue_of(
     queue.push_back_reserved(second);
     let queue = Box::new(alloc, queue)?;
     Ok(queue)
+}
+
+// Puts a borrow behind these.
+fn push_behind(queue: &mut VecDeque<Borrow>, borrow: Borrow) -> Result<(), AllocError>
+    ensures ok { OnOk result (queue.new.items ≡ queue.old.items ++ borrow ∷ []) }
+    ensures err { OnErr result (queue.new.items ≡ queue.old.items) }
+{
+    if queue.reserve(1).is_err() {
+        let beside = queue.len().saturating_sub(1) / 2;
+        reserve_beside(queue, beside)?;
+    }
+    queue.push_back_reserved(borrow);
+    Ok(())
+}
+
+// Makes room for one borrow more, and for so many beside it, or for half of those and so on.
+#[cold]
+#[inline(never)]
+fn reserve_beside(queue: &mut VecDeque<Borrow>, beside: usize) -> Result<(), AllocError>
+    ensures items { queue.new.items ≡ queue.old.items }
+    ensures ok { OnOk result (deque_len queue.new < deque_capacity queue.new) }
+{
+    if queue.reserve_exact(beside.saturating_add(1)).is_ok() {
+        return Ok(());
+    }
+    if beside == 0 {
+        return Err(AllocError);
+    }
+    reserve_beside(queue, beside / 2)
 }
 
 // Where these began, in order.

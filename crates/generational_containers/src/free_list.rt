@@ -1,13 +1,14 @@
 //! Slots in a list whose links stand in a vector.
 
 ghost use Rattle.std.specs.Prelude.{◌≡◌, ◌+◌, ◌<◌, ◌∷◌, ◌++◌, [], false, true, IfSome, IfErr};
-ghost use Rattle.std.specs.Prelude.{OnOk, OnErr, drop, length, max, slice_get};
+ghost use Rattle.std.specs.Prelude.{OnOk, OnErr, drop, length, max, slice_get, ◌-◌, ◌≤◌};
+ghost use Rattle.std.specs.Prelude.{if◌then◌else◌, is_ok, replicate, take, vec_len};
 ghost use Rattle.std.specs.FinSet as set;
 ghost use Rattle.generational_core.specs.declared.error.StoreError.TheVariants.{OutOfMemory};
 ghost use Rattle.generational_containers.specs.Pools.{last_of, members_of};
 
 use generational_core::StoreError;
-use std::alloc::Global;
+use std::alloc::{AllocError, Global};
 use std::marker::Model;
 
 /// Slots without repetition, in an order that whoever puts them in chooses. There is room for as
@@ -65,8 +66,7 @@ impl FreeList {
         if room > u32::MAX as usize {
             return Err(StoreError::OutOfMemory);
         }
-        // the new links lead past the last slot
-        match self.links.resize(room, room as u32) {
+        match extend(&mut self.links, room) {
             Ok(()) => Ok(()),
             Err(_) => Err(StoreError::OutOfMemory),
         }
@@ -143,4 +143,18 @@ impl FreeList {
     {
         self.count
     }
+}
+
+// Makes so many links of these: the new ones lead past the last slot. No more room is asked for
+// than they take.
+fn extend(links: &mut Vec<u32>, room: usize) -> Result<(), AllocError>
+    requires more { vec_len links.old ≤ room }
+    requires few { room ≤ 4294967295 }
+    ensures items { links.new.items ≡ (if is_ok result
+        then take room links.old.items ++ replicate (room - vec_len links.old) room
+        else links.old.items) }
+    ensures len { vec_len links.new ≡ (if is_ok result then room else vec_len links.old) }
+{
+    links.reserve_exact(room - links.len())?;
+    links.resize(room, room as u32)
 }

@@ -61,6 +61,13 @@ impl FreeIndexes {
         Ok(())
     }
 
+    /// For how many there is room.
+    pub fn room(&self) -> usize
+        ensures { result ≡ self.now.rooms }
+    {
+        self.room
+    }
+
     /// Takes an index out: None exactly where there is none. Takes no memory.
     #[inline(always)]
     pub fn take(&mut self) -> Option<u32>

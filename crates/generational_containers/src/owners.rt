@@ -23,6 +23,7 @@ ghost use Rattle.generational_containers.specs.OwnerPlaces.{record_at, HasRecord
 use crate::names::CellName;
 use crate::pool::{LastFirst, SlotPool, make_room};
 use generational_core::parts::{key_of, number_of, place_of};
+use generational_core::room::reserve_more;
 use generational_core::{Owner, OwnerId, StoreError};
 use std::alloc::{AllocError, Global};
 use std::marker::Model;
@@ -104,7 +105,7 @@ impl OwnerRecord {
         ensures same { self.new ≡ with_rooms self.new.rooms self.old }
         ensures ok { OnOk result (length self.new.ownership.names < self.new.rooms) }
     {
-        self.boxes.reserve(1)
+        reserve_more(&mut self.boxes, 1)
     }
 
     // Puts a box at the end of the list, where there is room.

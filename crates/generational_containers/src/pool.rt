@@ -1,6 +1,6 @@
 //! Free slots.
 
-ghost use Rattle.std.specs.Prelude.{◌≡◌, ℕ, ◌+◌, ◌<◌, ◌≤◌, ◌∷◌, ◌++◌, [], true, false, drop, max};
+ghost use Rattle.std.specs.Prelude.{◌≡◌, ℕ, ◌+◌, ◌<◌, ◌≤◌, ◌∷◌, ◌++◌, [], true, false, drop, max, min};
 ghost use Rattle.std.specs.Prelude.{slice_get, IfSome, IfNone, IfErr, OnOk, OnErr, vec_len};
 ghost use Rattle.std.specs.Prelude.{vec_capacity};
 ghost use Rattle.std.specs.Ordering.{nat_cmp};
@@ -9,6 +9,7 @@ ghost use Rattle.generational_core.specs.declared.error.StoreError.TheVariants.{
 
 use crate::free_list::FreeList;
 use generational_core::StoreError;
+use generational_core::room::{halfway, reserve_more};
 use std::alloc::Global;
 use std::marker::Model;
 
@@ -234,8 +235,28 @@ fn grow<T, P: SlotPool>(slots: &mut Vec<T>, pool: &mut P) -> Result<(), StoreErr
     ensures ok { OnOk result (vec_len slots.new < vec_capacity slots.new) }
     ensures grown { OnOk result (vec_len slots.new < P.rooms pool.new) }
 {
-    if slots.reserve(1).is_err() {
+    if reserve_more(slots, 1).is_err() {
         return Err(StoreError::OutOfMemory);
     }
-    pool.grow(slots.capacity())
+    grow_within(pool, slots.capacity())
+}
+
+/// Makes room for this many slots in all. Where memory is refused it makes room for half of those
+/// that are more than before, then for a quarter and so on, and for one more at least. The only
+/// refusal is `OutOfMemory`, and it changes nothing.
+pub fn grow_within<P: SlotPool>(pool: &mut P, room: usize) -> Result<(), StoreError>
+    ensures same { P.members pool.new ≡ P.members pool.old }
+    ensures ok { OnOk result (min room (P.rooms pool.old + 1) ≤ P.rooms pool.new) }
+    ensures rooms { P.rooms pool.old ≤ P.rooms pool.new }
+    ensures most { P.rooms pool.new ≤ max (P.rooms pool.old) room }
+    ensures err { OnErr result (P.rooms pool.new ≡ P.rooms pool.old) }
+    ensures cause { IfErr result (λ error. error ≡ OutOfMemory) }
+{
+    match pool.grow(room) {
+        Ok(()) => Ok(()),
+        Err(cause) => match halfway(pool.room(), room) {
+            Some(less) => grow_within(pool, less),
+            None => Err(cause),
+        },
+    }
 }

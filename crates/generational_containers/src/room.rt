@@ -53,7 +53,7 @@ pub fn reserve_room<X: Drop>(
         }
         return Ok(());
     }
-    if items.reserve(room - items.len()).is_err() {
+    if items.reserve_exact(room - items.len()).is_err() {
         return Err(StoreError::OutOfMemory);
     }
     Ok(())

@@ -66,6 +66,22 @@ impl BorrowTable {
         }
     }
 
+    /// Makes the buffer of the lists large enough for this many, without counting them as room. The
+    /// only refusal is want of memory.
+    pub fn reserve(&mut self, room: usize) -> Result<(), StoreError>
+        ensures same { self.new ≡ self.old }
+        ensures cause { IfErr result (λ error. error ≡ OutOfMemory) }
+    {
+        reserve_room(&mut self.lists, self.alloc, room)
+    }
+
+    /// Gives back what the buffer of the lists has beyond the room.
+    pub fn give_back_room(&mut self)
+        ensures { self.new ≡ self.old }
+    {
+        self.lists.shrink_to(self.free.room());
+    }
+
     /// Makes room for this many lists. The only refusal is want of memory, which changes no list.
     pub fn grow(&mut self, room: usize) -> Result<(), StoreError>
         ensures lists { self.new.lists ≡ self.old.lists }

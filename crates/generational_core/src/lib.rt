@@ -14,6 +14,7 @@ mod error;
 mod owner;
 pub mod parts;
 mod references;
+pub mod room;
 mod steps;
 mod storage;
 

@@ -34,6 +34,7 @@ use crate::entry::{EntryDetails, Kind, StorageEntry, StorageEntryData};
 use generational_containers::room::{more_room, reserve_room};
 use generational_containers::table::{BorrowTable, NO_INDEX};
 use generational_core::parts::Borrow;
+use generational_core::room::halfway;
 use generational_core::{
     AlreadyBorrowedError, AlreadyBorrowedMutError, BorrowMutError, BorrowMutResult, Location,
     Refused, StoreError,
@@ -106,8 +107,9 @@ impl<T> SettledEntries<T> {
         }
     }
 
-    /// Makes room for one slot more at least, and for so many that few makings pay for it. The only
-    /// refusal is want of memory, also where no index of 32 bits is left for a slot's borrows.
+    /// Makes room for one slot more at least, and for so many that few makings pay for it, as far as
+    /// memory reaches. The only refusal is want of memory, also where no index of 32 bits is left for
+    /// a slot's borrows; it leaves the room that was.
     #[cold]
     #[inline(never)]
     pub fn grow(&mut self) -> Result<(), StoreError>
@@ -120,6 +122,57 @@ impl<T> SettledEntries<T> {
         ensures cause { IfErr result (λ error. error ≡ OutOfMemory) }
     {
         let room = larger_room(self.room)?;
+        self.grow_within(room)
+    }
+
+    // Makes room for this many slots in all. Where memory is refused it makes room for half of those
+    // that are more than before, then for a quarter and so on, and for one more at least.
+    fn grow_within(&mut self, room: usize) -> Result<(), StoreError>
+    where
+        T: Drop,
+        requires more { self.old.rooms < room }
+        requires few { room < no_index }
+        ensures slots { self.new.slots ≡ self.old.slots }
+        ensures rooms { self.old.rooms ≤ self.new.rooms }
+        ensures ok { OnOk result (self.old.rooms < self.new.rooms) }
+        ensures few { OnOk result (self.new.rooms < no_index) }
+        ensures err { OnErr result (self.new.rooms ≡ self.old.rooms) }
+        ensures cause { IfErr result (λ error. error ≡ OutOfMemory) }
+    {
+        match self.reserve(room) {
+            Ok(()) => Ok(()),
+            Err(cause) => {
+                self.give_back_room();
+                match halfway(self.room, room) {
+                    Some(less) => self.grow_within(less),
+                    None => Err(cause),
+                }
+            }
+        }
+    }
+
+    // Gives back what the buffers have beyond the room for slots.
+    fn give_back_room(&mut self)
+        ensures { self.new ≡ self.old }
+    {
+        self.entries.shrink_to(self.room);
+        self.details.shrink_to(self.room);
+        self.borrows.give_back_room();
+    }
+
+    // Makes room for this many slots in all. The lists of borrows come first: their buffer, mostly
+    // the largest, mostly has nothing to be moved. So few refusals come after slots were moved.
+    fn reserve(&mut self, room: usize) -> Result<(), StoreError>
+    where
+        T: Drop,
+        requires more { self.old.rooms ≤ room }
+        requires few { room < no_index }
+        ensures slots { self.new.slots ≡ self.old.slots }
+        ensures ok { OnOk result (self.new.rooms ≡ room) }
+        ensures err { OnErr result (self.new.rooms ≡ self.old.rooms) }
+        ensures cause { IfErr result (λ error. error ≡ OutOfMemory) }
+    {
+        self.borrows.reserve(room)?;
         reserve_room(&mut self.entries, self.alloc, room)?;
         reserve_room(&mut self.details, self.alloc, room)?;
         self.borrows.grow(room)?;

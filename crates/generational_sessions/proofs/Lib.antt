@@ -1,3 +1,4 @@
+pub mod callers
 pub mod carrying
 pub mod sessions
 unfoldable pub use sessions.*

@@ -1,8 +1,12 @@
+pub mod BoxRows
 pub mod Carrying
 pub mod Disturbance
 pub mod History
+pub mod Lacking
 pub mod Numbered
 pub mod Places
+pub mod PlainStores
 pub mod Replies
 pub mod Session
 pub mod SoundSession
+pub mod Wrapping

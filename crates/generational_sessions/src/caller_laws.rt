@@ -2,7 +2,7 @@
 //! Each is the contract of a function that does nothing.
 
 ghost use Rattle.std.specs.Prelude.{◌≡◌, ◌≢◌, ◌≤◌, ℕ, true, false, Bool, List, Some, None, is_some};
-ghost use Rattle.std.specs.Prelude.{Result, IfOk, IsOk, OnOk, OnErr};
+ghost use Rattle.std.specs.Prelude.{Option, Result, IfOk, IsOk, OnOk, OnErr};
 ghost use Rattle.std.specs.FinSet as set;
 ghost use Rattle.generational_core.specs.declared.boxes.GenerationalBox.{GenerationalBox};
 ghost use Rattle.generational_core.specs.declared.boxes.GenerationalPointer.{GenerationalPointer};
@@ -12,6 +12,8 @@ ghost use Rattle.generational_core.specs.declared.error.Location.{Location};
 ghost use Rattle.generational_core.specs.declared.error.Refusal.{Refusal};
 ghost use Rattle.generational_core.specs.declared.error.Refused.{Refused};
 ghost use Rattle.generational_core.specs.declared.error.StoreError.{StoreError};
+ghost use Rattle.generational_core.specs.declared.error.StoreError.TheVariants.{OutOfMemory};
+ghost use Rattle.generational_core.specs.declared.error.StoreError.TheVariants.{NumbersExhausted};
 ghost use Rattle.generational_core.specs.Names.{Name, among};
 ghost use Rattle.generational_core.specs.Boxes.{name_of};
 ghost use Rattle.generational_core.specs.Cells.{is_shared};
@@ -21,12 +23,12 @@ ghost use Rattle.generational_core.specs.State.{IsBoxed};
 ghost use Rattle.generational_core.specs.Borrowing.{Guard, reach, refusal_to_read, refusal_to_write};
 ghost use Rattle.generational_core.specs.Borrowing.{can_read, can_write};
 ghost use Rattle.generational_core.specs.Machine.{Action, Answer, OwnerName, ownership};
-ghost use Rattle.generational_core.specs.Machine.{knows_reader, knows_writer};
-ghost use Rattle.generational_core.specs.Machine.Action.{MakeShared, Refer, NewOwner, ReleaseOwner};
+ghost use Rattle.generational_core.specs.Machine.{is_known, knows_reader, knows_writer};
+ghost use Rattle.generational_core.specs.Machine.Action.{Make, MakeShared, Refer, NewOwner, ReleaseOwner};
 ghost use Rattle.generational_core.specs.Machine.Action.{Read, Write, ReleaseReader};
 ghost use Rattle.generational_core.specs.Machine.Action.{ReleaseWriter, End, Point};
 ghost use Rattle.generational_core.specs.Machine.Answer.{Made, Reads, Writes, Flag};
-ghost use Rattle.generational_core.specs.Steps.{Meets};
+ghost use Rattle.generational_core.specs.Steps.{Meets, last_ticket};
 ghost use Rattle.generational_core.specs.Conditions.{fresh, IsEnded};
 ghost use Rattle.generational_core.specs.State.{one_listed};
 ghost use Rattle.generational_core.specs.Answers.{WriteGuard, value_behind, pointer_of};
@@ -39,6 +41,8 @@ ghost use Rattle.generational_core.specs.Leaving.{refuses, GivesOther, GivesOthe
 ghost use Rattle.generational_core.specs.Leaving.{LeavesContent, IsLeft, IsSet, LeavesOwner};
 ghost use Rattle.generational_core.specs.Leaving.{LeavesGuard, BeginsNoBorrow, IsUnborrowed};
 ghost use Rattle.generational_core.specs.Leaving.{AreFree};
+ghost use Rattle.generational_sessions.specs.Lacking.{Lacks};
+ghost use Rattle.generational_sessions.specs.PlainStores.{IsPlain, MakesNoReference};
 ghost use Rattle.generational_sessions.specs.Session.{SessionState, at_place};
 ghost use Rattle.generational_sessions.specs.Session.Held.{Boxed};
 ghost use Rattle.generational_sessions.specs.SoundSession.{IsSoundSession};
@@ -241,4 +245,34 @@ pub fn pointed_boxes_see_what_others_saw<T>()
         (r : Result (Unit {0}) (Refused BorrowMutError)) →
         IsSound S → Meets S (Point a b) (end_answer r) R →
         OnOk r (value_in R a ≡ value_in S b) }
+{}
+
+/// In a store without references a box reaches its own cell, if anything, and so boxes that reach the
+/// same have one name. A fresh store is such a one, and each call leaves it so that asks for no shared
+/// value and no reference. So a value that is set there is seen by boxes of its own name alone.
+pub fn boxes_reach_their_own_cells<T>()
+    ensures own { (S : State T) → IsPlain S → (b : GenerationalPointer) (m : Name) →
+        reach S b ≡ Some m → m ≡ name_of b }
+    ensures apart { (S : State T) → IsPlain S → (a b : GenerationalPointer) (m : Name) →
+        reach S a ≡ Some m → reach S b ≡ reach S a → name_of a ≡ name_of b }
+    ensures fresh { (number start next : ℕ) → IsPlain (fresh {T = T} number start next) }
+    ensures stays { (S R : State T) (call : Action T) (answer : Answer T) →
+        Meets S call answer R → MakesNoReference call → IsPlain S → IsPlain R }
+{}
+
+/// What a store lacks that refuses a call by itself: memory, or a ticket where all were given. A
+/// making lacks memory alone, where its owner is known, and a read where no borrow stands a ticket
+/// alone.
+pub fn refusals_tell_what_lacks<T>()
+    ensures owner { (S R : State T) (e : StoreError) →
+        Meets S NewOwner (Answer.Refused e) R → Lacks S e }
+    ensures read { (S R : State T) (b : GenerationalPointer) (l : Location) (e : StoreError) →
+        Meets S (Read b l) (Answer.Refused e) R → Lacks S e }
+    ensures write { (S R : State T) (b : GenerationalPointer) (l : Location) (e : StoreError) →
+        Meets S (Write b l) (Answer.Refused e) R → Lacks S e }
+    ensures make { (S R : State T) (o : Option OwnerName) (v : T) (l : Location) (e : StoreError) →
+        is_known S o ≡ true → Meets S (Make o v l) (Answer.Refused e) R → e ≡ OutOfMemory }
+    ensures free_read { (S R : State T) (b : GenerationalPointer) (l : Location) (e : StoreError) →
+        can_write S b ≡ true → Meets S (Read b l) (Answer.Refused e) R →
+        (e ≡ NumbersExhausted) × (S.next ≡ last_ticket) }
 {}

@@ -6,6 +6,7 @@ ghost use Rattle.generational_core.specs.declared.boxes.GenerationalPointer.{Gen
 use crate::calls::{Call, Reply};
 use crate::places::{Thing, answer, let_go};
 use generational_core::Storage;
+use generational_core::room::reserve_more;
 use std::alloc::Global;
 use std::marker::Model;
 
@@ -114,7 +115,7 @@ impl<T: Drop, S: Storage<T>> Session<T, S> {
             IsUndisturbed b m self.old call self.new →
             value_at self.new.state m ≡ value_at self.old.state m }
     {
-        if self.things.reserve(1).is_err() {
+        if reserve_more(&mut self.things, 1).is_err() {
             return Err(call);
         }
         let (reply, thing) = answer(&mut self.store, &mut self.things, call);
@@ -163,7 +164,7 @@ impl<T: Drop, S: Storage<T>> Session<T, S> {
             value_at self.new.state m ≡ value_at self.old.state m) }
     {
         let count = calls.len();
-        if self.things.reserve(count).is_err() {
+        if reserve_more(&mut self.things, count).is_err() {
             return Err(calls);
         }
         let mut replies = match Vec::with_capacity(self.alloc, count) {

@@ -42,7 +42,7 @@ use crate::counts::{Counts, SlotCounts};
 use crate::hindrance::{doomed, find_hindered, find_hindrance};
 use crate::refusals::{dropped, dropped_mut};
 use generational_containers::names::CellName;
-use generational_containers::pool::SlotPool;
+use generational_containers::pool::{SlotPool, grow_within};
 use generational_core::parts::Borrow;
 use generational_core::{BorrowError, BorrowMutResult, Location, StoreError};
 use generational_entries::entries::Entries;
@@ -479,7 +479,7 @@ impl<T: Drop, P: SlotPool> Slots<T, P> {
         if self.pool.room() == self.entries.room() {
             self.entries.grow()?;
         }
-        self.pool.grow(self.entries.room())
+        grow_within(&mut self.pool, self.entries.room())
     }
 
     // Makes room for a cell more, where there is none.

@@ -11,6 +11,7 @@ ghost use Rattle.std.specs.Prelude.{IfSome, length, option_to_list};
 use crate::step::{Kind, Step, StepReply};
 use crate::tally::{Count, Tally};
 use generational_box::StepCall;
+use generational_core::room::reserve_more;
 use std::alloc::{AllocError, Global};
 use std::marker::Model;
 use std::sync::ledger::Book;
@@ -80,7 +81,7 @@ impl<M: Count, L: Count, C: Count, R: Count> Log<M, L, C, R> {
         ensures standing { self.new.standing ≡ self.old.standing }
         ensures ok { OnOk result (steps ≤ self.new.room) }
     {
-        self.history.reserve(self.standing + steps)
+        reserve_more(&mut self.history, self.standing + steps)
     }
 
     // Appends a step of the tally's worker, for which there is room.

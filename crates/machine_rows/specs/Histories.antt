@@ -19,7 +19,12 @@ use Rattle.generational_core.specs.Machine.Action.{Point, CanRead, CanWrite}
 use Rattle.generational_core.specs.Machine.Answer.{Made, Owned, Reads, Writes, Done, Old, Flag}
 use Rattle.generational_core.specs.Machine.Answer.{Back, BorrowRefused, Refused}
 use Rattle.machine_rows.specs.Rows.{Row, box, owner, guard, ◌#◌, ◌⇒◌, ◌takes◌⇒◌, ◌takes◌and◌⇒◌}
-use Rattle.machine_rows.specs.Rows.{◌opens◌, count_is}
+use Rattle.machine_rows.specs.Rows.{◌lacks◌, ◌opens◌, count_is}
+use Rattle.machine_rows.specs.SessionRows.{SessionRow, ◌answers◌, ◌gives◌answers◌}
+use Rattle.generational_sessions.specs.declared.calls.BoxAt.TheVariants.{Place}
+use Rattle.generational_sessions.specs.declared.calls.Call.TheVariants as call
+use Rattle.generational_sessions.specs.Session.SessionReply.{ABox, AnOwner, AReader, AWriter, IsDone}
+use Rattle.generational_sessions.specs.Session.SessionReply.{TheOld, Error, NoSuch}
 
 module _ {T : Type 0} (u v w : T) (L M R W : Location) where
   -- ---- owners, slots, strangers, and numbers that run out
@@ -305,6 +310,31 @@ module _ {T : Type 0} (u v w : T) (L M R W : Location) where
       ∷ ReleaseWriter (guard (0 # 2) 0) w ⇒ Done
       ∷ End (box (0 # 2) M) ⇒ Done ∷ []
 
+  -- Memory may lack for a slot where too few are free, for an owner's record and list, for a reader
+  -- beside another, and for a list of readers that is told; else it doesn't.
+  abbrev pub memory_may_lack_where_room_is_needed : Row T
+  memory_may_lack_where_room_is_needed =
+      Make None v L lacks true
+      ∷ NewOwner lacks true
+      ∷ Make None v L takes 0 # 1 ⇒ Made (box (0 # 1) L)
+      ∷ Read (box (0 # 1) L) R lacks false
+      ∷ Write (box (0 # 1) L) W lacks false
+      ∷ End (box (0 # 1) L) lacks false
+      ∷ Read (box (0 # 1) L) R ⇒ Reads (guard (0 # 1) 0)
+      ∷ Read (box (0 # 1) L) R lacks true
+      ∷ Write (box (0 # 1) L) W lacks true
+      ∷ End (box (0 # 1) L) lacks true
+      ∷ ReleaseReader (guard (0 # 1) 0) lacks false
+      ∷ ReleaseReader (guard (0 # 1) 0) ⇒ Flag true
+      ∷ End (box (0 # 1) L) ⇒ Done
+      ∷ Make None v L lacks false
+      ∷ MakeShared None v L lacks true
+      ∷ Read (box (0 # 1) L) R lacks false
+      ∷ NewOwner ⇒ Owned (owner 1)
+      ∷ Make (Some (owner 1)) v L lacks true
+      ∷ CloneOwner (owner 1) lacks false
+      ∷ ReleaseOwner (owner 1) lacks false ∷ []
+
   -- ---- references, where they point, and what a turn and a release ask first
 
   -- A box that has ended points to itself, wherever it was made; to another that has ended it is
@@ -426,6 +456,46 @@ module _ {T : Type 0} (u v w : T) (L M R W : Location) where
       ∷ ReleaseOwner (owner 0) ⇒ BorrowRefused (BeingRead (R ∷ []))
       ∷ ReleaseReader (guard (1 # 1) 2) ⇒ Flag true
       ∷ ReleaseOwner (owner 0) ⇒ BorrowRefused (BeingRead (W ∷ [])) ∷ []
+
+  -- ---- sessions
+
+  -- An owner's value is read, written and ended by places. A release that a reader hinders leaves
+  -- the owner at its place. A guard that was spent, and an owner, are no such then.
+  abbrev pub places_keep_what_calls_gave : SessionRow T
+  places_keep_what_calls_gave =
+      call.Owner answers AnOwner
+      ∷ call.Insert 0 v L gives 0 # 1 answers ABox (box (0 # 1) L)
+      ∷ call.TryRead (Place 1) R answers AReader
+      ∷ call.ReleaseOwner 0 answers Error (BeingRead (R ∷ []))
+      ∷ call.Release 2 answers IsDone
+      ∷ call.Release 2 answers NoSuch None
+      ∷ call.TryWrite (Place 1) W answers AWriter
+      ∷ call.Replace 6 w answers TheOld v
+      ∷ call.Release 6 answers IsDone
+      ∷ call.ReleaseOwner 0 answers IsDone
+      ∷ call.TryRead (Place 1) R answers Error (Dropped L)
+      ∷ call.Insert 0 u M answers NoSuch (Some u) ∷ []
+
+  -- Two values are made and ended, and a third is made: in the slot that was freed last, or first.
+  abbrev taken_again : Name → SessionRow T
+  taken_again n =
+      call.Leak u L gives 0 # 1 answers ABox (box (0 # 1) L)
+      ∷ call.Leak v M gives 1 # 1 answers ABox (box (1 # 1) M)
+      ∷ call.ManuallyDrop (Place 0) answers IsDone
+      ∷ call.ManuallyDrop (Place 1) answers IsDone
+      ∷ call.Leak w R gives n answers ABox (box n R) ∷ []
+
+  abbrev pub the_slot_freed_last_is_taken_again : SessionRow T
+  the_slot_freed_last_is_taken_again = taken_again (1 # 2)
+
+  abbrev pub the_slot_freed_first_is_taken_again : SessionRow T
+  the_slot_freed_first_is_taken_again = taken_again (0 # 2)
+
+  -- one name is given twice, which no store does
+  abbrev pub one_name_twice : Row T
+  one_name_twice =
+      Make None v L takes 0 # 1 ⇒ Made (box (0 # 1) L)
+      ∷ Make None w M takes 0 # 1 ⇒ Made (box (0 # 1) M) ∷ []
 
   -- one slot was made, and its cell has ended, or is live
   abbrev pub one_ended : State T

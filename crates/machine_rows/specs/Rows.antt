@@ -1,24 +1,23 @@
 -- Worked rows: calls of the machine one after another, with what each of them should tell.
-use Rattle.std.specs.Prelude.{◌≡◌, ℕ, List, [], ◌∷◌, Option, None, Some, if◌then◌else◌}
+use Rattle.std.specs.Prelude.{◌≡◌, ℕ, Bool, List, [], ◌∷◌, Option}
 use Rattle.std.specs.FinMap as map
 use Rattle.generational_core.specs.declared.error.Location.{Location}
 use Rattle.generational_core.specs.declared.boxes.GenerationalPointer.{GenerationalPointer}
 use Rattle.generational_core.specs.Names.{Name}
-use Rattle.generational_core.specs.Cells.{Content}
-use Rattle.generational_core.specs.Cells.Content.{Here}
-use Rattle.generational_core.specs.State.{State, content_at}
+use Rattle.generational_core.specs.Answers.{value_behind}
+use Rattle.generational_core.specs.State.{State, IsSound}
 use Rattle.generational_core.specs.Conditions.{fresh}
 use Rattle.generational_core.specs.Boxes.{box_of}
 use Rattle.generational_core.specs.Borrowing.{Guard}
 use Rattle.generational_core.specs.Machine.{Action, Answer, NewNames, Outcome, OwnerName, act}
-use Rattle.generational_core.specs.Machine.{knows_reader}
 use Rattle.generational_core.specs.Slots.{slots, free, retired}
-use Rattle.generational_core.specs.Steps.{limit_tickets, no_names}
+use Rattle.generational_core.specs.Steps.{Takes, limit_tickets, may_lack, no_names}
 
--- A line of a row: a call with the names that it takes, a look at what a reader's guard opens, or
--- the counts.
+-- A line of a row: a call with the names that it takes, whether memory may lack for a call, a look at
+-- what a reader's guard opens, or the counts.
 pub data Line (T : Type 0) : Type 0 where
   Call : (action : Action T) (names : NewNames) → Line T
+  Ask : (action : Action T) → Line T
   Open : (guard : Guard) → Line T
   Count : Line T
 
@@ -26,18 +25,11 @@ pub data Line (T : Type 0) : Type 0 where
 -- live cells, and the most that were live at once.
 pub data Told (T : Type 0) : Type 0 where
   Says : (answer : Answer T) → Told T
+  Lacks : (may : Bool) → Told T
   Opens : (value : Option T) → Told T
   Counts : (slots free retired live peak : ℕ) → Told T
 
 module _ {T : Type 0} where
-  abbrev value_of : Option (Content T) → Option T
-  value_of (Some (Here v readers)) = Some v
-  value_of _ = None
-
-  -- what a reader's guard opens, if the store knows it
-  abbrev pub value_behind : State T → Guard → Option T
-  value_behind S g = if knows_reader S g then value_of (content_at S g.cell) else None
-
   abbrev pub counted : State T → Told T
   counted S = Counts (slots S) (free S) (retired S) (map.len S.cells) S.peak
 
@@ -45,19 +37,23 @@ module _ {T : Type 0} where
 abbrev pub Row : Type 0 → Type 0
 Row T = List (Line T × Told T)
 
--- from a state, each line of a row tells what stands beside it
+-- From a state, each line of a row tells what stands beside it. Each name that a call gives is new
+-- and fits, and the state is sound after each call.
 unfoldable pub Tells : {T : Type 0} → State T → Row T → Type 0
 Tells S [] = Unit {0}
 Tells {T} S ((Call a f, told) ∷ row) =
-    let out : Outcome T = limit_tickets S (act S a f) in (Says out.0 ≡ told) × Tells out.1 row
+    let out : Outcome T = limit_tickets S (act S a f) in
+    (Says out.0 ≡ told) × Takes S a out.0 f × IsSound out.1 × Tells out.1 row
+Tells S ((Ask a, told) ∷ row) = (Lacks (may_lack S a) ≡ told) × Tells S row
 Tells S ((Open g, told) ∷ row) = (Opens (value_behind S g) ≡ told) × Tells S row
 Tells S ((Count, told) ∷ row) = (counted S ≡ told) × Tells S row
 
 -- a row does so, of any values and locations, from a store in which nothing was made, with the
--- number 7 and this next ticket
-abbrev pub TellsFrom : (T : Type 0) → ℕ → ((u v w : T) (L M R W : Location) → Row T) → Type 0
-TellsFrom T next row =
-    (u v w : T) (L M R W : Location) → Tells (fresh 7 1 next) (row u v w L M R W)
+-- number 7, this first generation and this next ticket
+abbrev pub TellsFrom : (T : Type 0)
+    → (start next : ℕ) → ((u v w : T) (L M R W : Location) → Row T) → Type 0
+TellsFrom T start next row =
+    (u v w : T) (L M R W : Location) → Tells (fresh 7 start next) (row u v w L M R W)
 
 -- ---- how rows are written
 
@@ -76,7 +72,8 @@ owner k = record { store = 7; key = k }
 abbrev pub guard : Name → ℕ → Guard
 guard n t = record { store = 7; cell = n; ticket = t }
 
--- a call with its answer, with one name that it takes, or with two; a look; the counts
+-- a call with its answer, with one name that it takes, or with two; whether memory may lack for a
+-- call; a look; the counts
 infix 70 ◌⇒◌
 abbrev pub ◌⇒◌ : {T : Type 0} → Action T → Answer T → Line T × Told T
 a ⇒ r = (Call a no_names, Says r)
@@ -88,6 +85,10 @@ a takes n ⇒ r = (Call a (record { first = n; second = n }), Says r)
 infix 70 ◌takes◌and◌⇒◌
 abbrev pub ◌takes◌and◌⇒◌ : {T : Type 0} → Action T → Name → Name → Answer T → Line T × Told T
 a takes m and n ⇒ r = (Call a (record { first = m; second = n }), Says r)
+
+infix 70 ◌lacks◌
+abbrev pub ◌lacks◌ : {T : Type 0} → Action T → Bool → Line T × Told T
+a lacks may = (Ask a, Lacks may)
 
 infix 70 ◌opens◌
 abbrev pub ◌opens◌ : {T : Type 0} → Guard → Option T → Line T × Told T

@@ -3,15 +3,15 @@
 use crate::expected::leak;
 use crate::fresh::{Scenario, play};
 use generational_box::{
-    BoxAt, Call, GenerationalBox, LastFirst, Location, OldestFirst, Reply, Session, Storage, Store,
-    UnsyncStorage,
+    BorrowMutError, BoxAt, Call, GenerationalBox, LastFirst, Location, OldestFirst, Reply, Session,
+    Storage, Store, UnsyncStorage, ValueDroppedError,
 };
 use std::alloc::Global;
 use std::process::Abort;
 use uses::conditions::{exchange, read_free, set_and_read, set_value};
 use uses::kinds::{Entry, toggle};
 use uses::owned::end_owned;
-use uses::sessions::{ask_for_ended, carries_out};
+use uses::sessions::{ask_for_ended, carries_out, read_later};
 use uses::shared::{outlived, written_through};
 use uses::table::Table;
 use uses::values::{read_value, replaced_value, there_and_back, write_value, written_value};
@@ -23,9 +23,9 @@ fn here() -> Location {
 /// A value is kept, written and replaced, each time read again.
 fn value_by_itself<S: Storage<u64>>(store: &mut S) -> Option<(u64, (u64, u64))> {
     let made = GenerationalBox::leak(store, 3, here()).ok()?;
-    write_value(store, made, 4, here())?;
-    let written = written_value(store, made, 8, here())?;
-    let replaced = replaced_value(store, made, 9, here())?;
+    write_value(store, made, 4, here()).ok()?;
+    let written = written_value(store, made, 8, here()).ok()?;
+    let replaced = replaced_value(store, made, 9, here()).ok()?;
     Some((written, replaced))
 }
 
@@ -34,15 +34,17 @@ fn value_under_conditions<S: Storage<u64>>(
     store: &mut S,
     made: GenerationalBox<u64>,
 ) -> Option<(u64, u64)> {
-    set_value(store, made, 4)?;
-    let set = set_and_read(store, made, 5, here())?;
-    let old = exchange(store, made, 6, here())?;
+    if !set_value(store, made, 4) {
+        return None;
+    }
+    let set = set_and_read(store, made, 5, here()).ok()??;
+    let old = exchange(store, made, 6, here()).ok()??;
     Some((set, old))
 }
 
 /// Whether a value is neither set nor exchanged.
 fn stays<S: Storage<u64>>(store: &mut S, made: GenerationalBox<u64>) -> bool {
-    set_value(store, made, 9).is_none() && exchange(store, made, 9, here()).is_none()
+    !set_value(store, made, 9) && matches!(exchange(store, made, 9, here()), Ok(None))
 }
 
 /// Whether a value stays while a reader stands there; and the value that is read after that.
@@ -53,14 +55,14 @@ fn value_under_reader<S: Storage<u64>>(
     let guard = made.try_read(store, here()).ok()?;
     let stayed = stays(store, made);
     guard.release(store);
-    let seen = read_free(store, made, here())?;
+    let seen = read_free(store, made, here()).ok()??;
     Some((stayed, seen))
 }
 
 /// Whether an owner's value can be read after the owner's release.
 fn owned_value<S: Storage<u64>>(store: &mut S) -> Option<Option<u64>> {
-    let ended = end_owned(store, 4, here())?;
-    Some(read_value(store, ended, here()))
+    let ended = end_owned(store, 4, here()).ok()?;
+    Some(read_value(store, ended, here()).ok())
 }
 
 /// A shared value, written through one reference, and outliving another.
@@ -90,7 +92,7 @@ fn rows_of_table<S: Storage<u64> + Drop>(alloc: Global, store: S) -> Option<[Opt
 /// Whether a flag that was off is on after it was turned.
 fn turned_flag<S: Storage<Entry>>(store: &mut S) -> Option<bool> {
     let flag = GenerationalBox::leak(store, Entry::Flag(false), here()).ok()?;
-    toggle(store, flag, here())?;
+    toggle(store, flag, here()).ok()?;
     let guard = flag.try_read(store, here()).ok()?;
     let on = match guard.deref(store).map(|view| *view) {
         Some(Entry::Flag(on)) => Some(on),
@@ -113,6 +115,16 @@ fn count_errors(replies: &Vec<Reply<u64>>) -> usize {
         .count()
 }
 
+/// The error that a read of the box at place 0 is told after another box was made.
+fn error_told_later<S: Storage<u64>>(session: &mut Session<u64, S>) -> Option<BorrowMutError> {
+    let later = Location::new("callers.rt", 14, 5);
+    let (_made, read) = read_later(session, Call::Leak(7, later), 0, later).ok()?;
+    match read {
+        Some(Reply::Error(error)) => Some(error),
+        _ => None,
+    }
+}
+
 /// Asserts whether a call is carried out.
 fn assert_carried_out<S: Storage<u64>>(
     rt: &impl Abort,
@@ -120,10 +132,11 @@ fn assert_carried_out<S: Storage<u64>>(
     call: Call<u64>,
     done: bool,
 ) {
-    assert!(rt; carries_out(session, call) == done);
+    assert_eq!(rt; carries_out(session, call).ok(), Some(done));
 }
 
-/// A value is kept and read, isn't ended under its reader, and is ended after that.
+/// A value is kept and read, isn't ended under its reader, and is ended after that; its box is told
+/// so, also after another call.
 fn assert_calls<S: Storage<u64>>(rt: &impl Abort, alloc: Global, session: &mut Session<u64, S>) {
     assert_carried_out(rt, session, Call::Leak(6, here()), true);
     assert_carried_out(rt, session, Call::TryRead(BoxAt::Place(0), here()), true);
@@ -131,6 +144,8 @@ fn assert_calls<S: Storage<u64>>(rt: &impl Abort, alloc: Global, session: &mut S
     assert_carried_out(rt, session, Call::Release(1), true);
     assert_carried_out(rt, session, Call::ManuallyDrop(BoxAt::Place(0)), true);
     assert_eq!(rt; errors_of_ended(alloc, session), Some(2));
+    let dropped = BorrowMutError::Dropped(ValueDroppedError::new(here()));
+    assert_eq!(rt; error_told_later(session), Some(dropped));
 }
 
 struct Values;

@@ -1,83 +1,18 @@
 //! Want of memory. Each test passes whichever one allocation is refused: `rt try --test
 //! --fail-alloc N` refuses the Nth of each test. What may lack memory is tried a second time.
 
+use crate::again::{begin_or_again, insert_or_again, leak_or_again, owner_or_again, readers};
 use crate::expected::{
     assert_opens, assert_reads, assert_released, assert_unread, begin, counts_of, dropped, end,
-    insert, leak, made, made_later, new_owner, read, release,
+    leak, made, made_later, read, release,
 };
 use crate::fresh::{Scenario, SessionScenario, play, play_in_session};
 use generational_box::{
-    AlreadyBorrowedError, AnyStorage, BorrowMutError, BoxAt, Call, GenerationalBox,
-    GenerationalRef, Location, Owner, Refused, Reply, Session, Storage, Store, StoreError,
+    AnyStorage, BoxAt, Call, GenerationalBox, GenerationalRef, Location, Owner, Refused, Reply,
+    Session, Storage, Store, StoreError,
 };
 use std::alloc::{AllocError, Global};
 use std::process::Abort;
-
-/// Makes a box, the second time at the latest. A making that lacks memory hands the value back.
-fn leak_or_again<S: Storage<u32>>(
-    rt: &impl Abort,
-    store: &mut S,
-    value: u32,
-) -> GenerationalBox<u32> {
-    match GenerationalBox::leak(store, value, made()) {
-        Ok(given) => given,
-        Err(refusal) => {
-            assert_eq!(rt;
-                (refusal.value, refusal.cause),
-                (value, StoreError::OutOfMemory)
-            );
-            leak(rt, store, value, made())
-        }
-    }
-}
-
-/// Begins a read beside another, the second time at the latest.
-pub(crate) fn begin_or_again<S: Storage<u32>>(
-    rt: &impl Abort,
-    store: &mut S,
-    asked: GenerationalBox<u32>,
-    began: Location,
-) -> GenerationalRef<u32> {
-    match asked.try_read(store, began) {
-        Err(Refused::Store(StoreError::OutOfMemory)) => begin(rt, store, asked, began),
-        answer => answer.expect(rt, "a guard"),
-    }
-}
-
-/// Makes an owner, the second time at the latest. Want of memory leaves the store as it was.
-pub(crate) fn owner_or_again<S: AnyStorage<u32>>(rt: &impl Abort, store: &mut S) -> Owner {
-    let before = (store.is_fresh(), counts_of(store));
-    match store.owner() {
-        Ok(given) => given,
-        Err(cause) => {
-            assert_eq!(rt; cause, StoreError::OutOfMemory);
-            assert_eq!(rt; (store.is_fresh(), counts_of(store)), before);
-            new_owner(rt, store)
-        }
-    }
-}
-
-/// Makes a box by an owner, the second time at the latest. A making that lacks memory hands the
-/// value back, and changes no count.
-fn insert_or_again<S: Storage<u32>>(
-    rt: &impl Abort,
-    store: &mut S,
-    owner: &Owner,
-    value: u32,
-) -> GenerationalBox<u32> {
-    let before = counts_of(store);
-    match owner.insert(store, value, made()) {
-        Ok(given) => given,
-        Err(refusal) => {
-            assert_eq!(rt;
-                (refusal.value, refusal.cause),
-                (value, StoreError::OutOfMemory)
-            );
-            assert_eq!(rt; counts_of(store), before);
-            insert(rt, store, owner, value, made())
-        }
-    }
-}
 
 /// The owner that comes back from a release that is refused, with these readers. One that lacks
 /// memory for them ends nothing either.
@@ -100,19 +35,6 @@ fn assert_kept_by<S: AnyStorage<u32>>(
     assert_eq!(rt; refusal, readers(rt, alloc, began));
     assert_eq!(rt; counts_of(store), before);
     back
-}
-
-/// The refusal of an end with these readers.
-pub(crate) fn readers(
-    rt: &impl Abort,
-    alloc: Global,
-    began: &[Location],
-) -> Refused<BorrowMutError> {
-    let began = match began.to_vec(alloc) {
-        Ok(began) => began,
-        Err(_) => began.to_vec(alloc).expect(rt, "memory"),
-    };
-    Refused::Borrow(BorrowMutError::AlreadyBorrowed(AlreadyBorrowedError::new(began)))
 }
 
 /// Asserts that an end is refused, with these readers.

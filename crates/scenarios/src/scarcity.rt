@@ -1,12 +1,12 @@
 //! Want of memory where values are shared. Each test passes whichever one allocation is refused,
 //! and what may lack memory is tried a second time.
 
+use crate::again::{begin_or_again, owner_or_again, readers};
 use crate::expected::{
     assert_opens, assert_reads, assert_released, assert_unread, begin, counts_of, dropped, end,
     leak, made, made_later, release,
 };
 use crate::fresh::{Scenario, SessionScenario, play, play_in_session};
-use crate::memory::{begin_or_again, owner_or_again, readers};
 use crate::sharing::{insert_rc, insert_reference, leak_rc, leak_reference, point};
 use generational_box::{
     BoxAt, Call, GenerationalBox, Location, Owner, Refused, Reply, Session, Storage, Store,

@@ -2,56 +2,18 @@
 //! test passes whichever one allocation is refused, and what may lack memory is tried a second
 //! time.
 
+use crate::again::{insert_or_again, leak_or_again, owner_or_again, readers};
 use crate::expected::{
     assert_kept, assert_opens, assert_released, assert_unread, begin, begin_write, counts_of,
-    dropped, end, insert, leak, made, made_later, new_owner, read, written,
+    dropped, end, made, made_later, read, written,
 };
 use crate::fresh::{Scenario, TwoStoreScenario, play, play_in_two_stores};
-use crate::memory::readers;
 use generational_box::{
     AlreadyBorrowedMutError, AnyStorage, BorrowError, GenerationalBox, GenerationalRef, Numbers,
     Owner, Refused, Storage, Store, StoreError, UnsyncStorage,
 };
 use std::alloc::Global;
 use std::process::Abort;
-
-/// Makes a box, the second time at the latest.
-fn make<T: Drop, S: Storage<T>>(rt: &impl Abort, store: &mut S, value: T) -> GenerationalBox<T> {
-    match GenerationalBox::leak(store, value, made()) {
-        Ok(given) => given,
-        Err(refusal) => {
-            assert_eq!(rt; refusal.cause, StoreError::OutOfMemory);
-            leak(rt, store, refusal.value, made())
-        }
-    }
-}
-
-/// Makes an owner, the second time at the latest.
-fn own<T, S: AnyStorage<T>>(rt: &impl Abort, store: &mut S) -> Owner {
-    match store.owner() {
-        Ok(given) => given,
-        Err(cause) => {
-            assert_eq!(rt; cause, StoreError::OutOfMemory);
-            new_owner(rt, store)
-        }
-    }
-}
-
-/// Makes a box by an owner, the second time at the latest.
-fn add<T: Drop, S: Storage<T>>(
-    rt: &impl Abort,
-    store: &mut S,
-    owner: &Owner,
-    value: T,
-) -> GenerationalBox<T> {
-    match owner.insert(store, value, made()) {
-        Ok(given) => given,
-        Err(refusal) => {
-            assert_eq!(rt; refusal.cause, StoreError::OutOfMemory);
-            insert(rt, store, owner, refusal.value, made())
-        }
-    }
-}
 
 /// Asserts what a store counts: slots, free ones, retired ones, and the most live at once.
 fn assert_counts<S: AnyStorage<u32>>(rt: &impl Abort, store: &S, counts: [usize; 4]) {
@@ -66,11 +28,11 @@ fn assert_counts<S: AnyStorage<u32>>(rt: &impl Abort, store: &S, counts: [usize;
 
 /// Values at the last generation, one after the other.
 fn end_at_last_generation<S: Storage<u32>>(rt: &impl Abort, store: &mut S) {
-    let first = make(rt, store, 1);
+    let first = leak_or_again(rt, store, 1);
     assert_eq!(rt; first.raw_ptr(), 0);
     end(rt, store, first);
     assert_counts(rt, store, [1, 0, 1, 1]);
-    let second = make(rt, store, 2);
+    let second = leak_or_again(rt, store, 2);
     assert_eq!(rt; second.raw_ptr(), 1);
     assert_counts(rt, store, [2, 0, 1, 1]);
     assert_unread(rt, store, first, dropped(made()));
@@ -90,7 +52,7 @@ fn at_the_last_generation(rt: HostRuntime) {
 /// Asserts that a store without tickets gives none, for a read or for an owner.
 fn assert_no_ticket<S: Storage<u32>>(rt: &impl Abort, store: &mut S) {
     assert_eq!(rt; store.tickets_left(), 0);
-    let only = make(rt, store, 1);
+    let only = leak_or_again(rt, store, 1);
     assert_unread(
         rt,
         store,
@@ -110,7 +72,7 @@ fn assert_no_ticket<S: Storage<u32>>(rt: &impl Abort, store: &mut S) {
 /// Asserts that the last ticket goes to an owner, and that none is left for its clone.
 fn assert_last_ticket<S: AnyStorage<u32>>(rt: &impl Abort, store: &mut S) {
     assert_eq!(rt; store.tickets_left(), 1);
-    let owner = own(rt, store);
+    let owner = owner_or_again(rt, store);
     match owner.clone(store) {
         Ok(given) => {
             given.leak();
@@ -153,9 +115,9 @@ struct Strangers;
 
 impl TwoStoreScenario<u32> for Strangers {
     fn play<R: Abort, S: Storage<u32>>(rt: &R, _: Global, seven: &mut S, eight: &mut S) {
-        let own_value = make(rt, seven, 70);
-        let foreign = make(rt, eight, 80);
-        let owner = own(rt, eight);
+        let own_value = leak_or_again(rt, seven, 70);
+        let foreign = leak_or_again(rt, eight, 80);
+        let owner = owner_or_again(rt, eight);
         let before = counts_of(seven);
         assert_unread(rt, seven, foreign, dropped(made()));
         end(rt, seven, foreign);
@@ -212,15 +174,15 @@ struct Notes;
 
 impl Scenario<Note> for Notes {
     fn play<R: Abort, S: Storage<Note>>(rt: &R, alloc: Global, store: &mut S) {
-        let owner = own(rt, store);
-        let first = add(
+        let owner = owner_or_again(rt, store);
+        let first = insert_or_again(
             rt,
             store,
             &owner,
             Note::Text(text(rt, alloc, "hello world")),
         );
         let guard = begin(rt, store, first, read());
-        add(rt, store, &owner, Note::Number(1));
+        insert_or_again(rt, store, &owner, Note::Number(1));
         assert_text(rt, store, &guard, "hello world");
         assert_released(rt, store, guard, true);
         owner.leak();
@@ -250,7 +212,7 @@ struct Pairs;
 
 impl Scenario<(u32, u32)> for Pairs {
     fn play<R: Abort, S: Storage<(u32, u32)>>(rt: &R, alloc: Global, store: &mut S) {
-        let pair = make(rt, store, (1, 2));
+        let pair = leak_or_again(rt, store, (1, 2));
         let guard = begin(rt, store, pair, read());
         assert_parts(rt, store, &guard);
         let refusal = match pair.manually_drop(store) {

@@ -60,8 +60,8 @@ fn errors_of_values_that_are_read(rt: HostRuntime) -> Result<(), Fail> {
     assert_prints(&rt, alloc, &read, READ);
     assert!(rt; read != nobody);
     let held = BorrowMutError::AlreadyBorrowed(read.clone()?);
-    assert_prints(&rt, alloc, &held, READ);
-    assert_prints(&rt, alloc, &Refused::Borrow(held), READ);
+    assert_prints(&rt, alloc, &held.clone()?, READ);
+    assert_prints(&rt, alloc, &Refused::Borrow(held).clone()?, READ);
     Ok(())
 }
 

@@ -57,7 +57,7 @@ fn assert_opens<A: Count, B: Count, C: Count, D: Count>(
     assert!(rt; opened.is_some_and(|text| text.as_str() == "hello"));
 }
 
-// Makes a box, reads it and ends it. The reader hinders the end.
+// Makes a box, reads it twice and ends it. A reader hinders the end.
 fn live<A: Count, B: Count, C: Count, D: Count>(
     rt: &impl Abort,
     alloc: Global,
@@ -66,7 +66,9 @@ fn live<A: Count, B: Count, C: Count, D: Count>(
 ) {
     let made = leak(rt, alloc, state, tally);
     let guard = begin(rt, state, tally, made);
+    let beside = begin(rt, state, tally, made);
     assert_opens(rt, state, &guard);
+    assert!(rt; state.release_read(beside, tally));
     assert!(rt; !state.ready(&StepCall::ManuallyDrop(made.pointer())));
     assert!(rt; state.release_read(guard, tally));
     end(rt, state, tally, made);

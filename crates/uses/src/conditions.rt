@@ -1,84 +1,122 @@
 //! Values that are set, read and written where nothing is in the way.
 
-ghost use Rattle.std.specs.Prelude.{◌≡◌, ◌≢◌, ℕ, IfSome, OnSome, Some};
+ghost use Rattle.std.specs.Prelude.{◌≡◌, ◌≢◌, IfNone, OnSome, IfOk, IfErr, IsTrue};
+ghost use Rattle.std.specs.Prelude.{IsFalse, Some, None, if◌then◌else◌};
 ghost use Rattle.generational_core.specs.declared.boxes.GenerationalPointer.{GenerationalPointer};
+ghost use Rattle.generational_core.specs.declared.error.StoreError.TheVariants.{NumbersExhausted};
 ghost use Rattle.generational_core.specs.Answers.{pointer_of};
-ghost use Rattle.generational_core.specs.Borrowing.{reach};
+ghost use Rattle.generational_core.specs.Borrowing.{reach, can_write};
+ghost use Rattle.generational_core.specs.Boxes.{name_of};
+ghost use Rattle.generational_core.specs.Leaving.{IsLeft, IsSet};
+ghost use Rattle.generational_core.specs.Machine.Action.{Read};
+ghost use Rattle.generational_core.specs.Machine.Answer.{Refused};
 ghost use Rattle.generational_core.specs.Seeing.{value_in};
+ghost use Rattle.generational_core.specs.Steps.{Meets, last_ticket};
+ghost use Rattle.generational_sessions.specs.PlainStores.{IsPlain};
 
-use generational_box::{GenerationalBox, Location, Storage};
+use generational_box::{GenerationalBox, Location, Storage, StoreError};
 
-/// Sets a value that nobody borrows. None where the value has ended or is borrowed.
-pub fn set_value<S: Storage<u64>>(
-    store: &mut S,
-    target: GenerationalBox<u64>,
-    value: u64,
-) -> Option<()>
-    // Each box that reaches the same sees the value, and the others see what they saw.
-    ensures set { OnSome result ((b : GenerationalPointer) →
+/// Sets a value that nobody borrows. Whether it was set: it isn't where the value has ended or is
+/// borrowed, and then nothing changes. Never refused otherwise.
+pub fn set_value<S: Storage<u64>>(store: &mut S, target: GenerationalBox<u64>, value: u64) -> bool
+    ensures free { result ≡ can_write (S.state store.old) (pointer_of target) }
+    // Each box that reaches the same sees the value, and the others are left as they were.
+    ensures set { IsTrue result → (b : GenerationalPointer) →
         reach (S.state store.old) b ≡ reach (S.state store.old) (pointer_of target) →
-        value_in (S.state store.new) b ≡ Some value) }
-    ensures others { OnSome result ((b : GenerationalPointer) (v : ℕ) →
+        value_in (S.state store.new) b ≡ Some value }
+    ensures others { (b : GenerationalPointer) →
         reach (S.state store.old) b ≢ reach (S.state store.old) (pointer_of target) →
-        value_in (S.state store.old) b ≡ Some v → value_in (S.state store.new) b ≡ Some v) }
+        IsLeft (S.state store.old) b (S.state store.new) }
+    ensures unchanged { IsFalse result → S.state store.new ≡ S.state store.old }
 {
     if !target.can_write(store) {
-        return None;
+        return false;
     }
     target.set(store, value);
-    Some(())
+    true
 }
 
-/// The value that a box sees, read where no writer has it. None where one has it, where the value
-/// has ended, and where no ticket or no memory is left.
+/// The same in a store without references, where each box of another name is left as it was.
+pub fn set_plain<S: Storage<u64>>(store: &mut S, given: GenerationalBox<u64>, value: u64) -> bool
+    requires { IsPlain (S.state store.old) }
+    ensures plain { IsPlain (S.state store.new) }
+    ensures others { (b : GenerationalPointer) → name_of (pointer_of given) ≢ name_of b →
+        IsLeft (S.state store.old) b (S.state store.new) }
+{
+    if given.can_write(store) {
+        given.set(store, value);
+        return true;
+    }
+    false
+}
+
+/// The value that a box sees, read where no writer has it. None where one has it, and where the
+/// value has ended. Every box is left as it was, whatever the answer.
 pub fn read_free<S: Storage<u64>>(
     store: &mut S,
     target: GenerationalBox<u64>,
     here: Location,
-) -> Option<u64>
-    ensures seen { IfSome result (λ seen.
-        value_in (S.state store.old) (pointer_of target) ≡ Some seen) }
+) -> Result<Option<u64>, StoreError>
+    ensures seen { IfOk result (λ seen. seen ≡ value_in (S.state store.old) (pointer_of target)) }
+    ensures left { (b : GenerationalPointer) → IsLeft (S.state store.old) b (S.state store.new) }
+    // It is refused as the read is: for want of a ticket, or of memory.
+    ensures refused { IfErr result (λ cause. Meets (S.state store.old)
+        (Read (pointer_of target) here) (Refused cause) (S.state store.new)) }
 {
     if !target.can_read(store) {
-        return None;
+        return Ok(None);
     }
-    let guard = target.read(store, here).ok()?;
+    let guard = target.read(store, here)?;
     let seen = guard.deref(store).map(|view| *view);
     guard.release(store);
-    seen
+    Ok(seen)
 }
 
-/// Sets a value and reads it back: it is the same value.
+/// Sets a value and reads it back: it is the same value. None where it wasn't set. A refusal is that
+/// of the read; boxes that reach something else are left, whatever the answer.
 pub fn set_and_read<S: Storage<u64>>(
     store: &mut S,
     target: GenerationalBox<u64>,
     value: u64,
     here: Location,
-) -> Option<u64>
-    ensures { IfSome result (λ seen. seen ≡ value) }
+) -> Result<Option<u64>, StoreError>
+    ensures seen { IfOk result (λ seen. seen ≡
+        (if can_write (S.state store.old) (pointer_of target) then Some value else None)) }
+    ensures others { (b : GenerationalPointer) →
+        reach (S.state store.old) b ≢ reach (S.state store.old) (pointer_of target) →
+        IsLeft (S.state store.old) b (S.state store.new) }
 {
-    set_value(store, target, value)?;
+    if !set_value(store, target, value) {
+        return Ok(None);
+    }
     read_free(store, target, here)
 }
 
 /// Writes a value that nobody borrows, and answers the old one, which the box saw. None where the
-/// value has ended or is borrowed, and where no ticket is left.
+/// value has ended or is borrowed, and then nothing changes.
 pub fn exchange<S: Storage<u64>>(
     store: &mut S,
     target: GenerationalBox<u64>,
     value: u64,
     here: Location,
-) -> Option<u64>
-    ensures old { IfSome result (λ old.
-        value_in (S.state store.old) (pointer_of target) ≡ Some old) }
-    ensures new { OnSome result (
-        value_in (S.state store.new) (pointer_of target) ≡ Some value) }
+) -> Result<Option<u64>, StoreError>
+    ensures old { IfOk result (λ old. old ≡ (if can_write (S.state store.old) (pointer_of target)
+        then value_in (S.state store.old) (pointer_of target) else None)) }
+    // The value changes and a ticket is used up, and nothing else.
+    ensures set { IfOk result (λ old. OnSome old
+        (IsSet (S.state store.old) (pointer_of target) value (S.state store.new))) }
+    ensures unchanged { IfOk result (λ old. IfNone old (S.state store.new ≡ S.state store.old)) }
+    // It is refused only where all tickets were given, and the state is as it was then.
+    ensures refused { IfErr result (λ cause. (cause ≡ NumbersExhausted)
+        × ((S.state store.old).next ≡ last_ticket) × (S.state store.new ≡ S.state store.old)) }
 {
     if !target.can_write(store) {
-        return None;
+        return Ok(None);
     }
-    let mut guard = target.write(store, here).ok()?;
+    let mut guard = target.write(store, here)?;
     let old = guard.replace(value);
-    guard.release(store).ok()?;
-    Some(old)
+    match guard.release(store) {
+        Ok(()) => Ok(Some(old)),
+        Err(_) => unreachable!(),
+    }
 }

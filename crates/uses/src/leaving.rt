@@ -1,7 +1,7 @@
 //! What calls leave as it was: other boxes, guards, owners, and the whole store where a call is
 //! refused.
 
-ghost use Rattle.std.specs.Prelude.{◌≡◌, ◌≢◌, ℕ, IfSome, OnOk, OnErr, IsTrue, IsFalse, Some, is_some};
+ghost use Rattle.std.specs.Prelude.{◌≡◌, ◌≢◌, IfOk, IfErr, OnOk, OnErr, IsTrue, IsFalse, Some, is_some};
 ghost use Rattle.generational_core.specs.declared.boxes.GenerationalPointer.{GenerationalPointer};
 ghost use Rattle.generational_core.specs.Answers.{pointer_of};
 ghost use Rattle.generational_core.specs.Borrowing.{reach};
@@ -13,7 +13,9 @@ ghost use Rattle.generational_core.specs.Names.{Name};
 ghost use Rattle.generational_core.specs.Seeing.{value_in};
 ghost use Rattle.generational_core.specs.State.{Ownership};
 
-use generational_box::{BorrowMutResult, GenerationalBox, Location, Owner, Storage};
+use generational_box::{
+    BorrowMutResult, BorrowResult, GenerationalBox, Location, Owner, Refusal, Storage,
+};
 
 /// Ends a value. It has ended for good then, or the end is refused and the store's state is as it
 /// was. A box of another name is left in either case.
@@ -31,36 +33,42 @@ pub fn end_value<S: Storage<u64>>(
     target.manually_drop(store)
 }
 
-/// Lets a reference lead to where another box leads, and so see what that saw.
+/// Lets a reference lead to where another box leads, and so see what that saw. Where that is refused
+/// nothing changes.
 pub fn follow<S: Storage<u64>>(
     store: &mut S,
     reference: GenerationalBox<u64>,
     other: GenerationalBox<u64>,
 ) -> BorrowMutResult<()>
-    ensures { OnOk result (value_in (S.state store.new) (pointer_of reference) ≡
+    ensures seen { OnOk result (value_in (S.state store.new) (pointer_of reference) ≡
         value_in (S.state store.old) (pointer_of other)) }
+    ensures refused { OnErr result (S.state store.new ≡ S.state store.old) }
 {
     reference.point_to(store, other)
 }
 
-/// Reads a value while another is ended, as far as that can be: it is what the box saw. None where
-/// the read is refused.
+/// Reads a value while another is ended, as far as that can be: it is what the box saw. Refused as
+/// the read is, and then nothing changes. Boxes that don't have the other's name see what they saw.
 pub fn read_across_end<S: Storage<u64>>(
     store: &mut S,
     target: GenerationalBox<u64>,
     other: GenerationalBox<u64>,
     here: Location,
-) -> Option<u64>
-    ensures { IfSome result (λ seen.
+) -> BorrowResult<u64>
+    ensures seen { IfOk result (λ seen.
         value_in (S.state store.old) (pointer_of target) ≡ Some seen) }
+    ensures others { (b : GenerationalPointer) → name_of (pointer_of other) ≢ name_of b →
+        value_in (S.state store.new) b ≡ value_in (S.state store.old) b }
+    ensures refused { OnErr result (S.state store.new ≡ S.state store.old) }
 {
-    let Ok(guard) = target.try_read(store, here) else {
-        return None;
-    };
+    let guard = target.try_read(store, here)?;
     let _ended = other.manually_drop(store).is_ok();
     let seen = guard.deref(store).map(|view| *view);
     guard.release(store);
-    seen
+    match seen {
+        Some(seen) => Ok(seen),
+        None => unreachable!(),
+    }
 }
 
 /// Writes a value. Whether it was written: then nothing changes but the value and a ticket, and else
@@ -104,15 +112,20 @@ pub fn end_unborrowed<S: Storage<u64>>(store: &mut S, target: GenerationalBox<u6
     }
 }
 
-/// Keeps a shared value by an owner. None where that is refused. Every other owner keeps its list.
+/// Keeps a shared value by an owner. Where that is refused the value comes back, and nothing
+/// changes. Every other owner keeps its list.
 pub fn share_by<S: Storage<u64>>(
     store: &mut S,
     owner: &Owner,
     value: u64,
     here: Location,
-) -> Option<GenerationalBox<u64>>
-    ensures { (o : OwnerName) (h : Ownership) → owner.now ≢ o →
+) -> Result<GenerationalBox<u64>, Refusal<u64>>
+    ensures seen { IfOk result (λ made.
+        value_in (S.state store.new) (pointer_of made) ≡ Some value) }
+    ensures others { (o : OwnerName) (h : Ownership) → owner.now ≢ o →
         ownership (S.state store.old) o ≡ Some h → ownership (S.state store.new) o ≡ Some h }
+    ensures back { IfErr result (λ refusal. refusal.value ≡ value) }
+    ensures refused { OnErr result (S.state store.new ≡ S.state store.old) }
 {
-    owner.insert_rc(store, value, here).ok()
+    owner.insert_rc(store, value, here)
 }

@@ -1,40 +1,43 @@
 //! An owner's values.
 
-ghost use Rattle.std.specs.Prelude.{◌≡◌, ℕ, IfSome, OnSome, Some, None};
+ghost use Rattle.std.specs.Prelude.{◌≡◌, ◌≢◌, IfOk, IfErr, OnErr};
 ghost use Rattle.generational_core.specs.declared.boxes.GenerationalPointer.{GenerationalPointer};
 ghost use Rattle.generational_core.specs.Answers.{pointer_of};
-ghost use Rattle.generational_core.specs.Borrowing.{reach};
-ghost use Rattle.generational_core.specs.Seeing.{value_in};
+ghost use Rattle.generational_core.specs.Boxes.{name_of};
+ghost use Rattle.generational_core.specs.Conditions.{IsEnded};
+ghost use Rattle.generational_core.specs.Leaving.{IsLeft};
+ghost use Rattle.generational_sessions.specs.Lacking.{Lacks};
 
-use generational_box::{GenerationalBox, Location, Storage};
+use generational_box::{GenerationalBox, Location, Refusal, Storage, StoreError};
 
-/// Keeps a value by an owner, and releases the owner. The answer is the box, whose value has ended;
-/// every other box sees what it saw.
+/// Keeps a value by an owner, and releases the owner. The answer is the box, whose value has ended
+/// for good; every other box is left as it was. Where it is refused every box is, and none is made.
 pub fn end_owned<S: Storage<u64>>(
     store: &mut S,
     value: u64,
     here: Location,
-) -> Option<GenerationalBox<u64>>
-    ensures ended { IfSome result (λ made.
-        reach (S.state store.new) (pointer_of made) ≡ None) }
-    ensures others { OnSome result ((b : GenerationalPointer) (v : ℕ) →
-        value_in (S.state store.old) b ≡ Some v → value_in (S.state store.new) b ≡ Some v) }
+) -> Result<GenerationalBox<u64>, StoreError>
+    ensures ended { IfOk result (λ made.
+        IsEnded (S.state store.new) (name_of (pointer_of made))) }
+    ensures others { IfOk result (λ made. (b : GenerationalPointer) →
+        name_of (pointer_of made) ≢ name_of b →
+        IsLeft (S.state store.old) b (S.state store.new)) }
+    ensures left { OnErr result ((b : GenerationalPointer) →
+        IsLeft (S.state store.old) b (S.state store.new)) }
+    // It is refused only for want of memory, or of a ticket.
+    ensures cause { IfErr result (λ cause. Lacks (S.state store.old) cause) }
 {
-    let Ok(owner) = store.owner() else {
-        return None;
-    };
-    let made = match owner.insert(store, value, here) {
-        Ok(made) => made,
-        Err(_) => {
-            owner.leak();
-            return None;
-        }
-    };
+    let owner = store.owner()?;
+    let made = owner.insert(store, value, here);
     match owner.release(store) {
-        Ok(()) => Some(made),
+        Ok(()) => {}
         Err((owner, _)) => {
             owner.leak();
-            None
+            unreachable!()
         }
+    }
+    match made {
+        Ok(made) => Ok(made),
+        Err(Refusal { value: _, cause }) => Err(cause),
     }
 }

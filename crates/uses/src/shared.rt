@@ -17,8 +17,8 @@ pub fn written_through<S: Storage<u64>>(
 {
     let first = GenerationalBox::leak_rc(store, value, here).ok()?;
     let second = first.leak_reference(store).ok()?;
-    write_value(store, first, next, here)?;
-    read_value(store, second, here)
+    write_value(store, first, next, here).ok()?;
+    read_value(store, second, here).ok()
 }
 
 /// Ends the first reference to a shared value, and reads the value through the second: it has
@@ -33,5 +33,5 @@ pub fn outlived<S: Storage<u64>>(store: &mut S, value: u64, here: Location) -> O
         return None;
     };
     first.manually_drop(store).ok()?;
-    read_value(store, second, here)
+    read_value(store, second, here).ok()
 }

@@ -1,15 +1,20 @@
 //! A value by itself: kept, read and written.
 
-ghost use Rattle.std.specs.Prelude.{◌≡◌, ◌≢◌, ℕ, IfSome, OnSome, Some};
+ghost use Rattle.std.specs.Prelude.{◌≡◌, ◌≢◌, IfSome, IfOk, IfErr, OnOk, OnErr, Some};
 ghost use Rattle.generational_core.specs.declared.boxes.GenerationalPointer.{GenerationalPointer};
-ghost use Rattle.generational_core.specs.Answers.{pointer_of};
+ghost use Rattle.generational_core.specs.Answers.{pointer_of, read_refused, end_refused};
 ghost use Rattle.generational_core.specs.Borrowing.{reach};
+ghost use Rattle.generational_core.specs.Leaving.{IsLeft};
+ghost use Rattle.generational_core.specs.Machine.Action.{Read, Write};
 ghost use Rattle.generational_core.specs.Seeing.{value_in};
+ghost use Rattle.generational_core.specs.Steps.{Meets};
 
-use generational_box::{GenerationalBox, Location, Storage, UnsyncStorage};
+use generational_box::{
+    BorrowMutResult, BorrowResult, GenerationalBox, Location, Storage, UnsyncStorage,
+};
 use std::alloc::Global;
 
-/// Keeps a value in a new store, and reads it: it is the same value.
+/// Keeps a value in a new store, and reads it: it is the same value. None where memory lacks.
 pub fn there_and_back(alloc: Global, value: u64) -> Option<u64>
     ensures { IfSome result (λ seen. seen ≡ value) }
 {
@@ -22,70 +27,95 @@ pub fn there_and_back(alloc: Global, value: u64) -> Option<u64>
     seen
 }
 
-/// The value that a box sees, read. None where the read is refused.
+/// The value that a box sees, read. Every box is left as it was, whatever the answer.
 pub fn read_value<S: Storage<u64>>(
     store: &mut S,
     target: GenerationalBox<u64>,
     here: Location,
-) -> Option<u64>
-    ensures seen { IfSome result (λ seen.
+) -> BorrowResult<u64>
+    ensures seen { IfOk result (λ seen.
         value_in (S.state store.old) (pointer_of target) ≡ Some seen) }
+    ensures left { (b : GenerationalPointer) → IsLeft (S.state store.old) b (S.state store.new) }
+    // It is refused as the read is.
+    ensures refused { IfErr result (λ refusal. Meets (S.state store.old)
+        (Read (pointer_of target) here) (read_refused refusal) (S.state store.new)) }
 {
-    let guard = target.try_read(store, here).ok()?;
+    let guard = target.try_read(store, here)?;
     let seen = guard.deref(store).map(|view| *view);
     guard.release(store);
-    seen
+    match seen {
+        Some(seen) => Ok(seen),
+        None => unreachable!(),
+    }
 }
 
-/// Writes a value through a writer's view. None where the write is refused.
+/// Writes a value through a writer's view.
 pub fn write_value<S: Storage<u64>>(
     store: &mut S,
     target: GenerationalBox<u64>,
     value: u64,
     here: Location,
-) -> Option<()>
-    // Each box that reaches the same sees the value, and the others see what they saw.
-    ensures written { OnSome result ((b : GenerationalPointer) →
+) -> BorrowMutResult<()>
+    // Each box that reaches the same sees the value, and the others are left, whatever the answer.
+    ensures written { OnOk result ((b : GenerationalPointer) →
         reach (S.state store.old) b ≡ reach (S.state store.old) (pointer_of target) →
         value_in (S.state store.new) b ≡ Some value) }
-    ensures others { OnSome result ((b : GenerationalPointer) (v : ℕ) →
+    ensures others { (b : GenerationalPointer) →
         reach (S.state store.old) b ≢ reach (S.state store.old) (pointer_of target) →
-        value_in (S.state store.old) b ≡ Some v → value_in (S.state store.new) b ≡ Some v) }
+        IsLeft (S.state store.old) b (S.state store.new) }
+    // It is refused as the write is, and the state is as it was then.
+    ensures refused { IfErr result (λ refusal. Meets (S.state store.old)
+        (Write (pointer_of target) here) (end_refused refusal) (S.state store.new)) }
+    ensures unchanged { OnErr result (S.state store.new ≡ S.state store.old) }
 {
-    let mut guard = target.try_write(store, here).ok()?;
+    let mut guard = target.try_write(store, here)?;
     *guard.deref_mut() = value;
-    guard.release(store).ok()?;
-    Some(())
+    match guard.release(store) {
+        Ok(()) => Ok(()),
+        Err(_) => unreachable!(),
+    }
 }
 
-/// Writes a value and reads it back: it is the same value.
+/// Writes a value and reads it back: it is the same value. Refused as the write is, and as the read
+/// after it; boxes that reach something else are left, whatever the answer.
 pub fn written_value<S: Storage<u64>>(
     store: &mut S,
     target: GenerationalBox<u64>,
     value: u64,
     here: Location,
-) -> Option<u64>
-    ensures { IfSome result (λ seen. seen ≡ value) }
+) -> BorrowMutResult<u64>
+    ensures same { IfOk result (λ seen. seen ≡ value) }
+    ensures others { (b : GenerationalPointer) →
+        reach (S.state store.old) b ≢ reach (S.state store.old) (pointer_of target) →
+        IsLeft (S.state store.old) b (S.state store.new) }
 {
     write_value(store, target, value, here)?;
-    read_value(store, target, here)
+    let seen = read_value(store, target, here)?;
+    Ok(seen)
 }
 
 /// Puts a value in the place of the one that a box sees, and reads it back. The answer is the old
-/// value and the one that was read: what the box saw, and the one that was handed in.
+/// value and the one that was read: what the box saw, and the one that was handed in. Refused as the
+/// write is, and as the read after it; boxes that reach something else are left, whatever the answer.
 pub fn replaced_value<S: Storage<u64>>(
     store: &mut S,
     target: GenerationalBox<u64>,
     value: u64,
     here: Location,
-) -> Option<(u64, u64)>
-    ensures old { IfSome result (λ both.
+) -> BorrowMutResult<(u64, u64)>
+    ensures old { IfOk result (λ both.
         value_in (S.state store.old) (pointer_of target) ≡ Some both.0) }
-    ensures new { IfSome result (λ both. both.1 ≡ value) }
+    ensures new { IfOk result (λ both. both.1 ≡ value) }
+    ensures others { (b : GenerationalPointer) →
+        reach (S.state store.old) b ≢ reach (S.state store.old) (pointer_of target) →
+        IsLeft (S.state store.old) b (S.state store.new) }
 {
-    let mut guard = target.try_write(store, here).ok()?;
+    let mut guard = target.try_write(store, here)?;
     let old = guard.replace(value);
-    guard.release(store).ok()?;
+    match guard.release(store) {
+        Ok(()) => {}
+        Err(_) => unreachable!(),
+    }
     let seen = read_value(store, target, here)?;
-    Some((old, seen))
+    Ok((old, seen))
 }

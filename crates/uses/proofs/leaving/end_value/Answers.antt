@@ -1,7 +1,7 @@
 use Rattle.generational_core.proofs.machine.Boxing.{ended, reached_boxed}
 use Rattle.generational_core.proofs.machine.Leaving.{leaves}
 use Rattle.generational_core.proofs.machine.Refusing.{refused_end}
-use Rattle.uses.proofs.Results.{on_ok_so}
+use Rattle.generational_sessions.proofs.callers.Results.{on_ok_so}
 use Rattle.uses.proofs.leaving.end_value.Goals as goal
 
 pub returns-clause-ended : goal.returns-clause-ended

@@ -2,8 +2,8 @@ use Rattle.std.proofs.Common.{ap, slice_get}
 use Rattle.generational_sessions.specs.Session.{box_held}
 use Rattle.uses.proofs.sessions.ask_for_ended.Goals as goal
 
-pub returns : goal.returns
-returns g c b there ended =
+pub returns-clause-ended : goal.returns-clause-ended
+returns-clause-ended g c b there ended =
     let items = c.in-Ok.ensures.items in
     let told = c.in-Ok-run.ensures.tell_ends in
     let box = ap box_held there in (

@@ -1,7 +1,7 @@
 use Rattle.std.proofs.Common.{arith, ◌≡◌, ◌∙◌}
 use Rattle.std.proofs.lemmas.Grind.{common_steps}
 use Rattle.generational_core.proofs.machine.Calling.{made, opens}
-use Rattle.uses.proofs.Results.{of_ok, has}
+use Rattle.generational_sessions.proofs.callers.Results.{of_ok, has}
 use Rattle.uses.proofs.values.there_and_back.Goals as goal
 
 pub returns : goal.returns

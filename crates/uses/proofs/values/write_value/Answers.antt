@@ -1,20 +1,19 @@
-use Rattle.std.proofs.Common.{Some, arith, sym, ap, ◌∙◌}
+use Rattle.std.proofs.Common.{Ok, Err, sym, arith}
+use Rattle.std.proofs.lemmas.Bool.{true≢false}
 use Rattle.std.proofs.lemmas.Grind.{common_steps}
-use Rattle.generational_core.proofs.machine.Calling.{lends_at, puts_back, keeps}
-use Rattle.uses.proofs.Results.{of_ok, on_ok}
+use Rattle.generational_core.proofs.machine.Guarding.{set_seen, set_beside}
+use Rattle.generational_sessions.proofs.callers.Lefts.{written_by}
 use Rattle.uses.proofs.values.write_value.Goals as goal
 
+pub unreachable-requires : goal.unreachable-requires
+unreachable-requires g c = true≢false (sym (written_by _ _ c.in_ok-guard.guard _ c.args.value
+    {U = Unit {0}} (Err c.in-Err.field-0) c.in_ok-guard.ensures c.in-Err.ensures
+    (grind (arith, common_steps))).0)
+
 pub returns-clause-written : goal.returns-clause-written
-returns-clause-written g c b together =
-    let place = of_ok _ _ _ c.in_ok-guard.ensures.value (lends_at _ _ _ c.try_write.ensures) in
-    let back = on_ok _ _ c.in_ok-ok.ensures.value (puts_back _ _ _ c.release.ensures) in
-    let there = place.0 ∙ ap Some (grind (arith, common_steps)) in
-    back b (place.1 b ∙ (together ∙ there)) ∙ ap Some (grind arith)
+returns-clause-written g c = set_seen (written_by _ _ c.in_ok-guard.guard _ c.args.value
+    (Ok c.in-Ok.field-0) c.in_ok-guard.ensures c.in-Ok.ensures (grind (arith, common_steps))).1
 
 pub returns-clause-others : goal.returns-clause-others
-returns-clause-others g c b v apart seen =
-    let sound = g.met.S.AnyStorage.sound in
-    let place = of_ok _ _ _ c.in_ok-guard.ensures.value (lends_at _ _ _ c.try_write.ensures) in
-    keeps _ _ (sound _) c.release.ensures b v
-    (λ e. apart (sym (place.1 b) ∙ (e ∙ grind (arith, common_steps))))
-    (keeps _ _ (sound _) c.try_write.ensures b v (λ e. apart (sym e)) seen)
+returns-clause-others g c = set_beside (written_by _ _ c.in_ok-guard.guard _ c.args.value
+    (Ok c.in-Ok.field-0) c.in_ok-guard.ensures c.in-Ok.ensures (grind (arith, common_steps))).1

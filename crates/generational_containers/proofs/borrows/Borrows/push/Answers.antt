@@ -1,5 +1,5 @@
 -- A borrow more at the end.
-use Rattle.std.proofs.Common.{arith}
+use Rattle.std.proofs.Common.{arith, length-append}
 use Rattle.generational_containers.proofs.lists.Tickets.{push_ascends, two_ascend}
 use Rattle.generational_containers.proofs.borrows.Borrows.push.Goals as goal
 
@@ -12,5 +12,5 @@ pub invariant_of-self-in-Continue-branch-2 : goal.invariant_of-self-in-Continue-
 invariant_of-self-in-Continue-branch-2 c =
     let below = rw (← c.self.view_is, c.in-Several.is) at c.requires in
     let stand = rw c.in-Several.is at c.self.invariant in
-    rw (c.in_ok-push_back-in-Several.ensures.items, c.deref_mut.ensures.value)
-    (grind (arith, stand.0), push_ascends _ c.args.borrow stand.1 below)
+    rw (c.in_ok-push_behind-in-Several.ensures.ok, c.deref_mut.ensures.value)
+    (grind (arith, length-append, stand.0), push_ascends _ c.args.borrow stand.1 below)

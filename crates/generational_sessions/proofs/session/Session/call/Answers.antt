@@ -6,13 +6,13 @@ use Rattle.generational_sessions.proofs.session.Session.call.Goals as goal
 pub invariant_of-self-2 : goal.invariant_of-self-2
 invariant_of-self-2 g c = session_kept _ _ c.args.call _ (subst IsSoundSession
     c.self.view_is c.self.invariant) (call_step _ _ _ _ _ c.args.call _ _ c.self.view_is
-    (rw c.reserve.ensures.items at c.answer-reply.ensures.step) c.push_reserved.ensures.items)
+    (rw c.reserve_more.ensures.items at c.answer-reply.ensures.step) c.push_reserved.ensures.items)
 
 pub returns : goal.returns
 returns g c =
     let before = subst IsSoundSession c.self.view_is c.self.invariant in
     let step = call_step _ _ _ _ _ c.args.call _ _ c.self.view_is
-    (rw c.reserve.ensures.items at c.answer-reply.ensures.step) c.push_reserved.ensures.items in
+    (rw c.reserve_more.ensures.items at c.answer-reply.ensures.step) c.push_reserved.ensures.items in
     let told = refusals _ _ c.args.call _ step in
     record {
       step = step;

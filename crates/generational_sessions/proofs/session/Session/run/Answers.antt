@@ -6,8 +6,8 @@ use Rattle.generational_sessions.proofs.session.Session.run.Goals as goal
 
 pub loop-call-init : goal.loop-call-init
 loop-call-init g c =
-    let room = went c.reserve.result c.if-is_err.ensures.value c.reserve.ensures.ok in record {
-      run = run_starts _ _ _ _ _ _ c.self.view_is c.reserve.ensures.items c.reverse.ensures.items
+    let room = went c.reserve_more.result c.if-is_err.ensures.value c.reserve_more.ensures.ok in record {
+      run = run_starts _ _ _ _ _ _ c.self.view_is c.reserve_more.ensures.items c.reverse.ensures.items
           c.in-Ok.ensures.items;
       things = omega (arith, room, c.reverse.ensures.len, c.len-count.ensures);
       replies = omega (

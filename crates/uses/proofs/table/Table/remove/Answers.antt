@@ -1,15 +1,18 @@
-use Rattle.std.proofs.Common.{Err, sym, ap, ◌∙◌}
+use Rattle.std.proofs.Common.{Err, refl, sym, ap, ◌∙◌}
 use Rattle.std.proofs.lemmas.Bool.{true≢false}
 use Rattle.std.specs.Prelude.{is_some}
 use Rattle.generational_core.proofs.machine.Calling.{ends_free}
 use Rattle.generational_core.proofs.machine.Resting.{free_sees}
-use Rattle.uses.proofs.Rows.{each_at, empty_again, ended_row, shown_at}
-use Rattle.uses.specs.Table.{IsFree, shown_in}
+use Rattle.generational_sessions.proofs.callers.Lacking.{ended_next}
+use Rattle.uses.proofs.Tables.{same_table}
+use Rattle.generational_sessions.proofs.callers.Rows.{each_at, empty_again, ended_row, shown_at}
+use Rattle.generational_sessions.specs.BoxRows.{IsFree, shown_in}
 use Rattle.uses.proofs.table.Table.remove.Goals as goal
 
 pub returns-in_default-clause-removed : goal.returns-in_default-clause-removed
 returns-in_default-clause-removed g c =
-    rw (← c.self.view_is) (sym (empty_again _ _ c.args.row (sym c.box_in.ensures ∙ c.in_default.is)))
+    rw (← c.self.view_is) (same_table _ _
+    (sym (empty_again _ _ c.args.row (sym c.box_in.ensures ∙ c.in_default.is))) refl)
 
 pub invariant_of-self : goal.invariant_of-self
 invariant_of-self g c =
@@ -32,6 +35,6 @@ returns-clause-had g c =
 
 pub returns-clause-removed : goal.returns-clause-removed
 returns-clause-removed g c =
-    rw (← c.self.view_is)
+    rw (← c.self.view_is) (same_table _ _
     (ended_row (g.met.S.AnyStorage.sound _) _ c.self.invariant c.args.row c.in-Some.target
-    (sym c.box_in.ensures ∙ c.in-Some.is) c.in-Ok.ensures).1
+    (sym c.box_in.ensures ∙ c.in-Some.is) c.in-Ok.ensures).1 (ended_next _ _ c.in-Ok.ensures))

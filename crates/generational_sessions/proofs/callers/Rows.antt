@@ -17,8 +17,8 @@ use Rattle.generational_core.specs.declared.boxes.GenerationalPointer.{Generatio
 use Rattle.generational_core.specs.declared.error.Location.{Location}
 use Rattle.generational_core.proofs.machine.Calling.{made, made_apart, made_free, keeps, keeps_free}
 use Rattle.generational_core.proofs.machine.Resting.{free_sees}
-use Rattle.uses.specs.Table.{Rows, IsFree, shown_in, values_in, EachBox, HasOtherName}
-use Rattle.uses.specs.Table.{AreApart, AreKept}
+use Rattle.generational_sessions.specs.BoxRows.{Rows, IsFree, shown_in, values_in, EachBox, HasOtherName}
+use Rattle.generational_sessions.specs.BoxRows.{AreApart, AreKept}
 
 module _ {T : Type 0} where
   -- ---- what holds of each box
@@ -143,7 +143,7 @@ module _ {T : Type 0} where
   still_free S R (Some b ∷ rows) free all =
       (all.0.free free.0, still_free S R rows free.1 all.1)
 
-  -- ---- the rows of a table after a call of its store
+  -- ---- rows after a call of their store
 
   module _ {S R : State T} (s : IsSound S) (rows : Rows T) (k : AreKept S rows) where
     -- rows whose boxes are all kept

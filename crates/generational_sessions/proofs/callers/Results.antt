@@ -1,6 +1,6 @@
 -- What clauses on results and options say of the value with which a caller goes on.
-use Rattle.std.proofs.Common.{◌≡◌, Option, None, Some, sym, ap, ◌∙◌}
-use Rattle.std.specs.Prelude.{Result, Ok, Err, IfOk, OnOk, IfSome, OnSome}
+use Rattle.std.proofs.Common.{◌≡◌, Option, None, Some, sym, ap, subst, ◌∙◌}
+use Rattle.std.specs.Prelude.{Result, Ok, Err, IfOk, OnOk, OnErr, IfSome, IfNone, OnSome}
 use Rattle.std.specs.Result.{result_ok}
 use Rattle.std.proofs.lemmas.Option.{none-some, same_Some}
 use Rattle.std.proofs.lemmas.Result.{IfOk-at_ok}
@@ -26,6 +26,17 @@ module _ {X : Type 0} where
   pub on_some : {P : Type 0} (r : Option X) (x : X) → r ≡ Some x → OnSome r P → P
   on_some (Some y) x e p = p
   on_some None x e p = absurd (none-some x e)
+
+  -- what follows of the option into which a result was made
+  pub some_so : {E : Type 0} {P Q : X → Type 0} (r : Result X E) (o : Option X) → o ≡ result_ok r
+      → ((x : X) → P x → Q x) → IfOk r P → IfSome o Q
+  some_so {P = P} {Q = Q} (Ok y) o is so p = subst (λ s. IfSome s Q) (sym is) (so y p)
+  some_so {P = P} {Q = Q} (Err e) o is so p = subst (λ s. IfSome s Q) (sym is) tt
+
+  pub none_so : {E : Type 0} (Q : Type 0) (r : Result X E) (o : Option X) → o ≡ result_ok r
+      → OnErr r Q → IfNone o Q
+  none_so Q (Ok y) o is q = subst (λ s. IfNone s Q) (sym is) tt
+  none_so Q (Err e) o is q = subst (λ s. IfNone s Q) (sym is) q
 
   -- an option that has a known value, and one whose value is known to be what something has
   pub has : (r : Option X) (v : X) → r ≡ Some v → IfSome r (λ s. s ≡ v)

@@ -1,0 +1,114 @@
+-- Stores without references: a box reaches its own cell, and which calls leave a store so.
+use Rattle.std.specs.FinMap as map
+use Rattle.std.specs.FinSet as set
+use Rattle.std.proofs.Common.{◌≡◌, false, Option, None, Some, refl, sym, ap, subst}
+use Rattle.std.proofs.Common.{◌∙◌, ⊎_elim, ℕ, []}
+use Rattle.std.proofs.lemmas.Bool.{true≢false}
+use Rattle.std.proofs.lemmas.Option.{same_Some}
+use Rattle.generational_core.specs.Borrowing.{reach, leads_to}
+use Rattle.generational_core.specs.Boxes.{name_of}
+use Rattle.generational_core.specs.Cells.{Cell, Content, refill}
+use Rattle.generational_core.specs.Cells.Cell.{Value, Shared, Ref}
+use Rattle.generational_core.specs.Cells.Content.{Here}
+use Rattle.generational_core.specs.Conditions.{fresh}
+use Rattle.generational_core.specs.Machine.{Action, Answer, Outcome, OwnerName}
+use Rattle.generational_core.specs.Machine.{add_cell, add_to_list, is_known}
+use Rattle.generational_core.specs.Machine.Action.{Make, MakeShared, Refer}
+use Rattle.generational_core.specs.Names.{Name, NameMap, name_cmp}
+use Rattle.generational_core.specs.State.{State}
+use Rattle.generational_core.specs.Steps.{Meets}
+use Rattle.generational_core.specs.declared.boxes.GenerationalPointer.{GenerationalPointer}
+use Rattle.generational_core.specs.declared.error.Location.{Location}
+use Rattle.generational_core.proofs.maps.Maps.{by_name, get-insert_apart, get-insert_here, name_cases}
+use Rattle.generational_core.proofs.machine.Changes.{is_making, new_content}
+use Rattle.generational_core.proofs.machine.Ends.{by_cond, none≢some}
+use Rattle.generational_core.proofs.machine.Seeing.{reaches}
+use Rattle.generational_core.proofs.machine.Soundness.{keep_each}
+use Rattle.generational_core.proofs.machine.Stepping.{act_start, meets_cases, meets_follows}
+use Rattle.generational_sessions.specs.PlainStores.{IsPlain, MakesNoReference}
+
+module _ {T : Type 0} where
+  -- ---- what a box reaches
+
+  pub reaches_own : (S : State T) → IsPlain S → (b : GenerationalPointer) (m : Name)
+      → reach S b ≡ Some m → m ≡ name_of b
+  reaches_own S plain b m to = at (map.get S.cells (name_of b)) refl (reaches S b m to).leads
+    where
+      at : (c : Option (Cell T)) → map.get S.cells (name_of b) ≡ c
+          → leads_to c (name_of b) ≡ Some m → m ≡ name_of b
+      at None is e = absurd (none≢some {A = Name} None m refl e)
+      at (Some (Value c l)) is e = sym (same_Some _ _ e)
+      at (Some (Shared c l)) is e = absurd (none≢some {A = Name} None m refl e)
+      at (Some (Ref n l)) is e = absurd (plain.none (name_of b) n l is)
+
+  -- so boxes that reach the same have one name
+  pub reach_apart : (S : State T) → IsPlain S → (a b : GenerationalPointer) (m : Name)
+      → reach S a ≡ Some m → reach S b ≡ reach S a → name_of a ≡ name_of b
+  reach_apart S plain a b m to same =
+      sym (reaches_own S plain a m to) ∙ reaches_own S plain b m (same ∙ to)
+
+  -- ---- which calls leave a store so
+
+  abbrev IsNoRef : Option (Cell T) → Type 0
+  IsNoRef x = (m : Name) (l : Location) → x ≡ Some (Ref m l) → ⊥
+
+  pub fresh_plain : (number start next : ℕ) → IsPlain (fresh {T = T} number start next)
+  fresh_plain number start next = record {
+    none = λ n m l is. none≢some _ (Ref m l) (map.get-empty name_cmp n) is;
+  }
+
+  inserted_plain : (cells : NameMap (Cell T)) (k : Name) (c : Content T) (l : Location)
+      → ((n : Name) → IsNoRef (map.get cells n))
+      → (n : Name) → IsNoRef (map.get (map.insert cells k (Value c l)) n)
+  inserted_plain cells k c l plain n m j is = ⊎_elim
+      (λ same. let here = sym (get-insert_here by_name cells k (Value c l))
+      ∙ (ap (map.get (map.insert cells k (Value c l))) (sym same) ∙ is) in absurd cc)
+      (λ ne. plain n m j (sym (get-insert_apart by_name cells k (Value c l) n ne) ∙ is))
+      (name_cases n k)
+
+  made_plain : {S R : State T} (o : Option OwnerName) (v : T) (l : Location) (answer : Answer T)
+      → Meets S (Make o v l) answer R → IsPlain S → IsPlain R
+  made_plain {S} {R} o v l answer m plain = ⊎_elim
+      (λ refused. subst IsPlain (sym refused.1) plain)
+      (λ acts. subst (λ (out : Outcome T). IsPlain out.1) (sym acts.2)
+      (by_cond (λ (out : Outcome T). IsPlain out.1) (is_known S o)
+      (λ _. listed o acts.0.first (record {
+        none = inserted_plain S.cells acts.0.first (Here v []) l
+            plain.none;
+      })) (λ _. plain)))
+      (meets_cases S R (Make o v l) answer m)
+    where
+      listed : (o : Option OwnerName) (n : Name) → IsPlain (add_cell S n (Value (Here v []) l))
+          → IsPlain (add_to_list (add_cell S n (Value (Here v []) l)) o n)
+      listed None n h = record { none = h.none }
+      listed (Some a) n h = record { none = h.none }
+
+  refilled : (d : Content T) (c : Cell T) (m : Name) (l : Location)
+      → IsNoRef (Some c) → Some (refill d c) ≡ Some (Ref m l) → ⊥
+  refilled d (Value k j) m l plain is = absurd cc
+  refilled d (Shared k j) m l plain is = absurd cc
+  refilled d (Ref n j) m l plain is = plain n j refl
+
+  kept_plain : {S R : State T} (call : Action T) (answer : Answer T) → Meets S call answer R
+      → is_making call ≡ false → IsPlain S → IsPlain R
+  kept_plain {S} {R} call answer meets other plain = record {
+    none = λ n. keep_each (meets_follows S R call answer meets) n (λ x y. IsNoRef x → IsNoRef y)
+        (λ x h. h) (λ free h m l is. none≢some _ (Ref m l) refl is)
+        (λ new is quiet h. absurd (true≢false
+        (sym is ∙ (ap (λ names. set.contains names n) given ∙ new))))
+        (λ k c here law had has h m l is. refilled (new_content S k) c m l h is)
+        (λ m j l h. absurd (h m l refl)) (plain.none n);
+  }
+    where
+      given : R.given ≡ S.given
+      given = ⊎_elim (λ refused. ap (λ (X : State T). X.given) refused.1)
+          (λ acts. ap (λ (out : Outcome T). out.1.given) acts.2
+          ∙ (act_start S call acts.0).given other)
+          (meets_cases S R call answer meets)
+
+  pub stays_plain : {S R : State T} (call : Action T) (answer : Answer T) → Meets S call answer R
+      → MakesNoReference call → IsPlain S → IsPlain R
+  stays_plain (Make o v l) answer m none plain = made_plain o v l answer m plain
+  stays_plain (MakeShared o v l) answer m none plain = absurd none
+  stays_plain (Refer o b) answer m none plain = absurd none
+  stays_plain call answer m none plain = kept_plain call answer m refl plain

@@ -1,0 +1,20 @@
+-- Stores without references: what a box reaches is its own cell there.
+use Rattle.std.specs.Prelude.{◌≡◌, Some}
+use Rattle.std.specs.FinMap as map
+use Rattle.generational_core.specs.declared.error.Location.{Location}
+use Rattle.generational_core.specs.Cells.Cell.{Ref}
+use Rattle.generational_core.specs.Machine.{Action}
+use Rattle.generational_core.specs.Machine.Action.{MakeShared, Refer}
+use Rattle.generational_core.specs.Names.{Name}
+use Rattle.generational_core.specs.State.{State}
+
+module _ {T : Type 0} where
+  -- no cell is a Ref
+  pub record IsPlain (S : State T) : Type 0 where
+    pub none : (n m : Name) (l : Location) → map.get S.cells n ≡ Some (Ref m l) → ⊥
+
+  -- a call asks for no shared value and for no reference
+  abbrev pub MakesNoReference : Action T → Type 0
+  MakesNoReference (MakeShared o v l) = ⊥
+  MakesNoReference (Refer o b) = ⊥
+  MakesNoReference _ = Unit {0}

@@ -1,0 +1,83 @@
+//! Calls that may lack memory, each asked again where it does: the second time it is answered.
+
+use crate::expected::{begin, counts_of, insert, leak, made, new_owner};
+use generational_box::{
+    AlreadyBorrowedError, AnyStorage, BorrowMutError, GenerationalBox, GenerationalRef, Location,
+    Owner, Refused, Storage, StoreError,
+};
+use std::alloc::Global;
+use std::process::Abort;
+
+/// Makes a box. A making that lacks memory hands the value back, and changes no count.
+pub(crate) fn leak_or_again<T: Drop, S: Storage<T>>(
+    rt: &impl Abort,
+    store: &mut S,
+    value: T,
+) -> GenerationalBox<T> {
+    let before = counts_of(store);
+    match GenerationalBox::leak(store, value, made()) {
+        Ok(given) => given,
+        Err(refusal) => {
+            assert_eq!(rt; refusal.cause, StoreError::OutOfMemory);
+            assert_eq!(rt; counts_of(store), before);
+            leak(rt, store, refusal.value, made())
+        }
+    }
+}
+
+/// Begins a read beside another.
+pub(crate) fn begin_or_again<T, S: Storage<T>>(
+    rt: &impl Abort,
+    store: &mut S,
+    asked: GenerationalBox<T>,
+    began: Location,
+) -> GenerationalRef<T> {
+    match asked.try_read(store, began) {
+        Err(Refused::Store(StoreError::OutOfMemory)) => begin(rt, store, asked, began),
+        answer => answer.expect(rt, "a guard"),
+    }
+}
+
+/// Makes an owner. Want of memory leaves the store as it was.
+pub(crate) fn owner_or_again<T, S: AnyStorage<T>>(rt: &impl Abort, store: &mut S) -> Owner {
+    let before = (store.is_fresh(), counts_of(store));
+    match store.owner() {
+        Ok(given) => given,
+        Err(cause) => {
+            assert_eq!(rt; cause, StoreError::OutOfMemory);
+            assert_eq!(rt; (store.is_fresh(), counts_of(store)), before);
+            new_owner(rt, store)
+        }
+    }
+}
+
+/// Makes a box by an owner. A making that lacks memory hands the value back, and changes no count.
+pub(crate) fn insert_or_again<T: Drop, S: Storage<T>>(
+    rt: &impl Abort,
+    store: &mut S,
+    owner: &Owner,
+    value: T,
+) -> GenerationalBox<T> {
+    let before = counts_of(store);
+    match owner.insert(store, value, made()) {
+        Ok(given) => given,
+        Err(refusal) => {
+            assert_eq!(rt; refusal.cause, StoreError::OutOfMemory);
+            assert_eq!(rt; counts_of(store), before);
+            insert(rt, store, owner, refusal.value, made())
+        }
+    }
+}
+
+/// The refusal of an end with these readers.
+pub(crate) fn readers(
+    rt: &impl Abort,
+    alloc: Global,
+    began: &[Location],
+) -> Refused<BorrowMutError> {
+    let began = match began.to_vec(alloc) {
+        Ok(began) => began,
+        Err(_) => began.to_vec(alloc).expect(rt, "memory"),
+    };
+    Refused::Borrow(BorrowMutError::AlreadyBorrowed(AlreadyBorrowedError::new(began)))
+}

@@ -1,0 +1,167 @@
+//! Calls of scopes and signals over any store, one a function, with what they must answer.
+
+use generational_box::{
+    AlreadyBorrowedError, AnyStorage, BorrowError, BorrowMutError, Location, Refused, Storage,
+    ValueDroppedError,
+};
+use signals::{Scope, Signal};
+use std::alloc::Global;
+use std::process::Abort;
+
+/// Where a value is made.
+pub(crate) fn first_made() -> Location {
+    Location::new("a.rs", 3, 5)
+}
+
+/// Where another value is made.
+pub(crate) fn second_made() -> Location {
+    Location::new("a.rs", 8, 9)
+}
+
+/// Where a value is read or written.
+pub(crate) fn asked() -> Location {
+    Location::new("r.rs", 1, 2)
+}
+
+/// Begins a scope.
+pub(crate) fn scope<S: AnyStorage<u64>>(rt: &impl Abort, store: &mut S) -> Scope {
+    Scope::new(store).expect(rt, "a scope")
+}
+
+/// Makes a signal of a value.
+pub(crate) fn signal<S: Storage<u64>>(
+    rt: &impl Abort,
+    store: &mut S,
+    scope: &Scope,
+    value: u64,
+    made: Location,
+) -> Signal<u64> {
+    let answer = scope.signal(store, value, made);
+    answer
+        .map_err(|refusal| refusal.cause)
+        .expect(rt, "a signal")
+}
+
+/// Makes an alias of a signal.
+pub(crate) fn alias<S: Storage<u64>>(
+    rt: &impl Abort,
+    store: &mut S,
+    scope: &Scope,
+    of: Signal<u64>,
+) -> Signal<u64> {
+    scope.alias(store, of).expect(rt, "an alias")
+}
+
+/// Ends a scope, in whose way nothing is.
+pub(crate) fn end<S: AnyStorage<u64>>(rt: &impl Abort, store: &mut S, scope: Scope) {
+    match scope.end(store) {
+        Ok(()) => {}
+        Err(_back) => rt.abort(),
+    }
+}
+
+/// The scope that comes back from an end in whose way a reader is.
+pub(crate) fn end_hindered<S: AnyStorage<u64>>(
+    rt: &impl Abort,
+    store: &mut S,
+    scope: Scope,
+    alloc: Global,
+) -> Scope {
+    match scope.end(store) {
+        Ok(()) => rt.abort(),
+        Err((scope, refused)) => {
+            let readers = vec![in alloc; asked()].expect(rt, "memory");
+            let read = BorrowMutError::AlreadyBorrowed(AlreadyBorrowedError::new(readers));
+            assert_eq!(rt; refused, Refused::Borrow(read));
+            scope
+        }
+    }
+}
+
+/// Reads a signal, which has a value.
+pub(crate) fn sees<S: Storage<u64>>(
+    rt: &impl Abort,
+    store: &mut S,
+    signal: Signal<u64>,
+    value: u64,
+) {
+    assert!(rt; signal.is_readable(store));
+    assert_eq!(rt; signal.get(store, asked(), |seen| *seen), Ok(value));
+}
+
+/// Reads a signal that has ended: the closure isn't called.
+pub(crate) fn is_gone<S: Storage<u64>>(
+    rt: &impl Abort,
+    store: &mut S,
+    signal: Signal<u64>,
+    made: Location,
+) {
+    assert!(rt; !signal.is_readable(store));
+    let mut called = false;
+    let answer = signal.get(store, asked(), |_| called = true);
+    let error = BorrowError::Dropped(ValueDroppedError::new(made));
+    assert_eq!(rt; answer, Err(Refused::Borrow(error)));
+    assert!(rt; !called);
+}
+
+/// Sets a signal.
+pub(crate) fn set<S: Storage<u64>>(
+    rt: &impl Abort,
+    store: &mut S,
+    signal: Signal<u64>,
+    value: u64,
+) {
+    assert_eq!(rt; signal.set(store, value, asked()), Ok(()));
+}
+
+/// Sets a signal that has ended: the value comes back.
+pub(crate) fn set_ended<S: Storage<u64>>(
+    rt: &impl Abort,
+    store: &mut S,
+    signal: Signal<u64>,
+    value: u64,
+    made: Location,
+) {
+    let error = BorrowMutError::Dropped(ValueDroppedError::new(made));
+    let answer = signal.set(store, value, asked());
+    assert_eq!(rt; answer, Err((value, Refused::Borrow(error))));
+}
+
+/// Changes a signal that has ended: the closure isn't called.
+pub(crate) fn update_ended<S: Storage<u64>>(
+    rt: &impl Abort,
+    store: &mut S,
+    signal: Signal<u64>,
+    made: Location,
+) {
+    let mut called = false;
+    let answer = signal.update(store, asked(), |_| called = true);
+    let error = BorrowMutError::Dropped(ValueDroppedError::new(made));
+    assert_eq!(rt; answer, Err(Refused::Borrow(error)));
+    assert!(rt; !called);
+}
+
+/// Doubles a signal's value, and answers the one before.
+pub(crate) fn double<S: Storage<u64>>(
+    rt: &impl Abort,
+    store: &mut S,
+    signal: Signal<u64>,
+    before: u64,
+) {
+    let answer = signal.update(store, asked(), |value| {
+        let before = *value;
+        *value = before.wrapping_mul(2);
+        before
+    });
+    assert_eq!(rt; answer, Ok(before));
+}
+
+/// Lets a signal lead to the value of another.
+pub(crate) fn swap<S: Storage<u64>>(
+    rt: &impl Abort,
+    store: &mut S,
+    signal: Signal<u64>,
+    to: Signal<u64>,
+) {
+    assert_eq!(rt; signal.swap_source(store, to), Ok(()));
+}

@@ -1,0 +1,36 @@
+-- A signal as its box, what makings of signals answer, and what boxes see that lead to one value.
+use Rattle.std.specs.Prelude.{◌≡◌, Result, Ok, Err, Some}
+use Rattle.generational_core.specs.Answers.{pointer_of, read_refused}
+use Rattle.generational_core.specs.Borrowing.{reach}
+use Rattle.generational_core.specs.Machine.{Answer}
+use Rattle.generational_core.specs.Machine.Answer.{Made}
+use Rattle.generational_core.specs.Machine.Answer.{Refused as refuses}
+use Rattle.generational_core.specs.Seeing.{value_in}
+use Rattle.generational_core.specs.State.{State}
+use Rattle.generational_core.specs.declared.boxes.GenerationalBox.{GenerationalBox}
+use Rattle.generational_core.specs.declared.boxes.GenerationalPointer.{GenerationalPointer}
+use Rattle.generational_core.specs.declared.error.BorrowError.{BorrowError}
+use Rattle.generational_core.specs.declared.error.Refusal.{Refusal}
+use Rattle.generational_core.specs.declared.error.Refused.{Refused}
+use Rattle.signals.specs.declared.signal.Signal.{Signal}
+
+module _ {T : Type 0} where
+  -- a signal's box, and that box without its element type
+  abbrev pub box_in : Signal T → GenerationalBox T
+  box_in s = s.raw
+
+  abbrev pub pointer_in : Signal T → GenerationalPointer
+  pointer_in s = pointer_of (box_in s)
+
+  -- what a making of a signal, and of an alias, answers
+  abbrev pub signal_answer : Result (Signal T) (Refusal T) → Answer T
+  signal_answer (Ok s) = Made (pointer_in s)
+  signal_answer (Err r) = refuses r.cause
+
+  abbrev pub alias_answer : Result (Signal T) (Refused BorrowError) → Answer T
+  alias_answer (Ok s) = Made (pointer_in s)
+  alias_answer (Err e) = read_refused e
+
+  -- from S to R each box that reaches what a box reaches has come to see a value
+  abbrev pub AllSee : State T → GenerationalPointer → T → State T → Type 0
+  AllSee S b v R = (c : GenerationalPointer) → reach S c ≡ reach S b → value_in R c ≡ Some v

@@ -1,0 +1,190 @@
+//! Scopes.
+
+ghost use Rattle.std.specs.Prelude.{◌≡◌, ◌≢◌, true, false, List, [], ◌∷◌, ◌++◌, Some, None};
+ghost use Rattle.std.specs.Prelude.{IfOk, IfErr, OnOk, OnErr};
+ghost use Rattle.generational_core.specs.declared.boxes.GenerationalPointer.{GenerationalPointer};
+ghost use Rattle.generational_core.specs.Answers.{owner_answer, release_answer};
+ghost use Rattle.generational_core.specs.Borrowing.{reach};
+ghost use Rattle.generational_core.specs.Boxes.{name_of};
+ghost use Rattle.generational_core.specs.Conditions.{IsEnded};
+ghost use Rattle.generational_core.specs.Leaving.{IsLeft};
+ghost use Rattle.generational_core.specs.Machine.{OwnerName, ownership};
+ghost use Rattle.generational_core.specs.Machine.Action.{NewOwner, MakeShared, Refer, ReleaseOwner};
+ghost use Rattle.generational_core.specs.Names.{Name, among};
+ghost use Rattle.generational_core.specs.Seeing.{value_in};
+ghost use Rattle.generational_core.specs.Steps.{Meets};
+ghost use Rattle.signals.specs.Scopes.{HasSignals, LeavesScopes, LeavesOtherScopes};
+ghost use Rattle.signals.specs.Signals.{pointer_in, signal_answer, alias_answer};
+
+use crate::signal::Signal;
+use generational_core::{
+    AnyStorage, BorrowMutError, BorrowResult, Location, Owner, Refusal, Refused, Storage,
+    StoreError,
+};
+use generational_sessions::caller_laws::{
+    boxes_end_for_good, calls_leave_other_boxes, calls_leave_other_owners,
+    refused_calls_change_nothing,
+};
+use generational_sessions::laws::{
+    boxes_and_guards_are_new, made_boxes_see_their_values, owners_list_their_boxes,
+};
+use std::marker::Model;
+
+/// A scope of signals, which end with it. Contracts see it as its store's number and its key.
+///
+/// It has no `Drop`: `end` or `leak` must spend it.
+pub struct Scope {
+    owner: Owner,
+}
+
+impl Model for Scope {
+    ghost use Rattle.generational_core.specs.Machine.{OwnerName};
+
+    ghost Value = { OwnerName };
+
+    ghost view = { λ s. s.owner };
+}
+
+impl Scope {
+    /// A scope without signals.
+    ///
+    /// Refused, in this order: `NumbersExhausted`, where no ticket is left; `OutOfMemory`. The store
+    /// stays as it was then. Takes memory for the scope's record.
+    pub fn new<T, S: AnyStorage<T>>(store: &mut S) -> Result<Scope, StoreError>
+        ensures step { Meets (S.state store.old) NewOwner (owner_answer result)
+            (S.state store.new) }
+        ensures empty { IfOk result (λ scope. HasSignals (S.state store.new) scope []) }
+        ensures unknown { IfOk result (λ scope. ownership (S.state store.old) scope ≡ None) }
+        ensures others { (b : GenerationalPointer) →
+            IsLeft (S.state store.old) b (S.state store.new) }
+        ensures scopes { LeavesScopes (S.state store.old) (S.state store.new) }
+        ensures refused { OnErr result (S.state store.new ≡ S.state store.old) }
+    {
+        owners_list_their_boxes::<T>();
+        calls_leave_other_boxes::<T>();
+        calls_leave_other_owners::<T>();
+        let owner = store.owner()?;
+        Ok(Scope { owner })
+    }
+
+    /// Makes a signal of a value, which ends with the scope and with no other. The signal sees the
+    /// value, and each other box is left as it was.
+    ///
+    /// Refused, in this order: `UnknownOwner`, where the scope is another store's; `OutOfMemory`.
+    /// The value comes back then, and the store stays as it was. Takes memory where fewer than two
+    /// slots are free, or the scope's list has no room. O(1), but for finding room.
+    pub fn signal<T, S: Storage<T>>(
+        &self,
+        store: &mut S,
+        value: T,
+        location: Location,
+    ) -> Result<Signal<T>, Refusal<T>>
+        ensures step { Meets (S.state store.old) (MakeShared (Some self.now) value location)
+            (signal_answer result) (S.state store.new) }
+        ensures seen { IfOk result (λ signal.
+            value_in (S.state store.new) (pointer_in signal) ≡ Some value) }
+        ensures others { IfOk result (λ signal. (b : GenerationalPointer) →
+            name_of (pointer_in signal) ≢ name_of b →
+            IsLeft (S.state store.old) b (S.state store.new)) }
+        ensures listed { IfOk result (λ signal. (names : List Name) →
+            HasSignals (S.state store.old) self.now names →
+            HasSignals (S.state store.new) self.now (names ++ name_of (pointer_in signal) ∷ [])) }
+        ensures unlisted { IfOk result (λ signal. (scope : OwnerName) (names : List Name) →
+            HasSignals (S.state store.old) scope names →
+            among names (name_of (pointer_in signal)) ≡ false) }
+        ensures scopes { LeavesOtherScopes (S.state store.old) self.now (S.state store.new) }
+        ensures refused { OnErr result (S.state store.new ≡ S.state store.old) }
+        ensures back { IfErr result (λ refusal. refusal.value ≡ value) }
+    {
+        made_boxes_see_their_values::<T>();
+        boxes_and_guards_are_new::<T>();
+        calls_leave_other_boxes::<T>();
+        calls_leave_other_owners::<T>();
+        refused_calls_change_nothing::<T>();
+        let raw = self.owner.insert_rc(store, value, location)?;
+        Ok(Signal { raw })
+    }
+
+    /// Makes a signal of the value to which another signal leads. It reaches and sees what the other
+    /// does, and each other box is left as it was. It ends with the scope and with no other, and
+    /// the value lives at least as long.
+    ///
+    /// Refused, in this order: `UnknownOwner`, where the scope is another store's; `Dropped`, where
+    /// the other has ended; `AlreadyBorrowedMut`, where its value is written; `OutOfMemory`. The
+    /// store stays as it was then. Takes memory where no slot is free, or the scope's list has no
+    /// room. O(1), but for finding room.
+    pub fn alias<T, S: Storage<T>>(&self, store: &mut S, of: Signal<T>) -> BorrowResult<Signal<T>>
+        ensures step { Meets (S.state store.old) (Refer (Some self.now) (pointer_in of))
+            (alias_answer result) (S.state store.new) }
+        ensures reached { IfOk result (λ signal.
+            reach (S.state store.new) (pointer_in signal) ≡
+            reach (S.state store.old) (pointer_in of)) }
+        ensures together { IfOk result (λ signal.
+            reach (S.state store.new) (pointer_in signal) ≡
+            reach (S.state store.new) (pointer_in of)) }
+        ensures seen { IfOk result (λ signal.
+            value_in (S.state store.new) (pointer_in signal) ≡
+            value_in (S.state store.old) (pointer_in of)) }
+        ensures others { IfOk result (λ signal. (b : GenerationalPointer) →
+            name_of (pointer_in signal) ≢ name_of b →
+            IsLeft (S.state store.old) b (S.state store.new)) }
+        ensures listed { IfOk result (λ signal. (names : List Name) →
+            HasSignals (S.state store.old) self.now names →
+            HasSignals (S.state store.new) self.now (names ++ name_of (pointer_in signal) ∷ [])) }
+        ensures unlisted { IfOk result (λ signal. (scope : OwnerName) (names : List Name) →
+            HasSignals (S.state store.old) scope names →
+            among names (name_of (pointer_in signal)) ≡ false) }
+        ensures scopes { LeavesOtherScopes (S.state store.old) self.now (S.state store.new) }
+        ensures refused { OnErr result (S.state store.new ≡ S.state store.old) }
+    {
+        made_boxes_see_their_values::<T>();
+        boxes_and_guards_are_new::<T>();
+        calls_leave_other_boxes::<T>();
+        calls_leave_other_owners::<T>();
+        refused_calls_change_nothing::<T>();
+        let raw = self.owner.insert_reference(store, of.raw)?;
+        Ok(Signal { raw })
+    }
+
+    /// Ends the scope and all of its signals: each name of its list has ended, and each other box is
+    /// left as it was. A value ends with the last signal that leads to it, so one to which a signal
+    /// of another scope leads lives on.
+    ///
+    /// Refused, in this order: `UnknownOwner`, where the scope is another store's; the answer of a
+    /// write at the first signal of the scope, in the order in which they were made, whose value
+    /// would end and is borrowed. The scope comes back then, and the store stays as it was. Takes
+    /// memory for a refusal's locations alone. O(k) for k signals.
+    pub fn end<T, S: AnyStorage<T>>(
+        self,
+        store: &mut S,
+    ) -> Result<(), (Scope, Refused<BorrowMutError>)>
+        ensures step { Meets (S.state store.old) (ReleaseOwner self) (release_answer result)
+            (S.state store.new) }
+        ensures ended { OnOk result ((names : List Name) →
+            HasSignals (S.state store.old) self names →
+            (n : Name) → among names n ≡ true → IsEnded (S.state store.new) n) }
+        ensures others { OnOk result ((names : List Name) →
+            HasSignals (S.state store.old) self names →
+            (b : GenerationalPointer) → among names (name_of b) ≡ false →
+            IsLeft (S.state store.old) b (S.state store.new)) }
+        ensures scopes { LeavesOtherScopes (S.state store.old) self (S.state store.new) }
+        ensures refused { OnErr result (S.state store.new ≡ S.state store.old) }
+        ensures back { IfErr result (λ refusal. refusal.0 ≡ self) }
+    {
+        boxes_end_for_good::<T>();
+        calls_leave_other_boxes::<T>();
+        calls_leave_other_owners::<T>();
+        refused_calls_change_nothing::<T>();
+        let Scope { owner } = self;
+        match owner.release(store) {
+            Ok(()) => Ok(()),
+            Err((owner, refused)) => Err((Scope { owner }, refused)),
+        }
+    }
+    /// Spends the scope and leaves its signals as they are: they never end by a scope from then on.
+    /// So it lets go of a scope whose end was refused.
+    pub fn leak(self) {
+        let Scope { owner } = self;
+        owner.leak();
+    }
+}

@@ -1,0 +1,219 @@
+//! Signals.
+
+ghost use Rattle.std.specs.Prelude.{◌≡◌, ◌≢◌, Some, IfOk, IfErr, OnOk, OnErr};
+ghost use Rattle.std.specs.Fn.{FnOnceReturnsAt, FnOnceReturnsAtMut};
+ghost use Rattle.generational_core.specs.declared.boxes.GenerationalPointer.{GenerationalPointer};
+ghost use Rattle.generational_core.specs.Answers.{read_refused, end_refused, end_answer};
+ghost use Rattle.generational_core.specs.Boxes.{name_of};
+ghost use Rattle.generational_core.specs.Borrowing.{reach, can_read, take_ticket};
+ghost use Rattle.generational_core.specs.Leaving.{IsLeft, IsSet};
+ghost use Rattle.generational_core.specs.Machine.Action.{Read, Write, Point};
+ghost use Rattle.generational_core.specs.Seeing.{value_in};
+ghost use Rattle.generational_core.specs.Steps.{Meets};
+ghost use Rattle.signals.specs.Scopes.{LeavesScopes};
+ghost use Rattle.signals.specs.Signals.{box_in, pointer_in, AllSee};
+
+use generational_core::{
+    BorrowMutError, BorrowMutResult, BorrowResult, GenerationalBox, GenerationalRefMut, Location,
+    Refused, Storage,
+};
+use generational_sessions::caller_laws::{
+    calls_leave_other_boxes, calls_leave_other_owners, guards_stay_known,
+    pointed_boxes_see_what_others_saw, refused_calls_change_nothing,
+    released_borrows_leave_the_rest,
+};
+use generational_sessions::laws::{
+    guards_hold_what_boxes_see, made_boxes_see_their_values, unborrowed_boxes_are_free,
+};
+use std::alloc::AllocError;
+
+/// A signal: it leads to a value that other signals may lead to as well, and is copied freely.
+/// Contracts see it as its box (`box_in`).
+///
+/// A signal owns nothing: it reads its value until its scope ends.
+pub struct Signal<T> {
+    pub(crate) raw: GenerationalBox<T>,
+}
+
+/// Never refused, and takes no memory.
+impl<T> Clone for Signal<T> {
+    ghost use Rattle.std.specs.Prelude.{⊤};
+
+    ghost is_clone = { λ a b. b ≡ a };
+
+    ghost is_infallible = { λ _. ⊤ };
+
+    fn clone(&self) -> Result<Self, AllocError> {
+        Ok(*self)
+    }
+}
+
+impl<T> Copy for Signal<T> {}
+
+impl<T> Signal<T> {
+    /// The signal's box, with which each call of a box may be made.
+    pub fn as_box(self) -> GenerationalBox<T>
+        ensures { result ≡ box_in self }
+    {
+        self.raw
+    }
+
+    /// Reads the value, and answers what the closure makes of it, which is called once. Nothing is
+    /// left of the read but a ticket that it used up.
+    ///
+    /// Refused as a read of the signal's box is, in this order: `Dropped`, `AlreadyBorrowedMut`,
+    /// `NumbersExhausted`, `OutOfMemory`, only beside another reader. The closure isn't called then,
+    /// and the store stays as it was.
+    pub fn get<S: Storage<T>, R, F: FnOnce(&T) -> R>(
+        self,
+        store: &mut S,
+        location: Location,
+        f: F,
+    ) -> BorrowResult<R>
+        requires { F.IsAlwaysCallable f }
+        ensures read { IfOk result (λ answer. (v : T) ×
+            (value_in (S.state store.old) (pointer_in self) ≡ Some v) ×
+            FnOnceReturnsAt F.FnOnce f v answer) }
+        ensures ticket { OnOk result (S.state store.new ≡ take_ticket (S.state store.old)) }
+        ensures refused { IfErr result (λ cause. (S.state store.new ≡ S.state store.old) ×
+            Meets (S.state store.old) (Read (pointer_in self) location) (read_refused cause)
+            (S.state store.new)) }
+    {
+        guards_stay_known::<T>();
+        unborrowed_boxes_are_free::<T>();
+        refused_calls_change_nothing::<T>();
+        let guard = self.raw.try_read(store, location)?;
+        let answer = match guard.deref(store) {
+            Some(view) => f(&*view),
+            None => unreachable!(),
+        };
+        guard.release(store);
+        Ok(answer)
+    }
+
+    /// Sets the value, and lets the old one go: each box that reaches the same sees the value, the
+    /// others are left, and nothing else changes but a ticket that is used up.
+    ///
+    /// Refused as a write of the signal's box is, in this order: `Dropped`, `AlreadyBorrowedMut`,
+    /// `AlreadyBorrowed`, in whose place `OutOfMemory` is answered if its list of locations finds
+    /// no memory, `NumbersExhausted`. The value comes back then, and the store stays as it was.
+    pub fn set<S: Storage<T>>(
+        self,
+        store: &mut S,
+        value: T,
+        location: Location,
+    ) -> Result<(), (T, Refused<BorrowMutError>)>
+    where
+        T: Drop,
+        ensures set { OnOk result (
+            IsSet (S.state store.old) (pointer_in self) value (S.state store.new)) }
+        ensures seen { OnOk result (
+            AllSee (S.state store.old) (pointer_in self) value (S.state store.new)) }
+        ensures others { OnOk result ((b : GenerationalPointer) →
+            reach (S.state store.old) b ≢ reach (S.state store.old) (pointer_in self) →
+            IsLeft (S.state store.old) b (S.state store.new)) }
+        ensures scopes { LeavesScopes (S.state store.old) (S.state store.new) }
+        ensures refused { IfErr result (λ refusal. (S.state store.new ≡ S.state store.old) ×
+            Meets (S.state store.old) (Write (pointer_in self) location) (end_refused refusal.1)
+            (S.state store.new)) }
+        ensures back { IfErr result (λ refusal. refusal.0 ≡ value) }
+    {
+        released_borrows_leave_the_rest::<T>();
+        refused_calls_change_nothing::<T>();
+        let mut guard = match self.raw.try_write(store, location) {
+            Ok(guard) => guard,
+            Err(refused) => return Err((value, refused)),
+        };
+        set_value(&mut guard, value);
+        match guard.release(store) {
+            Ok(()) => Ok(()),
+            Err(_) => unreachable!(),
+        }
+    }
+
+    /// Changes the value by a closure, which is called once, and answers what that answers: each box
+    /// that reaches the same sees what the closure made of the value, the others are left, and
+    /// nothing else changes but a ticket that is used up.
+    ///
+    /// Refused as `set` is. The closure isn't called then, and the store stays as it was.
+    pub fn update<S: Storage<T>, R, F: FnOnce(&mut T) -> R>(
+        self,
+        store: &mut S,
+        location: Location,
+        f: F,
+    ) -> BorrowMutResult<R>
+        requires { F.IsAlwaysCallable f }
+        ensures changed { IfOk result (λ answer. (old : T) × (changed : T) ×
+            (value_in (S.state store.old) (pointer_in self) ≡ Some old) ×
+            FnOnceReturnsAtMut F.FnOnce f old answer changed ×
+            IsSet (S.state store.old) (pointer_in self) changed (S.state store.new) ×
+            AllSee (S.state store.old) (pointer_in self) changed (S.state store.new)) }
+        ensures others { OnOk result ((b : GenerationalPointer) →
+            reach (S.state store.old) b ≢ reach (S.state store.old) (pointer_in self) →
+            IsLeft (S.state store.old) b (S.state store.new)) }
+        ensures scopes { LeavesScopes (S.state store.old) (S.state store.new) }
+        ensures refused { IfErr result (λ cause. (S.state store.new ≡ S.state store.old) ×
+            Meets (S.state store.old) (Write (pointer_in self) location) (end_refused cause)
+            (S.state store.new)) }
+    {
+        guards_hold_what_boxes_see::<T>();
+        released_borrows_leave_the_rest::<T>();
+        refused_calls_change_nothing::<T>();
+        let mut guard = self.raw.try_write(store, location)?;
+        let answer = change_value(&mut guard, f);
+        match guard.release(store) {
+            Ok(()) => Ok(answer),
+            Err(_) => unreachable!(),
+        }
+    }
+
+    /// Whether a read of the signal is free: false where it has ended or is of another store, or a
+    /// writer has the value. Takes no memory, and is O(1).
+    pub fn is_readable<S: Storage<T>>(self, store: &S) -> bool
+        ensures { result ≡ can_read (S.state store.now) (pointer_in self) }
+    {
+        self.raw.can_read(store)
+    }
+
+    /// Lets the signal lead to the value to which another leads: it reaches and sees what the other
+    /// did, and each other box is left as it was. The value to which it led before ends where no
+    /// signal leads there any more.
+    ///
+    /// Answered as `GenerationalBox::point_to` is; where it is refused, the store stays as it was.
+    /// Takes memory for a refusal's locations alone. O(1), but for that list.
+    pub fn swap_source<S: Storage<T>>(self, store: &mut S, to: Signal<T>) -> BorrowMutResult<()>
+        ensures step { Meets (S.state store.old) (Point (pointer_in self) (pointer_in to))
+            (end_answer result) (S.state store.new) }
+        ensures reached { OnOk result (
+            reach (S.state store.new) (pointer_in self) ≡ reach (S.state store.old) (pointer_in to)) }
+        ensures seen { OnOk result (value_in (S.state store.new) (pointer_in self) ≡
+            value_in (S.state store.old) (pointer_in to)) }
+        ensures others { (b : GenerationalPointer) → name_of (pointer_in self) ≢ name_of b →
+            IsLeft (S.state store.old) b (S.state store.new) }
+        ensures scopes { LeavesScopes (S.state store.old) (S.state store.new) }
+        ensures refused { OnErr result (S.state store.new ≡ S.state store.old) }
+    {
+        made_boxes_see_their_values::<T>();
+        pointed_boxes_see_what_others_saw::<T>();
+        calls_leave_other_boxes::<T>();
+        calls_leave_other_owners::<T>();
+        refused_calls_change_nothing::<T>();
+        self.raw.point_to(store, to.raw)
+    }
+}
+
+// Sets the value of a writer's guard, and lets the old one go.
+fn set_value<T: Drop>(guard: &mut GenerationalRefMut<T>, value: T)
+    ensures { guard.new ≡ record guard.old { value = value } }
+{
+    guard.replace(value);
+}
+
+// Changes the value of a writer's guard by a closure, which is called once.
+fn change_value<T, R, F: FnOnce(&mut T) -> R>(guard: &mut GenerationalRefMut<T>, f: F) -> R
+    requires { F.IsAlwaysCallable f }
+    ensures changed { FnOnceReturnsAtMut F.FnOnce f guard.old.value result guard.new.value }
+    ensures guard { guard.new ≡ record guard.old { value = guard.new.value } }
+{
+    f(&mut *guard.deref_mut())
+}

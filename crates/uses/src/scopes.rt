@@ -1,0 +1,112 @@
+//! Scopes and their signals.
+
+ghost use Rattle.std.specs.Prelude.{◌≡◌, ◌≢◌, ◌+◌, ◌%◌, ◌^◌, ℕ, [], Some, IfSome};
+ghost use Rattle.generational_core.specs.Seeing.{value_in};
+ghost use Rattle.signals.specs.Scopes.{HasSignals};
+ghost use Rattle.signals.specs.Signals.{pointer_in};
+
+use generational_box::{Location, Storage};
+use signals::{Scope, Signal};
+
+/// Makes a signal in one scope and an alias of it in another, ends the first scope, and reads the
+/// alias: it is the value that was handed in.
+pub fn outlived<S: Storage<u64>>(store: &mut S, value: u64, here: Location) -> Option<u64>
+    ensures { IfSome result (λ seen. seen ≡ value) }
+{
+    let Ok(inner) = Scope::new(store) else {
+        return None;
+    };
+    let outer = match Scope::new(store) {
+        Ok(outer) => outer,
+        Err(_) => {
+            inner.leak();
+            return None;
+        }
+    };
+    let seen = alias_outlives(store, inner, &outer, value, here);
+    outer.leak();
+    seen
+}
+
+// The same of two scopes, of which the first has no signals yet.
+fn alias_outlives<S: Storage<u64>>(
+    store: &mut S,
+    inner: Scope,
+    outer: &Scope,
+    value: u64,
+    here: Location,
+) -> Option<u64>
+    requires apart { outer.now ≢ inner }
+    requires empty { HasSignals (S.state store.old) inner [] }
+    ensures { IfSome result (λ seen. seen ≡ value) }
+{
+    let signal = match inner.signal(store, value, here) {
+        Ok(signal) => signal,
+        Err(_) => {
+            inner.leak();
+            return None;
+        }
+    };
+    let alias = match outer.alias(store, signal) {
+        Ok(alias) => alias,
+        Err(_) => {
+            inner.leak();
+            return None;
+        }
+    };
+    match inner.end(store) {
+        Ok(()) => alias.get(store, here, |seen| *seen).ok(),
+        Err((inner, _)) => {
+            inner.leak();
+            None
+        }
+    }
+}
+
+/// Sets a value through an alias, and reads it through the signal from which the alias was made: it
+/// is what was set. None where a call is refused.
+pub fn set_through_alias<S: Storage<u64>>(
+    store: &mut S,
+    scope: &Scope,
+    signal: Signal<u64>,
+    value: u64,
+    here: Location,
+) -> Option<u64>
+    ensures { IfSome result (λ seen. seen ≡ value) }
+{
+    let alias = scope.alias(store, signal).ok()?;
+    let Ok(()) = alias.set(store, value, here) else {
+        return None;
+    };
+    signal.get(store, here, |seen| *seen).ok()
+}
+
+/// Lets a signal lead to the value of another, sets that value, and reads it through the first: it
+/// is what was set. None where a call is refused.
+pub fn set_source<S: Storage<u64>>(
+    store: &mut S,
+    signal: Signal<u64>,
+    other: Signal<u64>,
+    value: u64,
+    here: Location,
+) -> Option<u64>
+    ensures { IfSome result (λ seen. seen ≡ value) }
+{
+    signal.swap_source(store, other).ok()?;
+    let Ok(()) = signal.set(store, value, here) else {
+        return None;
+    };
+    signal.get(store, here, |seen| *seen).ok()
+}
+
+/// Counts a signal up by one, and reads it. None where a call is refused.
+pub fn count_up<S: Storage<u64>>(store: &mut S, signal: Signal<u64>, here: Location) -> Option<u64>
+    ensures { IfSome result (λ seen. (old : ℕ) ×
+        (value_in (S.state store.old) (pointer_in signal) ≡ Some old) ×
+        (seen ≡ (old + 1) % 2 ^ 64)) }
+{
+    signal
+        .update(store, here, |count| *count = count.wrapping_add(1))
+        .ok()?;
+    signal.get(store, here, |seen| *seen).ok()
+}
