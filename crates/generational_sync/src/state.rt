@@ -168,7 +168,8 @@ impl<T: Drop, const NUMBER: u64, M: Count, L: Count, C: Count, R: Count> SyncSta
             return Err(Refusal { value, cause });
         }
         let made = self.store.new(value, location, None);
-        self.log.settle(StepCall::Leak(location), make_reply(&made), tally);
+        self.log
+            .settle(StepCall::Leak(location), make_reply(&made), tally);
         match made {
             Ok(pointer) => Ok(box_at(pointer)),
             Err(refusal) => Err(refusal),
@@ -252,7 +253,11 @@ impl<T: Drop, const NUMBER: u64, M: Count, L: Count, C: Count, R: Count> SyncSta
         }
         let pointer = asked.pointer();
         let ended = self.store.recycle(pointer);
-        self.log.settle(StepCall::ManuallyDrop(pointer), end_reply::<T>(&ended), tally);
+        self.log.settle(
+            StepCall::ManuallyDrop(pointer),
+            end_reply::<T>(&ended),
+            tally,
+        );
         ended
     }
 
