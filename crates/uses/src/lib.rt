@@ -1,6 +1,7 @@
 //! Small callers of the boxes' crates, which show that their contracts say what a caller needs.
 #![tactic(auto)]
 
+pub mod asking;
 pub mod clones;
 pub mod conditions;
 pub mod kinds;

@@ -1,0 +1,52 @@
+//! What can be asked of a store before a call, and what its references name.
+
+ghost use Rattle.std.specs.Prelude.{◌≡◌, IfErr, IfSome, OnErr, OnOk, Some, true};
+ghost use Rattle.generational_core.specs.Answers.{pointer_of};
+ghost use Rattle.generational_core.specs.StepCalls.{id_of_owner, is_free, is_ready, target_of};
+ghost use Rattle.generational_core.specs.Machine.Action.{ReleaseOwner};
+ghost use Rattle.generational_core.specs.Machine.Answer.{Done};
+ghost use Rattle.generational_core.specs.Steps.{Meets};
+ghost use Rattle.generational_core.specs.declared.steps.StepCall.TheVariants as call;
+
+use generational_box::{AnyStorage, GenerationalBox, Owner, StepCall, Storage};
+
+/// Releases an owner value, if no borrow stands in the way. Where one does, or where the store
+/// doesn't know the owner, the owner comes back and nothing changes.
+pub fn release_if_free<S: Storage<u64>>(store: &mut S, owner: Owner) -> Result<(), Owner>
+    ensures back { IfErr result (λ o. o ≡ owner) }
+    ensures left { OnErr result (S.state store.new ≡ S.state store.old) }
+    ensures done { OnOk result (Meets (S.state store.old) (ReleaseOwner owner) Done
+        (S.state store.new)) }
+    ensures free { OnOk result (is_free (S.state store.old) (ReleaseOwner owner) ≡ true) }
+{
+    if !store.may_release(&owner) {
+        return Err(owner);
+    }
+    match owner.release(store) {
+        Ok(()) => Ok(()),
+        Err((owner, _)) => Err(owner),
+    }
+}
+
+/// Whether the release of an owner value is ready as a history records it.
+pub fn is_release_ready<S: Storage<u64>>(store: &S, owner: &Owner) -> bool
+    ensures { result ≡ is_ready (S.state store.now) (call.ReleaseOwner (id_of_owner owner.now)) }
+{
+    store.ready(&StepCall::ReleaseOwner(owner.id()))
+}
+
+/// Whether two boxes are references that name one shared value.
+pub fn are_aliases<S: Storage<u64>>(
+    store: &S,
+    one: GenerationalBox<u64>,
+    other: GenerationalBox<u64>,
+) -> bool
+    ensures same { result ≡ true
+        → target_of (S.state store.now) (pointer_of one)
+        ≡ target_of (S.state store.now) (pointer_of other) }
+    ensures named { IfSome (target_of (S.state store.now) (pointer_of one)) (λ t.
+        target_of (S.state store.now) (pointer_of other) ≡ Some t → result ≡ true) }
+{
+    store.target(one.pointer()).is_some()
+        && store.target(one.pointer()) == store.target(other.pointer())
+}
