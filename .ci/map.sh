@@ -15,7 +15,7 @@ uses_of() {
     grep -oE '\buse [^;]*;' | sed 's/^use //' | grep -oE '^(crate::[a-z_]+|[a-z_]+)' | sort -u || true)
   {
     grep '^crate::' <<<"$roots" | sed 's/^crate:://' || true
-    grep -vE '^(crate.*|std|core|)$' <<<"$roots" || true
+    grep -vE '^(crate.*|std|core|super|)$' <<<"$roots" || true
   } | paste -sd ' '
 }
 
@@ -23,8 +23,8 @@ from_sources() {
   sed 's/#.*//; /^ *$/d' crates.txt | while IFS=: read -r name libraries; do
     local crate=${name%% *}
     echo "crate $crate: $(xargs -n1 <<<"$libraries" | sort | paste -sd ' ')"
-    for file in crates/"$crate"/src/*.rt; do
-      echo "src $crate/$(basename "$file"): $(uses_of "$file")"
+    (cd crates/"$crate"/src && find . -name '*.rt' | sed 's,^\./,,' | sort) | while read -r file; do
+      echo "src $crate/$file: $(uses_of crates/"$crate"/src/"$file")"
     done
     (cd crates/"$crate" && find specs proofs -name '*.antt' 2>/dev/null | sort) |
       grep -vE '^proofs/.*/(Answers|Invariants)\.antt$|/Lib\.antt$' | while read -r file; do

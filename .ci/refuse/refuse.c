@@ -4,7 +4,8 @@
    is set, what is asked for next is refused too, as long as it is less each time and nothing is
    read. REFUSE_BEYOND is how many bytes may be allocated at once: what would be more is refused.
    Where it isn't set, a read of standard input gives one line at most. At the end the file
-   REFUSE_REPORT is written: how many of each were asked for, and whether one was refused. */
+   REFUSE_REPORT is written: how many of each were asked for, whether one was refused, and how many
+   bytes weren't given back. */
 #define _GNU_SOURCE
 #include <errno.h>
 #include <fcntl.h>
@@ -126,8 +127,8 @@ __attribute__((destructor)) static void report(void) {
   const char *path = getenv("REFUSE_REPORT");
   if (!path) return;
   char text[96];
-  int length = snprintf(text, sizeof text, "%ld %ld %ld %d\n", allocations.asked, reads.asked,
-                        writes.asked, refused);
+  int length = snprintf(text, sizeof text, "%ld %ld %ld %d %zu\n", allocations.asked, reads.asked,
+                        writes.asked, refused, live);
   int file = open(path, O_CREAT | O_WRONLY | O_TRUNC, 0600);
   if (file < 0) return;
   if (syscall(SYS_write, file, text, length) != length) _exit(99);

@@ -1,9 +1,10 @@
 #!/usr/bin/env python3
 """Refuses the program `boxes` each allocation, each read and each write in turn.
 
-    .ci/refuse/refuse.py PROGRAM TESTS
+    .ci/refuse/refuse.py PROGRAM TESTS..
 
-PROGRAM is `boxes` and TESTS those of `scenarios`, as `rt ci` leaves them in the crates' out/.
+PROGRAM is `boxes`, and TESTS are those of `scenarios`, `chunk_scenarios` and other crates, as `rt ci` leaves them in
+the crates' out/.
 
 A row is a script with its replies, in rows/: lines of a mark, a command, a bar and the reply. The
 mark is `!` where the reply has memory of its own to ask for, so that one run or another is refused
@@ -24,14 +25,16 @@ a read that failed; what was written is a beginning of the replies.
 Drawn lists are run so as `fuzz SEED 200`, for the seeds 1 to 4: they say `refused at N`, or nothing
 where it wasn't a call that lacked memory, and `same` where none did.
 
-The tests in the modules `memory`, `scarcity` and `shortage` are run so. They ask again what lacked
-memory, and pass.
+The tests in the modules `memory`, `scarcity`, `shortage` and `lists` are run so. They ask again
+what lacked memory, and pass.
+
+Whatever is refused, at its end a run has given back all memory. So has each of the tests where nothing is refused.
 
 A script of 100,000 leaks is run with less memory than it takes, from 3 to 40 megabytes. It ends
 with status 0 or 3, and makes nearly as many values as fit.
 
-At the end a few wrong rows are made of one of these, and a program that is refused nothing, and
-more values are wanted than fit: all are found out.
+At the end a few wrong rows are made of one of these, and a program that is refused nothing, and one
+that keeps a byte, and more values are wanted than fit: all are found out.
 """
 
 import os
@@ -63,7 +66,7 @@ BESIDES = 30_000
 LEAK = 232
 # While a buffer grows there are the old one and the new one. So the largest, that of the places, counts twice.
 MOVED = 64
-MODULES = ("memory::", "scarcity::", "shortage::")
+MODULES = ("memory::", "scarcity::", "shortage::", "lists::")
 WRONG = "every_command.row"
 
 
@@ -96,12 +99,13 @@ class Program:
         environment = {f"REFUSE_{what.upper()}": str(at) for what, at in refusals.items()}
         environment |= {"LD_PRELOAD": self.library, "REFUSE_REPORT": self.report}
         with open(self.report, "w", encoding="utf-8") as report:
-            report.write("0 0 0 1\n")  # what a program leaves that is ended by a signal
+            report.write("0 0 0 1 0\n")  # what a program leaves that is ended by a signal
         ended = subprocess.run([self.path, *words], input=script.encode(), capture_output=True,
                                env=environment, timeout=60, check=False)
         with open(self.report, encoding="utf-8") as report:
-            refused = report.read().split()[3] == "1"
-        return Run(ended.returncode, ended.stdout.decode().splitlines(), ended.stderr.decode(), refused)
+            refused, left = report.read().split()[3:]
+        wanted(left == "0", f"{left} bytes aren't given back: {[*words]}, {refusals}, {script!r}")
+        return Run(ended.returncode, ended.stdout.decode().splitlines(), ended.stderr.decode(), refused == "1")
 
 
 def wanted(ok, what):
@@ -231,14 +235,27 @@ def refuse_in_test(tests, name, **how):
             return n - 1
 
 
+def names_of(tests):
+    return [line.removesuffix(": test") for line in tests.run(["--list"]).output if line.endswith(": test")]
+
+
 def refuse_in_tests(tests):
-    listed = [line.removesuffix(": test") for line in tests.run(["--list"]).output]
-    names = [name for name in listed if name.startswith(MODULES)]
-    wanted(names, "no test of want of memory is listed")
-    for name in names:
-        met = refuse_in_test(tests, name), refuse_in_test(tests, name, less=1)
+    found = [(it, name) for it in tests for name in names_of(it) if name.startswith(MODULES)]
+    for module in MODULES:
+        wanted(any(name.startswith(module) for _, name in found), f"no test of want of memory is listed in {module}")
+    for it, name in found:
+        met = refuse_in_test(it, name), refuse_in_test(it, name, less=1)
         wanted(min(met) > 0, f"{name}: nothing was refused")
         print(f"{name}: {met[0]} allocations refused, {met[1]} with what is less")
+
+
+def refuse_nothing_in(tests):
+    """How many tests give back all memory, as `run` wants."""
+    names = names_of(tests)
+    wanted(names, f"{tests.path} lists no test")
+    for name in names:
+        wanted(tests.run([name]).status == 0, name)
+    print(f"{os.path.basename(tests.path)}: {len(names)} tests give back all memory")
 
 
 def refuse_beyond(program, size):
@@ -281,6 +298,14 @@ def made_library(room):
     return library
 
 
+def made_hoarder(room):
+    """A program that keeps a byte."""
+    hoarder = os.path.join(room, "hoarder")
+    source = b"#include <stdlib.h>\nchar *kept; int main(void) { kept = malloc(1); return !kept; }"
+    subprocess.run(["cc", "-O0", "-x", "c", "-o", hoarder, "-"], input=source, check=True)
+    return hoarder
+
+
 def rows():
     folder = os.path.join(HERE, "rows")
     return [(name, row_at(os.path.join(folder, name))) for name in sorted(os.listdir(folder))]
@@ -312,19 +337,23 @@ def refuse_in_drawn_lists(program):
         print(f"fuzz {seed} {COUNT}: {met[0]} allocations of calls, {met[1]} with what is less refused")
 
 
-def drive(path, tests):
+def drive(path, *tests):
     with tempfile.TemporaryDirectory() as room:
         library = made_library(room)
         program = Program(os.path.abspath(path), library, room)
         refuse_in_rows(program)
         refuse_in_drawn_lists(program)
-        refuse_in_tests(Program(os.path.abspath(tests), library, room))
+        tests = [Program(os.path.abspath(it), library, room) for it in tests]
+        refuse_in_tests(tests)
+        for it in tests:
+            refuse_nothing_in(it)
         refuse_beyond(program, LEAK + MOVED)
         print(f"{LEAKS} leaks: nearly as many values as fit into {MEGABYTES[0]} to {MEGABYTES[-1]} megabytes")
         row = dict(rows())[WRONG]
         for at, wrong in wrong_rows(row):
             find_out(f"a row that is wrong at line {at}", refuse_memory, program, wrong)
         find_out("a program that is refused nothing", refuse_memory, Generous(program.path, library, room), row)
+        find_out("a program that keeps a byte", Program(made_hoarder(room), library, room).run)
         find_out("a size at which more fit", refuse_beyond, program, LEAK // 2)
 
 

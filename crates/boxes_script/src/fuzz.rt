@@ -1,7 +1,7 @@
 //! One list of calls over two stores that take free slots in different orders.
 
-ghost use Rattle.std.specs.Prelude.{◌≡◌};
-ghost use Rattle.generational_core.specs.Conditions.{IsFresh};
+ghost use Rattle.std.specs.Prelude.{◌≡◌, ◌^◌, ◌-◌};
+ghost use Rattle.generational_core.specs.Conditions.{IsFresh, fresh};
 
 use crate::drawing::{WORDS, fuzz_calls};
 use crate::words::fuzz_words;
@@ -24,18 +24,51 @@ const NEAR_THE_END: Numbers = Numbers {
 /// How many boxes there are of each of the stores that stand beside.
 const STRANGERS: u32 = 4;
 
-/// Draws a list of this many calls from a seed, and compares how two stores of one number answer
-/// it. One takes the slot that was freed last, and begins at the first generation; the other takes
-/// the slot that has been free for the longest, and begins at the last generation but one.
-pub(crate) fn fuzz(alloc: Global, seed: u64, count: usize) -> Result<Verdict, AllocError> {
+/// Two stores for one list of calls: one takes the slot that was freed last, the other the slot that
+/// has been free for the longest.
+#[derive(Drop)]
+pub struct Pair {
+    /// The store that answers first.
+    pub one: Store<String, LastFirst>,
+    /// The store whose replies are compared with those.
+    pub other: Store<String, OldestFirst>,
+}
+
+/// The two stores over which the program runs its list. Both have the number 1; the one begins at
+/// the first generation, the other at the last but one. Takes no memory.
+pub fn fuzz_pair(alloc: Global) -> Pair
+    ensures one { result.one.state ≡ fresh 1 1 0 }
+    ensures other { result.other.state ≡ fresh 1 (2 ^ 64 - 2) 0 }
+{
+    Pair {
+        one: Store::new(alloc, NUMBER),
+        other: Store::new_at(alloc, NUMBER, NEAR_THE_END),
+    }
+}
+
+/// The list of this many calls that the program draws from a seed. It may name four boxes of a store
+/// of the number 2, and four of a store of the number 1, which is that of the pair.
+pub fn fuzz_list(alloc: Global, seed: u64, count: usize) -> Result<Vec<Call<String>>, AllocError> {
     let words = fuzz_words(alloc, seed, count.saturating_mul(WORDS)).map_err(|_| AllocError)?;
     let mut strangers = Vec::new(alloc);
     add_strangers(alloc, NUMBER + 1, &mut strangers)?;
     add_strangers(alloc, NUMBER, &mut strangers)?;
-    let calls = fuzz_calls(alloc, &words, &strangers)?;
-    let again = fuzz_calls(alloc, &words, &strangers)?;
-    let one: Store<String, LastFirst> = Store::new(alloc, NUMBER);
-    let other: Store<String, OldestFirst> = Store::new_at(alloc, NUMBER, NEAR_THE_END);
+    fuzz_calls(alloc, &words, &strangers)
+}
+
+/// Draws a list of this many calls from a seed, and compares how two stores answer it.
+pub(crate) fn fuzz<S: Storage<String> + Drop, R: Storage<String> + Drop>(
+    alloc: Global,
+    seed: u64,
+    count: usize,
+    one: S,
+    other: R,
+) -> Result<Verdict, AllocError>
+    requires one { IsFresh (S.state one) }
+    requires other { IsFresh (R.state other) }
+{
+    let calls = fuzz_list(alloc, seed, count)?;
+    let again = fuzz_list(alloc, seed, count)?;
     compare_stores(alloc, (one, calls), (other, again))
 }
 

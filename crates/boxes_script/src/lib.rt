@@ -2,7 +2,7 @@
 //!
 //! The program `boxes` runs one script over its standard streams; its page says what the commands
 //! are. A [`Script`] answers a line at a time, over any store of texts. `boxes fuzz` draws a list of
-//! calls, by [`fuzz_words`] and [`fuzz_calls`], and compares how two stores answer it.
+//! calls, [`fuzz_list`], and compares how two stores answer it, [`fuzz_pair`].
 #![tactic(auto)]
 
 mod drawing;
@@ -15,7 +15,7 @@ mod words;
 
 pub use crate::drawing::fuzz_calls;
 pub use crate::fault::Fault;
-pub use crate::fuzz::compare_stores;
-pub use crate::run::{boxes_run, report};
+pub use crate::fuzz::{Pair, compare_stores, fuzz_list, fuzz_pair};
+pub use crate::run::{boxes_run, fuzz_run, report};
 pub use crate::script::{Script, write_reply};
 pub use crate::words::fuzz_words;

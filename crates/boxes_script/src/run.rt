@@ -1,6 +1,9 @@
 //! Runs of a script: its streams, its faults and its exit status.
+
+ghost use Rattle.generational_core.specs.Conditions.{IsFresh};
+
 use crate::fault::Fault;
-use crate::fuzz::fuzz;
+use crate::fuzz::{Pair, fuzz, fuzz_pair};
 use crate::lines::Lines;
 use crate::script::Script;
 use agreement::Verdict;
@@ -33,11 +36,31 @@ pub fn boxes_run<R: Read, W: Write, E: Write>(
     output: &mut W,
     faults: &mut E,
 ) -> u8 {
-    let ended = if words.is_empty() {
-        run(alloc, input, output)
-    } else {
-        run_fuzz(alloc, words, output)
-    };
+    if words.is_empty() {
+        let ended = run(alloc, input, output);
+        return status_of(ended, faults);
+    }
+    fuzz_run(alloc, words, fuzz_pair(alloc), output, faults)
+}
+
+/// Runs the program over another pair of stores, where there are words: `boxes_run` hands in
+/// `fuzz_pair`.
+pub fn fuzz_run<W: Write, E: Write>(
+    alloc: Global,
+    words: &[String],
+    pair: Pair,
+    output: &mut W,
+    faults: &mut E,
+) -> u8
+    requires one { IsFresh pair.one.state }
+    requires other { IsFresh pair.other.state }
+{
+    let ended = run_fuzz(alloc, words, pair, output);
+    status_of(ended, faults)
+}
+
+// The exit status of a run that ended so.
+fn status_of<E: Write>(ended: Result<u8, Fault>, faults: &mut E) -> u8 {
     match ended {
         Ok(status) => status,
         Err(fault) => report(fault, faults),
@@ -63,9 +86,17 @@ fn run<R: Read, W: Write>(alloc: Global, input: &mut R, output: &mut W) -> Resul
 }
 
 // Runs a drawn list over two stores, or finds the fault in the words.
-fn run_fuzz<W: Write>(alloc: Global, words: &[String], output: &mut W) -> Result<u8, Fault> {
+fn run_fuzz<W: Write>(
+    alloc: Global,
+    words: &[String],
+    pair: Pair,
+    output: &mut W,
+) -> Result<u8, Fault>
+    requires one { IsFresh pair.one.state }
+    requires other { IsFresh pair.other.state }
+{
     let (seed, count) = seed_and_count(words).ok_or(Fault::Usage)?;
-    let verdict = fuzz(alloc, seed, count).map_err(|_| Fault::Memory)?;
+    let verdict = fuzz(alloc, seed, count, pair.one, pair.other).map_err(|_| Fault::Memory)?;
     writeln!(output, "{verdict}").map_err(|_| Fault::Output)?;
     output.flush().map_err(|_| Fault::Output)?;
     match verdict {

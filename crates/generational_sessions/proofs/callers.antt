@@ -1,6 +1,8 @@
 -- What the proofs of callers cite.
 pub mod Lacking
 pub mod Lefts
+pub mod ListedOnce
 pub mod PlainStores
 pub mod Results
 pub mod Rows
+pub mod Shortage

@@ -1,13 +1,42 @@
 -- What a store lacks where it refuses a call by itself.
-use Rattle.std.specs.Prelude.{◌≡◌}
+use Rattle.std.specs.Prelude.{◌≡◌, ℕ, ◌+◌, ◌<◌, Some}
+use Rattle.std.specs.FinMap as map
+use Rattle.generational_core.specs.Boxes.{name_of}
+use Rattle.generational_core.specs.Cells.Cell.{Ref}
+use Rattle.generational_core.specs.Names.{Name}
+use Rattle.generational_core.specs.Slots.{free}
 use Rattle.generational_core.specs.State.{State}
 use Rattle.generational_core.specs.Steps.{last_ticket}
+use Rattle.generational_core.specs.declared.boxes.GenerationalPointer.{GenerationalPointer}
+use Rattle.generational_core.specs.declared.error.Location.{Location}
+use Rattle.generational_core.specs.declared.error.Refused.{Refused}
+use Rattle.generational_core.specs.declared.error.Refused.TheVariants as refused
 use Rattle.generational_core.specs.declared.error.StoreError.{StoreError}
 use Rattle.generational_core.specs.declared.error.StoreError.TheVariants as error
 
--- A store may refuse a call by want of memory, and by want of numbers only where all tickets were
--- given. It knows its own owners.
-abbrev pub Lacks : {T : Type 0} → State T → StoreError → Type 0
-Lacks S error.OutOfMemory = Unit {0}
-Lacks S error.NumbersExhausted = S.next ≡ last_ticket
-Lacks S error.UnknownOwner = ⊥
+module _ {T : Type 0} where
+  -- A store may refuse a call by want of memory, and by want of numbers only where all tickets were
+  -- given. It knows its own owners.
+  abbrev pub Lacks : State T → StoreError → Type 0
+  Lacks S error.OutOfMemory = Unit {0}
+  Lacks S error.NumbersExhausted = S.next ≡ last_ticket
+  Lacks S error.UnknownOwner = ⊥
+
+  -- What is refused needs so many slots and so many tickets, and fewer slots are free, so that it
+  -- needs memory, or fewer tickets are left.
+  abbrev pub IsShort : State T → ℕ → ℕ → StoreError → Type 0
+  IsShort S slots tickets error.OutOfMemory = free S < slots
+  IsShort S slots tickets error.NumbersExhausted = last_ticket < S.next + tickets
+  IsShort S slots tickets error.UnknownOwner = ⊥
+
+  -- the same of a refusal, which no borrow has caused
+  abbrev pub IsShortage : {E : Type 0} → State T → ℕ → ℕ → Refused E → Type 0
+  IsShortage S slots tickets (refused.Store cause) = IsShort S slots tickets cause
+  IsShortage S slots tickets (refused.Borrow e) = ⊥
+
+  -- a box of the store is that of a reference
+  pub record IsReference (S : State T) (b : GenerationalPointer) : Type 0 where
+    pub own : b.id.store ≡ S.number
+    pub shared : Name
+    pub created_at : Location
+    pub cell : map.get S.cells (name_of b) ≡ Some (Ref shared created_at)

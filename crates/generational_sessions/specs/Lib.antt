@@ -3,6 +3,7 @@ pub mod Carrying
 pub mod Disturbance
 pub mod History
 pub mod Lacking
+pub mod ListedOnce
 pub mod Numbered
 pub mod Places
 pub mod PlainStores

@@ -1,7 +1,7 @@
 //! Laws for those who keep boxes: what a call leaves as it was, and which calls are never refused.
 //! Each is the contract of a function that does nothing.
 
-ghost use Rattle.std.specs.Prelude.{◌≡◌, ◌≢◌, ◌≤◌, ℕ, true, false, Bool, List, Some, None, is_some};
+ghost use Rattle.std.specs.Prelude.{◌≡◌, ◌≢◌, ◌≤◌, ◌<◌, ◌+◌, ℕ, true, false, Bool, List, Some, None, is_some};
 ghost use Rattle.std.specs.Prelude.{Option, Result, IfOk, IsOk, OnOk, OnErr};
 ghost use Rattle.std.specs.FinSet as set;
 ghost use Rattle.generational_core.specs.declared.boxes.GenerationalBox.{GenerationalBox};
@@ -41,9 +41,15 @@ ghost use Rattle.generational_core.specs.Leaving.{refuses, GivesOther, GivesOthe
 ghost use Rattle.generational_core.specs.Leaving.{LeavesContent, IsLeft, IsSet, LeavesOwner};
 ghost use Rattle.generational_core.specs.Leaving.{LeavesGuard, BeginsNoBorrow, IsUnborrowed};
 ghost use Rattle.generational_core.specs.Leaving.{AreFree};
-ghost use Rattle.generational_sessions.specs.Lacking.{Lacks};
+ghost use Rattle.generational_core.specs.Answers.{end_refused, read_refused};
+ghost use Rattle.generational_core.specs.Slots.{free};
+ghost use Rattle.generational_core.specs.declared.error.Refused.TheVariants as refused;
+ghost use Rattle.generational_sessions.specs.Lacking.{IsReference, Lacks};
+ghost use Rattle.generational_sessions.specs.ListedOnce.{AreListedOnce};
 ghost use Rattle.generational_sessions.specs.PlainStores.{IsPlain, MakesNoReference};
 ghost use Rattle.generational_sessions.specs.Session.{SessionState, at_place};
+ghost use Rattle.generational_sessions.specs.Session.{SessionReply, SessionStep, Run};
+ghost use Rattle.generational_sessions.specs.declared.calls.Call.{Call};
 ghost use Rattle.generational_sessions.specs.Session.Held.{Boxed};
 ghost use Rattle.generational_sessions.specs.SoundSession.{IsSoundSession};
 
@@ -135,7 +141,8 @@ pub fn guards_stay_known<T>()
 
 /// A read that was released leaves every box as it was. A write that was released leaves the state
 /// as it was, but for the value and a ticket (`IsSet`), and its release is Ok: each box that reaches
-/// the same sees the value, every other box is left, and so is each owner's record.
+/// the same sees the value and may be written, every other box is left, and so is each owner's
+/// record.
 pub fn released_borrows_leave_the_rest<T>()
     ensures read { (S R Q : State T) (b : GenerationalPointer) (l : Location) (g : Guard)
         (known : Bool) → IsSound S → Meets S (Read b l) (Reads g) R →
@@ -145,6 +152,8 @@ pub fn released_borrows_leave_the_rest<T>()
         Meets R (ReleaseWriter g v) (back_answer r) Q → IsOk r × IsSet S b v Q }
     ensures seen { (S Q : State T) (b : GenerationalPointer) (v : T) → IsSet S b v Q →
         (c : GenerationalPointer) → reach S c ≡ reach S b → value_in Q c ≡ Some v }
+    ensures free { (S Q : State T) (b : GenerationalPointer) (v : T) → IsSet S b v Q →
+        (c : GenerationalPointer) → reach S c ≡ reach S b → can_write Q c ≡ true }
     ensures others { (S Q : State T) (b : GenerationalPointer) (v : T) → IsSet S b v Q →
         (c : GenerationalPointer) → reach S c ≢ reach S b → IsLeft S c Q }
     ensures owners { (S Q : State T) (b : GenerationalPointer) (v : T) → IsSet S b v Q →
@@ -216,6 +225,24 @@ pub fn calls_leave_other_owners<T>()
         among h.names n ≡ false }
 {}
 
+/// No name stands twice in an owner's list, nor in the lists of two owners: so it is in a fresh store,
+/// and stays so with each call, of a session too. So an owner's release, refused or not, leaves each
+/// box of another owner's list. That a state is sound doesn't say so by itself.
+pub fn names_are_listed_once<T>()
+    ensures fresh { (number start next : ℕ) → AreListedOnce (fresh {T = T} number start next) }
+    ensures stays { (S R : State T) (call : Action T) (answer : Answer T) →
+        IsSound S → Meets S call answer R → AreListedOnce S → AreListedOnce R }
+    ensures session { (s r : SessionState T) (c : Call T) (reply : SessionReply T) →
+        IsSound s.state → AreListedOnce s.state → SessionStep s c reply r →
+        AreListedOnce r.state }
+    ensures run { (calls : List (Call T)) (replies : List (SessionReply T)) (s r : SessionState T) →
+        IsSoundSession s → AreListedOnce s.state → Run s calls replies r → AreListedOnce r.state }
+    ensures released { (S R : State T) (o p : OwnerName) (h : Ownership) (answer : Answer T) →
+        IsSound S → AreListedOnce S → Meets S (ReleaseOwner o) answer R → o ≢ p →
+        ownership S p ≡ Some h → (b : GenerationalPointer) →
+        among h.names (name_of b) ≡ true → IsLeft S b R }
+{}
+
 /// The name of a box is one that was given, and no shared value's own: so it is of each box that a
 /// call gives, stays so, and is so of each box that reaches something, and of those that a session
 /// holds. Such a name has ended for good (`ended_names_stay_ended`) once its box was ended, and each
@@ -275,4 +302,41 @@ pub fn refusals_tell_what_lacks<T>()
     ensures free_read { (S R : State T) (b : GenerationalPointer) (l : Location) (e : StoreError) →
         can_write S b ≡ true → Meets S (Read b l) (Answer.Refused e) R →
         (e ≡ NumbersExhausted) × (S.next ≡ last_ticket) }
+{}
+
+/// How many slots and tickets the calls of new boxes take. A making by no owner is refused only where
+/// no slot is free, or where fewer than two are, of a shared value. That takes two at most and no
+/// ticket, and gives the box of a reference; no box whose name was given before reaches what that
+/// one reaches. A reference to a value that no writer has is refused only
+/// where no slot is free, and takes no ticket; where the value may be written, it may be written
+/// through the new box. A write and a read where no borrow stands are refused only where all tickets
+/// were given.
+pub fn new_boxes_take_slots_and_tickets<T>()
+    ensures make { (S R : State T) (v : T) (l : Location) (e : StoreError) →
+        Meets S (Make None v l) (Answer.Refused e) R → (e ≡ OutOfMemory) × (free S ≡ 0) }
+    ensures share { (S R : State T) (v : T) (l : Location) (e : StoreError) →
+        Meets S (MakeShared None v l) (Answer.Refused e) R → (e ≡ OutOfMemory) × (free S < 2) }
+    ensures shared { (S R : State T) (v : T) (l : Location) (b : GenerationalPointer) →
+        Meets S (MakeShared None v l) (Made b) R →
+        (free S ≤ free R + 2) × (R.next ≡ S.next) × IsReference R b }
+    ensures shared_apart { (S R : State T) (v : T) (l : Location) (b : GenerationalPointer) →
+        IsSound S → Meets S (MakeShared None v l) (Made b) R → (c : GenerationalPointer) →
+        IsGiven S (name_of c) → reach R b ≢ reach R c }
+    ensures refer { (S R : State T) (b : GenerationalPointer) (e : Refused BorrowError) →
+        IsSound S → IsReference S b → can_read S b ≡ true →
+        Meets S (Refer None b) (read_refused e) R →
+        (e ≡ refused.Store OutOfMemory) × (free S ≡ 0) }
+    ensures referred { (S R : State T) (b : GenerationalPointer) (answer : Answer T) →
+        Meets S (Refer None b) answer R → R.next ≡ S.next }
+    ensures referred_free { (S R : State T) (o : Option OwnerName) (c : GenerationalPointer)
+        (b : GenerationalBox T) → IsSound S → Meets S (Refer o c) (Made (pointer_of b)) R →
+        can_write S c ≡ true → can_write R (pointer_of b) ≡ true }
+    ensures write { (S R : State T) (b : GenerationalPointer) (l : Location)
+        (e : Refused BorrowMutError) → IsSound S → can_write S b ≡ true →
+        Meets S (Write b l) (end_refused e) R →
+        (e ≡ refused.Store NumbersExhausted) × (S.next ≡ last_ticket) }
+    ensures read { (S R : State T) (b : GenerationalPointer) (l : Location)
+        (e : Refused BorrowError) → IsSound S → can_write S b ≡ true →
+        Meets S (Read b l) (read_refused e) R →
+        (e ≡ refused.Store NumbersExhausted) × (S.next ≡ last_ticket) }
 {}

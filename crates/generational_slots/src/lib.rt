@@ -7,5 +7,6 @@
 
 pub mod counts;
 pub mod hindrance;
+mod references;
 pub mod refusals;
 pub mod slots;

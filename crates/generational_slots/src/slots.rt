@@ -1,16 +1,16 @@
 //! The slots of a store with the pool of the free ones.
 
-ghost use Rattle.std.specs.Prelude.{◌≡◌, ℕ, ◌+◌, ◌-◌, ◌<◌, ◌≤◌, ◌∷◌, [], true, max, Some, None};
+ghost use Rattle.std.specs.Prelude.{◌≡◌, ◌+◌, ◌-◌, ◌<◌, ◌≤◌, ◌∷◌, [], true, Some, None};
 ghost use Rattle.std.specs.Prelude.{Err, IfSome, IfOk, IfErr, IsSome, OnOk, OnErr, IsTrue, ◌↔◌};
 ghost use Rattle.std.specs.Prelude.{is_none, is_ok, option_copied, option_map, length, not};
-ghost use Rattle.std.specs.Prelude.{is_some, slice_get};
+ghost use Rattle.std.specs.Prelude.{is_some};
 ghost use Rattle.std.specs.Prelude.{map as list_map};
 ghost use Rattle.std.specs.List.{IsDistinct};
 ghost use Rattle.std.specs.FinMap as map;
 ghost use Rattle.generational_core.specs.declared.boxes.GenerationalPointer.{GenerationalPointer};
 ghost use Rattle.generational_core.specs.declared.error.StoreError.TheVariants.{OutOfMemory};
 ghost use Rattle.generational_core.specs.Answers.{refusal_of_read_error};
-ghost use Rattle.generational_core.specs.Borrowing.{fill, leads_to, read_refusal, write_refusal};
+ghost use Rattle.generational_core.specs.Borrowing.{fill, read_refusal, write_refusal};
 ghost use Rattle.generational_core.specs.Boxes.{box_of, name_of};
 ghost use Rattle.generational_core.specs.Cells.{is_shared, location_of};
 ghost use Rattle.generational_core.specs.Cells.Content.{Here, Lent};
@@ -27,19 +27,20 @@ ghost use Rattle.generational_core.specs.StepCalls.{is_hindered, may_set, tells_
 ghost use Rattle.generational_entries.specs.declared.entry.StorageEntryData.TheVariants as content;
 ghost use Rattle.generational_containers.specs.Borrows.{AreBelow};
 ghost use Rattle.generational_entries.specs.Entries.{IsUnborrowed, kept_data, target_of};
-ghost use Rattle.generational_entries.specs.Entry.{FoundBorrowed, cell_at, cell_of, has_no_borrow};
+ghost use Rattle.generational_entries.specs.Entry.{FoundBorrowed, cell_of, has_no_borrow};
 ghost use Rattle.generational_entries.specs.Entry.{less_read, one_read, readers_of};
 ghost use Rattle.generational_containers.specs.CellNames.{name_of_cell};
 ghost use Rattle.generational_entries.specs.Entry.{target_in, value_for};
 ghost use Rattle.generational_slots.specs.SlotsState.{change_content, content_reached, reached};
 ghost use Rattle.generational_slots.specs.SlotsState.{refusal_to_read_at, refusal_to_refer_at};
 ghost use Rattle.generational_slots.specs.SlotsState.{refusal_to_write_at};
-ghost use Rattle.generational_slots.specs.SlotsState.{count_less, count_more, doomed_by, IsMade};
+ghost use Rattle.generational_slots.specs.SlotsState.{doomed_by, IsMade};
 ghost use Rattle.generational_slots.specs.SlotsState.{IsTurned};
-ghost use Rattle.generational_slots.specs.SlotsState.{shared_target, with_records};
+ghost use Rattle.generational_slots.specs.SlotsState.{with_records};
 
 use crate::counts::{Counts, SlotCounts};
 use crate::hindrance::{doomed, find_hindered, find_hindrance};
+use crate::references::{forget, is_shared, reach_slow, refer};
 use crate::refusals::{dropped, dropped_mut};
 use generational_containers::names::CellName;
 use generational_containers::pool::{SlotPool, grow_within};
@@ -778,54 +779,5 @@ impl<T: Drop, P: SlotPool> Slots<T, P> {
             self.close(*name);
         }
         Ok(())
-    }
-}
-
-// What a box of this name reaches. The paths that few calls take ask this.
-#[cold]
-#[inline(never)]
-fn reach_slow<T: Drop>(entries: &Entries<T>, name: CellName) -> Option<CellName>
-    ensures { option_map name_of_cell result
-        ≡ leads_to (cell_at entries.now.slots (name_of_cell name)) (name_of_cell name) }
-{
-    entries.reach(name)
-}
-
-// Whether the cell of this name is a shared value, also one that is lent.
-#[inline(always)]
-fn is_shared<T: Drop>(entries: &Entries<T>, name: CellName) -> bool
-    ensures { result ≡ is_shared (cell_at entries.now.slots (name_of_cell name)) }
-{
-    matches!(entries.kind(name), Some(Kind::Shared))
-}
-
-// The slot of what a new reference names counts it.
-#[inline(always)]
-fn refer<T: Drop>(entries: &mut Entries<T>, target: Option<CellName>)
-    requires within { IfSome target (λ m. m.slot < length entries.old.slots) }
-    requires few { IfSome target (λ m. IfSome (slice_get entries.old.slots m.slot)
-        (λ e. e.references < length entries.old.slots)) }
-    ensures slots { entries.new.slots
-        ≡ count_more entries.old.slots (option_map name_of_cell target) }
-    ensures rooms { entries.new.rooms ≡ entries.old.rooms }
-{
-    if let Some(target) = target {
-        entries.count_up(target.slot);
-    }
-}
-
-// The slot of what a reference names counts it no more, if that is live.
-#[inline(always)]
-fn forget<T: Drop>(entries: &mut Entries<T>, target: Option<CellName>)
-    requires some { IfSome (shared_target entries.old.slots (option_map name_of_cell target))
-        (λ m. IfSome (slice_get entries.old.slots m.slot) (λ e. 0 < e.references)) }
-    ensures slots { entries.new.slots ≡ count_less entries.old.slots
-        (shared_target entries.old.slots (option_map name_of_cell target)) }
-    ensures rooms { entries.new.rooms ≡ entries.old.rooms }
-{
-    if let Some(target) = target {
-        if let Some(Kind::Shared) = entries.kind(target) {
-            entries.count_down(target.slot);
-        }
     }
 }

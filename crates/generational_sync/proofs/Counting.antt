@@ -1,6 +1,6 @@
 -- How many borrows stand after any call of the machine, and which answers leave all as it is.
-use Rattle.std.proofs.Common.{◌≡◌, ℕ, ◌+◌, ◌≤◌, Bool, true, false, cond, not, ◌&&◌, List, [], ◌∷◌}
-use Rattle.std.proofs.Common.{◌++◌, length, Option, None, Some, refl, sym, ap, subst, ◌∙◌, arith}
+use Rattle.std.proofs.Common.{◌≡◌, ◌+◌, ◌≤◌, Bool, true, false, cond, ◌&&◌, List, [], ◌∷◌}
+use Rattle.std.proofs.Common.{Option, None, Some, refl, sym, ap, subst, arith}
 use Rattle.std.proofs.Common.{inl, inr}
 use Rattle.std.specs.Prelude.{nat_eq, nat_lt, ◌-◌}
 use Rattle.std.proofs.lemmas.Bool.{true≢false, and_parts}
@@ -26,13 +26,13 @@ use Rattle.generational_core.specs.Machine.Action.{Make, MakeShared, Refer, NewO
 use Rattle.generational_core.specs.Machine.Action.{ReleaseOwner, LeakOwner, Read, Write}
 use Rattle.generational_core.specs.Machine.Action.{ReleaseReader, ReleaseWriter, SetValue, End}
 use Rattle.generational_core.specs.Machine.Action.{Point, CanRead, CanWrite}
-use Rattle.generational_core.specs.Machine.Answer.{Made, Owned, Reads, Writes, Done, Old, Flag}
+use Rattle.generational_core.specs.Machine.Answer.{Done, Flag}
 use Rattle.generational_core.specs.Machine.Answer.{Back, BorrowRefused, Refused}
 use Rattle.generational_core.specs.Steps.{Meets, limit_tickets, takes_ticket, last_ticket}
-use Rattle.generational_sync.specs.Standing.{borrows, borrows_in, borrows_of, given_by, leaves}
+use Rattle.generational_sync.specs.Standing.{borrows, borrows_of, given_by, leaves}
 use Rattle.generational_sync.proofs.Weighing.{borrows_inserted}
-use Rattle.generational_sync.proofs.Standings.{filled_borrows, size_here, read_grows, end_grows, swept_fewer}
-use Rattle.generational_sync.proofs.Standings.{lends, without_stand}
+use Rattle.generational_sync.proofs.Standings.{filled_borrows, read_grows, end_grows, swept_fewer}
+use Rattle.generational_sync.proofs.Standings.{without_stand}
 
 module _ {T : Type 0} where
   abbrev Counts : State T → Outcome T → Type 0

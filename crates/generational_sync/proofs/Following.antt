@@ -1,9 +1,8 @@
 -- The state without values takes the recorded step.
-use Rattle.std.proofs.Common.{[], ◌≡◌, ℕ, Bool, true, false, cond, not, ◌&&◌, Option, None, Some}
+use Rattle.std.proofs.Common.{[], ◌≡◌, Bool, true, false, cond, not, Option, None, Some}
 use Rattle.std.proofs.Common.{refl, sym, ap, subst, ◌∙◌, inl, inr, IfSome}
 use Rattle.std.specs.Prelude.{nat_eq, option_map}
-use Rattle.std.specs.FinMap as map
-use Rattle.std.proofs.lemmas.Bool.{true≢false, and_parts, and_from, eq-eqb, eqb-true}
+use Rattle.std.proofs.lemmas.Bool.{and_parts, and_from, eqb-true}
 use Rattle.generational_core.specs.declared.error.Location.{Location}
 use Rattle.generational_core.specs.declared.error.StoreError.TheVariants.{OutOfMemory}
 use Rattle.generational_core.specs.declared.error.StoreError.TheVariants.{NumbersExhausted}
@@ -11,10 +10,10 @@ use Rattle.generational_core.specs.declared.error.StoreError.TheVariants.{Unknow
 use Rattle.generational_core.specs.declared.boxes.GenerationalPointer.{GenerationalPointer}
 use Rattle.generational_core.specs.declared.steps.StepCall.{StepCall}
 use Rattle.generational_core.specs.declared.steps.StepCall.TheVariants as call
-use Rattle.generational_core.specs.Boxes.{box_of, id_of, name_in, name_of}
+use Rattle.generational_core.specs.Boxes.{box_of, id_of}
 use Rattle.generational_core.specs.Names.{Name}
-use Rattle.generational_core.specs.Cells.{Cell, Content, content_of}
-use Rattle.generational_core.specs.Cells.Content.{Here, Lent}
+use Rattle.generational_core.specs.Cells.{Cell}
+use Rattle.generational_core.specs.Cells.Content.{Here}
 use Rattle.generational_core.specs.Cells.Cell.{Value, Shared, Ref}
 use Rattle.generational_core.specs.State.{State, IsSound, content_at}
 use Rattle.generational_core.specs.Borrowing.{BorrowRefusal, Guard, refusal_to_read, reach}
@@ -28,10 +27,9 @@ use Rattle.generational_core.specs.Machine.Action.{ReleaseReader, ReleaseWriter,
 use Rattle.generational_core.specs.Machine.Action.{Point, CanRead, CanWrite}
 use Rattle.generational_core.specs.Machine.Answer.{Made, Owned, Reads, Writes, Done, Old, Flag}
 use Rattle.generational_core.specs.Machine.Answer.{Back, BorrowRefused, Refused}
-use Rattle.generational_core.specs.Steps.{AreNew, IsNew, Meets, Takes, limit_tickets, takes_ticket}
-use Rattle.generational_core.specs.Steps.{last_ticket, no_names}
-use Rattle.generational_core.specs.StepCalls.{is_ready, recorded_as, is_hindered, target_of}
-use Rattle.generational_core.proofs.maps.Maps.{by_name, get-insert_here}
+use Rattle.generational_core.specs.Steps.{Meets, Takes, limit_tickets}
+use Rattle.generational_core.specs.Steps.{no_names}
+use Rattle.generational_core.specs.StepCalls.{is_ready, recorded_as, is_hindered}
 use Rattle.generational_sessions.specs.History.{plain, plain_call, plain_answer}
 use Rattle.generational_sync.specs.declared.step.StepReply.{StepReply}
 use Rattle.generational_sync.specs.declared.step.StepReply.TheVariants as reply
@@ -41,6 +39,7 @@ use Rattle.generational_sync.specs.History.{gives_new, guard_at}
 use Rattle.generational_sync.proofs.Replying.{plain_reply, recorded_is}
 use Rattle.generational_sync.proofs.Fitting.{new_to}
 use Rattle.generational_sync.proofs.Finding.{reader_found, writer_found}
+use Rattle.generational_sync.proofs.Making.{target_made}
 
 -- what the laws of the machine say: a call is ready where its answer tells of no borrow, and each
 -- call is one of the state without values
@@ -164,18 +163,6 @@ module _ (tell : IsTold) (P : Plain) where
       (make P o new.first (Value (Here tt []) l) l))
       (some_is (reply.Made (box_of P.number new.first l)) r h)
       (rw is refl, new_to P new.first takes)
-
-  -- the box of a new reference tells the cell that it names
-  target_made : (S : Plain) (o : Option OwnerName) (n m : Name) (l : Location)
-      → target_of (make S o n (Ref m l) l).1 (box_of S.number n l) ≡ Some (id_of S.number m)
-  target_made S None n m l = rw (
-    eq-eqb S.number S.number refl,
-    get-insert_here by_name S.cells n (Ref m l),
-  ) refl
-  target_made S (Some o) n m l = rw (
-    eq-eqb S.number S.number refl,
-    get-insert_here by_name S.cells n (Ref m l),
-  ) refl
 
   shared_tells : (o : Option OwnerName) (l : Location) (new : NewNames) (known : Bool)
       → is_known P o ≡ known → let out : Outcome (Unit {0}) = cond known

@@ -1,47 +1,37 @@
 -- What lies under the lock stays as it is kept.
-use Rattle.std.proofs.Common.{◌≡◌, ℕ, ◌+◌, ◌≤◌, Bool, true, List, [], ◌∷◌, ◌++◌, length, None, Result, Ok}
-use Rattle.std.proofs.Common.{Err, false, Some, refl, sym, ap, ◌∙◌, arith, inl, inr}
-use Rattle.std.specs.Result.{is_err}
+use Rattle.std.proofs.Common.{◌≡◌, ℕ, ◌+◌, ◌≤◌, ◌<◌, Bool, true, false, cond, List, [], ◌∷◌, ◌++◌}
+use Rattle.std.proofs.Common.{length, Option, None, Some, Result, Ok, Err, refl, sym, ap, subst, ◌∙◌}
+use Rattle.std.proofs.Common.{arith, inl, inr, IfSome}
+use Rattle.std.specs.Prelude.{option_to_list}
 use Rattle.std.proofs.lemmas.Bool.{true≢false}
 use Rattle.std.specs.FinMap as map
 use Rattle.generational_core.specs.declared.error.Location.{Location}
-use Rattle.generational_core.specs.declared.error.BorrowError.{BorrowError}
-use Rattle.generational_core.specs.declared.error.BorrowError.TheVariants as reads
-use Rattle.generational_core.specs.declared.error.BorrowMutError.{BorrowMutError}
-use Rattle.generational_core.specs.declared.error.Refused.{Refused}
-use Rattle.generational_core.specs.declared.error.Refused.TheVariants as refused
-use Rattle.generational_core.specs.declared.error.StoreError.TheVariants.{OutOfMemory}
-use Rattle.generational_core.specs.declared.error.StoreError.TheVariants.{NumbersExhausted}
-use Rattle.generational_core.specs.declared.error.StoreError.TheVariants.{UnknownOwner}
-use Rattle.generational_core.specs.declared.boxes.GenerationalPointer.{GenerationalPointer}
 use Rattle.generational_core.specs.declared.steps.StepCall.{StepCall}
-use Rattle.generational_core.specs.declared.steps.StepCall.TheVariants as call
 use Rattle.generational_core.specs.Names.{Name, name_cmp}
 use Rattle.generational_core.specs.Cells.{Cell}
+use Rattle.generational_core.specs.Cells.Content.{Here}
 use Rattle.generational_core.specs.State.{State, IsSound}
 use Rattle.generational_core.specs.Conditions.{fresh}
-use Rattle.generational_core.specs.Borrowing.{Guard}
-use Rattle.generational_core.specs.Machine.{Action, Answer, Outcome}
-use Rattle.generational_core.specs.Machine.Action.{Make, Read, ReleaseReader, End}
-use Rattle.generational_core.specs.Machine.Answer.{Made, Reads, Done, Flag}
-use Rattle.generational_core.specs.Steps.{Meets}
-use Rattle.generational_core.specs.Answers.{read_refused, end_answer}
-use Rattle.generational_core.specs.StepCalls.{recorded_as}
+use Rattle.generational_core.specs.Borrowing.{Guard, fill}
+use Rattle.generational_core.specs.Machine.{Action, Answer, Outcome, OwnerName, knows_writer}
+use Rattle.generational_core.specs.Machine.Action.{Make, MakeShared, ReleaseReader, ReleaseWriter}
+use Rattle.generational_core.specs.Machine.Answer.{Back, Done, Flag}
+use Rattle.generational_core.specs.Steps.{Meets, limit_tickets}
+use Rattle.generational_core.specs.Answers.{back_answer}
+use Rattle.generational_core.specs.StepCalls.{is_ready, recorded_as}
 use Rattle.generational_sessions.specs.History.{plain}
 use Rattle.generational_sync.specs.declared.step.Step.{Step}
 use Rattle.generational_sync.specs.declared.step.StepReply.{StepReply}
-use Rattle.generational_sync.specs.declared.step.StepReply.TheVariants as reply
 use Rattle.generational_sync.specs.Kinds.{step_of}
-use Rattle.generational_sync.specs.Replies.{reply_of}
+use Rattle.generational_sync.specs.Records.{HasRecord}
+use Rattle.generational_sync.specs.Refusals.{MayRefuse}
+use Rattle.generational_sync.specs.Replies.{recorded, reply_of}
 use Rattle.generational_sync.specs.History.{Plain, start, plain_step, replay_from}
-use Rattle.generational_sync.specs.Standing.{borrows, borrows_in}
+use Rattle.generational_sync.specs.Standing.{borrows, borrows_in, given_by, leaves, lent_in}
 use Rattle.generational_sync.specs.Shared.{LogState, IsKept}
-use Rattle.generational_sync.specs.Standing.{given_by, leaves, lent_in}
-use Rattle.generational_sync.specs.Replies.{recorded}
-use Rattle.generational_sync.proofs.Counting.{meets_fine}
+use Rattle.generational_sync.proofs.Counting.{meets_fine, written_stand}
 use Rattle.generational_sync.proofs.Replaying.{replays_on}
 use Rattle.generational_sync.proofs.Standings.{release_stand}
-use Rattle.std.specs.Prelude.{◌<◌, IfSome, Option, option_to_list}
 
 -- the history with one step more
 abbrev pub Appended : LogState → LogState → ℕ → StepCall → StepReply → Type 0
@@ -58,44 +48,68 @@ AreLawful T = (S R : State T) (a : Action T) (c : StepCall) (answer : Answer T) 
     → IsSound (plain S) → recorded_as a ≡ Some c → Meets S a answer R → reply_of R a answer ≡ Some r
     → plain_step (plain S) c r ≡ Some (plain R)
 
-abbrev LeadTo : (ℕ → Plain → Type 0) → Type 0
-LeadTo Is = (number : ℕ) (steps : List Step) (P : Plain)
-    → replay_from (start number) steps ≡ Some P → Is number P
+abbrev LeadTo : (Plain → Plain → Type 0) → Type 0
+LeadTo Is = (P : Plain) (steps : List Step) (Q : Plain) → IsSound P
+    → replay_from P steps ≡ Some Q → Is P Q
 
-abbrev Sound : ℕ → Plain → Type 0
-Sound number P = IsSound P
+abbrev Sound : Plain → Plain → Type 0
+Sound P Q = IsSound Q
 
-abbrev Numbered : ℕ → Plain → Type 0
-Numbered number P = P.number ≡ number
+abbrev Numbered : Plain → Plain → Type 0
+Numbered P Q = Q.number ≡ P.number
+
+-- a call is refused as it may be
+abbrev FreeRefusals : Type 0 → Type 0
+FreeRefusals T = (S R : State T) (a : Action T) (c : StepCall) (answer : Answer T)
+    → recorded_as a ≡ Some c → is_ready S c ≡ true → Meets S a answer R
+    → MayRefuse S.number a answer
+
+-- what is known of each recorded step
+abbrev KnownRecords : Type 0 → Type 0
+KnownRecords T = (number : ℕ) (S R : State T) (a : Action T) (c : StepCall) (answer : Answer T)
+    (reply : Option StepReply) → S.number ≡ number → recorded_as a ≡ Some c → is_ready S c ≡ true
+    → Meets S a answer R → reply ≡ reply_of R a answer → IfSome reply (λ r. HasRecord number c r)
 
 module _ {T : Type 0} where
   pub fresh_kept : (number : ℕ) (S : State T) (log : LogState)
-      → start number ≡ plain (fresh {T = T} number 1 0)
-      → S ≡ fresh number 1 0 → log.steps ≡ [] → IsKept number S log
-  fresh_kept number S log begins is none =
+      → start number ≡ plain (fresh {T = T} number 1 0) → IsSound (start number)
+      → S ≡ fresh number 1 0 → log.from ≡ start number → log.steps ≡ [] → IsKept number S log
+  fresh_kept number S log begins sound is from none =
       let empty = no_borrows (map.entries map.empty)
       (sym (map.len-entries map.empty) ∙ map.len-empty name_cmp (Cell T)) in
       let few = ap borrows is in (
-        ap (replay_from (start number)) none ∙ ap Some (begins ∙ ap plain (sym is)),
+        ap (λ P. replay_from P log.steps) from
+            ∙ (ap (replay_from (start number)) none ∙ ap Some (begins ∙ ap plain (sym is))),
         omega arith,
+        subst IsSound (sym from) sound,
+        ap (λ (P : Plain). P.number) from,
       )
 
   module _ (lawful : AreLawful T) (sound : LeadTo Sound) (number : ℕ) (S R : State T)
       (log room after : LogState) (worker : ℕ)
-      (kept : IsKept number S log) (same : room.steps ≡ log.steps) where
+      (kept : IsKept number S log) (origin : room.from ≡ log.from) (same : room.steps ≡ log.steps)
+      (onward : after.from ≡ room.from) where
+    -- the history goes on from the same state
+    begins : IsSound after.from × (after.from.number ≡ number)
+    begins = subst (λ (P : Plain). IsSound P × (P.number ≡ number)) (sym (onward ∙ origin))
+        (kept.2, kept.3)
+
     -- the history with the recorded step replays to the state after it
     replays : (a : Action T) (c : StepCall) (answer : Answer T) (r : StepReply)
         → Appended room after worker c r → recorded_as a ≡ Some c → Meets S a answer R
-        → reply_of R a answer ≡ Some r → replay_from (start number) after.steps ≡ Some (plain R)
+        → reply_of R a answer ≡ Some r → replay_from after.from after.steps ≡ Some (plain R)
     replays a c answer r more e m h =
-        replays_on (start number) log.steps room.steps after.steps S R _ kept.0 same more
-        (lawful S R a c answer r (sound number log.steps (plain S) kept.0) e m h)
+        ap (λ P. replay_from P after.steps) (onward ∙ origin)
+        ∙ replays_on log.from log.steps room.steps after.steps S R _ kept.0 same more
+        (lawful S R a c answer r (sound log.from log.steps (plain S) kept.2 kept.0) e m h)
 
     -- where nothing is recorded, all is as it was
     stays : (answer : Answer T) → R ≡ S → after.steps ≡ room.steps
-        → replay_from (start number) after.steps ≡ Some (plain R)
+        → replay_from after.from after.steps ≡ Some (plain R)
     stays answer left more =
-        ap (replay_from (start number)) (more ∙ same) ∙ (kept.0 ∙ ap (λ s. Some (plain s)) (sym left))
+        ap (λ P. replay_from P after.steps) (onward ∙ origin)
+        ∙ (ap (replay_from log.from) (more ∙ same)
+        ∙ (kept.0 ∙ ap (λ s. Some (plain s)) (sym left)))
 
     -- any call that ends no borrow by itself, whether its answer is recorded or not
     pub settled : (a : Action T) (c : StepCall) (answer : Answer T) (reply : Option StepReply)
@@ -107,11 +121,15 @@ module _ {T : Type 0} where
     settled a c answer (Some r) e m h lent left still more stay = (
       replays a c answer r more e m (sym h),
       (let had = kept.1 in let now = (meets_fine S R a answer m).0 in omega arith),
+      begins.0,
+      begins.1,
     )
     settled a c answer None e m h lent left still more stay =
         let same = (meets_fine S R a answer m).1 (left refl) in (
           stays answer same more,
           (let had = kept.1 in let as_it_was = ap borrows same in omega arith),
+          begins.0,
+          begins.1,
         )
 
     -- the end of a borrow
@@ -124,11 +142,15 @@ module _ {T : Type 0} where
     settled_end a c answer (Some r) e m h ends left still more less = (
       replays a c answer r more e m (sym h),
       (let had = kept.1 in omega arith),
+      begins.0,
+      begins.1,
     )
     settled_end a c answer None e m h ends left still more less =
         let same = (meets_fine S R a answer m).1 (left refl) in (
           stays answer same more,
           (let had = kept.1 in let as_it_was = ap borrows same in omega arith),
+          begins.0,
+          begins.1,
         )
 
   -- a known reader's borrow stood, so there is room for the step of its release
@@ -140,22 +162,78 @@ module _ {T : Type 0} where
   released S R g false (Some r) m h = absurd cc
   released S R g false None m h = tt
 
+  abbrev is_done : Answer T → Bool
+  is_done Done = true
+  is_done answer = false
+
+  -- so does a known writer's
+  written : (S R : State T) (g : Guard) (v : T)
+      → Meets S (ReleaseWriter g v) Done R → borrows R + 1 ≤ borrows S
+  written S R g v (inl m) = at (knows_writer S g) refl m.2
+    where
+      at : (b : Bool) → knows_writer S g ≡ b → (Done, R)
+          ≡ limit_tickets S (cond b (Done, fill S g.cell (Here v [])) (Back v, S))
+          → borrows R + 1 ≤ borrows S
+      at true known e =
+          let after = ap (λ (o : Outcome T). borrows o.1) e in
+          let less = written_stand S g v known in
+          omega arith
+      at false known e = absurd (true≢false (ap (λ (o : Outcome T). is_done o.0) e))
+  written S R g v (inr m) = absurd cc
+
+  pub written_released : {U : Type 0} (S R : State T) (g : Guard) (v : T) (r : Result U T)
+      (reply : Option StepReply) → Meets S (ReleaseWriter g v) (back_answer r) R
+      → reply ≡ reply_of R (ReleaseWriter g v) (back_answer r)
+      → IfSome reply (λ x. borrows R + 1 ≤ borrows S)
+  written_released S R g v (Ok u) (Some x) m h = written S R g v m
+  written_released S R g v (Ok u) None m h = tt
+  written_released S R g v (Err back) (Some x) m h = absurd cc
+  written_released S R g v (Err back) None m h = tt
+
+  -- makings that hand in a value are always ready
+  pub make_ready : (S : State T) (o : Option OwnerName) (v : T) (l : Location) (c : StepCall)
+      → recorded_as (Make o v l) ≡ Some c → is_ready S c ≡ true
+  make_ready S None v l c e = subst (λ x. IfSome x (λ d. is_ready S d ≡ true)) e refl
+  make_ready S (Some o) v l c e = subst (λ x. IfSome x (λ d. is_ready S d ≡ true)) e refl
+
+  pub shared_ready : (S : State T) (o : Option OwnerName) (v : T) (l : Location) (c : StepCall)
+      → recorded_as (MakeShared o v l) ≡ Some c → is_ready S c ≡ true
+  shared_ready S None v l c e = subst (λ x. IfSome x (λ d. is_ready S d ≡ true)) e refl
+  shared_ready S (Some o) v l c e = subst (λ x. IfSome x (λ d. is_ready S d ≡ true)) e refl
+
   module _ (number : ℕ) (S R : State T) (log : LogState) (kept : IsKept number S log) where
+    -- the store has the number of its history's start
+    numbered_so : LeadTo Numbered → S.number ≡ number
+    numbered_so numbered = numbered log.from log.steps (plain S) kept.2 kept.0 ∙ kept.3
+
+    -- a call that is ready where the state is seen so is refused as it may be
+    pub refused_as : FreeRefusals T → LeadTo Numbered → (seen : State T) (a : Action T) (c : StepCall)
+        (answer : Answer T) → S ≡ seen → recorded_as a ≡ Some c → is_ready seen c ≡ true
+        → Meets S a answer R → MayRefuse number a answer
+    refused_as refuses numbered seen a c answer same e ready m =
+        subst (λ n. MayRefuse n a answer) (numbered_so numbered)
+        (refuses S R a c answer e (ap (λ s. is_ready s c) same ∙ ready) m)
+
+    -- the same of a call that asks for what is known by another name
+    pub refused_by : FreeRefusals T → LeadTo Numbered → {X : Type 0} (seen : State T) (x asked : X)
+        (a : X → Action T) (c : X → StepCall) (answer : Answer T) → S ≡ seen → x ≡ asked
+        → ((y : X) → recorded_as (a y) ≡ Some (c y)) → is_ready seen (c asked) ≡ true
+        → Meets S (a x) answer R → MayRefuse number (a asked) answer
+    refused_by refuses numbered seen x asked a c answer same is e ready m =
+        subst (λ y. MayRefuse number (a y) answer) is
+        (refused_as refuses numbered seen (a x) (c x) answer same (e x)
+        (ap (λ y. is_ready seen (c y)) is ∙ ready) m)
+
+    -- and what is known of its step, if it is recorded
+    pub known_as : KnownRecords T → LeadTo Numbered → (seen : State T) (a : Action T)
+        (c : StepCall) (answer : Answer T) (reply : Option StepReply) → S ≡ seen
+        → recorded_as a ≡ Some c → is_ready seen c ≡ true → Meets S a answer R
+        → reply ≡ reply_of R a answer → IfSome reply (λ r. HasRecord number c r)
+    known_as records numbered seen a c answer reply same e ready m is =
+        records number S R a c answer reply (numbered_so numbered) e
+        (ap (λ s. is_ready s c) same ∙ ready) m is
+
     pub end_counts : (reply : Option StepReply) → IfSome reply (λ r. borrows R + 1 ≤ borrows S)
         → IfSome reply (λ r. 0 < log.standing)
     end_counts (Some r) ends = let had = kept.1 in omega arith
     end_counts None ends = tt
-
-    -- the store has the number of its history's start
-    pub number_kept : LeadTo Numbered → S.number ≡ number
-    number_kept numbered = numbered number log.steps (plain S) kept.0
-
-    -- a box is made at the location that was handed in
-    pub made_at : (v : T) (l : Location) (b : GenerationalPointer)
-        → Meets S (Make None v l) (Made b) R → b.created_at ≡ l
-    made_at v l b (inl m) = ap (λ (o : Outcome T). location_or o.0) m.2
-      where
-        location_or : Answer T → Location
-        location_or (Made c) = c.created_at
-        location_or _ = b.created_at
-    made_at v l b (inr m) = absurd cc

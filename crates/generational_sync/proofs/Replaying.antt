@@ -22,7 +22,7 @@ use Rattle.generational_sync.specs.declared.step.StepReply.{StepReply}
 use Rattle.generational_sync.specs.declared.step.StepReply.TheVariants as reply
 use Rattle.generational_sync.specs.History.{Plain, plain_step, step_by, names_of_reply, action_of}
 use Rattle.generational_sync.specs.History.{gives_new, is_lawful, replay_on}
-use Rattle.generational_sync.specs.History.{replay_from, start, IsTaken, LeadsOver}
+use Rattle.generational_sync.specs.History.{replay_from, IsTaken, LeadsOver}
 use Rattle.generational_sync.proofs.Fitting.{are_from, gives_from}
 
 takes_any : (P : Plain) (a : Action (Unit {0})) (answer : Answer (Unit {0})) (f : NewNames)
@@ -190,14 +190,14 @@ module _ (sound : KeepsSound) (numbered : KeepsNumber) where
       replay_good number xs (plain_step P x.call x.reply) Q
       (λ R k. step_good number P R x.call x.reply (good P refl) k) e
 
-  -- a state to which a history replays is sound, and of the store with the number of its start
-  pub replay_kept : (number : ℕ) (steps : List Step) (Q : Plain) → IsSound (start number)
-      → replay_from (start number) steps ≡ Some Q → Good number Q
-  replay_kept number steps Q begins e =
-      replay_good number steps (Some (start number)) Q
-      (λ P k.
-      let same : start number ≡ P = cc in
-      subst (Good number) same (begins, refl)) e
+  -- a state to which a history replays from a sound one is sound, and of the same store
+  pub replay_kept : (P : Plain) (steps : List Step) (Q : Plain) → IsSound P
+      → replay_from P steps ≡ Some Q → Good P.number Q
+  replay_kept P steps Q begins e =
+      replay_good P.number steps (Some P) Q
+      (λ R k.
+      let same : P ≡ R = cc in
+      subst (Good P.number) same (begins, refl)) e
 
 -- one lawful step more
 replay_more : (steps : List Step) (o : Option Plain) (P Q : Plain) (x : Step)

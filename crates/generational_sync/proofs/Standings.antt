@@ -1,6 +1,6 @@
 -- How many borrows stand after a call.
-use Rattle.std.proofs.Common.{◌≡◌, ℕ, ◌+◌, ◌≤◌, Bool, true, false, cond, not, ◌&&◌, List, [], ◌∷◌}
-use Rattle.std.proofs.Common.{◌++◌, length, Option, None, Some, refl, sym, ap, subst, ◌∙◌, arith}
+use Rattle.std.proofs.Common.{◌≡◌, ℕ, ◌+◌, ◌≤◌, Bool, true, false, cond, not, List, [], ◌∷◌}
+use Rattle.std.proofs.Common.{◌++◌, length, Option, None, Some, refl, sym, ap, ◌∙◌, arith}
 use Rattle.std.proofs.Common.{inl, inr, length-append}
 use Rattle.std.specs.Prelude.{nat_eq, suc, ◌||◌}
 use Rattle.std.specs.List.{list_any, filter}
@@ -8,23 +8,21 @@ use Rattle.std.proofs.lemmas.Bool.{true≢false, and_parts}
 use Rattle.std.proofs.lemmas.List.{length-map}
 use Rattle.std.specs.FinMap as map
 use Rattle.generational_core.specs.declared.error.Location.{Location}
-use Rattle.generational_core.specs.declared.error.StoreError.TheVariants.{NumbersExhausted}
 use Rattle.generational_core.specs.declared.borrow.Borrow.{Borrow}
-use Rattle.generational_core.specs.declared.boxes.GenerationalPointer.{GenerationalPointer}
 use Rattle.generational_core.specs.Names.{Name, NameMap, among}
 use Rattle.generational_core.specs.Cells.{Content, Cell, content_of, refill, is_shared}
 use Rattle.generational_core.specs.Cells.Content.{Here, Lent}
 use Rattle.generational_core.specs.Cells.Cell.{Value, Shared, Ref}
 use Rattle.generational_core.specs.State.{State, tickets_of, is_named, content_at}
-use Rattle.generational_core.specs.Borrowing.{BorrowRefusal, Guard, fill, reach, refusal_to_read}
-use Rattle.generational_core.specs.Ending.{sweep, take_away, close, hindrance_to}
-use Rattle.generational_core.specs.Machine.{Answer, Outcome, unless, read_at, cell_at, has_reader}
-use Rattle.generational_core.specs.Machine.{knows_reader, remove_reader, own_name}
-use Rattle.generational_core.specs.Machine.Action.{Make, Read, ReleaseReader, End}
-use Rattle.generational_core.specs.Machine.Answer.{Made, Reads, Done, Flag, Refused}
-use Rattle.generational_core.specs.Steps.{Meets, limit_tickets, takes_ticket, last_ticket}
+use Rattle.generational_core.specs.Borrowing.{Guard, fill}
+use Rattle.generational_core.specs.Ending.{sweep, take_away, close}
+use Rattle.generational_core.specs.Machine.{Answer, Outcome, read_at, cell_at, has_reader}
+use Rattle.generational_core.specs.Machine.{knows_reader, remove_reader}
+use Rattle.generational_core.specs.Machine.Action.{ReleaseReader}
+use Rattle.generational_core.specs.Machine.Answer.{Reads, Done, Flag}
+use Rattle.generational_core.specs.Steps.{Meets, limit_tickets}
 use Rattle.generational_sync.specs.Standing.{borrows, borrows_in}
-use Rattle.generational_sync.proofs.Weighing.{borrows_retained, borrows_inserted, borrows_changed}
+use Rattle.generational_sync.proofs.Weighing.{borrows_retained, borrows_changed}
 
 -- a list without a ticket that is in it is shorter
 fewer : (t : ℕ) (rs : List Borrow)

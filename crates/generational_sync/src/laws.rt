@@ -1,12 +1,14 @@
 //! Laws of histories, each the contract of a function that does nothing.
 
-ghost use Rattle.std.specs.Prelude.{◌≡◌, ℕ, List, ◌∷◌, ◌++◌, Some};
+ghost use Rattle.std.specs.Prelude.{◌≡◌, ℕ, IfSome, List, ◌∷◌, ◌++◌, Option, Some, true};
 ghost use Rattle.generational_core.specs.State.{State, IsSound};
 ghost use Rattle.generational_core.specs.Conditions.{fresh};
 ghost use Rattle.generational_core.specs.declared.steps.StepCall.{StepCall};
 ghost use Rattle.generational_core.specs.Machine.{Action, Answer};
 ghost use Rattle.generational_core.specs.Steps.{Meets};
-ghost use Rattle.generational_core.specs.StepCalls.{recorded_as};
+ghost use Rattle.generational_core.specs.StepCalls.{is_ready, recorded_as};
+ghost use Rattle.generational_sync.specs.Records.{HasRecord};
+ghost use Rattle.generational_sync.specs.Refusals.{MayRefuse};
 ghost use Rattle.generational_sessions.specs.History.{plain};
 ghost use Rattle.generational_sync.specs.declared.step.Step.{Step};
 ghost use Rattle.generational_sync.specs.declared.step.StepReply.{StepReply};
@@ -43,14 +45,39 @@ pub fn recorded_calls_are_lawful<T>()
     laws::calls_are_ready_where_no_borrow_is_told::<()>();
 }
 
-/// A history that replays from an empty store leads to a sound state, so that a ticket alone names
-/// a reader in it, and to one of the store with the same number.
+/// A history that replays from a sound state leads to a sound state, so that a ticket alone names
+/// a reader in it, and to one of the store with the same number. The state of an empty store is
+/// sound.
 pub fn histories_lead_to_sound_states()
-    ensures sound { (number : ℕ) (steps : List Step) (P : Plain) →
-        replay_from (start number) steps ≡ Some P → IsSound P }
-    ensures number { (number : ℕ) (steps : List Step) (P : Plain) →
-        replay_from (start number) steps ≡ Some P → P.number ≡ number }
+    ensures start { (number : ℕ) → IsSound (start number) }
+    ensures sound { (P : Plain) (steps : List Step) (Q : Plain) →
+        IsSound P → replay_from P steps ≡ Some Q → IsSound Q }
+    ensures number { (P : Plain) (steps : List Step) (Q : Plain) →
+        IsSound P → replay_from P steps ≡ Some Q → Q.number ≡ P.number }
 {
     laws::steps_are_sound::<()>();
     laws::steps_keep_the_store::<()>();
+}
+
+/// A call in whose way no borrow stands is refused, if it is, as `Dropped`, for the last ticket, for
+/// an owner that the store doesn't know, or for want of memory; each only where such a call may be.
+pub fn free_calls_are_refused_so<T>()
+    ensures { (S R : State T) (action : Action T) (call : StepCall) (answer : Answer T) →
+        recorded_as action ≡ Some call → is_ready S call ≡ true → Meets S action answer R →
+        MayRefuse S.number action answer }
+{
+    laws::calls_are_ready_where_no_borrow_is_told::<T>();
+}
+
+// What is known of each recorded step, so that it needn't be kept.
+pub(crate) fn steps_have_records<T>()
+    ensures { (number : ℕ) (S R : State T) (action : Action T) (call : StepCall)
+        (answer : Answer T) (reply : Option StepReply) →
+        S.number ≡ number → recorded_as action ≡ Some call → is_ready S call ≡ true →
+        Meets S action answer R → reply ≡ reply_of R action answer →
+        IfSome reply (λ r. HasRecord number call r) }
+{
+    free_calls_are_refused_so::<T>();
+    laws::boxes_and_guards_are_new::<T>();
+    laws::steps_keep_the_store::<T>();
 }

@@ -13,7 +13,10 @@
 
 pub mod laws;
 mod log;
+pub mod parts;
+mod record;
 mod replies;
+mod short_call;
 mod state;
 mod step;
 mod storage;

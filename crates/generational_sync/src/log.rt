@@ -1,57 +1,73 @@
 //! The history of a store, with its books.
 
-ghost use Rattle.std.specs.Prelude.{◌≡◌, ◌+◌, ◌<◌, ◌≤◌, [], ◌∷◌, ◌++◌, IfOk, OnOk};
-ghost use Rattle.std.specs.Prelude.{vec_len, vec_capacity};
+ghost use Rattle.std.specs.Prelude.{◌≡◌, ◌+◌, ◌^◌, ◌<◌, ◌≤◌, [], ◌∷◌, ◌++◌, IfOk, IfSome, OnOk};
+ghost use Rattle.std.specs.Prelude.{length, option_to_list};
 ghost use Rattle.generational_sync.specs.Counts.{raised};
+ghost use Rattle.generational_sync.specs.History.{start};
 ghost use Rattle.generational_sync.specs.Kinds.{IsCounted, kind_of, step_of};
-ghost use Rattle.generational_sync.specs.Standing.{lent_in};
+ghost use Rattle.generational_sync.specs.Records.{HasRecord};
 ghost use Rattle.generational_sync.specs.Replies.{recorded, tallied};
-ghost use Rattle.std.specs.Prelude.{IfSome, length, option_to_list};
+ghost use Rattle.generational_sync.specs.Standing.{lent_in};
 
+use crate::record::Record;
 use crate::step::{Kind, Step, StepReply};
 use crate::tally::{Count, Tally};
+use chunks::Chunks;
 use generational_box::StepCall;
-use generational_core::room::reserve_more;
 use std::alloc::{AllocError, Global};
 use std::marker::Model;
 use std::sync::ledger::Book;
 
-/// The steps in order, room for a release of each borrow that stands, and a book for each kind.
-/// Contracts see the steps and the room.
+/// The steps in order, room for a release of each borrow that stands, and for each kind how many
+/// steps there are and a book. Contracts see the steps and the room.
+///
+/// The steps are kept as records of the store with this number.
 #[derive(Drop)]
-pub(crate) struct Log<M: Count, L: Count, C: Count, R: Count> {
-    alloc: Global,
-    history: Vec<Step>,
+pub(crate) struct Log<const NUMBER: u64, M: Count, L: Count, C: Count, R: Count> {
+    history: Chunks<Record>,
     standing: usize,
+    made_steps: u64,
+    lent_steps: u64,
+    changed_steps: u64,
+    refused_steps: u64,
     made: Book<M>,
     lent: Book<L>,
     changed: Book<C>,
     refused: Book<R>,
 }
 
-impl<M: Count, L: Count, C: Count, R: Count> Model for Log<M, L, C, R> {
-    ghost use Rattle.std.specs.Prelude.{◌≡◌, ◌+◌, ◌-◌, ◌≤◌, vec_len, vec_capacity};
+impl<const NUMBER: u64, M: Count, L: Count, C: Count, R: Count> Model for Log<NUMBER, M, L, C, R> {
+    ghost use Rattle.std.specs.Prelude.{◌≡◌, ◌+◌, ◌-◌, ◌≤◌, map};
+    ghost use Rattle.std.specs.Coded.{codes};
+    ghost use Rattle.std.specs.FinMap as finite;
+    ghost use Rattle.generational_sync.specs.History.{start};
     ghost use Rattle.generational_sync.specs.Kinds.{count};
+    ghost use Rattle.generational_sync.specs.Records.{unpack};
     ghost use Rattle.generational_sync.specs.Shared.{LogState};
     ghost use Rattle.generational_sync.specs.declared.step.Kind.TheVariants.{Made, Lent, Changed};
     ghost use Rattle.generational_sync.specs.declared.step.Kind.TheVariants.{Refused};
 
     ghost Value = { LogState };
 
+    ghost coded = { Prim.hlevel (codes, finite.code) };
+
     ghost view = { λ l. record {
-      steps = l.history.items;
+      from = start NUMBER;
+      steps = map (unpack NUMBER) l.history.items;
       standing = l.standing;
-      room = vec_capacity l.history - (vec_len l.history + l.standing);
+      room = l.history.room - l.standing;
     } };
 
-    ghost invariant = { λ l. (l.made.total ≡ count Made l.history.items)
-        × (l.lent.total ≡ count Lent l.history.items)
-        × (l.changed.total ≡ count Changed l.history.items)
-        × (l.refused.total ≡ count Refused l.history.items)
-        × (vec_len l.history + l.standing ≤ vec_capacity l.history) };
+    ghost invariant = { λ l. (l.made_steps ≡ count Made (map (unpack NUMBER) l.history.items))
+        × (l.lent_steps ≡ count Lent (map (unpack NUMBER) l.history.items))
+        × (l.changed_steps ≡ count Changed (map (unpack NUMBER) l.history.items))
+        × (l.refused_steps ≡ count Refused (map (unpack NUMBER) l.history.items))
+        × (l.made.total ≡ l.made_steps) × (l.lent.total ≡ l.lent_steps)
+        × (l.changed.total ≡ l.changed_steps) × (l.refused.total ≡ l.refused_steps)
+        × (l.standing ≤ l.history.room) };
 }
 
-impl<M: Count, L: Count, C: Count, R: Count> Log<M, L, C, R> {
+impl<const NUMBER: u64, M: Count, L: Count, C: Count, R: Count> Log<NUMBER, M, L, C, R> {
     // An empty history.
     pub(crate) fn new(
         alloc: Global,
@@ -61,12 +77,16 @@ impl<M: Count, L: Count, C: Count, R: Count> Log<M, L, C, R> {
         refused: Book<R>,
     ) -> Self
         requires { (made.total ≡ 0) × (lent.total ≡ 0) × (changed.total ≡ 0) × (refused.total ≡ 0) }
-        ensures { result ≡ record { steps = []; standing = 0; room = result.room } }
+        ensures { result ≡
+            record { from = start NUMBER; steps = []; standing = 0; room = result.room } }
     {
         Log {
-            alloc,
-            history: Vec::new(alloc),
+            history: Chunks::new(alloc),
             standing: 0,
+            made_steps: 0,
+            lent_steps: 0,
+            changed_steps: 0,
+            refused_steps: 0,
             made,
             lent,
             changed,
@@ -75,43 +95,67 @@ impl<M: Count, L: Count, C: Count, R: Count> Log<M, L, C, R> {
     }
 
     // Makes room for so many steps beside the releases of the borrows that stand.
+    #[inline(always)]
     pub(crate) fn reserve(&mut self, steps: usize) -> Result<(), AllocError>
         requires { steps ≤ 2 }
+        ensures from { self.new.from ≡ self.old.from }
         ensures steps { self.new.steps ≡ self.old.steps }
         ensures standing { self.new.standing ≡ self.old.standing }
         ensures ok { OnOk result (steps ≤ self.new.room) }
     {
-        reserve_more(&mut self.history, self.standing + steps)
+        let Some(steps) = self.standing.checked_add(steps) else {
+            return Err(AllocError);
+        };
+        self.history.reserve(steps)
     }
 
     // Appends a step of the tally's worker, for which there is room.
+    #[inline(always)]
     fn append(&mut self, call: StepCall, reply: StepReply, tally: &mut Tally<M, L, C, R>)
-        requires { 0 < self.old.room }
+        requires room { 0 < self.old.room }
+        requires record { HasRecord NUMBER call reply }
+        ensures from { self.new.from ≡ self.old.from }
         ensures steps { self.new.steps ≡
             self.old.steps ++ step_of tally.old.worker call reply ∷ [] }
         ensures standing { self.new.standing ≡ self.old.standing }
         ensures room { self.new.room + 1 ≡ self.old.room }
+        ensures bounded { self.new.standing + self.new.room < 2 ^ 64 }
         ensures tally { tally.new ≡ raised (kind_of reply) tally.old }
     {
-        let step = tally.step(call, reply);
-        put_last(&mut self.history, step);
-        match step.kind() {
-            Kind::Made => self.made.add(&mut tally.made, 1),
-            Kind::Lent => self.lent.add(&mut tally.lent, 1),
-            Kind::Changed => self.changed.add(&mut tally.changed, 1),
-            Kind::Refused => self.refused.add(&mut tally.refused, 1),
+        let record = tally.record(NUMBER, call, reply);
+        self.history.push(record);
+        match reply.kind() {
+            Kind::Made => {
+                self.made.add(&mut tally.made, 1);
+                self.made_steps += 1;
+            }
+            Kind::Lent => {
+                self.lent.add(&mut tally.lent, 1);
+                self.lent_steps += 1;
+            }
+            Kind::Changed => {
+                self.changed.add(&mut tally.changed, 1);
+                self.changed_steps += 1;
+            }
+            Kind::Refused => {
+                self.refused.add(&mut tally.refused, 1);
+                self.refused_steps += 1;
+            }
         }
     }
 
     // Appends the step of the tally's worker, if the reply is one that is recorded. Where it begins
     // a borrow, that stands from then on.
+    #[inline(always)]
     pub(crate) fn settle(
         &mut self,
         call: StepCall,
         reply: Option<StepReply>,
         tally: &mut Tally<M, L, C, R>,
     )
-        requires { 1 < self.old.room }
+        requires room { 1 < self.old.room }
+        requires record { IfSome reply (HasRecord NUMBER call) }
+        ensures from { self.new.from ≡ self.old.from }
         ensures steps { self.new.steps ≡ recorded self.old.steps tally.old.worker call reply }
         ensures standing { self.new.standing ≡ self.old.standing + lent_in reply }
         ensures tally { tally.new ≡ tallied reply tally.old }
@@ -126,13 +170,16 @@ impl<M: Count, L: Count, C: Count, R: Count> Log<M, L, C, R> {
     }
 
     // The same for the end of a borrow, which has room since the borrow began.
+    #[inline(always)]
     pub(crate) fn settle_end(
         &mut self,
         call: StepCall,
         reply: Option<StepReply>,
         tally: &mut Tally<M, L, C, R>,
     )
-        requires { IfSome reply (λ r. 0 < self.old.standing) }
+        requires standing { IfSome reply (λ r. 0 < self.old.standing) }
+        requires record { IfSome reply (HasRecord NUMBER call) }
+        ensures from { self.new.from ≡ self.old.from }
         ensures steps { self.new.steps ≡ recorded self.old.steps tally.old.worker call reply }
         ensures standing { self.new.standing + length (option_to_list reply) ≡ self.old.standing }
         ensures tally { tally.new ≡ tallied reply tally.old }
@@ -143,8 +190,11 @@ impl<M: Count, L: Count, C: Count, R: Count> Log<M, L, C, R> {
     }
 
     // One borrow more stands, for whose release there is room.
+    #[inline(always)]
     fn borrow_begins(&mut self)
-        requires { 0 < self.old.room }
+        requires room { 0 < self.old.room }
+        requires bounded { self.old.standing + self.old.room < 2 ^ 64 }
+        ensures from { self.new.from ≡ self.old.from }
         ensures steps { self.new.steps ≡ self.old.steps }
         ensures standing { self.new.standing ≡ self.old.standing + 1 }
     {
@@ -152,8 +202,11 @@ impl<M: Count, L: Count, C: Count, R: Count> Log<M, L, C, R> {
     }
 
     // A borrow that stood is over: its release is appended, without any memory.
+    #[inline(always)]
     fn borrow_ends(&mut self, call: StepCall, reply: StepReply, tally: &mut Tally<M, L, C, R>)
-        requires { 0 < self.old.standing }
+        requires standing { 0 < self.old.standing }
+        requires record { HasRecord NUMBER call reply }
+        ensures from { self.new.from ≡ self.old.from }
         ensures steps { self.new.steps ≡ self.old.steps ++ step_of tally.old.worker call reply
             ∷ [] }
         ensures standing { self.new.standing + 1 ≡ self.old.standing }
@@ -179,16 +232,6 @@ impl<M: Count, L: Count, C: Count, R: Count> Log<M, L, C, R> {
         self.lent.audit(&mut whole.lent);
         self.changed.audit(&mut whole.changed);
         self.refused.audit(&mut whole.refused);
-        self.history.as_slice().to_vec(self.alloc)
+        self.history.unpacked(NUMBER)
     }
-}
-
-// Puts a step behind the others, for which there is room.
-fn put_last(history: &mut Vec<Step>, step: Step)
-    requires { vec_len history.old < vec_capacity history.old }
-    ensures items { history.new.items ≡ history.old.items ++ step ∷ [] }
-    ensures len { vec_len history.new ≡ vec_len history.old + 1 }
-    ensures capacity { vec_capacity history.new ≡ vec_capacity history.old }
-{
-    history.push_reserved(step);
 }

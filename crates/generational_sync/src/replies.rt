@@ -3,22 +3,24 @@
 ghost use Rattle.std.specs.Prelude.{◌≡◌};
 ghost use Rattle.generational_core.specs.declared.boxes.GenerationalPointer.{GenerationalPointer};
 ghost use Rattle.generational_core.specs.declared.error.Location.{Location};
-ghost use Rattle.generational_core.specs.Answers.{end_answer, end_refused, make_answer, read_answer};
-ghost use Rattle.generational_core.specs.Answers.{read_refused};
-ghost use Rattle.generational_core.specs.Borrowing.{Guard};
+ghost use Rattle.generational_core.specs.Answers.{back_answer, end_answer, end_refused, make_answer};
+ghost use Rattle.generational_core.specs.Answers.{owner_answer, read_answer, read_refused};
+ghost use Rattle.generational_core.specs.Answers.{reference_answer, release_answer, write_answer};
 ghost use Rattle.generational_core.specs.Machine.{Action, OwnerName};
-ghost use Rattle.generational_core.specs.Machine.Action.{End, Make, Read, ReleaseReader};
+ghost use Rattle.generational_core.specs.Machine.Action.{Make, MakeShared, Refer};
 ghost use Rattle.generational_core.specs.Machine.Answer.{Flag, Refused as refuses};
 ghost use Rattle.generational_core.specs.State.{State};
-ghost use Rattle.std.specs.Prelude.{None, Option, option_map, true};
+ghost use Rattle.generational_core.specs.StepCalls.{target_of};
+ghost use Rattle.std.specs.Prelude.{IfOk, None, Option, is_some, option_map, true};
+ghost use Rattle.generational_sync.specs.Shared.{set_answer};
 ghost use Rattle.generational_sync.specs.Standing.{given_by, leaves, lent_in};
 ghost use Rattle.generational_sync.specs.Replies.{kind_in, reply_of};
 ghost use Rattle.generational_sync.specs.Kinds.{kind_of};
 
 use crate::step::StepReply;
 use generational_box::{
-    BorrowError, BorrowMutError, BorrowMutResult, BorrowResult, GenerationalPointer,
-    GenerationalRef, Refusal, Refused, StoreError,
+    BorrowError, BorrowMutError, BorrowMutResult, BorrowResult, GenerationalBoxId,
+    GenerationalPointer, GenerationalRef, GenerationalRefMut, Owner, Refusal, Refused, StoreError,
 };
 
 // How a refusal of the store is recorded.
@@ -81,6 +83,53 @@ pub(crate) fn make_reply<T>(made: &Result<GenerationalPointer, Refusal<T>>) -> O
     }
 }
 
+/// How the answer of a making of a shared value is recorded, whose box names this cell.
+pub(crate) fn shared_reply<T>(
+    made: &Result<GenerationalPointer, Refusal<T>>,
+    shared: Option<GenerationalBoxId>,
+) -> Option<StepReply>
+    requires { IfOk made.now (λ b. is_some shared ≡ true) }
+    ensures reply { (R : State T) (owner : Option OwnerName) (value : T) (l : Location)
+        → IfOk made.now (λ b. shared ≡ target_of R b)
+        → result ≡ reply_of R (MakeShared owner value l) (make_answer made.now) }
+    ensures kind { option_map kind_of result ≡ kind_in {T = T} (make_answer made.now) }
+    ensures lent { lent_in result ≡ given_by {T = T} (make_answer made.now) }
+    ensures left { result ≡ None → leaves {T = T} (make_answer made.now) ≡ true }
+{
+    match made {
+        Ok(pointer) => Some(StepReply::MadeShared(shared.unwrap(), *pointer)),
+        Err(refusal) => store_reply::<T>(refusal.cause),
+    }
+}
+
+/// How the answer of a making of a reference is recorded.
+pub(crate) fn reference_reply<T>(made: &BorrowResult<GenerationalPointer>) -> Option<StepReply>
+    ensures reply { (R : State T) (owner : Option OwnerName) (b : GenerationalPointer)
+        → result ≡ reply_of R (Refer owner b) (reference_answer made.now) }
+    ensures kind { option_map kind_of result ≡ kind_in {T = T} (reference_answer made.now) }
+    ensures lent { lent_in result ≡ given_by {T = T} (reference_answer made.now) }
+    ensures left { result ≡ None → leaves {T = T} (reference_answer made.now) ≡ true }
+{
+    match made {
+        Ok(pointer) => Some(StepReply::Made(*pointer)),
+        Err(refused) => read_refusal::<T>(refused),
+    }
+}
+
+/// How the answer of a making of an owner is recorded.
+pub(crate) fn owner_reply<T>(made: &Result<Owner, StoreError>) -> Option<StepReply>
+    ensures reply { (R : State T) (call : Action T)
+        → result ≡ reply_of R call (owner_answer made.now) }
+    ensures kind { option_map kind_of result ≡ kind_in {T = T} (owner_answer made.now) }
+    ensures lent { lent_in result ≡ given_by {T = T} (owner_answer made.now) }
+    ensures left { result ≡ None → leaves {T = T} (owner_answer made.now) ≡ true }
+{
+    match made {
+        Ok(owner) => Some(StepReply::Owner(owner.id())),
+        Err(error) => store_reply::<T>(*error),
+    }
+}
+
 /// How the answer of a read is recorded.
 pub(crate) fn read_reply<T>(read: &BorrowResult<GenerationalRef<T>>) -> Option<StepReply>
     ensures reply { (R : State T) (call : Action T) → result ≡ reply_of R call (read_answer read.now) }
@@ -91,6 +140,20 @@ pub(crate) fn read_reply<T>(read: &BorrowResult<GenerationalRef<T>>) -> Option<S
     match read {
         Ok(guard) => Some(StepReply::Reader(guard.ticket())),
         Err(refused) => read_refusal::<T>(refused),
+    }
+}
+
+/// How the answer of a write is recorded.
+pub(crate) fn write_reply<T>(written: &BorrowMutResult<GenerationalRefMut<T>>) -> Option<StepReply>
+    ensures reply { (R : State T) (call : Action T)
+        → result ≡ reply_of R call (write_answer written.now) }
+    ensures kind { option_map kind_of result ≡ kind_in (write_answer written.now) }
+    ensures lent { lent_in result ≡ given_by (write_answer written.now) }
+    ensures left { result ≡ None → leaves (write_answer written.now) ≡ true }
+{
+    match written {
+        Ok(guard) => Some(StepReply::Writer(guard.ticket())),
+        Err(refused) => end_refusal::<T>(refused),
     }
 }
 
@@ -107,6 +170,36 @@ pub(crate) fn end_reply<T>(ended: &BorrowMutResult<()>) -> Option<StepReply>
     }
 }
 
+/// How the answer of an owner's release is recorded.
+pub(crate) fn release_reply<T>(
+    released: &Result<(), (Owner, Refused<BorrowMutError>)>,
+) -> Option<StepReply>
+    ensures reply { (R : State T) (call : Action T)
+        → result ≡ reply_of R call (release_answer released.now) }
+    ensures kind { option_map kind_of result ≡ kind_in {T = T} (release_answer released.now) }
+    ensures lent { lent_in result ≡ given_by {T = T} (release_answer released.now) }
+    ensures left { result ≡ None → leaves {T = T} (release_answer released.now) ≡ true }
+{
+    match released {
+        Ok(_) => Some(StepReply::Done),
+        Err(back) => end_refusal::<T>(&back.1),
+    }
+}
+
+/// How the setting of a value is recorded.
+pub(crate) fn set_reply<T>(set: &Result<(), (T, Refused<BorrowMutError>)>) -> Option<StepReply>
+    ensures reply { (R : State T) (call : Action T) (old : T)
+        → result ≡ reply_of R call (set_answer old set.now) }
+    ensures kind { (old : T) → option_map kind_of result ≡ kind_in (set_answer old set.now) }
+    ensures lent { (old : T) → lent_in result ≡ given_by (set_answer old set.now) }
+    ensures left { (old : T) → result ≡ None → leaves (set_answer old set.now) ≡ true }
+{
+    match set {
+        Ok(_) => Some(StepReply::Done),
+        Err(back) => end_refusal::<T>(&back.1),
+    }
+}
+
 /// How the end of a read is recorded.
 pub(crate) fn flag_reply<T>(known: bool) -> Option<StepReply>
     ensures reply { (R : State T) (call : Action T) → result ≡ reply_of R call (Flag known) }
@@ -115,4 +208,18 @@ pub(crate) fn flag_reply<T>(known: bool) -> Option<StepReply>
     ensures left { result ≡ None → leaves {T = T} (Flag known) ≡ true }
 {
     if known { Some(StepReply::Done) } else { None }
+}
+
+/// How the end of a write is recorded.
+pub(crate) fn back_reply<T>(released: &Result<(), T>) -> Option<StepReply>
+    ensures reply { (R : State T) (call : Action T)
+        → result ≡ reply_of R call (back_answer released.now) }
+    ensures kind { option_map kind_of result ≡ kind_in (back_answer released.now) }
+    ensures lent { lent_in result ≡ given_by (back_answer released.now) }
+    ensures left { result ≡ None → leaves (back_answer released.now) ≡ true }
+{
+    match released {
+        Ok(_) => Some(StepReply::Done),
+        Err(_) => None,
+    }
 }

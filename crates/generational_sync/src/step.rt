@@ -53,16 +53,26 @@ pub enum Kind {
     Refused,
 }
 
-impl Step {
-    /// The step's kind. Takes no memory.
-    pub fn kind(&self) -> Kind
-        ensures { result ≡ kind_of self.now.reply }
+impl StepReply {
+    // The kind of a step that was answered so.
+    #[inline(always)]
+    pub(crate) fn kind(&self) -> Kind
+        ensures { result ≡ kind_of self.now }
     {
-        match self.reply {
+        match self {
             StepReply::Made(_) | StepReply::MadeShared(_, _) | StepReply::Owner(_) => Kind::Made,
             StepReply::Reader(_) | StepReply::Writer(_) => Kind::Lent,
             StepReply::Done => Kind::Changed,
             StepReply::Dropped(_) | StepReply::Store(_) => Kind::Refused,
         }
+    }
+}
+
+impl Step {
+    /// The step's kind. Takes no memory.
+    pub fn kind(&self) -> Kind
+        ensures { result ≡ kind_of self.now.reply }
+    {
+        self.reply.kind()
     }
 }

@@ -3,31 +3,37 @@
 ghost use Rattle.std.specs.Prelude.{◌≡◌, ◌<◌, true, IfOk, IfErr, IfSome};
 ghost use Rattle.std.specs.Sync.Mutex.{mutex_guard_value};
 ghost use Rattle.generational_core.specs.declared.error.StoreError.TheVariants.{OutOfMemory};
-ghost use Rattle.generational_core.specs.declared.error.Refused.TheVariants as refused;
-ghost use Rattle.generational_core.specs.Answers.{pointer_of};
-ghost use Rattle.generational_core.specs.Machine.Answer.{Flag};
-ghost use Rattle.generational_core.specs.Answers.{box_answer, read_answer, end_answer};
-ghost use Rattle.generational_core.specs.StepCalls.{is_ready};
+ghost use Rattle.generational_core.specs.declared.steps.StepCall.TheVariants as call;
+ghost use Rattle.generational_core.specs.StepCalls.{id_of_owner, is_ready};
 ghost use Rattle.generational_sync.specs.Counts.{new_tallies};
 ghost use Rattle.generational_sync.specs.Kinds.{IsCounted};
-ghost use Rattle.generational_sync.specs.Shared.{Raises, IsBoxOf, IsHistory, MayRefuseRead};
+ghost use Rattle.generational_sync.specs.Shared.{IsHistory};
+
+mod borrowing;
+mod ending;
+mod making;
 
 use crate::state::SyncState;
 use crate::step::Step;
 use crate::tally::{Count, Tally};
-use generational_box::{
-    BorrowMutResult, BorrowResult, GenerationalBox, GenerationalRef, Location, Refusal, StepCall,
-    StoreError,
-};
+use generational_box::{GenerationalRef, Owner, StepCall, StoreError};
 use std::alloc::Global;
 use std::sync::ledger::Blank;
 use std::sync::{Arc, Condvar, Mutex, MutexGuard, Wait};
 
+/// What lies under the lock.
+#[derive(Drop)]
+struct Held<T, const NUMBER: u64, M: Count, L: Count, C: Count, R: Count> {
+    state: SyncState<T, NUMBER, M, L, C, R>,
+    // how many calls sleep, or are so far that a wake reaches them
+    waiting: usize,
+}
+
 /// What the handles of one store share.
 #[derive(Drop)]
 struct Shared<T, const NUMBER: u64, M: Count, L: Count, C: Count, R: Count> {
-    state: Mutex<SyncState<T, NUMBER, M, L, C, R>>,
-    // told whenever a borrow or a cell has ended
+    held: Mutex<Held<T, NUMBER, M, L, C, R>>,
+    // told after each step that may have freed a call that waits
     freed: Condvar,
 }
 
@@ -36,9 +42,11 @@ struct Shared<T, const NUMBER: u64, M: Count, L: Count, C: Count, R: Count> {
 /// `NUMBER` is the store's number, by which it tells its boxes from those of other stores. Each
 /// call that takes a tally raises that tally's count of its reply's kind by one; `OutOfMemory` and
 /// the release of a guard that the store doesn't know raise none. A call waits while a borrow
-/// stands in its way, and looks at everything anew after each wake. A thread that waits for a guard
-/// of its own waits for ever. That a call that waits is woken, that calls are handed on with their
-/// own boxes, locations and guards, and that an audit is a copy of the history, no clause says.
+/// stands in its way, and looks at everything anew after each wake. The calls that wait are woken
+/// after each end of a borrow, of a box or of an owner, after a box is pointed elsewhere, and after
+/// a reference is made. A thread that waits for a guard of its own waits for ever. That a call that
+/// waits is woken, that calls are handed on with their own boxes, locations and guards, and that an
+/// audit is a copy of the history, no clause says.
 #[derive(Drop)]
 pub struct SyncStorage<T, const NUMBER: u64, M: Count, L: Count, C: Count, R: Count> {
     shared: Arc<Shared<T, NUMBER, M, L, C, R>, Global>,
@@ -79,8 +87,9 @@ impl<T: Drop + Send, const NUMBER: u64, M: Count, L: Count, C: Count, R: Count> 
         ensures err { IfErr result (λ e. e ≡ OutOfMemory) }
     {
         let (state, tallies) = SyncState::new(alloc, workers, made, lent, changed, refused)?;
+        let held = Held { state, waiting: 0 };
         let shared = Shared {
-            state: Mutex::new(state),
+            held: Mutex::new(held),
             freed: Condvar::new(),
         };
         match Arc::new(alloc, shared) {
@@ -111,95 +120,57 @@ impl<T: Drop + Send, const NUMBER: u64, M: Count, L: Count, C: Count, R: Count> 
         &'a self,
         rt: &impl Wait,
         call: StepCall,
-    ) -> MutexGuard<'a, SyncState<T, NUMBER, M, L, C, R>>
-        ensures { is_ready (mutex_guard_value result).state call ≡ true }
+    ) -> MutexGuard<'a, Held<T, NUMBER, M, L, C, R>>
+        ensures { is_ready (mutex_guard_value result).state.state call ≡ true }
     {
-        let mut state = self.shared.state.lock(rt);
+        let mut held = self.shared.held.lock(rt);
         for _ in rt.forever() {
-            if state.ready(&call) {
-                return state;
+            if held.state.ready(&call) {
+                return held;
             }
-            state = self.shared.freed.wait(rt, state);
+            held = self.sleep(rt, held);
         }
         unreachable!()
     }
 
-    /// Makes a box of a value, which lives until it is ended by hand. The box has the store's
-    /// number and the location, and its id was never given before.
-    ///
-    /// Refused by `OutOfMemory`: the value comes back, and nothing changes. Memory is taken for a
-    /// slot, if none is free, and for the step.
-    pub fn leak(
-        &self,
+    // Waits until no borrow stands in the way of the owner's release.
+    fn lock_to_release<'a>(
+        &'a self,
         rt: &impl Wait,
-        value: T,
-        location: Location,
-        tally: &mut Tally<M, L, C, R>,
-    ) -> Result<GenerationalBox<T>, Refusal<T>>
-        ensures refusal { IfErr result (λ r. (r.value ≡ value) × (r.cause ≡ OutOfMemory)) }
-        ensures made { IfOk result (λ b. IsBoxOf NUMBER location (pointer_of b)) }
-        ensures tallied { Raises tally.old (box_answer result) tally.new }
+        owner: &Owner,
+    ) -> MutexGuard<'a, Held<T, NUMBER, M, L, C, R>>
+        ensures { is_ready (mutex_guard_value result).state.state
+            (call.ReleaseOwner (id_of_owner owner.now)) ≡ true }
     {
-        self.shared.state.lock(rt).leak(value, location, tally)
+        let mut held = self.shared.held.lock(rt);
+        for _ in rt.forever() {
+            if held.state.may_release(owner) {
+                return held;
+            }
+            held = self.sleep(rt, held);
+        }
+        unreachable!()
     }
 
-    /// Begins a read of the box's value, once no writer stands in its way. The guard has the
-    /// store's number, and must be released.
-    ///
-    /// Refused, in this order: `Dropped` with the box's own creation location, where its cell has
-    /// ended or is of another store; `NumbersExhausted`, where no ticket is left; both are steps.
-    /// `OutOfMemory` comes before both where the history finds no room, and after them for a
-    /// reader beside another. Memory is taken for that reader, for the step and for the step of
-    /// its release.
-    pub fn try_read(
-        &self,
+    // Lets the lock go until a wake, and takes it again. Meanwhile the call counts as one that waits.
+    fn sleep<'a>(
+        &'a self,
         rt: &impl Wait,
-        asked: GenerationalBox<T>,
-        location: Location,
-        tally: &mut Tally<M, L, C, R>,
-    ) -> BorrowResult<GenerationalRef<T>>
-        ensures guard { IfOk result (λ guard. guard.store ≡ NUMBER) }
-        ensures refusal { IfErr result (λ e. MayRefuseRead (pointer_of asked) e) }
-        ensures tallied { Raises {T = T} tally.old (read_answer result) tally.new }
-    {
-        let call = StepCall::Read(asked.pointer(), location);
-        self.lock_when(rt, call).try_read(asked, location, tally)
+        mut held: MutexGuard<'a, Held<T, NUMBER, M, L, C, R>>,
+    ) -> MutexGuard<'a, Held<T, NUMBER, M, L, C, R>> {
+        held.waiting = held.waiting.wrapping_add(1);
+        let mut held = self.shared.freed.wait(rt, held);
+        held.waiting = held.waiting.wrapping_sub(1);
+        held
     }
 
-    /// Ends a read, and wakes the threads that wait. The answer is whether the store knew the
-    /// guard; where it didn't, the guard is spent and nothing changes. Never refused, and takes no
-    /// memory.
-    pub fn release_read(
-        &self,
-        rt: &impl Wait,
-        guard: GenerationalRef<T>,
-        tally: &mut Tally<M, L, C, R>,
-    ) -> bool
-        ensures tallied { Raises {T = T} tally.old (Flag result) tally.new }
-    {
-        let known = self.shared.state.lock(rt).release_read(guard, tally);
-        self.shared.freed.notify_all();
-        known
-    }
-
-    /// Ends the box's cell, and the value with it, once no borrow stands in its way. A box whose
-    /// cell has ended or is of another store is Ok, a step that changes nothing.
-    ///
-    /// Refused by `OutOfMemory`, only where the history finds no room for the step: nothing
-    /// changes. Nothing else takes memory.
-    pub fn manually_drop(
-        &self,
-        rt: &impl Wait,
-        asked: GenerationalBox<T>,
-        tally: &mut Tally<M, L, C, R>,
-    ) -> BorrowMutResult<()>
-        ensures refusal { IfErr result (λ e. e ≡ refused.Store OutOfMemory) }
-        ensures tallied { Raises {T = T} tally.old (end_answer result) tally.new }
-    {
-        let call = StepCall::ManuallyDrop(asked.pointer());
-        let result = self.lock_when(rt, call).manually_drop(asked, tally);
-        self.shared.freed.notify_all();
-        result
+    // Lets the lock go, and wakes all calls that wait where this one may have freed some.
+    fn unlock(&self, held: MutexGuard<'_, Held<T, NUMBER, M, L, C, R>>, frees: bool) {
+        let wakes = frees && held.waiting != 0;
+        drop(held);
+        if wakes {
+            self.shared.freed.notify_all();
+        }
     }
 
     /// Runs `f` on the value that a reader's guard opens, under the lock, and answers what it
@@ -214,8 +185,8 @@ impl<T: Drop + Send, const NUMBER: u64, M: Count, L: Count, C: Count, R: Count> 
         requires { F.IsAlwaysCallable f }
         ensures { IfSome result (λ answer. (value : _) × F.post f value answer) }
     {
-        let state = self.shared.state.lock(rt);
-        let value = state.open(guard)?;
+        let held = self.shared.held.lock(rt);
+        let value = held.state.open(guard)?;
         Some(f(value))
     }
 
@@ -235,6 +206,14 @@ impl<T: Drop + Send, const NUMBER: u64, M: Count, L: Count, C: Count, R: Count> 
         ensures tally { whole.new ≡ whole.old }
         ensures refusal { IfErr result (λ e. e ≡ OutOfMemory) }
     {
-        self.shared.state.lock(rt).audit(whole)
+        self.shared.held.lock(rt).state.audit(whole)
     }
+}
+
+/// How many calls of the store wait: each sleeps, or is so far that a wake reaches it.
+pub fn waiting<T: Drop + Send, const NUMBER: u64, M: Count, L: Count, C: Count, R: Count>(
+    store: &SyncStorage<T, NUMBER, M, L, C, R>,
+    rt: &impl Wait,
+) -> usize {
+    store.shared.held.lock(rt).waiting
 }

@@ -4,8 +4,10 @@ ghost use Rattle.std.specs.Prelude.{◌≡◌, ◌+◌, ◌↔◌, ◌<◌, ◌�
 ghost use Rattle.generational_core.specs.declared.error.StoreError.TheVariants.{OutOfMemory};
 ghost use Rattle.generational_sync.specs.Counts.{Counts, raised, merged, new_tallies};
 ghost use Rattle.generational_sync.specs.Kinds.{step_of};
+ghost use Rattle.generational_sync.specs.Records.{HasRecord, unpack};
 
-use crate::step::{Step, StepReply};
+use crate::record::{Record, pack};
+use crate::step::StepReply;
 use generational_box::{StepCall, StoreError};
 use std::alloc::Global;
 use std::marker::{Brand, Model, PhantomData};
@@ -56,7 +58,7 @@ impl<M: Count> Parted<M> {
 /// and without it no tally is whole.
 #[derive(Drop)]
 pub struct Tally<M: Count, L: Count, C: Count, R: Count> {
-    worker: usize,
+    worker: u32,
     parts: u64,
     workers: u64,
     pub(crate) made: Share<M>,
@@ -96,19 +98,17 @@ impl<M: Count, L: Count, C: Count, R: Count> Tally<M, L, C, R> {
     pub fn worker(&self) -> usize
         ensures { result ≡ self.now.worker }
     {
-        self.worker
+        self.worker as usize
     }
 
-    // The step of the tally's worker that has this call and this reply.
-    pub(crate) fn step(&self, call: StepCall, reply: StepReply) -> Step
-        ensures { result ≡ step_of self.now.worker call reply }
+    // How the step of the tally's worker is kept that has this call and this reply.
+    #[inline(always)]
+    pub(crate) fn record(&self, number: u64, call: StepCall, reply: StepReply) -> Record
+        requires { HasRecord number call reply }
+        ensures { unpack number result ≡ step_of self.now.worker call reply }
     {
         let worker = self.worker;
-        Step {
-            worker,
-            call,
-            reply,
-        }
+        pack(number, worker, call, reply)
     }
 
     /// Whether the tallies of all workers are merged in it. Takes no memory.
@@ -153,7 +153,8 @@ impl<M: Count, L: Count, C: Count, R: Count> Tally<M, L, C, R> {
     }
 }
 
-// Cuts the whole shares into a tally for each worker.
+// Cuts the whole shares into a tally for each worker. A worker's number takes 32 bits where steps
+// are kept, so more workers are refused.
 pub(crate) fn tallies<M: Count, L: Count, C: Count, R: Count>(
     alloc: Global,
     workers: usize,
@@ -173,12 +174,15 @@ pub(crate) fn tallies<M: Count, L: Count, C: Count, R: Count>(
     ensures tallies { IfOk result (λ v. v.items ≡ new_tallies workers) }
     ensures err { IfErr result (λ e. e ≡ OutOfMemory) }
 {
+    let Ok(workers) = u32::try_from(workers) else {
+        return Err(StoreError::OutOfMemory);
+    };
     let mut all = Vec::new(alloc);
     for worker in 0..workers {
         let tally = Tally {
             worker,
             parts: 1,
-            workers: workers as u64,
+            workers: u64::from(workers),
             made: made.split_off(1, 0),
             lent: lent.split_off(1, 0),
             changed: changed.split_off(1, 0),

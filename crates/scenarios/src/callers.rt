@@ -67,8 +67,8 @@ fn owned_value<S: Storage<u64>>(store: &mut S) -> Option<Option<u64>> {
 
 /// A shared value, written through one reference, and outliving another.
 fn shared_values<S: Storage<u64>>(store: &mut S) -> Option<(u64, u64)> {
-    let written = written_through(store, 1, 2, here())?;
-    let kept = outlived(store, 5, here())?;
+    let written = written_through(store, 1, 2, here()).ok()?;
+    let kept = outlived(store, 5, here()).ok()?;
     Some((written, kept))
 }
 
@@ -104,7 +104,7 @@ fn turned_flag<S: Storage<Entry>>(store: &mut S) -> Option<bool> {
 
 /// How many of the replies to a read and a write of the box at place 0 are errors.
 fn errors_of_ended<S: Storage<u64>>(alloc: Global, session: &mut Session<u64, S>) -> Option<usize> {
-    let replies = ask_for_ended(alloc, session, 0, here())?;
+    let replies = ask_for_ended(alloc, session, 0, here()).ok()?;
     Some(count_errors(&replies))
 }
 
@@ -151,8 +151,8 @@ fn assert_calls<S: Storage<u64>>(rt: &impl Abort, alloc: Global, session: &mut S
 struct Values;
 
 impl Scenario<u64> for Values {
-    fn play<R: Abort, S: Storage<u64>>(rt: &R, alloc: Global, store: &mut S) {
-        assert_eq!(rt; there_and_back(alloc, 7), Some(7));
+    fn play<R: Abort, S: Storage<u64>>(rt: &R, _: Global, store: &mut S) {
+        assert_eq!(rt; there_and_back(store, 7, here()).ok(), Some(7));
         assert_eq!(rt; value_by_itself(store), Some((8, (8, 9))));
         assert_eq!(rt; owned_value(store), Some(None));
         assert_eq!(rt; shared_values(store), Some((2, 5)));

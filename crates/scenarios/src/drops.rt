@@ -2,13 +2,14 @@
 //! still has when it goes itself. Each is counted by what std's `Rc` counts.
 
 use crate::expected::{
-    begin_write, end, insert, leak, made, made_later, new_owner, release, written,
+    begin, begin_write, end, insert, leak, made, made_later, new_owner, read, release, written,
 };
-use crate::fresh::{Scenario, play};
+use crate::fresh::{Scenario, TwoStoreScenario, play, play_in_two_stores};
 use crate::sessions::call;
 use crate::sharing::{insert_rc, insert_reference, leak_rc, leak_reference, point};
 use generational_box::{
-    BoxAt, Call, GenerationalRefMut, Numbers, Owner, Session, Storage, Store, UnsyncStorage,
+    BoxAt, Call, GenerationalBox, GenerationalRef, GenerationalRefMut, Numbers, Owner, Refusal,
+    Session, Storage, Store, UnsyncStorage,
 };
 use std::alloc::Global;
 use std::process::Abort;
@@ -132,6 +133,101 @@ fn a_replaced_value(rt: HostRuntime) {
     play::<Counted, Writes>(&rt, rt.alloc());
 }
 
+/// Sets a value that may be written, and lets the old one go.
+fn set<S: Storage<Counted>>(
+    rt: &impl Abort,
+    store: &mut S,
+    asked: GenerationalBox<Counted>,
+    value: Counted,
+) {
+    if asked.can_write(store) {
+        asked.set(store, value);
+    } else {
+        assert!(rt; false, "the value is borrowed");
+    }
+}
+
+/// Sets a value that may be written, and hands the old one back.
+fn exchange<S: Storage<Counted>>(
+    rt: &impl Abort,
+    store: &mut S,
+    asked: GenerationalBox<Counted>,
+    value: Counted,
+) -> Counted {
+    if asked.can_write(store) {
+        store.replace_value(asked.pointer(), value)
+    } else {
+        panic!(rt; "the value is borrowed")
+    }
+}
+
+struct Sets;
+
+impl Scenario<Counted> for Sets {
+    fn play<R: Abort, S: Storage<Counted>>(rt: &R, alloc: Global, store: &mut S) {
+        let first = counted(rt, alloc);
+        let second = counted(rt, alloc);
+        let only = leak(rt, store, another(rt, &first), made());
+        set(rt, store, only, another(rt, &second));
+        assert_count(rt, &first, 1);
+        assert_count(rt, &second, 2);
+        let old = exchange(rt, store, only, another(rt, &first));
+        assert_count(rt, &second, 2);
+        drop(old);
+        assert_count(rt, &second, 1);
+        end(rt, store, only);
+        assert_count(rt, &first, 1);
+    }
+}
+
+// A set lets the old value go, an exchange hands it back.
+#[test]
+fn a_value_that_was_set_away(rt: HostRuntime) {
+    play::<Counted, Sets>(&rt, rt.alloc());
+}
+
+/// Lets go of the value that a refused making hands back.
+fn assert_refused(
+    rt: &impl Abort,
+    made: Result<GenerationalBox<Counted>, Refusal<Counted>>,
+    value: &Counted,
+) {
+    assert_count(rt, value, 2);
+    assert!(rt; made.is_err());
+    drop(made);
+    assert_count(rt, value, 1);
+}
+
+struct HandedBack;
+
+impl TwoStoreScenario<Counted> for HandedBack {
+    fn play<R: Abort, S: Storage<Counted>>(rt: &R, alloc: Global, seven: &mut S, eight: &mut S) {
+        let value = counted(rt, alloc);
+        let owner = new_owner(rt, eight);
+        assert_refused(rt, owner.insert(seven, another(rt, &value), made()), &value);
+        assert_refused(
+            rt,
+            owner.insert_rc(seven, another(rt, &value), made()),
+            &value,
+        );
+        owner.leak();
+
+        let own = leak(rt, seven, another(rt, &value), made());
+        let guard = begin_write(rt, seven, own, written());
+        let back = guard.release(eight);
+        assert_count(rt, &value, 2);
+        assert!(rt; back.is_err());
+        drop(back);
+        assert_count(rt, &value, 1);
+    }
+}
+
+// What a refused making was handed in, and what a writer has of another store, comes back.
+#[test]
+fn a_value_that_is_handed_back(rt: HostRuntime) {
+    play_in_two_stores::<Counted, HandedBack>(&rt, rt.alloc());
+}
+
 struct Shares;
 
 impl Scenario<Counted> for Shares {
@@ -191,7 +287,34 @@ fn fill<S: Storage<Counted>>(rt: &impl Abort, store: &mut S, value: &Counted) {
     assert_count(rt, value, 4);
 }
 
-// What is live, what is shared and what is leaked by its owner goes with the store.
+/// Begins a read and a write of two values more.
+fn borrow_two<S: Storage<Counted>>(
+    rt: &impl Abort,
+    store: &mut S,
+    value: &Counted,
+) -> (GenerationalRef<Counted>, GenerationalRefMut<Counted>) {
+    let first = leak(rt, store, another(rt, value), made());
+    let second = leak(rt, store, another(rt, value), made());
+    let reader = begin(rt, store, first, read());
+    (reader, begin_write(rt, store, second, written()))
+}
+
+/// Spends guards whose store is gone: the reader's value went with it, the writer's is the guard's.
+fn spend<S: Storage<Counted>>(
+    rt: &impl Abort,
+    store: &mut S,
+    (reader, writer): (GenerationalRef<Counted>, GenerationalRefMut<Counted>),
+    value: &Counted,
+) {
+    assert_count(rt, value, 2);
+    assert!(rt; !reader.release(store));
+    assert_count(rt, value, 2);
+    assert!(rt; writer.release(store).is_err());
+    assert_count(rt, value, 1);
+}
+
+// What is live, what is shared, what is leaked by its owner and what is read goes with the store.
+// What is written goes with its guard.
 #[test]
 fn values_of_a_store(rt: HostRuntime) {
     let value = counted(&rt, rt.alloc());
@@ -200,6 +323,59 @@ fn values_of_a_store(rt: HostRuntime) {
         fill(&rt, &mut store, &value);
     }
     assert_count(&rt, &value, 1);
+    let guards = {
+        let mut store: UnsyncStorage<Counted> = Store::new(rt.alloc(), 7);
+        borrow_two(&rt, &mut store, &value)
+    };
+    let mut other: UnsyncStorage<Counted> = Store::new(rt.alloc(), 8);
+    spend(&rt, &mut other, guards, &value);
+}
+
+/// The calls of the next tests, by their places. Those that hand in no value let it go.
+fn call_at(place: usize, value: Counted) -> Call<Counted> {
+    match place {
+        0 => Call::Leak(value, made()),
+        1 => Call::TryWrite(BoxAt::Place(0), written()),
+        2 => Call::Replace(1, value),
+        3 => Call::Replace(0, value),
+        4 => Call::Set(BoxAt::Place(0), value),
+        5 => Call::Release(1),
+        6 => Call::Set(BoxAt::Place(0), value),
+        7 => Call::ManuallyDrop(BoxAt::Place(0)),
+        8 => Call::Set(BoxAt::Place(0), value),
+        9 => Call::Insert(0, value, made()),
+        10 => Call::InsertRc(0, value, made()),
+        11 => Call::Owner,
+        12 => Call::Insert(11, value, made()),
+        13 => Call::InsertRc(11, value, made()),
+        14 => Call::LeakReference(BoxAt::Place(13)),
+        15 => Call::ReleaseOwner(11),
+        16 => Call::ManuallyDrop(BoxAt::Place(14)),
+        17 => Call::LeakRc(value, made()),
+        18 => Call::LeakRc(value, made()),
+        19 => Call::PointTo(BoxAt::Place(17), BoxAt::Place(18)),
+        20 => Call::Leak(value, made()),
+        21 => Call::TryWrite(BoxAt::Place(20), written()),
+        _ => Call::TryRead(BoxAt::Place(18), read()),
+    }
+}
+
+/// How many clones there are after each of these calls, the test's own among them.
+const COUNTS: [usize; 23] = [
+    2, 2, 2, 2, 2, 2, 2, 1, 1, 1, 1, 1, 2, 3, 3, 2, 1, 2, 3, 2, 3, 3, 3,
+];
+
+/// Ends a session, and then its store.
+fn finish<S: Storage<Counted> + Drop>(
+    rt: &impl Abort,
+    session: Session<Counted, S>,
+    value: &Counted,
+) {
+    assert_count(rt, value, 3);
+    let store = session.finish();
+    assert_count(rt, value, 3);
+    drop(store);
+    assert_count(rt, value, 1);
 }
 
 /// Makes a call, and lets its reply go.
@@ -217,37 +393,50 @@ fn calls<S: Storage<Counted> + Drop>(
     mut session: Session<Counted, S>,
 ) {
     let value = counted(rt, alloc);
-    make(rt, &mut session, Call::Leak(another(rt, &value), made()));
-    make(rt, &mut session, Call::TryWrite(BoxAt::Place(0), written()));
-    make(rt, &mut session, Call::Replace(1, another(rt, &value)));
-    assert_count(rt, &value, 2);
-    make(rt, &mut session, Call::Replace(0, another(rt, &value)));
-    assert_count(rt, &value, 2);
-    make(rt, &mut session, Call::Release(1));
-    assert_count(rt, &value, 2);
-    make(rt, &mut session, Call::ManuallyDrop(BoxAt::Place(0)));
-    assert_count(rt, &value, 1);
-
-    make(rt, &mut session, Call::Owner);
-    make(
-        rt,
-        &mut session,
-        Call::Insert(6, another(rt, &value), made()),
-    );
-    make(rt, &mut session, Call::ReleaseOwner(6));
-    assert_count(rt, &value, 1);
-    make(rt, &mut session, Call::Leak(another(rt, &value), made()));
-    make(rt, &mut session, Call::TryWrite(BoxAt::Place(9), written()));
-    assert_count(rt, &value, 2);
-    let store = session.finish();
-    assert_count(rt, &value, 2);
-    drop(store);
-    assert_count(rt, &value, 1);
+    for (place, count) in COUNTS.iter().enumerate() {
+        make(rt, &mut session, call_at(place, another(rt, &value)));
+        assert_eq!(rt; Rc::strong_count(&value), *count, "at {place}");
+    }
+    finish(rt, session, &value);
 }
 
-// A session lets go what it ends, and keeps a writer's value up to the store's end.
+// A session lets go what it ends and what comes back in a reply, and keeps a writer's value up to
+// the store's end.
 #[test]
 fn values_of_a_session(rt: HostRuntime) {
     let store: UnsyncStorage<Counted> = Store::new(rt.alloc(), 7);
     calls(&rt, rt.alloc(), Session::new(rt.alloc(), store));
+}
+
+/// Runs the calls as one list, and lets the replies go.
+fn run<S: Storage<Counted>>(
+    rt: &impl Abort,
+    alloc: Global,
+    session: &mut Session<Counted, S>,
+    value: &Counted,
+) {
+    let mut list = Vec::new(alloc);
+    for place in 0..COUNTS.len() {
+        let asked = call_at(place, another(rt, value));
+        assert!(rt; list.push(asked).is_ok());
+    }
+    let ran = session.run(list);
+    assert!(rt; ran.is_ok());
+}
+
+fn list<S: Storage<Counted> + Drop>(
+    rt: &impl Abort,
+    alloc: Global,
+    mut session: Session<Counted, S>,
+) {
+    let value = counted(rt, alloc);
+    run(rt, alloc, &mut session, &value);
+    finish(rt, session, &value);
+}
+
+// So does one that runs a list.
+#[test]
+fn values_of_a_list_of_calls(rt: HostRuntime) {
+    let store: UnsyncStorage<Counted> = Store::new(rt.alloc(), 7);
+    list(&rt, rt.alloc(), Session::new(rt.alloc(), store));
 }

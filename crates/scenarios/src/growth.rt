@@ -23,7 +23,7 @@ fn mapped<R: Files + AllocGlobal>(rt: &R) -> Result<u64, Fail> {
 
 /// How the mapped memory grows.
 #[derive(Clone, Copy)]
-struct Gauge {
+pub(crate) struct Gauge {
     first: u64,
     last: u64,
     leaps: u32,
@@ -31,7 +31,7 @@ struct Gauge {
 
 impl Gauge {
     /// A gauge of what is mapped from now on.
-    fn new<R: Files + AllocGlobal>(rt: &R) -> Result<Gauge, Fail> {
+    pub(crate) fn new<R: Files + AllocGlobal>(rt: &R) -> Result<Gauge, Fail> {
         let pages = mapped(rt)?;
         Ok(Gauge {
             first: pages,
@@ -41,7 +41,7 @@ impl Gauge {
     }
 
     /// Looks whether more is mapped now.
-    fn look<R: Files + AllocGlobal>(&mut self, rt: &R) -> Result<(), Fail> {
+    pub(crate) fn look<R: Files + AllocGlobal>(&mut self, rt: &R) -> Result<(), Fail> {
         let pages = mapped(rt)?;
         if pages != self.last {
             self.leaps = self.leaps.saturating_add(1);
@@ -51,7 +51,7 @@ impl Gauge {
     }
 
     /// Asserts that there were few leaps, and that no more pages are mapped than these.
-    fn assert_grew(&self, rt: &impl Abort, pages: u64) {
+    pub(crate) fn assert_grew(&self, rt: &impl Abort, pages: u64) {
         let grown = self.last.saturating_sub(self.first);
         assert!(rt; grown <= pages, "{grown} pages");
         assert!(rt; self.leaps <= 40, "{} leaps", self.leaps);

@@ -27,6 +27,8 @@ mod memory;
 #[cfg(test)]
 mod plenty;
 #[cfg(test)]
+mod rounds;
+#[cfg(test)]
 mod scarcity;
 #[cfg(test)]
 mod sessions;

@@ -3,12 +3,11 @@
 ghost use Rattle.std.specs.Prelude.{◌≤◌};
 
 use crate::runs::{assert_ended, run_words};
-use crate::tables::run;
 use agreement::{Verdict, compare};
-use boxes_script::{compare_stores, fuzz_calls, fuzz_words};
+use boxes_script::compare_stores;
 use generational_box::{
-    BorrowMutError, BoxAt, Call, GenerationalBox, Location, Numbers, OldestFirst, Reply, Session,
-    Store, StoreError, UnsyncStorage,
+    BoxAt, Call, GenerationalBox, Location, Numbers, OldestFirst, Reply, Store, StoreError,
+    UnsyncStorage,
 };
 use std::alloc::{AllocError, Global};
 use std::process::Abort;
@@ -69,125 +68,11 @@ fn words_that_are_no_list(rt: HostRuntime) {
     assert_fuzz(&rt, alloc, &["buzz", "1", "1"], 2, "", USAGE);
 }
 
-/// How many kinds of calls there are.
-const KINDS: u8 = 25;
-
-/// The number of a call's kind, below that.
-fn kind(call: &Call<String>) -> u8 {
-    match call {
-        Call::Leak(_, _) => 0,
-        Call::LeakRc(_, _) => 1,
-        Call::LeakReference(_) => 2,
-        Call::Insert(_, _, _) => 3,
-        Call::InsertRc(_, _, _) => 4,
-        Call::InsertReference(_, _) => 5,
-        Call::Owner => 6,
-        Call::CloneOwner(_) => 7,
-        Call::ReleaseOwner(_) => 8,
-        Call::LeakOwner(_) => 9,
-        Call::TryRead(_, _) => 10,
-        Call::TryWrite(_, _) => 11,
-        Call::Replace(_, _) => 12,
-        Call::Release(_) => 13,
-        Call::ManuallyDrop(_) => 14,
-        Call::PointTo(_, _) => 15,
-        Call::PtrEq(_, _) => 16,
-        Call::Id(_) => 17,
-        Call::RawPtr(_) => 18,
-        Call::CreatedAt(_) => 19,
-        Call::Read(_, _) => 20,
-        Call::Write(_, _) => 21,
-        Call::Set(_, _) => 22,
-        Call::CanRead(_) => 23,
-        Call::CanWrite(_) => 24,
-    }
-}
-
-// The list of a seed has calls of all kinds.
-#[test]
-fn a_list_has_every_kind_of_call(rt: HostRuntime) {
-    let words = fuzz_words(rt.alloc(), 1, 8 * 10000).expect(&rt, "memory");
-    let strangers: [GenerationalBox<String>; 0] = [];
-    let calls = fuzz_calls(rt.alloc(), &words, &strangers).expect(&rt, "memory");
-    assert_eq!(&rt; calls.len(), 10000);
-    for wanted in 0..KINDS {
-        assert!(&rt;
-            calls.iter().any(|call| kind(call) == wanted),
-            "no {wanted}"
-        );
-    }
-}
-
-/// What the calls of a list name that aren't what they ask for.
-#[derive(Clone, Copy, Debug, PartialEq)]
-enum Strange {
-    PastTheEnd,
-    StaleBox,
-    SpentGuard,
-    SpentOwner,
-    BoxOfAnotherStore,
-    BoxOfTheSameNumber,
-    Nothing,
-}
-
-/// What a call names, as its reply tells.
-fn strange_thing(
-    place: usize,
-    call: &Call<String>,
-    reply: &Reply<String>,
-    replies: &[Reply<String>],
-) -> Strange {
-    match (call, reply) {
-        (Call::Release(named), Reply::NoSuch(_)) if *named >= place => Strange::PastTheEnd,
-        (Call::Release(named), Reply::NoSuch(_)) => match replies.get(*named) {
-            Some(Reply::Reader | Reply::Writer) => Strange::SpentGuard,
-            _ => Strange::Nothing,
-        },
-        (Call::ReleaseOwner(named), Reply::NoSuch(_)) => match replies.get(*named) {
-            Some(Reply::Owner) => Strange::SpentOwner,
-            _ => Strange::Nothing,
-        },
-        (Call::TryRead(BoxAt::Foreign(_), _), Reply::NoSuch(_)) => Strange::BoxOfTheSameNumber,
-        (Call::TryRead(at, _), Reply::Error(BorrowMutError::Dropped(_))) => match at {
-            BoxAt::Foreign(_) => Strange::BoxOfAnotherStore,
-            BoxAt::Place(_) => Strange::StaleBox,
-        },
-        _ => Strange::Nothing,
-    }
-}
-
 /// A box of a new store of this number.
 fn stranger(rt: &impl Abort, alloc: Global, number: u64) -> GenerationalBox<String> {
     let mut store: UnsyncStorage<String> = Store::new(alloc, number);
     let made = GenerationalBox::leak(&mut store, String::new(alloc), Location::new("b", 1, 1));
     made.map_err(|_| AllocError).expect(rt, "a box")
-}
-
-// The list of a seed names what isn't there any more, what never was, and boxes of other stores.
-#[test]
-fn a_list_names_strange_things(rt: HostRuntime) {
-    let alloc = rt.alloc();
-    let strangers = [stranger(&rt, alloc, 1), stranger(&rt, alloc, 2)];
-    let words = fuzz_words(alloc, 1, 8 * 10000).expect(&rt, "memory");
-    let calls = fuzz_calls(alloc, &words, &strangers).expect(&rt, "memory");
-    let again = fuzz_calls(alloc, &words, &strangers).expect(&rt, "memory");
-    let store: UnsyncStorage<String> = Store::new(alloc, 1);
-    let replies = run(&rt, Session::new(alloc, store), calls);
-    for wanted in [
-        Strange::PastTheEnd,
-        Strange::StaleBox,
-        Strange::SpentGuard,
-        Strange::SpentOwner,
-        Strange::BoxOfAnotherStore,
-        Strange::BoxOfTheSameNumber,
-    ] {
-        let mut pairs = again.iter().zip(replies.iter()).enumerate();
-        assert!(&rt;
-            pairs.any(|(place, (call, reply))| strange_thing(place, call, reply, &replies)
-                == wanted),
-            "no {wanted:?}"
-        );
-    }
 }
 
 /// Three replies, of which the second is another.

@@ -13,6 +13,10 @@ mod dialect;
 #[cfg(test)]
 mod drawn;
 #[cfg(test)]
+mod drawn_counts;
+#[cfg(test)]
+mod drawn_words;
+#[cfg(test)]
 mod ending;
 #[cfg(test)]
 mod freed;
@@ -28,6 +32,8 @@ mod orders;
 mod owned_lists;
 #[cfg(test)]
 mod owners;
+#[cfg(test)]
+mod pairs;
 #[cfg(test)]
 mod pointing;
 #[cfg(test)]

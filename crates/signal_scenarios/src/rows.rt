@@ -122,9 +122,9 @@ impl History for CallersAnswer {
         let s = signal(rt, store, &a, 6, first_made());
         let u = signal(rt, store, &a, 8, second_made());
         assert_eq!(rt; set_through_alias(store, &a, s, 7, asked()), Some(7));
-        assert_eq!(rt; set_source(store, s, u, 9, asked()), Some(9));
+        assert_eq!(rt; set_source(store, s, u, 9, asked()).ok(), Some(9));
         sees(rt, store, u, 9);
-        assert_eq!(rt; count_up(store, u, asked()), Some(10));
+        assert_eq!(rt; count_up(store, u, asked()).ok(), Some(10));
         a.leak();
         sees(rt, store, s, 10);
     }

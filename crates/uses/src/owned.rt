@@ -1,14 +1,22 @@
 //! An owner's values.
 
-ghost use Rattle.std.specs.Prelude.{◌≡◌, ◌≢◌, IfOk, IfErr, OnErr};
+ghost use Rattle.std.specs.Prelude.{◌≡◌, ◌≢◌, IfOk, IfErr, OnErr, Some, true};
 ghost use Rattle.generational_core.specs.declared.boxes.GenerationalPointer.{GenerationalPointer};
-ghost use Rattle.generational_core.specs.Answers.{pointer_of};
+ghost use Rattle.generational_core.specs.Answers.{pointer_of, release_answer};
 ghost use Rattle.generational_core.specs.Boxes.{name_of};
 ghost use Rattle.generational_core.specs.Conditions.{IsEnded};
 ghost use Rattle.generational_core.specs.Leaving.{IsLeft};
+ghost use Rattle.generational_core.specs.Machine.{ownership};
+ghost use Rattle.generational_core.specs.Machine.Action.{ReleaseOwner};
+ghost use Rattle.generational_core.specs.Names.{among};
+ghost use Rattle.generational_core.specs.State.{Ownership};
+ghost use Rattle.generational_core.specs.Steps.{Meets};
 ghost use Rattle.generational_sessions.specs.Lacking.{Lacks};
+ghost use Rattle.generational_sessions.specs.ListedOnce.{AreListedOnce};
 
-use generational_box::{GenerationalBox, Location, Refusal, Storage, StoreError};
+use generational_box::{
+    BorrowMutError, GenerationalBox, Location, Owner, Refusal, Refused, Storage, StoreError,
+};
 
 /// Keeps a value by an owner, and releases the owner. The answer is the box, whose value has ended
 /// for good; every other box is left as it was. Where it is refused every box is, and none is made.
@@ -40,4 +48,23 @@ pub fn end_owned<S: Storage<u64>>(
         Ok(made) => Ok(made),
         Err(Refusal { value: _, cause }) => Err(cause),
     }
+}
+
+/// Releases an owner beside another one. The boxes in the other's list are left as they were, whatever
+/// the answer, which is that of the release.
+pub fn release_beside<S: Storage<u64>>(
+    store: &mut S,
+    first: Owner,
+    second: &Owner,
+) -> Result<(), (Owner, Refused<BorrowMutError>)>
+    requires apart { first ≢ second.now }
+    requires once { AreListedOnce (S.state store.old) }
+    ensures once { AreListedOnce (S.state store.new) }
+    ensures left { (h : Ownership) (b : GenerationalPointer) →
+        ownership (S.state store.old) second.now ≡ Some h → among h.names (name_of b) ≡ true →
+        IsLeft (S.state store.old) b (S.state store.new) }
+    ensures step { Meets (S.state store.old) (ReleaseOwner first) (release_answer result)
+        (S.state store.new) }
+{
+    first.release(store)
 }

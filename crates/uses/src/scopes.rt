@@ -1,11 +1,23 @@
 //! Scopes and their signals.
 
-ghost use Rattle.std.specs.Prelude.{◌≡◌, ◌≢◌, ◌+◌, ◌%◌, ◌^◌, ℕ, [], Some, IfSome};
+ghost use Rattle.std.specs.Prelude.{◌≡◌, ◌≢◌, ◌+◌, ◌%◌, ◌^◌, ◌⊎◌, ℕ, [], Some, IfSome, IfOk, IfErr};
+ghost use Rattle.generational_core.specs.declared.boxes.GenerationalPointer.{GenerationalPointer};
+ghost use Rattle.generational_core.specs.declared.error.Refused.TheVariants as refused;
+ghost use Rattle.generational_core.specs.declared.error.StoreError.TheVariants.{NumbersExhausted};
+ghost use Rattle.generational_core.specs.Answers.{end_refused};
+ghost use Rattle.generational_core.specs.Borrowing.{reach};
+ghost use Rattle.generational_core.specs.Boxes.{name_of};
+ghost use Rattle.generational_core.specs.Leaving.{IsLeft};
+ghost use Rattle.generational_core.specs.Machine.{Action};
+ghost use Rattle.generational_core.specs.Machine.Action.{Point, Write};
+ghost use Rattle.generational_core.specs.Machine.Answer.{Done};
 ghost use Rattle.generational_core.specs.Seeing.{value_in};
+ghost use Rattle.generational_core.specs.State.{State};
+ghost use Rattle.generational_core.specs.Steps.{Meets, last_ticket};
 ghost use Rattle.signals.specs.Scopes.{HasSignals};
 ghost use Rattle.signals.specs.Signals.{pointer_in};
 
-use generational_box::{Location, Storage};
+use generational_box::{BorrowMutResult, Location, Storage};
 use signals::{Scope, Signal};
 
 /// Makes a signal in one scope and an alias of it in another, ends the first scope, and reads the
@@ -82,31 +94,58 @@ pub fn set_through_alias<S: Storage<u64>>(
 }
 
 /// Lets a signal lead to the value of another, sets that value, and reads it through the first: it
-/// is what was set. None where a call is refused.
+/// is what was set. Boxes of other names that reach something else are left, whatever the answer.
 pub fn set_source<S: Storage<u64>>(
     store: &mut S,
     signal: Signal<u64>,
     other: Signal<u64>,
     value: u64,
     here: Location,
-) -> Option<u64>
-    ensures { IfSome result (λ seen. seen ≡ value) }
+) -> BorrowMutResult<u64>
+    ensures set { IfOk result (λ seen. seen ≡ value) }
+    ensures others { (b : GenerationalPointer) → name_of (pointer_in signal) ≢ name_of b →
+        reach (S.state store.old) b ≢ reach (S.state store.old) (pointer_in other) →
+        IsLeft (S.state store.old) b (S.state store.new) }
+    // It is refused as the turn is, as the write after it, or as a read for which no ticket is left.
+    ensures refused { IfErr result (λ refusal.
+        let turn : Action ℕ = Point (pointer_in signal) (pointer_in other) in
+        let write : Action ℕ = Write (pointer_in signal) here in
+        Meets (S.state store.old) turn (end_refused refusal) (S.state store.new)
+        ⊎ ((turned : State ℕ) × Meets (S.state store.old) turn Done turned
+        × Meets turned write (end_refused refusal) (S.state store.new))
+        ⊎ ((refusal ≡ refused.Store NumbersExhausted)
+        × ((S.state store.new).next ≡ last_ticket))) }
 {
-    signal.swap_source(store, other).ok()?;
-    let Ok(()) = signal.set(store, value, here) else {
-        return None;
-    };
-    signal.get(store, here, |seen| *seen).ok()
+    signal.swap_source(store, other)?;
+    match signal.set(store, value, here) {
+        Ok(()) => {}
+        Err((_, refusal)) => return Err(refusal),
+    }
+    let seen = signal.get(store, here, |seen| *seen)?;
+    Ok(seen)
 }
 
-/// Counts a signal up by one, and reads it. None where a call is refused.
-pub fn count_up<S: Storage<u64>>(store: &mut S, signal: Signal<u64>, here: Location) -> Option<u64>
-    ensures { IfSome result (λ seen. (old : ℕ) ×
+/// Counts a signal up by one, and reads it. Boxes that reach something else are left, whatever the
+/// answer.
+pub fn count_up<S: Storage<u64>>(
+    store: &mut S,
+    signal: Signal<u64>,
+    here: Location,
+) -> BorrowMutResult<u64>
+    ensures counted { IfOk result (λ seen. (old : ℕ) ×
         (value_in (S.state store.old) (pointer_in signal) ≡ Some old) ×
         (seen ≡ (old + 1) % 2 ^ 64)) }
+    ensures others { (b : GenerationalPointer) →
+        reach (S.state store.old) b ≢ reach (S.state store.old) (pointer_in signal) →
+        IsLeft (S.state store.old) b (S.state store.new) }
+    // It is refused as the write is, or as a read for which no ticket is left.
+    ensures refused { IfErr result (λ refusal.
+        Meets (S.state store.old) (Write (pointer_in signal) here) (end_refused refusal)
+        (S.state store.new)
+        ⊎ ((refusal ≡ refused.Store NumbersExhausted)
+        × ((S.state store.new).next ≡ last_ticket))) }
 {
-    signal
-        .update(store, here, |count| *count = count.wrapping_add(1))
-        .ok()?;
-    signal.get(store, here, |seen| *seen).ok()
+    signal.update(store, here, |count| *count = count.wrapping_add(1))?;
+    let seen = signal.get(store, here, |seen| *seen)?;
+    Ok(seen)
 }

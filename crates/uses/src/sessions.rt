@@ -19,7 +19,7 @@ ghost use Rattle.generational_sessions.specs.declared.calls.Call.TheVariants.{Tr
 ghost use Rattle.uses.specs.Sessions.{session_over};
 
 use generational_box::{BoxAt, Call, Location, Reply, Session, Storage};
-use std::alloc::Global;
+use std::alloc::{AllocError, Global};
 
 /// Answers a call, and then a read of the box at a place. The call comes back where its own place
 /// finds no memory, and then nothing changes; there is no reply to the read where the second place
@@ -47,33 +47,31 @@ pub fn read_later<S: Storage<u64>>(
     Ok((reply, read))
 }
 
-/// Reads and writes a box of an earlier place, by one list of calls. None where the session finds no
-/// memory, and then nothing changes. If the box's name has ended, both are answered so, with the
-/// box's own location.
+/// Reads and writes a box of an earlier place, by one list of calls. Refused for want of memory alone,
+/// as its error says, and then nothing changes. If the box's name has ended, both are answered so,
+/// with the box's own location.
 pub fn ask_for_ended<S: Storage<u64>>(
     alloc: Global,
     session: &mut Session<u64, S>,
     place: usize,
     here: Location,
-) -> Option<Vec<Reply<u64>>>
-    ensures run { IfSome result (λ replies. Run session.old
+) -> Result<Vec<Reply<u64>>, AllocError>
+    ensures run { IfOk result (λ replies. Run session.old
         (TryRead (Place place) here ∷ TryWrite (Place place) here ∷ [])
         (as_replies replies.items) session.new) }
-    ensures ended { IfSome result (λ replies. (b : GenerationalPointer) →
+    ensures ended { IfOk result (λ replies. (b : GenerationalPointer) →
         at_place session.old.table place ≡ Boxed b → IsEnded session.old.state (name_of b) →
         (slice_get (as_replies replies.items) 0 ≡ Some (Error (Dropped b.created_at)))
         × (slice_get (as_replies replies.items) 1 ≡ Some (Error (Dropped b.created_at)))) }
-    ensures unchanged { IfNone result (session.new ≡ session.old) }
+    ensures unchanged { OnErr result (session.new ≡ session.old) }
 {
     let read = Call::TryRead(BoxAt::Place(place), here);
     let write = Call::TryWrite(BoxAt::Place(place), here);
-    let Ok(calls) = vec![in alloc; read, write] else {
-        return None;
-    };
-    let Ok(replies) = session.run(calls) else {
-        return None;
-    };
-    Some(replies)
+    let calls = vec![in alloc; read, write]?;
+    match session.run(calls) {
+        Ok(replies) => Ok(replies),
+        Err(_) => Err(AllocError),
+    }
 }
 
 /// Answers a call, and says whether it was carried out, with a reply that refuses nothing. If it

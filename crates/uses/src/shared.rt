@@ -1,37 +1,57 @@
 //! Shared values, and references to them.
 
-ghost use Rattle.std.specs.Prelude.{◌≡◌, IfSome};
+ghost use Rattle.std.specs.Prelude.{◌≡◌, IfOk, IfErr};
+ghost use Rattle.generational_core.specs.declared.boxes.GenerationalPointer.{GenerationalPointer};
+ghost use Rattle.generational_core.specs.Boxes.{name_of};
+ghost use Rattle.generational_core.specs.Leaving.{IsLeft};
+ghost use Rattle.generational_core.specs.State.{IsGiven};
+ghost use Rattle.generational_sessions.specs.Lacking.{IsShortage};
 
 use crate::values::{read_value, write_value};
-use generational_box::{GenerationalBox, Location, Storage};
+use generational_box::{BorrowMutResult, GenerationalBox, Location, Refused, Storage};
 
 /// Writes a shared value through its first reference, and reads it through its second: it is what
-/// was written.
+/// was written. Each box that the store gave before is left as it was, whatever the answer.
 pub fn written_through<S: Storage<u64>>(
     store: &mut S,
     value: u64,
     next: u64,
     here: Location,
-) -> Option<u64>
-    ensures { IfSome result (λ seen. seen ≡ next) }
+) -> BorrowMutResult<u64>
+    ensures written { IfOk result (λ seen. seen ≡ next) }
+    ensures others { (b : GenerationalPointer) → IsGiven (S.state store.old) (name_of b) →
+        IsLeft (S.state store.old) b (S.state store.new) }
+    // It is refused only where fewer than three slots are free, so that memory may lack, or where
+    // fewer than two tickets are left.
+    ensures short { IfErr result (IsShortage (S.state store.old) 3 2) }
 {
-    let first = GenerationalBox::leak_rc(store, value, here).ok()?;
-    let second = first.leak_reference(store).ok()?;
-    write_value(store, first, next, here).ok()?;
-    read_value(store, second, here).ok()
+    let first = match GenerationalBox::leak_rc(store, value, here) {
+        Ok(first) => first,
+        Err(refusal) => return Err(Refused::Store(refusal.cause)),
+    };
+    let second = first.leak_reference(store)?;
+    write_value(store, first, next, here)?;
+    let seen = read_value(store, second, here)?;
+    Ok(seen)
 }
 
 /// Ends the first reference to a shared value, and reads the value through the second: it has
-/// outlived the first, and is the same value.
-pub fn outlived<S: Storage<u64>>(store: &mut S, value: u64, here: Location) -> Option<u64>
-    ensures { IfSome result (λ seen. seen ≡ value) }
+/// outlived the first, and is the same value. Each box that the store gave before is left as it was,
+/// whatever the answer.
+pub fn outlived<S: Storage<u64>>(store: &mut S, value: u64, here: Location) -> BorrowMutResult<u64>
+    ensures same { IfOk result (λ seen. seen ≡ value) }
+    ensures others { (b : GenerationalPointer) → IsGiven (S.state store.old) (name_of b) →
+        IsLeft (S.state store.old) b (S.state store.new) }
+    // It is refused only where fewer than three slots are free, so that memory may lack, or where
+    // no ticket is left.
+    ensures short { IfErr result (IsShortage (S.state store.old) 3 1) }
 {
-    let Ok(first) = GenerationalBox::leak_rc(store, value, here) else {
-        return None;
+    let first = match GenerationalBox::leak_rc(store, value, here) {
+        Ok(first) => first,
+        Err(refusal) => return Err(Refused::Store(refusal.cause)),
     };
-    let Ok(second) = first.leak_reference(store) else {
-        return None;
-    };
-    first.manually_drop(store).ok()?;
-    read_value(store, second, here).ok()
+    let second = first.leak_reference(store)?;
+    first.manually_drop(store)?;
+    let kept = read_value(store, second, here)?;
+    Ok(kept)
 }

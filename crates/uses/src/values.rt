@@ -1,30 +1,45 @@
 //! A value by itself: kept, read and written.
 
-ghost use Rattle.std.specs.Prelude.{◌≡◌, ◌≢◌, IfSome, IfOk, IfErr, OnOk, OnErr, Some};
+ghost use Rattle.std.specs.Prelude.{◌≡◌, ◌≢◌, IfOk, IfErr, OnOk, OnErr, Some};
 ghost use Rattle.generational_core.specs.declared.boxes.GenerationalPointer.{GenerationalPointer};
 ghost use Rattle.generational_core.specs.Answers.{pointer_of, read_refused, end_refused};
 ghost use Rattle.generational_core.specs.Borrowing.{reach};
-ghost use Rattle.generational_core.specs.Leaving.{IsLeft};
+ghost use Rattle.generational_core.specs.Boxes.{name_of};
+ghost use Rattle.generational_core.specs.Leaving.{IsLeft, IsSet};
 ghost use Rattle.generational_core.specs.Machine.Action.{Read, Write};
 ghost use Rattle.generational_core.specs.Seeing.{value_in};
+ghost use Rattle.generational_core.specs.State.{IsGiven};
 ghost use Rattle.generational_core.specs.Steps.{Meets};
+ghost use Rattle.generational_sessions.specs.Lacking.{IsShortage};
 
 use generational_box::{
-    BorrowMutResult, BorrowResult, GenerationalBox, Location, Storage, UnsyncStorage,
+    BorrowMutResult, BorrowResult, GenerationalBox, Location, Refused, Storage,
 };
-use std::alloc::Global;
 
-/// Keeps a value in a new store, and reads it: it is the same value. None where memory lacks.
-pub fn there_and_back(alloc: Global, value: u64) -> Option<u64>
-    ensures { IfSome result (λ seen. seen ≡ value) }
+/// Keeps a value in a store, and reads it: it is the same value. Each box that the store gave before
+/// is left as it was, whatever the answer.
+pub fn there_and_back<S: Storage<u64>>(
+    store: &mut S,
+    value: u64,
+    here: Location,
+) -> BorrowResult<u64>
+    ensures same { IfOk result (λ seen. seen ≡ value) }
+    ensures others { (b : GenerationalPointer) → IsGiven (S.state store.old) (name_of b) →
+        IsLeft (S.state store.old) b (S.state store.new) }
+    // It is refused only where no slot is free, so that memory may lack, or where no ticket is left.
+    ensures short { IfErr result (IsShortage (S.state store.old) 1 1) }
 {
-    let mut store = UnsyncStorage::new(alloc, 1);
-    let here = Location::new("values.rt", 18, 16);
-    let made = GenerationalBox::leak(&mut store, value, here).ok()?;
-    let guard = made.try_read(&mut store, here).ok()?;
-    let seen = guard.deref(&store).map(|view| *view);
-    guard.release(&mut store);
-    seen
+    let made = match GenerationalBox::leak(store, value, here) {
+        Ok(made) => made,
+        Err(refusal) => return Err(Refused::Store(refusal.cause)),
+    };
+    let guard = made.try_read(store, here)?;
+    let kept = guard.deref(store).map(|view| *view);
+    guard.release(store);
+    let Some(kept) = kept else {
+        unreachable!();
+    };
+    Ok(kept)
 }
 
 /// The value that a box sees, read. Every box is left as it was, whatever the answer.
@@ -63,6 +78,9 @@ pub fn write_value<S: Storage<u64>>(
     ensures others { (b : GenerationalPointer) →
         reach (S.state store.old) b ≢ reach (S.state store.old) (pointer_of target) →
         IsLeft (S.state store.old) b (S.state store.new) }
+    // Nothing else changes but a ticket, which is used up.
+    ensures set { OnOk result (
+        IsSet (S.state store.old) (pointer_of target) value (S.state store.new)) }
     // It is refused as the write is, and the state is as it was then.
     ensures refused { IfErr result (λ refusal. Meets (S.state store.old)
         (Write (pointer_of target) here) (end_refused refusal) (S.state store.new)) }

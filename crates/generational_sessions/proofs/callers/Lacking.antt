@@ -61,7 +61,7 @@ module _ {T : Type 0} where
   read_unhindered S l (Some m) (Some (Here v rs)) = reads _
   read_unhindered S l m c = done
 
-  first_reader : (S : State T) (b : GenerationalPointer) (l : Location)
+  pub first_reader : (S : State T) (b : GenerationalPointer) (l : Location)
       → can_write S b ≡ true → may_lack S (Read b l) ≡ false
   unfolding may_lack
   first_reader S b l free = needs _ (cond_both

@@ -1,21 +1,36 @@
 -- What calls leave: one that changed nothing, one after another, and a write that was released.
-use Rattle.std.proofs.Common.{◌≡◌, refl, sym, subst, ◌∙◌}
+use Rattle.std.proofs.Common.{◌≡◌, [], true, refl, sym, ap, subst, ◌∙◌}
 use Rattle.std.specs.Prelude.{Result, IsOk}
 use Rattle.generational_core.specs.Answers.{WriteGuard, back_answer}
-use Rattle.generational_core.specs.Leaving.{IsLeft, IsSet}
+use Rattle.generational_core.specs.Borrowing.{can_write, fill, reach, take_ticket, write_refusal}
+use Rattle.generational_core.specs.Cells.Content.{Here}
+use Rattle.generational_core.specs.Leaving.{IsLeft, IsSet, LeavesContent}
+use Rattle.generational_core.specs.Boxes.{name_of}
+use Rattle.generational_core.specs.Machine.{Action, Answer}
 use Rattle.generational_core.specs.Machine.Action.{Write, ReleaseWriter}
 use Rattle.generational_core.specs.Machine.Answer.{Writes}
-use Rattle.generational_core.specs.State.{State}
+use Rattle.generational_core.specs.Seeing.{value_in}
+use Rattle.generational_core.specs.State.{State, IsGiven, IsSound}
 use Rattle.generational_core.specs.Steps.{Meets}
 use Rattle.generational_core.specs.declared.boxes.GenerationalPointer.{GenerationalPointer}
 use Rattle.generational_core.specs.declared.error.Location.{Location}
+use Rattle.generational_core.proofs.machine.Changes.{filled_content}
 use Rattle.generational_core.proofs.machine.Guarding.{writes_back}
+use Rattle.generational_core.proofs.machine.Leaving.{given_other, leaves}
+use Rattle.generational_core.proofs.machine.Resting.{rests_free}
+use Rattle.generational_core.proofs.machine.Telling.{filled_reach}
+use Rattle.generational_sessions.proofs.callers.Rows.{ticket_keeps}
 
 module _ {T : Type 0} where
   -- a box is left where nothing changed
   pub left_still : {S R : State T} (b : GenerationalPointer) → R ≡ S → IsLeft S b R
   left_still {S} b is =
       subst (IsLeft S b) (sym is) (record { reached = refl; content = λ m to. refl; seen = refl })
+
+  -- and where a ticket alone was given
+  pub left_ticket : (S : State T) (b : GenerationalPointer) → IsLeft S b (take_ticket S)
+  unfolding reach value_in
+  left_ticket S b = record { reached = refl; content = λ m to. refl; seen = refl }
 
   -- and where it is left twice
   pub left_twice : {S R Q : State T} {b : GenerationalPointer} → IsLeft S b R → IsLeft R b Q
@@ -26,6 +41,13 @@ module _ {T : Type 0} where
     seen = second.seen ∙ first.seen;
   }
 
+  -- and by a call that leaves it, where its name was given before
+  pub left_given : {S R : State T} (call : Action T) (answer : Answer T) → IsSound S
+      → Meets S call answer R → (b : GenerationalPointer) → LeavesContent S call b
+      → IsGiven S (name_of b) → IsLeft S b R
+  left_given {S} {R} call answer s m b leaving given =
+      leaves S R call answer s m b leaving (given_other S R call answer b m given)
+
   -- a write whose guard got another value and was released has set that value
   pub written_by : {S R Q : State T} (b : GenerationalPointer) (l : Location) (w now : WriteGuard T)
       (v : T) {U : Type 0} (r : Result U T) → Meets S (Write b l) (Writes w.guard w.value) R
@@ -34,3 +56,14 @@ module _ {T : Type 0} where
   written_by {S} {R} {Q} b l w now v {U} r write release is =
       writes_back b l w.guard w.value v {U = U} r write
       (subst (λ (x : WriteGuard T). Meets R (ReleaseWriter x.guard x.value) (back_answer r) Q) is release)
+
+  -- and each box that reaches what was set may be written then
+  pub set_free : {S Q : State T} {b : GenerationalPointer} {v : T} → IsSet S b v Q
+      → (c : GenerationalPointer) → reach S c ≡ reach S b → can_write Q c ≡ true
+  set_free {S} {Q} {b} {v} it c same =
+      let filled = fill S it.name (Here v []) in
+      subst (λ (X : State T). can_write X c ≡ true) (sym it.after)
+      ((ticket_keeps filled c).free (rests_free filled c it.name (record {
+        reaches = filled_reach S it.name (Here v []) c ∙ (same ∙ it.reached);
+        free = ap write_refusal (filled_content S it.name (Here v []) (Here it.old []) it.content);
+      })))

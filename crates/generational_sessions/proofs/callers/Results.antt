@@ -1,7 +1,7 @@
 -- What clauses on results and options say of the value with which a caller goes on.
 use Rattle.std.proofs.Common.{◌≡◌, Option, None, Some, sym, ap, subst, ◌∙◌}
-use Rattle.std.specs.Prelude.{Result, Ok, Err, IfOk, OnOk, OnErr, IfSome, IfNone, OnSome}
-use Rattle.std.specs.Result.{result_ok}
+use Rattle.std.specs.Prelude.{Result, Ok, Err, IfOk, IfErr, OnOk, OnErr, IfSome, IfNone, OnSome}
+use Rattle.std.specs.Result.{IsErrAnd, result_ok}
 use Rattle.std.proofs.lemmas.Option.{none-some, same_Some}
 use Rattle.std.proofs.lemmas.Result.{IfOk-at_ok}
 
@@ -22,6 +22,12 @@ module _ {X : Type 0} where
   pub on_ok_so : {E P Q : Type 0} (r : Result X E) → (P → Q) → OnOk r P → OnOk r Q
   on_ok_so (Ok y) so p = so p
   on_ok_so (Err z) so p = tt
+
+  -- and where it is Err
+  pub err_so : {E : Type 0} {P Q : E → Type 0} (r : Result X E) → ((e : E) → P e → Q e)
+      → IsErrAnd r P → IfErr r Q
+  err_so (Ok y) so p = tt
+  err_so (Err e) so p = so e p
 
   pub on_some : {P : Type 0} (r : Option X) (x : X) → r ≡ Some x → OnSome r P → P
   on_some (Some y) x e p = p

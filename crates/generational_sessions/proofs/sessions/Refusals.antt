@@ -1,19 +1,19 @@
 -- What a reply tells of refusals: where memory or a ticket may lack, and that nothing has changed.
 use Rattle.generational_sessions.proofs.sessions.Common
-use Common.{◌≡◌, hindrance_to, knows_reader, knows_writer, ReleaseOwner, SessionReply, SessionState}
-use Common.{Bool, true, cond, None, Some, refl, [], ◌&&◌, Call, Name, Cell, Here, turn, Make, wants}
-use Common.{false, nat_eq, nat_lt, eq-eqb, Shared, Action, Answer, unless, set_at, settle, Nothing}
-use Common.{Option, cell_at, read_at, CanRead, Refused, refuses, Request, Settles, refusal, release}
-use Common.{sym, subst, reach, NewNames, point, refer, Refer, Write, Point, gives, spend, State, Meets}
-use Common.{ap, true≢false, StoreError, content_of, MakeShared, CloneOwner, refusal_in, last_ticket}
-use Common.{◌∙◌, inl, inr, Ref, act, Read, End, Done, Flag, Back, want, Held, ask, Asks}
-use Common.{cond_both, and_parts, none-some, name_of, OwnerName, is_release, with_owner, is_refusal}
-use Common.{eqb-true, ownership, LeakOwner, TellsLack, add_place, Ownership, answer_to, is_making}
-use Common.{NumbersExhausted, GenerationalPointer, refusal_to_write, TellsExhaustion, RefusalLeavesAll}
-use Common.{OutOfMemory, is_name, has_same_id, clone_owner, SessionStep, needs_memory, takes_ticket}
-use Common.{UnknownOwner, refusal_to_read, release_owner, ReleaseReader, ReleaseWriter, limit_tickets}
-use Common.{Location, BorrowRefusal, is_known, own_cell, own_name, write_at, NewOwner, SetValue, CanWrite}
-use Common.{Dropped, Content, Outcome, BorrowRefused, at_place, owner_in, reply_of, may_lack, no_names}
+use Common.{◌≡◌, knows_reader, knows_writer, SessionReply, SessionState}
+use Common.{Bool, true, cond, None, Some, refl, ◌&&◌, Call, Name, Cell, Make, wants}
+use Common.{false, nat_eq, eq-eqb, Shared, Action, Answer, unless, settle, Nothing}
+use Common.{Option, cell_at, Refused, refuses, Request, Settles, refusal, release}
+use Common.{sym, subst, reach, NewNames, refer, Refer, gives, spend, State, Meets}
+use Common.{ap, true≢false, StoreError, MakeShared, refusal_in, last_ticket}
+use Common.{◌∙◌, inl, inr, act, Done, Flag, Back, want, Held, ask, Asks}
+use Common.{cond_both, and_parts, none-some, OwnerName, is_release, with_owner, is_refusal}
+use Common.{eqb-true, LeakOwner, TellsLack, add_place, answer_to, is_making}
+use Common.{NumbersExhausted, GenerationalPointer, TellsExhaustion, RefusalLeavesAll}
+use Common.{OutOfMemory, SessionStep, needs_memory, takes_ticket}
+use Common.{UnknownOwner, refusal_to_read, limit_tickets}
+use Common.{BorrowRefusal, is_known}
+use Common.{Outcome, BorrowRefused, at_place, owner_in, reply_of, may_lack, no_names}
 use Rattle.generational_core.proofs.machine.Refusing.{IsAnswered, act_answered, answered_still}
 use Rattle.generational_core.proofs.machine.Refusing.IsAnswered.{troubled, unknown, back, goes}
 use Rattle.generational_core.specs.Leaving.{refuses as is_refused}

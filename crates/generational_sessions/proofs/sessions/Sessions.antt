@@ -2,16 +2,16 @@
 use Rattle.generational_sessions.proofs.sessions.Common
 use Common.{◌≡◌, subst, arith, State, fresh, Guard, reach, Owned, Reads, Meets, gives, spend, Boxed}
 use Common.{◌≢◌, suc, ◌+◌, ◌≤◌, ◌<◌, ◌∷◌, sym, ◌∙◌, inl, inr, ◌⊎◌, Made, Done, Held, Run, ask, swap}
-use Common.{ℕ, zero, Bool, true, cond, List, ◌++◌, None, Some, refl, ◌||◌, Call, Name, Cell, IsOwn}
+use Common.{ℕ, zero, Bool, true, cond, List, ◌++◌, None, Some, refl, Call, Name, Cell, IsOwn}
 use Common.{false, sum_by-cons, sum_by_push, meets_number, writes_known, reader_stays, writer_stays}
 use Common.{[], nat_eq_equiv, knows_reader, knows_writer, SessionState, SessionReply, fresh_bounded}
-use Common.{ap, true≢false, tickets_of, content_at, has_reader, has_writer, owner_held, meets_value}
+use Common.{ap, true≢false, content_at, owner_held, meets_value}
 use Common.{length, IsSound, IsEnded, Request, Settles, release, replace, Reading, Writing, Nothing}
 use Common.{slice_set, count_under, SessionStep, holds_owner, Undisturbed, fresh_sound, ref_reaches}
-use Common.{Option, ⊎_elim, nat_eq, eq-eqb, Borrow, Action, Answer, Writes, box_in, Owning, AreOne}
-use Common.{is_some, list_map, count_by, list_any, eqb-true, Location, count_in, can_read, is_known}
-use Common.{and_parts, meets_sound, meets_ended, meets_given, reads_known, ends_reader, ends_writer}
-use Common.{or_left, name_of, Content, at_place, owner_in, with_box, if_ready, value_at, made_new}
+use Common.{Option, ⊎_elim, eq-eqb, Action, Answer, Writes, box_in, Owning, AreOne}
+use Common.{is_some, count_by, eqb-true, Location, count_in, can_read, is_known}
+use Common.{and_parts, meets_sound, meets_ended, reads_known, ends_reader, ends_writer}
+use Common.{name_of, at_place, owner_in, with_box, if_ready, value_at, made_new}
 use Common.{false_from_ne_true, GenerationalPointer, IsSoundSession, IsUndisturbed, meets_bounded}
 use Common.{is_shared, Ownership, IsBounded, can_write, OwnerName, add_place, with_owner, AskedSets}
 use Rattle.generational_sessions.proofs.sessions.OwnerValues.{owners_in, takes, meets_counts}

@@ -5,12 +5,12 @@ use Rattle.std.proofs.lemmas.Bool.{false≢true, true≢false}
 use Rattle.std.specs.FinMap as map
 use Rattle.generational_core.specs.Boxes.{name_of}
 use Rattle.generational_core.specs.Ending.{hindrance_at}
-use Rattle.generational_core.specs.Machine.{Action, Outcome, point, turn, unless}
+use Rattle.generational_core.specs.Machine.{Action, point, turn, unless}
 use Rattle.generational_core.specs.Machine.Answer.{Done}
 use Rattle.generational_core.specs.StepCalls.{is_hindered, may_set, tells_of_borrow}
 use Rattle.generational_core.specs.declared.boxes.GenerationalPointer.{GenerationalPointer}
 use Rattle.generational_entries.specs.Entry.{target_in}
-use Rattle.generational_slots.specs.SlotsState.{content_reached, reached, refusal_of}
+use Rattle.generational_slots.specs.SlotsState.{content_reached}
 use Rattle.generational_slots.proofs.Common.{Cell, Content, Here, IsLinked, Lent, Location, Name}
 use Rattle.generational_slots.proofs.Common.{BorrowRefusal, Ref, Shared, State, Value, content_at}
 use Rattle.generational_slots.proofs.Common.{content_of, doomed_by, is_name, is_named, is_shared}

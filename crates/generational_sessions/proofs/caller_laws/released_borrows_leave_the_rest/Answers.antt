@@ -1,5 +1,6 @@
 use Rattle.generational_core.proofs.machine.Guarding.{read_leaves, writes_back, set_seen, set_beside}
 use Rattle.generational_core.proofs.machine.Guarding.{set_owners}
+use Rattle.generational_sessions.proofs.callers.Lefts.{set_free}
 use Rattle.generational_sessions.proofs.caller_laws.released_borrows_leave_the_rest.Goals as goal
 
 pub returns : goal.returns
@@ -7,6 +8,7 @@ returns g c = record {
   read = λ S R Q. read_leaves;
   written = λ S R Q b l h old v. writes_back b l h old v;
   seen = λ S Q b v. set_seen;
+  free = λ S Q b v. set_free;
   others = λ S Q b v. set_beside;
   owners = λ S Q b v. set_owners;
 }

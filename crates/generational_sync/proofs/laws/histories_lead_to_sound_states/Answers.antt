@@ -1,12 +1,15 @@
 use Rattle.generational_sync.proofs.Replaying.{replay_kept}
 use Rattle.generational_sync.proofs.laws.histories_lead_to_sound_states.Goals as goal
 
+pub returns-clause-start : goal.returns-clause-start
+returns-clause-start c number = c.steps_are_sound.ensures.fresh number 1 0
+
 pub returns-clause-sound : goal.returns-clause-sound
-returns-clause-sound c number steps P e =
-    (replay_kept c.steps_are_sound.ensures.step c.steps_keep_the_store.ensures.number number steps P
-    (c.steps_are_sound.ensures.fresh number 1 0) e).0
+returns-clause-sound c P steps Q begins e =
+    (replay_kept c.steps_are_sound.ensures.step c.steps_keep_the_store.ensures.number P steps Q begins
+    e).0
 
 pub returns-clause-number : goal.returns-clause-number
-returns-clause-number c number steps P e =
-    (replay_kept c.steps_are_sound.ensures.step c.steps_keep_the_store.ensures.number number steps P
-    (c.steps_are_sound.ensures.fresh number 1 0) e).1
+returns-clause-number c P steps Q begins e =
+    (replay_kept c.steps_are_sound.ensures.step c.steps_keep_the_store.ensures.number P steps Q begins
+    e).1

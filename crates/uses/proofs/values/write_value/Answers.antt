@@ -17,3 +17,7 @@ returns-clause-written g c = set_seen (written_by _ _ c.in_ok-guard.guard _ c.ar
 pub returns-clause-others : goal.returns-clause-others
 returns-clause-others g c = set_beside (written_by _ _ c.in_ok-guard.guard _ c.args.value
     (Ok c.in-Ok.field-0) c.in_ok-guard.ensures c.in-Ok.ensures (grind (arith, common_steps))).1
+
+pub returns-clause-set : goal.returns-clause-set
+returns-clause-set g c = (written_by _ _ c.in_ok-guard.guard _ c.args.value
+    (Ok c.in-Ok.field-0) c.in_ok-guard.ensures c.in-Ok.ensures (grind (arith, common_steps))).1

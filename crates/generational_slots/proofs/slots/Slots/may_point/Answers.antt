@@ -1,11 +1,11 @@
-use Rattle.std.proofs.Common.{◌≡◌, ap, sym, subst, ◌∙◌, true, false, refl, not, is_none, Some, [], ◌∷◌}
+use Rattle.std.proofs.Common.{◌≡◌, ap, sym, subst, ◌∙◌, refl, not, is_none, Some, [], ◌∷◌}
 use Rattle.std.specs.FinMap as map
 use Rattle.generational_core.specs.Machine.{point}
 use Rattle.generational_core.specs.Machine.Action.{Point}
 use Rattle.generational_core.specs.StepCalls.{is_hindered}
 unfoldable use Rattle.generational_slots.proofs.Common.{hindrance_to}
 use Rattle.generational_entries.specs.Entry.{target_in}
-use Rattle.generational_slots.proofs.Common.{is_name, is_shared, name_of_cell, name_test}
+use Rattle.generational_slots.proofs.Common.{is_shared, name_of_cell, name_test}
 use Rattle.generational_slots.proofs.states.Changes.{cell_seen, state_is}
 use Rattle.generational_slots.proofs.states.Readiness.{plain_free, same_free, turned_free}
 use Rattle.generational_slots.proofs.states.Readiness.{unshared_free}

@@ -1,27 +1,46 @@
-use Rattle.std.proofs.Common.{refl, ap, ◌∙◌}
-use Rattle.generational_core.specs.Answers.{read_answer}
+use Rattle.std.proofs.Common.{rules, ap, refl, ◌∙◌}
+use Rattle.generational_core.specs.Answers.{pointer_of, read_answer}
 use Rattle.generational_core.specs.Machine.Action.{Read}
 use Rattle.generational_core.specs.declared.steps.StepCall.TheVariants as call
+use Rattle.generational_core.specs.StepCalls.{is_ready}
 use Rattle.generational_sync.specs.Shared.{SharedState}
-use Rattle.generational_sync.proofs.Keeping.{number_kept, settled}
-use Rattle.generational_sync.proofs.Refusing.{read_refused_in}
+use Rattle.generational_sync.proofs.Keeping.{known_as, refused_by, settled}
 use Rattle.generational_sync.proofs.state.SyncState.try_read.Goals as goal
 
+pub settle-requires : goal.settle-requires
+settle-requires g c = (
+  search rules,
+  (
+    search rules,
+    known_as g.row.NUMBER c.self.inside.store.state c.begin_read-read.new.store.state c.self.inside.log c.self.invariant.0
+        c.steps_have_records.ensures c.histories_lead_to_sound_states.ensures.number
+        c.args.self.now.state (Read c.pointer-pointer.result c.args.location) (call.Read c.pointer-pointer.result c.args.location)
+        (read_answer c.begin_read-read.result) c.read_reply.result
+        (ap (λ (s : SharedState _). s.state) c.self.view_is) refl
+        (ap (λ b. is_ready c.args.self.now.state (call.Read b c.args.location)) c.pointer-pointer.ensures ∙ c.requires) c.begin_read-read.ensures
+        (c.read_reply.ensures.reply c.begin_read-read.new.store.state (Read c.pointer-pointer.result c.args.location)),
+  ),
+)
+
 pub invariant_of-self-2 : goal.invariant_of-self-2
-invariant_of-self-2 g c =
-    settled c.recorded_calls_are_lawful.ensures.step c.histories_lead_to_sound_states.ensures.sound
-    g.row.NUMBER c.self.inside.store.state c.begin_read-read.new.store.state c.self.inside.log
-    c.reserve.new.self c.settle.new.self c.args.tally.now.worker c.self.invariant
-    c.reserve.ensures.steps (Read c.pointer-pointer.result c.args.location)
-    (call.Read c.pointer-pointer.result c.args.location)
-    (read_answer c.begin_read-read.result) c.read_reply.result refl c.begin_read-read.ensures
-    (c.read_reply.ensures.reply c.begin_read-read.new.store.state (Read c.pointer-pointer.result c.args.location))
-    c.read_reply.ensures.lent c.read_reply.ensures.left c.reserve.ensures.standing
-    c.settle.ensures.steps c.settle.ensures.standing
+invariant_of-self-2 g c = (
+  settled c.recorded_calls_are_lawful.ensures.step c.histories_lead_to_sound_states.ensures.sound
+      g.row.NUMBER c.self.inside.store.state c.begin_read-read.new.store.state c.self.inside.log c.reserve.new.self
+      c.settle.new.self c.args.tally.now.worker c.self.invariant.0 c.reserve.ensures.from c.reserve.ensures.steps c.settle.ensures.from
+      (Read c.pointer-pointer.result c.args.location) (call.Read c.pointer-pointer.result c.args.location) (read_answer c.begin_read-read.result) c.read_reply.result refl c.begin_read-read.ensures
+      (c.read_reply.ensures.reply c.begin_read-read.new.store.state (Read c.pointer-pointer.result c.args.location))
+      c.read_reply.ensures.lent c.read_reply.ensures.left c.reserve.ensures.standing c.settle.ensures.steps
+      c.settle.ensures.standing,
+  c.settle.ensures.from ∙ (c.reserve.ensures.from ∙ c.self.invariant.1),
+)
 
 pub returns-clause-refusal : goal.returns-clause-refusal
 returns-clause-refusal g c =
-    read_refused_in c.self.inside.store.state c.begin_read-read.new.store.state c.args.self.now.state
-    c.pointer-pointer.result _ c.args.location c.begin_read-read.result
-    (ap (λ (s : SharedState _). s.state) c.self.view_is) c.pointer-pointer.ensures
-    c.begin_read-read.ensures c.requires
+    refused_by g.row.NUMBER c.self.inside.store.state c.begin_read-read.new.store.state c.self.inside.log
+    c.self.invariant.0 c.free_calls_are_refused_so.ensures
+    c.histories_lead_to_sound_states.ensures.number c.args.self.now.state
+    c.pointer-pointer.result (pointer_of c.args.asked)
+    (λ b. Read b c.args.location)
+    (λ b. call.Read b c.args.location)
+    (read_answer c.begin_read-read.result) (ap (λ (s : SharedState _). s.state) c.self.view_is)
+    c.pointer-pointer.ensures (λ y. refl) c.requires c.begin_read-read.ensures

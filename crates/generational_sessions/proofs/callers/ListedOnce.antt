@@ -1,0 +1,329 @@
+-- Owners' lists: no name stands twice in one, nor in two of them, and each call leaves them so.
+use Rattle.std.specs.FinMap as map
+use Rattle.std.specs.FinSet as set
+use Rattle.std.proofs.Common.{◌≡◌, ◌≢◌, ◌++◌, ◌∷◌, ◌⊎◌, ℕ, Bool, true, false, cond, List, []}
+use Rattle.std.proofs.Common.{Option, None, Some, refl, sym, ap, subst, ◌∙◌, inl, inr, ⊎_elim}
+use Rattle.std.specs.Cmp.{IsEquivalence}
+use Rattle.std.specs.List.{IsDistinct}
+use Rattle.std.specs.Ordering.{nat_cmp}
+use Rattle.std.specs.Prelude.{nat_eq, nat_lt}
+use Rattle.std.proofs.lemmas.Bool.{true≢false, or_cases}
+use Rattle.std.proofs.lemmas.Cmp.{eq_by_cmp_equiv}
+use Rattle.std.proofs.lemmas.Map.Keys.{IsDistinct-push}
+use Rattle.generational_core.specs.Borrowing.{BorrowRefusal, reach, refusal_to_read}
+use Rattle.generational_core.specs.Boxes.{name_of}
+use Rattle.generational_core.specs.Cells.{Cell}
+use Rattle.generational_core.specs.Cells.Cell.{Shared}
+use Rattle.generational_core.specs.Conditions.{fresh, names_in}
+use Rattle.generational_core.specs.Ending.{close, hindrance_to}
+use Rattle.generational_core.specs.Leaving.{IsLeft, IsOtherOwner}
+use Rattle.generational_core.specs.Machine.{Action, Answer, NewNames, Outcome, OwnerName, act, unless}
+use Rattle.generational_core.specs.Machine.{cell_at, clone_owner, is_known, ownership, refer}
+use Rattle.generational_core.specs.Machine.{release_owner}
+use Rattle.generational_core.specs.Machine.Action.{Make, MakeShared, Refer, NewOwner, CloneOwner}
+use Rattle.generational_core.specs.Machine.Action.{ReleaseOwner}
+use Rattle.generational_core.specs.Names.{Name, among, change, is_name}
+use Rattle.generational_core.specs.State.{State, IsSound, Ownership, Owners, one_less, one_listed}
+use Rattle.generational_core.specs.State.{one_more}
+use Rattle.generational_core.specs.Steps.{AreNew, Meets}
+use Rattle.generational_core.specs.declared.boxes.GenerationalPointer.{GenerationalPointer}
+use Rattle.generational_core.proofs.maps.Maps.{by_number, get-changed_here, get-changed_none}
+use Rattle.generational_core.proofs.maps.Maps.{get-insert_here, get-remove_here, key_cases}
+use Rattle.generational_core.proofs.maps.Maps.{name_apart, name_same, name_total}
+use Rattle.generational_core.proofs.machine.Changes.{new_fresh}
+use Rattle.generational_core.proofs.machine.Common.{list_any-append}
+use Rattle.generational_core.proofs.machine.Ends.{by_cond, none≢some}
+use Rattle.generational_core.proofs.machine.Leaving.{release_leaves}
+use Rattle.generational_core.proofs.machine.Owning.{keeps_record, unlisted}
+use Rattle.generational_core.proofs.machine.Stepping.{meets_cases, meets_sound}
+use Rattle.generational_sessions.proofs.callers.Lefts.{left_still}
+use Rattle.generational_sessions.proofs.sessions.Sessions.{by_run, by_step, session_kept}
+use Rattle.generational_sessions.specs.ListedOnce.{AreListedOnce}
+use Rattle.generational_sessions.specs.Session.{Run, SessionReply, SessionState, SessionStep}
+use Rattle.generational_sessions.specs.SoundSession.{IsSoundSession}
+use Rattle.generational_sessions.specs.declared.calls.Call.{Call}
+
+-- names are compared for equality
+name_equal : IsEquivalence is_name
+unfolding is_name
+name_equal = eq_by_cmp_equiv name_total
+
+-- two owners are one, or two
+owner_cases : (a o : OwnerName) → (a ≡ o) ⊎ (a ≢ o)
+owner_cases a o = ⊎_elim
+    (λ stores. ⊎_elim (λ keys. inl (λ i. record { store = stores i; key = keys i }))
+    (λ ne. inr (λ e. ne (ap (λ (x : OwnerName). x.key) e))) (key_cases by_number a.key o.key))
+    (λ ne. inr (λ e. ne (ap (λ (x : OwnerName). x.store) e))) (key_cases by_number a.store o.store)
+
+-- a name that isn't among others, nor the one behind them, isn't among all of them
+apart_pushed : (names : List Name) (m n : Name) → among names n ≡ false → n ≢ m
+    → among (names ++ m ∷ []) n ≡ false
+apart_pushed names m n before ne =
+    list_any-append (is_name n) names (m ∷ []) ∙ rw (before, name_apart n m ne) refl
+
+-- a name among them is one of the others, or the one behind
+among_pushed : (names : List Name) (m n : Name) → among (names ++ m ∷ []) n ≡ true
+    → (among names n ≡ true) ⊎ (n ≡ m)
+among_pushed names m n there = ⊎_elim inl
+    (λ behind. inr (⊎_elim (name_same n m) (λ none. absurd (true≢false (sym none))) (or_cases _ _ behind)))
+    (or_cases _ _ (sym (list_any-append (is_name n) names (m ∷ [])) ∙ there))
+
+module _ {T : Type 0} where
+  -- the names of an owner's list: none where the store doesn't know the owner
+  abbrev names_of : State T → OwnerName → List Name
+  names_of S o = names_in (ownership S o)
+
+  -- the same of these lists
+  record AreApart (S : State T) : Type 0 where
+    once : (o : OwnerName) → IsDistinct is_name (names_of S o)
+    apart : (o p : OwnerName) (n : Name) → o ≢ p → among (names_of S o) n ≡ true
+        → among (names_of S p) n ≡ false
+
+  to_lists : {S : State T} → AreListedOnce S → AreApart S
+  unfolding IsDistinct
+  to_lists {S} l = record {
+    once = λ o. single o (ownership S o) refl;
+    apart = λ o p n ne. two o p n ne (ownership S o) (ownership S p) refl refl;
+  }
+    where
+      single : (o : OwnerName) (x : Option Ownership) → ownership S o ≡ x
+          → IsDistinct is_name (names_in x)
+      single o None is = tt
+      single o (Some h) is = l.once o h is
+
+      two : (o p : OwnerName) (n : Name) → o ≢ p → (x y : Option Ownership)
+          → ownership S o ≡ x → ownership S p ≡ y → among (names_in x) n ≡ true
+          → among (names_in y) n ≡ false
+      two o p n ne None y is also there = absurd (true≢false (sym there))
+      two o p n ne (Some h) None is also there = refl
+      two o p n ne (Some h) (Some k) is also there = l.apart o p h k n ne is also there
+
+  from_lists : {S : State T} → AreApart S → AreListedOnce S
+  from_lists a = record {
+    once = λ o h is. subst (λ x. IsDistinct is_name (names_in x)) is (a.once o);
+    apart = λ o p h k n ne is also there. subst (λ x. among (names_in x) n ≡ false) also
+        (a.apart o p n ne (subst (λ x. among (names_in x) n ≡ true) (sym is) there));
+  }
+
+  pub fresh_listed : (number start next : ℕ) → AreListedOnce (fresh {T = T} number start next)
+  fresh_listed number start next = record {
+    once = λ o h is. absurd (none≢some _ h (nobody o) is);
+    apart = λ o p h k n ne is. absurd (none≢some _ h (nobody o) is);
+  }
+    where
+      nobody : (o : OwnerName) → ownership (fresh {T = T} number start next) o ≡ None
+      nobody o = by_cond (λ x. x ≡ None) (nat_eq o.store number)
+          (λ _. map.get-empty nat_cmp o.key) (λ _. refl)
+
+  -- ---- what becomes of the list of the owner by which a call goes
+
+  -- it is the same, or none, or has a name more, which was never given
+  data Becomes (S : State T) (old new : List Name) : Type 0 where
+    same : new ≡ old → Becomes S old new
+    none : new ≡ [] → Becomes S old new
+    more : (n : Name) → set.contains S.given n ≡ false → new ≡ old ++ n ∷ [] → Becomes S old new
+
+  module _ (S : State T) (a : OwnerName) where
+    abbrev Follows : Outcome T → Type 0
+    Follows out = Becomes S (names_of S a) (names_of out.1 a)
+
+    unless_follows : (t : Option BorrowRefusal) (out : Outcome T) → Follows out
+        → Follows (unless t S out)
+    unless_follows None out h = h
+    unless_follows (Some t) out h = same refl
+
+    -- in a store's own list or in another store's, where a name is put behind the others
+    listed : (owners : Owners) (own : Bool) (n : Name) → set.contains S.given n ≡ false
+        → Becomes S (names_in (cond own (map.get owners a.key) None))
+        (names_in (cond own (map.get (change owners a.key (one_listed n)) a.key) None))
+    listed owners false n new = same refl
+    listed owners true n new = at (map.get owners a.key) refl
+      where
+        at : (x : Option Ownership) → map.get owners a.key ≡ x
+            → Becomes S (names_in (map.get owners a.key)) (names_in (map.get (change owners a.key (one_listed n)) a.key))
+        at None is = same (ap (λ m. names_in (map.get m a.key))
+            (get-changed_none by_number owners a.key (one_listed n) is))
+        at (Some h) is = more n new
+            (ap names_in (get-changed_here by_number owners a.key (one_listed n) h is)
+            ∙ sym (ap (λ x. names_in x ++ n ∷ []) is))
+
+    -- where another record is put in the place of the owner's
+    put : (own : Bool) (names : List Name) (h : Ownership) → h.names ≡ names
+        → Becomes S names (names_in (cond own (map.get (map.insert S.owners a.key h) a.key) None))
+    put false names h is = none refl
+    put true names h is = same (ap names_in (get-insert_here by_number S.owners a.key h) ∙ is)
+
+    removed : (own : Bool) (names : List Name)
+        → Becomes S names (names_in (cond own (map.get (map.remove S.owners a.key) a.key) None))
+    removed false names = none refl
+    removed true names = none (ap names_in (get-remove_here by_number S.owners a.key))
+
+    referred : (b : GenerationalPointer) (to : Option Name) (target : Option (Cell T)) (n : Name)
+        → set.contains S.given n ≡ false → Follows (refer S (Some a) b to target n)
+    referred b (Some m) (Some (Shared c l)) n new =
+        listed S.owners (nat_eq a.store S.number) n new
+    referred b to target n new = same refl
+
+    cloned : (x : Option Ownership) → ownership S a ≡ x
+        → Becomes S (names_in x) (names_of (clone_owner S a x).1 a)
+    cloned None is = same (ap names_in is)
+    cloned (Some h) is = put (nat_eq a.store S.number) h.names (one_more h) refl
+
+    released : (x : Option Ownership) → ownership S a ≡ x
+        → Becomes S (names_in x) (names_of (release_owner S a x).1 a)
+    released None is = same (ap names_in is)
+    released (Some h) is = by_cond (λ (out : Outcome T). Becomes S h.names (names_of out.1 a))
+        (nat_lt 1 h.count) (λ _. put (nat_eq a.store S.number) h.names (one_less h) refl)
+        (λ _. last (hindrance_to S h.names))
+      where
+        last : (t : Option BorrowRefusal) → Becomes S h.names (names_of (unless t S
+            (Answer.Done, record (close S h.names) { owners = map.remove S.owners a.key })).1 a)
+        last None = removed (nat_eq a.store S.number) h.names
+        last (Some t) = same (ap names_in is)
+
+  -- ---- what each call leaves
+
+  -- a name that was never given stands in no list
+  unlisted_by : (S : State T) → IsSound S → (o : OwnerName) (n : Name)
+      → set.contains S.given n ≡ false → among (names_of S o) n ≡ false
+  unlisted_by S s o n new = at (ownership S o) refl
+    where
+      at : (x : Option Ownership) → ownership S o ≡ x → among (names_in x) n ≡ false
+      at None is = refl
+      at (Some h) is = unlisted S o h n s is new
+
+  module _ (S R : State T) (s : IsSound S) (a : AreApart S) where
+    module _ (o : OwnerName) where
+      once_after : Becomes S (names_of S o) (names_of R o) → IsDistinct is_name (names_of R o)
+      unfolding IsDistinct
+      once_after (same is) = subst (IsDistinct is_name) (sym is) (a.once o)
+      once_after (none is) = subst (IsDistinct is_name) (sym is) tt
+      once_after (more n new is) = subst (IsDistinct is_name) (sym is)
+          (IsDistinct-push name_equal (names_of S o) n (a.once o) (unlisted_by S s o n new))
+
+      -- a name of this list, after the call, was in no other; and a name of another isn't in it then
+      apart_from : (p : OwnerName) (n : Name) → o ≢ p → Becomes S (names_of S o) (names_of R o)
+          → among (names_of R o) n ≡ true → among (names_of S p) n ≡ false
+      apart_from p n ne (same is) there = a.apart o p n ne (sym (ap (λ xs. among xs n) is) ∙ there)
+      apart_from p n ne (none is) there =
+          absurd (true≢false (sym there ∙ ap (λ xs. among xs n) is))
+      apart_from p n ne (more m new is) there = ⊎_elim (a.apart o p n ne)
+          (λ behind. subst (λ x. among (names_of S p) x ≡ false) (sym behind) (unlisted_by S s p m new))
+          (among_pushed (names_of S o) m n (sym (ap (λ xs. among xs n) is) ∙ there))
+
+      apart_after : (p : OwnerName) (n : Name) → o ≢ p → Becomes S (names_of S o) (names_of R o)
+          → among (names_of S p) n ≡ true → among (names_of R o) n ≡ false
+      apart_after p n ne (same is) there =
+          ap (λ xs. among xs n) is ∙ a.apart p o n (λ e. ne (sym e)) there
+      apart_after p n ne (none is) there = ap (λ xs. among xs n) is
+      apart_after p n ne (more m new is) there = ap (λ xs. among xs n) is
+          ∙ apart_pushed (names_of S o) m n (a.apart p o n (λ e. ne (sym e)) there)
+          (λ e. true≢false (sym there ∙ (ap (among (names_of S p)) e ∙ unlisted_by S s p m new)))
+
+      -- where the other lists are what they were
+      keeps_apart : ((p : OwnerName) → o ≢ p → names_of R p ≡ names_of S p)
+          → Becomes S (names_of S o) (names_of R o) → AreApart R
+      keeps_apart others own = record {
+        once = λ p. ⊎_elim (λ e. subst (λ x. IsDistinct is_name (names_of R x)) e (once_after own))
+            (λ ne. subst (IsDistinct is_name) (sym (others p ne)) (a.once p)) (owner_cases o p);
+        apart = λ p q n ne there. ⊎_elim
+            (λ e. let other : o ≢ q = λ is. ne (sym e ∙ is) in
+            ap (λ xs. among xs n) (others q other) ∙ apart_from q n other own
+            (subst (λ x. among (names_of R x) n ≡ true) (sym e) there))
+            (λ first. let was = sym (ap (λ xs. among xs n) (others p first)) ∙ there in ⊎_elim
+            (λ e. subst (λ x. among (names_of R x) n ≡ false) e (apart_after p n first own was))
+            (λ second. ap (λ xs. among xs n) (others q second) ∙ a.apart p q n ne was)
+            (owner_cases o q)) (owner_cases o p);
+      }
+
+    -- where all lists are
+    all_kept : ((o : OwnerName) → names_of R o ≡ names_of S o) → AreApart R
+    all_kept still = record {
+      once = λ o. subst (IsDistinct is_name) (sym (still o)) (a.once o);
+      apart = λ o p n ne there. ap (λ xs. among xs n) (still p)
+          ∙ a.apart o p n ne (sym (ap (λ xs. among xs n) (still o)) ∙ there);
+    }
+
+    module _ (call : Action T) (answer : Answer T) (m : Meets S call answer R) where
+      -- a call that goes by an owner leaves the lists so, if the machine's outcome does
+      by_owner : (o : OwnerName) → ((p : OwnerName) → o ≢ p → ownership R p ≡ ownership S p)
+          → ((f : NewNames) → AreNew S call f → Follows S o (act S call f)) → AreApart R
+      by_owner o others follows = keeps_apart o (λ p ne. ap names_in (others p ne)) (⊎_elim
+          (λ refused. same (ap (λ (X : State T). names_of X o) refused.1))
+          (λ acts. subst (Follows S o) (sym acts.2) (follows acts.0 acts.1))
+          (meets_cases S R call answer m))
+
+  calls_apart : {S R : State T} → IsSound S → AreApart S → (call : Action T) (answer : Answer T)
+      → Meets S call answer R → AreApart R
+  calls_apart {S} {R} s a (Make (Some o) v l) answer m = by_owner S R s a _ answer m o
+      (λ p ne. keeps_record (Make (Some o) v l) answer m p ne tt) (λ f new.
+      by_cond (Follows S o) (is_known S (Some o))
+      (λ _. listed S o S.owners (nat_eq o.store S.number) f.first new.ungiven) (λ _. same refl))
+  calls_apart {S} {R} s a (MakeShared (Some o) v l) answer m = by_owner S R s a _ answer m o
+      (λ p ne. keeps_record (MakeShared (Some o) v l) answer m p ne tt) (λ f new.
+      by_cond (Follows S o) (is_known S (Some o))
+      (λ _. listed S o S.owners (nat_eq o.store S.number) f.second
+      (new_fresh S (MakeShared (Some o) v l) f new).1) (λ _. same refl))
+  calls_apart {S} {R} s a (Refer (Some o) b) answer m = by_owner S R s a _ answer m o
+      (λ p ne. keeps_record (Refer (Some o) b) answer m p ne tt) (λ f new.
+      by_cond (Follows S o) (is_known S (Some o))
+      (λ _. unless_follows S o (refusal_to_read S b) _
+      (referred S o b (reach S b) (cell_at S (reach S b)) f.first new.ungiven)) (λ _. same refl))
+  calls_apart {S} {R} s a (CloneOwner o) answer m = by_owner S R s a _ answer m o
+      (λ p ne. keeps_record (CloneOwner o) answer m p ne tt) (λ f _. cloned S o (ownership S o) refl)
+  calls_apart {S} {R} s a (ReleaseOwner o) answer m = by_owner S R s a _ answer m o
+      (λ p ne. keeps_record (ReleaseOwner o) answer m p ne tt)
+      (λ f _. released S o (ownership S o) refl)
+  calls_apart {S} {R} s a NewOwner answer m = ⊎_elim
+      (λ refused. subst AreApart (sym refused.1) a)
+      (λ acts. let new : OwnerName = record { store = S.number; key = S.next } in
+      keeps_apart S R s a new (λ p ne. ap names_in (keeps_record NewOwner answer m p tt
+      (subst (λ (out : Outcome T). IsOtherOwner out.0 p) (sym acts.2) ne)))
+      (subst (λ (out : Outcome T). Becomes S (names_of S new) (names_of out.1 new)) (sym acts.2)
+      (none (empty (nat_eq S.number S.number)))))
+      (meets_cases S R NewOwner answer m)
+    where
+      begun : Ownership
+      begun = record { names = []; count = 1 }
+
+      empty : (own : Bool)
+          → names_in (cond own (map.get (map.insert S.owners S.next begun) S.next) None) ≡ []
+      empty false = refl
+      empty true = ap names_in (get-insert_here by_number S.owners S.next begun)
+  calls_apart {S} {R} s a call answer m = all_kept S R s a (λ o. ap names_in (keeps_record call answer m o tt tt))
+
+  pub stays_listed : {S R : State T} (call : Action T) (answer : Answer T) → IsSound S
+      → Meets S call answer R → AreListedOnce S → AreListedOnce R
+  stays_listed call answer s m l = from_lists (calls_apart s (to_lists l) call answer m)
+
+  -- the release of an owner leaves what another has in its list
+  pub release_beside : {S R : State T} (o p : OwnerName) (h : Ownership) (answer : Answer T)
+      → IsSound S → AreListedOnce S → Meets S (ReleaseOwner o) answer R → o ≢ p
+      → ownership S p ≡ Some h → (b : GenerationalPointer) → among h.names (name_of b) ≡ true
+      → IsLeft S b R
+  release_beside {S} {R} o p h answer s l m ne held b there = at (ownership S o) refl
+    where
+      at : (x : Option Ownership) → ownership S o ≡ x → IsLeft S b R
+      at None is = left_still b (⊎_elim (λ refused. refused.1)
+          (λ acts. ap (λ (out : Outcome T). out.1) acts.2
+          ∙ ap (λ x. (release_owner S o x).1) is) (meets_cases S R (ReleaseOwner o) answer m))
+      at (Some k) is = release_leaves S R o answer s m k is b
+          (l.apart p o h k (name_of b) (λ e. ne (sym e)) held is there)
+
+  -- ---- sessions
+
+  pub session_listed : (s r : SessionState T) (c : Call T) (x : SessionReply T) → IsSound s.state
+      → AreListedOnce s.state → SessionStep s c x r → AreListedOnce r.state
+  session_listed s r c x sound l step = (by_step s r c x (λ S. IsSound S × AreListedOnce S)
+      (λ S R action answer h meets. (
+        meets_sound S R action answer h.0 meets,
+        stays_listed action answer h.0 meets h.1,
+      )) step (sound, l)).1
+
+  pub run_listed : (calls : List (Call T)) (replies : List (SessionReply T)) (s r : SessionState T)
+      → IsSoundSession s → AreListedOnce s.state → Run s calls replies r → AreListedOnce r.state
+  run_listed calls replies s r kept l run = (by_run
+      (λ s. IsSoundSession s × AreListedOnce s.state) (λ s r c x h step. (
+        session_kept s r c x h.0 step,
+        session_listed s r c x h.0.sound h.1 step,
+      )) calls replies s r (kept, l) run).1

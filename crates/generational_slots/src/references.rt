@@ -1,0 +1,61 @@
+//! What references lead to and name, and the counts of references at the slots of their targets.
+
+ghost use Rattle.std.specs.Prelude.{◌≡◌, ◌<◌, IfSome, length, option_map, slice_get};
+ghost use Rattle.generational_core.specs.Borrowing.{leads_to};
+ghost use Rattle.generational_core.specs.Cells.{is_shared};
+ghost use Rattle.generational_containers.specs.CellNames.{name_of_cell};
+ghost use Rattle.generational_entries.specs.Entry.{cell_at};
+ghost use Rattle.generational_slots.specs.SlotsState.{count_less, count_more, shared_target};
+
+use generational_containers::names::CellName;
+use generational_entries::entries::Entries;
+use generational_entries::entry::Kind;
+
+// What a box of this name reaches. The paths that few calls take ask this.
+#[cold]
+#[inline(never)]
+pub(crate) fn reach_slow<T: Drop>(entries: &Entries<T>, name: CellName) -> Option<CellName>
+    ensures { option_map name_of_cell result
+        ≡ leads_to (cell_at entries.now.slots (name_of_cell name)) (name_of_cell name) }
+{
+    entries.reach(name)
+}
+
+// Whether the cell of this name is a shared value, also one that is lent.
+#[inline(always)]
+pub(crate) fn is_shared<T: Drop>(entries: &Entries<T>, name: CellName) -> bool
+    ensures { result ≡ is_shared (cell_at entries.now.slots (name_of_cell name)) }
+{
+    matches!(entries.kind(name), Some(Kind::Shared))
+}
+
+// The slot of what a new reference names counts it.
+#[inline(always)]
+pub(crate) fn refer<T: Drop>(entries: &mut Entries<T>, target: Option<CellName>)
+    requires within { IfSome target (λ m. m.slot < length entries.old.slots) }
+    requires few { IfSome target (λ m. IfSome (slice_get entries.old.slots m.slot)
+        (λ e. e.references < length entries.old.slots)) }
+    ensures slots { entries.new.slots
+        ≡ count_more entries.old.slots (option_map name_of_cell target) }
+    ensures rooms { entries.new.rooms ≡ entries.old.rooms }
+{
+    if let Some(target) = target {
+        entries.count_up(target.slot);
+    }
+}
+
+// The slot of what a reference names counts it no more, if that is live.
+#[inline(always)]
+pub(crate) fn forget<T: Drop>(entries: &mut Entries<T>, target: Option<CellName>)
+    requires some { IfSome (shared_target entries.old.slots (option_map name_of_cell target))
+        (λ m. IfSome (slice_get entries.old.slots m.slot) (λ e. 0 < e.references)) }
+    ensures slots { entries.new.slots ≡ count_less entries.old.slots
+        (shared_target entries.old.slots (option_map name_of_cell target)) }
+    ensures rooms { entries.new.rooms ≡ entries.old.rooms }
+{
+    if let Some(target) = target {
+        if let Some(Kind::Shared) = entries.kind(target) {
+            entries.count_down(target.slot);
+        }
+    }
+}

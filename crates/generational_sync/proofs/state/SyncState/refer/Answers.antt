@@ -1,0 +1,50 @@
+use Rattle.std.proofs.Common.{rules, ap, subst, sym, ◌∙◌}
+use Rattle.std.specs.Prelude.{option_copied}
+use Rattle.generational_core.specs.Answers.{reference_box_answer, reference_answer}
+use Rattle.generational_core.specs.Machine.Action.{Refer}
+use Rattle.generational_sync.specs.Refusals.{MayRefuse}
+use Rattle.generational_sync.specs.Shared.{SharedState}
+use Rattle.generational_sync.proofs.Keeping.{known_as, refused_as, settled}
+use Rattle.generational_sync.proofs.state.SyncState.refer.Goals as goal
+use Rattle.generational_sync.proofs.state.SyncState.refer.Goals.{in-Ok, in-Err}
+
+pub settle-requires : goal.settle-requires
+settle-requires g c = (
+  search rules,
+  (
+    search rules,
+    known_as g.row.NUMBER c.self.inside.store.state c.new_reference-made.new.self.state c.self.inside.log c.self.invariant.0
+        c.steps_have_records.ensures c.histories_lead_to_sound_states.ensures.number
+        c.args.self.now.state (Refer (option_copied c.args.owner) c.args.asked) c.args.call
+        (reference_answer c.new_reference-made.result) c.reference_reply.result
+        (ap (λ (s : SharedState _). s.state) c.self.view_is) c.requires.call
+        c.requires.ready c.new_reference-made.ensures
+        (c.reference_reply.ensures.reply c.new_reference-made.new.self.state (option_copied c.args.owner) c.args.asked),
+  ),
+)
+
+pub invariant_of-self-2 : goal.invariant_of-self-2
+invariant_of-self-2 g c = (
+  settled c.recorded_calls_are_lawful.ensures.step c.histories_lead_to_sound_states.ensures.sound
+      g.row.NUMBER c.self.inside.store.state c.new_reference-made.new.self.state c.self.inside.log c.reserve.new.self
+      c.settle.new.self c.args.tally.now.worker c.self.invariant.0 c.reserve.ensures.from c.reserve.ensures.steps c.settle.ensures.from
+      (Refer (option_copied c.args.owner) c.args.asked) c.args.call (reference_answer c.new_reference-made.result) c.reference_reply.result c.requires.call c.new_reference-made.ensures
+      (c.reference_reply.ensures.reply c.new_reference-made.new.self.state (option_copied c.args.owner) c.args.asked)
+      c.reference_reply.ensures.lent c.reference_reply.ensures.left c.reserve.ensures.standing c.settle.ensures.steps
+      c.settle.ensures.standing,
+  c.settle.ensures.from ∙ (c.reserve.ensures.from ∙ c.self.invariant.1),
+)
+
+pub returns-clause-refusal : goal.returns-clause-refusal
+returns-clause-refusal g c =
+    let may = refused_as g.row.NUMBER c.self.inside.store.state c.new_reference-made.new.self.state c.self.inside.log
+    c.self.invariant.0 c.free_calls_are_refused_so.ensures
+    c.histories_lead_to_sound_states.ensures.number c.args.self.now.state
+    (Refer (option_copied c.args.owner) c.args.asked) c.args.call
+    (reference_answer c.new_reference-made.result) (ap (λ (s : SharedState _). s.state) c.self.view_is) c.requires.call
+    c.requires.ready c.new_reference-made.ensures in
+    elim c.match-made.branch [
+      | in-Ok w ↦ subst (λ r. MayRefuse {T = g.row.T.Denot} g.row.NUMBER (Refer (option_copied c.args.owner) c.args.asked) (reference_box_answer r)) (sym w.result-is) tt
+      | in-Err w ↦ subst (λ r. MayRefuse {T = g.row.T.Denot} g.row.NUMBER (Refer (option_copied c.args.owner) c.args.asked) (reference_box_answer r)) (sym w.result-is)
+          (subst (λ r. MayRefuse {T = g.row.T.Denot} g.row.NUMBER (Refer (option_copied c.args.owner) c.args.asked) (reference_answer r)) w.in-Err.is may)
+    ]

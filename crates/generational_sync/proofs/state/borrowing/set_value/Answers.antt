@@ -1,0 +1,16 @@
+use Rattle.std.proofs.Common.{subst, sym, ◌∙◌}
+use Rattle.generational_core.specs.Borrowing.BorrowRefusal.{Dropped}
+use Rattle.generational_core.specs.Machine.Action.{SetValue}
+use Rattle.generational_core.specs.Machine.Answer.{BorrowRefused}
+use Rattle.generational_core.specs.Steps.{Meets}
+use Rattle.generational_sync.proofs.Making.{set_drops}
+use Rattle.generational_sync.proofs.state.borrowing.set_value.Goals as goal
+
+pub returns-clause-step : goal.returns-clause-step
+returns-clause-step g c = (
+  c.args.value,
+  subst (λ l. Meets c.args.store.now.state (SetValue c.args.asked c.args.value)
+      (BorrowRefused (Dropped l)) c.args.store.now.state) (sym c.new-error.ensures)
+      (set_drops c.args.store.now.state c.args.asked c.args.value c.requires
+      (sym c.can_write.ensures ∙ c.if-can_write.false)),
+)

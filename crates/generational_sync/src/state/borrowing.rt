@@ -1,0 +1,270 @@
+//! Calls that begin and end borrows, and that set a value.
+
+ghost use Rattle.std.specs.Prelude.{◌≡◌, true, IfOk, IfErr};
+ghost use Rattle.std.specs.Result.{is_ok};
+ghost use Rattle.generational_core.specs.declared.boxes.GenerationalPointer.{GenerationalPointer};
+ghost use Rattle.generational_core.specs.declared.steps.StepCall.TheVariants as call;
+ghost use Rattle.generational_core.specs.Answers.{back_answer, pointer_of, read_answer};
+ghost use Rattle.generational_core.specs.Answers.{write_answer};
+ghost use Rattle.generational_core.specs.Machine.{knows_reader, knows_writer};
+ghost use Rattle.generational_core.specs.Machine.Action.{Read, ReleaseReader, ReleaseWriter};
+ghost use Rattle.generational_core.specs.Machine.Action.{SetValue, Write};
+ghost use Rattle.generational_core.specs.Machine.Answer.{Flag};
+ghost use Rattle.generational_core.specs.StepCalls.{is_ready};
+ghost use Rattle.generational_core.specs.Steps.{Meets};
+ghost use Rattle.generational_sync.specs.Refusals.{MayRefuse};
+ghost use Rattle.generational_sync.specs.Shared.{Does, Raises, Records, set_answer};
+
+use super::SyncState;
+use crate::laws::{
+    free_calls_are_refused_so, histories_lead_to_sound_states, recorded_calls_are_lawful,
+    steps_have_records,
+};
+use crate::replies::{back_reply, flag_reply, read_reply, set_reply, write_reply};
+use crate::tally::{Count, Tally};
+use generational_box::laws::boxes_and_guards_are_new;
+use generational_box::{
+    AnyStorage, BorrowMutError, BorrowMutResult, BorrowResult, GenerationalBox,
+    GenerationalPointer, GenerationalRef, GenerationalRefMut, Location, Refused, StepCall, Storage,
+    StoreError, UnsyncStorage, ValueDroppedError,
+};
+
+impl<T: Drop, const NUMBER: u64, M: Count, L: Count, C: Count, R: Count> SyncState<
+    T,
+    NUMBER,
+    M,
+    L,
+    C,
+    R,
+> {
+    /// Begins a read of the box's value, in whose way no writer stands. The guard has the store's
+    /// number.
+    ///
+    /// Refused, in this order: `Dropped` with the box's own creation location, where its cell has
+    /// ended or is of another store; `NumbersExhausted`, where no ticket is left; both are steps.
+    /// `OutOfMemory` comes before both where the history finds no room, and after them for a
+    /// reader beside another. Memory is taken for that reader, for the step and for the step of
+    /// its release.
+    pub fn try_read(
+        &mut self,
+        asked: GenerationalBox<T>,
+        location: Location,
+        tally: &mut Tally<M, L, C, R>,
+    ) -> BorrowResult<GenerationalRef<T>>
+        requires { is_ready self.old.state (call.Read (pointer_of asked) location) ≡ true }
+        ensures step { Does self.old (Read (pointer_of asked) location) (read_answer result)
+            self.new }
+        ensures guard { IfOk result (λ guard. guard.store ≡ NUMBER) }
+        ensures refusal { MayRefuse {T = T} NUMBER (Read (pointer_of asked) location)
+            (read_answer result) }
+        ensures recorded { Records self.old tally.old (call.Read (pointer_of asked) location)
+            (Read (pointer_of asked) location) (read_answer result) self.new }
+        ensures tallied { Raises {T = T} tally.old (read_answer result) tally.new }
+    {
+        recorded_calls_are_lawful::<T>();
+        histories_lead_to_sound_states();
+        steps_have_records::<T>();
+        free_calls_are_refused_so::<T>();
+        boxes_and_guards_are_new::<T>();
+        if self.log.reserve(2).is_err() {
+            return Err(Refused::Store(StoreError::OutOfMemory));
+        }
+        let pointer = asked.pointer();
+        let read = begin_read(&mut self.store, pointer, location);
+        self.log.settle(StepCall::Read(pointer, location), read_reply(&read), tally);
+        read
+    }
+
+    /// The same as `try_read`, under the name by which the sequential store's read has a condition.
+    pub fn read(
+        &mut self,
+        asked: GenerationalBox<T>,
+        location: Location,
+        tally: &mut Tally<M, L, C, R>,
+    ) -> BorrowResult<GenerationalRef<T>>
+        requires { is_ready self.old.state (call.Read (pointer_of asked) location) ≡ true }
+        ensures step { Does self.old (Read (pointer_of asked) location) (read_answer result)
+            self.new }
+        ensures guard { IfOk result (λ guard. guard.store ≡ NUMBER) }
+        ensures refusal { MayRefuse {T = T} NUMBER (Read (pointer_of asked) location)
+            (read_answer result) }
+        ensures recorded { Records self.old tally.old (call.Read (pointer_of asked) location)
+            (Read (pointer_of asked) location) (read_answer result) self.new }
+        ensures tallied { Raises {T = T} tally.old (read_answer result) tally.new }
+    {
+        self.try_read(asked, location, tally)
+    }
+
+    /// Begins a write of the box's value, in whose way no borrow stands. The value goes into the
+    /// guard, which has the store's number.
+    ///
+    /// Refused, in this order: `Dropped` with the box's own creation location, where its cell has
+    /// ended or is of another store; `NumbersExhausted`, where no ticket is left; both are steps.
+    /// `OutOfMemory` comes before both, and only where the history finds no room. Memory is taken
+    /// for the step and for the step of its release.
+    pub fn try_write(
+        &mut self,
+        asked: GenerationalBox<T>,
+        location: Location,
+        tally: &mut Tally<M, L, C, R>,
+    ) -> BorrowMutResult<GenerationalRefMut<T>>
+        requires { is_ready self.old.state (call.Write (pointer_of asked) location) ≡ true }
+        ensures step { Does self.old (Write (pointer_of asked) location) (write_answer result)
+            self.new }
+        ensures guard { IfOk result (λ writer. writer.guard.store ≡ NUMBER) }
+        ensures refusal { MayRefuse NUMBER (Write (pointer_of asked) location)
+            (write_answer result) }
+        ensures recorded { Records self.old tally.old (call.Write (pointer_of asked) location)
+            (Write (pointer_of asked) location) (write_answer result) self.new }
+        ensures tallied { Raises tally.old (write_answer result) tally.new }
+    {
+        recorded_calls_are_lawful::<T>();
+        histories_lead_to_sound_states();
+        steps_have_records::<T>();
+        free_calls_are_refused_so::<T>();
+        if self.log.reserve(2).is_err() {
+            return Err(Refused::Store(StoreError::OutOfMemory));
+        }
+        let pointer = asked.pointer();
+        let written = self.store.try_write(pointer, location);
+        self.log.settle(
+            StepCall::Write(pointer, location),
+            write_reply(&written),
+            tally,
+        );
+        written
+    }
+
+    /// The same as `try_write`, under the name by which the sequential store's write has a
+    /// condition.
+    pub fn write(
+        &mut self,
+        asked: GenerationalBox<T>,
+        location: Location,
+        tally: &mut Tally<M, L, C, R>,
+    ) -> BorrowMutResult<GenerationalRefMut<T>>
+        requires { is_ready self.old.state (call.Write (pointer_of asked) location) ≡ true }
+        ensures step { Does self.old (Write (pointer_of asked) location) (write_answer result)
+            self.new }
+        ensures guard { IfOk result (λ writer. writer.guard.store ≡ NUMBER) }
+        ensures refusal { MayRefuse NUMBER (Write (pointer_of asked) location)
+            (write_answer result) }
+        ensures recorded { Records self.old tally.old (call.Write (pointer_of asked) location)
+            (Write (pointer_of asked) location) (write_answer result) self.new }
+        ensures tallied { Raises tally.old (write_answer result) tally.new }
+    {
+        self.try_write(asked, location, tally)
+    }
+
+    /// Ends a read. The answer is whether the store knew the guard; where it didn't, the guard is
+    /// spent and nothing changes. Never refused, and takes no memory: the step's room was reserved
+    /// when the guard was given.
+    pub fn release_read(&mut self, guard: GenerationalRef<T>, tally: &mut Tally<M, L, C, R>) -> bool
+        ensures step { Meets self.old.state (ReleaseReader guard) (Flag result) self.new.state }
+        ensures known { result ≡ knows_reader self.old.state guard }
+        ensures recorded { Records self.old tally.old (call.ReleaseRead guard.ticket)
+            (ReleaseReader guard) (Flag result) self.new }
+        ensures tallied { Raises {T = T} tally.old (Flag result) tally.new }
+    {
+        recorded_calls_are_lawful::<T>();
+        histories_lead_to_sound_states();
+        steps_have_records::<T>();
+        let call = StepCall::ReleaseRead(guard.ticket());
+        let known = self.store.release_read(guard);
+        self.log.settle_end(call, flag_reply::<T>(known), tally);
+        known
+    }
+
+    /// Ends a write, and puts the guard's value into the cell. Where the store doesn't know the
+    /// guard, the value comes back and nothing changes. Never refused, and takes no memory: the
+    /// step's room was reserved when the guard was given.
+    pub fn release_write(
+        &mut self,
+        guard: GenerationalRefMut<T>,
+        tally: &mut Tally<M, L, C, R>,
+    ) -> Result<(), T>
+        ensures step { Meets self.old.state (ReleaseWriter guard.guard guard.value)
+            (back_answer result) self.new.state }
+        ensures known { is_ok result ≡ knows_writer self.old.state guard.guard }
+        ensures back { IfErr result (λ value. value ≡ guard.value) }
+        ensures recorded { Records self.old tally.old (call.ReleaseWrite guard.guard.ticket)
+            (ReleaseWriter guard.guard guard.value) (back_answer result) self.new }
+        ensures tallied { Raises tally.old (back_answer result) tally.new }
+    {
+        recorded_calls_are_lawful::<T>();
+        histories_lead_to_sound_states();
+        steps_have_records::<T>();
+        let call = StepCall::ReleaseWrite(guard.ticket());
+        let released = self.store.release_write(guard);
+        self.log.settle_end(call, back_reply(&released), tally);
+        released
+    }
+
+    /// Puts another value in the place of the one that the box reaches, at which no borrow stands,
+    /// and lets the old one go. Every box that reaches the value reaches the new one from then on.
+    /// No ticket is used up.
+    ///
+    /// Refused, in this order: `Dropped` with the box's own creation location, where its cell has
+    /// ended or is of another store, a step; `OutOfMemory`, which comes first, and only where the
+    /// history finds no room for the step. The value that was handed in comes back then, and the
+    /// store stays as it was. Nothing else takes memory.
+    pub fn set(
+        &mut self,
+        asked: GenerationalBox<T>,
+        value: T,
+        tally: &mut Tally<M, L, C, R>,
+    ) -> Result<(), (T, Refused<BorrowMutError>)>
+        requires { is_ready self.old.state (call.Set (pointer_of asked)) ≡ true }
+        ensures step { (old : T) × Does self.old (SetValue (pointer_of asked) value)
+            (set_answer old result) self.new }
+        ensures back { IfErr result (λ e. e.0 ≡ value) }
+        ensures refusal { MayRefuse NUMBER (SetValue (pointer_of asked) value)
+            (set_answer value result) }
+        ensures recorded { Records self.old tally.old (call.Set (pointer_of asked))
+            (SetValue (pointer_of asked) value) (set_answer value result) self.new }
+        ensures tallied { Raises tally.old (set_answer value result) tally.new }
+    {
+        recorded_calls_are_lawful::<T>();
+        histories_lead_to_sound_states();
+        steps_have_records::<T>();
+        free_calls_are_refused_so::<T>();
+        if self.log.reserve(2).is_err() {
+            return Err((value, Refused::Store(StoreError::OutOfMemory)));
+        }
+        let pointer = asked.pointer();
+        let set = set_value(&mut self.store, pointer, value);
+        self.log
+            .settle(StepCall::Set(pointer), set_reply(&set), tally);
+        set
+    }
+}
+
+// Begins a read in the store, before it is recorded.
+fn begin_read<T: Drop>(
+    store: &mut UnsyncStorage<T>,
+    asked: GenerationalPointer,
+    location: Location,
+) -> BorrowResult<GenerationalRef<T>>
+    ensures { Meets store.old.state (Read asked location) (read_answer result) store.new.state }
+{
+    store.try_read(asked, location)
+}
+
+// Sets the value that the box reaches, where no borrow stands at it.
+fn set_value<T: Drop>(
+    store: &mut UnsyncStorage<T>,
+    asked: GenerationalPointer,
+    value: T,
+) -> Result<(), (T, Refused<BorrowMutError>)>
+    requires { is_ready store.old.state (call.Set asked) ≡ true }
+    ensures step { (old : T) × Meets store.old.state (SetValue asked value) (set_answer old result)
+        store.new.state }
+    ensures back { IfErr result (λ e. e.0 ≡ value) }
+{
+    if store.can_write(asked) {
+        store.replace_value(asked, value);
+        return Ok(());
+    }
+    let error = ValueDroppedError::new(asked.created_at);
+    Err((value, Refused::Borrow(BorrowMutError::Dropped(error))))
+}

@@ -1,0 +1,144 @@
+//! Calls that end boxes and owners, and that let a reference lead elsewhere.
+
+ghost use Rattle.std.specs.Prelude.{◌≡◌, true, IfErr};
+ghost use Rattle.generational_core.specs.declared.error.Refused.TheVariants as refused;
+ghost use Rattle.generational_core.specs.declared.error.StoreError.TheVariants.{OutOfMemory};
+ghost use Rattle.generational_core.specs.declared.steps.StepCall.TheVariants as call;
+ghost use Rattle.generational_core.specs.Answers.{end_answer, pointer_of, release_answer};
+ghost use Rattle.generational_core.specs.Machine.Action.{End, Point, ReleaseOwner};
+ghost use Rattle.generational_core.specs.StepCalls.{id_of_owner, is_ready};
+ghost use Rattle.generational_sync.specs.Refusals.{MayRefuse};
+ghost use Rattle.generational_sync.specs.Shared.{Does, Raises, Records};
+
+use super::SyncState;
+use crate::laws::{
+    free_calls_are_refused_so, histories_lead_to_sound_states, recorded_calls_are_lawful,
+    steps_have_records,
+};
+use crate::replies::{end_reply, release_reply};
+use crate::tally::{Count, Tally};
+use generational_box::{
+    AnyStorage, BorrowMutError, BorrowMutResult, GenerationalBox, Owner, Refused, StepCall,
+    Storage, StoreError,
+};
+
+impl<T: Drop, const NUMBER: u64, M: Count, L: Count, C: Count, R: Count> SyncState<
+    T,
+    NUMBER,
+    M,
+    L,
+    C,
+    R,
+> {
+    /// Ends the box's cell, in whose way no borrow stands, and the value with it. A box whose cell
+    /// has ended or is of another store is Ok, a step that changes nothing.
+    ///
+    /// Refused by `OutOfMemory`, only where the history finds no room for the step: nothing
+    /// changes. Nothing else takes memory.
+    pub fn manually_drop(
+        &mut self,
+        asked: GenerationalBox<T>,
+        tally: &mut Tally<M, L, C, R>,
+    ) -> BorrowMutResult<()>
+        requires { is_ready self.old.state (call.ManuallyDrop (pointer_of asked)) ≡ true }
+        ensures step { Does self.old (End (pointer_of asked)) (end_answer result) self.new }
+        ensures refusal { IfErr result (λ e. e ≡ refused.Store OutOfMemory) }
+        ensures recorded { Records self.old tally.old (call.ManuallyDrop (pointer_of asked))
+            (End (pointer_of asked)) (end_answer result) self.new }
+        ensures tallied { Raises {T = T} tally.old (end_answer result) tally.new }
+    {
+        recorded_calls_are_lawful::<T>();
+        histories_lead_to_sound_states();
+        steps_have_records::<T>();
+        free_calls_are_refused_so::<T>();
+        if self.log.reserve(2).is_err() {
+            return Err(Refused::Store(StoreError::OutOfMemory));
+        }
+        let pointer = asked.pointer();
+        let ended = self.store.recycle(pointer);
+        self.log.settle(
+            StepCall::ManuallyDrop(pointer),
+            end_reply::<T>(&ended),
+            tally,
+        );
+        ended
+    }
+
+    /// Lets a reference lead to the shared value that another box reaches. No writer stands at that
+    /// value, and no borrow at the value that it led to before if that one would end. The value that
+    /// it led to before ends if no live reference to it is left. The reference keeps its id and its
+    /// location. Two boxes of one id are Ok, even of a cell that has ended, and so is a reference
+    /// that leads to that value already: a step that changes nothing.
+    ///
+    /// Refused by `Dropped`, a step: with the other box's location, where that reaches no value;
+    /// with this box's own, where its cell has ended or is of another store; with that of the value
+    /// which the other reaches, where this box is no reference or that value isn't shared. Refused
+    /// by `OutOfMemory` where the history finds no room for the step. A refused call changes
+    /// nothing, and nothing else takes memory.
+    pub fn point_to(
+        &mut self,
+        asked: GenerationalBox<T>,
+        other: GenerationalBox<T>,
+        tally: &mut Tally<M, L, C, R>,
+    ) -> BorrowMutResult<()>
+        requires { is_ready self.old.state (call.PointTo (pointer_of asked) (pointer_of other))
+            ≡ true }
+        ensures step { Does self.old (Point (pointer_of asked) (pointer_of other))
+            (end_answer result) self.new }
+        ensures refusal { MayRefuse {T = T} NUMBER (Point (pointer_of asked) (pointer_of other))
+            (end_answer result) }
+        ensures recorded { Records self.old tally.old
+            (call.PointTo (pointer_of asked) (pointer_of other))
+            (Point (pointer_of asked) (pointer_of other)) (end_answer result) self.new }
+        ensures tallied { Raises {T = T} tally.old (end_answer result) tally.new }
+    {
+        recorded_calls_are_lawful::<T>();
+        histories_lead_to_sound_states();
+        steps_have_records::<T>();
+        free_calls_are_refused_so::<T>();
+        if self.log.reserve(2).is_err() {
+            return Err(Refused::Store(StoreError::OutOfMemory));
+        }
+        let pointer = asked.pointer();
+        let target = other.pointer();
+        let pointed = self.store.change_reference(pointer, target);
+        self.log.settle(
+            StepCall::PointTo(pointer, target),
+            end_reply::<T>(&pointed),
+            tally,
+        );
+        pointed
+    }
+
+    /// Spends an owner value, in whose way no borrow stands. With the last one of its record all
+    /// live boxes of the list end, and with them each shared value of which no reference is left.
+    ///
+    /// Refused, in this order: `UnknownOwner`, where the store has no record of the owner, a step;
+    /// `OutOfMemory`, which comes first, and only where the history finds no room for the step. The
+    /// owner comes back then, and the store stays as it was. Nothing else takes memory.
+    pub fn release_owner(
+        &mut self,
+        owner: Owner,
+        tally: &mut Tally<M, L, C, R>,
+    ) -> Result<(), (Owner, Refused<BorrowMutError>)>
+        requires { is_ready self.old.state (call.ReleaseOwner (id_of_owner owner)) ≡ true }
+        ensures step { Does self.old (ReleaseOwner owner) (release_answer result) self.new }
+        ensures back { IfErr result (λ e. e.0 ≡ owner) }
+        ensures refusal { MayRefuse {T = T} NUMBER (ReleaseOwner owner) (release_answer result) }
+        ensures recorded { Records self.old tally.old (call.ReleaseOwner (id_of_owner owner))
+            (ReleaseOwner owner) (release_answer result) self.new }
+        ensures tallied { Raises {T = T} tally.old (release_answer result) tally.new }
+    {
+        recorded_calls_are_lawful::<T>();
+        histories_lead_to_sound_states();
+        steps_have_records::<T>();
+        free_calls_are_refused_so::<T>();
+        if self.log.reserve(2).is_err() {
+            return Err((owner, Refused::Store(StoreError::OutOfMemory)));
+        }
+        let call = StepCall::ReleaseOwner(owner.id());
+        let released = self.store.release_owner(owner);
+        self.log.settle(call, release_reply::<T>(&released), tally);
+        released
+    }
+}

@@ -1,0 +1,383 @@
+//! Calls that make boxes and owners.
+
+ghost use Rattle.std.specs.Prelude.{◌≡◌, true, None, Some, IfOk, IfErr, option_copied, is_some};
+ghost use Rattle.generational_core.specs.declared.error.StoreError.TheVariants.{OutOfMemory};
+ghost use Rattle.generational_core.specs.declared.steps.StepCall.TheVariants as call;
+ghost use Rattle.generational_core.specs.Answers.{box_answer, make_answer, owner_answer, pointer_of};
+ghost use Rattle.generational_core.specs.Answers.{reference_answer, reference_box_answer};
+ghost use Rattle.generational_core.specs.Machine.Action.{CloneOwner, Make, MakeShared, NewOwner};
+ghost use Rattle.generational_core.specs.Machine.Action.{Refer};
+ghost use Rattle.generational_core.specs.StepCalls.{id_of_owner, is_ready, recorded_as, target_of};
+ghost use Rattle.generational_core.specs.Steps.{Meets};
+ghost use Rattle.generational_sync.specs.Refusals.{MayRefuse};
+ghost use Rattle.generational_sync.specs.Shared.{Does, IsBoxOf, Raises, Records};
+
+use super::SyncState;
+use crate::laws::{
+    free_calls_are_refused_so, histories_lead_to_sound_states, recorded_calls_are_lawful,
+    steps_have_records,
+};
+use crate::replies::{make_reply, owner_reply, reference_reply, shared_reply};
+use crate::tally::{Count, Tally};
+use generational_box::laws::boxes_and_guards_are_new;
+use generational_box::{
+    AnyStorage, BorrowResult, GenerationalBox, GenerationalBoxId, GenerationalPointer, Location,
+    Owner, Refusal, Refused, StepCall, Storage, StoreError, UnsyncStorage,
+};
+use generational_core::parts::box_at;
+
+impl<T: Drop, const NUMBER: u64, M: Count, L: Count, C: Count, R: Count> SyncState<
+    T,
+    NUMBER,
+    M,
+    L,
+    C,
+    R,
+> {
+    /// Makes a box of a value, which lives until it is ended by hand. The box has the store's
+    /// number and the location, and its id was never given before.
+    ///
+    /// Refused by `OutOfMemory`: the value comes back, and nothing changes. Memory is taken for a
+    /// slot, if none is free, and for the step.
+    pub fn leak(
+        &mut self,
+        value: T,
+        location: Location,
+        tally: &mut Tally<M, L, C, R>,
+    ) -> Result<GenerationalBox<T>, Refusal<T>>
+        ensures step { Does self.old (Make None value location) (box_answer result) self.new }
+        ensures refusal { IfErr result (λ r. (r.value ≡ value) × (r.cause ≡ OutOfMemory)) }
+        ensures made { IfOk result (λ b. IsBoxOf NUMBER location (pointer_of b)) }
+        ensures recorded { Records self.old tally.old (call.Leak location)
+            (Make None value location) (box_answer result) self.new }
+        ensures tallied { Raises tally.old (box_answer result) tally.new }
+    {
+        self.make(None, StepCall::Leak(location), value, location, tally)
+    }
+
+    /// Makes a box of a value, which ends when the last owner value of this record is released. The
+    /// box has the store's number and the location, its id was never given before, and it stands at
+    /// the end of the record's list.
+    ///
+    /// Refused, in this order: `UnknownOwner`, where the store has no record of the owner, a step;
+    /// `OutOfMemory`, which comes first where the history finds no room. The value comes back then,
+    /// and the store stays as it was. Memory is taken for a slot, if none is free, for room on the
+    /// list, and for the step.
+    pub fn insert(
+        &mut self,
+        owner: &Owner,
+        value: T,
+        location: Location,
+        tally: &mut Tally<M, L, C, R>,
+    ) -> Result<GenerationalBox<T>, Refusal<T>>
+        ensures step { Does self.old (Make (Some owner.now) value location) (box_answer result)
+            self.new }
+        ensures back { IfErr result (λ r. r.value ≡ value) }
+        ensures refusal { MayRefuse NUMBER (Make (Some owner.now) value location)
+            (box_answer result) }
+        ensures made { IfOk result (λ b. IsBoxOf NUMBER location (pointer_of b)) }
+        ensures recorded { Records self.old tally.old (call.Insert (id_of_owner owner.now) location)
+            (Make (Some owner.now) value location) (box_answer result) self.new }
+        ensures tallied { Raises tally.old (box_answer result) tally.new }
+    {
+        let call = StepCall::Insert(owner.id(), location);
+        self.make(Some(owner), call, value, location, tally)
+    }
+
+    // Makes a box of a value, on the owner's list if there is one, by the call that is recorded so.
+    fn make(
+        &mut self,
+        owner: Option<&Owner>,
+        call: StepCall,
+        value: T,
+        location: Location,
+        tally: &mut Tally<M, L, C, R>,
+    ) -> Result<GenerationalBox<T>, Refusal<T>>
+        requires { recorded_as (Make (option_copied owner) value location) ≡ Some call }
+        ensures step { Does self.old (Make (option_copied owner.entry) value location)
+            (box_answer result) self.new }
+        ensures back { IfErr result (λ r. r.value ≡ value) }
+        ensures refusal { MayRefuse NUMBER (Make (option_copied owner.entry) value location)
+            (box_answer result) }
+        ensures made { IfOk result (λ b. IsBoxOf NUMBER location (pointer_of b)) }
+        ensures recorded { Records self.old tally.old call
+            (Make (option_copied owner.entry) value location) (box_answer result) self.new }
+        ensures tallied { Raises tally.old (box_answer result) tally.new }
+    {
+        recorded_calls_are_lawful::<T>();
+        histories_lead_to_sound_states();
+        steps_have_records::<T>();
+        free_calls_are_refused_so::<T>();
+        boxes_and_guards_are_new::<T>();
+        if self.log.reserve(2).is_err() {
+            let cause = StoreError::OutOfMemory;
+            return Err(Refusal { value, cause });
+        }
+        let made = self.store.new(value, location, owner);
+        self.log.settle(call, make_reply(&made), tally);
+        match made {
+            Ok(pointer) => Ok(box_at(pointer)),
+            Err(refusal) => Err(refusal),
+        }
+    }
+
+    /// Makes a shared value, and a first reference to it, whose box is given and lives until it is
+    /// ended by hand. The box has the store's number and the location, and its id and that of the
+    /// value's cell were never given before. The value lives exactly as long as there is a live
+    /// reference to it.
+    ///
+    /// Refused by `OutOfMemory`: the value comes back, and nothing changes. Memory is taken for two
+    /// slots, if fewer are free, and for the step.
+    pub fn leak_rc(
+        &mut self,
+        value: T,
+        location: Location,
+        tally: &mut Tally<M, L, C, R>,
+    ) -> Result<GenerationalBox<T>, Refusal<T>>
+        ensures step { Does self.old (MakeShared None value location) (box_answer result) self.new }
+        ensures refusal { IfErr result (λ r. (r.value ≡ value) × (r.cause ≡ OutOfMemory)) }
+        ensures made { IfOk result (λ b. IsBoxOf NUMBER location (pointer_of b)) }
+        ensures recorded { Records self.old tally.old (call.LeakRc location)
+            (MakeShared None value location) (box_answer result) self.new }
+        ensures tallied { Raises tally.old (box_answer result) tally.new }
+    {
+        self.make_shared(None, StepCall::LeakRc(location), value, location, tally)
+    }
+
+    /// Makes a shared value, and a first reference to it, whose box is given. The reference ends
+    /// when the last owner value of this record is released, and stands at the end of the record's
+    /// list. The box has the store's number and the location, and its id and that of the value's
+    /// cell were never given before. The value lives exactly as long as there is a live reference
+    /// to it.
+    ///
+    /// Refused, in this order: `UnknownOwner`, where the store has no record of the owner, a step;
+    /// `OutOfMemory`, which comes first where the history finds no room. The value comes back then,
+    /// and the store stays as it was. Memory is taken for two slots, if fewer are free, for room on
+    /// the list, and for the step.
+    pub fn insert_rc(
+        &mut self,
+        owner: &Owner,
+        value: T,
+        location: Location,
+        tally: &mut Tally<M, L, C, R>,
+    ) -> Result<GenerationalBox<T>, Refusal<T>>
+        ensures step { Does self.old (MakeShared (Some owner.now) value location)
+            (box_answer result) self.new }
+        ensures back { IfErr result (λ r. r.value ≡ value) }
+        ensures refusal { MayRefuse NUMBER (MakeShared (Some owner.now) value location)
+            (box_answer result) }
+        ensures made { IfOk result (λ b. IsBoxOf NUMBER location (pointer_of b)) }
+        ensures recorded { Records self.old tally.old
+            (call.InsertRc (id_of_owner owner.now) location)
+            (MakeShared (Some owner.now) value location) (box_answer result) self.new }
+        ensures tallied { Raises tally.old (box_answer result) tally.new }
+    {
+        let call = StepCall::InsertRc(owner.id(), location);
+        self.make_shared(Some(owner), call, value, location, tally)
+    }
+
+    // Makes a shared value and a first reference to it, on the owner's list if there is one, by the
+    // call that is recorded so.
+    fn make_shared(
+        &mut self,
+        owner: Option<&Owner>,
+        call: StepCall,
+        value: T,
+        location: Location,
+        tally: &mut Tally<M, L, C, R>,
+    ) -> Result<GenerationalBox<T>, Refusal<T>>
+        requires { recorded_as (MakeShared (option_copied owner) value location) ≡ Some call }
+        ensures step { Does self.old (MakeShared (option_copied owner.entry) value location)
+            (box_answer result) self.new }
+        ensures back { IfErr result (λ r. r.value ≡ value) }
+        ensures refusal { MayRefuse NUMBER (MakeShared (option_copied owner.entry) value location)
+            (box_answer result) }
+        ensures made { IfOk result (λ b. IsBoxOf NUMBER location (pointer_of b)) }
+        ensures recorded { Records self.old tally.old call
+            (MakeShared (option_copied owner.entry) value location) (box_answer result) self.new }
+        ensures tallied { Raises tally.old (box_answer result) tally.new }
+    {
+        recorded_calls_are_lawful::<T>();
+        histories_lead_to_sound_states();
+        steps_have_records::<T>();
+        free_calls_are_refused_so::<T>();
+        boxes_and_guards_are_new::<T>();
+        if self.log.reserve(2).is_err() {
+            let cause = StoreError::OutOfMemory;
+            return Err(Refusal { value, cause });
+        }
+        let made = self.store.new_rc(value, location, owner);
+        let shared = shared_cell(&self.store, &made);
+        self.log.settle(call, shared_reply(&made, shared), tally);
+        match made {
+            Ok(pointer) => Ok(box_at(pointer)),
+            Err(refusal) => Err(refusal),
+        }
+    }
+
+    /// Makes one reference more to the shared value that a box reaches, at which no writer stands.
+    /// It lives until it is ended by hand. The box has the store's number and the value's location,
+    /// and its id was never given before.
+    ///
+    /// Refused, in this order: `Dropped` with the box's own creation location, where its cell has
+    /// ended or is of another store, or where its value isn't shared, a step; `OutOfMemory`, which
+    /// comes first where the history finds no room. A refused call leaves the store as it was.
+    /// Memory is taken for a slot, if none is free, and for the step.
+    pub fn leak_reference(
+        &mut self,
+        asked: GenerationalBox<T>,
+        tally: &mut Tally<M, L, C, R>,
+    ) -> BorrowResult<GenerationalBox<T>>
+        requires { is_ready self.old.state (call.LeakReference (pointer_of asked)) ≡ true }
+        ensures step { Does self.old (Refer None (pointer_of asked)) (reference_box_answer result)
+            self.new }
+        ensures refusal { MayRefuse {T = T} NUMBER (Refer None (pointer_of asked))
+            (reference_box_answer result) }
+        ensures made { IfOk result (λ b. (pointer_of b).id.store ≡ NUMBER) }
+        ensures recorded { Records self.old tally.old (call.LeakReference (pointer_of asked))
+            (Refer None (pointer_of asked)) (reference_box_answer result) self.new }
+        ensures tallied { Raises {T = T} tally.old (reference_box_answer result) tally.new }
+    {
+        let asked = asked.pointer();
+        self.refer(None, StepCall::LeakReference(asked), asked, tally)
+    }
+
+    /// Makes one reference more to the shared value that a box reaches, at which no writer stands.
+    /// It ends when the last owner value of this record is released, and stands at the end of the
+    /// record's list. The box has the store's number and the value's location, and its id was never
+    /// given before.
+    ///
+    /// Refused, in this order: `UnknownOwner`, where the store has no record of the owner;
+    /// `Dropped` with the box's own creation location, where its cell has ended or is of another
+    /// store, or where its value isn't shared; both are steps. `OutOfMemory` comes before both where
+    /// the history finds no room, and else after them. A refused call leaves the store as it was.
+    /// Memory is taken for a slot, if none is free, for room on the list, and for the step.
+    pub fn insert_reference(
+        &mut self,
+        owner: &Owner,
+        asked: GenerationalBox<T>,
+        tally: &mut Tally<M, L, C, R>,
+    ) -> BorrowResult<GenerationalBox<T>>
+        requires { is_ready self.old.state
+            (call.InsertReference (id_of_owner owner.now) (pointer_of asked)) ≡ true }
+        ensures step { Does self.old (Refer (Some owner.now) (pointer_of asked))
+            (reference_box_answer result) self.new }
+        ensures refusal { MayRefuse {T = T} NUMBER (Refer (Some owner.now) (pointer_of asked))
+            (reference_box_answer result) }
+        ensures made { IfOk result (λ b. (pointer_of b).id.store ≡ NUMBER) }
+        ensures recorded { Records self.old tally.old
+            (call.InsertReference (id_of_owner owner.now) (pointer_of asked))
+            (Refer (Some owner.now) (pointer_of asked)) (reference_box_answer result) self.new }
+        ensures tallied { Raises {T = T} tally.old (reference_box_answer result) tally.new }
+    {
+        let asked = asked.pointer();
+        let call = StepCall::InsertReference(owner.id(), asked);
+        self.refer(Some(owner), call, asked, tally)
+    }
+
+    // Makes a reference to what the box reaches, on the owner's list if there is one, by the call
+    // that is recorded so.
+    fn refer(
+        &mut self,
+        owner: Option<&Owner>,
+        call: StepCall,
+        asked: GenerationalPointer,
+        tally: &mut Tally<M, L, C, R>,
+    ) -> BorrowResult<GenerationalBox<T>>
+        requires call { recorded_as {T = T} (Refer (option_copied owner) asked) ≡ Some call }
+        requires ready { is_ready self.old.state call ≡ true }
+        ensures step { Does self.old (Refer (option_copied owner.entry) asked)
+            (reference_box_answer result) self.new }
+        ensures refusal { MayRefuse {T = T} NUMBER (Refer (option_copied owner.entry) asked)
+            (reference_box_answer result) }
+        ensures made { IfOk result (λ b. (pointer_of b).id.store ≡ NUMBER) }
+        ensures recorded { Records self.old tally.old call
+            (Refer (option_copied owner.entry) asked) (reference_box_answer result) self.new }
+        ensures tallied { Raises {T = T} tally.old (reference_box_answer result) tally.new }
+    {
+        recorded_calls_are_lawful::<T>();
+        histories_lead_to_sound_states();
+        steps_have_records::<T>();
+        free_calls_are_refused_so::<T>();
+        boxes_and_guards_are_new::<T>();
+        if self.log.reserve(2).is_err() {
+            return Err(Refused::Store(StoreError::OutOfMemory));
+        }
+        let made = self.store.new_reference(asked, owner);
+        self.log.settle(call, reference_reply::<T>(&made), tally);
+        match made {
+            Ok(pointer) => Ok(box_at(pointer)),
+            Err(refused) => Err(refused),
+        }
+    }
+
+    /// An owner without boxes, of a record of its own. It has the store's number.
+    ///
+    /// Refused, in this order: `NumbersExhausted`, where no ticket is left, a step; `OutOfMemory`,
+    /// which comes first where the history finds no room. A refused call leaves the store as it was.
+    /// Memory is taken for the record and for the step.
+    pub fn owner(&mut self, tally: &mut Tally<M, L, C, R>) -> Result<Owner, StoreError>
+        ensures step { Does self.old NewOwner (owner_answer result) self.new }
+        ensures refusal { MayRefuse {T = T} NUMBER NewOwner (owner_answer result) }
+        ensures owner { IfOk result (λ owner. owner.store ≡ NUMBER) }
+        ensures recorded { Records self.old tally.old call.Owner NewOwner (owner_answer result)
+            self.new }
+        ensures tallied { Raises {T = T} tally.old (owner_answer result) tally.new }
+    {
+        recorded_calls_are_lawful::<T>();
+        histories_lead_to_sound_states();
+        steps_have_records::<T>();
+        free_calls_are_refused_so::<T>();
+        if self.log.reserve(2).is_err() {
+            return Err(StoreError::OutOfMemory);
+        }
+        let owner = self.store.owner();
+        self.log
+            .settle(StepCall::Owner, owner_reply::<T>(&owner), tally);
+        owner
+    }
+
+    /// Another owner value of the same record.
+    ///
+    /// Refused, in this order: `UnknownOwner`, where the store has no record of the owner;
+    /// `NumbersExhausted`, where no ticket is left; both are steps. `OutOfMemory` comes before both,
+    /// and only where the history finds no room for the step. A refused call leaves the store as it
+    /// was. Nothing else takes memory.
+    pub fn clone_owner(
+        &mut self,
+        owner: &Owner,
+        tally: &mut Tally<M, L, C, R>,
+    ) -> Result<Owner, StoreError>
+        ensures step { Does self.old (CloneOwner owner.now) (owner_answer result) self.new }
+        ensures refusal { MayRefuse {T = T} NUMBER (CloneOwner owner.now) (owner_answer result) }
+        ensures owner { IfOk result (λ clone. clone ≡ owner.now) }
+        ensures recorded { Records self.old tally.old (call.CloneOwner (id_of_owner owner.now))
+            (CloneOwner owner.now) (owner_answer result) self.new }
+        ensures tallied { Raises {T = T} tally.old (owner_answer result) tally.new }
+    {
+        recorded_calls_are_lawful::<T>();
+        histories_lead_to_sound_states();
+        steps_have_records::<T>();
+        free_calls_are_refused_so::<T>();
+        if self.log.reserve(2).is_err() {
+            return Err(StoreError::OutOfMemory);
+        }
+        let call = StepCall::CloneOwner(owner.id());
+        let clone = self.store.clone_owner(owner);
+        self.log.settle(call, owner_reply::<T>(&clone), tally);
+        clone
+    }
+}
+
+// The cell that the box of a new shared value names.
+fn shared_cell<T: Drop>(
+    store: &UnsyncStorage<T>,
+    made: &Result<GenerationalPointer, Refusal<T>>,
+) -> Option<GenerationalBoxId>
+    ensures { IfOk made.now (λ b. result ≡ target_of store.now.state b) }
+{
+    match made {
+        Ok(pointer) => store.target(*pointer),
+        Err(_) => None,
+    }
+}

@@ -1,0 +1,168 @@
+//! Calls that begin and end borrows, and that set a value.
+
+ghost use Rattle.std.specs.Prelude.{◌≡◌, IfOk, IfErr};
+ghost use Rattle.generational_core.specs.Answers.{back_answer, pointer_of, read_answer};
+ghost use Rattle.generational_core.specs.Answers.{write_answer};
+ghost use Rattle.generational_core.specs.Machine.Action.{Read, SetValue, Write};
+ghost use Rattle.generational_core.specs.Machine.Answer.{Flag};
+ghost use Rattle.generational_sync.specs.Refusals.{MayRefuse};
+ghost use Rattle.generational_sync.specs.Shared.{Raises, set_answer};
+
+use super::SyncStorage;
+use crate::tally::{Count, Tally};
+use generational_box::{
+    BorrowMutError, BorrowMutResult, BorrowResult, GenerationalBox, GenerationalRef,
+    GenerationalRefMut, Location, Refused, StepCall,
+};
+use std::sync::Wait;
+
+impl<T: Drop + Send, const NUMBER: u64, M: Count, L: Count, C: Count, R: Count> SyncStorage<
+    T,
+    NUMBER,
+    M,
+    L,
+    C,
+    R,
+> {
+    /// Begins a read of the box's value, once no writer stands in its way. The guard has the
+    /// store's number, and must be released.
+    ///
+    /// Refused, in this order: `Dropped` with the box's own creation location, where its cell has
+    /// ended or is of another store; `NumbersExhausted`, where no ticket is left; both are steps.
+    /// `OutOfMemory` comes before both where the history finds no room, and after them for a
+    /// reader beside another. Memory is taken for that reader, for the step and for the step of
+    /// its release.
+    pub fn try_read(
+        &self,
+        rt: &impl Wait,
+        asked: GenerationalBox<T>,
+        location: Location,
+        tally: &mut Tally<M, L, C, R>,
+    ) -> BorrowResult<GenerationalRef<T>>
+        ensures guard { IfOk result (λ guard. guard.store ≡ NUMBER) }
+        ensures refusal { MayRefuse {T = T} NUMBER (Read (pointer_of asked) location)
+            (read_answer result) }
+        ensures tallied { Raises {T = T} tally.old (read_answer result) tally.new }
+    {
+        let call = StepCall::Read(asked.pointer(), location);
+        let mut held = self.lock_when(rt, call);
+        held.state.try_read(asked, location, tally)
+    }
+
+    /// The same as `try_read`, under the name by which the sequential store's read has a condition.
+    pub fn read(
+        &self,
+        rt: &impl Wait,
+        asked: GenerationalBox<T>,
+        location: Location,
+        tally: &mut Tally<M, L, C, R>,
+    ) -> BorrowResult<GenerationalRef<T>>
+        ensures guard { IfOk result (λ guard. guard.store ≡ NUMBER) }
+        ensures refusal { MayRefuse {T = T} NUMBER (Read (pointer_of asked) location)
+            (read_answer result) }
+        ensures tallied { Raises {T = T} tally.old (read_answer result) tally.new }
+    {
+        self.try_read(rt, asked, location, tally)
+    }
+
+    /// Begins a write of the box's value, once no borrow stands in its way. The value goes into the
+    /// guard, which has the store's number and must be released. Its views need no lock.
+    ///
+    /// Refused, in this order: `Dropped` with the box's own creation location, where its cell has
+    /// ended or is of another store; `NumbersExhausted`, where no ticket is left; both are steps.
+    /// `OutOfMemory` comes before both, and only where the history finds no room. Memory is taken
+    /// for the step and for the step of its release.
+    pub fn try_write(
+        &self,
+        rt: &impl Wait,
+        asked: GenerationalBox<T>,
+        location: Location,
+        tally: &mut Tally<M, L, C, R>,
+    ) -> BorrowMutResult<GenerationalRefMut<T>>
+        ensures guard { IfOk result (λ writer. writer.guard.store ≡ NUMBER) }
+        ensures refusal { MayRefuse NUMBER (Write (pointer_of asked) location)
+            (write_answer result) }
+        ensures tallied { Raises tally.old (write_answer result) tally.new }
+    {
+        let call = StepCall::Write(asked.pointer(), location);
+        let mut held = self.lock_when(rt, call);
+        held.state.try_write(asked, location, tally)
+    }
+
+    /// The same as `try_write`, under the name by which the sequential store's write has a
+    /// condition.
+    pub fn write(
+        &self,
+        rt: &impl Wait,
+        asked: GenerationalBox<T>,
+        location: Location,
+        tally: &mut Tally<M, L, C, R>,
+    ) -> BorrowMutResult<GenerationalRefMut<T>>
+        ensures guard { IfOk result (λ writer. writer.guard.store ≡ NUMBER) }
+        ensures refusal { MayRefuse NUMBER (Write (pointer_of asked) location)
+            (write_answer result) }
+        ensures tallied { Raises tally.old (write_answer result) tally.new }
+    {
+        self.try_write(rt, asked, location, tally)
+    }
+
+    /// Ends a read, and wakes the calls that wait. The answer is whether the store knew the
+    /// guard; where it didn't, the guard is spent and nothing changes. Never refused, and takes no
+    /// memory. Waits for no borrow.
+    pub fn release_read(
+        &self,
+        rt: &impl Wait,
+        guard: GenerationalRef<T>,
+        tally: &mut Tally<M, L, C, R>,
+    ) -> bool
+        ensures tallied { Raises {T = T} tally.old (Flag result) tally.new }
+    {
+        let mut held = self.shared.held.lock(rt);
+        let known = held.state.release_read(guard, tally);
+        self.unlock(held, known);
+        known
+    }
+
+    /// Ends a write, puts the guard's value into the cell, and wakes the calls that wait. Where the
+    /// store doesn't know the guard, the value comes back and nothing changes. Never refused, and
+    /// takes no memory. Waits for no borrow.
+    pub fn release_write(
+        &self,
+        rt: &impl Wait,
+        guard: GenerationalRefMut<T>,
+        tally: &mut Tally<M, L, C, R>,
+    ) -> Result<(), T>
+        ensures back { IfErr result (λ value. value ≡ guard.value) }
+        ensures tallied { Raises tally.old (back_answer result) tally.new }
+    {
+        let mut held = self.shared.held.lock(rt);
+        let released = held.state.release_write(guard, tally);
+        self.unlock(held, released.is_ok());
+        released
+    }
+
+    /// Puts another value in the place of the one that the box reaches, once no borrow stands at
+    /// it, and lets the old one go. Every box that reaches the value reaches the new one from then
+    /// on. No ticket is used up.
+    ///
+    /// Refused, in this order: `Dropped` with the box's own creation location, where its cell has
+    /// ended or is of another store, a step; `OutOfMemory`, which comes first, and only where the
+    /// history finds no room for the step. The value that was handed in comes back then, and the
+    /// store stays as it was. Nothing else takes memory.
+    pub fn set(
+        &self,
+        rt: &impl Wait,
+        asked: GenerationalBox<T>,
+        value: T,
+        tally: &mut Tally<M, L, C, R>,
+    ) -> Result<(), (T, Refused<BorrowMutError>)>
+        ensures back { IfErr result (λ e. e.0 ≡ value) }
+        ensures refusal { MayRefuse NUMBER (SetValue (pointer_of asked) value)
+            (set_answer value result) }
+        ensures tallied { Raises tally.old (set_answer value result) tally.new }
+    {
+        let call = StepCall::Set(asked.pointer());
+        let mut held = self.lock_when(rt, call);
+        held.state.set(asked, value, tally)
+    }
+}

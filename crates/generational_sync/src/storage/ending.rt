@@ -1,0 +1,100 @@
+//! Calls that end boxes and owners, and that let a reference lead elsewhere.
+
+ghost use Rattle.std.specs.Prelude.{◌≡◌, IfErr};
+ghost use Rattle.generational_core.specs.declared.error.Refused.TheVariants as refused;
+ghost use Rattle.generational_core.specs.declared.error.StoreError.TheVariants.{OutOfMemory};
+ghost use Rattle.generational_core.specs.Answers.{end_answer, pointer_of, release_answer};
+ghost use Rattle.generational_core.specs.Machine.Action.{Point, ReleaseOwner};
+ghost use Rattle.generational_sync.specs.Refusals.{MayRefuse};
+ghost use Rattle.generational_sync.specs.Shared.{Raises};
+
+use super::SyncStorage;
+use crate::tally::{Count, Tally};
+use generational_box::{
+    BorrowMutError, BorrowMutResult, GenerationalBox, Owner, Refused, StepCall,
+};
+use std::sync::Wait;
+
+impl<T: Drop + Send, const NUMBER: u64, M: Count, L: Count, C: Count, R: Count> SyncStorage<
+    T,
+    NUMBER,
+    M,
+    L,
+    C,
+    R,
+> {
+    /// Ends the box's cell, and the value with it, once no borrow stands in its way. A box whose
+    /// cell has ended or is of another store is Ok, a step that changes nothing. Wakes the calls that
+    /// wait.
+    ///
+    /// Refused by `OutOfMemory`, only where the history finds no room for the step: nothing
+    /// changes. Nothing else takes memory.
+    pub fn manually_drop(
+        &self,
+        rt: &impl Wait,
+        asked: GenerationalBox<T>,
+        tally: &mut Tally<M, L, C, R>,
+    ) -> BorrowMutResult<()>
+        ensures refusal { IfErr result (λ e. e ≡ refused.Store OutOfMemory) }
+        ensures tallied { Raises {T = T} tally.old (end_answer result) tally.new }
+    {
+        let call = StepCall::ManuallyDrop(asked.pointer());
+        let mut held = self.lock_when(rt, call);
+        let ended = held.state.manually_drop(asked, tally);
+        self.unlock(held, ended.is_ok());
+        ended
+    }
+
+    /// Lets a reference lead to the shared value that another box reaches, once no writer stands at
+    /// that value, and no borrow at the value that it led to before if that one would end. The value
+    /// that it led to before ends if no live reference to it is left. The reference keeps its id and
+    /// its location. Two boxes of one id are Ok, even of a cell that has ended, and so is a reference
+    /// that leads to that value already: a step that changes nothing. Wakes the calls that wait.
+    ///
+    /// Refused by `Dropped`, a step: with the other box's location, where that reaches no value;
+    /// with this box's own, where its cell has ended or is of another store; with that of the value
+    /// which the other reaches, where this box is no reference or that value isn't shared. Refused
+    /// by `OutOfMemory` where the history finds no room for the step. A refused call changes
+    /// nothing, and nothing else takes memory.
+    pub fn point_to(
+        &self,
+        rt: &impl Wait,
+        asked: GenerationalBox<T>,
+        other: GenerationalBox<T>,
+        tally: &mut Tally<M, L, C, R>,
+    ) -> BorrowMutResult<()>
+        ensures refusal { MayRefuse {T = T} NUMBER (Point (pointer_of asked) (pointer_of other))
+            (end_answer result) }
+        ensures tallied { Raises {T = T} tally.old (end_answer result) tally.new }
+    {
+        let call = StepCall::PointTo(asked.pointer(), other.pointer());
+        let mut held = self.lock_when(rt, call);
+        let pointed = held.state.point_to(asked, other, tally);
+        self.unlock(held, pointed.is_ok());
+        pointed
+    }
+
+    /// Spends an owner value, once no borrow stands in its way. With the last one of its record all
+    /// live boxes of the list end, and with them each shared value of which no reference is left.
+    /// Wakes the calls that wait.
+    ///
+    /// Refused, in this order: `UnknownOwner`, where the store has no record of the owner, which is
+    /// asked before any waiting, a step; `OutOfMemory`, which comes first, and only where the history
+    /// finds no room for the step. The owner comes back then, and the store stays as it was. Nothing
+    /// else takes memory.
+    pub fn release_owner(
+        &self,
+        rt: &impl Wait,
+        owner: Owner,
+        tally: &mut Tally<M, L, C, R>,
+    ) -> Result<(), (Owner, Refused<BorrowMutError>)>
+        ensures back { IfErr result (λ e. e.0 ≡ owner) }
+        ensures refusal { MayRefuse {T = T} NUMBER (ReleaseOwner owner) (release_answer result) }
+        ensures tallied { Raises {T = T} tally.old (release_answer result) tally.new }
+    {
+        let mut held = self.lock_to_release(rt, &owner);
+        let released = held.state.release_owner(owner, tally);
+        self.unlock(held, released.is_ok());
+        released
+    }
+}

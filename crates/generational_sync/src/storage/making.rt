@@ -1,0 +1,218 @@
+//! Calls that make boxes and owners.
+
+ghost use Rattle.std.specs.Prelude.{◌≡◌, None, Some, IfOk, IfErr};
+ghost use Rattle.generational_core.specs.declared.error.StoreError.TheVariants.{OutOfMemory};
+ghost use Rattle.generational_core.specs.Answers.{box_answer, owner_answer, pointer_of};
+ghost use Rattle.generational_core.specs.Answers.{reference_box_answer};
+ghost use Rattle.generational_core.specs.Machine.Action.{CloneOwner, Make, MakeShared, NewOwner};
+ghost use Rattle.generational_core.specs.Machine.Action.{Refer};
+ghost use Rattle.generational_sync.specs.Refusals.{MayRefuse};
+ghost use Rattle.generational_sync.specs.Shared.{IsBoxOf, Raises};
+
+use super::SyncStorage;
+use crate::tally::{Count, Tally};
+use generational_box::{
+    BorrowResult, GenerationalBox, Location, Owner, Refusal, StepCall, StoreError,
+};
+use std::sync::Wait;
+
+impl<T: Drop + Send, const NUMBER: u64, M: Count, L: Count, C: Count, R: Count> SyncStorage<
+    T,
+    NUMBER,
+    M,
+    L,
+    C,
+    R,
+> {
+    /// Makes a box of a value, which lives until it is ended by hand. The box has the store's
+    /// number and the location, and its id was never given before. Waits for no borrow.
+    ///
+    /// Refused by `OutOfMemory`: the value comes back, and nothing changes. Memory is taken for a
+    /// slot, if none is free, and for the step.
+    pub fn leak(
+        &self,
+        rt: &impl Wait,
+        value: T,
+        location: Location,
+        tally: &mut Tally<M, L, C, R>,
+    ) -> Result<GenerationalBox<T>, Refusal<T>>
+        ensures refusal { IfErr result (λ r. (r.value ≡ value) × (r.cause ≡ OutOfMemory)) }
+        ensures made { IfOk result (λ b. IsBoxOf NUMBER location (pointer_of b)) }
+        ensures tallied { Raises tally.old (box_answer result) tally.new }
+    {
+        self.shared.held.lock(rt).state.leak(value, location, tally)
+    }
+
+    /// Makes a shared value, and a first reference to it, whose box is given and lives until it is
+    /// ended by hand. The box has the store's number and the location, and its id was never given
+    /// before. The value lives exactly as long as there is a live reference to it. Waits for no
+    /// borrow.
+    ///
+    /// Refused by `OutOfMemory`: the value comes back, and nothing changes. Memory is taken for two
+    /// slots, if fewer are free, and for the step.
+    pub fn leak_rc(
+        &self,
+        rt: &impl Wait,
+        value: T,
+        location: Location,
+        tally: &mut Tally<M, L, C, R>,
+    ) -> Result<GenerationalBox<T>, Refusal<T>>
+        ensures refusal { IfErr result (λ r. (r.value ≡ value) × (r.cause ≡ OutOfMemory)) }
+        ensures made { IfOk result (λ b. IsBoxOf NUMBER location (pointer_of b)) }
+        ensures tallied { Raises tally.old (box_answer result) tally.new }
+    {
+        self.shared
+            .held
+            .lock(rt)
+            .state
+            .leak_rc(value, location, tally)
+    }
+
+    /// Makes one reference more to the shared value that a box reaches, once no writer stands at
+    /// it. It lives until it is ended by hand. The box has the store's number and the value's
+    /// location, and its id was never given before. Wakes the calls that wait.
+    ///
+    /// Refused, in this order: `Dropped` with the box's own creation location, where its cell has
+    /// ended or is of another store, or where its value isn't shared, a step; `OutOfMemory`, which
+    /// comes first where the history finds no room. A refused call leaves the store as it was.
+    /// Memory is taken for a slot, if none is free, and for the step.
+    pub fn leak_reference(
+        &self,
+        rt: &impl Wait,
+        asked: GenerationalBox<T>,
+        tally: &mut Tally<M, L, C, R>,
+    ) -> BorrowResult<GenerationalBox<T>>
+        ensures refusal { MayRefuse {T = T} NUMBER (Refer None (pointer_of asked))
+            (reference_box_answer result) }
+        ensures made { IfOk result (λ b. (pointer_of b).id.store ≡ NUMBER) }
+        ensures tallied { Raises {T = T} tally.old (reference_box_answer result) tally.new }
+    {
+        let call = StepCall::LeakReference(asked.pointer());
+        let mut held = self.lock_when(rt, call);
+        let made = held.state.leak_reference(asked, tally);
+        self.unlock(held, made.is_ok());
+        made
+    }
+
+    /// An owner without boxes, of a record of its own. It has the store's number. Waits for no
+    /// borrow.
+    ///
+    /// Refused, in this order: `NumbersExhausted`, where no ticket is left, a step; `OutOfMemory`,
+    /// which comes first where the history finds no room. A refused call leaves the store as it was.
+    /// Memory is taken for the record and for the step.
+    pub fn owner(&self, rt: &impl Wait, tally: &mut Tally<M, L, C, R>) -> Result<Owner, StoreError>
+        ensures refusal { MayRefuse {T = T} NUMBER NewOwner (owner_answer result) }
+        ensures owner { IfOk result (λ owner. owner.store ≡ NUMBER) }
+        ensures tallied { Raises {T = T} tally.old (owner_answer result) tally.new }
+    {
+        self.shared.held.lock(rt).state.owner(tally)
+    }
+
+    /// Another owner value of the same record. Waits for no borrow.
+    ///
+    /// Refused, in this order: `UnknownOwner`, where the store has no record of the owner;
+    /// `NumbersExhausted`, where no ticket is left; both are steps. `OutOfMemory` comes before both,
+    /// and only where the history finds no room for the step. A refused call leaves the store as it
+    /// was. Nothing else takes memory.
+    pub fn clone_owner(
+        &self,
+        rt: &impl Wait,
+        owner: &Owner,
+        tally: &mut Tally<M, L, C, R>,
+    ) -> Result<Owner, StoreError>
+        ensures refusal { MayRefuse {T = T} NUMBER (CloneOwner owner.now) (owner_answer result) }
+        ensures owner { IfOk result (λ clone. clone ≡ owner.now) }
+        ensures tallied { Raises {T = T} tally.old (owner_answer result) tally.new }
+    {
+        self.shared.held.lock(rt).state.clone_owner(owner, tally)
+    }
+
+    /// Makes a box of a value, which ends when the last owner value of this record is released. The
+    /// box has the store's number and the location, and its id was never given before. Waits for no
+    /// borrow.
+    ///
+    /// Refused, in this order: `UnknownOwner`, where the store has no record of the owner, a step;
+    /// `OutOfMemory`, which comes first where the history finds no room. The value comes back then,
+    /// and the store stays as it was. Memory is taken for a slot, if none is free, for room on the
+    /// owner's list, and for the step.
+    pub fn insert(
+        &self,
+        rt: &impl Wait,
+        owner: &Owner,
+        value: T,
+        location: Location,
+        tally: &mut Tally<M, L, C, R>,
+    ) -> Result<GenerationalBox<T>, Refusal<T>>
+        ensures back { IfErr result (λ r. r.value ≡ value) }
+        ensures refusal { MayRefuse NUMBER (Make (Some owner.now) value location)
+            (box_answer result) }
+        ensures made { IfOk result (λ b. IsBoxOf NUMBER location (pointer_of b)) }
+        ensures tallied { Raises tally.old (box_answer result) tally.new }
+    {
+        self.shared
+            .held
+            .lock(rt)
+            .state
+            .insert(owner, value, location, tally)
+    }
+
+    /// Makes a shared value, and a first reference to it, whose box is given and ends when the last
+    /// owner value of this record is released. The box has the store's number and the location, and
+    /// its id was never given before. The value lives exactly as long as there is a live reference
+    /// to it. Waits for no borrow.
+    ///
+    /// Refused, in this order: `UnknownOwner`, where the store has no record of the owner, a step;
+    /// `OutOfMemory`, which comes first where the history finds no room. The value comes back then,
+    /// and the store stays as it was. Memory is taken for two slots, if fewer are free, for room on
+    /// the owner's list, and for the step.
+    pub fn insert_rc(
+        &self,
+        rt: &impl Wait,
+        owner: &Owner,
+        value: T,
+        location: Location,
+        tally: &mut Tally<M, L, C, R>,
+    ) -> Result<GenerationalBox<T>, Refusal<T>>
+        ensures back { IfErr result (λ r. r.value ≡ value) }
+        ensures refusal { MayRefuse NUMBER (MakeShared (Some owner.now) value location)
+            (box_answer result) }
+        ensures made { IfOk result (λ b. IsBoxOf NUMBER location (pointer_of b)) }
+        ensures tallied { Raises tally.old (box_answer result) tally.new }
+    {
+        self.shared
+            .held
+            .lock(rt)
+            .state
+            .insert_rc(owner, value, location, tally)
+    }
+
+    /// Makes one reference more to the shared value that a box reaches, once no writer stands at
+    /// it. It ends when the last owner value of this record is released. The box has the store's
+    /// number and the value's location, and its id was never given before. Wakes the calls that
+    /// wait.
+    ///
+    /// Refused, in this order: `UnknownOwner`, where the store has no record of the owner, which is
+    /// asked before any waiting; `Dropped` with the box's own creation location, where its cell has
+    /// ended or is of another store, or where its value isn't shared; both are steps. `OutOfMemory`
+    /// comes before both where the history finds no room, and else after them. A refused call leaves
+    /// the store as it was. Memory is taken for a slot, if none is free, for room on the owner's
+    /// list, and for the step.
+    pub fn insert_reference(
+        &self,
+        rt: &impl Wait,
+        owner: &Owner,
+        asked: GenerationalBox<T>,
+        tally: &mut Tally<M, L, C, R>,
+    ) -> BorrowResult<GenerationalBox<T>>
+        ensures refusal { MayRefuse {T = T} NUMBER (Refer (Some owner.now) (pointer_of asked))
+            (reference_box_answer result) }
+        ensures made { IfOk result (λ b. (pointer_of b).id.store ≡ NUMBER) }
+        ensures tallied { Raises {T = T} tally.old (reference_box_answer result) tally.new }
+    {
+        let call = StepCall::InsertReference(owner.id(), asked.pointer());
+        let mut held = self.lock_when(rt, call);
+        let made = held.state.insert_reference(owner, asked, tally);
+        self.unlock(held, made.is_ok());
+        made
+    }
+}

@@ -1,0 +1,215 @@
+//! A hundred thousand rounds of calls: the memory that the first hundred take is enough for all.
+
+use crate::expected::{
+    assert_kept, assert_released, assert_stays, begin, begin_write, borrowed, end, insert, leak,
+    made, made_later, new_owner, read, release, written,
+};
+use crate::growth::Gauge;
+use crate::sharing::{insert_rc, leak_rc, leak_reference, point};
+use generational_box::{
+    BoxAt, Call, GenerationalBox, GenerationalRef, Session, Storage, Store, UnsyncStorage,
+};
+use std::alloc::Global;
+use std::process::Abort;
+use std::rt::Files;
+use std::test::Fail;
+
+/// What is done in each round.
+trait Round {
+    fn play(&mut self, rt: &impl Abort, alloc: Global);
+}
+
+/// Plays rounds, and asserts that the process has no more memory after them all than after a
+/// hundred, but for a few pages.
+fn assert_steady<R: Files + AllocGlobal + Abort, P: Round>(
+    rt: &R,
+    alloc: Global,
+    played: &mut P,
+) -> Result<(), Fail> {
+    for _ in 0..100 {
+        played.play(rt, alloc);
+    }
+    let mut gauge = Gauge::new(rt)?;
+    for _ in 0..100_000 {
+        played.play(rt, alloc);
+    }
+    gauge.look(rt)?;
+    gauge.assert_grew(rt, 64);
+    Ok(())
+}
+
+/// A text of its own.
+fn text(rt: &impl Abort, alloc: Global) -> String {
+    String::from_str(alloc, "a text").expect(rt, "memory")
+}
+
+/// Makes a box of a text.
+fn leak_text<S: Storage<String>>(
+    rt: &impl Abort,
+    alloc: Global,
+    store: &mut S,
+) -> GenerationalBox<String> {
+    leak(rt, store, text(rt, alloc), made())
+}
+
+/// The guards of three readers.
+type Three = (
+    GenerationalRef<String>,
+    GenerationalRef<String>,
+    GenerationalRef<String>,
+);
+
+/// Begins three reads of one value. Its end is told of all of them.
+fn read_thrice<S: Storage<String>>(
+    rt: &impl Abort,
+    alloc: Global,
+    store: &mut S,
+    asked: GenerationalBox<String>,
+) -> Three {
+    let first = begin(rt, store, asked, read());
+    let second = begin(rt, store, asked, made());
+    let third = begin(rt, store, asked, made_later());
+    let places = [read(), made(), made_later()];
+    assert_stays(rt, store, asked, borrowed(rt, alloc, &places));
+    (first, second, third)
+}
+
+/// Writes another text into a value, and sets it once more.
+fn write_and_set<S: Storage<String>>(
+    rt: &impl Abort,
+    alloc: Global,
+    store: &mut S,
+    asked: GenerationalBox<String>,
+) {
+    let mut guard = begin_write(rt, store, asked, written());
+    let _old = guard.replace(text(rt, alloc));
+    assert!(rt; guard.release(store).is_ok());
+    if asked.can_write(store) {
+        asked.set(store, text(rt, alloc));
+    }
+}
+
+/// Makes boxes by an owner, and releases it. A release is refused meanwhile.
+fn own<S: Storage<String>>(rt: &impl Abort, alloc: Global, store: &mut S) {
+    let owner = new_owner(rt, store);
+    let only = insert(rt, store, &owner, text(rt, alloc), made());
+    let shared = insert_rc(rt, store, &owner, text(rt, alloc), made());
+    let reference = leak_reference(rt, store, shared);
+    let (first, second, third) = read_thrice(rt, alloc, store, only);
+    let places = [read(), made(), made_later()];
+    let owner = assert_kept(rt, store, owner, borrowed(rt, alloc, &places));
+    assert_released(rt, store, second, true);
+    assert_released(rt, store, first, true);
+    assert_released(rt, store, third, true);
+    write_and_set(rt, alloc, store, only);
+    release(rt, store, owner);
+    end(rt, store, reference);
+}
+
+/// Leads a reference elsewhere, so that a shared value ends.
+fn turn<S: Storage<String>>(rt: &impl Abort, alloc: Global, store: &mut S) {
+    let one = leak_rc(rt, store, text(rt, alloc), made());
+    let other = leak_rc(rt, store, text(rt, alloc), made());
+    point(rt, store, one, other);
+    end(rt, store, one);
+    end(rt, store, other);
+}
+
+/// Rounds in one store.
+#[derive(Drop)]
+struct OneStore {
+    store: UnsyncStorage<String>,
+}
+
+impl Round for OneStore {
+    fn play(&mut self, rt: &impl Abort, alloc: Global) {
+        own(rt, alloc, &mut self.store);
+        turn(rt, alloc, &mut self.store);
+    }
+}
+
+/// Leaves values, an owner's list and three readers in a store, of which another one spends the
+/// guards.
+fn leave<S: Storage<String>>(rt: &impl Abort, alloc: Global, store: &mut S, other: &mut S) {
+    let owner = new_owner(rt, store);
+    insert(rt, store, &owner, text(rt, alloc), made());
+    owner.leak();
+    leak_rc(rt, store, text(rt, alloc), made());
+    let only = leak_text(rt, alloc, store);
+    let (first, second, third) = read_thrice(rt, alloc, store, only);
+    assert_released(rt, other, first, false);
+    assert_released(rt, other, second, false);
+    assert_released(rt, other, third, false);
+}
+
+/// Each round in a store of its own.
+#[derive(Drop)]
+struct NewStores {
+    other: UnsyncStorage<String>,
+}
+
+impl Round for NewStores {
+    fn play(&mut self, rt: &impl Abort, alloc: Global) {
+        let mut store: UnsyncStorage<String> = Store::new(alloc, 7);
+        own(rt, alloc, &mut store);
+        leave(rt, alloc, &mut store, &mut self.other);
+    }
+}
+
+/// The calls of a list, by their places.
+fn call_at(place: usize, value: String) -> Call<String> {
+    match place {
+        0 => Call::Owner,
+        1 => Call::Insert(0, value, made()),
+        2 => Call::InsertRc(0, value, made()),
+        3 => Call::LeakReference(BoxAt::Place(2)),
+        4 | 5 => Call::TryRead(BoxAt::Place(1), read()),
+        6 => Call::ManuallyDrop(BoxAt::Place(1)),
+        7 => Call::Set(BoxAt::Place(1), value),
+        8 => Call::Insert(1, value, made()),
+        9 => Call::TryWrite(BoxAt::Place(3), written()),
+        10 => Call::Replace(9, value),
+        11 => Call::Release(4),
+        _ => Call::Leak(value, made()),
+    }
+}
+
+/// A list of calls.
+fn calls(rt: &impl Abort, alloc: Global) -> Vec<Call<String>> {
+    let mut calls = Vec::new(alloc);
+    for place in 0..13 {
+        let asked = call_at(place, text(rt, alloc));
+        assert!(rt; calls.push(asked).is_ok());
+    }
+    calls
+}
+
+/// Runs the list in a session, makes a call more, and ends it.
+fn run<S: Storage<String> + Drop>(rt: &impl Abort, alloc: Global, mut session: Session<String, S>) {
+    let ran = session.run(calls(rt, alloc)).is_ok();
+    let called = session.call(call_at(12, text(rt, alloc))).is_ok();
+    let _store = session.finish();
+    assert!(rt; ran && called);
+}
+
+/// Each round in a session of its own.
+#[derive(Drop)]
+struct NewSessions;
+
+impl Round for NewSessions {
+    fn play(&mut self, rt: &impl Abort, alloc: Global) {
+        let store: UnsyncStorage<String> = Store::new(alloc, 7);
+        run(rt, alloc, Session::new(alloc, store));
+    }
+}
+
+// Values, owners, readers and references in one store; stores; sessions and lists of calls.
+#[test]
+fn memory_is_given_back(rt: HostRuntime) -> Result<(), Fail> {
+    let alloc = rt.alloc();
+    let store = Store::new(alloc, 7);
+    assert_steady(&rt, alloc, &mut OneStore { store })?;
+    let other = Store::new(alloc, 8);
+    assert_steady(&rt, alloc, &mut NewStores { other })?;
+    assert_steady(&rt, alloc, &mut NewSessions)
+}

@@ -1,0 +1,134 @@
+//! Drawn lists over other pairs of stores than the program's. Where those of a pair differ, the
+//! program must tell from which call on.
+
+ghost use Rattle.std.specs.Prelude.{◌≤◌};
+ghost use Rattle.generational_core.specs.Conditions.{IsFresh};
+
+use crate::drawn_counts::{Beginning, COUNT, FEW_TICKETS, FIRST, replies_from};
+use crate::drawn_words::reply_word;
+use crate::runs::{Outcome, assert_ended};
+use boxes_script::{Pair, fuzz_pair, fuzz_run};
+use generational_box::{GenerationalBox, Location, Numbers, Reply, Storage, Store};
+use std::alloc::{AllocError, Global};
+use std::process::Abort;
+
+/// A pair whose first store has the number 1.
+fn pair(alloc: Global, numbers: Numbers, other: Beginning) -> Pair
+    requires one { 1 ≤ numbers.generation }
+    requires other { 1 ≤ other.1.generation }
+    ensures one { IsFresh result.one.state }
+    ensures other { IsFresh result.other.state }
+{
+    Pair {
+        one: Store::new_at(alloc, 1, numbers),
+        other: Store::new_at(alloc, other.0, other.1),
+    }
+}
+
+/// The words `fuzz SEED COUNT`.
+fn words(alloc: Global, seed: u64, count: usize) -> Result<Vec<String>, AllocError> {
+    let mut words = Vec::new(alloc);
+    words.push(String::from_str(alloc, "fuzz")?)?;
+    words.push(format!(in alloc; "{seed}")?)?;
+    words.push(format!(in alloc; "{count}")?)?;
+    Ok(words)
+}
+
+/// Asserts with which status the list of a seed ends over a pair, and what is told of it.
+fn assert_told(rt: &impl Abort, alloc: Global, list: (u64, usize), pair: Pair, told: (u8, &str))
+    requires one { IsFresh pair.one.state }
+    requires other { IsFresh pair.other.state }
+{
+    let words = words(alloc, list.0, list.1).expect(rt, "memory");
+    let mut output = Vec::new(alloc);
+    let mut faults = Vec::new(alloc);
+    let status = fuzz_run(alloc, &words, pair, &mut output, &mut faults);
+    let outcome = Outcome {
+        status,
+        output,
+        faults,
+    };
+    assert_ended(rt, &outcome, told.0, told.1, "");
+}
+
+/// The first place at which two lists of replies have another kind.
+fn first_other(ones: &[Reply<String>], others: &[Reply<String>]) -> Option<usize> {
+    ones.iter()
+        .zip(others.iter())
+        .position(|(one, other)| reply_word(one) != reply_word(other))
+}
+
+/// Asserts that the program tells where the second store of a pair answers the list of a seed
+/// otherwise, and that it does so at this place or behind it.
+fn assert_differs(rt: &impl Abort, alloc: Global, seed: u64, other: Beginning, least: usize)
+    requires { 1 ≤ other.1.generation }
+{
+    let ones = replies_from(rt, alloc, seed, (1, FIRST));
+    let others = replies_from(rt, alloc, seed, other);
+    let place = first_other(&ones, &others).unwrap_or(0);
+    assert!(rt; place >= least, "differs at {place}");
+    let told = format!(in alloc; "differs at {place}\n").expect(rt, "memory");
+    assert_told(
+        rt,
+        alloc,
+        (seed, place),
+        pair(alloc, FIRST, other),
+        (0, "same\n"),
+    );
+    for count in [place.saturating_add(1), COUNT] {
+        let differing = pair(alloc, FIRST, other);
+        assert_told(rt, alloc, (seed, count), differing, (4, told.as_str()));
+    }
+}
+
+// A store that has fewer tickets gives no borrow where the other still does. One of another number
+// takes boxes of its own number for none, and those of the other's for foreign ones.
+#[test]
+fn a_pair_that_differs_is_told(rt: HostRuntime) {
+    for seed in [1, 2] {
+        assert_differs(&rt, rt.alloc(), seed, (1, FEW_TICKETS), 2_000);
+        assert_differs(&rt, rt.alloc(), seed, (2, FIRST), 1);
+    }
+}
+
+// Ids and slots are set aside: where the generations begin makes no difference, nor where the tickets do
+// that both have.
+#[test]
+fn a_pair_that_answers_alike_is_the_same(rt: HostRuntime) {
+    let last = Numbers {
+        generation: u64::MAX,
+        ticket: 0,
+    };
+    let alloc = rt.alloc();
+    for (numbers, other) in [(FIRST, last), (FEW_TICKETS, FEW_TICKETS)] {
+        let alike = pair(alloc, numbers, (1, other));
+        assert_told(&rt, alloc, (1, COUNT), alike, (0, "same\n"));
+    }
+}
+
+/// The slot that a new store uses again, of two that were freed one after the other.
+fn slot_used_again<S: Storage<String>>(rt: &impl Abort, alloc: Global, store: &mut S) -> usize {
+    let first = made_in(rt, alloc, store);
+    let second = made_in(rt, alloc, store);
+    assert!(rt; first.manually_drop(store).is_ok());
+    assert!(rt; second.manually_drop(store).is_ok());
+    made_in(rt, alloc, store).raw_ptr()
+}
+
+/// A box of a store.
+fn made_in<S: Storage<String>>(
+    rt: &impl Abort,
+    alloc: Global,
+    store: &mut S,
+) -> GenerationalBox<String> {
+    let made = GenerationalBox::leak(store, String::new(alloc), Location::new("pair", 1, 1));
+    made.map_err(|_| AllocError).expect(rt, "a box")
+}
+
+// The program's own pair takes free slots in different orders.
+#[test]
+fn the_programs_pair_is_of_two_kinds(rt: HostRuntime) {
+    let Pair { mut one, mut other } = fuzz_pair(rt.alloc());
+    assert_eq!(&rt; slot_used_again(&rt, rt.alloc(), &mut one), 1);
+    assert_eq!(&rt; slot_used_again(&rt, rt.alloc(), &mut other), 0);
+}

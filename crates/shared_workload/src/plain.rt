@@ -1,0 +1,130 @@
+//! The workload's calls over a sequential store in a plain mutex: without a history, and where a
+//! borrow stands in the way the call is refused in the place of a wait.
+
+use crate::calls::{Calls, place};
+use generational_box::{
+    AnyStorage, GenerationalBox, GenerationalRef, GenerationalRefMut, Owner, Storage, UnsyncStorage,
+};
+use std::alloc::Global;
+use std::sync::{Arc, Mutex, Wait};
+
+/// A worker: a handle of the store.
+#[derive(Drop)]
+pub(crate) struct Plain {
+    pub(crate) store: Arc<Mutex<UnsyncStorage<u64>>, Global>,
+}
+
+impl Calls for Plain {
+    fn leak(&mut self, rt: &impl Wait, value: u64) -> Option<GenerationalBox<u64>> {
+        let mut store = self.store.lock(rt);
+        GenerationalBox::leak(&mut *store, value, place()).ok()
+    }
+
+    fn leak_rc(&mut self, rt: &impl Wait, value: u64) -> Option<GenerationalBox<u64>> {
+        let mut store = self.store.lock(rt);
+        GenerationalBox::leak_rc(&mut *store, value, place()).ok()
+    }
+
+    fn leak_reference(
+        &mut self,
+        rt: &impl Wait,
+        of: GenerationalBox<u64>,
+    ) -> Option<GenerationalBox<u64>> {
+        let mut store = self.store.lock(rt);
+        of.leak_reference(&mut *store).ok()
+    }
+
+    fn owner(&mut self, rt: &impl Wait) -> Option<Owner> {
+        let mut store = self.store.lock(rt);
+        store.owner().ok()
+    }
+
+    fn insert(
+        &mut self,
+        rt: &impl Wait,
+        owner: &Owner,
+        value: u64,
+    ) -> Option<GenerationalBox<u64>> {
+        let mut store = self.store.lock(rt);
+        owner.insert(&mut *store, value, place()).ok()
+    }
+
+    fn insert_rc(
+        &mut self,
+        rt: &impl Wait,
+        owner: &Owner,
+        value: u64,
+    ) -> Option<GenerationalBox<u64>> {
+        let mut store = self.store.lock(rt);
+        owner.insert_rc(&mut *store, value, place()).ok()
+    }
+
+    fn release_owner(&mut self, rt: &impl Wait, owner: Owner) -> bool {
+        let mut store = self.store.lock(rt);
+        match owner.release(&mut *store) {
+            Ok(_) => true,
+            Err((owner, _)) => {
+                owner.leak();
+                false
+            }
+        }
+    }
+
+    fn read(
+        &mut self,
+        rt: &impl Wait,
+        asked: GenerationalBox<u64>,
+    ) -> Option<GenerationalRef<u64>> {
+        let mut store = self.store.lock(rt);
+        asked.try_read(&mut *store, place()).ok()
+    }
+
+    fn opens(&mut self, rt: &impl Wait, guard: &GenerationalRef<u64>, value: u64) -> bool {
+        let store = self.store.lock(rt);
+        let seen = store.open(guard).copied();
+        seen == Some(value)
+    }
+
+    fn release_read(&mut self, rt: &impl Wait, guard: GenerationalRef<u64>) -> bool {
+        let mut store = self.store.lock(rt);
+        guard.release(&mut *store)
+    }
+
+    fn write(
+        &mut self,
+        rt: &impl Wait,
+        asked: GenerationalBox<u64>,
+    ) -> Option<GenerationalRefMut<u64>> {
+        let mut store = self.store.lock(rt);
+        asked.try_write(&mut *store, place()).ok()
+    }
+
+    fn release_write(&mut self, rt: &impl Wait, guard: GenerationalRefMut<u64>) -> bool {
+        let mut store = self.store.lock(rt);
+        guard.release(&mut *store).is_ok()
+    }
+
+    fn set(&mut self, rt: &impl Wait, asked: GenerationalBox<u64>, value: u64) -> bool {
+        let mut store = self.store.lock(rt);
+        if !asked.can_write(&*store) {
+            return false;
+        }
+        asked.set(&mut *store, value);
+        true
+    }
+
+    fn point_to(
+        &mut self,
+        rt: &impl Wait,
+        asked: GenerationalBox<u64>,
+        other: GenerationalBox<u64>,
+    ) -> bool {
+        let mut store = self.store.lock(rt);
+        asked.point_to(&mut *store, other).is_ok()
+    }
+
+    fn end(&mut self, rt: &impl Wait, asked: GenerationalBox<u64>) -> bool {
+        let mut store = self.store.lock(rt);
+        asked.manually_drop(&mut *store).is_ok()
+    }
+}
