@@ -25,7 +25,7 @@ a read that failed; what was written is a beginning of the replies.
 Drawn lists are run so as `fuzz SEED 200`, for the seeds 1 to 4: they say `refused at N`, or nothing
 where it wasn't a call that lacked memory, and `same` where none did.
 
-The tests in the modules `memory`, `scarcity`, `shortage` and `lists` are run so. They ask again
+The tests in the modules `memory`, `scarcity` and `shortage` are run so. They ask again
 what lacked memory, and pass.
 
 Whatever is refused, at its end a run has given back all memory. So has each of the tests where nothing is refused.
@@ -66,7 +66,7 @@ BESIDES = 30_000
 LEAK = 232
 # While a buffer grows there are the old one and the new one. So the largest, that of the places, counts twice.
 MOVED = 64
-MODULES = ("memory::", "scarcity::", "shortage::", "lists::")
+MODULES = ("memory::", "scarcity::", "shortage::")
 WRONG = "every_command.row"
 
 
