@@ -4,13 +4,17 @@
 #![tactic(auto)]
 
 #[cfg(test)]
+mod beside;
+#[cfg(test)]
 mod gates;
 #[cfg(test)]
-mod passing;
+mod memory;
 #[cfg(test)]
 mod places;
 #[cfg(test)]
-mod reading;
+mod recorder;
+#[cfg(test)]
+mod rows;
 #[cfg(test)]
 mod sending;
 #[cfg(test)]

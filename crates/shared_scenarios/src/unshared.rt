@@ -3,7 +3,7 @@
 ghost use Rattle.std.specs.Prelude.{◌≡◌};
 
 use crate::places::{made as leaked_at, read as read_at};
-use crate::workers::text;
+use crate::recorder::text;
 use generational_box::{GenerationalBox, GenerationalRef, StepCall};
 use generational_sync::{Count, SyncState, Tally};
 use std::alloc::Global;

@@ -1,269 +1,347 @@
 //! That each call that waits is answered once no borrow stands in its way.
 //!
-//! A call says that it is about to wait, and then the lock is taken and left so often (`settles`)
-//! that it is surely asleep. What hinders it is released only then.
+//! Where a call is known to wait, one step is taken that frees it, and no other until it was
+//! answered: a step after which nobody is woken leaves the call asleep, and the test ends with a
+//! failure. Another worker takes the lock again and again meanwhile, so a wake that comes before
+//! the step is soon one that comes too early.
 
 use crate::gates::Gate;
 use crate::places::{made, made_later, read, read_later};
-use crate::stages::{Scenario, play};
-use crate::workers::{SURELY, Worker, text};
-use generational_box::{GenerationalBox, GenerationalRef};
-use generational_sync::{Count, Kind};
+use crate::recorder::Recorder;
+use crate::stages::{Scenario, plays};
+use crate::workers::Worker;
+use generational_box::GenerationalBox;
 use std::alloc::Global;
 use std::process::Abort;
-use std::sync::Wait;
+use std::sync::{Mutex, Wait};
 use std::test::*;
 use std::thread;
 use std::thread::Threads;
 
-// Waits for the gate, and then ends the box. The worker says that it asks, and that it was
-// answered.
-fn ends_when_told<A: Count, B: Count, C: Count, D: Count>(
-    rt: &(impl Wait + Abort),
-    worker: &mut Worker<A, B, C, D>,
-    ended: GenerationalBox<String>,
-    told: &Gate,
-    gates: &Gates,
-) {
-    assert!(rt; told.passes(), "not told to end");
-    gates.asked.arrive();
-    assert!(rt; worker.end(rt, ended), "not ended");
-    gates.answered.arrive();
-}
+// How often a call waits in a test.
+const ROUNDS: usize = 40;
 
-// What the workers are told and tell.
-#[derive(Drop)]
-struct Gates {
-    early: Gate,
-    between: Gate,
-    late: Gate,
-    asked: Gate,
-    answered: Gate,
-}
-
-impl Gates {
-    fn new() -> Gates {
-        Gates {
-            early: Gate::new(),
-            between: Gate::new(),
-            late: Gate::new(),
-            asked: Gate::new(),
-            answered: Gate::new(),
-        }
-    }
-}
-
-// Tells a worker to end its box, and goes on once that call is surely asleep.
-fn sends_to_sleep<A: Count, B: Count, C: Count, D: Count>(
-    rt: &(impl Wait + Abort),
-    worker: &Worker<A, B, C, D>,
-    guard: &GenerationalRef<String>,
-    told: &Gate,
-    asked: &Gate,
-) {
-    told.arrive();
-    assert!(rt; asked.passes(), "did not ask");
-    assert!(rt; worker.settles(rt, guard, SURELY));
-}
-
-// Two calls wait for one reader, and between them, in the order in which they began, one that waits
-// for another. That other reader is released first: it alone is answered. Then the two are.
-fn releases<A: Count, B: Count, C: Count, D: Count>(
-    rt: &(impl Wait + Abort),
-    worker: &mut Worker<A, B, C, D>,
-    one: GenerationalBox<String>,
-    two: GenerationalBox<String>,
-    gates: &Gates,
-) {
-    let one = worker.read(rt, one, read());
-    let two = worker.read(rt, two, read_later());
-    sends_to_sleep(rt, worker, &one, &gates.early, &gates.asked);
-    sends_to_sleep(rt, worker, &one, &gates.between, &gates.asked);
-    sends_to_sleep(rt, worker, &one, &gates.late, &gates.asked);
-    assert!(rt; worker.release(rt, two));
-    assert!(rt;
-        gates.answered.passes(),
-        "the call in between was not woken"
-    );
-    assert!(rt; worker.settles(rt, &one, SURELY));
-    assert!(rt; worker.release(rt, one));
-    assert!(rt; gates.answered.passes(), "neither call was woken");
-    assert!(rt; gates.answered.passes(), "one call was not woken");
-}
-
-/// Two ends wait for one reader, and between them one for another reader.
-pub(crate) fn wake_all<
-    A: Count + Send + Sync,
-    B: Count + Send + Sync,
-    C: Count + Send + Sync,
-    D: Count + Send + Sync,
-    H: Threads + Wait + Abort + Sync,
->(rt: &H, alloc: Global, mut workers: Vec<Worker<A, B, C, D>>) {
-    let mut last = workers.pop().expect(rt, "a worker");
-    let mut between = workers.pop().expect(rt, "a worker");
-    let mut early = workers.pop().expect(rt, "a worker");
-    let mut first = workers.pop().expect(rt, "a worker");
-    let one = first.leak(rt, text(rt, alloc, "hello"), made());
-    let two = first.leak(rt, text(rt, alloc, "hello"), made_later());
-    let gates = Gates::new();
-    thread::join(
-        rt,
-        || releases(rt, &mut first, one, two, &gates),
-        || thread::join(
-            rt,
-            || ends_when_told(rt, &mut early, one, &gates.early, &gates),
-            || thread::join(
-                rt,
-                || ends_when_told(rt, &mut between, two, &gates.between, &gates),
-                || ends_when_told(rt, &mut last, one, &gates.late, &gates),
-            ),
-        ),
-    );
-    for worker in [early, between, last] {
-        first.take_over(rt, worker);
-    }
-    assert_kinds(rt, &mut first);
-}
-
-// The steps in order: what was made and lent, a release and the end that waited for it, and the
-// other release with the two ends that waited for it.
-fn assert_kinds<A: Count, B: Count, C: Count, D: Count>(
-    rt: &(impl Wait + Abort),
-    worker: &mut Worker<A, B, C, D>,
-) {
-    let steps = worker.steps(rt);
-    let wanted = [
-        Kind::Made,
-        Kind::Made,
-        Kind::Lent,
-        Kind::Lent,
-        Kind::Changed,
-        Kind::Changed,
-        Kind::Changed,
-        Kind::Changed,
-        Kind::Changed,
-    ];
-    assert_eq!(rt; steps.len(), wanted.len());
-    for (step, kind) in steps.as_slice().iter().zip(wanted) {
-        assert_eq!(rt; step.kind(), kind);
-    }
-    assert_eq!(rt; steps.as_slice()[5].worker, 2);
-}
-
-#[test]
-fn a_release_wakes_all_that_wait(rt: HostRuntime) {
-    play(&rt, rt.alloc(), 4, Scenario::AReleaseWakesAll);
-}
-
-// How many boxes are ended one after another, each while it is read, and how often the lock is
-// taken in a round until the end is taken to be asleep.
-const ROUNDS: usize = 100;
-
-const LOCKS: u64 = 10;
-
-// How often the lock is crowded at most, and for how many letters each time.
+// How often the lock is crowded at most.
 const CROWDINGS: u64 = 10_000_000;
 
-const LONG: usize = 10_000;
+/// The step that frees the call that waits.
+#[derive(Clone, Copy)]
+pub(crate) enum Freeing {
+    ReaderReleased,
+    WriterReleased,
+    BoxEnded,
+    OwnerReleased,
+    PointedElsewhere,
+    ReferenceMade,
+    ReferenceInserted,
+}
 
-// What the workers of those rounds tell each other.
+// What the workers tell each other.
 #[derive(Drop)]
 struct Rounds {
+    asked: Mutex<Option<GenerationalBox<String>>>,
     begun: Gate,
-    asked: Gate,
-    ended: Gate,
+    answered: Gate,
     over: Gate,
 }
 
-// Reads each box until the end of it waits, and then releases it. So the end is answered.
-fn releases_each<A: Count, B: Count, C: Count, D: Count>(
+impl Rounds {
+    fn new() -> Rounds {
+        Rounds {
+            asked: Mutex::new(None),
+            begun: Gate::new(),
+            answered: Gate::new(),
+            over: Gate::new(),
+        }
+    }
+
+    // Lets the other worker call something of this box, and goes on once that call waits.
+    fn send_to_sleep<W: Worker>(
+        &self,
+        rt: &(impl Wait + Abort),
+        one: &Recorder<W>,
+        asked: GenerationalBox<String>,
+    ) {
+        *self.asked.lock(rt) = Some(asked);
+        self.begun.arrive();
+        one.waits_for(rt, 1);
+    }
+
+    // The box to call something of.
+    fn asked(&self, rt: &(impl Wait + Abort)) -> GenerationalBox<String> {
+        assert!(rt; self.begun.passes(), "not begun");
+        self.asked.lock(rt).take().expect(rt, "a box")
+    }
+
+    // Goes on once the call that waited was answered.
+    fn assert_answered(&self, rt: &impl Abort) {
+        assert!(rt; self.answered.passes(), "the call was not woken");
+    }
+}
+
+// The boxes of two shared values.
+#[derive(Clone, Copy)]
+struct Values {
+    shared: GenerationalBox<String>,
+    other: GenerationalBox<String>,
+}
+
+// Writes a shared value, while the other worker waits to read a reference to it.
+fn frees_a_read<W: Worker>(
     rt: &(impl Wait + Abort),
-    worker: &mut Worker<A, B, C, D>,
-    boxes: &[GenerationalBox<String>],
+    one: &mut Recorder<W>,
+    values: Values,
+    step: Freeing,
     rounds: &Rounds,
 ) {
-    for shared in boxes {
-        let guard = worker.read(rt, *shared, read());
-        rounds.begun.arrive();
-        assert!(rt; rounds.asked.passes(), "did not ask");
-        assert!(rt; worker.settles(rt, &guard, LOCKS));
-        assert!(rt; worker.release(rt, guard));
-        assert!(rt; rounds.ended.passes(), "the end was not woken");
+    let owner = one.owner(rt);
+    let reference = one.insert_reference(rt, &owner, values.shared);
+    let guard = one.begin_write(rt, values.shared, read());
+    rounds.send_to_sleep(rt, one, reference);
+    match step {
+        Freeing::OwnerReleased => {
+            one.release_owner(rt, owner);
+            rounds.assert_answered(rt);
+            one.release_over(rt, guard, "shared", "written");
+            return;
+        }
+        Freeing::WriterReleased => {
+            owner.leak();
+            one.release_over(rt, guard, "shared", "written");
+            rounds.assert_answered(rt);
+            return;
+        }
+        Freeing::PointedElsewhere => one.point_to(rt, reference, values.other),
+        _ => one.end(rt, reference),
+    }
+    rounds.assert_answered(rt);
+    owner.leak();
+    one.release_over(rt, guard, "shared", "written");
+}
+
+// Reads a shared value by its only reference, while the other worker waits to end that.
+fn frees_an_end<W: Worker>(
+    rt: &(impl Wait + Abort),
+    one: &mut Recorder<W>,
+    values: Values,
+    step: Freeing,
+    rounds: &Rounds,
+) {
+    let owner = one.owner(rt);
+    let reference = one.insert_reference(rt, &owner, values.shared);
+    one.end(rt, values.shared);
+    let guard = one.begin(rt, reference, read());
+    rounds.send_to_sleep(rt, one, reference);
+    match step {
+        Freeing::ReferenceMade => {
+            one.leak_reference(rt, reference);
+        }
+        Freeing::ReferenceInserted => {
+            one.insert_reference(rt, &owner, reference);
+        }
+        _ => {
+            one.release(rt, guard);
+            rounds.assert_answered(rt);
+            owner.leak();
+            return;
+        }
+    }
+    rounds.assert_answered(rt);
+    one.release(rt, guard);
+    owner.leak();
+}
+
+// Takes the step that frees the call in each round.
+fn frees_each<W: Worker>(
+    rt: &(impl Wait + Abort),
+    one: &mut Recorder<W>,
+    values: &[Values],
+    step: Freeing,
+    rounds: &Rounds,
+) {
+    for values in values {
+        match step {
+            Freeing::ReaderReleased | Freeing::ReferenceMade | Freeing::ReferenceInserted => {
+                frees_an_end(rt, one, *values, step, rounds);
+            }
+            _ => frees_a_read(rt, one, *values, step, rounds),
+        }
     }
     rounds.over.arrive();
 }
 
-fn ends_each<A: Count, B: Count, C: Count, D: Count>(
+// Makes the call that waits in each round.
+fn waits_in_each<W: Worker>(
     rt: &(impl Wait + Abort),
-    worker: &mut Worker<A, B, C, D>,
-    boxes: &[GenerationalBox<String>],
+    two: &mut Recorder<W>,
+    step: Freeing,
     rounds: &Rounds,
 ) {
-    for shared in boxes {
-        assert!(rt; rounds.begun.passes(), "not begun");
-        rounds.asked.arrive();
-        assert!(rt; worker.end(rt, *shared));
-        rounds.ended.arrive();
+    for _ in 0..ROUNDS {
+        let asked = rounds.asked(rt);
+        match step {
+            Freeing::WriterReleased => two.reads(rt, asked, read_later(), "written"),
+            Freeing::PointedElsewhere => two.reads(rt, asked, read_later(), "other"),
+            Freeing::BoxEnded | Freeing::OwnerReleased => {
+                two.finds_dropped(rt, asked, read_later(), made());
+            }
+            _ => two.end(rt, asked),
+        }
+        rounds.answered.arrive();
     }
 }
 
-// Takes the lock again and again, and holds it while the letters of a long text are counted.
-fn crowds<A: Count, B: Count, C: Count, D: Count>(
+// Takes the lock again and again.
+fn crowds<W: Worker>(
     rt: &(impl Wait + Abort),
-    worker: &mut Worker<A, B, C, D>,
-    long: GenerationalBox<String>,
+    three: &mut Recorder<W>,
+    calm: GenerationalBox<String>,
     rounds: &Rounds,
 ) {
-    let guard = worker.read(rt, long, read_later());
+    let guard = three.begin(rt, calm, read_later());
     for _ in 0..CROWDINGS {
         if rounds.over.is_open() {
             break;
         }
-        assert!(rt; worker.opens(rt, &guard, LONG));
+        three.assert_opens(rt, &guard, "calm");
     }
-    assert!(rt; worker.release(rt, guard));
+    three.release(rt, guard);
 }
 
-/// Box after box is ended while it is read, and a third worker crowds the lock.
-pub(crate) fn wake_after<
-    A: Count + Send + Sync,
-    B: Count + Send + Sync,
-    C: Count + Send + Sync,
-    D: Count + Send + Sync,
-    H: Threads + Wait + Abort + Sync,
->(rt: &H, alloc: Global, mut workers: Vec<Worker<A, B, C, D>>) {
-    let mut crowd = workers.pop().expect(rt, "a worker");
-    let mut ends = workers.pop().expect(rt, "a worker");
-    let mut reads = workers.pop().expect(rt, "a worker");
-    let mut boxes = Vec::new(alloc);
+/// Each round a call waits until one step frees it.
+pub(crate) fn wake_after<W: Worker, H: Threads + Wait + Abort + Sync>(
+    rt: &H,
+    alloc: Global,
+    mut first: Recorder<W>,
+    mut second: Recorder<W>,
+    mut third: Recorder<W>,
+    step: Freeing,
+) {
+    let calm = first.leak(rt, "calm", made_later());
+    let mut values = Vec::new(alloc);
     for _ in 0..ROUNDS {
-        let shared = reads.leak(rt, text(rt, alloc, "hello"), made());
-        assert!(rt; boxes.push(shared).is_ok());
+        let shared = first.leak_rc(rt, "shared", made());
+        let other = first.leak_rc(rt, "other", made_later());
+        assert!(rt; values.push(Values { shared, other }).is_ok());
     }
-    let boxes = boxes.as_slice();
-    let many = "hello".repeat(alloc, LONG / 5).expect(rt, "a text");
-    let long = crowd.leak(rt, many, made_later());
-    let rounds = Rounds {
-        begun: Gate::new(),
-        asked: Gate::new(),
-        ended: Gate::new(),
-        over: Gate::new(),
-    };
+    let values = values.as_slice();
+    let rounds = Rounds::new();
     thread::join(
         rt,
-        || releases_each(rt, &mut reads, boxes, &rounds),
+        || frees_each(rt, &mut first, values, step, &rounds),
         || thread::join(
             rt,
-            || ends_each(rt, &mut ends, boxes, &rounds),
-            || crowds(rt, &mut crowd, long, &rounds),
+            || waits_in_each(rt, &mut second, step, &rounds),
+            || crowds(rt, &mut third, calm, &rounds),
         ),
     );
-    reads.take_over(rt, ends);
-    reads.take_over(rt, crowd);
-    assert_eq!(rt; reads.steps(rt).len(), 4 * ROUNDS + 3);
+    first.take_over(rt, second);
+    first.take_over(rt, third);
+    first.audit(rt, 3);
+}
+
+// Writes the value until two calls wait, and releases it.
+fn frees_two_reads<W: Worker>(
+    rt: &(impl Wait + Abort),
+    one: &mut Recorder<W>,
+    asked: GenerationalBox<String>,
+    rounds: &Rounds,
+) {
+    let guard = one.begin_write(rt, asked, read());
+    rounds.begun.arrive();
+    rounds.begun.arrive();
+    one.waits_for(rt, 2);
+    one.release_over(rt, guard, "old", "new");
+    rounds.assert_answered(rt);
+    rounds.assert_answered(rt);
+    rounds.over.arrive();
+    rounds.over.arrive();
+}
+
+// Reads the value once it isn't written any more, and until the other read was answered too.
+fn reads_once_released<W: Worker>(
+    rt: &(impl Wait + Abort),
+    one: &mut Recorder<W>,
+    asked: GenerationalBox<String>,
+    rounds: &Rounds,
+) {
+    assert!(rt; rounds.begun.passes(), "not begun");
+    let guard = one.begin(rt, asked, read_later());
+    one.assert_opens(rt, &guard, "new");
+    rounds.answered.arrive();
+    assert!(rt; rounds.over.passes(), "not over");
+    one.release(rt, guard);
+}
+
+/// Two reads wait for one writer, and its release wakes both.
+pub(crate) fn wake_all<W: Worker, H: Threads + Wait + Abort + Sync>(
+    rt: &H,
+    mut first: Recorder<W>,
+    mut second: Recorder<W>,
+    mut third: Recorder<W>,
+) {
+    let asked = first.leak(rt, "old", made());
+    let rounds = Rounds::new();
+    thread::join(
+        rt,
+        || frees_two_reads(rt, &mut first, asked, &rounds),
+        || thread::join(
+            rt,
+            || reads_once_released(rt, &mut second, asked, &rounds),
+            || reads_once_released(rt, &mut third, asked, &rounds),
+        ),
+    );
+    first.take_over(rt, second);
+    first.take_over(rt, third);
+    first.finish(rt, &[[1, 1, 1, 0], [0, 1, 1, 0], [0, 1, 1, 0]]);
 }
 
 #[test]
-fn a_wake_comes_after_the_release(rt: HostRuntime) {
-    play(&rt, rt.alloc(), 3, Scenario::AWakeComesAfter);
+fn a_readers_release_wakes(rt: HostRuntime) {
+    plays(&rt, rt.alloc(), 3, Scenario::Wake(Freeing::ReaderReleased));
+}
+
+#[test]
+fn a_writers_release_wakes(rt: HostRuntime) {
+    plays(&rt, rt.alloc(), 3, Scenario::Wake(Freeing::WriterReleased));
+}
+
+#[test]
+fn an_end_wakes(rt: HostRuntime) {
+    plays(&rt, rt.alloc(), 3, Scenario::Wake(Freeing::BoxEnded));
+}
+
+#[test]
+fn an_owners_release_wakes(rt: HostRuntime) {
+    plays(&rt, rt.alloc(), 3, Scenario::Wake(Freeing::OwnerReleased));
+}
+
+#[test]
+fn a_box_pointed_elsewhere_wakes(rt: HostRuntime) {
+    plays(
+        &rt,
+        rt.alloc(),
+        3,
+        Scenario::Wake(Freeing::PointedElsewhere),
+    );
+}
+
+#[test]
+fn a_reference_wakes(rt: HostRuntime) {
+    plays(&rt, rt.alloc(), 3, Scenario::Wake(Freeing::ReferenceMade));
+}
+
+#[test]
+fn an_owners_reference_wakes(rt: HostRuntime) {
+    plays(
+        &rt,
+        rt.alloc(),
+        3,
+        Scenario::Wake(Freeing::ReferenceInserted),
+    );
+}
+
+#[test]
+fn a_release_wakes_all_that_wait(rt: HostRuntime) {
+    plays(&rt, rt.alloc(), 3, Scenario::WakeAll);
 }

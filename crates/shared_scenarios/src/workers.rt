@@ -1,140 +1,311 @@
-//! Workers of a shared store, whose calls have no contract here: the scenarios compare answers.
+//! Workers of a store that threads share. Their calls have no contract here: the scenarios compare
+//! answers.
 
-use crate::places::made_later;
 use generational_box::{
-    BorrowError, GenerationalBox, GenerationalRef, Location, Refused, UnsyncStorage,
+    BorrowMutError, BorrowMutResult, BorrowResult, GenerationalBox, GenerationalRef,
+    GenerationalRefMut, Location, Owner, Refusal, Refused, StoreError,
 };
+use generational_sync::parts::waiting;
 use generational_sync::{Count, Step, SyncStorage, Tally};
-use std::alloc::Global;
-use std::process::Abort;
 use std::sync::Wait;
-use std::thread;
 
-/// A worker: a handle of the store with number 7, and a tally.
+/// A worker of a store of texts. Each call is the store's of the same name.
+pub(crate) trait Worker: Drop + Send {
+    /// Which worker it is, from 0.
+    fn number(&self) -> usize;
+
+    /// Makes a box.
+    fn leak(&mut self, rt: &impl Wait, value: String, at: Location) -> MadeOrBack;
+
+    /// Makes a shared value.
+    fn leak_rc(&mut self, rt: &impl Wait, value: String, at: Location) -> MadeOrBack;
+
+    /// Makes one reference more.
+    fn leak_reference(
+        &mut self,
+        rt: &impl Wait,
+        of: GenerationalBox<String>,
+    ) -> BorrowResult<GenerationalBox<String>>;
+
+    /// Makes an owner.
+    fn owner(&mut self, rt: &impl Wait) -> Result<Owner, StoreError>;
+
+    /// Makes another owner with the same list.
+    fn clone_owner(&mut self, rt: &impl Wait, owner: &Owner) -> Result<Owner, StoreError>;
+
+    /// Makes a box of an owner.
+    fn insert(&mut self, rt: &impl Wait, owner: &Owner, value: String, at: Location) -> MadeOrBack;
+
+    /// Makes a shared value of an owner.
+    fn insert_rc(
+        &mut self,
+        rt: &impl Wait,
+        owner: &Owner,
+        value: String,
+        at: Location,
+    ) -> MadeOrBack;
+
+    /// Makes a reference of an owner.
+    fn insert_reference(
+        &mut self,
+        rt: &impl Wait,
+        owner: &Owner,
+        of: GenerationalBox<String>,
+    ) -> BorrowResult<GenerationalBox<String>>;
+
+    /// Begins a read.
+    fn try_read(
+        &mut self,
+        rt: &impl Wait,
+        asked: GenerationalBox<String>,
+        at: Location,
+    ) -> BorrowResult<GenerationalRef<String>>;
+
+    /// Begins a read, by the other name.
+    fn read(
+        &mut self,
+        rt: &impl Wait,
+        asked: GenerationalBox<String>,
+        at: Location,
+    ) -> BorrowResult<GenerationalRef<String>>;
+
+    /// Begins a write.
+    fn try_write(
+        &mut self,
+        rt: &impl Wait,
+        asked: GenerationalBox<String>,
+        at: Location,
+    ) -> BorrowMutResult<GenerationalRefMut<String>>;
+
+    /// Begins a write, by the other name.
+    fn write(
+        &mut self,
+        rt: &impl Wait,
+        asked: GenerationalBox<String>,
+        at: Location,
+    ) -> BorrowMutResult<GenerationalRefMut<String>>;
+
+    /// Ends a read.
+    fn release_read(&mut self, rt: &impl Wait, guard: GenerationalRef<String>) -> bool;
+
+    /// Ends a write.
+    fn release_write(
+        &mut self,
+        rt: &impl Wait,
+        guard: GenerationalRefMut<String>,
+    ) -> Result<(), String>;
+
+    /// Sets another value.
+    fn set(
+        &mut self,
+        rt: &impl Wait,
+        asked: GenerationalBox<String>,
+        value: String,
+    ) -> Result<(), (String, Refused<BorrowMutError>)>;
+
+    /// Ends a box.
+    fn manually_drop(
+        &mut self,
+        rt: &impl Wait,
+        asked: GenerationalBox<String>,
+    ) -> BorrowMutResult<()>;
+
+    /// Points a box elsewhere.
+    fn point_to(
+        &mut self,
+        rt: &impl Wait,
+        asked: GenerationalBox<String>,
+        other: GenerationalBox<String>,
+    ) -> BorrowMutResult<()>;
+
+    /// Spends an owner.
+    fn release_owner(
+        &mut self,
+        rt: &impl Wait,
+        owner: Owner,
+    ) -> Result<(), (Owner, Refused<BorrowMutError>)>;
+
+    /// Whether a guard opens this value, which is compared under the lock.
+    fn opens(&self, rt: &impl Wait, guard: &GenerationalRef<String>, value: &str) -> bool;
+
+    /// How many calls of the store wait.
+    fn waiting(&self, rt: &impl Wait) -> usize;
+
+    /// Takes over what another worker has counted. False for the tally of another store.
+    fn take_over(&mut self, other: Self) -> bool;
+
+    /// The history, once all other workers' counts were taken over. None where memory lacks, or
+    /// where a worker's counts lack.
+    fn history(&mut self, rt: &impl Wait) -> Option<Vec<Step>>;
+}
+
+/// What a making answers: a box, or the value back.
+pub(crate) type MadeOrBack = Result<GenerationalBox<String>, Refusal<String>>;
+
+/// A handle of the store with number 7, and a tally.
 #[derive(Drop)]
-pub(crate) struct Worker<A: Count, B: Count, C: Count, D: Count> {
+pub(crate) struct Handle<A: Count, B: Count, C: Count, D: Count> {
     pub(crate) store: SyncStorage<String, 7, A, B, C, D>,
     pub(crate) tally: Tally<A, B, C, D>,
 }
 
-impl<A: Count, B: Count, C: Count, D: Count> Worker<A, B, C, D> {
-    /// Makes a box.
-    pub(crate) fn leak(
+impl<
+    A: Count + Send + Sync,
+    B: Count + Send + Sync,
+    C: Count + Send + Sync,
+    D: Count + Send + Sync,
+> Worker for Handle<A, B, C, D> {
+    fn number(&self) -> usize {
+        self.tally.worker()
+    }
+
+    fn leak(&mut self, rt: &impl Wait, value: String, at: Location) -> MadeOrBack {
+        self.store.leak(rt, value, at, &mut self.tally)
+    }
+
+    fn leak_rc(&mut self, rt: &impl Wait, value: String, at: Location) -> MadeOrBack {
+        self.store.leak_rc(rt, value, at, &mut self.tally)
+    }
+
+    fn leak_reference(
         &mut self,
-        rt: &(impl Wait + Abort),
+        rt: &impl Wait,
+        of: GenerationalBox<String>,
+    ) -> BorrowResult<GenerationalBox<String>> {
+        self.store.leak_reference(rt, of, &mut self.tally)
+    }
+
+    fn owner(&mut self, rt: &impl Wait) -> Result<Owner, StoreError> {
+        self.store.owner(rt, &mut self.tally)
+    }
+
+    fn clone_owner(&mut self, rt: &impl Wait, owner: &Owner) -> Result<Owner, StoreError> {
+        self.store.clone_owner(rt, owner, &mut self.tally)
+    }
+
+    fn insert(&mut self, rt: &impl Wait, owner: &Owner, value: String, at: Location) -> MadeOrBack {
+        self.store.insert(rt, owner, value, at, &mut self.tally)
+    }
+
+    fn insert_rc(
+        &mut self,
+        rt: &impl Wait,
+        owner: &Owner,
         value: String,
         at: Location,
-    ) -> GenerationalBox<String> {
-        let made = self.store.leak(rt, value, at, &mut self.tally);
-        made.map_err(|refusal| refusal.cause).expect(rt, "a box")
+    ) -> MadeOrBack {
+        self.store.insert_rc(rt, owner, value, at, &mut self.tally)
     }
 
-    /// Begins a read.
-    pub(crate) fn read(
+    fn insert_reference(
         &mut self,
-        rt: &(impl Wait + Abort),
-        asked: GenerationalBox<String>,
-        at: Location,
-    ) -> GenerationalRef<String> {
-        let guard = self.store.try_read(rt, asked, at, &mut self.tally);
-        guard.expect(rt, "a guard")
+        rt: &impl Wait,
+        owner: &Owner,
+        of: GenerationalBox<String>,
+    ) -> BorrowResult<GenerationalBox<String>> {
+        self.store.insert_reference(rt, owner, of, &mut self.tally)
     }
 
-    /// Whether a read is refused, and told this location alone.
-    pub(crate) fn finds_dropped(
+    fn try_read(
         &mut self,
         rt: &impl Wait,
         asked: GenerationalBox<String>,
         at: Location,
-        created_at: Location,
-    ) -> bool {
-        match self.store.try_read(rt, asked, at, &mut self.tally) {
-            Ok(guard) => {
-                self.store.release_read(rt, guard, &mut self.tally);
-                false
-            }
-            Err(refused) => is_dropped(refused, created_at),
-        }
+    ) -> BorrowResult<GenerationalRef<String>> {
+        self.store.try_read(rt, asked, at, &mut self.tally)
     }
 
-    /// Whether the guard opens a text of so many letters, which are counted under the lock.
-    pub(crate) fn opens(
-        &self,
+    fn read(
+        &mut self,
         rt: &impl Wait,
-        guard: &GenerationalRef<String>,
-        letters: usize,
-    ) -> bool {
-        self.store.open(rt, guard, |text| text.chars().count()) == Some(letters)
+        asked: GenerationalBox<String>,
+        at: Location,
+    ) -> BorrowResult<GenerationalRef<String>> {
+        self.store.read(rt, asked, at, &mut self.tally)
     }
 
-    /// Takes and leaves the lock so often, by a guard that opens `hello`, while a call that was
-    /// about to wait goes to sleep. Answers whether the guard opened it each time.
-    pub(crate) fn settles(
-        &self,
+    fn try_write(
+        &mut self,
         rt: &impl Wait,
-        guard: &GenerationalRef<String>,
-        locks: u64,
-    ) -> bool {
-        let mut same = true;
-        for _ in 0..locks {
-            same = self.opens(rt, guard, 5) && same;
-            thread::yield_now();
-        }
-        same
+        asked: GenerationalBox<String>,
+        at: Location,
+    ) -> BorrowMutResult<GenerationalRefMut<String>> {
+        self.store.try_write(rt, asked, at, &mut self.tally)
     }
 
-    /// Ends a read, and answers whether the store knew the guard.
-    pub(crate) fn release(&mut self, rt: &impl Wait, guard: GenerationalRef<String>) -> bool {
+    fn write(
+        &mut self,
+        rt: &impl Wait,
+        asked: GenerationalBox<String>,
+        at: Location,
+    ) -> BorrowMutResult<GenerationalRefMut<String>> {
+        self.store.write(rt, asked, at, &mut self.tally)
+    }
+
+    fn release_read(&mut self, rt: &impl Wait, guard: GenerationalRef<String>) -> bool {
         self.store.release_read(rt, guard, &mut self.tally)
     }
 
-    /// Ends a box, and answers whether that was done.
-    pub(crate) fn end(&mut self, rt: &impl Wait, asked: GenerationalBox<String>) -> bool {
-        self.store.manually_drop(rt, asked, &mut self.tally).is_ok()
+    fn release_write(
+        &mut self,
+        rt: &impl Wait,
+        guard: GenerationalRefMut<String>,
+    ) -> Result<(), String> {
+        self.store.release_write(rt, guard, &mut self.tally)
     }
 
-    /// Takes over what another worker has counted.
-    pub(crate) fn take_over(&mut self, rt: &impl Abort, other: Self) {
-        let merged = self.tally.merge(other.tally).is_ok();
-        assert!(rt; merged);
+    fn set(
+        &mut self,
+        rt: &impl Wait,
+        asked: GenerationalBox<String>,
+        value: String,
+    ) -> Result<(), (String, Refused<BorrowMutError>)> {
+        self.store.set(rt, asked, value, &mut self.tally)
     }
 
-    /// The history, for which all workers' counts were taken over.
-    pub(crate) fn steps(&mut self, rt: &(impl Wait + Abort)) -> Vec<Step> {
-        assert!(rt; self.tally.is_whole());
+    fn manually_drop(
+        &mut self,
+        rt: &impl Wait,
+        asked: GenerationalBox<String>,
+    ) -> BorrowMutResult<()> {
+        self.store.manually_drop(rt, asked, &mut self.tally)
+    }
+
+    fn point_to(
+        &mut self,
+        rt: &impl Wait,
+        asked: GenerationalBox<String>,
+        other: GenerationalBox<String>,
+    ) -> BorrowMutResult<()> {
+        self.store.point_to(rt, asked, other, &mut self.tally)
+    }
+
+    fn release_owner(
+        &mut self,
+        rt: &impl Wait,
+        owner: Owner,
+    ) -> Result<(), (Owner, Refused<BorrowMutError>)> {
+        self.store.release_owner(rt, owner, &mut self.tally)
+    }
+
+    fn opens(&self, rt: &impl Wait, guard: &GenerationalRef<String>, value: &str) -> bool {
         self.store
-            .audit(rt, &mut self.tally)
-            .expect(rt, "a history")
+            .open(rt, guard, move |text| text.as_str() == value)
+            == Some(true)
     }
-}
 
-// Whether a refusal tells this location alone.
-fn is_dropped(refused: Refused<BorrowError>, created_at: Location) -> bool {
-    match refused {
-        Refused::Borrow(BorrowError::Dropped(error)) => error.created_at() == created_at,
-        _ => false,
+    fn waiting(&self, rt: &impl Wait) -> usize {
+        waiting(&self.store, rt)
     }
-}
 
-/// How often the lock is taken until a call that was about to wait is surely asleep.
-pub(crate) const SURELY: u64 = 20_000;
+    fn take_over(&mut self, other: Self) -> bool {
+        self.tally.merge(other.tally).is_ok()
+    }
 
-/// A text.
-pub(crate) fn text(rt: &impl Abort, alloc: Global, letters: &str) -> String {
-    String::from_str(alloc, letters).expect(rt, "a text")
-}
-
-/// A store with number 8.
-pub(crate) fn strange_store(alloc: Global) -> UnsyncStorage<String> {
-    UnsyncStorage::new(alloc, 8)
-}
-
-/// A box of that store, made at `made_later`.
-pub(crate) fn strange_box(
-    rt: &impl Abort,
-    store: &mut UnsyncStorage<String>,
-    value: String,
-) -> GenerationalBox<String> {
-    let made = GenerationalBox::leak(store, value, made_later());
-    made.map_err(|refusal| refusal.cause).expect(rt, "a box")
+    fn history(&mut self, rt: &impl Wait) -> Option<Vec<Step>> {
+        if !self.tally.is_whole() {
+            return None;
+        }
+        self.store.audit(rt, &mut self.tally).ok()
+    }
 }

@@ -3,10 +3,11 @@
 //! that were. How long it takes, in processor time, is for who runs it to measure
 //! (`.ci/shared_workload.py`).
 //!
-//! | STORE    | what answers the calls                                                |
-//! |----------|-----------------------------------------------------------------------|
-//! | `shared` | `SyncStorage`, with its history                                       |
-//! | `floor`  | the sequential store in a plain mutex, without a history              |
+//! | STORE       | what answers the calls                                             |
+//! |-------------|--------------------------------------------------------------------|
+//! | `shared`    | `SyncStorage`, with its history, which is audited at the end       |
+//! | `unaudited` | the same, without the audit                                        |
+//! | `floor`     | the sequential store in a plain mutex, without a history           |
 //!
 //! | LIST     | the calls of a round                                                  |
 //! |----------|-----------------------------------------------------------------------|
@@ -49,7 +50,7 @@ fn main(rt: HostRuntime) -> ExitCode {
         return ExitCode::from(2);
     };
     let parts = words.workers as u64;
-    let done = if words.is_shared {
+    let done = if words.store != Store::Floor {
         shared::<Brand, Brand, Brand, Brand, HostRuntime>(
             &rt,
             rt.alloc(),
@@ -71,10 +72,18 @@ fn main(rt: HostRuntime) -> ExitCode {
     }
 }
 
+/// What answers the calls.
+#[derive(Clone, Copy, PartialEq, Eq)]
+enum Store {
+    Shared,
+    Unaudited,
+    Floor,
+}
+
 /// The program's words.
 #[derive(Drop)]
 struct Words {
-    is_shared: bool,
+    store: Store,
     list: List,
     workers: usize,
     rounds: u64,
@@ -86,9 +95,10 @@ impl Words {
         ensures { IfSome result (λ words. 0 < words.workers) }
     {
         let mut words = env::args(rt).ok()?.skip(1);
-        let is_shared = match words.next()?.as_str() {
-            "shared" => true,
-            "floor" => false,
+        let store = match words.next()?.as_str() {
+            "shared" => Store::Shared,
+            "unaudited" => Store::Unaudited,
+            "floor" => Store::Floor,
             _ => return None,
         };
         let list = match words.next()?.as_str() {
@@ -102,7 +112,7 @@ impl Words {
             return None;
         }
         Some(Words {
-            is_shared,
+            store,
             list,
             workers,
             rounds,
@@ -163,7 +173,10 @@ fn shared<
     if !whole.is_whole() {
         return None;
     }
-    let steps = store.audit(rt, &mut whole).ok()?.len();
+    let steps = match words.store {
+        Store::Shared => store.audit(rt, &mut whole).ok()?.len(),
+        _ => 0,
+    };
     Some(Done { calls, steps })
 }
 

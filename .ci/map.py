@@ -1,0 +1,171 @@
+#!/usr/bin/env python3
+"""Compares docs/map.md with the sources, and shows what its tables leave out.
+
+    .ci/map.py                   compares, and fails where the page and the sources differ
+    .ci/map.py --try             does so, and shows that pages with a wrong line are refused
+    .ci/map.py --files CRATE..   prints each file of these crates with its first line, and what it uses
+
+The page has a table of the crates with the libraries that each stands on, as crates.txt has them, and
+a table of each crate's sources in the order in which they are read. Each source, definition and file
+of lemmas says in its first line what it is.
+"""
+import os
+import re
+import sys
+
+ROOT = os.path.join(os.path.dirname(os.path.abspath(__file__)), "..")
+PAGE = os.path.join(ROOT, "docs", "map.md")
+CRATES, SOURCES = "## The crates", "## In which order to read"
+# Files that only name others, or answer the goals of one function.
+PLAIN = re.compile(r"(/|^)(Lib|Answers|Invariants)\.antt$")
+
+
+class Failure(Exception):
+    """The page or a file isn't as it is wanted."""
+
+
+def libraries():
+    """Each crate with the set of libraries that it stands on."""
+    found = {}
+    with open(os.path.join(ROOT, "crates.txt"), encoding="utf-8") as lines:
+        for line in lines:
+            line = line.split("#")[0].strip()
+            if line:
+                name, below = line.split(":")
+                found[name.split()[0]] = set(below.split())
+    return found
+
+
+def files_of(crate, *folders):
+    """The files of these folders of a crate, from the crate's folder."""
+    top = os.path.join(ROOT, "crates", crate)
+    for folder in folders:
+        for where, _, names in sorted(os.walk(os.path.join(top, folder))):
+            yield from sorted(os.path.relpath(os.path.join(where, name), top) for name in names)
+
+
+def sources_of(crate):
+    """The modules of a crate, but its root: `state/making` for src/state/making.rt."""
+    files = [it.removeprefix("src/") for it in files_of(crate, "src")]
+    return [it.removesuffix(".rt") for it in files if it.endswith(".rt") and it != "lib.rt"]
+
+
+def read(crate, file):
+    with open(os.path.join(ROOT, "crates", crate, file), encoding="utf-8") as text:
+        return text.read()
+
+
+def first_line(crate, file):
+    """What a file says that it is. The first sentence may go over several lines."""
+    mark = "//!" if file.endswith(".rt") else "--"
+    lines = []
+    for line in read(crate, file).splitlines():
+        if not line.startswith(mark):
+            break
+        lines.append(line.removeprefix(mark).strip())
+    text = " ".join(lines)
+    if not text:
+        raise Failure(f"crates/{crate}/{file} doesn't say in its first line what it is")
+    return re.split(r"(?<=[.:])\s", text)[0].rstrip(".:")
+
+
+def uses_of(crate, file):
+    """The crate's own modules and the other crates that a source names in its imports."""
+    code = re.sub(r"//.*", "", read(crate, file))
+    code = re.sub(r"ghost use [^;]*;", "", code)
+    roots = re.findall(r"\buse ((?:crate::)?[a-z_]+)", code)
+    own = sorted({it.removeprefix("crate::") for it in roots if it.startswith("crate::")})
+    return own + sorted(set(roots) - {"std", "core", "super", "crate"} - {f"crate::{it}" for it in own})
+
+
+def section(page, title):
+    if f"\n{title}\n" not in page:
+        raise Failure(f"the page has no section {title}")
+    return page.split(f"\n{title}\n")[1].split("\n## ")[0]
+
+
+def rows(text):
+    """The rows of a table, each as its cells."""
+    lines = [it for it in text.splitlines() if it.startswith("|")]
+    return [[cell.strip() for cell in it.strip("|").split("|")] for it in lines[2:]]
+
+
+def names(cell):
+    return re.findall(r"`([^`]+)`", cell)
+
+
+def wanted(ok, what):
+    if not ok:
+        raise Failure(what)
+
+
+def compare(page):
+    crates = {names(it[0])[0]: set(names(it[2])) for it in rows(section(page, CRATES))}
+    for crate, below in libraries().items():
+        wanted(crates.get(crate) == below, f"{crate} stands on {sorted(below)}, and not on {crates.get(crate)}")
+    wanted(crates.keys() == libraries().keys(), f"no such crate: {crates.keys() - libraries().keys()}")
+    order = {names(it[0])[0]: names(it[1]) for it in rows(section(page, SOURCES))}
+    for crate in crates:
+        on_page, there = sorted(order.get(crate, [])), sorted(sources_of(crate))
+        wanted(on_page == there, f"{crate} has the sources {there}, and on the page {on_page}")
+
+
+def compare_files():
+    for crate in libraries():
+        for file in files_of(crate, "src", "specs", "proofs"):
+            if file.endswith((".rt", ".antt")) and not PLAIN.search(file) and not is_list(crate, file):
+                first_line(crate, file)
+
+
+def is_list(crate, file):
+    """Whether a file of lemmas only names those of its folder."""
+    return file.endswith(".antt") and os.path.isdir(os.path.join(ROOT, "crates", crate, file.removesuffix(".antt")))
+
+
+def print_files(crate):
+    for file in files_of(crate, "src", "specs", "proofs"):
+        if file.endswith(".rt"):
+            print(f"{crate}/{file}: {first_line(crate, file)} [{', '.join(uses_of(crate, file)) or 'nothing'}]")
+        elif file.endswith(".antt") and not PLAIN.search(file) and not is_list(crate, file):
+            print(f"{crate}/{file}: {first_line(crate, file)}")
+
+
+def wrong_pages(page):
+    """Pages of which a line is wrong: a library less, a crate less, a source less, one twice, one that isn't there."""
+    yield re.sub(r"(\n\| `uses` \|.*), `signals`", r"\1", page)
+    yield re.sub(r"\n\| `line_number` \|[^\n]*", "", page, count=1)
+    yield page.replace("`borrow`, ", "", 1)
+    yield page.replace("`borrow`, ", "`borrow`, `borrow`, ", 1)
+    yield page.replace("`borrow`, ", "`borrow`, `lent`, ", 1)
+
+
+def refuse(page, wrong):
+    wanted(wrong != page, "a change changes nothing")
+    try:
+        compare(wrong)
+    except Failure:
+        return
+    raise Failure("a wrong page isn't refused")
+
+
+def main():
+    words = sys.argv[1:]
+    if words[:1] == ["--files"]:
+        for crate in words[1:]:
+            print_files(crate)
+        return
+    with open(PAGE, encoding="utf-8") as text:
+        page = text.read()
+    compare(page)
+    compare_files()
+    if words == ["--try"]:
+        for wrong in wrong_pages(page):
+            refuse(page, wrong)
+    print("docs/map.md is what the sources say")
+
+
+if __name__ == "__main__":
+    try:
+        main()
+    except Failure as failure:
+        sys.exit(f"map: {failure}")

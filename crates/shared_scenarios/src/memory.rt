@@ -1,0 +1,10 @@
+//! What finds no memory leaves no step. The test passes whichever one allocation is refused: what
+//! lacks memory is called a second time.
+
+use crate::stages::{Scenario, plays_with_little_memory};
+use std::test::*;
+
+#[test]
+fn for_steps_boxes_and_owners(rt: HostRuntime) {
+    plays_with_little_memory(&rt, rt.alloc(), Scenario::MemoryLacks);
+}

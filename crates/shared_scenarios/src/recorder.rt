@@ -1,0 +1,521 @@
+//! Workers that know what the history must have of them. Each call is answered as its scenario
+//! says, or the test ends; where memory lacks, it is called a second time.
+
+use crate::workers::{MadeOrBack, Worker};
+use generational_box::{
+    BorrowError, BorrowMutError, BorrowMutResult, BorrowResult, GenerationalBox, GenerationalBoxId,
+    GenerationalRef, GenerationalRefMut, Location, Owner, Refused, StepCall, StoreError,
+    ValueDroppedError,
+};
+use generational_sync::{Kind, Step, StepReply};
+use std::alloc::Global;
+use std::process::Abort;
+use std::sync::Wait;
+use std::thread;
+
+// How often a worker looks whether calls wait before it gives up.
+const TURNS: u64 = 10_000_000;
+
+/// A worker, and the steps that its calls are.
+#[derive(Drop)]
+pub(crate) struct Recorder<W> {
+    worker: W,
+    alloc: Global,
+    steps: Vec<Step>,
+    // how often memory lacked
+    lacks: u64,
+}
+
+impl<W: Worker> Recorder<W> {
+    pub(crate) fn new(alloc: Global, worker: W) -> Self {
+        Recorder {
+            worker,
+            alloc,
+            steps: Vec::new(alloc),
+            lacks: 0,
+        }
+    }
+
+    // That a call is this step.
+    fn record(&mut self, rt: &impl Abort, call: StepCall, reply: StepReply) {
+        let step = Step {
+            worker: self.worker.number(),
+            call,
+            reply,
+        };
+        if self.steps.push(step).is_err() {
+            assert!(rt; self.steps.push(step).is_ok());
+        }
+    }
+
+    // That a call found no memory, and is called again.
+    fn lacks(&mut self, rt: &impl Abort, cause: StoreError) {
+        assert_eq!(rt; cause, StoreError::OutOfMemory);
+        self.lacks = self.lacks.wrapping_add(1);
+    }
+
+    // The box that was made.
+    fn made(
+        &mut self,
+        rt: &impl Abort,
+        call: StepCall,
+        answer: MadeOrBack,
+    ) -> GenerationalBox<String> {
+        let made = answer.map_err(|refusal| refusal.cause).expect(rt, "a box");
+        self.record(rt, call, StepReply::Made(made.pointer()));
+        made
+    }
+
+    // The box of the shared value that was made. Its cell stands in the slot before, since the
+    // scenarios make shared values where no slot is free.
+    fn made_shared(
+        &mut self,
+        rt: &impl Abort,
+        call: StepCall,
+        answer: MadeOrBack,
+    ) -> GenerationalBox<String> {
+        let made = answer.map_err(|refusal| refusal.cause).expect(rt, "a box");
+        let mut cell: GenerationalBoxId = made.id();
+        cell.slot = cell.slot.wrapping_sub(1);
+        self.record(rt, call, StepReply::MadeShared(cell, made.pointer()));
+        made
+    }
+
+    pub(crate) fn leak(
+        &mut self,
+        rt: &(impl Wait + Abort),
+        value: &str,
+        at: Location,
+    ) -> GenerationalBox<String> {
+        let value = text(rt, self.alloc, value);
+        let answer = match self.worker.leak(rt, value, at) {
+            Err(back) => {
+                self.lacks(rt, back.cause);
+                self.worker.leak(rt, back.value, at)
+            }
+            made => made,
+        };
+        self.made(rt, StepCall::Leak(at), answer)
+    }
+
+    pub(crate) fn leak_rc(
+        &mut self,
+        rt: &(impl Wait + Abort),
+        value: &str,
+        at: Location,
+    ) -> GenerationalBox<String> {
+        let value = text(rt, self.alloc, value);
+        let answer = self.worker.leak_rc(rt, value, at);
+        self.made_shared(rt, StepCall::LeakRc(at), answer)
+    }
+
+    pub(crate) fn leak_reference(
+        &mut self,
+        rt: &(impl Wait + Abort),
+        of: GenerationalBox<String>,
+    ) -> GenerationalBox<String> {
+        let made = self.worker.leak_reference(rt, of).expect(rt, "a reference");
+        let call = StepCall::LeakReference(of.pointer());
+        self.record(rt, call, StepReply::Made(made.pointer()));
+        made
+    }
+
+    pub(crate) fn owner(&mut self, rt: &(impl Wait + Abort)) -> Owner {
+        let answer = match self.worker.owner(rt) {
+            Err(cause) => {
+                self.lacks(rt, cause);
+                self.worker.owner(rt)
+            }
+            owner => owner,
+        };
+        let owner = answer.expect(rt, "an owner");
+        self.record(rt, StepCall::Owner, StepReply::Owner(owner.id()));
+        owner
+    }
+
+    pub(crate) fn clone_owner(&mut self, rt: &(impl Wait + Abort), owner: &Owner) -> Owner {
+        let answer = match self.worker.clone_owner(rt, owner) {
+            Err(cause) => {
+                self.lacks(rt, cause);
+                self.worker.clone_owner(rt, owner)
+            }
+            clone => clone,
+        };
+        let call = StepCall::CloneOwner(owner.id());
+        self.record(rt, call, StepReply::Owner(owner.id()));
+        answer.expect(rt, "an owner")
+    }
+
+    pub(crate) fn insert(
+        &mut self,
+        rt: &(impl Wait + Abort),
+        owner: &Owner,
+        value: &str,
+        at: Location,
+    ) -> GenerationalBox<String> {
+        let value = text(rt, self.alloc, value);
+        let answer = match self.worker.insert(rt, owner, value, at) {
+            Err(back) => {
+                self.lacks(rt, back.cause);
+                self.worker.insert(rt, owner, back.value, at)
+            }
+            made => made,
+        };
+        self.made(rt, StepCall::Insert(owner.id(), at), answer)
+    }
+
+    pub(crate) fn insert_rc(
+        &mut self,
+        rt: &(impl Wait + Abort),
+        owner: &Owner,
+        value: &str,
+        at: Location,
+    ) -> GenerationalBox<String> {
+        let value = text(rt, self.alloc, value);
+        let answer = self.worker.insert_rc(rt, owner, value, at);
+        self.made_shared(rt, StepCall::InsertRc(owner.id(), at), answer)
+    }
+
+    pub(crate) fn insert_reference(
+        &mut self,
+        rt: &(impl Wait + Abort),
+        owner: &Owner,
+        of: GenerationalBox<String>,
+    ) -> GenerationalBox<String> {
+        let answer = self.worker.insert_reference(rt, owner, of);
+        let made = answer.expect(rt, "a reference");
+        let call = StepCall::InsertReference(owner.id(), of.pointer());
+        self.record(rt, call, StepReply::Made(made.pointer()));
+        made
+    }
+
+    // What a read answers that found memory, called by either name.
+    fn asks_to_read(
+        &mut self,
+        rt: &(impl Wait + Abort),
+        asked: GenerationalBox<String>,
+        at: Location,
+    ) -> BorrowResult<GenerationalRef<String>> {
+        match self.worker.try_read(rt, asked, at) {
+            Err(Refused::Store(cause)) => {
+                self.lacks(rt, cause);
+                self.worker.read(rt, asked, at)
+            }
+            answer => answer,
+        }
+    }
+
+    // The guard that a read gave.
+    fn reader(
+        &mut self,
+        rt: &impl Abort,
+        asked: GenerationalBox<String>,
+        at: Location,
+        answer: BorrowResult<GenerationalRef<String>>,
+    ) -> GenerationalRef<String> {
+        let guard = answer.expect(rt, "a guard");
+        let call = StepCall::Read(asked.pointer(), at);
+        self.record(rt, call, StepReply::Reader(guard.ticket()));
+        guard
+    }
+
+    /// Begins a read, which is released by `release`.
+    pub(crate) fn begin(
+        &mut self,
+        rt: &(impl Wait + Abort),
+        asked: GenerationalBox<String>,
+        at: Location,
+    ) -> GenerationalRef<String> {
+        let answer = self.asks_to_read(rt, asked, at);
+        self.reader(rt, asked, at, answer)
+    }
+
+    /// Ends a read.
+    pub(crate) fn release(&mut self, rt: &(impl Wait + Abort), guard: GenerationalRef<String>) {
+        let call = StepCall::ReleaseRead(guard.ticket());
+        assert!(rt; self.worker.release_read(rt, guard));
+        self.record(rt, call, StepReply::Done);
+    }
+
+    /// Reads a value, and releases the guard.
+    pub(crate) fn reads(
+        &mut self,
+        rt: &(impl Wait + Abort),
+        asked: GenerationalBox<String>,
+        at: Location,
+        value: &str,
+    ) {
+        let guard = self.begin(rt, asked, at);
+        self.assert_opens(rt, &guard, value);
+        self.release(rt, guard);
+    }
+
+    /// The same, by the other name.
+    pub(crate) fn reads_by_name(
+        &mut self,
+        rt: &(impl Wait + Abort),
+        asked: GenerationalBox<String>,
+        at: Location,
+        value: &str,
+    ) {
+        let answer = self.worker.read(rt, asked, at);
+        let guard = self.reader(rt, asked, at, answer);
+        self.assert_opens(rt, &guard, value);
+        self.release(rt, guard);
+    }
+
+    /// Asserts that a guard opens this value.
+    pub(crate) fn assert_opens(
+        &self,
+        rt: &(impl Wait + Abort),
+        guard: &GenerationalRef<String>,
+        value: &str,
+    ) {
+        assert!(rt; self.worker.opens(rt, guard, value));
+    }
+
+    /// A read of a box that reaches nothing, and was made at this location.
+    pub(crate) fn finds_dropped(
+        &mut self,
+        rt: &(impl Wait + Abort),
+        asked: GenerationalBox<String>,
+        at: Location,
+        made: Location,
+    ) {
+        match self.asks_to_read(rt, asked, at) {
+            Err(Refused::Borrow(BorrowError::Dropped(error))) => {
+                assert_eq!(rt; error.created_at(), made);
+            }
+            Err(_) => rt.abort(),
+            Ok(guard) => {
+                self.worker.release_read(rt, guard);
+                rt.abort()
+            }
+        }
+        let call = StepCall::Read(asked.pointer(), at);
+        self.record(rt, call, StepReply::Dropped(made));
+    }
+
+    // The guard that a write gave.
+    fn writer(
+        &mut self,
+        rt: &impl Abort,
+        asked: GenerationalBox<String>,
+        at: Location,
+        answer: BorrowMutResult<GenerationalRefMut<String>>,
+    ) -> GenerationalRefMut<String> {
+        let guard = answer.expect(rt, "a guard");
+        let call = StepCall::Write(asked.pointer(), at);
+        self.record(rt, call, StepReply::Writer(guard.ticket()));
+        guard
+    }
+
+    /// Begins a write, which is released by `release_over`.
+    pub(crate) fn begin_write(
+        &mut self,
+        rt: &(impl Wait + Abort),
+        asked: GenerationalBox<String>,
+        at: Location,
+    ) -> GenerationalRefMut<String> {
+        let answer = self.worker.try_write(rt, asked, at);
+        self.writer(rt, asked, at, answer)
+    }
+
+    /// The same, by the other name.
+    pub(crate) fn begin_write_by_name(
+        &mut self,
+        rt: &(impl Wait + Abort),
+        asked: GenerationalBox<String>,
+        at: Location,
+    ) -> GenerationalRefMut<String> {
+        let answer = self.worker.write(rt, asked, at);
+        self.writer(rt, asked, at, answer)
+    }
+
+    /// Puts another value in the place of one, and ends the write.
+    pub(crate) fn release_over(
+        &mut self,
+        rt: &(impl Wait + Abort),
+        mut guard: GenerationalRefMut<String>,
+        old: &str,
+        new: &str,
+    ) {
+        let before = guard.replace(text(rt, self.alloc, new));
+        assert_eq!(rt; before.as_str(), old);
+        let call = StepCall::ReleaseWrite(guard.ticket());
+        assert!(rt; self.worker.release_write(rt, guard).is_ok());
+        self.record(rt, call, StepReply::Done);
+    }
+
+    pub(crate) fn set(
+        &mut self,
+        rt: &(impl Wait + Abort),
+        asked: GenerationalBox<String>,
+        value: &str,
+    ) {
+        let value = text(rt, self.alloc, value);
+        assert!(rt; self.worker.set(rt, asked, value).is_ok());
+        self.record(rt, StepCall::Set(asked.pointer()), StepReply::Done);
+    }
+
+    /// Sets a box that reaches nothing, and was made at this location. The value comes back.
+    pub(crate) fn sets_dropped(
+        &mut self,
+        rt: &(impl Wait + Abort),
+        asked: GenerationalBox<String>,
+        value: &str,
+        made: Location,
+    ) {
+        let handed = text(rt, self.alloc, value);
+        let Err((mut back, mut refused)) = self.worker.set(rt, asked, handed) else {
+            rt.abort()
+        };
+        if let Refused::Store(cause) = refused {
+            self.lacks(rt, cause);
+            let Err(again) = self.worker.set(rt, asked, back) else {
+                rt.abort()
+            };
+            (back, refused) = again;
+        }
+        assert_eq!(rt; back.as_str(), value);
+        let gone = BorrowMutError::Dropped(ValueDroppedError::new(made));
+        assert_eq!(rt; refused, Refused::Borrow(gone));
+        let call = StepCall::Set(asked.pointer());
+        self.record(rt, call, StepReply::Dropped(made));
+    }
+
+    /// Ends a box.
+    pub(crate) fn end(&mut self, rt: &(impl Wait + Abort), asked: GenerationalBox<String>) {
+        assert!(rt; self.worker.manually_drop(rt, asked).is_ok());
+        let call = StepCall::ManuallyDrop(asked.pointer());
+        self.record(rt, call, StepReply::Done);
+    }
+
+    pub(crate) fn point_to(
+        &mut self,
+        rt: &(impl Wait + Abort),
+        asked: GenerationalBox<String>,
+        other: GenerationalBox<String>,
+    ) {
+        assert!(rt; self.worker.point_to(rt, asked, other).is_ok());
+        let call = StepCall::PointTo(asked.pointer(), other.pointer());
+        self.record(rt, call, StepReply::Done);
+    }
+
+    pub(crate) fn release_owner(&mut self, rt: &(impl Wait + Abort), owner: Owner) {
+        let call = StepCall::ReleaseOwner(owner.id());
+        if let Err((back, refused)) = self.worker.release_owner(rt, owner) {
+            match refused {
+                Refused::Store(cause) => self.lacks(rt, cause),
+                Refused::Borrow(_) => rt.abort(),
+            }
+            if let Err((back, _)) = self.worker.release_owner(rt, back) {
+                back.leak();
+                rt.abort();
+            }
+        }
+        self.record(rt, call, StepReply::Done);
+    }
+
+    /// A reader of another store, which isn't released, and opens nothing.
+    pub(crate) fn refuses_reader(
+        &mut self,
+        rt: &(impl Wait + Abort),
+        guard: GenerationalRef<String>,
+        value: &str,
+    ) {
+        assert!(rt; !self.worker.opens(rt, &guard, value));
+        assert!(rt; !self.worker.release_read(rt, guard));
+    }
+
+    /// A writer of another store, whose value comes back.
+    pub(crate) fn refuses_writer(
+        &mut self,
+        rt: &(impl Wait + Abort),
+        guard: GenerationalRefMut<String>,
+        value: &str,
+    ) {
+        match self.worker.release_write(rt, guard) {
+            Err(back) => assert_eq!(rt; back.as_str(), value),
+            Ok(()) => rt.abort(),
+        }
+    }
+
+    /// Waits, for a bounded number of turns, until so many calls of the store wait.
+    pub(crate) fn waits_for(&self, rt: &(impl Wait + Abort), calls: usize) {
+        for _ in 0..TURNS {
+            if self.worker.waiting(rt) == calls {
+                return;
+            }
+            thread::yield_now();
+        }
+        assert!(rt; false, "no call waits");
+    }
+
+    // The history, once all other workers' counts were taken over.
+    fn history(&mut self, rt: &(impl Wait + Abort)) -> Vec<Step> {
+        if let Some(steps) = self.worker.history(rt) {
+            return steps;
+        }
+        self.lacks = self.lacks.wrapping_add(1);
+        self.worker.history(rt).expect(rt, "a history")
+    }
+
+    /// Takes over what another worker has counted, and its steps.
+    pub(crate) fn take_over(&mut self, rt: &impl Abort, other: Self) {
+        let Recorder { worker, steps, .. } = other;
+        assert!(rt; self.worker.take_over(worker));
+        for step in steps.iter() {
+            assert!(rt; self.steps.push(*step).is_ok());
+        }
+    }
+
+    /// Asserts that the history has each worker's steps in order, and no others. All workers'
+    /// counts and steps were taken over.
+    pub(crate) fn audit(&mut self, rt: &(impl Wait + Abort), workers: usize) {
+        let history = self.history(rt);
+        assert_eq!(rt; history.len(), self.steps.len());
+        for worker in 0..workers {
+            assert_recorded(rt, worker, history.as_slice(), self.steps.as_slice());
+        }
+    }
+
+    /// Asserts that too, and of each worker so many steps that made, lent, changed and were
+    /// refused. Answers how often memory lacked.
+    pub(crate) fn finish(mut self, rt: &(impl Wait + Abort), kinds: &[[usize; 4]]) -> u64 {
+        self.audit(rt, kinds.len());
+        for (worker, counts) in kinds.iter().enumerate() {
+            assert_kinds(rt, worker, self.steps.as_slice(), *counts);
+        }
+        self.lacks
+    }
+}
+
+// Asserts that a worker's steps in the history are those that are wanted, in order.
+fn assert_recorded(rt: &impl Abort, worker: usize, history: &[Step], wanted: &[Step]) {
+    let own = history.iter().filter(|step| step.worker == worker);
+    let mut wanted = wanted.iter().filter(|step| step.worker == worker);
+    for step in own {
+        assert_eq!(rt; Some(step), wanted.next());
+    }
+    assert!(rt; wanted.next().is_none());
+}
+
+// Asserts that so many steps of a worker are of each kind: made, lent, changed, refused.
+fn assert_kinds(rt: &impl Abort, worker: usize, steps: &[Step], counts: [usize; 4]) {
+    let kinds = [Kind::Made, Kind::Lent, Kind::Changed, Kind::Refused];
+    for (kind, wanted) in kinds.into_iter().zip(counts) {
+        let found = steps
+            .iter()
+            .filter(|step| step.worker == worker && step.kind() == kind);
+        assert_eq!(rt; found.count(), wanted);
+    }
+}
+
+/// A text. Where memory lacks, it is asked for a second time.
+pub(crate) fn text(rt: &impl Abort, alloc: Global, letters: &str) -> String {
+    match String::from_str(alloc, letters) {
+        Ok(text) => text,
+        Err(_) => String::from_str(alloc, letters).expect(rt, "a text"),
+    }
+}
