@@ -3,9 +3,9 @@
    REFUSE_READ or REFUSE_WRITE counts to, from 1. Zero, or nothing, refuses none. Where REFUSE_LESS
    is set, what is asked for next is refused too, as long as it is less each time and nothing is
    read. REFUSE_BEYOND is how many bytes may be allocated at once: what would be more is refused.
-   Where it isn't set, a read of standard input gives one line at most. At the end the file
-   REFUSE_REPORT is written: how many of each were asked for, whether one was refused, and how many
-   bytes weren't given back. */
+   Where it isn't set, a read of standard input gives one line at most. At the end, also by _exit,
+   the file REFUSE_REPORT is written: how many of each were asked for, whether one was refused, and
+   how many bytes weren't given back. Threads may ask beside each other. */
 #define _GNU_SOURCE
 #include <errno.h>
 #include <fcntl.h>
@@ -36,8 +36,7 @@ static int refuses(struct counter *counter, int cause) {
     const char *at = getenv(counter->name);
     counter->at = at ? atol(at) : 0;
   }
-  counter->asked++;
-  if (counter->asked != counter->at) return 0;
+  if (__atomic_add_fetch(&counter->asked, 1, __ATOMIC_SEQ_CST) != counter->at) return 0;
   refused = 1;
   errno = cause;
   return 1;
@@ -68,12 +67,12 @@ static int has_no_room(size_t size, size_t beside) {
 }
 
 static void *counted(void *made) {
-  live += malloc_usable_size(made);
+  __atomic_add_fetch(&live, malloc_usable_size(made), __ATOMIC_SEQ_CST);
   return made;
 }
 
 void free(void *old) {
-  live -= malloc_usable_size(old);
+  __atomic_sub_fetch(&live, malloc_usable_size(old), __ATOMIC_SEQ_CST);
   __libc_free(old);
 }
 
@@ -90,7 +89,7 @@ void *realloc(void *old, size_t size) {
   size_t before = malloc_usable_size(old);
   if (has_no_room(size, size <= before ? 0 : size)) return NULL;
   void *made = __libc_realloc(old, size);
-  if (made) live -= before;
+  if (made) __atomic_sub_fetch(&live, before, __ATOMIC_SEQ_CST);
   return counted(made);
 }
 
@@ -131,6 +130,13 @@ __attribute__((destructor)) static void report(void) {
                         writes.asked, refused, live);
   int file = open(path, O_CREAT | O_WRONLY | O_TRUNC, 0600);
   if (file < 0) return;
-  if (syscall(SYS_write, file, text, length) != length) _exit(99);
+  if (syscall(SYS_write, file, text, length) != length) syscall(SYS_exit_group, 99);
   close(file);
+}
+
+/* No destructor runs after this. */
+void _exit(int status) {
+  report();
+  syscall(SYS_exit_group, status);
+  __builtin_unreachable();
 }
