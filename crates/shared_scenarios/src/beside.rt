@@ -6,7 +6,7 @@ use crate::recorder::Recorder;
 use crate::rows::strange_box;
 use crate::stages::{Scenario, plays};
 use crate::workers::Worker;
-use generational_box::{GenerationalBox, GenerationalRefMut, UnsyncStorage};
+use generational_box::{GenerationalBox, GenerationalRefMut, Location, UnsyncStorage};
 use std::alloc::Global;
 use std::process::Abort;
 use std::sync::Wait;
@@ -19,10 +19,11 @@ fn reads_beside<W: Worker>(
     rt: &(impl Wait + Abort),
     one: &mut Recorder<W>,
     asked: GenerationalBox<String>,
+    at: Location,
     opened: &Gate,
     other: &Gate,
 ) {
-    let guard = one.begin(rt, asked, read());
+    let guard = one.begin(rt, asked, at);
     one.assert_opens(rt, &guard, "hello");
     opened.arrive();
     assert!(rt; other.passes(), "the other worker did not open it");
@@ -42,9 +43,9 @@ pub(crate) fn read_beside<W: Worker, H: Threads + Wait + Abort + Sync>(
     let (opened, other) = (Gate::new(), Gate::new());
     thread::join(
         rt,
-        || reads_beside(rt, &mut first, shared, &opened, &other),
+        || reads_beside(rt, &mut first, shared, read(), &opened, &other),
         || {
-            reads_beside(rt, &mut second, shared, &other, &opened);
+            reads_beside(rt, &mut second, shared, made_later(), &other, &opened);
             second.finds_dropped(rt, strange, read_later(), made_later());
         },
     );
