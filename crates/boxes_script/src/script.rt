@@ -4,7 +4,7 @@ ghost use Rattle.generational_core.specs.Conditions.{IsFresh};
 
 use crate::fault::Fault;
 use generational_box::{BoxAt, Call, Location, Reply, Session, Storage, StoreError};
-use generational_core::room::reserve_more;
+use reservation::reserve_more;
 use line_number::line_number;
 use std::alloc::{AllocError, Global};
 use std::io;
