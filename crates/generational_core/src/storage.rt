@@ -68,7 +68,8 @@ pub trait AnyStorage<T> {
     /// How many tickets are left: each owner, each owner's clone and each borrow takes one. Takes
     /// no memory.
     fn tickets_left(&self) -> u64
-        ensures { result ≡ last_ticket - (state self.now).next };
+        ensures count { result ≡ last_ticket - (state self.now).next }
+        ensures bounded { (state self.now).next ≤ last_ticket };
 
     /// The number of the slot that the pointer names. Looks at no slot: the cell may have ended,
     /// or be of another store. Takes no memory.

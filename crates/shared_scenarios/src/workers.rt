@@ -102,9 +102,11 @@ impl<A: Count, B: Count, C: Count, D: Count> Worker<A, B, C, D> {
     /// The history, for which all workers' counts were taken over.
     pub(crate) fn steps(&mut self, rt: &(impl Wait + Abort)) -> Vec<Step> {
         assert!(rt; self.tally.is_whole());
-        self.store
+        let (_, steps) = self
+            .store
             .audit(rt, &mut self.tally)
-            .expect(rt, "a history")
+            .expect(rt, "a history");
+        steps
     }
 }
 

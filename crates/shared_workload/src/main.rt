@@ -163,7 +163,8 @@ fn shared<
     if !whole.is_whole() {
         return None;
     }
-    let steps = store.audit(rt, &mut whole).ok()?.len();
+    let (_, steps) = store.audit(rt, &mut whole).ok()?;
+    let steps = steps.len();
     Some(Done { calls, steps })
 }
 
