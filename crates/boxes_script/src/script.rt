@@ -4,8 +4,8 @@ ghost use Rattle.generational_core.specs.Conditions.{IsFresh};
 
 use crate::fault::Fault;
 use generational_box::{BoxAt, Call, Location, Reply, Session, Storage, StoreError};
-use generational_core::room::reserve_more;
 use line_number::line_number;
+use reservation::reserve_more;
 use std::alloc::{AllocError, Global};
 use std::io;
 use std::io::Write;

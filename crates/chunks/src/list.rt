@@ -4,7 +4,7 @@ ghost use Rattle.std.specs.Prelude.{◌≡◌, ◌+◌, ◌<◌, ◌≤◌, ◌^
 ghost use Rattle.std.specs.Prelude.{length, vec_len, vec_capacity, map};
 
 use crate::packed::{Packed, unpack_all};
-use generational_core::room::reserve_more;
+use reservation::reserve_more;
 use std::alloc::{AllocError, Global};
 use std::marker::Model;
 use std::mem;

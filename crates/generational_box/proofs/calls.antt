@@ -5,3 +5,4 @@ pub mod Makings
 pub mod OwnerCalls
 pub mod Points
 pub mod Readiness
+pub mod Rows

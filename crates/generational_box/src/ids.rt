@@ -5,7 +5,7 @@ ghost use Rattle.generational_core.specs.Boxes.{box_of, id_of, name_in};
 ghost use Rattle.generational_containers.specs.CellNames.{name_of_cell};
 
 use generational_containers::names::CellName;
-use generational_core::parts::{id_at, pointer_at};
+use generational_core::parts::pointer_at;
 use generational_core::{GenerationalBoxId, GenerationalPointer, Location};
 
 // The name in an id.
@@ -24,7 +24,7 @@ pub(crate) fn cell_name(id: GenerationalBoxId) -> CellName
 pub(crate) fn id_in(number: u64, name: CellName) -> GenerationalBoxId
     ensures { result ≡ id_of number (name_of_cell name) }
 {
-    id_at(number, name.slot, name.generation)
+    name.id(number)
 }
 
 // The box of a cell of the store with this number.

@@ -19,9 +19,9 @@ mod unsync;
 pub use crate::unsync::{Numbers, Store, UnsyncStorage};
 pub use generational_containers::pool::{LastFirst, OldestFirst, SlotPool};
 pub use generational_core::{
-    AlreadyBorrowedError, AlreadyBorrowedMutError, AnyStorage, BorrowError, BorrowMutError,
-    BorrowMutResult, BorrowResult, GenerationalBox, GenerationalBoxId, GenerationalPointer,
-    GenerationalRef, GenerationalRefMut, Location, Mut, MutPart, Owner, OwnerId, Ref, Refusal,
-    Refused, StepCall, Storage, StoreError, ValueDroppedError,
+    AlreadyBorrowedError, AlreadyBorrowedMutError, AnyStorage, BaseRow, BorrowError,
+    BorrowMutError, BorrowMutResult, BorrowResult, GenerationalBox, GenerationalBoxId,
+    GenerationalPointer, GenerationalRef, GenerationalRefMut, Location, Mut, MutPart, Owner,
+    OwnerId, Ref, Refusal, Refused, StepCall, Storage, StoreError, ValueDroppedError,
 };
 pub use generational_sessions::{BoxAt, Call, Reply, Session, caller_laws, laws};

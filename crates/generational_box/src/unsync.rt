@@ -20,9 +20,9 @@ use generational_core::parts::{
     Borrow, id_read, into_reader, into_writer, key_of, owner_at, reader_at, writer_at,
 };
 use generational_core::{
-    AnyStorage, BorrowError, BorrowMutError, BorrowMutResult, BorrowResult, GenerationalBoxId,
-    GenerationalPointer, GenerationalRef, GenerationalRefMut, Location, Owner, Refusal, Refused,
-    StepCall, Storage, StoreError,
+    AnyStorage, BaseRow, BorrowError, BorrowMutError, BorrowMutResult, BorrowResult,
+    GenerationalBoxId, GenerationalPointer, GenerationalRef, GenerationalRefMut, Location, Owner,
+    Refusal, Refused, StepCall, Storage, StoreError,
 };
 use generational_entries::entry::{Kind, StorageEntryData};
 use generational_slots::refusals::{dropped, dropped_mut};
@@ -266,6 +266,13 @@ impl<T: Drop, P: SlotPool> AnyStorage<T> for Store<T, P> {
         }
         let name = self.slots.target(cell_name(pointer.id))?;
         Some(id_in(self.number, name))
+    }
+
+    fn rows(&self) -> Result<Vec<BaseRow>, StoreError> {
+        let mut rows = Vec::new(self.alloc);
+        self.slots.push_rows(self.number, &mut rows)?;
+        self.owners.push_rows(self.alloc, self.number, &mut rows)?;
+        Ok(rows)
     }
 
     #[inline(always)]

@@ -4,7 +4,9 @@ use Rattle.std.specs.Prelude.{Option, None, Some, List, [], ◌∷◌, length, s
 use Rattle.std.specs.Ordering.{nat_cmp}
 use Rattle.std.specs.FinMap as map
 use Rattle.std.specs.FinSet as set
+use Rattle.generational_core.specs.declared.rows.BaseRow.{BaseRow}
 use Rattle.generational_core.specs.Machine.{OwnerName}
+use Rattle.generational_core.specs.Rows.{record_rows}
 use Rattle.generational_core.specs.State.{Ownership, Owners}
 
 -- a record with the key under which it stands, and for how many names its list has room
@@ -50,6 +52,16 @@ HasRecord key place = is_some (record_at key place) ≡ true
 pub record HasDistinctKeys (places : List Place) : Type 0 where
   pub one : (key i j : ℕ) → HasRecord key (slice_get places i) → HasRecord key (slice_get places j)
       → i ≡ j
+
+-- the place at which the record under a key stands, if there is one
+abbrev pub IsPlaceOf : List Place → ℕ → Option ℕ → Type 0
+IsPlaceOf places key None = (i : ℕ) → record_at key (slice_get places i) ≡ None
+IsPlaceOf places key (Some i) = HasRecord key (slice_get places i)
+
+-- the rows of the record at a place, if there is one
+abbrev pub place_rows : ℕ → Option Place → List BaseRow
+place_rows number (Some (Some r)) = record_rows number (r.key, r.ownership)
+place_rows number _ = []
 
 abbrev pub is_vacant : Option Place → Bool
 is_vacant (Some None) = true

@@ -4,10 +4,12 @@ ghost use Rattle.std.specs.Prelude.{◌≡◌, ◌<◌, ◌∷◌, ◌++◌, [],
 ghost use Rattle.std.specs.Prelude.{slice_get, Some};
 ghost use Rattle.std.specs.VecDeque.{deque_len, deque_capacity};
 ghost use Rattle.std.specs.List.{list_any, filter};
+ghost use Rattle.generational_core.specs.Rows.{reader_row};
 ghost use Rattle.generational_containers.specs.Borrows.{AreBelow, Ascend, IsRemoval};
 
-use generational_core::Location;
 use generational_core::parts::Borrow;
+use generational_core::{BaseRow, GenerationalBoxId, Location};
+use reservation::push_more;
 use std::alloc::{AllocError, Global};
 use std::collections::VecDeque;
 use std::marker::Model;
@@ -143,6 +145,42 @@ impl Borrows {
             OneOrSeveral::Several(queue) => locations_of(queue, alloc),
         }
     }
+
+    /// Appends a row for each borrow in order, as for readers of the value with this id.
+    pub fn push_readers(
+        &self,
+        id: GenerationalBoxId,
+        rows: &mut Vec<BaseRow>,
+    ) -> Result<(), AllocError>
+        ensures { OnOk result (rows.new.items ≡ rows.old.items ++ map (reader_row id) self.now) }
+    {
+        match &self.standing {
+            OneOrSeveral::One(borrow) => push_more(rows, reader_row(id, borrow)),
+            OneOrSeveral::Several(queue) => push_all(queue, id, rows),
+        }
+    }
+}
+
+/// The row of a reader of the value with this id.
+pub fn reader_row(id: GenerationalBoxId, borrow: &Borrow) -> BaseRow
+    ensures { result ≡ reader_row id borrow.now }
+{
+    BaseRow::Reader(id, borrow.ticket, borrow.location)
+}
+
+// Appends a row for each of these readers.
+fn push_all(
+    readers: &VecDeque<Borrow>,
+    id: GenerationalBoxId,
+    rows: &mut Vec<BaseRow>,
+) -> Result<(), AllocError>
+    ensures { OnOk result
+        (rows.new.items ≡ rows.old.items ++ map (reader_row id) readers.now.items) }
+{
+    for reader in readers.iter() {
+        push_more(rows, reader_row(id, reader))?;
+    }
+    Ok(())
 }
 
 // A queue of two borrows, in order.

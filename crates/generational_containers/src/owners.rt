@@ -20,11 +20,13 @@ ghost use Rattle.generational_core.specs.Machine.{OwnerName};
 ghost use Rattle.generational_containers.specs.OwnerPlaces.{owners_of};
 ghost use Rattle.generational_containers.specs.OwnerPlaces.{record_at, HasRecord};
 
+mod rows;
+
 use crate::names::CellName;
 use crate::pool::{LastFirst, SlotPool, make_room};
 use generational_core::parts::{key_of, number_of, place_of};
-use generational_core::room::reserve_more;
 use generational_core::{Owner, OwnerId, StoreError};
+use reservation::reserve_more;
 use std::alloc::{AllocError, Global};
 use std::marker::Model;
 

@@ -9,7 +9,7 @@ ghost use Rattle.generational_core.specs.declared.error.StoreError.TheVariants.{
 
 use crate::free_list::FreeList;
 use generational_core::StoreError;
-use generational_core::room::{halfway, reserve_more};
+use reservation::{halfway, reserve_more};
 use std::alloc::Global;
 use std::marker::Model;
 

@@ -14,6 +14,7 @@ pub mod Owning
 pub mod Refusing
 pub mod Releasing
 pub mod Resting
+pub mod Rows
 pub mod Seeing
 pub mod Soundness
 pub mod Stepping

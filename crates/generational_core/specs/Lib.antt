@@ -9,6 +9,8 @@ pub mod Leaving
 pub mod Loans
 pub mod Machine
 pub mod Names
+pub mod Plain
+pub mod Rows
 pub mod Seeing
 pub mod Slots
 pub mod Sound

@@ -14,7 +14,7 @@ mod error;
 mod owner;
 pub mod parts;
 mod references;
-pub mod room;
+mod rows;
 mod steps;
 mod storage;
 
@@ -25,5 +25,6 @@ pub use crate::error::{
 };
 pub use crate::owner::{Owner, OwnerId};
 pub use crate::references::{GenerationalRef, GenerationalRefMut, Mut, MutPart, Ref};
+pub use crate::rows::BaseRow;
 pub use crate::steps::StepCall;
 pub use crate::storage::{AnyStorage, Storage};

@@ -1,6 +1,6 @@
 //! What every store does.
 
-ghost use Rattle.std.specs.Prelude.{◌≡◌, ◌≤◌, ◌+◌, ◌-◌, ◌↔◌, true, IsTrue, IfErr, None};
+ghost use Rattle.std.specs.Prelude.{◌≡◌, ◌≤◌, ◌+◌, ◌-◌, ◌↔◌, true, IsTrue, IfOk, IfErr, None};
 ghost use Rattle.std.specs.Prelude.{option_copied};
 ghost use Rattle.generational_core.specs.State.{State, IsSound};
 ghost use Rattle.generational_core.specs.Conditions.{IsFresh};
@@ -10,11 +10,13 @@ ghost use Rattle.generational_core.specs.Machine.Action.{Read, Write, ReleaseRea
 ghost use Rattle.generational_core.specs.Machine.Action.{End, MakeShared, Refer, Point, SetValue};
 ghost use Rattle.generational_core.specs.Machine.Answer.{Flag, Old};
 ghost use Rattle.generational_core.specs.Borrowing.{can_read, can_write};
+ghost use Rattle.generational_core.specs.Rows.{ReadBack, rows_of};
 ghost use Rattle.generational_core.specs.Steps.{Meets, last_ticket};
 ghost use Rattle.generational_core.specs.StepCalls.{is_free, is_ready, target_of};
 ghost use Rattle.generational_core.specs.Answers.{make_answer, owner_answer, release_answer};
 ghost use Rattle.generational_core.specs.Answers.{read_answer, write_answer, back_answer};
 ghost use Rattle.generational_core.specs.Answers.{reference_answer, end_answer, value_behind};
+ghost use Rattle.generational_core.specs.declared.error.StoreError.TheVariants.{OutOfMemory};
 
 use crate::boxes::{GenerationalBoxId, GenerationalPointer};
 use crate::error::{
@@ -22,6 +24,7 @@ use crate::error::{
 };
 use crate::owner::Owner;
 use crate::references::{GenerationalRef, GenerationalRefMut};
+use crate::rows::BaseRow;
 use crate::steps::StepCall;
 
 /// What a store of values of one type does, whatever it keeps.
@@ -65,7 +68,8 @@ pub trait AnyStorage<T> {
     /// How many tickets are left: each owner, each owner's clone and each borrow takes one. Takes
     /// no memory.
     fn tickets_left(&self) -> u64
-        ensures { result ≡ last_ticket - (state self.now).next };
+        ensures count { result ≡ last_ticket - (state self.now).next }
+        ensures bounded { (state self.now).next ≤ last_ticket };
 
     /// The number of the slot that the pointer names. Looks at no slot: the cell may have ended,
     /// or be of another store. Takes no memory.
@@ -140,6 +144,19 @@ pub trait AnyStorage<T> {
     /// nothing else takes memory.
     fn recycle(&mut self, pointer: GenerationalPointer) -> BorrowMutResult<()>
         ensures { Meets (state self.old) (End pointer) (end_answer result) (state self.new) };
+
+    /// What the store has, without values, in rows: its slots, ascending, and after each slot its
+    /// live cell, with that cell's borrows in the order in which they began; then the records of
+    /// owners by their keys, and after each the boxes of its list in order of insertion. Where
+    /// generations begin at 1, the store's state without values is read back from the rows, the
+    /// number, the next ticket and the peak.
+    ///
+    /// Refused by `OutOfMemory` at most. It changes nothing, and takes time and memory for each
+    /// slot, each borrow, each record of an owner and each box of these lists.
+    fn rows(&self) -> Result<Vec<BaseRow>, StoreError>
+        ensures rows { IfOk result (λ rows. rows.items ≡ rows_of (state self.now)) }
+        ensures back { IfOk result (λ rows. ReadBack (state self.now) rows.items) }
+        ensures refusal { IfErr result (λ error. error ≡ OutOfMemory) };
 
     /// The state of a store is sound at any time.
     ghost sound: { (s : Self) → IsSound (state s) };

@@ -21,6 +21,7 @@ ghost use Rattle.generational_containers.specs.CellNames.{name_of_cell};
 ghost use Rattle.generational_entries.specs.Entry.{is_unborrowed_value, referring, target_in};
 ghost use Rattle.generational_entries.specs.Entries.{IsUnborrowed, kept_data};
 ghost use Rattle.generational_core.specs.Borrowing.{leads_to};
+ghost use Rattle.generational_core.specs.Rows.{content_rows};
 ghost use Rattle.generational_core.specs.Cells.{content_of, location_of};
 ghost use Rattle.generational_entries.specs.Entry.{content_in, has_no_borrow, with_content};
 ghost use Rattle.generational_entries.specs.Entry.{with_reader, value_for};
@@ -33,12 +34,15 @@ ghost use Rattle.std.specs.Prelude.{false};
 
 use crate::entry::{EntryDetails, Kind, StorageEntryData};
 use crate::latest::{LastBorrow, Standing};
-use crate::settled::{SettledEntries, reader_error, writer_error};
+use crate::settled::{SettledEntries, push_writer, reader_error, writer_error};
+use generational_containers::borrows::reader_row;
 use generational_containers::names::CellName;
 use generational_core::parts::Borrow;
 use generational_core::{
-    AlreadyBorrowedMutError, BorrowMutError, BorrowMutResult, Location, Refused, StoreError,
+    AlreadyBorrowedMutError, BaseRow, BorrowMutError, BorrowMutResult, GenerationalBoxId, Location,
+    Refused, StoreError,
 };
+use reservation::push_more;
 use std::alloc::{AllocError, Global};
 use std::marker::Model;
 
@@ -235,6 +239,23 @@ impl<T> Entries<T> {
             return last_error(&self.settled, self.last);
         }
         self.settled.borrow_mut_error(slot)
+    }
+
+    /// Appends a row for each borrow of the slot's value, in order, under the value's id.
+    pub fn push_borrows(
+        &self,
+        slot: usize,
+        id: GenerationalBoxId,
+        rows: &mut Vec<BaseRow>,
+    ) -> Result<(), AllocError>
+        requires { slot < length self.now.slots }
+        ensures { OnOk result (IfSome (slice_get self.now.slots slot)
+            (λ e. rows.new.items ≡ rows.old.items ++ content_rows id (content_in e.kept))) }
+    {
+        if self.last.is_noted() && self.last.slot == slot {
+            return push_with_last(&self.settled, self.last, id, rows);
+        }
+        self.settled.push_borrows(slot, id, rows)
     }
 
     /// Whether no borrow stands apart.
@@ -547,6 +568,28 @@ fn last_error<T>(entries: &SettledEntries<T>, last: LastBorrow) -> BorrowMutResu
         return Err(reader_error(last.borrow, entries.alloc));
     }
     entries.borrow_mut_error(last.slot)
+}
+
+// Appends the rows of the borrows of the value at which one stands apart.
+fn push_with_last<T>(
+    settled: &SettledEntries<T>,
+    last: LastBorrow,
+    id: GenerationalBoxId,
+    rows: &mut Vec<BaseRow>,
+) -> Result<(), AllocError>
+    requires apart { is_noted last.standing ≡ true }
+    requires fits { IsNoted last settled.now.slots }
+    ensures { OnOk result (IfSome (slice_get settled.now.slots last.slot)
+        (λ e. rows.new.items ≡ rows.old.items ++ content_rows id
+        (content_in (with_content (joined last.standing last.borrow) e.kept)))) }
+{
+    if last.is_writer() {
+        return push_writer(last.borrow, id, rows);
+    }
+    if settled.has_no_borrow(last.slot) {
+        return push_more(rows, reader_row(id, &last.borrow));
+    }
+    settled.push_borrows(last.slot, id, rows)
 }
 
 // Lists the borrow that stands apart, unless it is a reader that is listed. Takes no memory.

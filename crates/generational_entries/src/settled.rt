@@ -24,6 +24,8 @@ ghost use Rattle.generational_entries.specs.Entry.{cell_of, readers_of};
 ghost use Rattle.generational_entries.specs.Entry.{referring, target_in};
 ghost use Rattle.generational_entries.specs.Entries.{IsUnborrowed, kept_data, taken, writer_in};
 ghost use Rattle.generational_core.specs.Answers.{value_of};
+ghost use Rattle.generational_core.specs.Rows.{content_rows};
+ghost use Rattle.generational_core.specs.declared.rows.BaseRow.TheVariants as row;
 ghost use Rattle.generational_entries.specs.Entry.{content_in, has_no_borrow, is_lent, with_reader};
 ghost use Rattle.generational_entries.specs.Entry.{value_for};
 ghost use Rattle.generational_entries.specs.Entry.{without_reader_in, lend_to, with_value};
@@ -34,11 +36,11 @@ use crate::entry::{EntryDetails, Kind, StorageEntry, StorageEntryData};
 use generational_containers::room::{more_room, reserve_room};
 use generational_containers::table::{BorrowTable, NO_INDEX};
 use generational_core::parts::Borrow;
-use generational_core::room::halfway;
 use generational_core::{
-    AlreadyBorrowedError, AlreadyBorrowedMutError, BorrowMutError, BorrowMutResult, Location,
-    Refused, StoreError,
+    AlreadyBorrowedError, AlreadyBorrowedMutError, BaseRow, BorrowMutError, BorrowMutResult,
+    GenerationalBoxId, Location, Refused, StoreError,
 };
+use reservation::{halfway, push_more};
 use std::alloc::{AllocError, Global};
 use std::marker::Model;
 use std::mem;
@@ -218,6 +220,29 @@ impl<T> SettledEntries<T> {
             (λ e. result ≡ has_no_borrow (content_in e.kept)) }
     {
         matches!(&self.entries[slot].content, StorageEntryData::Data(_, _))
+    }
+
+    /// Appends a row for each borrow of the slot's value, in order, under the value's id.
+    pub fn push_borrows(
+        &self,
+        slot: usize,
+        id: GenerationalBoxId,
+        rows: &mut Vec<BaseRow>,
+    ) -> Result<(), AllocError>
+        requires { slot < length self.now.slots }
+        ensures { OnOk result (IfSome (slice_get self.now.slots slot)
+            (λ e. rows.new.items ≡ rows.old.items ++ content_rows id (content_in e.kept))) }
+    {
+        match &self.entries[slot].content {
+            StorageEntryData::Read(_, index, _) => {
+                self.borrows.borrows_at(*index).push_readers(id, rows)
+            }
+            StorageEntryData::Lent(_, index) => {
+                let writer = writer_at(&self.borrows, *index, self.details[slot].created_at);
+                push_writer(writer, id, rows)
+            }
+            _ => Ok(()),
+        }
     }
 
     /// The borrows that stand in the way of a write or an end.
@@ -578,6 +603,18 @@ fn writer_at(borrows: &BorrowTable, index: u32, created_at: Location) -> Borrow
         };
     }
     borrows.first(index)
+}
+
+/// Appends the row of the writer of the value with this id.
+pub fn push_writer(
+    writer: Borrow,
+    id: GenerationalBoxId,
+    rows: &mut Vec<BaseRow>,
+) -> Result<(), AllocError>
+    ensures { OnOk result (rows.new.items
+        ≡ rows.old.items ++ row.Writer id writer.ticket writer.location ∷ []) }
+{
+    push_more(rows, BaseRow::Writer(id, writer.ticket, writer.location))
 }
 
 /// The answer to a write or an end where a writer stands.

@@ -6,7 +6,7 @@ ghost use Rattle.generational_core.specs.declared.boxes.GenerationalPointer.{Gen
 use crate::calls::{Call, Reply};
 use crate::places::{Thing, answer, let_go};
 use generational_core::Storage;
-use generational_core::room::reserve_more;
+use reservation::reserve_more;
 use std::alloc::Global;
 use std::marker::Model;
 

@@ -7,6 +7,7 @@ pub mod Pointing
 pub mod Reaching
 pub mod Readiness
 pub mod References
+pub mod Rows
 pub mod States
 pub mod Turning
 pub mod Turns

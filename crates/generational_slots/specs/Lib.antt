@@ -1,1 +1,2 @@
+pub mod SlotRows
 pub mod SlotsState

@@ -9,4 +9,5 @@ pub mod counts;
 pub mod hindrance;
 mod references;
 pub mod refusals;
+mod rows;
 pub mod slots;

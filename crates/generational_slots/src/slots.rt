@@ -1,6 +1,6 @@
 //! The slots of a store with the pool of the free ones.
 
-ghost use Rattle.std.specs.Prelude.{◌≡◌, ◌+◌, ◌-◌, ◌<◌, ◌≤◌, ◌∷◌, [], true, Some, None};
+ghost use Rattle.std.specs.Prelude.{◌≡◌, ◌+◌, ◌-◌, ◌<◌, ◌≤◌, ◌∷◌, ◌++◌, [], true, Some, None};
 ghost use Rattle.std.specs.Prelude.{Err, IfSome, IfOk, IfErr, IsSome, OnOk, OnErr, IsTrue, ◌↔◌};
 ghost use Rattle.std.specs.Prelude.{is_none, is_ok, option_copied, option_map, length, not};
 ghost use Rattle.std.specs.Prelude.{is_some};
@@ -36,16 +36,18 @@ ghost use Rattle.generational_slots.specs.SlotsState.{refusal_to_read_at, refusa
 ghost use Rattle.generational_slots.specs.SlotsState.{refusal_to_write_at};
 ghost use Rattle.generational_slots.specs.SlotsState.{doomed_by, IsMade};
 ghost use Rattle.generational_slots.specs.SlotsState.{IsTurned};
+ghost use Rattle.generational_slots.specs.SlotRows.{all_slot_rows, ReadSlots};
 ghost use Rattle.generational_slots.specs.SlotsState.{with_records};
 
 use crate::counts::{Counts, SlotCounts};
 use crate::hindrance::{doomed, find_hindered, find_hindrance};
 use crate::references::{forget, is_shared, reach_slow, refer};
 use crate::refusals::{dropped, dropped_mut};
+use crate::rows::push_slots;
 use generational_containers::names::CellName;
 use generational_containers::pool::{SlotPool, grow_within};
 use generational_core::parts::Borrow;
-use generational_core::{BorrowError, BorrowMutResult, Location, StoreError};
+use generational_core::{BaseRow, BorrowError, BorrowMutResult, Location, StoreError};
 use generational_entries::entries::Entries;
 use generational_entries::entry::{Kind, StorageEntryData};
 use std::alloc::{AllocError, Global};
@@ -131,6 +133,15 @@ impl<T: Drop, P: SlotPool> Slots<T, P> {
             retired: self.counts.retired(),
             peak_live: self.counts.peak(made),
         }
+    }
+
+    /// Appends the rows of the slots, ascending, with ids of the store with this number.
+    pub fn push_rows(&self, number: u64, rows: &mut Vec<BaseRow>) -> Result<(), AllocError>
+        ensures ok { OnOk result
+            (rows.new.items ≡ rows.old.items ++ all_slot_rows number self.now.state) }
+        ensures back { ReadSlots number self.now.state }
+    {
+        push_slots(&self.entries, number, rows)
     }
 
     /// Where a cell was made.

@@ -20,15 +20,18 @@ use Rattle.generational_core.specs.Steps.{Meets, limit_tickets}
 use Rattle.generational_core.specs.Answers.{back_answer}
 use Rattle.generational_core.specs.StepCalls.{is_ready, recorded_as}
 use Rattle.generational_sessions.specs.History.{plain}
-use Rattle.generational_sync.specs.declared.step.Step.{Step}
-use Rattle.generational_sync.specs.declared.step.StepReply.{StepReply}
-use Rattle.generational_sync.specs.Kinds.{step_of}
-use Rattle.generational_sync.specs.Records.{HasRecord}
+use Rattle.step_records.specs.declared.step.Step.{Step}
+use Rattle.step_records.specs.declared.step.StepReply.{StepReply}
+use Rattle.step_records.specs.Kinds.{step_of}
+use Rattle.step_records.specs.Records.{HasRecord}
 use Rattle.generational_sync.specs.Refusals.{MayRefuse}
 use Rattle.generational_sync.specs.Replies.{recorded, reply_of}
 use Rattle.generational_sync.specs.History.{Plain, start, plain_step, replay_from}
 use Rattle.generational_sync.specs.Standing.{borrows, borrows_in, given_by, leaves, lent_in}
+use Rattle.generational_sync.specs.Bases.{BaseState, new_base, plain_of}
 use Rattle.generational_sync.specs.Shared.{LogState, IsKept}
+use Rattle.generational_core.specs.Rows.{ReadBack, told_by}
+use Rattle.generational_sync.proofs.Trimming.{told_number, told_start}
 use Rattle.generational_sync.proofs.Counting.{meets_fine, written_stand}
 use Rattle.generational_sync.proofs.Replaying.{replays_on}
 use Rattle.generational_sync.proofs.Standings.{release_stand}
@@ -58,6 +61,9 @@ Sound P Q = IsSound Q
 abbrev Numbered : Plain → Plain → Type 0
 Numbered P Q = Q.number ≡ P.number
 
+abbrev Started : Plain → Plain → Type 0
+Started P Q = Q.start ≡ P.start
+
 -- a call is refused as it may be
 abbrev FreeRefusals : Type 0 → Type 0
 FreeRefusals T = (S R : State T) (a : Action T) (c : StepCall) (answer : Answer T)
@@ -71,44 +77,67 @@ KnownRecords T = (number : ℕ) (S R : State T) (a : Action T) (c : StepCall) (a
     → Meets S a answer R → reply ≡ reply_of R a answer → IfSome reply (λ r. HasRecord number c r)
 
 module _ {T : Type 0} where
+  -- the base of a state that it tells, from which an empty history goes on
+  pub rebased : (lead : LeadTo Sound) → LeadTo Numbered → LeadTo Started → (number : ℕ)
+      (S : State T) (log after : LogState) → IsKept number S log
+      → after.base.number ≡ number → after.base.next ≡ S.next → after.base.peak ≡ S.peak
+      → ReadBack S after.base.rows → after.steps ≡ [] → after.standing ≡ log.standing
+      → (plain_of after.base ≡ plain S) × IsKept number S after
+  rebased lead numbered started number S log after kept own next peak read none stay =
+      let sound = lead (plain_of log.base) log.steps (plain S) kept.2 kept.0 in
+      let same = numbered (plain_of log.base) log.steps (plain S) kept.2 kept.0
+      ∙ (told_number log.base ∙ kept.3) in
+      let first = started (plain_of log.base) log.steps (plain S) kept.2 kept.0
+      ∙ told_start log.base in
+      let told : plain_of after.base ≡ plain S =
+      (λ i. told_by ((own ∙ sym same) i) (next i) (peak i) after.base.rows) ∙ read first in (
+        told,
+        (
+          ap (replay_from (plain_of after.base)) none ∙ ap Some told,
+          (let had = kept.1 in omega arith),
+          subst IsSound (sym told) sound,
+          own,
+        ),
+      )
+
   pub fresh_kept : (number : ℕ) (S : State T) (log : LogState)
       → start number ≡ plain (fresh {T = T} number 1 0) → IsSound (start number)
-      → S ≡ fresh number 1 0 → log.from ≡ start number → log.steps ≡ [] → IsKept number S log
-  fresh_kept number S log begins sound is from none =
+      → S ≡ fresh number 1 0 → log.base ≡ new_base number → log.steps ≡ [] → IsKept number S log
+  fresh_kept number S log begins sound is based none =
       let empty = no_borrows (map.entries map.empty)
       (sym (map.len-entries map.empty) ∙ map.len-empty name_cmp (Cell T)) in
       let few = ap borrows is in (
-        ap (λ P. replay_from P log.steps) from
+        ap (λ b. replay_from (plain_of b) log.steps) based
             ∙ (ap (replay_from (start number)) none ∙ ap Some (begins ∙ ap plain (sym is))),
         omega arith,
-        subst IsSound (sym from) sound,
-        ap (λ (P : Plain). P.number) from,
+        subst (λ b. IsSound (plain_of b)) (sym based) sound,
+        ap (λ (b : BaseState). b.number) based,
       )
 
   module _ (lawful : AreLawful T) (sound : LeadTo Sound) (number : ℕ) (S R : State T)
       (log room after : LogState) (worker : ℕ)
-      (kept : IsKept number S log) (origin : room.from ≡ log.from) (same : room.steps ≡ log.steps)
-      (onward : after.from ≡ room.from) where
+      (kept : IsKept number S log) (origin : room.base ≡ log.base) (same : room.steps ≡ log.steps)
+      (onward : after.base ≡ room.base) where
     -- the history goes on from the same state
-    begins : IsSound after.from × (after.from.number ≡ number)
-    begins = subst (λ (P : Plain). IsSound P × (P.number ≡ number)) (sym (onward ∙ origin))
+    begins : IsSound (plain_of after.base) × (after.base.number ≡ number)
+    begins = subst (λ b. IsSound (plain_of b) × (b.number ≡ number)) (sym (onward ∙ origin))
         (kept.2, kept.3)
 
     -- the history with the recorded step replays to the state after it
     replays : (a : Action T) (c : StepCall) (answer : Answer T) (r : StepReply)
         → Appended room after worker c r → recorded_as a ≡ Some c → Meets S a answer R
-        → reply_of R a answer ≡ Some r → replay_from after.from after.steps ≡ Some (plain R)
+        → reply_of R a answer ≡ Some r → replay_from (plain_of after.base) after.steps ≡ Some (plain R)
     replays a c answer r more e m h =
-        ap (λ P. replay_from P after.steps) (onward ∙ origin)
-        ∙ replays_on log.from log.steps room.steps after.steps S R _ kept.0 same more
-        (lawful S R a c answer r (sound log.from log.steps (plain S) kept.2 kept.0) e m h)
+        ap (λ b. replay_from (plain_of b) after.steps) (onward ∙ origin)
+        ∙ replays_on (plain_of log.base) log.steps room.steps after.steps S R _ kept.0 same more
+        (lawful S R a c answer r (sound (plain_of log.base) log.steps (plain S) kept.2 kept.0) e m h)
 
     -- where nothing is recorded, all is as it was
     stays : (answer : Answer T) → R ≡ S → after.steps ≡ room.steps
-        → replay_from after.from after.steps ≡ Some (plain R)
+        → replay_from (plain_of after.base) after.steps ≡ Some (plain R)
     stays answer left more =
-        ap (λ P. replay_from P after.steps) (onward ∙ origin)
-        ∙ (ap (replay_from log.from) (more ∙ same)
+        ap (λ b. replay_from (plain_of b) after.steps) (onward ∙ origin)
+        ∙ (ap (replay_from (plain_of log.base)) (more ∙ same)
         ∙ (kept.0 ∙ ap (λ s. Some (plain s)) (sym left)))
 
     -- any call that ends no borrow by itself, whether its answer is recorded or not
@@ -204,7 +233,9 @@ module _ {T : Type 0} where
   module _ (number : ℕ) (S R : State T) (log : LogState) (kept : IsKept number S log) where
     -- the store has the number of its history's start
     numbered_so : LeadTo Numbered → S.number ≡ number
-    numbered_so numbered = numbered log.from log.steps (plain S) kept.2 kept.0 ∙ kept.3
+    numbered_so numbered =
+        numbered (plain_of log.base) log.steps (plain S) kept.2 kept.0
+        ∙ told_number log.base ∙ kept.3
 
     -- a call that is ready where the state is seen so is refused as it may be
     pub refused_as : FreeRefusals T → LeadTo Numbered → (seen : State T) (a : Action T) (c : StepCall)

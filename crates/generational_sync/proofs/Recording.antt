@@ -24,9 +24,9 @@ use Rattle.generational_core.specs.Machine.Answer.{Made, Owned, Reads, Writes, D
 use Rattle.generational_core.specs.Machine.Answer.{Back, BorrowRefused, Refused}
 use Rattle.generational_core.specs.Steps.{takes_ticket}
 use Rattle.generational_core.specs.StepCalls.{id_of_owner, recorded_as, target_in, target_of}
-use Rattle.generational_sync.specs.declared.step.StepReply.{StepReply}
-use Rattle.generational_sync.specs.declared.step.StepReply.TheVariants as reply
-use Rattle.generational_sync.specs.Records.{HasDropped, HasRecord, IsShort}
+use Rattle.step_records.specs.declared.step.StepReply.{StepReply}
+use Rattle.step_records.specs.declared.step.StepReply.TheVariants as reply
+use Rattle.step_records.specs.Records.{HasDropped, HasRecord, IsShort}
 use Rattle.generational_sync.specs.Refusals.{MayRefuse, needs_ticket}
 use Rattle.generational_sync.specs.Replies.{made_reply, reply_of}
 

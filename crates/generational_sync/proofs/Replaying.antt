@@ -17,9 +17,9 @@ use Rattle.generational_core.specs.Steps.{AreNew, Takes, Meets, limit_tickets}
 use Rattle.generational_core.specs.StepCalls.{is_ready, target_of}
 use Rattle.generational_sync.specs.Replies.{is_recorded, made_reply, reply_of}
 use Rattle.generational_sessions.specs.History.{plain}
-use Rattle.generational_sync.specs.declared.step.Step.{Step}
-use Rattle.generational_sync.specs.declared.step.StepReply.{StepReply}
-use Rattle.generational_sync.specs.declared.step.StepReply.TheVariants as reply
+use Rattle.step_records.specs.declared.step.Step.{Step}
+use Rattle.step_records.specs.declared.step.StepReply.{StepReply}
+use Rattle.step_records.specs.declared.step.StepReply.TheVariants as reply
 use Rattle.generational_sync.specs.History.{Plain, plain_step, step_by, names_of_reply, action_of}
 use Rattle.generational_sync.specs.History.{gives_new, is_lawful, replay_on}
 use Rattle.generational_sync.specs.History.{replay_from, IsTaken, LeadsOver}
@@ -160,9 +160,9 @@ leads_over P R before x after e =
 
 -- ---- what holds of all states of a history
 
--- a state is sound, and of the store of this number
-abbrev Good : ℕ → Plain → Type 0
-Good number P = IsSound P × (P.number ≡ number)
+-- a state is sound, of the store of this number, and has slots of this first generation
+abbrev Good : ℕ → ℕ → Plain → Type 0
+Good number start P = IsSound P × (P.number ≡ number) × (P.start ≡ start)
 
 -- what the laws of the machine say of states without values
 abbrev KeepsSound : Type 0
@@ -173,31 +173,37 @@ abbrev KeepsNumber : Type 0
 KeepsNumber = (P Q : Plain) (a : Action (Unit {0})) (answer : Answer (Unit {0}))
     → Meets P a answer Q → Q.number ≡ P.number
 
-module _ (sound : KeepsSound) (numbered : KeepsNumber) where
-  step_good : (number : ℕ) (P Q : Plain) (c : StepCall) (r : StepReply)
-      → Good number P → plain_step P c r ≡ Some Q → Good number Q
-  step_good number P Q c r good e =
+abbrev KeepsStart : Type 0
+KeepsStart = (P Q : Plain) (a : Action (Unit {0})) (answer : Answer (Unit {0}))
+    → Meets P a answer Q → Q.start ≡ P.start
+
+module _ (sound : KeepsSound) (numbered : KeepsNumber) (started : KeepsStart) where
+  step_good : (number start : ℕ) (P Q : Plain) (c : StepCall) (r : StepReply)
+      → Good number start P → plain_step P c r ≡ Some Q → Good number start Q
+  step_good number start P Q c r good e =
       let took = step_taken P Q c r e in (
         sound P Q took.action took.answer good.0 took.met,
         numbered P Q took.action took.answer took.met ∙ good.1,
+        started P Q took.action took.answer took.met ∙ good.2,
       )
 
-  replay_good : (number : ℕ) (steps : List Step) (o : Option Plain) (Q : Plain)
-      → ((P : Plain) → o ≡ Some P → Good number P) → replay_on steps o ≡ Some Q → Good number Q
-  replay_good number [] o Q good e = good Q e
-  replay_good number (x ∷ xs) None Q good e = absurd cc
-  replay_good number (x ∷ xs) (Some P) Q good e =
-      replay_good number xs (plain_step P x.call x.reply) Q
-      (λ R k. step_good number P R x.call x.reply (good P refl) k) e
+  replay_good : (number start : ℕ) (steps : List Step) (o : Option Plain) (Q : Plain)
+      → ((P : Plain) → o ≡ Some P → Good number start P) → replay_on steps o ≡ Some Q
+      → Good number start Q
+  replay_good number start [] o Q good e = good Q e
+  replay_good number start (x ∷ xs) None Q good e = absurd cc
+  replay_good number start (x ∷ xs) (Some P) Q good e =
+      replay_good number start xs (plain_step P x.call x.reply) Q
+      (λ R k. step_good number start P R x.call x.reply (good P refl) k) e
 
   -- a state to which a history replays from a sound one is sound, and of the same store
   pub replay_kept : (P : Plain) (steps : List Step) (Q : Plain) → IsSound P
-      → replay_from P steps ≡ Some Q → Good P.number Q
+      → replay_from P steps ≡ Some Q → Good P.number P.start Q
   replay_kept P steps Q begins e =
-      replay_good P.number steps (Some P) Q
+      replay_good P.number P.start steps (Some P) Q
       (λ R k.
       let same : P ≡ R = cc in
-      subst (Good P.number) same (begins, refl)) e
+      subst (Good P.number P.start) same (begins, refl, refl)) e
 
 -- one lawful step more
 replay_more : (steps : List Step) (o : Option Plain) (P Q : Plain) (x : Step)

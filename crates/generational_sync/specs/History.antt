@@ -9,7 +9,8 @@ use Rattle.generational_core.specs.Names.{Name}
 use Rattle.generational_core.specs.Boxes.{name_in, name_of}
 use Rattle.generational_core.specs.Cells.Content.{Here}
 use Rattle.generational_core.specs.Cells.Cell.{Shared}
-use Rattle.generational_core.specs.State.{State, content_at}
+pub use Rattle.generational_core.specs.Plain.{Plain}
+use Rattle.generational_core.specs.State.{content_at}
 use Rattle.generational_core.specs.Conditions.{fresh}
 use Rattle.generational_core.specs.Borrowing.{Guard}
 use Rattle.generational_core.specs.Machine.{Action, Answer, NewNames, Outcome, act, add_cell}
@@ -20,14 +21,10 @@ use Rattle.generational_core.specs.Machine.Action.{ReleaseWriter, SetValue, End,
 use Rattle.generational_core.specs.Slots.{slots_of, slots, free, is_free, last_name}
 use Rattle.generational_core.specs.Steps.{AreNew, Meets, limit_tickets, no_names}
 use Rattle.generational_core.specs.StepCalls.{is_ready, owner_of}
-use Rattle.generational_sync.specs.declared.step.Step.{Step}
-use Rattle.generational_sync.specs.declared.step.StepReply.{StepReply}
-use Rattle.generational_sync.specs.declared.step.StepReply.TheVariants as reply
+use Rattle.step_records.specs.declared.step.Step.{Step}
+use Rattle.step_records.specs.declared.step.StepReply.{StepReply}
+use Rattle.step_records.specs.declared.step.StepReply.TheVariants as reply
 use Rattle.generational_sync.specs.Replies.{reply_of, is_recorded}
-
--- a state without values
-abbrev pub Plain : Type 0
-Plain = State (Unit {0})
 
 -- where a history starts: a store of this number in which nothing was made
 abbrev pub start : ℕ → Plain

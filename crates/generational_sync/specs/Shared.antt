@@ -1,10 +1,15 @@
 -- What lies under the lock, as contracts see it.
-use Rattle.std.specs.Prelude.{◌≡◌, ℕ, ◌≤◌, ◌⊎◌, true, List, Some, Result, Ok, Err, is_some}
+use Rattle.std.specs.Prelude.{◌≡◌, ℕ, ◌+◌, ◌^◌, ◌<◌, ◌≤◌, ◌⊎◌, true, List, [], Some, Result, Ok}
+use Rattle.std.specs.Prelude.{Err, is_some, length}
 use Rattle.generational_core.specs.declared.error.Location.{Location}
 use Rattle.generational_core.specs.declared.boxes.GenerationalPointer.{GenerationalPointer}
 use Rattle.generational_core.specs.declared.error.BorrowMutError.{BorrowMutError}
 use Rattle.generational_core.specs.declared.error.Refused.{Refused}
+use Rattle.generational_core.specs.declared.error.StoreError.{StoreError}
 use Rattle.generational_core.specs.declared.error.StoreError.TheVariants.{OutOfMemory}
+use Rattle.generational_core.specs.declared.error.StoreError.TheVariants.{NumbersExhausted}
+use Rattle.generational_core.specs.declared.error.StoreError.TheVariants.{UnknownOwner}
+use Rattle.generational_core.specs.Rows.{rows_of}
 use Rattle.generational_core.specs.declared.steps.StepCall.{StepCall}
 use Rattle.generational_core.specs.State.{IsSound, State}
 use Rattle.generational_core.specs.Machine.{Action, Answer}
@@ -12,31 +17,34 @@ use Rattle.generational_core.specs.Machine.Answer.{Old, Refused as refuses}
 use Rattle.generational_core.specs.Answers.{end_refused}
 use Rattle.generational_core.specs.Steps.{Meets}
 use Rattle.generational_sessions.specs.History.{plain}
-use Rattle.generational_sync.specs.declared.step.Step.{Step}
+use Rattle.step_records.specs.declared.step.Step.{Step}
+use Rattle.generational_sync.specs.Bases.{BaseState, Trims, all_trimmed, plain_of}
 use Rattle.generational_sync.specs.Counts.{Counts}
 use Rattle.generational_sync.specs.Replies.{kind_in, raised_by, recorded, reply_of}
-use Rattle.generational_sync.specs.History.{Plain, start, replay_from}
+use Rattle.generational_sync.specs.History.{replay_from}
 use Rattle.generational_sync.specs.Standing.{borrows}
 
--- A shared state: the machine's state, and the steps that led to it.
+-- A shared state: the machine's state, a base, and the steps that led on from there.
 pub record SharedState (T : Type 0) : Type 0 where
   pub state : State T
+  pub base : BaseState
   pub history : List Step
 
--- A history with the state from which it goes on, and with what is reserved in it: the borrows for
--- whose release there is room, and for how many steps beside these there is room.
+-- A history with its base, and with what is reserved in it: the borrows for whose release there is
+-- room, and for how many steps beside these there is room.
 pub record LogState : Type 0 where
-  pub from : Plain
+  pub base : BaseState
   pub steps : List Step
   pub standing : ℕ
   pub room : ℕ
 
--- what holds whenever the lock is free: from a sound state of this store the history replays to the
--- state without its values, and there is room for the release of each borrow that stands
+-- what holds whenever the lock is free: from the base's state, which is sound and of this store, the
+-- history replays to the state without its values, and there is room for the release of each borrow
+-- that stands
 abbrev pub IsKept : {T : Type 0} → ℕ → State T → LogState → Type 0
 IsKept number S log =
-    (replay_from log.from log.steps ≡ Some (plain S)) × (borrows S ≤ log.standing)
-    × IsSound log.from × (log.from.number ≡ number)
+    (replay_from (plain_of log.base) log.steps ≡ Some (plain S)) × (borrows S ≤ log.standing)
+    × IsSound (plain_of log.base) × (log.base.number ≡ number)
 
 -- what the setting of a value answers that took the place of this old one
 abbrev pub set_answer : {T U : Type 0} → T → Result U (T × Refused BorrowMutError) → Answer T
@@ -49,15 +57,19 @@ abbrev pub Does : {T : Type 0} → SharedState T → Action T → Answer T → S
 Does s call answer r =
     Meets s.state call answer r.state ⊎ ((answer ≡ refuses OutOfMemory) × (r.state ≡ s.state))
 
--- the history replays, from an empty store with this number, to the state without its values
+-- the history replays, from the state that its base tells of this store, to the state without its
+-- values
 abbrev pub Replays : {T : Type 0} → ℕ → SharedState T → Type 0
-Replays number s = replay_from (start number) s.history ≡ Some (plain s.state)
+Replays number s =
+    (s.base.number ≡ number)
+    × (replay_from (plain_of s.base) s.history ≡ Some (plain s.state))
 
--- the step of a call of the tally's worker is appended, if its answer is recorded
+-- the step of a call of the tally's worker is appended, if its answer is recorded, on the same base
 abbrev pub Records : {T : Type 0} → SharedState T → Counts → StepCall → Action T → Answer T
     → SharedState T → Type 0
 Records old tally call action answer new =
-    new.history ≡ recorded old.history tally.worker call (reply_of new.state action answer)
+    (new.history ≡ recorded old.history tally.worker call (reply_of new.state action answer))
+    × (new.base ≡ old.base)
 
 -- and the count of its kind is raised by one
 abbrev pub Raises : {T : Type 0} → Counts → Answer T → Counts → Type 0
@@ -67,6 +79,27 @@ Raises old answer new = new ≡ raised_by (kind_in answer) old
 abbrev pub IsBoxOf : ℕ → Location → GenerationalPointer → Type 0
 IsBoxOf number l b = (b.id.store ≡ number) × (b.created_at ≡ l)
 
--- a list that replays from an empty store with this number
-abbrev pub IsHistory : ℕ → List Step → Type 0
-IsHistory number steps = is_some (replay_from (start number) steps) ≡ true
+-- a list that replays from the state that a base tells of the store with this number
+abbrev pub IsHistory : ℕ → BaseState → List Step → Type 0
+IsHistory number base steps =
+    (base.number ≡ number) × (is_some (replay_from (plain_of base) steps) ≡ true)
+
+-- a checkpoint: the base tells the state without its values and counts all steps so far, none is
+-- left in the history, and the state stays
+pub record IsCheckpoint {T : Type 0} (old new : SharedState T) : Type 0 where
+  pub state : new.state ≡ old.state
+  pub history : new.history ≡ []
+  pub told : plain_of new.base ≡ plain old.state
+  pub rows : new.base.rows ≡ rows_of old.state
+  pub trims : Trims old.base old.history new.base
+
+-- how a checkpoint is refused: where the trimmed steps would be too many, or for want of memory
+abbrev pub MayRefuseCheckpoint : {T : Type 0} → SharedState T → StoreError → Type 0
+MayRefuseCheckpoint s NumbersExhausted = 2 ^ 64 ≤ all_trimmed s.base + length s.history
+MayRefuseCheckpoint s OutOfMemory = all_trimmed s.base + length s.history < 2 ^ 64
+MayRefuseCheckpoint s UnknownOwner = ⊥
+
+-- the same where the history isn't seen
+abbrev pub MayRefuseTrimming : StoreError → Type 0
+MayRefuseTrimming UnknownOwner = ⊥
+MayRefuseTrimming e = Unit {0}

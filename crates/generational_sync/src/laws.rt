@@ -7,11 +7,12 @@ ghost use Rattle.generational_core.specs.declared.steps.StepCall.{StepCall};
 ghost use Rattle.generational_core.specs.Machine.{Action, Answer};
 ghost use Rattle.generational_core.specs.Steps.{Meets};
 ghost use Rattle.generational_core.specs.StepCalls.{is_ready, recorded_as};
-ghost use Rattle.generational_sync.specs.Records.{HasRecord};
+ghost use Rattle.step_records.specs.Records.{HasRecord};
 ghost use Rattle.generational_sync.specs.Refusals.{MayRefuse};
 ghost use Rattle.generational_sessions.specs.History.{plain};
-ghost use Rattle.generational_sync.specs.declared.step.Step.{Step};
-ghost use Rattle.generational_sync.specs.declared.step.StepReply.{StepReply};
+ghost use Rattle.step_records.specs.declared.step.Step.{Step};
+ghost use Rattle.step_records.specs.declared.step.StepReply.{StepReply};
+ghost use Rattle.generational_sync.specs.Bases.{BaseState, plain_of};
 ghost use Rattle.generational_sync.specs.Replies.{reply_of};
 ghost use Rattle.generational_sync.specs.History.{Plain, IsTaken, LeadsOver, plain_step, start};
 ghost use Rattle.generational_sync.specs.History.{replay_from};
@@ -46,14 +47,19 @@ pub fn recorded_calls_are_lawful<T>()
 }
 
 /// A history that replays from a sound state leads to a sound state, so that a ticket alone names
-/// a reader in it, and to one of the store with the same number. The state of an empty store is
-/// sound.
+/// a reader in it, and to one of the store with the same number, whose slots have the same first
+/// generation. The state of an empty store is sound.
 pub fn histories_lead_to_sound_states()
     ensures start { (number : ℕ) → IsSound (start number) }
     ensures sound { (P : Plain) (steps : List Step) (Q : Plain) →
         IsSound P → replay_from P steps ≡ Some Q → IsSound Q }
     ensures number { (P : Plain) (steps : List Step) (Q : Plain) →
         IsSound P → replay_from P steps ≡ Some Q → Q.number ≡ P.number }
+    ensures store { (base : BaseState) (steps : List Step) (Q : Plain) →
+        IsSound (plain_of base) → replay_from (plain_of base) steps ≡ Some Q →
+        Q.number ≡ base.number }
+    ensures generation { (P : Plain) (steps : List Step) (Q : Plain) →
+        IsSound P → replay_from P steps ≡ Some Q → Q.start ≡ P.start }
 {
     laws::steps_are_sound::<()>();
     laws::steps_keep_the_store::<()>();

@@ -11,18 +11,17 @@
 //! [`SyncState`] is what lies under the lock. It needs no threads.
 #![tactic(auto)]
 
+mod base;
 pub mod laws;
 mod log;
 pub mod parts;
-mod record;
 mod replies;
-mod short_call;
 mod state;
-mod step;
 mod storage;
 mod tally;
 
+pub use crate::base::Base;
 pub use crate::state::SyncState;
-pub use crate::step::{Kind, Step, StepReply};
 pub use crate::storage::SyncStorage;
 pub use crate::tally::{Count, Tally};
+pub use step_records::{Kind, Step, StepReply};

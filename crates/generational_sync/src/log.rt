@@ -1,29 +1,33 @@
 //! The history of a store, with its books.
 
 ghost use Rattle.std.specs.Prelude.{◌≡◌, ◌+◌, ◌^◌, ◌<◌, ◌≤◌, [], ◌∷◌, ◌++◌, IfOk, IfSome, OnOk};
-ghost use Rattle.std.specs.Prelude.{length, option_to_list};
+ghost use Rattle.std.specs.Prelude.{OnErr, OnSome, IfNone, length, option_to_list};
+ghost use Rattle.generational_sync.specs.Bases.{IsCounted, Trims, all_trimmed, counts_of, new_base};
 ghost use Rattle.generational_sync.specs.Counts.{raised};
-ghost use Rattle.generational_sync.specs.History.{start};
-ghost use Rattle.generational_sync.specs.Kinds.{IsCounted, kind_of, step_of};
-ghost use Rattle.generational_sync.specs.Records.{HasRecord};
+ghost use Rattle.step_records.specs.Kinds.{count, kind_of, step_of};
+ghost use Rattle.step_records.specs.declared.step.Kind.TheVariants.{Made, Lent, Changed, Refused};
+ghost use Rattle.step_records.specs.Records.{HasRecord};
 ghost use Rattle.generational_sync.specs.Replies.{recorded, tallied};
 ghost use Rattle.generational_sync.specs.Standing.{lent_in};
 
-use crate::record::Record;
-use crate::step::{Kind, Step, StepReply};
+use crate::base::{Base, TrimmedSteps};
 use crate::tally::{Count, Tally};
 use chunks::Chunks;
 use generational_box::StepCall;
 use std::alloc::{AllocError, Global};
 use std::marker::Model;
+use std::mem;
 use std::sync::ledger::Book;
+use step_records::{Kind, Record, Step, StepReply};
 
-/// The steps in order, room for a release of each borrow that stands, and for each kind how many
-/// steps there are and a book. Contracts see the steps and the room.
+/// A base and the steps from there in order, room for a release of each borrow that stands, and for
+/// each kind how many steps there are and a book. Contracts see the base, the steps and the room.
 ///
 /// The steps are kept as records of the store with this number.
 #[derive(Drop)]
 pub(crate) struct Log<const NUMBER: u64, M: Count, L: Count, C: Count, R: Count> {
+    alloc: Global,
+    base: Base,
     history: Chunks<Record>,
     standing: usize,
     made_steps: u64,
@@ -40,19 +44,18 @@ impl<const NUMBER: u64, M: Count, L: Count, C: Count, R: Count> Model for Log<NU
     ghost use Rattle.std.specs.Prelude.{◌≡◌, ◌+◌, ◌-◌, ◌≤◌, map};
     ghost use Rattle.std.specs.Coded.{codes};
     ghost use Rattle.std.specs.FinMap as finite;
-    ghost use Rattle.generational_sync.specs.History.{start};
-    ghost use Rattle.generational_sync.specs.Kinds.{count};
-    ghost use Rattle.generational_sync.specs.Records.{unpack};
+    ghost use Rattle.step_records.specs.Kinds.{count};
+    ghost use Rattle.step_records.specs.Records.{unpack};
     ghost use Rattle.generational_sync.specs.Shared.{LogState};
-    ghost use Rattle.generational_sync.specs.declared.step.Kind.TheVariants.{Made, Lent, Changed};
-    ghost use Rattle.generational_sync.specs.declared.step.Kind.TheVariants.{Refused};
+    ghost use Rattle.step_records.specs.declared.step.Kind.TheVariants.{Made, Lent, Changed};
+    ghost use Rattle.step_records.specs.declared.step.Kind.TheVariants.{Refused};
 
     ghost Value = { LogState };
 
     ghost coded = { Prim.hlevel (codes, finite.code) };
 
     ghost view = { λ l. record {
-      from = start NUMBER;
+      base = l.base;
       steps = map (unpack NUMBER) l.history.items;
       standing = l.standing;
       room = l.history.room - l.standing;
@@ -62,8 +65,10 @@ impl<const NUMBER: u64, M: Count, L: Count, C: Count, R: Count> Model for Log<NU
         × (l.lent_steps ≡ count Lent (map (unpack NUMBER) l.history.items))
         × (l.changed_steps ≡ count Changed (map (unpack NUMBER) l.history.items))
         × (l.refused_steps ≡ count Refused (map (unpack NUMBER) l.history.items))
-        × (l.made.total ≡ l.made_steps) × (l.lent.total ≡ l.lent_steps)
-        × (l.changed.total ≡ l.changed_steps) × (l.refused.total ≡ l.refused_steps)
+        × (l.made.total ≡ l.base.made + l.made_steps)
+        × (l.lent.total ≡ l.base.lent + l.lent_steps)
+        × (l.changed.total ≡ l.base.changed + l.changed_steps)
+        × (l.refused.total ≡ l.base.refused + l.refused_steps)
         × (l.standing ≤ l.history.room) };
 }
 
@@ -78,9 +83,11 @@ impl<const NUMBER: u64, M: Count, L: Count, C: Count, R: Count> Log<NUMBER, M, L
     ) -> Self
         requires { (made.total ≡ 0) × (lent.total ≡ 0) × (changed.total ≡ 0) × (refused.total ≡ 0) }
         ensures { result ≡
-            record { from = start NUMBER; steps = []; standing = 0; room = result.room } }
+            record { base = new_base NUMBER; steps = []; standing = 0; room = result.room } }
     {
         Log {
+            alloc,
+            base: Base::new(alloc, NUMBER),
             history: Chunks::new(alloc),
             standing: 0,
             made_steps: 0,
@@ -98,7 +105,7 @@ impl<const NUMBER: u64, M: Count, L: Count, C: Count, R: Count> Log<NUMBER, M, L
     #[inline(always)]
     pub(crate) fn reserve(&mut self, steps: usize) -> Result<(), AllocError>
         requires { steps ≤ 2 }
-        ensures from { self.new.from ≡ self.old.from }
+        ensures base { self.new.base ≡ self.old.base }
         ensures steps { self.new.steps ≡ self.old.steps }
         ensures standing { self.new.standing ≡ self.old.standing }
         ensures ok { OnOk result (steps ≤ self.new.room) }
@@ -114,7 +121,7 @@ impl<const NUMBER: u64, M: Count, L: Count, C: Count, R: Count> Log<NUMBER, M, L
     fn append(&mut self, call: StepCall, reply: StepReply, tally: &mut Tally<M, L, C, R>)
         requires room { 0 < self.old.room }
         requires record { HasRecord NUMBER call reply }
-        ensures from { self.new.from ≡ self.old.from }
+        ensures base { self.new.base ≡ self.old.base }
         ensures steps { self.new.steps ≡
             self.old.steps ++ step_of tally.old.worker call reply ∷ [] }
         ensures standing { self.new.standing ≡ self.old.standing }
@@ -155,7 +162,7 @@ impl<const NUMBER: u64, M: Count, L: Count, C: Count, R: Count> Log<NUMBER, M, L
     )
         requires room { 1 < self.old.room }
         requires record { IfSome reply (HasRecord NUMBER call) }
-        ensures from { self.new.from ≡ self.old.from }
+        ensures base { self.new.base ≡ self.old.base }
         ensures steps { self.new.steps ≡ recorded self.old.steps tally.old.worker call reply }
         ensures standing { self.new.standing ≡ self.old.standing + lent_in reply }
         ensures tally { tally.new ≡ tallied reply tally.old }
@@ -179,7 +186,7 @@ impl<const NUMBER: u64, M: Count, L: Count, C: Count, R: Count> Log<NUMBER, M, L
     )
         requires standing { IfSome reply (λ r. 0 < self.old.standing) }
         requires record { IfSome reply (HasRecord NUMBER call) }
-        ensures from { self.new.from ≡ self.old.from }
+        ensures base { self.new.base ≡ self.old.base }
         ensures steps { self.new.steps ≡ recorded self.old.steps tally.old.worker call reply }
         ensures standing { self.new.standing + length (option_to_list reply) ≡ self.old.standing }
         ensures tally { tally.new ≡ tallied reply tally.old }
@@ -194,7 +201,7 @@ impl<const NUMBER: u64, M: Count, L: Count, C: Count, R: Count> Log<NUMBER, M, L
     fn borrow_begins(&mut self)
         requires room { 0 < self.old.room }
         requires bounded { self.old.standing + self.old.room < 2 ^ 64 }
-        ensures from { self.new.from ≡ self.old.from }
+        ensures base { self.new.base ≡ self.old.base }
         ensures steps { self.new.steps ≡ self.old.steps }
         ensures standing { self.new.standing ≡ self.old.standing + 1 }
     {
@@ -206,7 +213,7 @@ impl<const NUMBER: u64, M: Count, L: Count, C: Count, R: Count> Log<NUMBER, M, L
     fn borrow_ends(&mut self, call: StepCall, reply: StepReply, tally: &mut Tally<M, L, C, R>)
         requires standing { 0 < self.old.standing }
         requires record { HasRecord NUMBER call reply }
-        ensures from { self.new.from ≡ self.old.from }
+        ensures base { self.new.base ≡ self.old.base }
         ensures steps { self.new.steps ≡ self.old.steps ++ step_of tally.old.worker call reply
             ∷ [] }
         ensures standing { self.new.standing + 1 ≡ self.old.standing }
@@ -216,11 +223,59 @@ impl<const NUMBER: u64, M: Count, L: Count, C: Count, R: Count> Log<NUMBER, M, L
         self.append(call, reply, tally);
     }
 
-    // A copy of the steps, which a whole tally has counted by their kinds.
-    pub(crate) fn audit(&mut self, whole: &mut Tally<M, L, C, R>) -> Result<Vec<Step>, AllocError>
+    // How many steps of each kind are trimmed where the history begins anew. None where they would
+    // be too many together.
+    pub(crate) fn trimmed_steps(&self) -> Option<TrimmedSteps>
+        ensures counts { IfSome result (λ t. t ≡ counts_of self.now.base self.now.steps) }
+        ensures within { OnSome result
+            (all_trimmed self.now.base + length self.now.steps < 2 ^ 64) }
+        ensures none { IfNone result (2 ^ 64 ≤ all_trimmed self.now.base + length self.now.steps) }
+    {
+        if self
+            .base
+            .trimmed()
+            .checked_add(self.history.len() as u64)
+            .is_none()
+        {
+            return None;
+        }
+        Some(TrimmedSteps {
+            made: self.base.count(Kind::Made) + self.made_steps,
+            lent: self.base.count(Kind::Lent) + self.lent_steps,
+            changed: self.base.count(Kind::Changed) + self.changed_steps,
+            refused: self.base.count(Kind::Refused) + self.refused_steps,
+        })
+    }
+
+    // Lets the history begin anew at a base that counts all steps so far as trimmed. What is kept no
+    // more is answered, so that who holds a lock can let it go when it is open. Want of memory
+    // changes nothing, and the room stays.
+    pub(crate) fn rebase(&mut self, base: Base) -> Result<Outdated, AllocError>
+        requires { Trims self.old.base self.old.steps base }
+        ensures base { OnOk result (self.new.base ≡ base) }
+        ensures steps { OnOk result (self.new.steps ≡ []) }
+        ensures standing { self.new.standing ≡ self.old.standing }
+        ensures room { self.old.room ≤ self.new.room }
+        ensures err { OnErr result (self.new ≡ self.old) }
+    {
+        let chunks = self.history.empty()?;
+        let base = mem::replace(&mut self.base, base);
+        self.made_steps = 0;
+        self.lent_steps = 0;
+        self.changed_steps = 0;
+        self.refused_steps = 0;
+        Ok(Outdated { chunks, base })
+    }
+
+    // A copy of the base and of the steps, which a whole tally has counted by their kinds.
+    pub(crate) fn audit(
+        &mut self,
+        whole: &mut Tally<M, L, C, R>,
+    ) -> Result<(Base, Vec<Step>), AllocError>
         requires { whole.old.parts ≡ M.workers }
-        ensures steps { IfOk result (λ steps. steps.items ≡ self.old.steps) }
-        ensures counts { IsCounted whole.old self.old.steps }
+        ensures base { IfOk result (λ r. r.0 ≡ self.old.base) }
+        ensures steps { IfOk result (λ r. r.1.items ≡ self.old.steps) }
+        ensures counts { IsCounted whole.old self.old.base self.old.steps }
         ensures log { self.new ≡ self.old }
         ensures tally { whole.new ≡ whole.old }
     {
@@ -232,6 +287,23 @@ impl<const NUMBER: u64, M: Count, L: Count, C: Count, R: Count> Log<NUMBER, M, L
         self.lent.audit(&mut whole.lent);
         self.changed.audit(&mut whole.changed);
         self.refused.audit(&mut whole.refused);
-        self.history.unpacked(NUMBER)
+        self.copies()
     }
+
+    // A copy of the base and of the steps.
+    fn copies(&self) -> Result<(Base, Vec<Step>), AllocError>
+        ensures base { IfOk result (λ r. r.0 ≡ self.now.base) }
+        ensures steps { IfOk result (λ r. r.1.items ≡ self.now.steps) }
+    {
+        let steps = self.history.unpacked(NUMBER)?;
+        let base = self.base.copy(self.alloc)?;
+        Ok((base, steps))
+    }
+}
+
+/// A base and a history's chunks that are kept no more.
+#[derive(Drop)]
+pub(crate) struct Outdated {
+    chunks: Vec<Vec<Record>>,
+    base: Base,
 }

@@ -15,13 +15,13 @@ ghost use Rattle.std.specs.Prelude.{IfOk, None, Option, is_some, option_map, tru
 ghost use Rattle.generational_sync.specs.Shared.{set_answer};
 ghost use Rattle.generational_sync.specs.Standing.{given_by, leaves, lent_in};
 ghost use Rattle.generational_sync.specs.Replies.{kind_in, reply_of};
-ghost use Rattle.generational_sync.specs.Kinds.{kind_of};
+ghost use Rattle.step_records.specs.Kinds.{kind_of};
 
-use crate::step::StepReply;
 use generational_box::{
     BorrowError, BorrowMutError, BorrowMutResult, BorrowResult, GenerationalBoxId,
     GenerationalPointer, GenerationalRef, GenerationalRefMut, Owner, Refusal, Refused, StoreError,
 };
+use step_records::StepReply;
 
 // How a refusal of the store is recorded.
 fn store_reply<T>(error: StoreError) -> Option<StepReply>

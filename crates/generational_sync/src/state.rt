@@ -1,23 +1,23 @@
 //! What lies under the lock.
 
-ghost use Rattle.std.specs.Prelude.{◌≡◌, ◌<◌, [], IfOk, IfErr, option_copied};
+ghost use Rattle.std.specs.Prelude.{◌≡◌, ◌<◌, [], IfOk, IfErr, OnOk, OnErr, option_copied};
 ghost use Rattle.generational_core.specs.declared.error.StoreError.TheVariants.{OutOfMemory};
 ghost use Rattle.generational_core.specs.declared.steps.StepCall.TheVariants as call;
 ghost use Rattle.generational_core.specs.Conditions.{fresh};
 ghost use Rattle.generational_core.specs.Answers.{value_behind};
 ghost use Rattle.generational_core.specs.StepCalls.{id_of_owner, is_ready};
 ghost use Rattle.generational_sync.specs.Counts.{new_tallies};
-ghost use Rattle.generational_sync.specs.Kinds.{IsCounted};
-ghost use Rattle.generational_sync.specs.Shared.{Replays};
+ghost use Rattle.generational_sync.specs.Bases.{IsCounted, all_trimmed, new_base};
+ghost use Rattle.generational_sync.specs.Shared.{IsCheckpoint, MayRefuseCheckpoint, Replays};
 
 mod borrowing;
 mod ending;
 mod making;
 
 // A law does nothing when it is called: the caller's proof cites it.
+use crate::base::Base;
 use crate::laws::{histories_lead_to_sound_states, recorded_calls_are_lawful};
-use crate::log::Log;
-use crate::step::Step;
+use crate::log::{Log, Outdated};
 use crate::tally::{Count, Tally, tallies};
 use generational_box::{
     AnyStorage, GenerationalRef, Owner, StepCall, Storage, StoreError, UnsyncStorage,
@@ -25,13 +25,16 @@ use generational_box::{
 use std::alloc::Global;
 use std::marker::Model;
 use std::sync::ledger::Blank;
+use step_records::Step;
 
-/// A store with the history of its steps. Contracts see it as the machine's state and that list.
+/// A store with the history of its steps. Contracts see it as the machine's state, a base and that
+/// list.
 ///
 /// It is what lies under the lock of a [`SyncStorage`](crate::SyncStorage), and needs no threads.
-/// Whatever is called, the history replays from the empty store of this number to the state, each
-/// kind's book has as many steps as the history, and the history has room for one more step for
-/// each borrow that stands.
+/// Whatever is called, the history replays from the base, which is a sound state of this number, to
+/// the state; each kind's book has as many steps as were trimmed and as the history has; and the
+/// history has room for one more step for each borrow that stands. The base is that of an empty
+/// store until a checkpoint.
 ///
 /// Each call that is answered is a step of the machine, and of the tally's worker: exactly that
 /// step is appended, and exactly the count of its kind is raised by one. A call that is answered
@@ -48,17 +51,19 @@ impl<T, const NUMBER: u64, M: Count, L: Count, C: Count, R: Count> Model
     for SyncState<T, NUMBER, M, L, C, R> {
     ghost use Rattle.std.specs.Coded.{codes};
     ghost use Rattle.std.specs.FinMap as map;
-    ghost use Rattle.std.specs.Prelude.{◌≡◌};
-    ghost use Rattle.generational_sync.specs.History.{start};
     ghost use Rattle.generational_sync.specs.Shared.{SharedState, IsKept};
 
     ghost Value = { SharedState T };
 
     ghost coded = { Prim.hlevel (codes, map.code) };
 
-    ghost view = { λ s. record { state = s.store.state; history = s.log.steps } };
+    ghost view = { λ s. record {
+      state = s.store.state;
+      base = s.log.base;
+      history = s.log.steps;
+    } };
 
-    ghost invariant = { λ s. IsKept NUMBER s.store.state s.log × (s.log.from ≡ start NUMBER) };
+    ghost invariant = { λ s. IsKept NUMBER s.store.state s.log };
 }
 
 impl<T: Drop, const NUMBER: u64, M: Count, L: Count, C: Count, R: Count> SyncState<
@@ -92,7 +97,8 @@ impl<T: Drop, const NUMBER: u64, M: Count, L: Count, C: Count, R: Count> SyncSta
         requires refused { (refused.name ≡ R.name) × (refused.parts ≡ R.parts) ×
             (refused.parts ≡ workers)
             × (R.workers ≡ workers) }
-        ensures fresh { IfOk result (λ r. r.0 ≡ record { state = fresh NUMBER 1 0; history = [] }) }
+        ensures fresh { IfOk result (λ r. r.0
+            ≡ record { state = fresh NUMBER 1 0; base = new_base NUMBER; history = [] }) }
         ensures tallies { IfOk result (λ r. r.1.items ≡ new_tallies workers) }
         ensures err { IfErr result (λ e. e ≡ OutOfMemory) }
     {
@@ -146,18 +152,66 @@ impl<T: Drop, const NUMBER: u64, M: Count, L: Count, C: Count, R: Count> SyncSta
         self.store.open(guard)
     }
 
-    // A copy of the history, which the whole tally has counted.
-    pub(crate) fn audit(&mut self, whole: &mut Tally<M, L, C, R>) -> Result<Vec<Step>, StoreError>
+    /// Makes the state, without values, the base from which the history goes on, and empties the
+    /// history. The answer is how many steps were ever trimmed. It isn't a step. The room in the
+    /// history stays.
+    ///
+    /// Refused, in this order: `NumbersExhausted`, where the steps that were trimmed and those of
+    /// the history together would be more than fit into 64 bits; `OutOfMemory`. A refusal changes
+    /// nothing. It takes time and memory for each slot, borrow and owner's box that there is, and
+    /// the rows of the old base are kept until the new ones are made.
+    pub fn checkpoint(&mut self) -> Result<u64, StoreError>
+        ensures ok { OnOk result (IsCheckpoint self.old self.new) }
+        ensures trimmed { IfOk result (λ trimmed. trimmed ≡ all_trimmed self.new.base) }
+        ensures err { OnErr result (self.new ≡ self.old) }
+        ensures refusal { IfErr result (λ e. MayRefuseCheckpoint self.old e) }
+        ensures replays { Replays NUMBER self.new }
+    {
+        match self.trim() {
+            Ok((trimmed, _)) => Ok(trimmed),
+            Err(error) => Err(error),
+        }
+    }
+
+    // The same, and what is kept no more is answered too, so that it can be let go later.
+    pub(crate) fn trim(&mut self) -> Result<(u64, Outdated), StoreError>
+        ensures ok { OnOk result (IsCheckpoint self.old self.new) }
+        ensures trimmed { IfOk result (λ r. r.0 ≡ all_trimmed self.new.base) }
+        ensures err { OnErr result (self.new ≡ self.old) }
+        ensures refusal { IfErr result (λ e. MayRefuseCheckpoint self.old e) }
+        ensures replays { Replays NUMBER self.new }
+    {
+        histories_lead_to_sound_states();
+        let Some(steps) = self.log.trimmed_steps() else {
+            return Err(StoreError::NumbersExhausted);
+        };
+        let rows = match self.store.rows() {
+            Ok(rows) => rows,
+            Err(error) => return Err(error),
+        };
+        let next = u64::MAX - self.store.tickets_left();
+        let base = Base::of(NUMBER, next, self.store.peak_live(), steps, rows);
+        let trimmed = base.trimmed();
+        let outdated = self.log.rebase(base)?;
+        Ok((trimmed, outdated))
+    }
+
+    // A copy of the base and of the history, which the whole tally has counted.
+    pub(crate) fn audit(
+        &mut self,
+        whole: &mut Tally<M, L, C, R>,
+    ) -> Result<(Base, Vec<Step>), StoreError>
         requires { whole.old.parts ≡ M.workers }
-        ensures steps { IfOk result (λ steps. steps.items ≡ self.old.history) }
+        ensures base { IfOk result (λ r. r.0 ≡ self.old.base) }
+        ensures steps { IfOk result (λ r. r.1.items ≡ self.old.history) }
         ensures replays { Replays NUMBER self.old }
-        ensures counts { IsCounted whole.old self.old.history }
+        ensures counts { IsCounted whole.old self.old.base self.old.history }
         ensures state { self.new ≡ self.old }
         ensures tally { whole.new ≡ whole.old }
         ensures refusal { IfErr result (λ e. e ≡ OutOfMemory) }
     {
         match self.log.audit(whole) {
-            Ok(steps) => Ok(steps),
+            Ok(copies) => Ok(copies),
             Err(_) => Err(StoreError::OutOfMemory),
         }
     }

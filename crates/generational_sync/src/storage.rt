@@ -6,20 +6,21 @@ ghost use Rattle.generational_core.specs.declared.error.StoreError.TheVariants.{
 ghost use Rattle.generational_core.specs.declared.steps.StepCall.TheVariants as call;
 ghost use Rattle.generational_core.specs.StepCalls.{id_of_owner, is_ready};
 ghost use Rattle.generational_sync.specs.Counts.{new_tallies};
-ghost use Rattle.generational_sync.specs.Kinds.{IsCounted};
-ghost use Rattle.generational_sync.specs.Shared.{IsHistory};
+ghost use Rattle.generational_sync.specs.Bases.{IsCounted};
+ghost use Rattle.generational_sync.specs.Shared.{IsHistory, MayRefuseTrimming};
 
 mod borrowing;
 mod ending;
 mod making;
 
+use crate::base::Base;
 use crate::state::SyncState;
-use crate::step::Step;
 use crate::tally::{Count, Tally};
 use generational_box::{GenerationalRef, Owner, StepCall, StoreError};
 use std::alloc::Global;
 use std::sync::ledger::Blank;
 use std::sync::{Arc, Condvar, Mutex, MutexGuard, Wait};
+use step_records::Step;
 
 /// What lies under the lock.
 #[derive(Drop)]
@@ -190,19 +191,45 @@ impl<T: Drop + Send, const NUMBER: u64, M: Count, L: Count, C: Count, R: Count> 
         Some(f(value))
     }
 
-    /// The history, asked for with a whole tally (`is_whole` is the test). The list that comes back
-    /// replays from an empty store with this number, and it has, of each kind, exactly as many
-    /// steps as the tally counts. It isn't a step.
+    /// Makes the store's state, without values, the base from which its history goes on, and empties
+    /// the history. The answer is how many steps were ever trimmed. It isn't a step, and raises no
+    /// count. The new rows are made first, and what they take the place of is let go once the lock
+    /// is open.
+    ///
+    /// Refused, in this order: `NumbersExhausted`, where the steps that were trimmed and those of
+    /// the history together would be more than fit into 64 bits; `OutOfMemory`. A refusal changes
+    /// nothing. While the rows are made, no other call goes on: it takes time for each slot, borrow
+    /// and owner's box that there is.
+    pub fn checkpoint(
+        &self,
+        rt: &impl Wait,
+        tally: &mut Tally<M, L, C, R>,
+    ) -> Result<u64, StoreError>
+        ensures tally { tally.new ≡ tally.old }
+        ensures refusal { IfErr result MayRefuseTrimming }
+    {
+        let _ = tally;
+        let mut held = self.shared.held.lock(rt);
+        let trimming = held.state.trim();
+        drop(held);
+        let (trimmed, outdated) = trimming?;
+        drop(outdated);
+        Ok(trimmed)
+    }
+
+    /// The base and the history, asked for with a whole tally (`is_whole` is the test). The list
+    /// that comes back replays from the base, which is of this number; and of each kind the base
+    /// and the list together count exactly as many steps as the tally counts. It isn't a step.
     ///
     /// Refused by `OutOfMemory` at most: nothing changes.
     pub fn audit(
         &self,
         rt: &impl Wait,
         whole: &mut Tally<M, L, C, R>,
-    ) -> Result<Vec<Step>, StoreError>
+    ) -> Result<(Base, Vec<Step>), StoreError>
         requires { whole.old.parts ≡ M.workers }
-        ensures replays { IfOk result (λ steps. IsHistory NUMBER steps.items) }
-        ensures counts { IfOk result (λ steps. IsCounted whole.old steps.items) }
+        ensures replays { IfOk result (λ r. IsHistory NUMBER r.0 r.1.items) }
+        ensures counts { IfOk result (λ r. IsCounted whole.old r.0 r.1.items) }
         ensures tally { whole.new ≡ whole.old }
         ensures refusal { IfErr result (λ e. e ≡ OutOfMemory) }
     {

@@ -6,6 +6,8 @@
 #[cfg(test)]
 mod beside;
 #[cfg(test)]
+mod checkpoints;
+#[cfg(test)]
 mod gates;
 #[cfg(test)]
 mod memory;

@@ -306,6 +306,7 @@ impl<
         if !self.tally.is_whole() {
             return None;
         }
-        self.store.audit(rt, &mut self.tally).ok()
+        let (_, steps) = self.store.audit(rt, &mut self.tally).ok()?;
+        Some(steps)
     }
 }

@@ -174,7 +174,10 @@ fn shared<
         return None;
     }
     let steps = match words.store {
-        Store::Shared => store.audit(rt, &mut whole).ok()?.len(),
+        Store::Shared => {
+            let (_, steps) = store.audit(rt, &mut whole).ok()?;
+            steps.len()
+        }
         _ => 0,
     };
     Some(Done { calls, steps })

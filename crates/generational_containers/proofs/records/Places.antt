@@ -25,7 +25,7 @@ use Rattle.generational_containers.proofs.Common.{names_under, names_in, knows}
 use Rattle.generational_containers.proofs.Common.{record_of, ArePlaced, change_place}
 use Rattle.generational_core.proofs.maps.Maps.{insert_there}
 use Rattle.generational_containers.specs.OwnerPlaces.{Records, change_record, change_record_if}
-use Rattle.generational_containers.specs.OwnerPlaces.{HasRoom, IsReserved, rooms_at, with_rooms}
+use Rattle.generational_containers.specs.OwnerPlaces.{HasRoom, IsReserved, with_rooms}
 use Rattle.generational_containers.specs.OwnerRecords.{add_to_list_in}
 use Rattle.generational_containers.proofs.Common.{one_listed}
 use Rattle.generational_core.specs.Names.{Name}
@@ -109,10 +109,10 @@ find_push (z ∷ zs) q x new = ap (option_or (record_in q z)) (find_push zs q x 
 
 -- ---- records and their keys
 
-own_key : (r : KeyedOwnership) → record_in r.key (Some r) ≡ Some r.ownership
+pub own_key : (r : KeyedOwnership) → record_in r.key (Some r) ≡ Some r.ownership
 own_key r = ap (λ b. cond b (Some r.ownership) None) (eq-eqb r.key r.key refl)
 
-other_key : (q : ℕ) (r : KeyedOwnership) → q ≢ r.key → record_in q (Some r) ≡ None
+pub other_key : (q : ℕ) (r : KeyedOwnership) → q ≢ r.key → record_in q (Some r) ≡ None
 other_key q r ne = ap (λ b. cond b (Some r.ownership) None) (ne_eqb q r.key ne)
 
 key_is : (q : ℕ) (r : KeyedOwnership) → is_some (record_in q (Some r)) ≡ true → q ≡ r.key

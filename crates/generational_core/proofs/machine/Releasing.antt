@@ -22,7 +22,6 @@ use Rattle.generational_core.specs.Borrowing.{fill, refusal_to_write}
 use Rattle.generational_core.specs.declared.error.StoreError.TheVariants.{UnknownOwner}
 use Rattle.generational_core.specs.declared.boxes.GenerationalPointer.{GenerationalPointer}
 use Rattle.std.specs.FinMap as map
-use Rattle.generational_core.specs.declared.steps.StepCall.TheVariants as call
 
 module _ {T : Type 0} where
   -- ---- what is left of the cells when names end

@@ -7,12 +7,18 @@ use sessions.{cond, ◌&&◌, List, None, reach, fresh, NewNames, Owned, Reads, 
 use sessions.{[], is_some, NameMap, Content, BorrowRefusal, Outcome, cell_at, Refused, no_names, renaming}
 use sessions.{Option, content_of, last_ticket, rename_cell, rename_guard, shift_owner, plain_answer}
 use sessions.{subst, arith, nat_eq, nat_lt, map-id, State, Guard, Action, Answer, AreNew, Carries}
-use sessions.{⊎_elim, eq_by_cmp, cond_both, Ownership, OwnerName, answer_to, name_exact, name_total}
+use sessions.{⊎_elim, cond_both, Ownership, OwnerName, answer_to, name_exact, name_total}
 use sessions.{option_map, nat_cmp_total, write_refusal, limit_tickets, needs_memory, without_values}
 use sessions.{AllByRecursion, NumbersExhausted, GenerationalPointer, takes_ticket, rename_ownership}
 use Rattle.generational_sessions.proofs.carrying.{cond_map, some_map, refusals_moved, Matched}
 use Rattle.generational_sessions.proofs.carrying.{act_matched, with_born, reach_cases}
 use Rattle.generational_sessions.proofs.carrying.{content_there}
+use Rattle.generational_core.proofs.machine.Rows.{get_bare_cell}
+use Rattle.generational_core.specs.Cells.Cell.{Value, Shared, Ref}
+use Rattle.generational_core.specs.Cells.Content.{Here, Lent}
+use Rattle.generational_core.specs.Plain.{bare_cell, bare_content}
+use Rattle.generational_core.specs.declared.borrow.Borrow.{Borrow}
+use Rattle.generational_sessions.specs.Carrying.{rename_content, shift_borrow}
 use Rattle.generational_core.specs.Slots.{Fits, free, is_free, slots_of, last_name}
 use Rattle.std.specs.FinMap as map
 use Rattle.std.specs.FinSet as set
@@ -49,20 +55,33 @@ same_owner : (number : ℕ) (o : OwnerName) → shift_owner same_name 0 number o
 same_owner number o = let stays : o.key + 0 ≡ o.key = omega arith in
     if_same o.store number _ o (λ own. rw (sym own, stays) refl)
 
--- the value that stands with a key, changed
-find_each : {X Y : Type 0} (h : X → Y) (q : Name) (es : List (Name × X)) → map.find name_cmp q
-    (list_map (λ (e : Name × X). (e.0, h e.1)) es) ≡ option_map h (map.find name_cmp q es)
-find_each h q [] = refl
-find_each h q (e ∷ es) = rw (find_each h q es)
-    (cond_map (option_map h) (eq_by_cmp name_cmp q e.0) (Some e.1) (map.find name_cmp q es))
+-- ---- a cell that keeps its names and its tickets loses its value alone
+
+same_borrow : (b : Borrow) → shift_borrow same_name 0 b ≡ b
+same_borrow b = let stays : b.ticket + 0 ≡ b.ticket = omega arith in rw stays refl
+
+same_borrows : (bs : List Borrow) → list_map (shift_borrow same_name 0) bs ≡ bs
+same_borrows [] = refl
+same_borrows (b ∷ bs) = λ i. same_borrow b i ∷ same_borrows bs i
 
 module _ {T : Type 0} where
   pub get_bare : (cells : NameMap (Cell T)) (n : Name)
       → map.get (bare_cells cells) n ≡ option_map (rename_cell same_name 0 bare) (map.get cells n)
-  unfolding bare_cells
-  get_bare cells n = map.get-from_entries name_total _ n
-      ∙ (find_each (rename_cell same_name 0 bare) n (map.entries cells)
-      ∙ ap (option_map (rename_cell same_name 0 bare)) (sym (map.get-entries cells n)))
+  get_bare cells n = get_bare_cell cells n ∙ renamed (map.get cells n)
+    where
+      content : (c : Content T) → bare_content c ≡ rename_content same_name 0 bare c
+      content (Here v readers) = ap (Here tt) (sym (same_borrows readers))
+      content (Lent w) = ap Lent (sym (same_borrow w))
+
+      cell : (c : Cell T) → bare_cell c ≡ rename_cell same_name 0 bare c
+      cell (Value c l) = ap (λ d. Value d l) (content c)
+      cell (Shared c l) = ap (λ d. Shared d l) (content c)
+      cell (Ref m l) = refl
+
+      renamed : (o : Option (Cell T))
+          → option_map bare_cell o ≡ option_map (rename_cell same_name 0 bare) o
+      renamed None = refl
+      renamed (Some c) = ap Some (cell c)
 
   carries_plain : (S : State T) → Carries same_name 0 bare Any (plain S) S
   carries_plain S = record {

@@ -47,7 +47,7 @@ module _ {T : Type 0} where
   find_here n here None rest is none = none
   find_here n here (Some c) rest is none = rw is refl
 
-  find_below : (i : ℕ) (slots : List (Entry T)) (n : Name) → n.slot < i
+  pub find_below : (i : ℕ) (slots : List (Entry T)) (n : Name) → n.slot < i
       → map.find name_cmp n (live_from i slots) ≡ None
   find_below i [] n h = refl
   find_below i (e ∷ slots) n h =
@@ -141,7 +141,7 @@ up_to : (start last g : ℕ)
 up_to start last g = grind (arith, nat_tests)
 
 module _ {T : Type 0} (start : ℕ) where
-  any_of : (i : ℕ) (e : Entry T) (slots : List (Entry T)) (q : Name)
+  pub any_of : (i : ℕ) (e : Entry T) (slots : List (Entry T)) (q : Name)
       → list_any (eq_by_cmp name_cmp q) (given_from start i (e ∷ slots))
       ≡ ((nat_eq q.slot i && given_in start (Some e) q.generation)
       || list_any (eq_by_cmp name_cmp q) (given_from start (i + 1) slots))
@@ -195,7 +195,7 @@ module _ {T : Type 0} {p : SlotTable T} (s : IsSlotTable p) where
         (and_parts (leb p.start n.generation) (leb n.generation e.generation) (sym given)).1,
   )
 
-  get_last : (k : ℕ)
+  pub get_last : (k : ℕ)
       → map.get (slots_of here) k ≡ option_map (λ e. e.generation) (slice_get p.slots k)
   get_last k =
       one_last (set.items here.given) (set.items here.given) k (λ n h. h) (λ n h. h) _ _

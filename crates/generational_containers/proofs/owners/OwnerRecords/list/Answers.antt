@@ -1,4 +1,4 @@
-use Rattle.std.proofs.Common.{arith, slice_get, subst, sym, IfSome}
+use Rattle.std.proofs.Common.{arith, slice_get, subst, sym}
 use Rattle.generational_containers.specs.OwnerPlaces.{HasRoom, IsReserved}
 use Rattle.generational_containers.proofs.Common.{name_of_cell, one_listed}
 use Rattle.generational_containers.proofs.records.Places.{changed_placed, listed_owners, places_is}

@@ -1,8 +1,9 @@
-use Rattle.std.proofs.Common.{◌≡◌, ap, arith}
-use Rattle.generational_sync.specs.Kinds.{count}
+use Rattle.std.proofs.Common.{◌≡◌, ◌+◌, ap, arith}
+use Rattle.step_records.specs.Kinds.{count}
+use Rattle.generational_sync.specs.Bases.{trimmed_of}
 use Rattle.generational_sync.specs.Counts.{Counts, counted}
 use Rattle.generational_sync.specs.Shared.{LogState}
-use Rattle.generational_sync.specs.declared.step.Kind.TheVariants.{Made, Lent, Changed, Refused}
+use Rattle.step_records.specs.declared.step.Kind.TheVariants.{Made, Lent, Changed, Refused}
 use Rattle.generational_sync.proofs.log.Log.audit.Goals as goal
 
 pub returns-clause-counts : goal.returns-clause-counts
@@ -10,11 +11,14 @@ returns-clause-counts g c kind =
     let seen = c.whole.view_is in
     let parts = ap (λ (t : Counts). t.parts) seen in
     let steps = ap (λ (l : LogState). l.steps) c.self.view_is in
+    let base = ap (λ (l : LogState). l.base) c.self.view_is in
     let books = c.self.invariant in
-    elim kind as (λ k. count k c.args.self.now.steps ≡ counted k c.args.whole.now) [
+    elim kind as (λ k. trimmed_of k c.args.self.now.base + count k c.args.self.now.steps
+    ≡ counted k c.args.whole.now) [
       | Made ↦ omega (
         arith,
         ap (count Made) steps,
+        ap (trimmed_of Made) base,
         books.0,
         ap (λ (t : Counts). t.made) seen,
         parts,
@@ -24,6 +28,7 @@ returns-clause-counts g c kind =
       | Lent ↦ omega (
         arith,
         ap (count Lent) steps,
+        ap (trimmed_of Lent) base,
         books.1,
         ap (λ (t : Counts). t.lent) seen,
         parts,
@@ -33,6 +38,7 @@ returns-clause-counts g c kind =
       | Changed ↦ omega (
         arith,
         ap (count Changed) steps,
+        ap (trimmed_of Changed) base,
         books.2,
         ap (λ (t : Counts). t.changed) seen,
         parts,
@@ -42,6 +48,7 @@ returns-clause-counts g c kind =
       | Refused ↦ omega (
         arith,
         ap (count Refused) steps,
+        ap (trimmed_of Refused) base,
         books.3,
         ap (λ (t : Counts). t.refused) seen,
         parts,

@@ -13,7 +13,7 @@ settle-requires g c = (
   search rules,
   (
     search rules,
-    known_as g.row.NUMBER c.self.inside.store.state c.clone_owner-clone.new.self.state c.self.inside.log c.self.invariant.0
+    known_as g.row.NUMBER c.self.inside.store.state c.clone_owner-clone.new.self.state c.self.inside.log c.self.invariant
         c.steps_have_records.ensures c.histories_lead_to_sound_states.ensures.number
         c.args.self.now.state (CloneOwner c.args.owner.now) (call.CloneOwner c.id.result)
         (owner_answer c.clone_owner-clone.result) c.owner_reply.result
@@ -24,21 +24,19 @@ settle-requires g c = (
 )
 
 pub invariant_of-self-2 : goal.invariant_of-self-2
-invariant_of-self-2 g c = (
-  settled c.recorded_calls_are_lawful.ensures.step c.histories_lead_to_sound_states.ensures.sound
-      g.row.NUMBER c.self.inside.store.state c.clone_owner-clone.new.self.state c.self.inside.log c.reserve.new.self
-      c.settle.new.self c.args.tally.now.worker c.self.invariant.0 c.reserve.ensures.from c.reserve.ensures.steps c.settle.ensures.from
-      (CloneOwner c.args.owner.now) (call.CloneOwner c.id.result) (owner_answer c.clone_owner-clone.result) c.owner_reply.result
-      (ap (λ o. Some (call.CloneOwner o)) (sym c.id.ensures)) c.clone_owner-clone.ensures
-      (c.owner_reply.ensures.reply c.clone_owner-clone.new.self.state (CloneOwner c.args.owner.now))
-      c.owner_reply.ensures.lent c.owner_reply.ensures.left c.reserve.ensures.standing c.settle.ensures.steps
-      c.settle.ensures.standing,
-  c.settle.ensures.from ∙ (c.reserve.ensures.from ∙ c.self.invariant.1),
-)
+invariant_of-self-2 g c =
+    settled c.recorded_calls_are_lawful.ensures.step c.histories_lead_to_sound_states.ensures.sound
+    g.row.NUMBER c.self.inside.store.state c.clone_owner-clone.new.self.state c.self.inside.log c.reserve.new.self
+    c.settle.new.self c.args.tally.now.worker c.self.invariant c.reserve.ensures.base c.reserve.ensures.steps c.settle.ensures.base
+    (CloneOwner c.args.owner.now) (call.CloneOwner c.id.result) (owner_answer c.clone_owner-clone.result) c.owner_reply.result
+    (ap (λ o. Some (call.CloneOwner o)) (sym c.id.ensures)) c.clone_owner-clone.ensures
+    (c.owner_reply.ensures.reply c.clone_owner-clone.new.self.state (CloneOwner c.args.owner.now))
+    c.owner_reply.ensures.lent c.owner_reply.ensures.left c.reserve.ensures.standing c.settle.ensures.steps
+    c.settle.ensures.standing
 
 pub returns-clause-refusal : goal.returns-clause-refusal
 returns-clause-refusal g c =
-    refused_as g.row.NUMBER c.self.inside.store.state c.clone_owner-clone.new.self.state c.self.inside.log c.self.invariant.0
+    refused_as g.row.NUMBER c.self.inside.store.state c.clone_owner-clone.new.self.state c.self.inside.log c.self.invariant
     c.free_calls_are_refused_so.ensures c.histories_lead_to_sound_states.ensures.number
     c.args.self.now.state (CloneOwner c.args.owner.now) (call.CloneOwner (id_of_owner c.args.owner.now)) (owner_answer c.clone_owner-clone.result)
     (ap (λ (s : SharedState _). s.state) c.self.view_is) refl refl c.clone_owner-clone.ensures

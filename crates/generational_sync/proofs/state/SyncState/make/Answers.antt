@@ -13,7 +13,7 @@ settle-requires g c = (
   search rules,
   (
     search rules,
-    known_as g.row.NUMBER c.self.inside.store.state c.new-made.new.self.state c.self.inside.log c.self.invariant.0
+    known_as g.row.NUMBER c.self.inside.store.state c.new-made.new.self.state c.self.inside.log c.self.invariant
         c.steps_have_records.ensures c.histories_lead_to_sound_states.ensures.number
         c.args.self.now.state (Make (option_copied c.args.owner) c.args.value c.args.location) c.args.call
         (make_answer c.new-made.result) c.make_reply.result
@@ -24,21 +24,19 @@ settle-requires g c = (
 )
 
 pub invariant_of-self-2 : goal.invariant_of-self-2
-invariant_of-self-2 g c = (
-  settled c.recorded_calls_are_lawful.ensures.step c.histories_lead_to_sound_states.ensures.sound
-      g.row.NUMBER c.self.inside.store.state c.new-made.new.self.state c.self.inside.log c.reserve.new.self
-      c.settle.new.self c.args.tally.now.worker c.self.invariant.0 c.reserve.ensures.from c.reserve.ensures.steps c.settle.ensures.from
-      (Make (option_copied c.args.owner) c.args.value c.args.location) c.args.call (make_answer c.new-made.result) c.make_reply.result c.requires c.new-made.ensures.step
-      (c.make_reply.ensures.reply c.new-made.new.self.state (option_copied c.args.owner) c.args.value c.args.location)
-      c.make_reply.ensures.lent c.make_reply.ensures.left c.reserve.ensures.standing c.settle.ensures.steps
-      c.settle.ensures.standing,
-  c.settle.ensures.from ∙ (c.reserve.ensures.from ∙ c.self.invariant.1),
-)
+invariant_of-self-2 g c =
+    settled c.recorded_calls_are_lawful.ensures.step c.histories_lead_to_sound_states.ensures.sound
+    g.row.NUMBER c.self.inside.store.state c.new-made.new.self.state c.self.inside.log c.reserve.new.self
+    c.settle.new.self c.args.tally.now.worker c.self.invariant c.reserve.ensures.base c.reserve.ensures.steps c.settle.ensures.base
+    (Make (option_copied c.args.owner) c.args.value c.args.location) c.args.call (make_answer c.new-made.result) c.make_reply.result c.requires c.new-made.ensures.step
+    (c.make_reply.ensures.reply c.new-made.new.self.state (option_copied c.args.owner) c.args.value c.args.location)
+    c.make_reply.ensures.lent c.make_reply.ensures.left c.reserve.ensures.standing c.settle.ensures.steps
+    c.settle.ensures.standing
 
 pub returns-clause-refusal : goal.returns-clause-refusal
 returns-clause-refusal g c =
     let may = refused_as g.row.NUMBER c.self.inside.store.state c.new-made.new.self.state c.self.inside.log
-    c.self.invariant.0 c.free_calls_are_refused_so.ensures
+    c.self.invariant c.free_calls_are_refused_so.ensures
     c.histories_lead_to_sound_states.ensures.number c.args.self.now.state
     (Make (option_copied c.args.owner) c.args.value c.args.location) c.args.call
     (make_answer c.new-made.result) (ap (λ (s : SharedState _). s.state) c.self.view_is) c.requires

@@ -14,7 +14,7 @@ settle-requires g c = (
   search rules,
   (
     search rules,
-    known_as g.row.NUMBER c.self.inside.store.state c.new_rc-made.new.self.state c.self.inside.log c.self.invariant.0
+    known_as g.row.NUMBER c.self.inside.store.state c.new_rc-made.new.self.state c.self.inside.log c.self.invariant
         c.steps_have_records.ensures c.histories_lead_to_sound_states.ensures.number
         c.args.self.now.state (MakeShared (option_copied c.args.owner) c.args.value c.args.location) c.args.call
         (make_answer c.new_rc-made.result) c.shared_reply.result
@@ -32,21 +32,19 @@ shared_reply-requires g c =
     c.new_rc-made.ensures.step) c.shared_cell-shared.ensures
 
 pub invariant_of-self-2 : goal.invariant_of-self-2
-invariant_of-self-2 g c = (
-  settled c.recorded_calls_are_lawful.ensures.step c.histories_lead_to_sound_states.ensures.sound
-      g.row.NUMBER c.self.inside.store.state c.new_rc-made.new.self.state c.self.inside.log c.reserve.new.self
-      c.settle.new.self c.args.tally.now.worker c.self.invariant.0 c.reserve.ensures.from c.reserve.ensures.steps c.settle.ensures.from
-      (MakeShared (option_copied c.args.owner) c.args.value c.args.location) c.args.call (make_answer c.new_rc-made.result) c.shared_reply.result c.requires c.new_rc-made.ensures.step
-      (c.shared_reply.ensures.reply c.new_rc-made.new.self.state (option_copied c.args.owner) c.args.value c.args.location c.shared_cell-shared.ensures)
-      c.shared_reply.ensures.lent c.shared_reply.ensures.left c.reserve.ensures.standing c.settle.ensures.steps
-      c.settle.ensures.standing,
-  c.settle.ensures.from ∙ (c.reserve.ensures.from ∙ c.self.invariant.1),
-)
+invariant_of-self-2 g c =
+    settled c.recorded_calls_are_lawful.ensures.step c.histories_lead_to_sound_states.ensures.sound
+    g.row.NUMBER c.self.inside.store.state c.new_rc-made.new.self.state c.self.inside.log c.reserve.new.self
+    c.settle.new.self c.args.tally.now.worker c.self.invariant c.reserve.ensures.base c.reserve.ensures.steps c.settle.ensures.base
+    (MakeShared (option_copied c.args.owner) c.args.value c.args.location) c.args.call (make_answer c.new_rc-made.result) c.shared_reply.result c.requires c.new_rc-made.ensures.step
+    (c.shared_reply.ensures.reply c.new_rc-made.new.self.state (option_copied c.args.owner) c.args.value c.args.location c.shared_cell-shared.ensures)
+    c.shared_reply.ensures.lent c.shared_reply.ensures.left c.reserve.ensures.standing c.settle.ensures.steps
+    c.settle.ensures.standing
 
 pub returns-clause-refusal : goal.returns-clause-refusal
 returns-clause-refusal g c =
     let may = refused_as g.row.NUMBER c.self.inside.store.state c.new_rc-made.new.self.state c.self.inside.log
-    c.self.invariant.0 c.free_calls_are_refused_so.ensures
+    c.self.invariant c.free_calls_are_refused_so.ensures
     c.histories_lead_to_sound_states.ensures.number c.args.self.now.state
     (MakeShared (option_copied c.args.owner) c.args.value c.args.location) c.args.call
     (make_answer c.new_rc-made.result) (ap (λ (s : SharedState _). s.state) c.self.view_is) c.requires

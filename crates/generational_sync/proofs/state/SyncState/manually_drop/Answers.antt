@@ -13,7 +13,7 @@ settle-requires g c = (
   search rules,
   (
     search rules,
-    known_as g.row.NUMBER c.self.inside.store.state c.recycle-ended.new.self.state c.self.inside.log c.self.invariant.0
+    known_as g.row.NUMBER c.self.inside.store.state c.recycle-ended.new.self.state c.self.inside.log c.self.invariant
         c.steps_have_records.ensures c.histories_lead_to_sound_states.ensures.number
         c.args.self.now.state (End c.pointer-pointer.result) (call.ManuallyDrop c.pointer-pointer.result)
         (end_answer c.recycle-ended.result) c.end_reply.result
@@ -24,22 +24,20 @@ settle-requires g c = (
 )
 
 pub invariant_of-self-2 : goal.invariant_of-self-2
-invariant_of-self-2 g c = (
-  settled c.recorded_calls_are_lawful.ensures.step c.histories_lead_to_sound_states.ensures.sound
-      g.row.NUMBER c.self.inside.store.state c.recycle-ended.new.self.state c.self.inside.log c.reserve.new.self
-      c.settle.new.self c.args.tally.now.worker c.self.invariant.0 c.reserve.ensures.from c.reserve.ensures.steps c.settle.ensures.from
-      (End c.pointer-pointer.result) (call.ManuallyDrop c.pointer-pointer.result) (end_answer c.recycle-ended.result) c.end_reply.result refl c.recycle-ended.ensures
-      (c.end_reply.ensures.reply c.recycle-ended.new.self.state (End c.pointer-pointer.result))
-      c.end_reply.ensures.lent c.end_reply.ensures.left c.reserve.ensures.standing c.settle.ensures.steps
-      c.settle.ensures.standing,
-  c.settle.ensures.from ∙ (c.reserve.ensures.from ∙ c.self.invariant.1),
-)
+invariant_of-self-2 g c =
+    settled c.recorded_calls_are_lawful.ensures.step c.histories_lead_to_sound_states.ensures.sound
+    g.row.NUMBER c.self.inside.store.state c.recycle-ended.new.self.state c.self.inside.log c.reserve.new.self
+    c.settle.new.self c.args.tally.now.worker c.self.invariant c.reserve.ensures.base c.reserve.ensures.steps c.settle.ensures.base
+    (End c.pointer-pointer.result) (call.ManuallyDrop c.pointer-pointer.result) (end_answer c.recycle-ended.result) c.end_reply.result refl c.recycle-ended.ensures
+    (c.end_reply.ensures.reply c.recycle-ended.new.self.state (End c.pointer-pointer.result))
+    c.end_reply.ensures.lent c.end_reply.ensures.left c.reserve.ensures.standing c.settle.ensures.steps
+    c.settle.ensures.standing
 
 pub returns-clause-refusal : goal.returns-clause-refusal
 returns-clause-refusal g c =
     end_lacks _ g.row.NUMBER (pointer_of c.args.asked) c.recycle-ended.result (
     refused_by g.row.NUMBER c.self.inside.store.state c.recycle-ended.new.self.state c.self.inside.log
-    c.self.invariant.0 c.free_calls_are_refused_so.ensures
+    c.self.invariant c.free_calls_are_refused_so.ensures
     c.histories_lead_to_sound_states.ensures.number c.args.self.now.state
     c.pointer-pointer.result (pointer_of c.args.asked)
     End

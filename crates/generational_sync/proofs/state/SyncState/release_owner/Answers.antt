@@ -12,7 +12,7 @@ settle-requires g c = (
   search rules,
   (
     search rules,
-    known_as g.row.NUMBER c.self.inside.store.state c.release_owner-released.new.self.state c.self.inside.log c.self.invariant.0
+    known_as g.row.NUMBER c.self.inside.store.state c.release_owner-released.new.self.state c.self.inside.log c.self.invariant
         c.steps_have_records.ensures c.histories_lead_to_sound_states.ensures.number
         c.args.self.now.state (ReleaseOwner c.args.owner) (call.ReleaseOwner c.id.result)
         (release_answer c.release_owner-released.result) c.release_reply.result
@@ -23,21 +23,19 @@ settle-requires g c = (
 )
 
 pub invariant_of-self-2 : goal.invariant_of-self-2
-invariant_of-self-2 g c = (
-  settled c.recorded_calls_are_lawful.ensures.step c.histories_lead_to_sound_states.ensures.sound
-      g.row.NUMBER c.self.inside.store.state c.release_owner-released.new.self.state c.self.inside.log c.reserve.new.self
-      c.settle.new.self c.args.tally.now.worker c.self.invariant.0 c.reserve.ensures.from c.reserve.ensures.steps c.settle.ensures.from
-      (ReleaseOwner c.args.owner) (call.ReleaseOwner c.id.result) (release_answer c.release_owner-released.result) c.release_reply.result
-      (ap (λ o. Some (call.ReleaseOwner o)) (sym c.id.ensures)) c.release_owner-released.ensures.step
-      (c.release_reply.ensures.reply c.release_owner-released.new.self.state (ReleaseOwner c.args.owner))
-      c.release_reply.ensures.lent c.release_reply.ensures.left c.reserve.ensures.standing c.settle.ensures.steps
-      c.settle.ensures.standing,
-  c.settle.ensures.from ∙ (c.reserve.ensures.from ∙ c.self.invariant.1),
-)
+invariant_of-self-2 g c =
+    settled c.recorded_calls_are_lawful.ensures.step c.histories_lead_to_sound_states.ensures.sound
+    g.row.NUMBER c.self.inside.store.state c.release_owner-released.new.self.state c.self.inside.log c.reserve.new.self
+    c.settle.new.self c.args.tally.now.worker c.self.invariant c.reserve.ensures.base c.reserve.ensures.steps c.settle.ensures.base
+    (ReleaseOwner c.args.owner) (call.ReleaseOwner c.id.result) (release_answer c.release_owner-released.result) c.release_reply.result
+    (ap (λ o. Some (call.ReleaseOwner o)) (sym c.id.ensures)) c.release_owner-released.ensures.step
+    (c.release_reply.ensures.reply c.release_owner-released.new.self.state (ReleaseOwner c.args.owner))
+    c.release_reply.ensures.lent c.release_reply.ensures.left c.reserve.ensures.standing c.settle.ensures.steps
+    c.settle.ensures.standing
 
 pub returns-clause-refusal : goal.returns-clause-refusal
 returns-clause-refusal g c =
-    refused_as g.row.NUMBER c.self.inside.store.state c.release_owner-released.new.self.state c.self.inside.log c.self.invariant.0
+    refused_as g.row.NUMBER c.self.inside.store.state c.release_owner-released.new.self.state c.self.inside.log c.self.invariant
     c.free_calls_are_refused_so.ensures c.histories_lead_to_sound_states.ensures.number
     c.args.self.now.state (ReleaseOwner c.args.owner) (call.ReleaseOwner (id_of_owner c.args.owner)) (release_answer c.release_owner-released.result)
     (ap (λ (s : SharedState _). s.state) c.self.view_is) refl c.requires c.release_owner-released.ensures.step

@@ -11,11 +11,11 @@ settle_end-requires g c = (
   search rules,
   (
     end_counts g.row.NUMBER c.self.inside.store.state c.release_read-known.new.self.state
-        c.self.inside.log c.self.invariant.0 c.flag_reply.result
+        c.self.inside.log c.self.invariant c.flag_reply.result
         (released c.self.inside.store.state c.release_read-known.new.self.state c.args.guard
         c.release_read-known.result c.flag_reply.result c.release_read-known.ensures
         (c.flag_reply.ensures.reply c.release_read-known.new.self.state (ReleaseReader c.args.guard))),
-    known_as g.row.NUMBER c.self.inside.store.state c.release_read-known.new.self.state c.self.inside.log c.self.invariant.0
+    known_as g.row.NUMBER c.self.inside.store.state c.release_read-known.new.self.state c.self.inside.log c.self.invariant
         c.steps_have_records.ensures c.histories_lead_to_sound_states.ensures.number
         c.args.self.now.state (ReleaseReader c.args.guard) (call.ReleaseRead c.ticket.result)
         (Flag c.release_read-known.result) c.flag_reply.result
@@ -27,15 +27,13 @@ settle_end-requires g c = (
 
 pub invariant_of-self : goal.invariant_of-self
 invariant_of-self g c =
-    let reply = c.flag_reply.ensures.reply c.release_read-known.new.self.state (ReleaseReader c.args.guard) in (
-      settled_end c.recorded_calls_are_lawful.ensures.step
-          c.histories_lead_to_sound_states.ensures.sound
-          g.row.NUMBER c.self.inside.store.state c.release_read-known.new.self.state c.self.inside.log
-          c.self.inside.log c.settle_end.new.self c.args.tally.now.worker c.self.invariant.0 refl refl c.settle_end.ensures.from (ReleaseReader c.args.guard) (call.ReleaseRead c.ticket.result)
-          (Flag c.release_read-known.result) c.flag_reply.result
-          (ap (λ t. Some (call.ReleaseRead t)) (sym c.ticket.ensures)) c.release_read-known.ensures reply
-          (released c.self.inside.store.state c.release_read-known.new.self.state c.args.guard
-          c.release_read-known.result c.flag_reply.result c.release_read-known.ensures reply)
-          c.flag_reply.ensures.left refl c.settle_end.ensures.steps c.settle_end.ensures.standing,
-      c.settle_end.ensures.from ∙ c.self.invariant.1,
-    )
+    let reply = c.flag_reply.ensures.reply c.release_read-known.new.self.state (ReleaseReader c.args.guard) in
+    settled_end c.recorded_calls_are_lawful.ensures.step
+    c.histories_lead_to_sound_states.ensures.sound
+    g.row.NUMBER c.self.inside.store.state c.release_read-known.new.self.state c.self.inside.log
+    c.self.inside.log c.settle_end.new.self c.args.tally.now.worker c.self.invariant refl refl c.settle_end.ensures.base (ReleaseReader c.args.guard) (call.ReleaseRead c.ticket.result)
+    (Flag c.release_read-known.result) c.flag_reply.result
+    (ap (λ t. Some (call.ReleaseRead t)) (sym c.ticket.ensures)) c.release_read-known.ensures reply
+    (released c.self.inside.store.state c.release_read-known.new.self.state c.args.guard
+    c.release_read-known.result c.flag_reply.result c.release_read-known.ensures reply)
+    c.flag_reply.ensures.left refl c.settle_end.ensures.steps c.settle_end.ensures.standing

@@ -11,12 +11,12 @@ settle_end-requires g c = (
   search rules,
   (
     end_counts g.row.NUMBER c.self.inside.store.state c.release_write-released.new.self.state
-        c.self.inside.log c.self.invariant.0 c.back_reply.result
+        c.self.inside.log c.self.invariant c.back_reply.result
         (written_released c.self.inside.store.state c.release_write-released.new.self.state
         c.args.guard.guard c.args.guard.value c.release_write-released.result c.back_reply.result
         c.release_write-released.ensures (c.back_reply.ensures.reply
         c.release_write-released.new.self.state (ReleaseWriter c.args.guard.guard c.args.guard.value))),
-    known_as g.row.NUMBER c.self.inside.store.state c.release_write-released.new.self.state c.self.inside.log c.self.invariant.0
+    known_as g.row.NUMBER c.self.inside.store.state c.release_write-released.new.self.state c.self.inside.log c.self.invariant
         c.steps_have_records.ensures c.histories_lead_to_sound_states.ensures.number
         c.args.self.now.state (ReleaseWriter c.args.guard.guard c.args.guard.value) (call.ReleaseWrite c.ticket.result)
         (back_answer c.release_write-released.result) c.back_reply.result
@@ -29,18 +29,16 @@ settle_end-requires g c = (
 pub invariant_of-self : goal.invariant_of-self
 invariant_of-self g c =
     let reply = c.back_reply.ensures.reply c.release_write-released.new.self.state
-    (ReleaseWriter c.args.guard.guard c.args.guard.value) in (
-      settled_end c.recorded_calls_are_lawful.ensures.step
-          c.histories_lead_to_sound_states.ensures.sound
-          g.row.NUMBER c.self.inside.store.state c.release_write-released.new.self.state
-          c.self.inside.log c.self.inside.log c.settle_end.new.self c.args.tally.now.worker
-          c.self.invariant.0 refl refl c.settle_end.ensures.from (ReleaseWriter c.args.guard.guard c.args.guard.value)
-          (call.ReleaseWrite c.ticket.result) (back_answer c.release_write-released.result)
-          c.back_reply.result (ap (λ t. Some (call.ReleaseWrite t)) (sym c.ticket.ensures))
-          c.release_write-released.ensures reply
-          (written_released c.self.inside.store.state c.release_write-released.new.self.state
-          c.args.guard.guard c.args.guard.value c.release_write-released.result c.back_reply.result
-          c.release_write-released.ensures reply)
-          c.back_reply.ensures.left refl c.settle_end.ensures.steps c.settle_end.ensures.standing,
-      c.settle_end.ensures.from ∙ c.self.invariant.1,
-    )
+    (ReleaseWriter c.args.guard.guard c.args.guard.value) in
+    settled_end c.recorded_calls_are_lawful.ensures.step
+    c.histories_lead_to_sound_states.ensures.sound
+    g.row.NUMBER c.self.inside.store.state c.release_write-released.new.self.state
+    c.self.inside.log c.self.inside.log c.settle_end.new.self c.args.tally.now.worker
+    c.self.invariant refl refl c.settle_end.ensures.base (ReleaseWriter c.args.guard.guard c.args.guard.value)
+    (call.ReleaseWrite c.ticket.result) (back_answer c.release_write-released.result)
+    c.back_reply.result (ap (λ t. Some (call.ReleaseWrite t)) (sym c.ticket.ensures))
+    c.release_write-released.ensures reply
+    (written_released c.self.inside.store.state c.release_write-released.new.self.state
+    c.args.guard.guard c.args.guard.value c.release_write-released.result c.back_reply.result
+    c.release_write-released.ensures reply)
+    c.back_reply.ensures.left refl c.settle_end.ensures.steps c.settle_end.ensures.standing

@@ -13,7 +13,7 @@ settle-requires g c = (
   search rules,
   (
     search rules,
-    known_as g.row.NUMBER c.self.inside.store.state c.set_value-set.new.store.state c.self.inside.log c.self.invariant.0
+    known_as g.row.NUMBER c.self.inside.store.state c.set_value-set.new.store.state c.self.inside.log c.self.invariant
         c.steps_have_records.ensures c.histories_lead_to_sound_states.ensures.number
         c.args.self.now.state (SetValue c.pointer-pointer.result c.args.value) (call.Set c.pointer-pointer.result)
         (set_answer c.set_value-set.ensures.step.0 c.set_value-set.result) c.set_reply.result
@@ -24,23 +24,21 @@ settle-requires g c = (
 )
 
 pub invariant_of-self-2 : goal.invariant_of-self-2
-invariant_of-self-2 g c = (
-  settled c.recorded_calls_are_lawful.ensures.step c.histories_lead_to_sound_states.ensures.sound
-      g.row.NUMBER c.self.inside.store.state c.set_value-set.new.store.state c.self.inside.log c.reserve.new.self
-      c.settle.new.self c.args.tally.now.worker c.self.invariant.0 c.reserve.ensures.from c.reserve.ensures.steps c.settle.ensures.from
-      (SetValue c.pointer-pointer.result c.args.value) (call.Set c.pointer-pointer.result) (set_answer c.set_value-set.ensures.step.0 c.set_value-set.result) c.set_reply.result refl c.set_value-set.ensures.step.1
-      (c.set_reply.ensures.reply c.set_value-set.new.store.state (SetValue c.pointer-pointer.result c.args.value) c.set_value-set.ensures.step.0)
-      (c.set_reply.ensures.lent c.set_value-set.ensures.step.0)
-      (c.set_reply.ensures.left c.set_value-set.ensures.step.0) c.reserve.ensures.standing c.settle.ensures.steps
-      c.settle.ensures.standing,
-  c.settle.ensures.from ∙ (c.reserve.ensures.from ∙ c.self.invariant.1),
-)
+invariant_of-self-2 g c =
+    settled c.recorded_calls_are_lawful.ensures.step c.histories_lead_to_sound_states.ensures.sound
+    g.row.NUMBER c.self.inside.store.state c.set_value-set.new.store.state c.self.inside.log c.reserve.new.self
+    c.settle.new.self c.args.tally.now.worker c.self.invariant c.reserve.ensures.base c.reserve.ensures.steps c.settle.ensures.base
+    (SetValue c.pointer-pointer.result c.args.value) (call.Set c.pointer-pointer.result) (set_answer c.set_value-set.ensures.step.0 c.set_value-set.result) c.set_reply.result refl c.set_value-set.ensures.step.1
+    (c.set_reply.ensures.reply c.set_value-set.new.store.state (SetValue c.pointer-pointer.result c.args.value) c.set_value-set.ensures.step.0)
+    (c.set_reply.ensures.lent c.set_value-set.ensures.step.0)
+    (c.set_reply.ensures.left c.set_value-set.ensures.step.0) c.reserve.ensures.standing c.settle.ensures.steps
+    c.settle.ensures.standing
 
 pub returns-clause-refusal : goal.returns-clause-refusal
 returns-clause-refusal g c =
     set_may g.row.NUMBER (SetValue (pointer_of c.args.asked) c.args.value)
     c.set_value-set.ensures.step.0 c.args.value c.set_value-set.result (refused_by g.row.NUMBER c.self.inside.store.state c.set_value-set.new.store.state c.self.inside.log
-    c.self.invariant.0 c.free_calls_are_refused_so.ensures
+    c.self.invariant c.free_calls_are_refused_so.ensures
     c.histories_lead_to_sound_states.ensures.number c.args.self.now.state
     c.pointer-pointer.result (pointer_of c.args.asked)
     (λ b. SetValue b c.args.value)

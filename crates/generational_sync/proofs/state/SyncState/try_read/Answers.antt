@@ -12,7 +12,7 @@ settle-requires g c = (
   search rules,
   (
     search rules,
-    known_as g.row.NUMBER c.self.inside.store.state c.begin_read-read.new.store.state c.self.inside.log c.self.invariant.0
+    known_as g.row.NUMBER c.self.inside.store.state c.begin_read-read.new.store.state c.self.inside.log c.self.invariant
         c.steps_have_records.ensures c.histories_lead_to_sound_states.ensures.number
         c.args.self.now.state (Read c.pointer-pointer.result c.args.location) (call.Read c.pointer-pointer.result c.args.location)
         (read_answer c.begin_read-read.result) c.read_reply.result
@@ -23,21 +23,19 @@ settle-requires g c = (
 )
 
 pub invariant_of-self-2 : goal.invariant_of-self-2
-invariant_of-self-2 g c = (
-  settled c.recorded_calls_are_lawful.ensures.step c.histories_lead_to_sound_states.ensures.sound
-      g.row.NUMBER c.self.inside.store.state c.begin_read-read.new.store.state c.self.inside.log c.reserve.new.self
-      c.settle.new.self c.args.tally.now.worker c.self.invariant.0 c.reserve.ensures.from c.reserve.ensures.steps c.settle.ensures.from
-      (Read c.pointer-pointer.result c.args.location) (call.Read c.pointer-pointer.result c.args.location) (read_answer c.begin_read-read.result) c.read_reply.result refl c.begin_read-read.ensures
-      (c.read_reply.ensures.reply c.begin_read-read.new.store.state (Read c.pointer-pointer.result c.args.location))
-      c.read_reply.ensures.lent c.read_reply.ensures.left c.reserve.ensures.standing c.settle.ensures.steps
-      c.settle.ensures.standing,
-  c.settle.ensures.from ∙ (c.reserve.ensures.from ∙ c.self.invariant.1),
-)
+invariant_of-self-2 g c =
+    settled c.recorded_calls_are_lawful.ensures.step c.histories_lead_to_sound_states.ensures.sound
+    g.row.NUMBER c.self.inside.store.state c.begin_read-read.new.store.state c.self.inside.log c.reserve.new.self
+    c.settle.new.self c.args.tally.now.worker c.self.invariant c.reserve.ensures.base c.reserve.ensures.steps c.settle.ensures.base
+    (Read c.pointer-pointer.result c.args.location) (call.Read c.pointer-pointer.result c.args.location) (read_answer c.begin_read-read.result) c.read_reply.result refl c.begin_read-read.ensures
+    (c.read_reply.ensures.reply c.begin_read-read.new.store.state (Read c.pointer-pointer.result c.args.location))
+    c.read_reply.ensures.lent c.read_reply.ensures.left c.reserve.ensures.standing c.settle.ensures.steps
+    c.settle.ensures.standing
 
 pub returns-clause-refusal : goal.returns-clause-refusal
 returns-clause-refusal g c =
     refused_by g.row.NUMBER c.self.inside.store.state c.begin_read-read.new.store.state c.self.inside.log
-    c.self.invariant.0 c.free_calls_are_refused_so.ensures
+    c.self.invariant c.free_calls_are_refused_so.ensures
     c.histories_lead_to_sound_states.ensures.number c.args.self.now.state
     c.pointer-pointer.result (pointer_of c.args.asked)
     (λ b. Read b c.args.location)

@@ -5,22 +5,22 @@
 
 ghost use Rattle.std.specs.Prelude.{◌≡◌};
 ghost use Rattle.generational_core.specs.declared.steps.StepCall.TheVariants.{PointTo};
-ghost use Rattle.generational_sync.specs.declared.step.StepReply.TheVariants as reply;
-ghost use Rattle.generational_sync.specs.Kinds.{step_of};
-ghost use Rattle.generational_sync.specs.Records.{HasRecord, box_in, call_of, id_in, unpack};
+ghost use Rattle.step_records.specs.declared.step.StepReply.TheVariants as reply;
+ghost use Rattle.step_records.specs.Kinds.{step_of};
+ghost use Rattle.step_records.specs.Records.{HasRecord, box_in, call_of, id_in, unpack};
 
 use crate::short_call::{ShortCall, shorten};
 use crate::step::{Step, StepReply};
 use chunks::Packed;
-use generational_box::{
+use generational_core::parts::{id_at, pointer_at};
+use generational_core::{
     GenerationalBoxId, GenerationalPointer, Location, OwnerId, StepCall, StoreError,
 };
-use generational_core::parts::{id_at, pointer_at};
 use std::mem::size_of;
 
 /// An id of the store whose history it is.
 #[derive(Clone, Copy)]
-pub(crate) struct LocalId {
+pub struct LocalId {
     slot: usize,
     generation: u64,
 }
@@ -44,7 +44,7 @@ impl LocalId {
 
 /// A box of the store whose history it is.
 #[derive(Clone, Copy)]
-pub(crate) struct LocalBox {
+pub struct LocalBox {
     id: LocalId,
     created_at: Location,
 }
@@ -69,7 +69,7 @@ impl LocalBox {
 /// A step, with the worker first. There is a variant for each making that was carried out, one for
 /// each other reply to a short call, and five for what answers a call that points a box elsewhere.
 #[derive(Clone, Copy)]
-pub(crate) enum Record {
+pub enum Record {
     Leak(u32, Location, LocalBox),
     LeakReference(u32, GenerationalPointer, LocalBox),
     Insert(u32, OwnerId, Location, LocalBox),
@@ -193,7 +193,7 @@ fn step(worker: u32, call: StepCall, reply: StepReply) -> Step
 
 /// How a worker's step is kept in the store with this number.
 #[inline(always)]
-pub(crate) fn pack(number: u64, worker: u32, call: StepCall, reply: StepReply) -> Record
+pub fn pack(number: u64, worker: u32, call: StepCall, reply: StepReply) -> Record
     requires { HasRecord number call reply }
     ensures { unpack number result ≡ step_of worker call reply }
 {

@@ -6,16 +6,16 @@ use Rattle.generational_core.specs.declared.error.Location.{Location}
 use Rattle.generational_core.specs.declared.steps.StepCall.{StepCall}
 use Rattle.generational_core.specs.declared.steps.StepCall.TheVariants as call
 use Rattle.generational_core.specs.Boxes.{id_of}
-use Rattle.generational_sync.specs.declared.record.LocalId.{LocalId}
-use Rattle.generational_sync.specs.declared.record.LocalBox.{LocalBox}
-use Rattle.generational_sync.specs.declared.record.Record.{Record}
-use Rattle.generational_sync.specs.declared.record.Record.TheVariants as kept
-use Rattle.generational_sync.specs.declared.short_call.ShortCall.{ShortCall}
-use Rattle.generational_sync.specs.declared.short_call.ShortCall.TheVariants as short
-use Rattle.generational_sync.specs.declared.step.Step.{Step}
-use Rattle.generational_sync.specs.declared.step.StepReply.{StepReply}
-use Rattle.generational_sync.specs.declared.step.StepReply.TheVariants as reply
-use Rattle.generational_sync.specs.Kinds.{step_of}
+use Rattle.step_records.specs.declared.record.LocalId.{LocalId}
+use Rattle.step_records.specs.declared.record.LocalBox.{LocalBox}
+use Rattle.step_records.specs.declared.record.Record.{Record}
+use Rattle.step_records.specs.declared.record.Record.TheVariants as kept
+use Rattle.step_records.specs.declared.short_call.ShortCall.{ShortCall}
+use Rattle.step_records.specs.declared.short_call.ShortCall.TheVariants as short
+use Rattle.step_records.specs.declared.step.Step.{Step}
+use Rattle.step_records.specs.declared.step.StepReply.{StepReply}
+use Rattle.step_records.specs.declared.step.StepReply.TheVariants as reply
+use Rattle.step_records.specs.Kinds.{step_of}
 
 -- the id that a local one is in the store with this number, and the box that a local one is
 abbrev pub id_in : ℕ → LocalId → GenerationalBoxId

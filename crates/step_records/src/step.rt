@@ -1,9 +1,9 @@
 //! Steps and their kinds.
 
 ghost use Rattle.std.specs.Prelude.{◌≡◌};
-ghost use Rattle.generational_sync.specs.Kinds.{kind_of};
+ghost use Rattle.step_records.specs.Kinds.{kind_of};
 
-use generational_box::{
+use generational_core::{
     GenerationalBoxId, GenerationalPointer, Location, OwnerId, StepCall, StoreError,
 };
 
@@ -54,9 +54,9 @@ pub enum Kind {
 }
 
 impl StepReply {
-    // The kind of a step that was answered so.
+    /// The kind of a step that was answered so. Takes no memory.
     #[inline(always)]
-    pub(crate) fn kind(&self) -> Kind
+    pub fn kind(&self) -> Kind
         ensures { result ≡ kind_of self.now }
     {
         match self {

@@ -1,12 +1,11 @@
 -- Kinds of steps, and how many steps of a kind a history has.
-use Rattle.std.specs.Prelude.{◌≡◌, ℕ, Bool, true, false, List, count_by}
+use Rattle.std.specs.Prelude.{ℕ, Bool, true, false, List, count_by}
 use Rattle.generational_core.specs.declared.steps.StepCall.{StepCall}
-use Rattle.generational_sync.specs.declared.step.Step.{Step}
-use Rattle.generational_sync.specs.declared.step.StepReply.{StepReply}
-use Rattle.generational_sync.specs.declared.step.StepReply.TheVariants as reply
-use Rattle.generational_sync.specs.declared.step.Kind.{Kind}
-use Rattle.generational_sync.specs.declared.step.Kind.TheVariants.{Made, Lent, Changed, Refused}
-use Rattle.generational_sync.specs.Counts.{Counts, counted}
+use Rattle.step_records.specs.declared.step.Step.{Step}
+use Rattle.step_records.specs.declared.step.StepReply.{StepReply}
+use Rattle.step_records.specs.declared.step.StepReply.TheVariants as reply
+use Rattle.step_records.specs.declared.step.Kind.{Kind}
+use Rattle.step_records.specs.declared.step.Kind.TheVariants.{Made, Lent, Changed, Refused}
 
 -- a worker's step
 abbrev pub step_of : ℕ → StepCall → StepReply → Step
@@ -34,7 +33,3 @@ same_kind k l = false
 -- how many of the steps are of this kind
 abbrev pub count : Kind → List Step → ℕ
 count kind steps = count_by (λ (s : Step). same_kind kind (kind_of s.reply)) steps
-
--- a tally counts these steps: for each kind as many as there are
-abbrev pub IsCounted : Counts → List Step → Type 0
-IsCounted c steps = (kind : Kind) → count kind steps ≡ counted kind c

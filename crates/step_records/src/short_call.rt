@@ -2,13 +2,13 @@
 
 ghost use Rattle.std.specs.Prelude.{◌≡◌, MatchResult};
 ghost use Rattle.generational_core.specs.declared.steps.StepCall.TheVariants.{PointTo};
-ghost use Rattle.generational_sync.specs.Records.{call_of};
+ghost use Rattle.step_records.specs.Records.{call_of};
 
-use generational_box::{GenerationalPointer, Location, OwnerId, StepCall};
+use generational_core::{GenerationalPointer, Location, OwnerId, StepCall};
 
 /// A call that names one box at most: any but that which points a box elsewhere.
 #[derive(Clone, Copy)]
-pub(crate) enum ShortCall {
+pub enum ShortCall {
     Leak(Location),
     LeakRc(Location),
     LeakReference(GenerationalPointer),
@@ -28,7 +28,7 @@ pub(crate) enum ShortCall {
 
 impl ShortCall {
     /// The call itself.
-    pub(crate) fn call(&self) -> StepCall
+    pub fn call(&self) -> StepCall
         ensures { result ≡ call_of self.now }
     {
         match *self {
@@ -53,9 +53,7 @@ impl ShortCall {
 
 /// The call in few words; or the two boxes of one that points a box elsewhere.
 #[inline(always)]
-pub(crate) fn shorten(
-    call: StepCall,
-) -> Result<ShortCall, (GenerationalPointer, GenerationalPointer)>
+pub fn shorten(call: StepCall) -> Result<ShortCall, (GenerationalPointer, GenerationalPointer)>
     ensures { MatchResult result (λ short. call_of short ≡ call)
         (λ boxes. PointTo boxes.0 boxes.1 ≡ call) }
 {

@@ -1,6 +1,7 @@
 //! Room for more elements, also where memory doesn't reach for as much as is asked for at first.
+#![tactic(auto)]
 
-ghost use Rattle.std.specs.Prelude.{◌≡◌, ◌+◌, ◌<◌, ◌≤◌, IfSome, OnOk, OnErr};
+ghost use Rattle.std.specs.Prelude.{◌≡◌, ◌+◌, ◌<◌, ◌≤◌, ◌++◌, ◌∷◌, [], IfSome, OnOk, OnErr};
 ghost use Rattle.std.specs.Prelude.{vec_len, vec_capacity};
 
 use std::alloc::AllocError;
@@ -39,6 +40,17 @@ fn reserve_beside<X>(items: &mut Vec<X>, more: usize, beside: usize) -> Result<(
         return Err(AllocError);
     }
     reserve_beside(items, more, beside / 2)
+}
+
+/// Appends an element, for which room is made so. Want of memory changes no element.
+#[inline(always)]
+pub fn push_more<X: Copy>(items: &mut Vec<X>, item: X) -> Result<(), AllocError>
+    ensures ok { OnOk result (items.new.items ≡ items.old.items ++ item ∷ []) }
+    ensures err { OnErr result (items.new.items ≡ items.old.items) }
+{
+    reserve_more(items, 1)?;
+    items.push_reserved(item);
+    Ok(())
 }
 
 /// The room that adds half of what the asked room adds to this one: None where that is nothing.

@@ -1,0 +1,10 @@
+use Rattle.std.proofs.Common.{◌≡◌, ◌++◌, map}
+use Rattle.std.specs.VecDeque.Iter.{deque_iter_rest}
+use Rattle.generational_core.specs.Rows.{reader_row}
+use Rattle.generational_containers.proofs.borrows.push_all.Given as goal
+
+-- the rows so far and those of the readers that are left are all
+abbrev pub invariant-loop-reader : goal.invariant-loop-reader
+invariant-loop-reader l =
+    l.rows.items ++ map (reader_row l.id) (deque_iter_rest l.reader-iterator)
+    ≡ l.fn.rows.items ++ map (reader_row l.id) l.readers.items

@@ -1,0 +1,11 @@
+use Rattle.std.proofs.Common.{◌≡◌, ◌++◌}
+use Rattle.std.specs.FinMap as map
+use Rattle.generational_core.specs.Rows.{owner_rows}
+use Rattle.generational_containers.proofs.records.Rows.{rows_at}
+use Rattle.generational_containers.proofs.owners.OwnerRecords.push_rows.Given as goal
+
+-- the rows so far and those of the records that are left are all
+abbrev pub invariant-loop-place : goal.invariant-loop-place
+invariant-loop-place l =
+    l.rows.items ++ rows_at l.places l.number l.place-iterator
+    ≡ l.fn.rows.items ++ owner_rows l.number (map.entries l.self.owners)

@@ -1,0 +1,9 @@
+use Rattle.std.proofs.Common.{ℕ, nat_cmp}
+use Rattle.std.specs.BTreeMap.{get}
+use Rattle.generational_containers.proofs.records.Rows.{IsPlaceBelow}
+use Rattle.generational_containers.proofs.owners.rows.places_by_key.Given as goal
+
+-- the places so far are found by their keys
+abbrev pub invariant-loop-place : goal.invariant-loop-place
+invariant-loop-place l =
+    (key : ℕ) → IsPlaceBelow l.places l.place key (get nat_cmp l.by_key key)

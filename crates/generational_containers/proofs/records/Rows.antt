@@ -1,0 +1,213 @@
+-- The rows of owners' records: the place of each record by its key, and that the records in the
+-- order of these are the map's.
+use Rattle.std.proofs.Common.{◌≡◌, ◌≢◌, ℕ, suc, ◌+◌, ◌<◌, ◌≤◌, Bool, true, false, cond, T, ◌&&◌, List}
+use Rattle.std.proofs.Common.{[], ◌∷◌, ◌++◌, Option, None, Some, refl, sym, ap, ◌∙◌, arith, subst}
+use Rattle.std.proofs.Common.{⊎_elim, is_eq, is_lt, option_map, slice_get}
+use Rattle.std.proofs.Common.{Less, All, map as list_map, nat_cmp, append-nil}
+use Rattle.std.proofs.lemmas.Bool.{cases_lt}
+use Rattle.std.proofs.lemmas.List.Elements.{recursion_from_All}
+use Rattle.std.proofs.lemmas.Option.{slice_get_past}
+use Rattle.std.proofs.Math.Seq.{take-nil}
+use Rattle.std.specs.BTreeMap.{is_at}
+use Rattle.std.specs.Cmp.{nat_cmp_total}
+use Rattle.std.specs.List.{AllByRecursion}
+use Rattle.std.specs.List.Sorted.{IsStrictlySortedBy}
+use Rattle.std.specs.Map.{lookup, keys_of}
+use Rattle.std.proofs.Common.{length, true≢false, zero, take}
+use Rattle.std.specs.FinMap as map
+use Rattle.generational_core.specs.Names.{Name}
+use Rattle.generational_core.proofs.maps.Maps.{key_here}
+use Rattle.generational_containers.specs.CellNames.{name_of_cell}
+use Rattle.generational_containers.specs.declared.names.CellName.{CellName}
+use Rattle.generational_containers.proofs.records.Places.{own_key}
+use Rattle.generational_core.proofs.maps.Maps.{by_number, key_same}
+use Rattle.generational_core.specs.declared.rows.BaseRow.{BaseRow}
+use Rattle.generational_core.specs.Rows.{owner_rows, record_rows}
+use Rattle.generational_containers.proofs.Common.{Ownership, Place, HasRecord}
+use Rattle.generational_containers.proofs.Common.{HasDistinctKeys, record_at, record_in, owners_of}
+use Rattle.generational_containers.proofs.records.Places.{get_one, get_none, standing, other_key}
+use Rattle.generational_containers.specs.OwnerPlaces.{IsPlaceOf, Records, place_rows}
+
+-- ---- the place of each record, of those below a place
+
+abbrev pub IsPlaceBelow : List Place → ℕ → ℕ → Option ℕ → Type 0
+IsPlaceBelow places n key None =
+    (i : ℕ) → i < n → record_at key (slice_get places i) ≡ None
+IsPlaceBelow places n key (Some i) = HasRecord key (slice_get places i)
+
+below_more : (places : List Place) (n key : ℕ) → ((i : ℕ) → i < n → record_at key
+    (slice_get places i) ≡ None) → record_at key (slice_get places n) ≡ None
+    → (i : ℕ) → i < n + 1 → record_at key (slice_get places i) ≡ None
+below_more places n key before here i within =
+    ⊎_elim (before i)
+    (λ le. let same : i ≡ n = omega arith in ap (λ j. record_at key (slice_get places j)) same ∙ here)
+    (cases_lt i n)
+
+-- a place without a record
+pub passed_over : (places : List Place) (n key : ℕ) (found : Option ℕ)
+    → record_at key (slice_get places n) ≡ None → IsPlaceBelow places n key found
+    → IsPlaceBelow places (n + 1) key found
+passed_over places n key None here before = below_more places n key before here
+passed_over places n key (Some i) here before = before
+
+-- a place with a record, which is found by its key from then on
+module _ (places : List Place) (n key : ℕ) (has : HasRecord key (slice_get places n)) where
+  others : (q : ℕ) → q ≢ key → record_at q (slice_get places n) ≡ None
+  others q ne =
+      let there = standing key (slice_get places n) has in
+      ap (record_at q) there.1 ∙ other_key q there.0 (λ e. ne (e ∙ sym there.2))
+
+  pub found_one : (before after : ℕ → Option ℕ)
+      → ((q : ℕ) → after q ≡ cond (is_eq (nat_cmp key q)) (Some n) (before q))
+      → ((q : ℕ) → IsPlaceBelow places n q (before q))
+      → (q : ℕ) → IsPlaceBelow places (n + 1) q (after q)
+  found_one before after updated below q =
+      subst (IsPlaceBelow places (n + 1) q) (sym (updated q))
+      (at (is_eq (nat_cmp key q)) refl)
+    where
+      at : (b : Bool) → is_eq (nat_cmp key q) ≡ b
+          → IsPlaceBelow places (n + 1) q (cond b (Some n) (before q))
+      at true same =
+          subst (λ k. HasRecord k (slice_get places n)) (key_same by_number key q same) has
+      at false other =
+          passed_over places n q (before q)
+          (others q (λ e. true≢false (sym (ap (λ k. is_eq (nat_cmp key k)) e
+          ∙ key_here by_number key) ∙ other)))
+          (below q)
+
+-- where all places were asked
+pub found_all : (places : List Place) (n key : ℕ) (found : Option ℕ) → length places ≤ n
+    → IsPlaceBelow places n key found → IsPlaceOf places key found
+found_all places n key None all below = λ i. ⊎_elim (below i)
+    (λ le. ap (record_at key) (slice_get_past places i (omega arith))) (cases_lt i n)
+found_all places n key (Some i) all has = has
+
+-- ---- the records in the order of their keys
+
+abbrev ownership_in : Option Place → Ownership
+ownership_in (Some (Some r)) = r.ownership
+ownership_in _ = record { names = []; count = 0 }
+
+module _ (places : List Place) where
+  abbrev record_of_entry : ℕ × ℕ → ℕ × Ownership
+  record_of_entry e = (e.0, ownership_in (slice_get places e.1))
+
+  -- the rows of the records at the places of these entries
+  abbrev pub rows_at : ℕ → List (ℕ × ℕ) → List BaseRow
+  rows_at number [] = []
+  rows_at number (e ∷ es) = place_rows number (slice_get places e.1) ++ rows_at number es
+
+  found_record : (key i : ℕ) → HasRecord key (slice_get places i)
+      → record_at key (slice_get places i) ≡ Some (ownership_in (slice_get places i))
+  found_record key i has =
+      let there = standing key (slice_get places i) has in
+      ap (record_at key) there.1 ∙ subst (λ q. record_in q (Some there.0) ≡ Some there.0.ownership)
+      (sym there.2) (own_key there.0) ∙ ap (λ o. Some (ownership_in o)) (sym there.1)
+
+  rows_there : (number key i : ℕ) → HasRecord key (slice_get places i)
+      → place_rows number (slice_get places i)
+      ≡ record_rows number (key, ownership_in (slice_get places i))
+  rows_there number key i has =
+      let there = standing key (slice_get places i) has in
+      ap (place_rows number) there.1
+      ∙ (λ j. record_rows number (sym there.2 j, ownership_in (sym there.1 j)))
+
+  rows_each : (number : ℕ) (es : List (ℕ × ℕ))
+      → AllByRecursion (λ (e : ℕ × ℕ). HasRecord e.0 (slice_get places e.1)) es
+      → rows_at number es ≡ owner_rows number (list_map record_of_entry es)
+  rows_each number [] all = refl
+  rows_each number (e ∷ es) all =
+      λ i. rows_there number e.0 e.1 all.0 i ++ rows_each number es all.1 i
+
+  find_entry : (q : ℕ) (es : List (ℕ × ℕ)) → map.find nat_cmp q (list_map record_of_entry es)
+      ≡ option_map (λ i. ownership_in (slice_get places i)) (lookup (is_at (nat_cmp q)) es)
+  find_entry q [] = refl
+  find_entry q (e ∷ es) =
+      ap (cond (is_eq (nat_cmp q e.0)) (Some (ownership_in (slice_get places e.1))))
+      (find_entry q es) ∙ at (is_eq (nat_cmp q e.0))
+    where
+      at : (b : Bool) → cond b (Some (ownership_in (slice_get places e.1)))
+          (option_map (λ i. ownership_in (slice_get places i)) (lookup (is_at (nat_cmp q)) es))
+          ≡ option_map (λ i. ownership_in (slice_get places i))
+          (cond b (Some e.1) (lookup (is_at (nat_cmp q)) es))
+      at true = refl
+      at false = refl
+
+below_keys : (places : List Place) (x : ℕ) (es : List (ℕ × ℕ))
+    → AllByRecursion (λ y. nat_cmp x y ≡ Less) (keys_of es)
+    → T (map.Entries.below_all nat_cmp x (list_map (record_of_entry places) es))
+below_keys places x [] all = tt
+below_keys places x (e ∷ es) all =
+    subst (λ r. T (is_lt r && map.Entries.below_all nat_cmp x
+    (list_map (record_of_entry places) es))) (sym all.0) (below_keys places x es all.1)
+
+rising : (places : List Place) (es : List (ℕ × ℕ)) → IsStrictlySortedBy nat_cmp (keys_of es)
+    → T (map.is_sorted nat_cmp (list_map (record_of_entry places) es))
+unfolding IsStrictlySortedBy
+rising places [] all = tt
+rising places (e ∷ es) all = both _ _ (below_keys places e.0 es all.0) (rising places es all.1)
+  where
+    both : (a b : Bool) → T a → T b → T (a && b)
+    both true b p q = q
+    both false b p q = p
+
+pub in_order : {places : List Place} → HasDistinctKeys places → (number : ℕ)
+    → (es : List (ℕ × ℕ)) → IsStrictlySortedBy nat_cmp (keys_of es)
+    → ((key : ℕ) → IsPlaceOf places key (lookup (is_at (nat_cmp key)) es))
+    → All (λ (e : ℕ × ℕ). lookup (is_at (nat_cmp e.0)) es ≡ Some e.1) es
+    → rows_at places number es ≡ owner_rows number (map.entries (owners_of places))
+in_order {places} apart number es sorted found each =
+    rows_each places number es (has_each es (recursion_from_All _ es each))
+    ∙ ap (owner_rows number) (sym (map.entries-from_sorted nat_cmp (list_map (record_of_entry places) es)
+    (rising places es sorted))
+    ∙ ap map.entries same)
+  where
+    has_each : (fs : List (ℕ × ℕ))
+        → AllByRecursion (λ (e : ℕ × ℕ). lookup (is_at (nat_cmp e.0)) es ≡ Some e.1) fs
+        → AllByRecursion (λ (e : ℕ × ℕ). HasRecord e.0 (slice_get places e.1)) fs
+    has_each [] all = tt
+    has_each (f ∷ fs) all =
+        (subst (IsPlaceOf places f.0) all.0 (found f.0), has_each fs all.1)
+
+    at : (q : ℕ) (o : Option ℕ) → IsPlaceOf places q o
+        → option_map (λ i. ownership_in (slice_get places i)) o ≡ map.get (owners_of places) q
+    at q None none = sym (get_none places q none)
+    at q (Some i) has = sym (get_one apart q i _ (found_record places q i has))
+
+    same : map.from_sorted {R = nat_cmp} (list_map (record_of_entry places) es) ≡ owners_of places
+    same = map.same_map nat_cmp_total map.nat_cmp-IsAntisymmetric _ _ (λ q.
+        map.get-from_sorted nat_cmp (list_map (record_of_entry places) es) q (rising places es sorted)
+        ∙ find_entry places q es ∙ at q (lookup (is_at (nat_cmp q)) es) (found q))
+
+-- ---- the boxes of a record
+
+pub owned_all : (row_of : Name → BaseRow) (cells : List CellName) (n : ℕ) → length cells ≤ n
+    → list_map (λ c. row_of (name_of_cell c)) (take n cells)
+    ≡ list_map row_of (list_map name_of_cell cells)
+owned_all row_of [] n all = rw (take-nil n) refl
+owned_all row_of (c ∷ cells) zero all = absurd (omega arith)
+owned_all row_of (c ∷ cells) (suc n) all =
+    ap (λ rows. row_of (name_of_cell c) ∷ rows) (owned_all row_of cells n (omega arith))
+
+-- no rows of a place without a record, or past the last one
+pub no_rows : (rows : List BaseRow) (places : List Place) (number i : ℕ)
+    → slice_get places i ≡ None → rows ≡ rows ++ place_rows number (slice_get places i)
+no_rows rows places number i none =
+    sym (append-nil rows) ∙ ap (λ o. rows ++ place_rows number o) (sym none)
+
+pub no_rows_vacant : (rows : List BaseRow) (places : List Place) (number i : ℕ)
+    → slice_get places i ≡ Some None → rows ≡ rows ++ place_rows number (slice_get places i)
+no_rows_vacant rows places number i vacant =
+    sym (append-nil rows) ∙ ap (λ o. rows ++ place_rows number o) (sym vacant)
+
+-- the same as contracts see the records, and the loop its entries
+pub seen_in_order : {ps qs : List Place} {r : Records} → ps ≡ qs
+    → record { owners = owners_of qs; places = qs } ≡ r → HasDistinctKeys qs → (number : ℕ)
+    → (es : List (ℕ × ℕ)) → IsStrictlySortedBy nat_cmp (keys_of es)
+    → ((key : ℕ) → IsPlaceOf ps key (lookup (is_at (nat_cmp key)) es))
+    → All (λ (e : ℕ × ℕ). lookup (is_at (nat_cmp e.0)) es ≡ Some e.1) es
+    → rows_at ps number es ≡ owner_rows number (map.entries r.owners)
+seen_in_order same view apart number es sorted found each =
+    in_order (subst HasDistinctKeys (sym same) apart) number es sorted found each
+    ∙ ap (λ places. owner_rows number (map.entries (owners_of places))) same
+    ∙ ap (λ (o : Records). owner_rows number (map.entries o.owners)) view

@@ -1,0 +1,239 @@
+-- Rows that are read back, one list after the other: the cell of a name, and owners' records; and
+-- what stands under a name without its value.
+use Rattle.std.proofs.Common.{◌≡◌, ℕ, zero, suc, Bool, true, false, cond, ◌&&◌, ◌||◌, leb, List, []}
+use Rattle.std.proofs.Common.{◌∷◌, ◌++◌, Option, None, Some, option_map, refl, sym, ap, ◌∙◌, arith}
+use Rattle.std.proofs.Common.{nat_eq, append-nil, append_assoc}
+use Rattle.std.proofs.lemmas.Bool.Decides.{nat_tests}
+use Rattle.std.specs.Prelude.{map as list_map}
+use Rattle.std.specs.List.{AllByRecursion, IsDistinct}
+use Rattle.std.specs.Option.{option_or}
+use Rattle.std.proofs.Common.{Ordering}
+use Rattle.std.specs.Ordering.{eq_by_cmp}
+use Rattle.std.specs.FinMap as map
+use Rattle.std.specs.FinSet as set
+use Rattle.generational_core.proofs.maps.Maps.{IsKeyOrder, by_name, by_number, key_same, name_total}
+use Rattle.generational_core.proofs.maps.Maps.{name_test, get-insert_here, changed_there, keys_apart}
+use Rattle.generational_core.proofs.maps.Maps.{contains-insert_name}
+use Rattle.generational_core.specs
+use specs.declared.borrow.Borrow.{Borrow}
+use specs.declared.rows.BaseRow.{BaseRow}
+use specs.declared.rows.BaseRow.TheVariants as row
+use specs.Boxes.{id_of}
+use specs.Cells.{Cell, Content, refill}
+use specs.Cells.Cell.{Value, Shared, Ref}
+use specs.Cells.Content.{Here, Lent}
+use specs.Names.{Name, NameMap, Names, name_cmp, change}
+use specs.Plain.{Plain, bare_cell, bare_content, bare_entry, bare_cells}
+use specs.Rows.{reader_row, record_rows, owner_rows, borrow_rows, cell_rows, give_up_to, read_more}
+use specs.Rows.{one_reader, read_row, read_rows}
+use specs.State.{Ownership, Owners, one_listed}
+
+-- one list is read after the other
+pub read_append : (xs ys : List BaseRow) (P : Plain)
+    → read_rows P (xs ++ ys) ≡ read_rows (read_rows P xs) ys
+read_append [] ys P = refl
+read_append (x ∷ xs) ys P = read_append xs ys (read_row P x)
+
+-- ---- what is put under keys, one after the other
+
+module _ {K X : Type 0} {R : K → K → Ordering} where
+  abbrev pub put : map.FinMap R X → List (K × X) → map.FinMap R X
+  put m [] = m
+  put m (e ∷ es) = put (map.insert m e.0 e.1) es
+
+-- no key stands twice
+abbrev pub AreApart : {K X : Type 0} → (K → K → Ordering) → List (K × X) → Type 0
+AreApart R [] = Unit {0}
+AreApart R (e ∷ es) = (map.find R e.0 es ≡ None) × AreApart R es
+
+shadowed : {A : Type 0} (b : Bool) (x y z : A) → cond b x (cond b y z) ≡ cond b x z
+shadowed true x y z = refl
+shadowed false x y z = refl
+
+or_none : {A : Type 0} (x : Option A) → option_or x None ≡ x
+or_none None = refl
+or_none (Some x) = refl
+
+module _ {K X : Type 0} {R : K → K → Ordering} (o : IsKeyOrder R) where
+  put_twice : (m : map.FinMap R X) (k : K) (x y : X)
+      → map.insert (map.insert m k x) k y ≡ map.insert m k y
+  put_twice m k x y = map.same_map o.total o.exact _ _ (λ q.
+      map.get-insert o.total (map.insert m k x) k y q
+      ∙ ap (cond (eq_by_cmp R q k) (Some y)) (map.get-insert o.total m k x q)
+      ∙ shadowed (eq_by_cmp R q k) (Some y) (Some x) (map.get m q)
+      ∙ sym (map.get-insert o.total m k y q))
+
+  -- what was put is changed
+  changed_put : (m : map.FinMap R X) (k : K) (x : X) (f : X → X)
+      → change (map.insert m k x) k f ≡ map.insert m k (f x)
+  changed_put m k x f =
+      changed_there o (map.insert m k x) k f x (get-insert_here o m k x) ∙ put_twice m k x (f x)
+
+  get_put : (m : map.FinMap R X) (es : List (K × X)) → AreApart R es → (q : K)
+      → map.get (put m es) q ≡ option_or (map.find R q es) (map.get m q)
+  get_put m [] apart q = refl
+  get_put m (e ∷ es) apart q =
+      get_put (map.insert m e.0 e.1) es apart.1 q
+      ∙ ap (option_or (map.find R q es)) (map.get-insert o.total m e.0 e.1 q)
+      ∙ at (eq_by_cmp R q e.0) refl
+    where
+      at : (b : Bool) → eq_by_cmp R q e.0 ≡ b
+          → option_or (map.find R q es) (cond b (Some e.1) (map.get m q))
+          ≡ option_or (cond b (Some e.1) (map.find R q es)) (map.get m q)
+      at true is =
+          ap (λ x. option_or x (Some e.1))
+          (ap (λ k. map.find R k es) (key_same o q e.0 is) ∙ apart.0)
+      at false is = refl
+
+  -- what is put where nothing stood
+  pub put_new : (es : List (K × X)) → AreApart R es → put (map.empty {R = R}) es ≡ map.from_entries es
+  put_new es apart = map.same_map o.total o.exact _ _ (λ q.
+      get_put map.empty es apart q
+      ∙ ap (option_or (map.find R q es)) (map.get-empty R q)
+      ∙ or_none (map.find R q es)
+      ∙ sym (map.get-from_entries o.total es q))
+
+  find_none : (k : K) (es : List (K × X))
+      → AllByRecursion (λ y. eq_by_cmp R k y ≡ false) (list_map (λ (e : K × X). e.0) es)
+      → map.find R k es ≡ None
+  find_none k [] all = refl
+  find_none k (e ∷ es) all = rw all.0 (find_none k es all.1)
+
+  apart_of : (es : List (K × X))
+      → IsDistinct (eq_by_cmp R) (list_map (λ (e : K × X). e.0) es) → AreApart R es
+  unfolding IsDistinct
+  apart_of [] h = tt
+  apart_of (e ∷ es) h = (find_none e.0 es h.0, apart_of es h.1)
+
+  -- all that a map has
+  pub put_all : (m : map.FinMap R X) → put (map.empty {R = R}) (map.entries m) ≡ m
+  put_all m =
+      put_new (map.entries m) (apart_of (map.entries m) (keys_apart R m))
+      ∙ map.same_map o.total o.exact _ _ (λ q.
+      map.get-from_entries o.total (map.entries m) q ∙ sym (map.get-entries m q))
+
+-- ---- the cell of a name
+
+module _ (P : Plain) (number : ℕ) (n : Name) (as_cell : Content (Unit {0}) → Cell (Unit {0})) where
+  abbrev holding : Content (Unit {0}) → Plain
+  holding c = record P { cells = map.insert P.cells n (as_cell c) }
+
+  readers_read : ((b : Borrow) (c : Content (Unit {0})) → one_reader b (as_cell c) ≡ as_cell
+      (read_more b c)) → (done rest : List Borrow)
+      → read_rows (holding (Here tt done)) (list_map (reader_row (id_of number n)) rest)
+      ≡ holding (Here tt (done ++ rest))
+  readers_read one done [] = ap (λ rs. holding (Here tt rs)) (sym (append-nil done))
+  readers_read one done (b ∷ rest) =
+      ap (λ m. read_rows (record P { cells = m }) (list_map (reader_row (id_of number n)) rest))
+      (changed_put by_name P.cells n (as_cell (Here tt done)) (one_reader b)
+      ∙ ap (map.insert P.cells n) (one b (Here tt done)))
+      ∙ readers_read one (done ++ b ∷ []) rest
+      ∙ ap (λ rs. holding (Here tt rs)) (append_assoc done (b ∷ []) rest)
+
+  content_read : {T : Type 0}
+      → ((b : Borrow) (c : Content (Unit {0})) → one_reader b (as_cell c) ≡ as_cell (read_more b c))
+      → ((w : Borrow) (c : Content (Unit {0})) → refill (Lent w) (as_cell c) ≡ as_cell (Lent w))
+      → (c : Content T) → read_rows (holding (Here tt [])) (borrow_rows (id_of number n) c)
+      ≡ holding (bare_content c)
+  content_read one lent (Here v readers) = readers_read one [] readers
+  content_read one lent (Lent w) =
+      ap (λ m. record P { cells = m })
+      (changed_put by_name P.cells n (as_cell (Here tt [])) (refill (Lent w))
+      ∙ ap (map.insert P.cells n) (lent w (Here tt [])))
+
+pub cell_read : {T : Type 0} (P : Plain) (number : ℕ) (n : Name) (c : Cell T)
+    → read_rows P (cell_rows number n (Some c))
+    ≡ record P { cells = map.insert P.cells n (bare_cell c) }
+cell_read P number n (Value c l) =
+    content_read P number n (λ c. Value c l) (λ b c. refl) (λ w c. refl) c
+cell_read P number n (Shared c l) =
+    content_read P number n (λ c. Shared c l) (λ b c. refl) (λ w c. refl) c
+cell_read P number n (Ref m l) = refl
+
+-- ---- the names of a slot
+
+pub contains_up_to : (slot g : ℕ) (given : Names) (q : Name)
+    → set.contains (give_up_to slot g given) q
+    ≡ ((nat_eq q.slot slot && (leb 1 q.generation && leb q.generation g)) || set.contains given q)
+contains_up_to slot zero given q = none (nat_eq q.slot slot) q.generation
+  where
+    none : (a : Bool) (x : ℕ)
+        → set.contains given q ≡ ((a && (leb 1 x && leb x 0)) || set.contains given q)
+    none true x =
+        let e : (leb 1 x && leb x 0) ≡ false = grind (arith, nat_tests) in
+        ap (λ b. b || set.contains given q) (sym e)
+    none false x = refl
+contains_up_to slot (suc g) given q =
+    contains-insert_name (give_up_to slot g given) (record { slot = slot; generation = suc g }) q
+    ∙ (λ i. name_test q (record { slot = slot; generation = suc g }) i
+    || contains_up_to slot g given q i)
+    ∙ one (nat_eq q.slot slot) q.generation (set.contains given q)
+  where
+    joined : (x g : ℕ) → (nat_eq x (suc g) || (leb 1 x && leb x g)) ≡ (leb 1 x && leb x (suc g))
+    joined x g = grind (arith, nat_tests)
+
+    split : (a b c : Bool) → (a || (b || c)) ≡ ((a || b) || c)
+    split true b c = refl
+    split false b c = refl
+
+    one : (a : Bool) (x : ℕ) (c : Bool)
+        → ((a && nat_eq x (suc g)) || ((a && (leb 1 x && leb x g)) || c))
+        ≡ ((a && (leb 1 x && leb x (suc g))) || c)
+    one true x c =
+        split (nat_eq x (suc g)) (leb 1 x && leb x g) c ∙ ap (λ b. b || c) (joined x g)
+    one false x c = refl
+
+-- ---- owners' records
+
+abbrev owning : Plain → ℕ → Ownership → Plain
+owning P k h = record P { owners = map.insert P.owners k h }
+
+names_read : (P : Plain) (number k c : ℕ) (done rest : List Name)
+    → read_rows (owning P k (record { names = done; count = c }))
+    (list_map (λ n. row.Owned k (id_of number n)) rest)
+    ≡ owning P k (record { names = done ++ rest; count = c })
+names_read P number k c done [] =
+    ap (λ ns. owning P k (record { names = ns; count = c })) (sym (append-nil done))
+names_read P number k c done (n ∷ rest) =
+    ap (λ m. read_rows (record P { owners = m }) (list_map (λ n. row.Owned k (id_of number n)) rest))
+    (changed_put by_number P.owners k (record { names = done; count = c }) (one_listed n))
+    ∙ names_read P number k c (done ++ n ∷ []) rest
+    ∙ ap (λ ns. owning P k (record { names = ns; count = c })) (append_assoc done (n ∷ []) rest)
+
+pub owners_read : (P : Plain) (number : ℕ) (es : List (ℕ × Ownership))
+    → read_rows P (owner_rows number es) ≡ record P { owners = put P.owners es }
+owners_read P number [] = refl
+owners_read P number (e ∷ es) =
+    read_append (record_rows number e) (owner_rows number es) P
+    ∙ ap (λ Q. read_rows Q (owner_rows number es)) (names_read P number e.0 e.1.count [] e.1.names)
+    ∙ owners_read (owning P e.0 e.1) number es
+
+-- the records of a map, in the order of their keys
+pub all_owners_read : (P : Plain) (number : ℕ) (owners : Owners) → P.owners ≡ map.empty
+    → read_rows P (owner_rows number (map.entries owners)) ≡ record P { owners = owners }
+all_owners_read P number owners none =
+    owners_read P number (map.entries owners)
+    ∙ ap (λ m. record P { owners = m })
+    (ap (λ m. put m (map.entries owners)) none ∙ put_all by_number owners)
+
+-- ---- what stands under a name without its value
+
+pub find_bare : {T : Type 0} (q : Name) (es : List (Name × Cell T))
+    → map.find name_cmp q (list_map bare_entry es) ≡ option_map bare_cell (map.find name_cmp q es)
+find_bare q [] = refl
+find_bare q (e ∷ es) =
+    ap (cond (eq_by_cmp name_cmp q e.0) (Some (bare_cell e.1))) (find_bare q es)
+    ∙ at (eq_by_cmp name_cmp q e.0)
+  where
+    at : (b : Bool) → cond b (Some (bare_cell e.1)) (option_map bare_cell (map.find name_cmp q es))
+        ≡ option_map bare_cell (cond b (Some e.1) (map.find name_cmp q es))
+    at true = refl
+    at false = refl
+
+pub get_bare_cell : {T : Type 0} (cells : NameMap (Cell T)) (n : Name)
+    → map.get (bare_cells cells) n ≡ option_map bare_cell (map.get cells n)
+unfolding bare_cells
+get_bare_cell cells n =
+    map.get-from_entries name_total (list_map bare_entry (map.entries cells)) n
+    ∙ (find_bare n (map.entries cells)
+    ∙ ap (option_map bare_cell) (sym (map.get-entries cells n)))

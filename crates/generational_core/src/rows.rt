@@ -1,0 +1,26 @@
+//! What a store has, in rows.
+
+use crate::boxes::GenerationalBoxId;
+use crate::error::Location;
+
+/// A row of what a store has, without values: a slot, a live cell, a borrow that stands, or a part
+/// of an owner's record.
+#[derive(Clone, Copy, Debug, PartialEq)]
+pub enum BaseRow {
+    /// A slot, and the generation of the last cell that it was given for.
+    Slot(usize, u64),
+    /// A live value that isn't shared, and where it was made.
+    Value(GenerationalBoxId, Location),
+    /// A live shared value, and where it was made.
+    Shared(GenerationalBoxId, Location),
+    /// A live reference, the shared value that it names, and where that was made.
+    Ref(GenerationalBoxId, GenerationalBoxId, Location),
+    /// A reader of a value: its ticket, and where it began.
+    Reader(GenerationalBoxId, u64, Location),
+    /// The writer of a value: its ticket, and where it began.
+    Writer(GenerationalBoxId, u64, Location),
+    /// The key of an owner's record, and for how many owner values it stands.
+    Owner(u64, u64),
+    /// The key of an owner's record, and a box on its list.
+    Owned(u64, GenerationalBoxId),
+}

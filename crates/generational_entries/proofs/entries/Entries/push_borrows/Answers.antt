@@ -1,0 +1,28 @@
+-- The rows of the borrows of a slot's value.
+use Rattle.std.proofs.Common.{sym, ◌∙◌}
+use Rattle.std.proofs.lemmas.Bool.{false≢true}
+use Rattle.std.proofs.lemmas.Result.{on_ok_weaker}
+use Rattle.generational_entries.proofs.states.EntryChanges.{change_here}
+use Rattle.generational_entries.proofs.states.Latest.{joining, noted_away}
+use Rattle.generational_entries.proofs.entries.Entries.push_borrows.Goals as goal
+use Rattle.generational_entries.proofs.entries.Entries.push_borrows.Goals.{else-is_noted-via-then-is_noted+else-self-slot}
+use Rattle.generational_entries.proofs.entries.Entries.push_borrows.Goals.{else-is_noted-via-else-is_noted}
+
+pub returns-then-self-slot : goal.returns-then-self-slot
+returns-then-self-slot g c =
+    let last = c.self.inside.last in
+    let apart = sym c.is_noted.ensures ∙ c.if-is_noted.true in
+    rw (← c.self.view_is, ← c.if-self-slot.true, apart)
+    (on_ok_weaker c.push_with_last.result
+    (change_here c.self.inside.settled.slots last.slot (joining last) _) c.push_with_last.ensures)
+
+pub returns : goal.returns
+returns g c =
+    let last = c.self.inside.last in
+    let away = noted_away last c.self.inside.settled.slots c.self.invariant c.args.slot
+    (elim c.else-is_noted.branch [
+      | else-is_noted-via-then-is_noted+else-self-slot w ↦ λ is at. w.if-self-slot.false at
+      | else-is_noted-via-else-is_noted w ↦
+          λ is at. absurd (false≢true (sym w.if-is_noted.false ∙ (c.is_noted.ensures ∙ is)))
+    ]) in
+    rw (← c.self.view_is, away) c.push_borrows.ensures

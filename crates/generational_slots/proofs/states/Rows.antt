@@ -1,0 +1,276 @@
+-- The rows of the slots: that they stand in the order of the machine's slots, and what reads them
+-- back.
+use Rattle.std.proofs.Common.{◌≡◌, ℕ, zero, suc, ◌+◌, ◌<◌, ◌≤◌, Bool, true, false, cond, T, ◌&&◌, ◌||◌}
+use Rattle.std.proofs.Common.{List, [], ◌∷◌, ◌++◌, length, take, Option, None, Some, option_map, refl}
+use Rattle.std.proofs.Common.{sym, ap, ◌∙◌, arith, slice_get, IfSome, nat_cmp}
+use Rattle.std.proofs.Common.{unwrap_or, append-nil, append_assoc, map as list_map}
+use Rattle.std.proofs.lemmas.Bool.{eq-eqb, ne_eqb, lt-ltb}
+use Rattle.std.proofs.lemmas.List.{take_all}
+use Rattle.std.proofs.lemmas.Option.{none-some}
+use Rattle.std.proofs.Math.Bool.{or-false}
+use Rattle.std.specs.Cmp.{nat_cmp_total}
+use Rattle.std.specs.List.{list_any}
+use Rattle.std.specs.Ordering.{eq_by_cmp}
+use Rattle.std.specs.FinMap as map
+use Rattle.std.specs.FinSet as set
+use Rattle.generational_containers.proofs.lists.Lists.{number_test}
+use Rattle.generational_core.proofs.machine.Rows.{AreApart, put, put_new, read_append, cell_read}
+use Rattle.generational_core.proofs.machine.Rows.{contains_up_to, find_bare, get_bare_cell}
+use Rattle.generational_core.specs.Plain.{Plain, bare_cell, bare_cells, bare_entry}
+use Rattle.generational_core.specs.Rows.{cell_rows, slot_rows, read_rows, give_up_to}
+use Rattle.generational_core.specs.declared.rows.BaseRow.{BaseRow}
+use Rattle.generational_core.specs.declared.rows.BaseRow.TheVariants as row
+use Rattle.generational_core.specs.Names.{Names}
+use Rattle.generational_slots.proofs.Common.{Cell, Entry, IsSlotTable, Name, SlotTable, State, by_name}
+use Rattle.generational_slots.proofs.Common.{cell_in, cell_of, cells_of, given_from, given_of}
+use Rattle.generational_slots.proofs.Common.{live_from, name_cmp, name_exact, name_total, slots_of}
+use Rattle.generational_slots.proofs.Common.{state_of, with_cell}
+use Rattle.generational_slots.proofs.states.States.{any_of, find_below, get_cells, get_last}
+use Rattle.generational_slots.specs.SlotRows.{all_slot_rows, entry_rows, rows_from}
+
+within_some : {A : Type 0} (xs : List A) (k : ℕ) → k < length xs → slice_get xs k ≡ None → ⊥
+within_some [] k within none = absurd (omega arith)
+within_some (x ∷ xs) zero within none = none-some x (sym none)
+within_some (x ∷ xs) (suc k) within none = within_some xs k (omega arith) none
+
+module _ {A : Type 0} where
+  -- ---- one slot after the other
+
+  rows_more : (number i k : ℕ) (es : List (Entry A)) (e : Entry A) → slice_get es k ≡ Some e
+      → rows_from number i (take (suc k) es)
+      ≡ rows_from number i (take k es) ++ entry_rows number (i + k) e
+  rows_more number i k [] e there = absurd (none-some e there)
+  rows_more number i zero (x ∷ es) e there =
+      append-nil (entry_rows number i x)
+      ∙ (λ j. entry_rows number (at j) (same j))
+    where
+      at : i ≡ i + 0
+      at = omega arith
+
+      same : x ≡ e
+      same = ap (λ o. unwrap_or o x) there
+  rows_more number i (suc k) (x ∷ es) e there =
+      ap (λ rows. entry_rows number i x ++ rows) (rows_more number (i + 1) k es e there)
+      ∙ sym (append_assoc (entry_rows number i x) (rows_from number (i + 1) (take k es)) _)
+      ∙ ap (λ j. (entry_rows number i x ++ rows_from number (i + 1) (take k es))
+      ++ entry_rows number j e) (let at : (i + 1) + k ≡ i + suc k = omega arith in at)
+
+  pub rows_step : (number k : ℕ) (es : List (Entry A)) (before rows after : List BaseRow)
+      → k < length es → rows ≡ before ++ rows_from number 0 (take k es)
+      → IfSome (slice_get es k) (λ e. after ≡ rows ++ entry_rows number k e)
+      → after ≡ before ++ rows_from number 0 (take (k + 1) es)
+  rows_step number k es before rows after within is pushed = at (slice_get es k) refl pushed
+    where
+      at : (o : Option (Entry A)) → slice_get es k ≡ o
+          → IfSome o (λ e. after ≡ rows ++ entry_rows number k e)
+          → after ≡ before ++ rows_from number 0 (take (k + 1) es)
+      at None past pushed = absurd (within_some es k within past)
+      at (Some e) there pushed =
+          pushed ∙ ap (λ xs. xs ++ entry_rows number k e) is
+          ∙ append_assoc before (rows_from number 0 (take k es)) (entry_rows number k e)
+          ∙ ap (λ xs. before ++ xs)
+          (ap (λ j. rows_from number 0 (take k es) ++ entry_rows number j e)
+          (let at : k ≡ 0 + k = omega arith in at)
+          ∙ sym (rows_more number 0 k es e there)
+          ∙ ap (λ n. rows_from number 0 (take n es))
+          (let more : suc k ≡ k + 1 = omega arith in more))
+
+  pub rows_all : (number n : ℕ) (es : List (Entry A)) → length es ≤ n
+      → rows_from number 0 (take n es) ≡ rows_from number 0 es
+  rows_all number n es all = ap (rows_from number 0) (take_all n es all)
+
+  -- ---- the machine's slots
+
+  numbered : ℕ → List (Entry A) → List (ℕ × ℕ)
+  numbered i [] = []
+  numbered i (e ∷ es) = (i, e.generation) ∷ numbered (i + 1) es
+
+  find_before : (i : ℕ) (es : List (Entry A)) (q : ℕ) → q < i
+      → map.find nat_cmp q (numbered i es) ≡ None
+  unfolding numbered
+  find_before i [] q before = refl
+  find_before i (e ∷ es) q before =
+      ap (λ b. cond b (Some e.generation) (map.find nat_cmp q (numbered (i + 1) es)))
+      (number_test q i ∙ ne_eqb q i (λ same. omega arith))
+      ∙ find_before (i + 1) es q (omega arith)
+
+  find_numbered : (i : ℕ) (es : List (Entry A)) (q k : ℕ) → q ≡ i + k
+      → map.find nat_cmp q (numbered i es) ≡ option_map (λ e. e.generation) (slice_get es k)
+  unfolding numbered
+  find_numbered i [] q k is = refl
+  find_numbered i (e ∷ es) q zero is =
+      ap (λ b. cond b (Some e.generation) (map.find nat_cmp q (numbered (i + 1) es)))
+      (number_test q i ∙ eq-eqb q i (omega arith))
+  find_numbered i (e ∷ es) q (suc k) is =
+      ap (λ b. cond b (Some e.generation) (map.find nat_cmp q (numbered (i + 1) es)))
+      (number_test q i ∙ ne_eqb q i (λ same. omega arith))
+      ∙ find_numbered (i + 1) es q k (omega arith)
+
+  below_numbered : (x i : ℕ) (es : List (Entry A)) → x < i
+      → T (map.Entries.below_all nat_cmp x (numbered i es))
+  unfolding numbered
+  below_numbered x i [] below = tt
+  below_numbered x i (e ∷ es) below =
+      rw (lt-ltb x i below) (below_numbered x (i + 1) es (omega arith))
+
+  rising : (i : ℕ) (es : List (Entry A)) → T (map.is_sorted nat_cmp (numbered i es))
+  unfolding numbered
+  rising i [] = tt
+  rising i (e ∷ es) = both _ _ (below_numbered i (i + 1) es (omega arith)) (rising (i + 1) es)
+    where
+      both : (a b : Bool) → T a → T b → T (a && b)
+      both true b p q = q
+      both false b p q = p
+
+  rows_numbered : (number : ℕ) (slots : List (Entry A)) (i : ℕ) (es : List (Entry A))
+      → ((k : ℕ) → slice_get slots (i + k) ≡ slice_get es k)
+      → slot_rows number (cells_of slots) (numbered i es) ≡ rows_from number i es
+  unfolding numbered
+  rows_numbered number slots i [] same = refl
+  rows_numbered number slots i (e ∷ es) same =
+      λ j. (row.Slot i e.generation ∷ cell_rows number (record { slot = i; generation = e.generation }) (cell j))
+      ++ rows_numbered number slots (i + 1) es rest j
+    where
+      there : slice_get slots i ≡ Some e
+      there = ap (slice_get slots) (let at : i ≡ i + 0 = omega arith in at) ∙ same 0
+
+      cell : map.get (cells_of slots) (record { slot = i; generation = e.generation })
+          ≡ cell_of e.kept
+      cell =
+          get_cells slots (record { slot = i; generation = e.generation })
+          ∙ (ap (λ o. cell_in o e.generation) there
+          ∙ ap (λ b. cond b (cell_of e.kept) None) (eq-eqb e.generation e.generation refl))
+
+      rest : (k : ℕ) → slice_get slots ((i + 1) + k) ≡ slice_get es k
+      rest k = ap (slice_get slots) (let at : (i + 1) + k ≡ i + suc k = omega arith in at)
+          ∙ same (suc k)
+
+  -- ---- reading back
+
+  give_all : ℕ → List (Entry A) → Names → Names
+  give_all i [] given = given
+  give_all i (e ∷ es) given = give_all (i + 1) es (give_up_to i e.generation given)
+
+  slots_read : (number i : ℕ) (es : List (Entry A)) (P : Plain)
+      → read_rows P (rows_from number i es)
+      ≡ record P {
+        cells = put P.cells (list_map bare_entry (live_from i es));
+        given = give_all i es P.given;
+      }
+  unfolding give_all
+  slots_read number i [] P = refl
+  slots_read number i (e ∷ es) P =
+      at (slots_read number (i + 1) es) (record P { given = give_up_to i e.generation P.given })
+      (record { slot = i; generation = e.generation }) (cell_of e.kept)
+    where
+      at : ((Q : Plain) → read_rows Q (rows_from number (i + 1) es) ≡ record Q {
+        cells = put Q.cells (list_map bare_entry (live_from (i + 1) es));
+        given = give_all (i + 1) es Q.given;
+      })
+          → (P : Plain) (n : Name) (o : Option (Cell A))
+          → read_rows P (cell_rows number n o ++ rows_from number (i + 1) es)
+          ≡ record P {
+            cells = put P.cells (list_map bare_entry (with_cell n o (live_from (i + 1) es)));
+            given = give_all (i + 1) es P.given;
+          }
+      at rest P n None = rest P
+      at rest P n (Some c) =
+          read_append (cell_rows number n (Some c)) (rows_from number (i + 1) es) P
+          ∙ ap (λ Q. read_rows Q (rows_from number (i + 1) es)) (cell_read P number n c)
+          ∙ rest (record P { cells = map.insert P.cells n (bare_cell c) })
+
+  live_apart : (i : ℕ) (es : List (Entry A))
+      → AreApart name_cmp (list_map bare_entry (live_from i es))
+  live_apart i [] = tt
+  live_apart i (e ∷ es) =
+      at (live_apart (i + 1) es) (record { slot = i; generation = e.generation }) refl
+      (cell_of e.kept)
+    where
+      at : AreApart name_cmp (list_map bare_entry (live_from (i + 1) es))
+          → (n : Name) → n.slot ≡ i → (o : Option (Cell A))
+          → AreApart name_cmp (list_map bare_entry (with_cell n o (live_from (i + 1) es)))
+      at rest n here None = rest
+      at rest n here (Some c) = (
+        find_bare n (live_from (i + 1) es)
+            ∙ ap (option_map bare_cell) (find_below (i + 1) es n (omega arith)),
+        rest,
+      )
+
+  cells_read : (slots : List (Entry A))
+      → put (map.empty {R = name_cmp}) (list_map bare_entry (live_from 0 slots))
+      ≡ bare_cells (cells_of slots)
+  unfolding cells_of
+  cells_read slots =
+      put_new by_name (list_map bare_entry (live_from 0 slots)) (live_apart 0 slots)
+      ∙ map.same_map name_total name_exact _ _ (λ q.
+      map.get-from_entries name_total (list_map bare_entry (live_from 0 slots)) q
+      ∙ find_bare q (live_from 0 slots)
+      ∙ sym (get_bare_cell (cells_of slots) q
+      ∙ ap (option_map bare_cell) (map.get-from_entries name_total (live_from 0 slots) q)))
+
+  contains_given : (i : ℕ) (es : List (Entry A)) (given : Names) (q : Name)
+      → set.contains (give_all i es given) q
+      ≡ (list_any (eq_by_cmp name_cmp q) (given_from 1 i es) || set.contains given q)
+  unfolding give_all
+  contains_given i [] given q = refl
+  contains_given i (e ∷ es) given q =
+      contains_given (i + 1) es (give_up_to i e.generation given) q
+      ∙ ap (λ b. list_any (eq_by_cmp name_cmp q) (given_from 1 (i + 1) es) || b)
+      (contains_up_to i e.generation given q)
+      ∙ turned (list_any (eq_by_cmp name_cmp q) (given_from 1 (i + 1) es)) _ (set.contains given q)
+      ∙ ap (λ b. b || set.contains given q) (sym (any_of 1 i e es q))
+    where
+      turned : (r a c : Bool) → (r || (a || c)) ≡ ((a || r) || c)
+      turned true true c = refl
+      turned true false c = refl
+      turned false true c = refl
+      turned false false c = refl
+
+  given_read : (slots : List (Entry A)) → give_all 0 slots set.empty ≡ given_of 1 slots
+  unfolding given_of
+  given_read slots = set.same_set name_total name_exact _ _ (λ q.
+      contains_given 0 slots set.empty q
+      ∙ ap (λ b. list_any (eq_by_cmp name_cmp q) (given_from 1 0 slots) || b)
+      (set.contains-empty name_cmp q)
+      ∙ or-false _
+      ∙ sym (set.contains-from_list name_total (given_from 1 0 slots) q))
+
+module _ {A : Type 0} {p : SlotTable A} (s : IsSlotTable p) {S : State A}
+    (view : state_of p.start p.counts.peak p.slots ≡ S) where
+  entries_are : map.entries (slots_of (state_of p.start p.counts.peak p.slots))
+      ≡ numbered 0 p.slots
+  entries_are =
+      ap map.entries (map.same_map nat_cmp_total map.nat_cmp-IsAntisymmetric _
+      (map.from_sorted {R = nat_cmp} (numbered 0 p.slots)) (λ q. get_last s q
+      ∙ sym (map.get-from_sorted nat_cmp (numbered 0 p.slots) q (rising 0 p.slots)
+      ∙ find_numbered 0 p.slots q q (omega arith))))
+      ∙ map.entries-from_sorted nat_cmp (numbered 0 p.slots) (rising 0 p.slots)
+
+  -- the rows stand in the order of the machine's slots
+  pub rows_seen : (number : ℕ) → rows_from number 0 p.slots ≡ all_slot_rows number S
+  rows_seen number =
+      sym (rows_numbered number p.slots 0 p.slots (λ k. ap (slice_get p.slots) (omega arith)))
+      ∙ ap (slot_rows number (cells_of p.slots)) (sym entries_are)
+      ∙ ap (all_slot_rows number) view
+
+  -- and are read back
+  pub rows_back : (number : ℕ) (P : Plain) → S.start ≡ 1 → P.cells ≡ map.empty
+      → P.given ≡ set.empty → read_rows P (all_slot_rows number S)
+      ≡ record P { cells = bare_cells S.cells; given = S.given }
+  rows_back number P first no_cells none_given =
+      ap (read_rows P) (sym (rows_seen number))
+      ∙ slots_read number 0 p.slots P
+      ∙ (λ j. record P { cells = cells j; given = given j })
+    where
+      cells : put P.cells (list_map bare_entry (live_from 0 p.slots)) ≡ bare_cells S.cells
+      cells =
+          ap (λ m. put m (list_map bare_entry (live_from 0 p.slots))) no_cells
+          ∙ cells_read p.slots ∙ ap (λ (X : State A). bare_cells X.cells) view
+
+      start : p.start ≡ 1
+      start = ap (λ (X : State A). X.start) view ∙ first
+
+      given : give_all 0 p.slots P.given ≡ S.given
+      given =
+          ap (give_all 0 p.slots) none_given ∙ given_read p.slots
+          ∙ ap (λ n. given_of n p.slots) (sym start) ∙ ap (λ (X : State A). X.given) view

@@ -1,0 +1,107 @@
+-- Bases: what their rows leave as it was, and what they count of the steps that were trimmed.
+use Rattle.std.proofs.Common.{◌≡◌, ℕ, ◌+◌, ◌^◌, ◌<◌, List, [], ◌∷◌, length, cond, refl, ap, subst, ◌∙◌, arith}
+use Rattle.std.proofs.lemmas.List.Sums.{sum_by-cons}
+use Rattle.generational_core.specs.declared.rows.BaseRow.{BaseRow}
+use Rattle.generational_core.specs.declared.rows.BaseRow.TheVariants as row
+use Rattle.generational_core.specs.Plain.{Plain, plain}
+use Rattle.generational_core.specs.Rows.{read_row, read_rows, rows_of}
+use Rattle.generational_core.specs.State.{State}
+use Rattle.generational_sync.specs.Bases.{BaseState, Trims, all_trimmed, counts_of, plain_of}
+use Rattle.generational_sync.specs.Shared.{IsCheckpoint, LogState, SharedState}
+use Rattle.generational_sync.specs.declared.base.TrimmedSteps.{TrimmedSteps}
+use Rattle.step_records.specs.Kinds.{count, kind_of, same_kind}
+use Rattle.step_records.specs.declared.step.Kind.{Kind}
+use Rattle.step_records.specs.declared.step.Kind.TheVariants.{Made, Lent, Changed, Refused}
+use Rattle.step_records.specs.declared.step.Step.{Step}
+
+row_keeps : (P : Plain) (r : BaseRow)
+    → ((read_row P r).number ≡ P.number) × ((read_row P r).start ≡ P.start)
+row_keeps P (row.Slot s g) = (refl, refl)
+row_keeps P (row.Value id l) = (refl, refl)
+row_keeps P (row.Shared id l) = (refl, refl)
+row_keeps P (row.Ref id m l) = (refl, refl)
+row_keeps P (row.Reader id t l) = (refl, refl)
+row_keeps P (row.Writer id t l) = (refl, refl)
+row_keeps P (row.Owner k c) = (refl, refl)
+row_keeps P (row.Owned k id) = (refl, refl)
+
+-- rows tell nothing of the number, nor of the first generation
+rows_keep : (rows : List BaseRow) (P : Plain)
+    → ((read_rows P rows).number ≡ P.number) × ((read_rows P rows).start ≡ P.start)
+rows_keep [] P = (refl, refl)
+rows_keep (r ∷ rows) P =
+    let rest = rows_keep rows (read_row P r) in let one = row_keeps P r in
+    (rest.0 ∙ one.0, rest.1 ∙ one.1)
+
+pub told_number : (base : BaseState) → (plain_of base).number ≡ base.number
+told_number base = (rows_keep base.rows _).0
+
+pub told_start : (base : BaseState) → (plain_of base).start ≡ 1
+told_start base = (rows_keep base.rows _).1
+
+abbrev bit : Kind → Kind → ℕ
+bit k l = cond (same_kind k l) 1 0
+
+count-cons : (k : Kind) (x : Step) (xs : List Step)
+    → count k (x ∷ xs) ≡ bit k (kind_of x.reply) + count k xs
+count-cons k x xs = sum_by-cons (λ (s : Step). bit k (kind_of s.reply)) x xs
+
+-- a kind is one of the four
+one_kind : (k : Kind) → bit Made k + bit Lent k + bit Changed k + bit Refused k ≡ 1
+one_kind Made = refl
+one_kind Lent = refl
+one_kind Changed = refl
+one_kind Refused = refl
+
+-- so the steps of the four kinds are all
+all_kinds : (steps : List Step)
+    → count Made steps + count Lent steps + count Changed steps + count Refused steps
+    ≡ length steps
+all_kinds [] = refl
+all_kinds (x ∷ xs) =
+    let rest = all_kinds xs in let one = one_kind (kind_of x.reply) in
+    let made = count-cons Made x xs in let lent = count-cons Lent x xs in
+    let changed = count-cons Changed x xs in let refused = count-cons Refused x xs in
+    omega arith
+
+module _ (base : BaseState) (steps : List Step) (t : TrimmedSteps)
+    (counts : t ≡ counts_of base steps) where
+  pub trimmed_within : all_trimmed base + length steps < 2 ^ 64
+      → t.made + t.lent + t.changed + t.refused < 2 ^ 64
+  trimmed_within within = let all = all_kinds steps in omega (
+    arith,
+    ap (λ (t : TrimmedSteps). t.made) counts,
+    ap (λ (t : TrimmedSteps). t.lent) counts,
+    ap (λ (t : TrimmedSteps). t.changed) counts,
+    ap (λ (t : TrimmedSteps). t.refused) counts,
+  )
+
+  pub trims_of : {number next peak : ℕ} {rows : List BaseRow} (new : BaseState)
+      → new ≡ record {
+        number = number;
+        next = next;
+        peak = peak;
+        made = t.made;
+        lent = t.lent;
+        changed = t.changed;
+        refused = t.refused;
+        rows = rows;
+      } → Trims base steps new
+  trims_of new is Made =
+      ap (λ (b : BaseState). b.made) is ∙ ap (λ (t : TrimmedSteps). t.made) counts
+  trims_of new is Lent =
+      ap (λ (b : BaseState). b.lent) is ∙ ap (λ (t : TrimmedSteps). t.lent) counts
+  trims_of new is Changed =
+      ap (λ (b : BaseState). b.changed) is ∙ ap (λ (t : TrimmedSteps). t.changed) counts
+  trims_of new is Refused =
+      ap (λ (b : BaseState). b.refused) is ∙ ap (λ (t : TrimmedSteps). t.refused) counts
+
+-- a checkpoint, as contracts see the states before and after it
+pub checkpoint_seen : {T : Type 0} {S : State T} {old : SharedState T} (log after : LogState)
+    → record { state = S; base = log.base; history = log.steps } ≡ old → after.steps ≡ []
+    → plain_of after.base ≡ plain S → after.base.rows ≡ rows_of S
+    → Trims log.base log.steps after.base
+    → IsCheckpoint old (record { state = S; base = after.base; history = after.steps })
+checkpoint_seen {S = S} log after view none told rows trims =
+    subst (λ o. IsCheckpoint o (record { state = S; base = after.base; history = after.steps }))
+    view (record { state = refl; history = none; told = told; rows = rows; trims = trims })

@@ -1,0 +1,64 @@
+-- The history is empty after it, and the books are right on the new base.
+use Rattle.std.proofs.Common.{◌≡◌, ℕ, List, [], ap, arith, map, refl}
+use Rattle.generational_sync.specs.Bases.{trimmed_of}
+use Rattle.generational_sync.specs.Shared.{LogState}
+use Rattle.step_records.specs.Kinds.{count}
+use Rattle.step_records.specs.Records.{unpack}
+use Rattle.step_records.specs.declared.record.Record.{Record}
+use Rattle.step_records.specs.declared.step.Kind.{Kind}
+use Rattle.step_records.specs.declared.step.Kind.TheVariants.{Made, Lent, Changed, Refused}
+use Rattle.generational_sync.proofs.log.Log.rebase.Goals as goal
+
+nothing_counted : (kind : Kind) (number : ℕ) (items : List Record) → items ≡ []
+    → 0 ≡ count kind (map (unpack number) items)
+nothing_counted kind number items none = rw none refl
+
+pub invariant_of-self-2 : goal.invariant_of-self-2
+invariant_of-self-2 g c =
+    let items = c.in_ok-chunks.ensures.items in
+    let steps = ap (λ (l : LogState). l.steps) c.self.view_is in
+    let base = ap (λ (l : LogState). l.base) c.self.view_is in
+    let books = c.self.invariant in
+    let after = c.replace-base.ensures.after in (
+      nothing_counted Made g.row.NUMBER c.empty.new.self.items items,
+      nothing_counted Lent g.row.NUMBER c.empty.new.self.items items,
+      nothing_counted Changed g.row.NUMBER c.empty.new.self.items items,
+      nothing_counted Refused g.row.NUMBER c.empty.new.self.items items,
+      omega (
+        arith,
+        ap (trimmed_of Made) after,
+        c.requires Made,
+        ap (trimmed_of Made) base,
+        ap (count Made) steps,
+        books.0,
+        books.4,
+      ),
+      omega (
+        arith,
+        ap (trimmed_of Lent) after,
+        c.requires Lent,
+        ap (trimmed_of Lent) base,
+        ap (count Lent) steps,
+        books.1,
+        books.5,
+      ),
+      omega (
+        arith,
+        ap (trimmed_of Changed) after,
+        c.requires Changed,
+        ap (trimmed_of Changed) base,
+        ap (count Changed) steps,
+        books.2,
+        books.6,
+      ),
+      omega (
+        arith,
+        ap (trimmed_of Refused) after,
+        c.requires Refused,
+        ap (trimmed_of Refused) base,
+        ap (count Refused) steps,
+        books.3,
+        books.7,
+      ),
+      omega (arith, c.in_ok-chunks.ensures.room, books.8),
+    )

@@ -1,0 +1,160 @@
+//! The base of a history: the state from which it goes on, without values.
+
+ghost use Rattle.std.specs.Prelude.{◌≡◌, ◌+◌, ◌<◌, ◌^◌, [], IfOk};
+ghost use Rattle.generational_sync.specs.Bases.{all_trimmed, new_base, trimmed_of};
+
+use generational_box::BaseRow;
+use std::alloc::{AllocError, Global};
+use std::marker::Model;
+use step_records::Kind;
+
+/// Where a kept history begins: the state of the store at its last checkpoint, without values, and
+/// how many steps of each kind were trimmed until then. A new store's base has no rows, and all its
+/// numbers but the store's own are 0.
+///
+/// The rows, the store's number, the next ticket and the peak are read back as that state: the
+/// definition is `plain_of` in this crate's `specs/Bases.antt`.
+#[derive(Debug, Drop)]
+pub struct Base {
+    number: u64,
+    next: u64,
+    peak: usize,
+    trimmed: TrimmedSteps,
+    rows: Vec<BaseRow>,
+}
+
+/// How many steps of each kind were trimmed.
+#[derive(Clone, Copy, Debug)]
+pub(crate) struct TrimmedSteps {
+    pub(crate) made: u64,
+    pub(crate) lent: u64,
+    pub(crate) changed: u64,
+    pub(crate) refused: u64,
+}
+
+impl Model for Base {
+    ghost use Rattle.std.specs.Prelude.{◌+◌, ◌<◌, ◌^◌};
+    ghost use Rattle.generational_sync.specs.Bases.{BaseState};
+
+    ghost Value = { BaseState };
+
+    ghost view = { λ b. record {
+      number = b.number;
+      next = b.next;
+      peak = b.peak;
+      made = b.trimmed.made;
+      lent = b.trimmed.lent;
+      changed = b.trimmed.changed;
+      refused = b.trimmed.refused;
+      rows = b.rows.items;
+    } };
+
+    ghost invariant = { λ b.
+        b.trimmed.made + b.trimmed.lent + b.trimmed.changed + b.trimmed.refused < 2 ^ 64 };
+}
+
+impl Base {
+    // The base of a new store with this number. Takes no memory.
+    pub(crate) fn new(alloc: Global, number: u64) -> Base
+        ensures { result ≡ new_base number }
+    {
+        let trimmed = TrimmedSteps {
+            made: 0,
+            lent: 0,
+            changed: 0,
+            refused: 0,
+        };
+        Base::of(number, 0, 0, trimmed, Vec::new(alloc))
+    }
+
+    // The base of these parts, whose counts together are below 2 ^ 64.
+    pub(crate) fn of(
+        number: u64,
+        next: u64,
+        peak: usize,
+        trimmed: TrimmedSteps,
+        rows: Vec<BaseRow>,
+    ) -> Base
+        requires { trimmed.made + trimmed.lent + trimmed.changed + trimmed.refused < 2 ^ 64 }
+        ensures { result ≡ record {
+          number = number;
+          next = next;
+          peak = peak;
+          made = trimmed.made;
+          lent = trimmed.lent;
+          changed = trimmed.changed;
+          refused = trimmed.refused;
+          rows = rows.items;
+        } }
+    {
+        Base {
+            number,
+            next,
+            peak,
+            trimmed,
+            rows,
+        }
+    }
+
+    // The same base once more.
+    pub(crate) fn copy(&self, alloc: Global) -> Result<Base, AllocError>
+        ensures { IfOk result (λ base. base ≡ self.now) }
+    {
+        let rows = Vec::from_slice(alloc, self.rows.as_slice())?;
+        Ok(Base {
+            number: self.number,
+            next: self.next,
+            peak: self.peak,
+            trimmed: self.trimmed,
+            rows,
+        })
+    }
+
+    /// The store's number. Takes no memory.
+    pub fn number(&self) -> u64
+        ensures { result ≡ self.now.number }
+    {
+        self.number
+    }
+
+    /// The next ticket, of a borrow or as an owner's key. Takes no memory.
+    pub fn next(&self) -> u64
+        ensures { result ≡ self.now.next }
+    {
+        self.next
+    }
+
+    /// How many steps were ever trimmed: of all kinds together. Takes no memory.
+    pub fn trimmed(&self) -> u64
+        ensures { result ≡ all_trimmed self.now }
+    {
+        let kinds = self.trimmed;
+        kinds.made + kinds.lent + kinds.changed + kinds.refused
+    }
+
+    /// The most cells that were live at once. Takes no memory.
+    pub fn peak(&self) -> usize
+        ensures { result ≡ self.now.peak }
+    {
+        self.peak
+    }
+
+    /// The rows, in the order in which a storage's `rows` gives them. Takes no memory.
+    pub fn rows(&self) -> &[BaseRow]
+        ensures { result.now ≡ self.now.rows }
+    {
+        self.rows.as_slice()
+    }
+
+    /// How many steps of a kind were trimmed. Takes no memory.
+    pub fn count(&self, kind: Kind) -> u64
+        ensures { result ≡ trimmed_of kind self.now }
+    {
+        match kind {
+            Kind::Made => self.trimmed.made,
+            Kind::Lent => self.trimmed.lent,
+            Kind::Changed => self.trimmed.changed,
+            Kind::Refused => self.trimmed.refused,
+        }
+    }
+}
