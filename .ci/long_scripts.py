@@ -15,8 +15,6 @@ import sys
 import tempfile
 
 READ = "error: Failed to borrow mutably because the value was already borrowed immutably.borrowed_at:"
-# The processor time of a script, in seconds.
-SECONDS = 15
 
 
 class Failure(Exception):
@@ -80,15 +78,25 @@ def from_the_middle(items):
     return [it for pair in zip(above, below) for it in pair] + above[len(below):]
 
 
-def many_readers():
-    """100,000 readers of one cell, released from the middle."""
+def many_readers(order):
+    """100,000 readers of one cell, released in this order."""
     script = Script()
     box = script.call("leak a", "box 0@1")
     readers = [script.call(f"try_read {box}", "reader") for _ in range(100_000)]
-    for reader in from_the_middle(readers):
+    for reader in order(readers):
         script.call(f"release {reader}", "ok")
     script.call(f"can_write {box}", "true")
     return script
+
+
+def readers_from_the_last():
+    """Each is found without a look at the others."""
+    return many_readers(reversed)
+
+
+def readers_from_the_middle():
+    """Each moves at most half of the others."""
+    return many_readers(from_the_middle)
 
 
 def owners():
@@ -122,10 +130,18 @@ def slots():
     return script
 
 
-SCRIPTS = [readers_beside_each_other, tickets, many_readers, owners, slots]
+# The scripts, with the seconds of processor time that each has.
+SCRIPTS = [
+    (readers_beside_each_other, 2),
+    (tickets, 2),
+    (readers_from_the_last, 2),
+    (readers_from_the_middle, 15),
+    (owners, 2),
+    (slots, 2),
+]
 
 
-def run(program, script, limit=SECONDS):
+def run(program, script, limit):
     """Compares all replies, and answers how many seconds of processor time they took."""
 
     def set_limit():
@@ -154,10 +170,10 @@ def find_out(what, program, script):
 
 def main(path):
     program = [os.path.abspath(path)]
-    for make in SCRIPTS:
+    for make, limit in SCRIPTS:
         script = make()
         try:
-            seconds = run(program, script)
+            seconds = run(program, script, limit)
         except Failure as failure:
             raise Failure(f"{make.__name__}: {failure}") from failure
         print(f"{make.__name__}: {len(script.commands)} lines, {seconds:.1f} seconds")
