@@ -1,0 +1,4 @@
+pub mod Entities
+pub mod Kept
+pub mod Rows
+pub mod Tables
