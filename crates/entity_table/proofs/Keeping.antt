@@ -28,7 +28,7 @@ use Rattle.generational_core.proofs.machine.Ends.{some_live}
 use Rattle.generational_core.proofs.machine.Leaving.{same_reach, same_value}
 use Rattle.generational_core.proofs.machine.Resting.{free_sees}
 use Rattle.generational_core.proofs.machine.Seeing.{led_box, reaches}
-use Rattle.generational_core.proofs.machine.Stepping.{meets_sound}
+use Rattle.generational_core.proofs.machine.Stepping.{meets_number, meets_sound}
 use Rattle.generational_core.proofs.machine.Unborrowed.{quiet_free, quiet_fresh, quiet_read, quiet_sees, quiet_stays}
 use Rattle.generational_core.proofs.maps.Maps.{by_number, key_cases, name_cases}
 use Rattle.generational_sessions.proofs.callers.PlainStores.{fresh_plain, stays_plain}
@@ -103,7 +103,7 @@ module _ {T : Type 0} where
       let to = seen_reach S b seen in
       (led_box _ (name_of b) to.0 (reaches S b to.0 to.1).leads).0
 
-  seen_store : (S : State T) (b : GenerationalPointer) → IsSound S → IsSeen S b
+  pub seen_store : (S : State T) (b : GenerationalPointer) → IsSound S → IsSeen S b
       → b.id.store ≡ S.number
   seen_store S b s seen = let to = seen_reach S b seen in (reached_boxed S b to.0 s to.1).0
 
@@ -140,6 +140,32 @@ module _ {T : Type 0} where
   one_id S a b s seen saw same =
       let store = seen_store S a s seen ∙ sym (seen_store S b s saw) in
       λ i. record { store = store i; slot = (same i).slot; generation = (same i).generation }
+
+  -- a box of another store sees nothing, so a call that leaves each box of another name leaves each
+  -- of another id
+  foreign : (S : State T) (b : GenerationalPointer) → IsSound S → b.id.store ≢ S.number
+      → value_in S b ≡ None
+  foreign S b s other = at (value_in S b) refl
+    where
+      at : (v : Option T) → value_in S b ≡ v → value_in S b ≡ None
+      at None is = is
+      at (Some v) is = absurd (other (seen_store S b s (ap is_some is)))
+
+  pub others_left : {S R : State T} (call : Action T) (answer : Answer T) → IsSound S
+      → Meets S call answer R → (a b : GenerationalPointer) → a.id.store ≡ S.number
+      → (name_of a ≢ name_of b → value_in R b ≡ value_in S b) → a.id ≢ b.id
+      → value_in R b ≡ value_in S b
+  others_left {S} {R} call answer s m a b own left other = ⊎_elim
+      (λ same. let apart : b.id.store ≢ S.number = λ store. other
+      (let e = own ∙ sym store in λ i. record {
+        store = e i;
+        slot = (same i).slot;
+        generation = (same i).generation;
+      }) in
+      foreign R b (meets_sound S R call answer s m)
+      (λ store. apart (store ∙ meets_number S R call answer m))
+      ∙ sym (foreign S b s apart))
+      left (name_cases (name_of a) (name_of b))
 
   -- ---- the rows
 
@@ -249,14 +275,14 @@ module _ {T : Type 0} where
   }
 
   -- a set leaves which boxes see a value
-  pub set_seen : {S R : State T} → IsSound S → IsSimple S → (a : GenerationalPointer) (v old : T)
+  pub set_seen : {S R : State T} → IsSound S → IsUnborrowed S → (a : GenerationalPointer) (v old : T)
       → Meets S (SetValue a v) (Old old) R → (b : GenerationalPointer)
       → is_some (value_in R b) ≡ is_some (value_in S b)
-  set_seen {S} {R} s k a v old m b =
+  set_seen {S} {R} s quiet a v old m b =
       let answer : Answer T = Old old in
-      let after = quiet_stays (SetValue a v) answer m tt k.unborrowed in
+      let after = quiet_stays (SetValue a v) answer m tt quiet in
       let reached = same_reach S R (SetValue a v) answer s m b tt tt in
-      reached_alike S R b s (meets_sound S R (SetValue a v) answer s m) k.unborrowed after reached
+      reached_alike S R b s (meets_sound S R (SetValue a v) answer s m) quiet after reached
 
   module _ {S R : State T} (s : IsSound S) {rows : List (Entity T)} {places : List ℕ}
       (k : IsKept S rows places) where

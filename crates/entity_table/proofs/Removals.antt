@@ -92,13 +92,12 @@ module _ {X : Type 0} where
       ∙ (get_set_here xs i last (omega (arith, lt)) ∙ (sym (slice_get-get_or xs n d (omega (arith, lt))) ∙ is))
 
   -- a removal takes one row, and where there is no last one there is none
-  pub removed_shorter : (xs : List X) (i : ℕ) (d : X) → i < length xs
-      → length (swap_remove xs i d) < length xs
-  removed_shorter xs i d lt =
+  pub removed_length : (xs : List X) (i : ℕ) (d : X) → length (swap_remove xs i d) ≡ length xs - 1
+  removed_length xs i d =
       let n = length xs - 1 in
       let is = length-take n (slice_set xs i (slice_index_or xs n d)) in
       let same = length-set xs i (slice_index_or xs n d) in
-      omega (arith, is, same, lt)
+      omega (arith, is, same)
 
   pub none_last : (xs : List X) → slice_get xs (length xs - 1) ≡ None → xs ≡ []
   none_last [] none = refl

@@ -1,7 +1,6 @@
 -- Handles of entities: the box of each, and which are of one entity.
 use Rattle.std.specs.Prelude.{◌≡◌, ◌≢◌, ℕ}
 use Rattle.generational_core.specs.Answers.{pointer_of}
-use Rattle.generational_core.specs.Boxes.{name_of}
 use Rattle.generational_core.specs.declared.boxes.GenerationalPointer.{GenerationalPointer}
 use Rattle.generational_core.specs.declared.error.Location.{Location}
 use Rattle.entity_table.specs.declared.entity.Entity.{Entity}
@@ -22,4 +21,4 @@ module _ {T : Type 0} where
   IsSame a b = (pointer_in a).id ≡ (pointer_in b).id
 
   abbrev pub IsOther : Entity T → Entity T → Type 0
-  IsOther a b = name_of (pointer_in a) ≢ name_of (pointer_in b)
+  IsOther a b = (pointer_in a).id ≢ (pointer_in b).id

@@ -1,3 +1,4 @@
+pub mod Components
 pub mod Entities
 pub mod Kept
 pub mod Rows

@@ -7,9 +7,11 @@
 //! says what every entity shows afterwards.
 #![tactic(auto)]
 
+mod components;
 mod entity;
 mod rows;
 mod table;
 
+pub use crate::components::ComponentTable;
 pub use crate::entity::{Entity, EntityError, Stale};
 pub use crate::table::EntityTable;

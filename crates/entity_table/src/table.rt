@@ -1,8 +1,8 @@
 //! Tables of entities.
 
-ghost use Rattle.std.specs.Prelude.{◌≡◌, ◌↔◌, ◌⊎◌, ◌-◌, ◌++◌, ◌∷◌, [], ℕ, length, None, Some, Err, is_some};
+ghost use Rattle.std.specs.Prelude.{◌≡◌, ◌↔◌, ◌⊎◌, ◌<◌, ◌+◌, ◌-◌, ◌++◌, ◌∷◌, [], ℕ, true, length, None, Some, Err, is_some};
 ghost use Rattle.std.specs.Prelude.{IfOk, OnOk, IfErr, OnErr, IsErr, swap_remove, slice_get};
-ghost use Rattle.std.specs.Fn.{FnOnceReturnsAt};
+ghost use Rattle.std.specs.Fn.{FnOnceReturnsAt, FnReturnsAt};
 ghost use Rattle.generational_core.specs.Borrowing.{take_ticket};
 ghost use Rattle.generational_core.specs.Conditions.{IsFresh};
 ghost use Rattle.generational_core.specs.Steps.{last_ticket};
@@ -12,9 +12,10 @@ ghost use Rattle.entity_table.specs.declared.entity.Entity.{Entity};
 ghost use Rattle.entity_table.specs.declared.entity.EntityError.TheVariants as error;
 ghost use Rattle.entity_table.specs.Entities.{spawned_at, IsOther, IsSame};
 ghost use Rattle.entity_table.specs.Tables.{TableState, element_in, WasSpawned, IsDense};
+ghost use Rattle.entity_table.specs.Tables.{IsSifted, Sifts};
 
 use crate::entity::{Entity, EntityError, Stale};
-use crate::rows::{remove_row, reserve_row};
+use crate::rows::{entity_at, remove_row, reserve_row};
 use generational_core::{GenerationalBox, Location, Refusal, Storage, StoreError};
 use std::alloc::Global;
 use std::marker::Model;
@@ -107,6 +108,7 @@ impl<T, S: Storage<T>> EntityTable<T, S> {
         ensures kept { (f : Entity T) → WasSpawned self.old f → WasSpawned self.new f }
         ensures stale { IsErr result ↔ element_in self.old entity ≡ None }
         ensures told { IfErr result (λ stale. stale.spawned_at ≡ spawned_at entity) }
+        ensures ticket { self.new.state.next ≡ self.old.state.next }
         ensures refused { OnErr result (self.new ≡ self.old) }
     {
         if !entity.raw.can_write(&self.store) {
@@ -213,6 +215,74 @@ impl<T, S: Storage<T>> EntityTable<T, S> {
         self.rows.as_slice()
     }
 
+    /// Ends each entity whose element fails a test, which is asked once of each. Every other entity
+    /// shows what it showed.
+    ///
+    /// Refused by `NumbersExhausted` alone, where fewer tickets are left than there are entities:
+    /// each is looked at. The test isn't asked then, and the table stays as it was. Takes no memory,
+    /// and is O(n).
+    pub fn retain<F: Fn(&T) -> bool>(&mut self, here: Location, test: F) -> Result<(), StoreError>
+        requires { F.IsAlwaysCallable test }
+        ensures sifted { OnOk result ((e : Entity T) (v : T) →
+            element_in self.old e ≡ Some v →
+            IsSifted (FnReturnsAt F.Fn test) v (element_in self.new e)) }
+        ensures none { (e : Entity T) → element_in self.old e ≡ None →
+            element_in self.new e ≡ None }
+        ensures kept { (f : Entity T) → WasSpawned self.old f → WasSpawned self.new f }
+        ensures short { IfErr result (λ cause. (cause ≡ NumbersExhausted)
+            × (last_ticket < self.old.state.next + length self.old.rows)) }
+        ensures refused { OnErr result (self.new ≡ self.old) }
+    {
+        let mut row = self.rows.len();
+        if self.store.tickets_left() < row as u64 {
+            return Err(StoreError::NumbersExhausted);
+        }
+        while row > 0 {
+            row -= 1;
+            self.sift_row(row, here, &test);
+        }
+        // The rows are dense now, as at any time.
+        let _ = &self.rows;
+        Ok(())
+    }
+
+    // Ends the entity of a row where it fails a test. The rows behind it were tested.
+    fn sift_row<F: Fn(&T) -> bool>(&mut self, row: usize, here: Location, test: &F)
+        requires callable { F.IsAlwaysCallable test.now }
+        requires within { row < length self.old.rows }
+        requires ticket { self.old.state.next < last_ticket }
+        ensures { (first : TableState T) →
+            Sifts (FnReturnsAt F.Fn test.now) first self.old (row + 1) →
+            Sifts (FnReturnsAt F.Fn test.now) first self.new row }
+    {
+        let Some(entity) = self.at(row) else {
+            unreachable!();
+        };
+        if self.passes(entity, here, test) {
+            return;
+        }
+        match self.despawn(entity) {
+            Ok(()) => {}
+            Err(_) => unreachable!(),
+        }
+    }
+
+    // Whether a live entity passes a test.
+    fn passes<F: Fn(&T) -> bool>(&mut self, entity: Entity<T>, here: Location, test: &F) -> bool
+        requires callable { F.IsAlwaysCallable test.now }
+        requires live { is_some (element_in self.old entity) ≡ true }
+        requires ticket { self.old.state.next < last_ticket }
+        ensures answer { (v : T) × (element_in self.old entity ≡ Some v)
+            × FnReturnsAt F.Fn test.now v result }
+        ensures same { (e : Entity T) → element_in self.new e ≡ element_in self.old e }
+        ensures ticket { self.new ≡ record self.old { state = take_ticket self.old.state } }
+    {
+        match self.get(entity, here, test) {
+            Ok(answer) => answer,
+            Err(_) => unreachable!(),
+        }
+    }
+
     /// Ends all entities and their elements. Never refused; takes no memory, and is O(n).
     pub fn clear(&mut self)
         ensures gone { (e : Entity T) → element_in self.new e ≡ None }
@@ -233,5 +303,13 @@ impl<T, S: Storage<T>> EntityTable<T, S> {
         ensures dense { IsDense self.now }
     {
         self.rows.last().copied()
+    }
+
+    // The entity of a row.
+    fn at(&self, row: usize) -> Option<Entity<T>>
+        ensures row { result ≡ slice_get self.now.rows row }
+        ensures dense { IsDense self.now }
+    {
+        entity_at(&self.rows, row)
     }
 }

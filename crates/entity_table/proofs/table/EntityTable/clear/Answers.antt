@@ -1,7 +1,8 @@
-use Rattle.std.proofs.Common.{sym, subst, ◌∙◌, ◌<◌, length}
+use Rattle.std.proofs.Common.{ap, arith, length, sym, ◌∙◌, ◌≡◌, ◌<◌}
+use Rattle.std.specs.Prelude.{◌-◌}
 use Rattle.std.proofs.lemmas.Option.{slice_get_within}
 use Rattle.entity_table.proofs.Keeping.{dense_empty}
-use Rattle.entity_table.proofs.Removals.{none_last, removed_shorter}
+use Rattle.entity_table.proofs.Removals.{none_last, removed_length}
 use Rattle.entity_table.proofs.table.EntityTable.clear.Goals as goal
 
 pub loop-last-init : goal.loop-last-init
@@ -10,9 +11,10 @@ loop-last-init g c = λ f given. given
 pub loop-last-smaller : goal.loop-last-smaller
 loop-last-smaller g c =
     let row = c.in-Ok.ensures.row in
-    let shorter = removed_shorter c.loop-last.self.rows row.0 row.1
-    (slice_get_within _ _ _ row.3) in
-    subst (λ rows. length rows < length c.loop-last.self.rows) (sym row.4) shorter
+    let within : row.0 < length c.loop-last.self.rows = slice_get_within _ _ _ row.3 in
+    let less : length c.despawn.new.self.rows ≡ length c.loop-last.self.rows - 1 =
+    ap length row.4 ∙ removed_length _ row.0 row.1 in
+    omega (arith, within, less)
 
 pub loop-last-preserved : goal.loop-last-preserved
 loop-last-preserved g c = λ f given. c.in-Ok.ensures.kept f (c.loop-last.invariant f given)

@@ -5,8 +5,9 @@ use Rattle.std.specs.Prelude.{is_some}
 use Rattle.generational_core.proofs.machine.Calling.{ends, unseen}
 use Rattle.generational_core.proofs.machine.Leaving.{same_value}
 use Rattle.generational_core.proofs.machine.Unborrowed.{quiet_ends}
-use Rattle.entity_table.specs.Entities.{slot_in}
-use Rattle.entity_table.proofs.Keeping.{free_seen, kept_removed, row_is, row_within, stands, stands_same, stuck_unseen}
+use Rattle.generational_sessions.proofs.callers.Lacking.{ended_next}
+use Rattle.entity_table.specs.Entities.{pointer_in, slot_in}
+use Rattle.entity_table.proofs.Keeping.{free_seen, kept_removed, others_left, seen_store, row_is, row_within, stands, stands_same, stuck_unseen}
 use Rattle.entity_table.proofs.table.EntityTable.despawn.Goals as goal
 
 pub returns-then-not-can_write-clause-gone : goal.returns-then-not-can_write-clause-gone
@@ -55,8 +56,12 @@ pub returns-clause-gone : goal.returns-clause-gone
 returns-clause-gone g c = unseen _ _ (ends _ {U = Unit {0}} (Ok tt) c.in-Ok.ensures)
 
 pub returns-clause-others : goal.returns-clause-others
-returns-clause-others g c f other = rw (← c.self.view_is)
-    (same_value _ _ _ _ (g.met.S.AnyStorage.sound _) c.in-Ok.ensures _ other tt)
+returns-clause-others g c f other =
+    let sound = g.met.S.AnyStorage.sound in
+    let seen = free_seen _ (sound _) c.self.invariant.simple c.can_write.ensures
+    c.if-not-can_write.false in
+    rw (← c.self.view_is) (others_left _ _ (sound _) c.in-Ok.ensures (pointer_in c.args.entity) (pointer_in f)
+    (seen_store _ _ (sound _) seen) (λ ne. same_value _ _ _ _ (sound _) c.in-Ok.ensures _ ne tt) other)
 
 pub returns-clause-row : goal.returns-clause-row
 returns-clause-row g c =
@@ -73,3 +78,6 @@ returns-clause-stale g c = rw (← c.self.view_is) (
   λ none. absurd (true≢false (sym (free_seen _ (g.met.S.AnyStorage.sound _)
       c.self.invariant.simple c.can_write.ensures c.if-not-can_write.false) ∙ ap is_some none)),
 )
+
+pub returns-clause-ticket : goal.returns-clause-ticket
+returns-clause-ticket g c = rw (← c.self.view_is) (ended_next _ _ c.in-Ok.ensures)

@@ -5,7 +5,9 @@ use Rattle.generational_core.proofs.machine.Refusing.{refused_make}
 use Rattle.generational_core.proofs.machine.Stepping.{made_new, meets_given}
 use Rattle.generational_core.specs.Slots.{slots}
 use Rattle.entity_table.specs.Kept.{IsKept}
-use Rattle.entity_table.proofs.Keeping.{kept_reserved, kept_spawned}
+use Rattle.generational_core.specs.Answers.{pointer_of}
+use Rattle.entity_table.specs.Entities.{pointer_in}
+use Rattle.entity_table.proofs.Keeping.{kept_reserved, kept_spawned, others_left}
 use Rattle.entity_table.proofs.table.EntityTable.spawn.Goals as goal
 
 pub invariant_of-self : goal.invariant_of-self
@@ -35,8 +37,11 @@ pub returns-clause-shown : goal.returns-clause-shown
 returns-clause-shown g c = made None _ _ (Ok c.in_ok-raw.raw) c.in_ok-raw.ensures.step
 
 pub returns-clause-others : goal.returns-clause-others
-returns-clause-others g c f other = rw (← c.self.view_is)
-    (same_value _ _ _ _ (g.met.S.AnyStorage.sound _) c.in_ok-raw.ensures.step _ tt other)
+returns-clause-others g c f other =
+    let sound = g.met.S.AnyStorage.sound in
+    let step = c.in_ok-raw.ensures.step in
+    rw (← c.self.view_is) (others_left _ _ (sound _) step (pointer_of c.in_ok-raw.raw) (pointer_in f) (made_new _ _ _ _ step).0
+    (same_value _ _ _ _ (sound _) step _ tt) other)
 
 pub returns-clause-spawned : goal.returns-clause-spawned
 returns-clause-spawned g c = (made_new _ _ _ _ c.in_ok-raw.ensures.step).2
