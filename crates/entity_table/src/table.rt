@@ -68,6 +68,8 @@ impl<T, S: Storage<T>> EntityTable<T, S> {
         ensures shown { IfOk result (λ e. element_in self.new e ≡ Some element) }
         ensures others { IfOk result (λ e. (f : Entity T) → IsOther e f →
             element_in self.new f ≡ element_in self.old f) }
+        ensures left { (f : Entity T) → WasSpawned self.old f →
+            element_in self.new f ≡ element_in self.old f }
         ensures new { IfOk result (λ e. WasSpawned self.old e → ⊥) }
         ensures spawned { IfOk result (λ e. WasSpawned self.new e) }
         ensures here { IfOk result (λ e. spawned_at e ≡ here) }

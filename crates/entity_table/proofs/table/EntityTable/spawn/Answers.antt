@@ -1,12 +1,13 @@
 use Rattle.std.proofs.Common.{rules, arith, None, Ok, Err, sym, subst, ◌<◌, ◌≡◌, length}
 use Rattle.generational_core.proofs.machine.Calling.{made}
-use Rattle.generational_core.proofs.machine.Leaving.{same_value}
+use Rattle.generational_core.proofs.machine.Leaving.{given_other, same_value}
 use Rattle.generational_core.proofs.machine.Refusing.{refused_make}
 use Rattle.generational_core.proofs.machine.Stepping.{made_new, meets_given}
 use Rattle.generational_core.specs.Slots.{slots}
 use Rattle.entity_table.specs.Kept.{IsKept}
 use Rattle.generational_core.specs.Answers.{pointer_of}
 use Rattle.entity_table.specs.Entities.{pointer_in}
+use Rattle.entity_table.specs.Tables.{TableState, WasSpawned}
 use Rattle.entity_table.proofs.Keeping.{kept_reserved, kept_spawned, others_left}
 use Rattle.entity_table.proofs.table.EntityTable.spawn.Goals as goal
 
@@ -42,6 +43,12 @@ returns-clause-others g c f other =
     let step = c.in_ok-raw.ensures.step in
     rw (← c.self.view_is) (others_left _ _ (sound _) step (pointer_of c.in_ok-raw.raw) (pointer_in f) (made_new _ _ _ _ step).0
     (same_value _ _ _ _ (sound _) step _ tt) other)
+
+pub returns-clause-left : goal.returns-clause-left
+returns-clause-left g c f given =
+    let step = c.in_ok-raw.ensures.step in
+    rw (← c.self.view_is) (same_value _ _ _ _ (g.met.S.AnyStorage.sound _) step _ tt
+    (given_other _ _ _ _ (pointer_in f) step (subst (λ (t : TableState _). WasSpawned t f) (sym c.self.view_is) given)))
 
 pub returns-clause-spawned : goal.returns-clause-spawned
 returns-clause-spawned g c = (made_new _ _ _ _ c.in_ok-raw.ensures.step).2
