@@ -35,7 +35,7 @@ use Rattle.generational_sessions.proofs.callers.PlainStores.{fresh_plain, stays_
 use Rattle.generational_sessions.specs.PlainStores.{MakesNoReference}
 use Rattle.entity_table.specs.declared.entity.Entity.{Entity}
 use Rattle.entity_table.specs.Entities.{pointer_in, slot_in, IsSame}
-use Rattle.entity_table.specs.Kept.{IsSimple, IsKept}
+use Rattle.entity_table.specs.Keeping.{IsSimple, IsKept}
 use Rattle.entity_table.specs.Rows.{ArePlaced, KeepsPlaces}
 use Rattle.entity_table.specs.Tables.{TableState, IsDense}
 use Rattle.entity_table.proofs.Lasts.{fresh_last, made_last, making, slot_apart, slot_within, stays_last}

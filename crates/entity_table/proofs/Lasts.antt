@@ -26,7 +26,7 @@ use Rattle.generational_core.proofs.machine.Soundness.{live_before}
 use Rattle.generational_core.proofs.machine.Stepping.{act_start, meets_cases, meets_follows}
 use Rattle.generational_core.proofs.maps.Maps.{by_name, by_number, get-insert_apart, get-insert_here}
 use Rattle.generational_core.proofs.maps.Maps.{name_cases}
-use Rattle.entity_table.specs.Kept.{AreLast}
+use Rattle.entity_table.specs.Keeping.{AreLast}
 
 module _ {T : Type 0} where
   -- ---- the slot of a new cell

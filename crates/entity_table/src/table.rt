@@ -34,7 +34,7 @@ impl<T, S: Storage<T>> Model for EntityTable<T, S> {
     ghost use Rattle.std.specs.Coded.{codes};
     ghost use Rattle.std.specs.FinMap as map;
     ghost use Rattle.entity_table.specs.Tables.{TableState};
-    ghost use Rattle.entity_table.specs.Kept.{IsKept};
+    ghost use Rattle.entity_table.specs.Keeping.{IsKept};
 
     ghost Value = { TableState T };
 

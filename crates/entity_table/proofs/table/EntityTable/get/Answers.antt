@@ -7,7 +7,7 @@ use Rattle.generational_core.proofs.machine.Refusing.{refused_free_read}
 use Rattle.generational_core.proofs.machine.Resting.{free_reads}
 use Rattle.generational_sessions.proofs.callers.Lacking.{free_read_lacks}
 use Rattle.entity_table.specs.declared.entity.EntityError.TheVariants as error
-use Rattle.entity_table.specs.Kept.{IsKept}
+use Rattle.entity_table.specs.Keeping.{IsKept}
 use Rattle.entity_table.proofs.Keeping.{free_seen, kept_still, same_rows, simple_read, stuck_unseen}
 use Rattle.entity_table.proofs.table.EntityTable.get.Goals as goal
 

@@ -4,7 +4,7 @@ use Rattle.generational_core.proofs.machine.Leaving.{given_other, same_value}
 use Rattle.generational_core.proofs.machine.Refusing.{refused_make}
 use Rattle.generational_core.proofs.machine.Stepping.{made_new, meets_given}
 use Rattle.generational_core.specs.Slots.{slots}
-use Rattle.entity_table.specs.Kept.{IsKept}
+use Rattle.entity_table.specs.Keeping.{IsKept}
 use Rattle.generational_core.specs.Answers.{pointer_of}
 use Rattle.entity_table.specs.Entities.{pointer_in}
 use Rattle.entity_table.specs.Tables.{TableState, WasSpawned}
