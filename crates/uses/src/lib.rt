@@ -4,6 +4,7 @@
 pub mod asking;
 pub mod clones;
 pub mod conditions;
+pub mod entities;
 pub mod kinds;
 pub mod leaving;
 pub mod owned;

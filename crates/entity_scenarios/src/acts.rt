@@ -1,0 +1,139 @@
+//! What is done to a table of entities, one act a line, with what must come of it.
+
+use entity_table::{Entity, EntityError, EntityTable, Stale};
+use generational_box::{Location, Storage};
+use std::alloc::Global;
+use std::process::Abort;
+
+/// An act. Entities are named by the order in which they were spawned, from 0.
+#[derive(Clone, Copy)]
+pub(crate) enum Act {
+    Spawn(u64),
+    Despawn(usize),
+    Set(usize, u64),
+    /// Keeps the entities whose elements are below a number.
+    Retain(u64),
+    Clear,
+}
+
+/// An act, with what must come of it.
+#[derive(Clone, Copy)]
+pub(crate) struct Line {
+    pub(crate) act: Act,
+    /// Whether it is carried out. Only a stale entity's isn't.
+    pub(crate) done: bool,
+    /// The entities of the rows afterwards.
+    pub(crate) rows: &'static [usize],
+    /// What each entity shows afterwards, in the order in which they were spawned.
+    pub(crate) shows: &'static [Option<u64>],
+}
+
+/// Where an entity is spawned: each at a line of its own, by its number.
+pub(crate) fn spawned_at(number: usize) -> Location {
+    Location::new("e.rs", u32::try_from(number).unwrap_or(0), 1)
+}
+
+/// Where an element is looked at.
+pub(crate) fn looked_at() -> Location {
+    Location::new("l.rs", 1, 1)
+}
+
+/// Does each line's act to a table, and sees what comes of it.
+pub(crate) fn play<S: Storage<u64>>(
+    rt: &impl Abort,
+    alloc: Global,
+    table: &mut EntityTable<u64, S>,
+    lines: &[Line],
+) {
+    let mut entities = Vec::new(alloc);
+    for line in lines {
+        assert_eq!(rt; carries_out(rt, table, &mut entities, line.act), line.done);
+        stands(rt, table, &entities, line.rows);
+        shows(rt, table, &entities, line.shows);
+    }
+}
+
+/// Does an act, and says whether it was carried out.
+fn carries_out<S: Storage<u64>>(
+    rt: &impl Abort,
+    table: &mut EntityTable<u64, S>,
+    entities: &mut Vec<Entity<u64>>,
+    act: Act,
+) -> bool {
+    match act {
+        Act::Spawn(element) => {
+            let spawned = table.spawn(element, spawned_at(entities.len()));
+            let entity = spawned
+                .map_err(|refusal| refusal.cause)
+                .expect(rt, "an entity");
+            entities.push(entity).is_ok()
+        }
+        Act::Despawn(number) => {
+            let entity = entity_at(rt, entities, number);
+            told(rt, table.despawn(entity), number)
+        }
+        Act::Set(number, element) => {
+            let entity = entity_at(rt, entities, number);
+            let answer = table.set(entity, element);
+            let answer = answer.map_err(|(back, stale)| {
+                assert_eq!(rt; back, element);
+                stale
+            });
+            told(rt, answer, number)
+        }
+        Act::Retain(bound) => table
+            .retain(looked_at(), |element| *element < bound)
+            .is_ok(),
+        Act::Clear => {
+            table.clear();
+            true
+        }
+    }
+}
+
+/// An entity by its number.
+fn entity_at(rt: &impl Abort, entities: &[Entity<u64>], number: usize) -> Entity<u64> {
+    entities.get(number).copied().expect(rt, "an entity")
+}
+
+/// Whether an answer is Ok. An error tells where the entity was spawned.
+fn told(rt: &impl Abort, answer: Result<(), Stale>, number: usize) -> bool {
+    match answer {
+        Ok(()) => true,
+        Err(stale) => {
+            assert_eq!(rt; stale.spawned_at, spawned_at(number));
+            false
+        }
+    }
+}
+
+/// Sees which entities stand in the rows.
+fn stands<S: Storage<u64>>(
+    rt: &impl Abort,
+    table: &EntityTable<u64, S>,
+    entities: &[Entity<u64>],
+    rows: &[usize],
+) {
+    assert_eq!(rt; table.len(), rows.len());
+    for (entity, number) in table.entities().iter().zip(rows) {
+        assert_eq!(rt; entity.id(), entity_at(rt, entities, *number).id());
+    }
+}
+
+/// Sees what each entity shows.
+fn shows<S: Storage<u64>>(
+    rt: &impl Abort,
+    table: &mut EntityTable<u64, S>,
+    entities: &[Entity<u64>],
+    shows: &[Option<u64>],
+) {
+    assert_eq!(rt; entities.len(), shows.len());
+    let mut number: usize = 0;
+    for (entity, shown) in entities.iter().zip(shows) {
+        assert_eq!(rt; table.is_alive(*entity), shown.is_some());
+        let stale = EntityError::Stale(spawned_at(number));
+        let answer = table.get(*entity, looked_at(), |element| *element);
+        assert_eq!(rt; answer, shown.ok_or(stale));
+        number = number.wrapping_add(1);
+    }
+}

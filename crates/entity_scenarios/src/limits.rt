@@ -1,0 +1,145 @@
+//! Tables of components, and tables whose store has given all its tickets.
+
+use crate::acts::{looked_at, spawned_at};
+use entity_table::{ComponentTable, Entity, EntityError, EntityTable};
+use generational_box::{Numbers, Storage, Store, StoreError, UnsyncStorage};
+use std::alloc::Global;
+use std::process::Abort;
+use uses::entities::told_after;
+
+/// A table of entities over a store.
+fn entities_over<S: Storage<u64>>(rt: &impl Abort, alloc: Global, store: S) -> EntityTable<u64, S> {
+    assert!(rt; store.is_fresh());
+    EntityTable::new(alloc, store)
+}
+
+/// A table of components over a store.
+fn components_over<S: Storage<u64>>(
+    rt: &impl Abort,
+    alloc: Global,
+    store: S,
+) -> ComponentTable<u64, u64, S> {
+    assert!(rt; store.is_fresh());
+    ComponentTable::new(alloc, store)
+}
+
+/// Spawns an entity.
+fn spawn<S: Storage<u64>>(
+    rt: &impl Abort,
+    table: &mut EntityTable<u64, S>,
+    number: usize,
+) -> Entity<u64> {
+    table
+        .spawn(0, spawned_at(number))
+        .map_err(|refusal| refusal.cause)
+        .expect(rt, "an entity")
+}
+
+/// Gives an entity a component.
+fn give<S: Storage<u64>>(
+    rt: &impl Abort,
+    table: &mut ComponentTable<u64, u64, S>,
+    entity: Entity<u64>,
+    component: u64,
+) {
+    assert!(rt; table.insert(entity, component, looked_at()).is_ok());
+}
+
+/// Sees what component an entity has.
+fn has<S: Storage<u64>>(
+    rt: &impl Abort,
+    table: &mut ComponentTable<u64, u64, S>,
+    entity: Entity<u64>,
+    component: Option<u64>,
+) {
+    assert_eq!(rt; table.contains(entity), component.is_some());
+    assert_eq!(rt; table.get(entity, looked_at(), |seen| *seen), Ok(component));
+}
+
+/// Two entities with components, of which one goes and another takes its slot.
+fn components_follow<S: Storage<u64>, C: Storage<u64>>(
+    rt: &impl Abort,
+    entities: &mut EntityTable<u64, S>,
+    components: &mut ComponentTable<u64, u64, C>,
+) {
+    let first = spawn(rt, entities, 0);
+    let second = spawn(rt, entities, 1);
+    give(rt, components, first, 11);
+    has(rt, components, second, None);
+    give(rt, components, second, 12);
+    give(rt, components, first, 13);
+    has(rt, components, first, Some(13));
+    assert!(rt; entities.despawn(first).is_ok());
+    let third = spawn(rt, entities, 2);
+    has(rt, components, third, None);
+    has(rt, components, first, Some(13));
+    give(rt, components, third, 14);
+    has(rt, components, first, None);
+    has(rt, components, third, Some(14));
+    assert!(rt; !components.remove(first));
+    assert!(rt; components.remove(third));
+    assert!(rt; !components.remove(third));
+    has(rt, components, third, None);
+    has(rt, components, second, Some(12));
+}
+
+#[test]
+fn components_are_those_of_their_entities(rt: HostRuntime) {
+    let alloc = rt.alloc();
+    let store: UnsyncStorage<u64> = Store::new(alloc, 1);
+    let mut entities = entities_over(&rt, alloc, store);
+    let parts: UnsyncStorage<u64> = Store::new(alloc, 2);
+    let mut components = components_over(&rt, alloc, parts);
+    components_follow(&rt, &mut entities, &mut components);
+}
+
+/// An entity that goes, and one that comes.
+fn stale_is_told<S: Storage<u64>>(rt: &impl Abort, table: &mut EntityTable<u64, S>) {
+    let first = match table.spawn(0, spawned_at(3)) {
+        Ok(entity) => entity,
+        Err(_lacking) => rt.abort(),
+    };
+    let told = Err(EntityError::Stale(spawned_at(3)));
+    assert_eq!(rt; told_after(table, first, 4, looked_at()), told);
+    assert_eq!(rt; table.len(), 1);
+}
+
+#[test]
+fn a_caller_is_told_what_is_stale(rt: HostRuntime) {
+    let alloc = rt.alloc();
+    let store: UnsyncStorage<u64> = Store::new(alloc, 1);
+    let mut table = entities_over(&rt, alloc, store);
+    stale_is_told(&rt, &mut table);
+}
+
+/// Two entities, and one look that is left.
+fn looks_run_out<S: Storage<u64>>(rt: &impl Abort, table: &mut EntityTable<u64, S>) {
+    let first = spawn(rt, table, 0);
+    let second = spawn(rt, table, 1);
+    let mut asked = false;
+    let short = Err(StoreError::NumbersExhausted);
+    assert_eq!(rt; table.retain(looked_at(), |_| false), short);
+    assert_eq!(rt; table.len(), 2);
+    assert_eq!(rt; table.get(first, looked_at(), |element| *element), Ok(0));
+    let answer = table.get(first, looked_at(), |_| asked = true);
+    assert_eq!(rt;
+        answer,
+        Err(EntityError::Store(StoreError::NumbersExhausted))
+    );
+    assert!(rt; !asked);
+    assert!(rt; table.despawn(first).is_ok());
+    assert!(rt; table.set(second, 4).is_ok());
+    assert!(rt; table.is_alive(second));
+}
+
+#[test]
+fn looks_are_refused_where_no_ticket_is_left(rt: HostRuntime) {
+    let alloc = rt.alloc();
+    let numbers = Numbers {
+        generation: 1,
+        ticket: 0xffff_ffff_ffff_fffe,
+    };
+    let store: UnsyncStorage<u64> = Store::new_at(alloc, 1, numbers);
+    let mut table = entities_over(&rt, alloc, store);
+    looks_run_out(&rt, &mut table);
+}

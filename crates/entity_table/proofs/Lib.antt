@@ -1,0 +1,5 @@
+pub mod Attaching
+pub mod Keeping
+pub mod Lasts
+pub mod Removals
+pub mod Sifting

@@ -1,0 +1,5 @@
+use Rattle.entity_table.proofs.Keeping.{kept_dense}
+use Rattle.entity_table.proofs.table.EntityTable.entities.Goals as goal
+
+pub returns-clause-dense : goal.returns-clause-dense
+returns-clause-dense g c = rw (← c.self.view_is) (kept_dense c.self.invariant)

@@ -1,0 +1,49 @@
+-- Components of entities: which each slot's entity has, and what each entity shows.
+use Rattle.std.specs.Prelude.{◌≡◌, ◌≢◌, ℕ, true, List, Option, None, Some, is_some, if◌then◌else◌}
+use Rattle.std.specs.Prelude.{slice_index_or}
+use Rattle.generational_core.specs.Answers.{pointer_of}
+use Rattle.generational_core.specs.Boxes.{has_same_id, name_of}
+use Rattle.generational_core.specs.Leaving.{IsUnborrowed}
+use Rattle.generational_core.specs.Seeing.{value_in}
+use Rattle.generational_core.specs.State.{State}
+use Rattle.generational_sessions.specs.PlainStores.{IsPlain}
+use Rattle.entity_table.specs.declared.components.Part.{Part}
+use Rattle.entity_table.specs.declared.entity.Entity.{Entity}
+use Rattle.entity_table.specs.Entities.{pointer_in, slot_in}
+
+-- the state of the components' store, and of each slot the entity that has a component, with its box
+pub record ComponentState (T C : Type 0) : Type 0 where
+  pub state : State C
+  pub parts : List (Option (Part T C))
+
+module _ {T C : Type 0} where
+  -- the part of a slot
+  abbrev pub part_at : List (Option (Part T C)) → ℕ → Option (Part T C)
+  part_at parts slot = slice_index_or parts slot None
+
+  -- a part, where it is this entity's
+  abbrev pub part_if : Entity T → Option (Part T C) → Option (Part T C)
+  part_if e None = None
+  part_if e (Some p) =
+      if has_same_id (pointer_in p.entity) (pointer_in e) then Some p else None
+
+  abbrev pub part_of : List (Option (Part T C)) → Entity T → Option (Part T C)
+  part_of parts e = part_if e (part_at parts (slot_in e))
+
+  -- what a part shows, and so an entity
+  abbrev pub shown_by : State C → Option (Part T C) → Option C
+  shown_by S None = None
+  shown_by S (Some p) = value_in S (pointer_of p.raw)
+
+  abbrev pub component_in : ComponentState T C → Entity T → Option C
+  component_in t e = shown_by t.state (part_of t.parts e)
+
+  -- no borrow stands and no cell is a reference; each part's box sees a value, and those of two slots
+  -- have two names
+  pub record AreAttached (S : State C) (parts : List (Option (Part T C))) : Type 0 where
+    pub unborrowed : IsUnborrowed S
+    pub plain : IsPlain S
+    pub seen : (slot : ℕ) (p : Part T C) → part_at parts slot ≡ Some p
+        → is_some (value_in S (pointer_of p.raw)) ≡ true
+    pub apart : (i j : ℕ) (p q : Part T C) → i ≢ j → part_at parts i ≡ Some p
+        → part_at parts j ≡ Some q → name_of (pointer_of p.raw) ≢ name_of (pointer_of q.raw)

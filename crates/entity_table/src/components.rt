@@ -1,0 +1,217 @@
+//! Tables of components, beside a table of entities.
+
+ghost use Rattle.std.specs.Prelude.{◌≡◌, ◌≢◌, ◌<◌, length, None, Some, is_some, IsTrue, MatchOption, ℕ};
+ghost use Rattle.std.specs.Prelude.{IfOk, OnOk, IfErr, OnErr};
+ghost use Rattle.std.specs.Fn.{FnOnceReturnsAt};
+ghost use Rattle.generational_core.specs.Conditions.{IsFresh};
+ghost use Rattle.generational_core.specs.Steps.{last_ticket};
+ghost use Rattle.generational_core.specs.declared.error.StoreError.TheVariants.{OutOfMemory};
+ghost use Rattle.generational_core.specs.declared.error.StoreError.TheVariants.{NumbersExhausted};
+ghost use Rattle.entity_table.specs.declared.entity.Entity.{Entity};
+ghost use Rattle.entity_table.specs.Entities.{slot_in, IsOther};
+ghost use Rattle.entity_table.specs.Components.{part_at, part_of, component_in};
+
+use crate::entity::Entity;
+use generational_core::{GenerationalBox, Location, Refusal, Storage, StoreError};
+use std::alloc::{AllocError, Global};
+use std::marker::Model;
+
+/// An entity's component.
+pub(crate) struct Part<T, C> {
+    /// The entity.
+    pub(crate) entity: Entity<T>,
+    /// The component.
+    pub(crate) raw: GenerationalBox<C>,
+}
+
+impl<T, C> Clone for Part<T, C> {
+    ghost use Rattle.std.specs.Prelude.{⊤};
+
+    ghost is_clone = { λ a b. b ≡ a };
+
+    ghost is_infallible = { λ _. ⊤ };
+
+    fn clone(&self) -> Result<Self, AllocError> {
+        Ok(*self)
+    }
+}
+
+impl<T, C> Copy for Part<T, C> {}
+
+/// Components of one kind, one an entity at most, in a store of their own. Contracts see the
+/// machine's state of that store, and which component each slot's entity has.
+///
+/// The entities are those of one [`EntityTable`](crate::EntityTable), of which two never have one
+/// slot at once. An entity that was despawned keeps its component until that is removed, or until
+/// an entity that has taken its slot gets one.
+#[derive(Drop)]
+pub struct ComponentTable<T, C, S: Storage<C>> {
+    store: S,
+    parts: Vec<Option<Part<T, C>>>,
+}
+
+impl<T, C, S: Storage<C>> Model for ComponentTable<T, C, S> {
+    ghost use Rattle.std.specs.Coded.{codes};
+    ghost use Rattle.std.specs.FinMap as map;
+    ghost use Rattle.entity_table.specs.Components.{ComponentState, AreAttached};
+
+    ghost Value = { ComponentState T C };
+
+    ghost coded = { Prim.hlevel (codes, map.code) };
+
+    ghost view = { λ t. record { state = S.state t.store; parts = t.parts.items } };
+
+    ghost invariant = { λ t. AreAttached (S.state t.store) t.parts.items };
+}
+
+impl<T, C, S: Storage<C>> ComponentTable<T, C, S> {
+    /// A table without components, over a fresh store (`is_fresh` is the test). Takes no memory.
+    pub fn new(alloc: Global, store: S) -> Self
+        requires { IsFresh (S.state store) }
+        ensures { (e : Entity T) → component_in result e ≡ None }
+    {
+        ComponentTable {
+            store,
+            parts: Vec::new(alloc),
+        }
+    }
+
+    /// Gives an entity a component, in the place of the one that it has. Every entity of another slot
+    /// keeps its own; one that had this slot before loses its.
+    ///
+    /// Refused by `OutOfMemory` alone, where the slot has no component yet: the component comes back,
+    /// and nothing changes. O(1), but for finding room, and for letting the old one go.
+    pub fn insert(
+        &mut self,
+        entity: Entity<T>,
+        component: C,
+        here: Location,
+    ) -> Result<(), Refusal<C>>
+    where
+        C: Drop,
+        ensures shown { OnOk result (component_in self.new entity ≡ Some component) }
+        ensures others { (e : Entity T) → slot_in entity ≢ slot_in e →
+            component_in self.new e ≡ component_in self.old e }
+        ensures lost { OnOk result ((e : Entity T) → slot_in entity ≡ slot_in e →
+            IsOther entity e → component_in self.new e ≡ None) }
+        ensures refused { OnErr result ((self.new.state ≡ self.old.state)
+            × ((e : Entity T) → component_in self.new e ≡ component_in self.old e)) }
+        ensures back { IfErr result (λ refusal. refusal.value ≡ component) }
+        ensures cause { IfErr result (λ refusal. refusal.cause ≡ OutOfMemory) }
+    {
+        let slot = entity.raw.raw_ptr();
+        if let Some(part) = part_in(&self.parts, slot) {
+            let raw = part.raw;
+            raw.set(&mut self.store, component);
+            self.parts[slot] = Some(Part { entity, raw });
+            return Ok(());
+        }
+        if !reserve_part(&mut self.parts, slot) {
+            let cause = StoreError::OutOfMemory;
+            return Err(Refusal {
+                value: component,
+                cause,
+            });
+        }
+        let raw = GenerationalBox::leak(&mut self.store, component, here)?;
+        self.parts[slot] = Some(Part { entity, raw });
+        Ok(())
+    }
+
+    /// Looks at an entity's component, and answers what the closure makes of it, which is called
+    /// once; None where the entity has none. Each entity keeps its own.
+    ///
+    /// Refused by `NumbersExhausted` alone, where the store gave all its tickets: a look uses one.
+    /// The closure isn't called then, and the table stays as it was. Takes no memory, and is O(1).
+    pub fn get<R, F: FnOnce(&C) -> R>(
+        &mut self,
+        entity: Entity<T>,
+        here: Location,
+        f: F,
+    ) -> Result<Option<R>, StoreError>
+    where
+        F: Drop,
+        requires { F.IsAlwaysCallable f }
+        ensures seen { IfOk result (λ seen. MatchOption seen
+            (component_in self.old entity ≡ None) (λ answer. (v : C) ×
+            (component_in self.old entity ≡ Some v) × FnOnceReturnsAt F.FnOnce f v answer)) }
+        ensures same { (e : Entity T) → component_in self.new e ≡ component_in self.old e }
+        ensures short { IfErr result (λ cause. (cause ≡ NumbersExhausted)
+            × (self.old.state.next ≡ last_ticket)) }
+        ensures refused { OnErr result (self.new ≡ self.old) }
+    {
+        let Some(part) = part_for(&self.parts, entity) else {
+            return Ok(None);
+        };
+        let guard = match part.raw.read(&mut self.store, here) {
+            Ok(guard) => guard,
+            Err(cause) => return Err(cause),
+        };
+        let answer = match guard.deref(&self.store) {
+            Some(view) => f(&*view),
+            None => unreachable!(),
+        };
+        guard.release(&mut self.store);
+        Ok(Some(answer))
+    }
+
+    /// Ends an entity's component. Answers whether it had one. Every other entity keeps its own.
+    /// Never refused; takes no memory, and is O(1).
+    pub fn remove(&mut self, entity: Entity<T>) -> bool
+        ensures had { result ≡ is_some (component_in self.old entity) }
+        ensures gone { component_in self.new entity ≡ None }
+        ensures others { (e : Entity T) → IsOther entity e →
+            component_in self.new e ≡ component_in self.old e }
+    {
+        let Some(part) = part_for(&self.parts, entity) else {
+            return false;
+        };
+        match part.raw.manually_drop(&mut self.store) {
+            Ok(()) => {}
+            Err(_) => unreachable!(),
+        }
+        self.parts[entity.raw.raw_ptr()] = None;
+        true
+    }
+
+    /// Whether an entity has a component. Takes no memory, and is O(1).
+    pub fn contains(&self, entity: Entity<T>) -> bool
+        ensures { result ≡ is_some (component_in self.now entity) }
+    {
+        part_for(&self.parts, entity).is_some()
+    }
+}
+
+// Room for the part of a slot.
+fn reserve_part<T, C>(parts: &mut Vec<Option<Part<T, C>>>, slot: usize) -> bool
+    ensures within { IsTrue result → slot < length parts.new.items }
+    ensures same { (at : ℕ) → part_at parts.new.items at ≡ part_at parts.old.items at }
+{
+    if slot < parts.len() {
+        return true;
+    }
+    let Some(room) = slot.checked_add(1) else {
+        return false;
+    };
+    parts.resize(room, None).is_ok()
+}
+
+// The part of a slot.
+fn part_in<T, C>(parts: &Vec<Option<Part<T, C>>>, slot: usize) -> Option<Part<T, C>>
+    ensures { result ≡ part_at parts.now.items slot }
+{
+    match parts.get(slot) {
+        Some(found) => *found,
+        None => None,
+    }
+}
+
+// The part of an entity, if it has one.
+fn part_for<T, C>(parts: &Vec<Option<Part<T, C>>>, entity: Entity<T>) -> Option<Part<T, C>>
+    ensures { result ≡ part_of parts.now.items entity }
+{
+    match part_in(parts, entity.raw.raw_ptr()) {
+        Some(part) if part.entity.raw.ptr_eq(&entity.raw) => Some(part),
+        _ => None,
+    }
+}

@@ -1,0 +1,51 @@
+//! The rows of live entities, and the row in which the entity of each slot stands.
+
+ghost use Rattle.std.specs.Prelude.{◌≡◌, ◌<◌, length, Some, IsTrue, slice_get, swap_remove};
+ghost use Rattle.std.specs.Vec.{vec_capacity};
+ghost use Rattle.entity_table.specs.Rows.{ArePlaced, KeepsPlaces};
+
+use crate::entity::Entity;
+
+/// Room for one row more, and for the place of a slot past those that there are.
+pub(crate) fn reserve_row<T>(
+    rows: &mut Vec<Entity<T>>,
+    places: &mut Vec<usize>,
+    slots: usize,
+) -> bool
+    ensures rows { rows.new.items ≡ rows.old.items }
+    ensures room { IsTrue result → length rows.new.items < vec_capacity rows.new }
+    ensures places { KeepsPlaces places.old.items places.new.items }
+    ensures within { IsTrue result → slots < length places.new.items }
+{
+    let Some(room) = slots.checked_add(1) else {
+        return false;
+    };
+    if rows.reserve(1).is_err() {
+        return false;
+    }
+    if room <= places.len() {
+        return true;
+    }
+    places.resize(room, 0).is_ok()
+}
+
+/// Takes a row away: the last one takes its place.
+pub(crate) fn remove_row<T>(rows: &mut Vec<Entity<T>>, places: &mut Vec<usize>, row: usize)
+    requires within { row < length rows.old.items }
+    requires placed { ArePlaced rows.old.items places.old.items }
+    ensures rows { (gone : Entity T) × (slice_get rows.old.items row ≡ Some gone)
+        × (rows.new.items ≡ swap_remove rows.old.items row gone) }
+    ensures placed { ArePlaced rows.new.items places.new.items }
+{
+    rows.swap_remove(row);
+    if let Some(moved) = entity_at(rows, row) {
+        places[moved.raw.raw_ptr()] = row;
+    }
+}
+
+/// The entity of a row, if there is such a row.
+pub(crate) fn entity_at<T>(rows: &Vec<Entity<T>>, row: usize) -> Option<Entity<T>>
+    ensures { result ≡ slice_get rows.now.items row }
+{
+    rows.get(row).copied()
+}

@@ -1,0 +1,317 @@
+//! Tables of entities.
+
+ghost use Rattle.std.specs.Prelude.{◌≡◌, ◌↔◌, ◌⊎◌, ◌<◌, ◌+◌, ◌-◌, ◌++◌, ◌∷◌, [], ℕ, true, length, None, Some, Err, is_some};
+ghost use Rattle.std.specs.Prelude.{IfOk, OnOk, IfErr, OnErr, IsErr, swap_remove, slice_get};
+ghost use Rattle.std.specs.Fn.{FnOnceReturnsAt, FnReturnsAt};
+ghost use Rattle.generational_core.specs.Borrowing.{take_ticket};
+ghost use Rattle.generational_core.specs.Conditions.{IsFresh};
+ghost use Rattle.generational_core.specs.Steps.{last_ticket};
+ghost use Rattle.generational_core.specs.declared.error.StoreError.TheVariants.{OutOfMemory};
+ghost use Rattle.generational_core.specs.declared.error.StoreError.TheVariants.{NumbersExhausted};
+ghost use Rattle.entity_table.specs.declared.entity.Entity.{Entity};
+ghost use Rattle.entity_table.specs.declared.entity.EntityError.TheVariants as error;
+ghost use Rattle.entity_table.specs.Entities.{spawned_at, IsOther, IsSame};
+ghost use Rattle.entity_table.specs.Tables.{TableState, element_in, WasSpawned, IsDense};
+ghost use Rattle.entity_table.specs.Tables.{IsSifted, Sifts};
+
+use crate::entity::{Entity, EntityError, Stale};
+use crate::rows::{entity_at, remove_row, reserve_row};
+use generational_core::{GenerationalBox, Location, Refusal, Storage, StoreError};
+use std::alloc::Global;
+use std::marker::Model;
+
+/// Entities, each with an element. Contracts see the machine's state, which says what each entity
+/// shows, and the rows of the live entities.
+#[derive(Drop)]
+pub struct EntityTable<T, S: Storage<T>> {
+    store: S,
+    rows: Vec<Entity<T>>,
+    // the row of each slot's entity, where that is live
+    places: Vec<usize>,
+}
+
+impl<T, S: Storage<T>> Model for EntityTable<T, S> {
+    ghost use Rattle.std.specs.Coded.{codes};
+    ghost use Rattle.std.specs.FinMap as map;
+    ghost use Rattle.entity_table.specs.Tables.{TableState};
+    ghost use Rattle.entity_table.specs.Keeping.{IsKept};
+
+    ghost Value = { TableState T };
+
+    ghost coded = { Prim.hlevel (codes, map.code) };
+
+    ghost view = { λ t. record { state = S.state t.store; rows = t.rows.items } };
+
+    ghost invariant = { λ t. IsKept (S.state t.store) t.rows.items t.places.items };
+}
+
+impl<T, S: Storage<T>> EntityTable<T, S> {
+    /// A table without entities, over a fresh store (`is_fresh` is the test). Takes no memory.
+    pub fn new(alloc: Global, store: S) -> Self
+        requires { IsFresh (S.state store) }
+        ensures table { result ≡ record { state = S.state store; rows = [] } }
+        ensures none { (e : Entity T) → element_in result e ≡ None }
+    {
+        EntityTable {
+            store,
+            rows: Vec::new(alloc),
+            places: Vec::new(alloc),
+        }
+    }
+
+    /// A new entity with this element, in a row of its own at the end. Its handle is none that was
+    /// ever given, and every other entity shows what it showed.
+    ///
+    /// Refused by `OutOfMemory` alone: the element comes back, and the table stays as it was. Takes
+    /// memory where the rows have no room, or no slot is free. O(1), but for finding room.
+    pub fn spawn(&mut self, element: T, here: Location) -> Result<Entity<T>, Refusal<T>>
+        ensures shown { IfOk result (λ e. element_in self.new e ≡ Some element) }
+        ensures others { IfOk result (λ e. (f : Entity T) → IsOther e f →
+            element_in self.new f ≡ element_in self.old f) }
+        ensures left { (f : Entity T) → WasSpawned self.old f →
+            element_in self.new f ≡ element_in self.old f }
+        ensures new { IfOk result (λ e. WasSpawned self.old e → ⊥) }
+        ensures spawned { IfOk result (λ e. WasSpawned self.new e) }
+        ensures here { IfOk result (λ e. spawned_at e ≡ here) }
+        ensures row { IfOk result (λ e. self.new.rows ≡ self.old.rows ++ e ∷ []) }
+        ensures kept { (f : Entity T) → WasSpawned self.old f → WasSpawned self.new f }
+        ensures refused { OnErr result (self.new ≡ self.old) }
+        ensures back { IfErr result (λ refusal. refusal.value ≡ element) }
+        ensures cause { IfErr result (λ refusal. refusal.cause ≡ OutOfMemory) }
+    {
+        let slots = self.store.slots();
+        if !reserve_row(&mut self.rows, &mut self.places, slots) {
+            let cause = StoreError::OutOfMemory;
+            return Err(Refusal {
+                value: element,
+                cause,
+            });
+        }
+        let raw = GenerationalBox::leak(&mut self.store, element, here)?;
+        let entity = Entity { raw };
+        self.places[raw.raw_ptr()] = self.rows.len();
+        self.rows.push_reserved(entity);
+        Ok(entity)
+    }
+
+    /// Ends an entity and its element: it shows nothing from then on, and no later entity is
+    /// mistaken for it. The last row takes the place of its own. Every other entity shows what it
+    /// showed.
+    ///
+    /// Refused where the entity is gone, or is another table's; the table stays as it was then.
+    /// Takes no memory, and is O(1).
+    pub fn despawn(&mut self, entity: Entity<T>) -> Result<(), Stale>
+        ensures gone { element_in self.new entity ≡ None }
+        ensures others { (f : Entity T) → IsOther entity f →
+            element_in self.new f ≡ element_in self.old f }
+        ensures row { OnOk result ((row : ℕ) × (e : Entity T) × IsSame e entity
+            × (slice_get self.old.rows row ≡ Some e)
+            × (self.new.rows ≡ swap_remove self.old.rows row e)) }
+        ensures kept { (f : Entity T) → WasSpawned self.old f → WasSpawned self.new f }
+        ensures stale { IsErr result ↔ element_in self.old entity ≡ None }
+        ensures told { IfErr result (λ stale. stale.spawned_at ≡ spawned_at entity) }
+        ensures ticket { self.new.state.next ≡ self.old.state.next }
+        ensures refused { OnErr result (self.new ≡ self.old) }
+    {
+        if !entity.raw.can_write(&self.store) {
+            return Err(Stale {
+                spawned_at: entity.spawned_at(),
+            });
+        }
+        let row = self.places[entity.raw.raw_ptr()];
+        match entity.raw.manually_drop(&mut self.store) {
+            Ok(()) => {}
+            Err(_) => unreachable!(),
+        }
+        remove_row(&mut self.rows, &mut self.places, row);
+        Ok(())
+    }
+
+    /// Puts another element in the place of an entity's, which is let go. Every other entity shows
+    /// what it showed, and the rows stay.
+    ///
+    /// Refused where the entity is gone, or is another table's: the element comes back, and the
+    /// table stays as it was. Takes no memory, and is O(1), but for letting the old element go.
+    pub fn set(&mut self, entity: Entity<T>, element: T) -> Result<(), (T, Stale)>
+    where
+        T: Drop,
+        ensures shown { OnOk result (element_in self.new entity ≡ Some element) }
+        ensures others { (f : Entity T) → IsOther entity f →
+            element_in self.new f ≡ element_in self.old f }
+        ensures rows { self.new.rows ≡ self.old.rows }
+        ensures kept { (f : Entity T) → WasSpawned self.old f → WasSpawned self.new f }
+        ensures stale { IsErr result ↔ element_in self.old entity ≡ None }
+        ensures told { IfErr result (λ back. back.1.spawned_at ≡ spawned_at entity) }
+        ensures back { IfErr result (λ back. back.0 ≡ element) }
+        ensures refused { OnErr result (self.new ≡ self.old) }
+    {
+        if !entity.raw.can_write(&self.store) {
+            let stale = Stale {
+                spawned_at: entity.spawned_at(),
+            };
+            return Err((element, stale));
+        }
+        entity.raw.set(&mut self.store, element);
+        Ok(())
+    }
+
+    /// Looks at an entity's element, and answers what the closure makes of it, which is called once.
+    /// Each entity shows what it showed, and the rows stay.
+    ///
+    /// Refused, in this order: `Stale`, where the entity is gone, or is another table's; `Store` of
+    /// `NumbersExhausted`, where the store gave all its tickets: a look uses one. The closure isn't
+    /// called then, and the table stays as it was. Takes no memory, and is O(1).
+    pub fn get<R, F: FnOnce(&T) -> R>(
+        &mut self,
+        entity: Entity<T>,
+        here: Location,
+        f: F,
+    ) -> Result<R, EntityError>
+        requires { F.IsAlwaysCallable f }
+        ensures seen { IfOk result (λ answer. (v : T) ×
+            (element_in self.old entity ≡ Some v) × FnOnceReturnsAt F.FnOnce f v answer) }
+        ensures same { (e : Entity T) → element_in self.new e ≡ element_in self.old e }
+        ensures ticket { OnOk result (self.new
+            ≡ record self.old { state = take_ticket self.old.state }) }
+        ensures stale { element_in self.old entity ≡ None →
+            result ≡ Err (error.Stale (spawned_at entity)) }
+        ensures short { IfErr result (λ e. (element_in self.old entity ≡ None)
+            ⊎ ((e ≡ error.Store NumbersExhausted) × (self.old.state.next ≡ last_ticket))) }
+        ensures refused { OnErr result (self.new ≡ self.old) }
+    {
+        if !entity.raw.can_write(&self.store) {
+            return Err(EntityError::Stale(entity.spawned_at()));
+        }
+        let guard = match entity.raw.read(&mut self.store, here) {
+            Ok(guard) => guard,
+            Err(cause) => return Err(EntityError::Store(cause)),
+        };
+        let answer = match guard.deref(&self.store) {
+            Some(view) => f(&*view),
+            None => unreachable!(),
+        };
+        guard.release(&mut self.store);
+        Ok(answer)
+    }
+
+    /// Whether an entity is live: false where it was despawned, or is another table's. Takes no
+    /// memory, and is O(1).
+    pub fn is_alive(&self, entity: Entity<T>) -> bool
+        ensures { result ≡ is_some (element_in self.now entity) }
+    {
+        entity.raw.can_read(&self.store)
+    }
+
+    /// How many entities are live: as many as there are rows. Takes no memory, and is O(1).
+    pub fn len(&self) -> usize
+        ensures { result ≡ length self.now.rows }
+    {
+        self.rows.len()
+    }
+
+    /// The live entities, each once, in rows without gaps. Takes no memory, and is O(1).
+    pub fn entities(&self) -> &[Entity<T>]
+        ensures rows { result.now ≡ self.now.rows }
+        ensures dense { IsDense self.now }
+    {
+        self.rows.as_slice()
+    }
+
+    /// Ends each entity whose element fails a test, which is asked once of each. Every other entity
+    /// shows what it showed.
+    ///
+    /// Refused by `NumbersExhausted` alone, where fewer tickets are left than there are entities:
+    /// each is looked at. The test isn't asked then, and the table stays as it was. Takes no memory,
+    /// and is O(n).
+    pub fn retain<F: Fn(&T) -> bool>(&mut self, here: Location, test: F) -> Result<(), StoreError>
+        requires { F.IsAlwaysCallable test }
+        ensures sifted { OnOk result ((e : Entity T) (v : T) →
+            element_in self.old e ≡ Some v →
+            IsSifted (FnReturnsAt F.Fn test) v (element_in self.new e)) }
+        ensures none { (e : Entity T) → element_in self.old e ≡ None →
+            element_in self.new e ≡ None }
+        ensures kept { (f : Entity T) → WasSpawned self.old f → WasSpawned self.new f }
+        ensures short { IfErr result (λ cause. (cause ≡ NumbersExhausted)
+            × (last_ticket < self.old.state.next + length self.old.rows)) }
+        ensures refused { OnErr result (self.new ≡ self.old) }
+    {
+        let mut row = self.rows.len();
+        if self.store.tickets_left() < row as u64 {
+            return Err(StoreError::NumbersExhausted);
+        }
+        while row > 0 {
+            row -= 1;
+            self.sift_row(row, here, &test);
+        }
+        // The rows are dense now, as at any time.
+        let _ = &self.rows;
+        Ok(())
+    }
+
+    // Ends the entity of a row where it fails a test. The rows behind it were tested.
+    fn sift_row<F: Fn(&T) -> bool>(&mut self, row: usize, here: Location, test: &F)
+        requires callable { F.IsAlwaysCallable test.now }
+        requires within { row < length self.old.rows }
+        requires ticket { self.old.state.next < last_ticket }
+        ensures { (first : TableState T) →
+            Sifts (FnReturnsAt F.Fn test.now) first self.old (row + 1) →
+            Sifts (FnReturnsAt F.Fn test.now) first self.new row }
+    {
+        let Some(entity) = self.at(row) else {
+            unreachable!();
+        };
+        if self.passes(entity, here, test) {
+            return;
+        }
+        match self.despawn(entity) {
+            Ok(()) => {}
+            Err(_) => unreachable!(),
+        }
+    }
+
+    // Whether a live entity passes a test.
+    fn passes<F: Fn(&T) -> bool>(&mut self, entity: Entity<T>, here: Location, test: &F) -> bool
+        requires callable { F.IsAlwaysCallable test.now }
+        requires live { is_some (element_in self.old entity) ≡ true }
+        requires ticket { self.old.state.next < last_ticket }
+        ensures answer { (v : T) × (element_in self.old entity ≡ Some v)
+            × FnReturnsAt F.Fn test.now v result }
+        ensures same { (e : Entity T) → element_in self.new e ≡ element_in self.old e }
+        ensures ticket { self.new ≡ record self.old { state = take_ticket self.old.state } }
+    {
+        match self.get(entity, here, test) {
+            Ok(answer) => answer,
+            Err(_) => unreachable!(),
+        }
+    }
+
+    /// Ends all entities and their elements. Never refused; takes no memory, and is O(n).
+    pub fn clear(&mut self)
+        ensures gone { (e : Entity T) → element_in self.new e ≡ None }
+        ensures rows { self.new.rows ≡ [] }
+        ensures kept { (f : Entity T) → WasSpawned self.old f → WasSpawned self.new f }
+    {
+        while let Some(last) = self.last() {
+            match self.despawn(last) {
+                Ok(()) => {}
+                Err(_) => unreachable!(),
+            }
+        }
+    }
+
+    // The entity of the last row.
+    fn last(&self) -> Option<Entity<T>>
+        ensures row { result ≡ slice_get self.now.rows (length self.now.rows - 1) }
+        ensures dense { IsDense self.now }
+    {
+        self.rows.last().copied()
+    }
+
+    // The entity of a row.
+    fn at(&self, row: usize) -> Option<Entity<T>>
+        ensures row { result ≡ slice_get self.now.rows row }
+        ensures dense { IsDense self.now }
+    {
+        entity_at(&self.rows, row)
+    }
+}
