@@ -79,14 +79,12 @@ fn borrow_through_checkpoints<A: Count, B: Count, C: Count, D: Count>(
     assert_eq!(rt; base.next(), 1);
     assert_eq!(rt; base.peak(), 1);
     assert_eq!(rt; base.trimmed(), 2);
-    assert!(rt;
-        base.rows()
-            == [
-                BaseRow::Slot(0, 1),
-                BaseRow::Value(id, made()),
-                BaseRow::Reader(id, 0, read()),
-            ]
-    );
+    let rows = [
+        BaseRow::Slot(0, 1),
+        BaseRow::Value(id, made()),
+        BaseRow::Reader(id, 0, read()),
+    ];
+    assert!(rt; base.rows() == rows.as_slice());
     assert!(rt; steps.is_empty());
 
     assert!(rt; worker.store.release_read(rt, reader, &mut worker.tally));
@@ -104,14 +102,12 @@ fn borrow_through_checkpoints<A: Count, B: Count, C: Count, D: Count>(
 
     assert_eq!(rt; worker.checkpoint(rt), 4);
     let (base, steps) = worker.audit(rt);
-    assert!(rt;
-        base.rows()
-            == [
-                BaseRow::Slot(0, 1),
-                BaseRow::Value(id, made()),
-                BaseRow::Writer(id, 1, written()),
-            ]
-    );
+    let rows = [
+        BaseRow::Slot(0, 1),
+        BaseRow::Value(id, made()),
+        BaseRow::Writer(id, 1, written()),
+    ];
+    assert!(rt; base.rows() == rows.as_slice());
     assert!(rt; steps.is_empty());
     assert!(rt;
         worker
