@@ -67,6 +67,9 @@ pub(crate) trait Calls {
 
     /// Ends a box.
     fn end(&mut self, rt: &impl Wait, asked: GenerationalBox<u64>) -> bool;
+
+    /// Lets the history go. True where there is none.
+    fn checkpoint(&mut self, rt: &impl Wait) -> bool;
 }
 
 /// Where every call is made.

@@ -115,4 +115,8 @@ impl<A: Count, B: Count, C: Count, D: Count> Calls for Worker<A, B, C, D> {
     fn end(&mut self, rt: &impl Wait, asked: GenerationalBox<u64>) -> bool {
         self.store.manually_drop(rt, asked, &mut self.tally).is_ok()
     }
+
+    fn checkpoint(&mut self, rt: &impl Wait) -> bool {
+        self.store.checkpoint(rt, &mut self.tally).is_ok()
+    }
 }

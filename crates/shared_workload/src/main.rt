@@ -1,6 +1,7 @@
-//! `shared_workload STORE LIST WORKERS ROUNDS`: so many workers in threads make a list of calls so
-//! many times over one store, each over boxes of its own. One line says how many calls and steps
-//! that were. How long it takes, in processor time, is for who runs it to measure
+//! `shared_workload STORE LIST WORKERS ROUNDS [BETWEEN]`: so many workers in threads make a list of
+//! calls so many times over one store, each over boxes of its own; where BETWEEN is told and isn't 0,
+//! with a checkpoint after each so many rounds. One line says how many calls that were, and how many
+//! steps an audit answered. How long it takes, in processor time, is for who runs it to measure
 //! (`.ci/shared_workload.py`).
 //!
 //! | STORE       | what answers the calls                                             |
@@ -13,6 +14,7 @@
 //! |----------|-----------------------------------------------------------------------|
 //! | `reads`  | a box is made, read twice, ended, and read once more: 9 calls         |
 //! | `writes` | an owner's boxes are made, written and pointed elsewhere, and end with the owner: 12 calls |
+//! | `keeps`  | a box is made, and stays: 1 call                                       |
 //!
 //! The status is 1 where a call wasn't carried out, as for want of memory, and 2 for other words.
 #![tactic(auto)]
@@ -87,6 +89,7 @@ struct Words {
     list: List,
     workers: usize,
     rounds: u64,
+    between: u64,
 }
 
 impl Words {
@@ -104,10 +107,15 @@ impl Words {
         let list = match words.next()?.as_str() {
             "reads" => List::Reads,
             "writes" => List::Writes,
+            "keeps" => List::Keeps,
             _ => return None,
         };
         let workers = words.next()?.parse::<usize>().ok()?;
         let rounds = words.next()?.parse::<u64>().ok()?;
+        let between = match words.next() {
+            Some(word) => word.parse::<u64>().ok()?,
+            None => 0,
+        };
         if workers == 0 || workers > 64 || words.next().is_some() {
             return None;
         }
@@ -116,6 +124,7 @@ impl Words {
             list,
             workers,
             rounds,
+            between,
         })
     }
 }
@@ -159,12 +168,12 @@ fn shared<
         let store = store.try_clone().ok()?;
         workers.push(Worker { store, tally }).ok()?;
     }
-    let (list, rounds) = (words.list, words.rounds);
+    let (list, rounds, between) = (words.list, words.rounds, words.between);
     let parts = thread::map_vec(
         rt,
         workers,
         &|mut worker: Worker<A, B, C, D>| {
-            let calls = run(&mut worker, rt, list, rounds);
+            let calls = run(&mut worker, rt, list, rounds, between);
             (worker.tally, calls)
         },
     )
@@ -204,11 +213,11 @@ fn floor<H: Threads + Wait + Sync>(rt: &H, alloc: Global, words: &Words) -> Opti
         let store = Arc::try_clone(&store).ok()?;
         workers.push(Plain { store }).ok()?;
     }
-    let (list, rounds) = (words.list, words.rounds);
+    let (list, rounds, between) = (words.list, words.rounds, words.between);
     let parts = thread::map_vec(
         rt,
         workers,
-        &|mut worker: Plain| { run(&mut worker, rt, list, rounds) },
+        &|mut worker: Plain| { run(&mut worker, rt, list, rounds, between) },
     )
     .ok()?;
     let mut calls = 0u64;

@@ -127,4 +127,8 @@ impl Calls for Plain {
         let mut store = self.store.lock(rt);
         asked.manually_drop(&mut *store).is_ok()
     }
+
+    fn checkpoint(&mut self, _rt: &impl Wait) -> bool {
+        true
+    }
 }

@@ -5,12 +5,28 @@ use generational_box::{GenerationalBox, Owner};
 use std::sync::Wait;
 
 /// Runs so many rounds, and answers how many calls they made; None where a call wasn't carried out.
-pub(crate) fn run<S: Calls>(store: &mut S, rt: &impl Wait, list: List, rounds: u64) -> Option<u64> {
+/// A checkpoint, which isn't counted, comes after each so many rounds, and none where that is 0.
+pub(crate) fn run<S: Calls>(
+    store: &mut S,
+    rt: &impl Wait,
+    list: List,
+    rounds: u64,
+    between: u64,
+) -> Option<u64> {
     let mut calls = 0u64;
+    let mut since = 0u64;
     for value in 0..rounds {
+        if since == between && between != 0 {
+            if !store.checkpoint(rt) {
+                return None;
+            }
+            since = 0;
+        }
+        since = since.wrapping_add(1);
         let made = match list {
             List::Reads => reading_round(store, rt, value)?,
             List::Writes => writing_round(store, rt, value)?,
+            List::Keeps => keeping_round(store, rt, value)?,
         };
         calls = calls.wrapping_add(made);
     }
@@ -24,6 +40,8 @@ pub(crate) enum List {
     Reads,
     /// An owner's boxes are made, written and pointed elsewhere, and end with the owner.
     Writes,
+    /// A box is made, and stays.
+    Keeps,
 }
 
 // 9 calls, 7 of which are steps: a view isn't one.
@@ -47,6 +65,12 @@ fn reading_round<S: Calls>(store: &mut S, rt: &impl Wait, value: u64) -> Option<
         }
         None => Some(9),
     }
+}
+
+// A call, which is a step.
+fn keeping_round<S: Calls>(store: &mut S, rt: &impl Wait, value: u64) -> Option<u64> {
+    store.leak(rt, value)?;
+    Some(1)
 }
 
 // 12 calls, each of which is a step.
