@@ -1,4 +1,4 @@
-//! What finds no memory leaves no step. The test passes whichever one allocation is refused: what
+//! What finds no memory leaves no step. Each test passes whichever one allocation is refused: what
 //! lacks memory is called a second time.
 
 use crate::stages::{Scenario, plays_with_little_memory};
@@ -7,4 +7,9 @@ use std::test::*;
 #[test]
 fn for_steps_boxes_and_owners(rt: HostRuntime) {
     plays_with_little_memory(&rt, rt.alloc(), Scenario::MemoryLacks);
+}
+
+#[test]
+fn for_checkpoints(rt: HostRuntime) {
+    plays_with_little_memory(&rt, rt.alloc(), Scenario::HistoryIsTrimmed);
 }

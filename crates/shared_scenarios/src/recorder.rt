@@ -22,6 +22,8 @@ pub(crate) struct Recorder<W> {
     worker: W,
     alloc: Global,
     steps: Vec<Step>,
+    // how many steps of all workers were trimmed, where this one trimmed them
+    trimmed: u64,
     // how often memory lacked
     lacks: u64,
 }
@@ -32,6 +34,7 @@ impl<W: Worker> Recorder<W> {
             worker,
             alloc,
             steps: Vec::new(alloc),
+            trimmed: 0,
             lacks: 0,
         }
     }
@@ -452,13 +455,31 @@ impl<W: Worker> Recorder<W> {
         assert!(rt; false, "no call waits");
     }
 
+    /// Lets the history go, which had so many steps in all, and the steps of this worker with it.
+    pub(crate) fn trim(&mut self, rt: &(impl Wait + Abort), trimmed: u64) {
+        let answer = match self.worker.checkpoint(rt) {
+            Err(cause) => {
+                self.lacks(rt, cause);
+                self.worker.checkpoint(rt)
+            }
+            trimmed => trimmed,
+        };
+        assert_eq!(rt; answer, Ok(trimmed));
+        self.steps.clear();
+        self.trimmed = trimmed;
+    }
+
     // The history, once all other workers' counts were taken over.
     fn history(&mut self, rt: &(impl Wait + Abort)) -> Vec<Step> {
-        if let Some(steps) = self.worker.history(rt) {
-            return steps;
-        }
-        self.lacks = self.lacks.wrapping_add(1);
-        self.worker.history(rt).expect(rt, "a history")
+        let (base, steps) = match self.worker.audit(rt) {
+            Some(audit) => audit,
+            None => {
+                self.lacks = self.lacks.wrapping_add(1);
+                self.worker.audit(rt).expect(rt, "an audit")
+            }
+        };
+        assert_eq!(rt; base.trimmed(), self.trimmed);
+        steps
     }
 
     /// Takes over what another worker has counted, and its steps.

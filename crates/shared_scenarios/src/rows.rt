@@ -148,6 +148,20 @@ pub(crate) fn value_is_made_beside<W: Worker>(
     one.finish(rt, &[[3, 2, 3, 0]])
 }
 
+/// A history is let go while a reader stands. The guard opens the value still, and the history has
+/// what comes later.
+pub(crate) fn history_is_trimmed<W: Worker>(rt: &(impl Wait + Abort), mut one: Recorder<W>) -> u64 {
+    let kept = one.leak(rt, "x", made());
+    let owner = one.owner(rt);
+    let guard = one.begin(rt, kept, read());
+    one.trim(rt, 3);
+    one.assert_opens(rt, &guard, "x");
+    one.release(rt, guard);
+    one.reads(rt, kept, read_later(), "x");
+    one.release_owner(rt, owner);
+    one.finish(rt, &[[0, 1, 3, 0]])
+}
+
 /// Boxes and guards of another store are strangers here, also where the slot, the generation and
 /// the ticket are those of a reader of this one.
 pub(crate) fn strangers_come<W: Worker>(
@@ -227,6 +241,11 @@ fn a_reference_reads_what_it_was_pointed_to(rt: HostRuntime) {
 #[test]
 fn a_value_is_made_beside_a_reader(rt: HostRuntime) {
     plays(&rt, rt.alloc(), 1, Scenario::ValueIsMadeBeside);
+}
+
+#[test]
+fn a_history_is_trimmed(rt: HostRuntime) {
+    plays(&rt, rt.alloc(), 1, Scenario::HistoryIsTrimmed);
 }
 
 #[test]

@@ -5,7 +5,7 @@ ghost use Rattle.std.specs.Prelude.{◌≡◌, ◌<◌};
 use crate::beside::{crowd, read_beside, write_beside};
 use crate::recorder::Recorder;
 use crate::rows::*;
-use crate::waking::{Freeing, wake_after, wake_all};
+use crate::waking::{Freeing, trim_beside, wake_after, wake_all};
 use crate::workers::{Handle, Worker};
 use generational_box::StoreError;
 use generational_sync::{Count, SyncStorage};
@@ -29,9 +29,11 @@ pub(crate) enum Scenario {
     ReferencesCount,
     ReferenceMoves,
     ValueIsMadeBeside,
+    HistoryIsTrimmed,
     StrangersCome,
     ReadBeside,
     WriteBeside,
+    TrimBeside,
     Crowd,
     Wake(Freeing),
     WakeAll,
@@ -168,6 +170,7 @@ fn act<W: Worker, H: Threads + Wait + Abort + Sync>(
         Scenario::ReferencesCount => references_count(rt, last),
         Scenario::ReferenceMoves => reference_moves(rt, last),
         Scenario::ValueIsMadeBeside => value_is_made_beside(rt, last),
+        Scenario::HistoryIsTrimmed => history_is_trimmed(rt, last),
         Scenario::StrangersCome => strangers_come(rt, alloc, last),
         _ => {
             act_beside(rt, alloc, workers, last, scenario);
@@ -188,6 +191,7 @@ fn act_beside<W: Worker, H: Threads + Wait + Abort + Sync>(
     match scenario {
         Scenario::ReadBeside => read_beside(rt, alloc, before, last),
         Scenario::WriteBeside => write_beside(rt, before, last),
+        Scenario::TrimBeside => trim_beside(rt, before, last),
         _ => {
             let first = workers.pop().expect(rt, "three workers");
             match scenario {

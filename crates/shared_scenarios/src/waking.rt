@@ -296,6 +296,45 @@ pub(crate) fn wake_all<W: Worker, H: Threads + Wait + Abort + Sync>(
     first.finish(rt, &[[1, 1, 1, 0], [0, 1, 1, 0], [0, 1, 1, 0]]);
 }
 
+// Lets the history go while a call waits, which goes on to wait, and releases the value.
+fn trims_while_written<W: Worker>(
+    rt: &(impl Wait + Abort),
+    one: &mut Recorder<W>,
+    asked: GenerationalBox<String>,
+    rounds: &Rounds,
+) {
+    let guard = one.begin_write(rt, asked, read());
+    rounds.begun.arrive();
+    one.waits_for(rt, 1);
+    one.trim(rt, 2);
+    one.waits_for(rt, 1);
+    one.release_over(rt, guard, "old", "new");
+    rounds.assert_answered(rt);
+    rounds.over.arrive();
+}
+
+/// A read waits while the history is let go, and is answered once the writer is released.
+pub(crate) fn trim_beside<W: Worker, H: Threads + Wait + Abort + Sync>(
+    rt: &H,
+    mut first: Recorder<W>,
+    mut second: Recorder<W>,
+) {
+    let asked = first.leak(rt, "old", made());
+    let rounds = Rounds::new();
+    thread::join(
+        rt,
+        || trims_while_written(rt, &mut first, asked, &rounds),
+        || reads_once_released(rt, &mut second, asked, &rounds),
+    );
+    first.take_over(rt, second);
+    first.finish(rt, &[[0, 0, 1, 0], [0, 1, 1, 0]]);
+}
+
+#[test]
+fn a_history_is_trimmed_while_a_call_waits(rt: HostRuntime) {
+    plays(&rt, rt.alloc(), 2, Scenario::TrimBeside);
+}
+
 #[test]
 fn a_readers_release_wakes(rt: HostRuntime) {
     plays(&rt, rt.alloc(), 3, Scenario::Wake(Freeing::ReaderReleased));

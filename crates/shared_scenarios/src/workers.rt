@@ -6,7 +6,7 @@ use generational_box::{
     GenerationalRefMut, Location, Owner, Refusal, Refused, StoreError,
 };
 use generational_sync::parts::waiting;
-use generational_sync::{Count, Step, SyncStorage, Tally};
+use generational_sync::{Base, Count, Step, SyncStorage, Tally};
 use std::sync::Wait;
 
 /// A worker of a store of texts. Each call is the store's of the same name.
@@ -134,9 +134,12 @@ pub(crate) trait Worker: Drop + Send {
     /// Takes over what another worker has counted. False for the tally of another store.
     fn take_over(&mut self, other: Self) -> bool;
 
-    /// The history, once all other workers' counts were taken over. None where memory lacks, or
-    /// where a worker's counts lack.
-    fn history(&mut self, rt: &impl Wait) -> Option<Vec<Step>>;
+    /// Lets the history go, and answers how many steps that were in all.
+    fn checkpoint(&mut self, rt: &impl Wait) -> Result<u64, StoreError>;
+
+    /// The base and the history, once all other workers' counts were taken over. None where memory
+    /// lacks, or where a worker's counts lack.
+    fn audit(&mut self, rt: &impl Wait) -> Option<(Base, Vec<Step>)>;
 }
 
 /// What a making answers: a box, or the value back.
@@ -302,11 +305,14 @@ impl<
         self.tally.merge(other.tally).is_ok()
     }
 
-    fn history(&mut self, rt: &impl Wait) -> Option<Vec<Step>> {
+    fn checkpoint(&mut self, rt: &impl Wait) -> Result<u64, StoreError> {
+        self.store.checkpoint(rt, &mut self.tally)
+    }
+
+    fn audit(&mut self, rt: &impl Wait) -> Option<(Base, Vec<Step>)> {
         if !self.tally.is_whole() {
             return None;
         }
-        let (_, steps) = self.store.audit(rt, &mut self.tally).ok()?;
-        Some(steps)
+        self.store.audit(rt, &mut self.tally).ok()
     }
 }
