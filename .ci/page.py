@@ -15,7 +15,7 @@ import sys
 
 ROOT = pathlib.Path(__file__).resolve().parent.parent
 PAGES = ["docs/CALLING.md", "README.md"]
-TESTS = ["scenarios", "signal_scenarios", "entity_scenarios"]
+TESTS = ["scenarios", "entity_scenarios"]
 SOURCES = [
     path for crate in ["uses", *TESTS] for path in sorted((ROOT / f"crates/{crate}/src").glob("*.rt"))
 ] + sorted((ROOT / "crates/uses/proofs").rglob("*.antt"))

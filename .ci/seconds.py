@@ -4,8 +4,9 @@
     python3 .ci/seconds.py                        runs `rt ci`
     python3 .ci/seconds.py rt must-fail boxes     runs another command of rt
 
-Parts are a crate's proofs, its tests and each of its edits. The dearest twenty stand first, then
-the sums of the crates. Times are read from /proc five times a second, so a part may lack a fifth
+Parts are a crate's proofs, its tests and each of its edits; and, where it has several, its own
+check once more, before the first edit and after the last. The dearest twenty stand first, then the
+sums of the crates. Times are read from /proc five times a second, so a part may lack a fifth
 of a second for each of its processes. What the linker and the tests themselves take isn't counted.
 What the command prints comes as it prints it. Its last line is repeated below the report, and the
 exit status is that of the command, whatever becomes of the report.
@@ -46,9 +47,50 @@ def read_process(pid, session):
     return (int(fields[19]), pid), seconds, words, folder
 
 
-def watch(session, seen, is_over):
-    """Keeps the greatest time of each process of a session until the command is over. A process
-    that ends has no words any more: those that it had are kept."""
+def read_text(path):
+    with open(path, encoding="utf-8", errors="replace") as file:
+        return file.read()
+
+
+def edit_names(crate):
+    """The crate's edits."""
+    folder = f"crates/{crate}/must-fail"
+    if not os.path.isdir(folder):
+        return []
+    return sorted(name for name in os.listdir(folder) if name.endswith(".edit"))
+
+
+def edited(crate, name):
+    """The files that an edit changes, with the texts that it gives them."""
+    texts, path, old = {}, "", ""
+    for line in read_text(f"crates/{crate}/must-fail/{name}").split("\n"):
+        word, _, text = line.partition(":")
+        text = text.removeprefix(" ")
+        if word == "file":
+            path = text.strip()
+            texts.setdefault(path, read_text(f"crates/{crate}/{path}"))
+        elif word == "old":
+            old = text
+        elif word == "new":
+            texts[path] = texts[path].replace(old, text)
+    return texts
+
+
+def edit_in(folder, crate):
+    """Which of the crate's edits was made in a copy of it: none in the copy that is checked before
+    the first and after the last."""
+    for name in edit_names(crate):
+        with contextlib.suppress(OSError, KeyError):
+            texts = edited(crate, name)
+            if all(read_text(f"{folder}/{path}") == text for path, text in texts.items()):
+                return f"edit {name}"
+    return "edits: the crate again"
+
+
+def watch(session, seen, rooms, is_over):
+    """Keeps the greatest time of each process of a session until the command is over, and of each
+    copy of a crate which edit was made there. A process that ends has no words any more: those that
+    it had are kept."""
     while not is_over.wait(PAUSE):
         for pid in filter(str.isdigit, os.listdir("/proc")):
             found = read_process(pid, session)
@@ -58,30 +100,21 @@ def watch(session, seen, is_over):
                 if "--crate-name" not in words:
                     words, folder = before[1:]
                 seen[key] = (max(seconds, before[0]), words, folder)
-
-
-def edit_names(crate):
-    """The crate's edits in the order in which they are tried."""
-    folder = f"crates/{crate}/must-fail"
-    if not os.path.isdir(folder):
-        return []
-    return sorted(name for name in os.listdir(folder) if name.endswith(".edit"))
+                if "/rt-edit-" in folder and folder not in rooms and "--crate-name" in words:
+                    rooms[folder] = edit_in(folder, words[words.index("--crate-name") + 1])
 
 
 def part_of(words, folder, rooms):
     """Which part of the gate a process belongs to: its crate, and what of the crate."""
     crate = words[words.index("--crate-name") + 1]
     if "/rt-edit-" in folder:
-        room = rooms.setdefault(crate, {})
-        number = room.setdefault(folder, len(room))
-        names = edit_names(crate)
-        return crate, f"edit {names[number]}" if number < len(names) else "edits: the crate again"
+        return crate, rooms.get(folder, "edits: the crate again")
     return crate, "tests" if "--test" in words else "proofs"
 
 
-def parts_in(seen):
+def parts_in(seen, rooms):
     """The seconds of each part."""
-    parts, rooms = {}, {}
+    parts = {}
     for _, (seconds, words, folder) in sorted(seen.items()):
         if "--crate-name" in words:
             part = part_of(words, folder, rooms)
@@ -136,7 +169,7 @@ def pass_signals_on(group):
         signal.signal(number, send)
 
 
-def run(command, seen):
+def run(command, seen, rooms):
     """Runs the command while its processes are watched; returns its status and its last line."""
     is_over, variables = threading.Event(), {**os.environ, "PYTHONUNBUFFERED": "1"}
     running = subprocess.Popen(
@@ -144,7 +177,7 @@ def run(command, seen):
     )
     pass_signals_on(running.pid)
     output = Output(running.stdout)
-    watcher = threading.Thread(target=watch, args=(running.pid, seen, is_over), daemon=True)
+    watcher = threading.Thread(target=watch, args=(running.pid, seen, rooms, is_over), daemon=True)
     output.start()
     watcher.start()
     status = running.wait()
@@ -156,10 +189,10 @@ def run(command, seen):
 
 
 def main(command):
-    seen, began = {}, time.time()
-    status, last = run(command, seen)
+    seen, rooms, began = {}, {}, time.time()
+    status, last = run(command, seen, rooms)
     try:
-        report(parts_in(seen), time.time() - began)
+        report(parts_in(seen, rooms), time.time() - began)
     except Exception:  # the status and the last line come all the same
         traceback.print_exc()
     sys.stdout.flush()

@@ -1,6 +1,6 @@
 //! Calls that may lack memory, each asked again where it does: the second time it is answered.
 
-use crate::expected::{begin, counts_of, insert, leak, made, new_owner};
+use crate::expected::{assert_same, begin, counts_of, insert, leak, made, new_owner};
 use generational_box::{
     AlreadyBorrowedError, AnyStorage, BorrowMutError, GenerationalBox, GenerationalRef, Location,
     Owner, Refused, Storage, StoreError,
@@ -18,8 +18,8 @@ pub(crate) fn leak_or_again<T: Drop, S: Storage<T>>(
     match GenerationalBox::leak(store, value, made()) {
         Ok(given) => given,
         Err(refusal) => {
-            assert_eq!(rt; refusal.cause, StoreError::OutOfMemory);
-            assert_eq!(rt; counts_of(store), before);
+            assert_same(rt, &refusal.cause, &StoreError::OutOfMemory);
+            assert_same(rt, &counts_of(store), &before);
             leak(rt, store, refusal.value, made())
         }
     }
@@ -44,8 +44,8 @@ pub(crate) fn owner_or_again<T, S: AnyStorage<T>>(rt: &impl Abort, store: &mut S
     match store.owner() {
         Ok(given) => given,
         Err(cause) => {
-            assert_eq!(rt; cause, StoreError::OutOfMemory);
-            assert_eq!(rt; (store.is_fresh(), counts_of(store)), before);
+            assert_same(rt, &cause, &StoreError::OutOfMemory);
+            assert_same(rt, &(store.is_fresh(), counts_of(store)), &before);
             new_owner(rt, store)
         }
     }
@@ -62,8 +62,8 @@ pub(crate) fn insert_or_again<T: Drop, S: Storage<T>>(
     match owner.insert(store, value, made()) {
         Ok(given) => given,
         Err(refusal) => {
-            assert_eq!(rt; refusal.cause, StoreError::OutOfMemory);
-            assert_eq!(rt; counts_of(store), before);
+            assert_same(rt, &refusal.cause, &StoreError::OutOfMemory);
+            assert_same(rt, &counts_of(store), &before);
             insert(rt, store, owner, refusal.value, made())
         }
     }

@@ -1,6 +1,6 @@
 //! The proved callers of the crate `uses`, run: docs/CALLING.md shows them.
 
-use crate::expected::leak;
+use crate::expected::{assert_same, leak};
 use crate::fresh::{Scenario, play};
 use generational_box::{
     BorrowMutError, BoxAt, Call, GenerationalBox, LastFirst, Location, OldestFirst, Reply, Session,
@@ -132,7 +132,7 @@ fn assert_carried_out<S: Storage<u64>>(
     call: Call<u64>,
     done: bool,
 ) {
-    assert_eq!(rt; carries_out(session, call).ok(), Some(done));
+    assert_same(rt, &carries_out(session, call).ok(), &Some(done));
 }
 
 /// A value is kept and read, isn't ended under its reader, and is ended after that; its box is told
@@ -143,19 +143,19 @@ fn assert_calls<S: Storage<u64>>(rt: &impl Abort, alloc: Global, session: &mut S
     assert_carried_out(rt, session, Call::ManuallyDrop(BoxAt::Place(0)), false);
     assert_carried_out(rt, session, Call::Release(1), true);
     assert_carried_out(rt, session, Call::ManuallyDrop(BoxAt::Place(0)), true);
-    assert_eq!(rt; errors_of_ended(alloc, session), Some(2));
+    assert_same(rt, &errors_of_ended(alloc, session), &Some(2));
     let dropped = BorrowMutError::Dropped(ValueDroppedError::new(here()));
-    assert_eq!(rt; error_told_later(session), Some(dropped));
+    assert_same(rt, &error_told_later(session), &Some(dropped));
 }
 
 struct Values;
 
 impl Scenario<u64> for Values {
     fn play<R: Abort, S: Storage<u64>>(rt: &R, _: Global, store: &mut S) {
-        assert_eq!(rt; there_and_back(store, 7, here()).ok(), Some(7));
-        assert_eq!(rt; value_by_itself(store), Some((8, (8, 9))));
-        assert_eq!(rt; owned_value(store), Some(None));
-        assert_eq!(rt; shared_values(store), Some((2, 5)));
+        assert_same(rt, &there_and_back(store, 7, here()).ok(), &Some(7));
+        assert_same(rt, &value_by_itself(store), &Some((8, (8, 9))));
+        assert_same(rt, &owned_value(store), &Some(None));
+        assert_same(rt, &shared_values(store), &Some((2, 5)));
     }
 }
 
@@ -169,8 +169,8 @@ struct Conditions;
 impl Scenario<u64> for Conditions {
     fn play<R: Abort, S: Storage<u64>>(rt: &R, _: Global, store: &mut S) {
         let made = leak(rt, store, 3, here());
-        assert_eq!(rt; value_under_conditions(store, made), Some((5, 5)));
-        assert_eq!(rt; value_under_reader(store, made), Some((true, 6)));
+        assert_same(rt, &value_under_conditions(store, made), &Some((5, 5)));
+        assert_same(rt, &value_under_reader(store, made), &Some((true, 6)));
     }
 }
 
@@ -182,7 +182,7 @@ fn values_under_conditions(rt: HostRuntime) {
 /// Asserts what the rows of a table show.
 fn assert_rows<S: Storage<u64> + Drop>(rt: &impl Abort, alloc: Global, store: S) {
     let rows = [Some(3), None, Some(5), None];
-    assert_eq!(rt; rows_of_table(alloc, store), Some(rows));
+    assert_same(rt, &rows_of_table(alloc, store), &Some(rows));
 }
 
 #[test]
@@ -197,7 +197,7 @@ struct AFlag;
 
 impl Scenario<Entry> for AFlag {
     fn play<R: Abort, S: Storage<Entry>>(rt: &R, _: Global, store: &mut S) {
-        assert_eq!(rt; turned_flag(store), Some(true));
+        assert_same(rt, &turned_flag(store), &Some(true));
     }
 }
 

@@ -2,7 +2,8 @@
 //! still has when it goes itself. Each is counted by what std's `Rc` counts.
 
 use crate::expected::{
-    begin, begin_write, end, insert, leak, made, made_later, new_owner, read, release, written,
+    assert_same, begin, begin_write, end, insert, leak, made, made_later, new_owner, read, release,
+    written,
 };
 use crate::fresh::{Scenario, TwoStoreScenario, play, play_in_two_stores};
 use crate::sessions::call;
@@ -30,7 +31,7 @@ fn another(rt: &impl Abort, value: &Counted) -> Counted {
 
 /// Asserts how many clones of a value there are.
 fn assert_count(rt: &impl Abort, value: &Counted, count: usize) {
-    assert_eq!(rt; Rc::strong_count(value), count);
+    assert_same(rt, &Rc::strong_count(value), &count);
 }
 
 fn ends<S: Storage<Counted>>(rt: &impl Abort, alloc: Global, store: &mut S) {

@@ -1,6 +1,6 @@
 //! Values that differ in one thing alone aren't equal.
 
-use crate::expected::{leak, made, made_later};
+use crate::expected::{assert_same, leak, made, made_later};
 use crate::fresh::{Scenario, play};
 use generational_box::{
     AlreadyBorrowedError, AlreadyBorrowedMutError, BorrowError, BorrowMutError,
@@ -27,7 +27,7 @@ fn assert_all_differ<T: PartialEq>(rt: &impl Abort, values: &[T]) {
 #[test]
 fn locations(rt: HostRuntime) {
     let first = Location::new("a.rs", 3, 5);
-    assert_eq!(rt; first, Location::new("a.rs", 3, 5));
+    assert_same(&rt, &first, &Location::new("a.rs", 3, 5));
     assert_differ(&rt, &first, &Location::new("b.rs", 3, 5));
     assert_differ(&rt, &first, &Location::new("a.rs", 4, 5));
     assert_differ(&rt, &first, &Location::new("a.rs", 3, 6));

@@ -1,5 +1,6 @@
 //! The example of the README, run.
 
+use crate::expected::assert_same;
 use generational_box::{GenerationalBox, Location, UnsyncStorage};
 use std::alloc::Global;
 use std::test::Fail;
@@ -31,6 +32,6 @@ pub fn length_in_store(alloc: Global, text: String) -> Option<usize> {
 #[test]
 fn the_length_of_a_text_that_is_ended(rt: HostRuntime) -> Result<(), Fail> {
     let text = String::from_str(rt.alloc(), "hello world")?;
-    assert_eq!(rt; length_in_store(rt.alloc(), text), Some(11));
+    assert_same(&rt, &length_in_store(rt.alloc(), text), &Some(11));
     Ok(())
 }

@@ -119,7 +119,7 @@ pub(crate) fn assert_kept<T, S: AnyStorage<T>>(
     match owner.release(store) {
         Ok(()) => panic!(rt; "the owner was released"),
         Err((back, found)) => {
-            assert_eq!(rt; found, refusal);
+            assert_same(rt, &found, &refusal);
             back
         }
     }
@@ -148,7 +148,7 @@ pub(crate) fn assert_reads<S: Storage<u32>>(
     number: u32,
 ) {
     let guard = begin(rt, store, asked, read());
-    assert_eq!(rt; guard.deref(store).map(|view| *view), Some(number));
+    assert_same(rt, &guard.deref(store).map(|view| *view), &Some(number));
     assert!(rt; guard.release(store));
 }
 
@@ -164,7 +164,7 @@ pub(crate) fn assert_unread<T: Drop, S: Storage<T>>(
             guard.release(store);
             assert!(rt; false, "the read was given");
         }
-        Err(found) => assert_eq!(rt; found, refusal),
+        Err(found) => assert_same(rt, &found, &refusal),
     }
 }
 
@@ -175,7 +175,7 @@ pub(crate) fn assert_opens<S: Storage<u32>>(
     guard: &GenerationalRef<u32>,
     number: Option<u32>,
 ) {
-    assert_eq!(rt; guard.deref(store).map(|view| *view), number);
+    assert_same(rt, &guard.deref(store).map(|view| *view), &number);
 }
 
 /// Ends a read that the store knows, or one that it doesn't.
@@ -185,7 +185,7 @@ pub(crate) fn assert_released<T, S: Storage<T>>(
     guard: GenerationalRef<T>,
     is_known: bool,
 ) {
-    assert_eq!(rt; guard.release(store), is_known);
+    assert_same(rt, &guard.release(store), &is_known);
 }
 
 /// Ends a box's cell.
@@ -200,17 +200,23 @@ pub(crate) fn assert_stays<T, S: Storage<T>>(
     asked: GenerationalBox<T>,
     refusal: Refused<BorrowMutError>,
 ) {
-    assert_eq!(rt; asked.manually_drop(store), Err(refusal));
+    assert_same(rt, &asked.manually_drop(store), &Err(refusal));
 }
 
 /// Asserts that a value is printed so.
 pub(crate) fn assert_prints(rt: &impl Abort, alloc: Global, printed: &impl Display, text: &str) {
     let printed = format!(in alloc; "{printed}").expect(rt, "memory");
-    assert_eq!(rt; printed.as_str(), text);
+    assert_same(rt, &printed.as_str(), &text);
 }
 
 /// Asserts that a value is printed so to a developer.
 pub(crate) fn assert_shows(rt: &impl Abort, alloc: Global, shown: &impl Debug, text: &str) {
     let shown = format!(in alloc; "{shown:?}").expect(rt, "memory");
-    assert_eq!(rt; shown.as_str(), text);
+    assert_same(rt, &shown.as_str(), &text);
+}
+
+/// Asserts that a value is what it should be. Other than `assert_eq`, whose texts are proved at each
+/// use for the types there, it is proved once for all types.
+pub(crate) fn assert_same<T: PartialEq + Debug>(rt: &impl Abort, found: &T, wanted: &T) {
+    assert_eq!(rt; *found, *wanted);
 }

@@ -1,6 +1,8 @@
 //! Ids: what tells boxes apart that had one slot, also once their values are gone.
 
-use crate::expected::{assert_shows, end, insert, leak, made, made_later, new_owner, release};
+use crate::expected::{
+    assert_same, assert_shows, end, insert, leak, made, made_later, new_owner, release,
+};
 use crate::fresh::{Scenario, TwoStoreScenario, play, play_in_two_stores};
 use generational_box::{
     AnyStorage, GenerationalBox, GenerationalBoxId, Location, Storage, Store, UnsyncStorage,
@@ -26,12 +28,12 @@ fn assert_id(
     place: Location,
 ) {
     assert_shows(rt, alloc, &given.id(), name);
-    assert_eq!(rt; given.raw_ptr(), 0);
-    assert_eq!(rt; given.created_at(), place);
+    assert_same(rt, &given.raw_ptr(), &0);
+    assert_same(rt, &given.created_at(), &place);
     let copy = given;
     assert!(rt; given.ptr_eq(&given) && given.ptr_eq(&copy));
     assert!(rt; given.id() == copy.id());
-    assert_eq!(rt; hash_of(&given.id()), hash_of(&copy.id()));
+    assert_same(rt, &hash_of(&given.id()), &hash_of(&copy.id()));
 }
 
 /// Asserts that two boxes have different ids.
@@ -47,8 +49,8 @@ fn assert_slot<S: Storage<u32>>(
     given: GenerationalBox<u32>,
     slot: usize,
 ) {
-    assert_eq!(rt; given.raw_ptr(), slot);
-    assert_eq!(rt; store.data_ptr(given.pointer()), slot);
+    assert_same(rt, &given.raw_ptr(), &slot);
+    assert_same(rt, &store.data_ptr(given.pointer()), &slot);
 }
 
 struct BoxesOneAfterTheOther;
@@ -61,7 +63,7 @@ impl Scenario<u32> for BoxesOneAfterTheOther {
         let owner = new_owner(rt, store);
         let second = insert(rt, store, &owner, 1234, made_later());
 
-        assert_eq!(rt; store.slots(), 1);
+        assert_same(rt, &store.slots(), &1);
         assert_id(rt, alloc, first, "0@1", made());
         assert_id(rt, alloc, second, "0@2", made_later());
         assert_slot(rt, store, first, 0);

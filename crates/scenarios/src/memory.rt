@@ -3,8 +3,8 @@
 
 use crate::again::{begin_or_again, insert_or_again, leak_or_again, owner_or_again, readers};
 use crate::expected::{
-    assert_opens, assert_reads, assert_released, assert_unread, begin, counts_of, dropped, end,
-    leak, made, made_later, read, release,
+    assert_opens, assert_reads, assert_released, assert_same, assert_unread, begin, counts_of,
+    dropped, end, leak, made, made_later, read, release,
 };
 use crate::fresh::{Scenario, SessionScenario, play, play_in_session};
 use generational_box::{
@@ -26,14 +26,14 @@ fn assert_kept_by<S: AnyStorage<u32>>(
     let before = counts_of(store);
     let answer = match owner.release(store) {
         Err((back, Refused::Store(StoreError::OutOfMemory))) => {
-            assert_eq!(rt; counts_of(store), before);
+            assert_same(rt, &counts_of(store), &before);
             back.release(store)
         }
         answer => answer,
     };
     let (back, refusal) = answer.err().expect(rt, "a refusal");
-    assert_eq!(rt; refusal, readers(rt, alloc, began));
-    assert_eq!(rt; counts_of(store), before);
+    assert_same(rt, &refusal, &readers(rt, alloc, began));
+    assert_same(rt, &counts_of(store), &before);
     back
 }
 
@@ -49,7 +49,7 @@ fn assert_borrowed<S: Storage<u32>>(
         Err(Refused::Store(StoreError::OutOfMemory)) => asked.manually_drop(store),
         answer => answer,
     };
-    assert_eq!(rt; refusal, Err(readers(rt, alloc, began)));
+    assert_same(rt, &refusal, &Err(readers(rt, alloc, began)));
 }
 
 /// Begins a read beside another, if there is memory. One that lacks it changes nothing.
@@ -62,7 +62,7 @@ fn begin_if_memory<S: Storage<u32>>(
     match asked.try_read(store, began) {
         Ok(second) => Some(second),
         Err(refused) => {
-            assert_eq!(rt; refused, Refused::Store(StoreError::OutOfMemory));
+            assert_same(rt, &refused, &Refused::Store(StoreError::OutOfMemory));
             None
         }
     }
@@ -122,7 +122,7 @@ impl Scenario<u32> for Owners {
     fn play<R: Abort, S: Storage<u32>>(rt: &R, _: Global, store: &mut S) {
         for taken in 1..=20 {
             let owner = owner_or_again(rt, store);
-            assert_eq!(rt; store.tickets_left(), 18446744073709551615 - taken);
+            assert_same(rt, &store.tickets_left(), &(18446744073709551615 - taken));
             owner.leak();
         }
     }
@@ -166,7 +166,7 @@ impl Scenario<u32> for BoxesOfAnOwner {
             earlier = later;
         }
         release(rt, store, owner);
-        assert_eq!(rt; (store.slots(), store.free()), (6, 6));
+        assert_same(rt, &(store.slots(), store.free()), &(6, 6));
     }
 }
 
@@ -221,7 +221,7 @@ fn run_or_again<S: Storage<u32>>(
 ) -> Vec<Reply<u32>> {
     let ran = match session.run(calls) {
         Err(back) => {
-            assert_eq!(rt; back.len(), 2);
+            assert_same(rt, &back.len(), &2);
             session.run(back)
         }
         ran => ran,
@@ -237,7 +237,7 @@ fn assert_two_replies<S: Storage<u32>>(
 ) {
     assert_eq!(rt; replies.len(), 2);
     match (&replies[0], &replies[1]) {
-        (Reply::Box(_), Reply::Reader) => assert_eq!(rt; session.view(1).copied(), Some(5)),
+        (Reply::Box(_), Reply::Reader) => assert_same(rt, &session.view(1).copied(), &Some(5)),
         (Reply::Back(5, StoreError::OutOfMemory), Reply::NoSuch(None)) => {}
         _ => assert!(rt; false, "other replies"),
     }

@@ -1,8 +1,8 @@
 //! Plenty of everything: where there is memory nothing lacks it, however much there is already.
 
 use crate::expected::{
-    assert_reads, assert_unread, dropped, insert, leak, made, made_later, new_owner, read, release,
-    written,
+    assert_reads, assert_same, assert_unread, dropped, insert, leak, made, made_later, new_owner,
+    read, release, written,
 };
 use crate::fresh::{Scenario, SessionScenario, play, play_in_session};
 use crate::sessions::call;
@@ -141,7 +141,7 @@ fn run<S: Storage<u32>>(
 ) {
     let ran = session.run(calls).map_err(|_| AllocError);
     let replies = ran.expect(rt, "replies");
-    assert_eq!(rt; replies.len(), count);
+    assert_same(rt, &replies.len(), &count);
     for reply in replies {
         assert!(rt; matches!(&reply, Reply::Box(_)));
     }

@@ -3,8 +3,8 @@
 
 use crate::again::{begin_or_again, owner_or_again, readers};
 use crate::expected::{
-    assert_opens, assert_reads, assert_released, assert_unread, begin, counts_of, dropped, end,
-    leak, made, made_later, release,
+    assert_opens, assert_reads, assert_released, assert_same, assert_unread, begin, counts_of,
+    dropped, end, leak, made, made_later, release,
 };
 use crate::fresh::{Scenario, SessionScenario, play, play_in_session};
 use crate::sharing::{insert_rc, insert_reference, leak_rc, leak_reference, point};
@@ -26,11 +26,12 @@ fn leak_rc_or_again<S: Storage<u32>>(
     match GenerationalBox::leak_rc(store, value, made()) {
         Ok(given) => given,
         Err(refusal) => {
-            assert_eq!(rt;
-                (refusal.value, refusal.cause),
-                (value, StoreError::OutOfMemory)
+            assert_same(
+                rt,
+                &(refusal.value, refusal.cause),
+                &(value, StoreError::OutOfMemory),
             );
-            assert_eq!(rt; counts_of(store), before);
+            assert_same(rt, &counts_of(store), &before);
             leak(rt, store, value, made());
             leak_rc(rt, store, value, made())
         }
@@ -46,7 +47,7 @@ fn leak_reference_or_again<S: Storage<u32>>(
     let before = counts_of(store);
     match shared.leak_reference(store) {
         Err(Refused::Store(StoreError::OutOfMemory)) => {
-            assert_eq!(rt; counts_of(store), before);
+            assert_same(rt, &counts_of(store), &before);
             leak_reference(rt, store, shared)
         }
         answer => answer.expect(rt, "a box"),
@@ -65,11 +66,12 @@ fn insert_rc_or_again<S: Storage<u32>>(
     match owner.insert_rc(store, value, made()) {
         Ok(given) => given,
         Err(refusal) => {
-            assert_eq!(rt;
-                (refusal.value, refusal.cause),
-                (value, StoreError::OutOfMemory)
+            assert_same(
+                rt,
+                &(refusal.value, refusal.cause),
+                &(value, StoreError::OutOfMemory),
             );
-            assert_eq!(rt; counts_of(store), before);
+            assert_same(rt, &counts_of(store), &before);
             insert_rc(rt, store, owner, value, made())
         }
     }
@@ -86,7 +88,7 @@ fn insert_reference_or_again<S: Storage<u32>>(
     let before = counts_of(store);
     match owner.insert_reference(store, shared) {
         Err(Refused::Store(StoreError::OutOfMemory)) => {
-            assert_eq!(rt; counts_of(store), before);
+            assert_same(rt, &counts_of(store), &before);
             insert_reference(rt, store, owner, shared)
         }
         answer => answer.expect(rt, "a box"),
@@ -105,7 +107,7 @@ fn assert_held<S: Storage<u32>>(
         Err(Refused::Store(StoreError::OutOfMemory)) => from.point_to(store, to),
         answer => answer,
     };
-    assert_eq!(rt; refusal, Err(readers(rt, alloc, began)));
+    assert_same(rt, &refusal, &Err(readers(rt, alloc, began)));
 }
 
 struct SharedValues;
@@ -181,7 +183,7 @@ impl Scenario<u32> for NamesOfAnOwner {
             assert_reads(rt, store, reference, value);
         }
         release(rt, store, owner);
-        assert_eq!(rt; (store.slots(), store.free()), (19, 19));
+        assert_same(rt, &(store.slots(), store.free()), &(19, 19));
     }
 }
 

@@ -1,6 +1,6 @@
 //! What a session's end leaves in its store.
 
-use crate::expected::{assert_reads, end, made, read};
+use crate::expected::{assert_reads, assert_same, end, made, read};
 use generational_box::{
     BoxAt, Call, GenerationalBox, Reply, Session, Storage, Store, UnsyncStorage,
 };
@@ -43,7 +43,7 @@ fn readers_of_two<S: Storage<u32>>(rt: &impl Abort, mut session: Session<u32, S>
     for place in [0, 1, 0] {
         begin_at(rt, &mut session, place);
     }
-    assert_eq!(rt; session.store().number(), 7);
+    assert_same(rt, &session.store().number(), &7);
     let mut store = session.finish();
     end(rt, &mut store, one);
     end(rt, &mut store, other);

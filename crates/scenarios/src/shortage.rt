@@ -4,8 +4,8 @@
 
 use crate::again::{insert_or_again, leak_or_again, owner_or_again, readers};
 use crate::expected::{
-    assert_kept, assert_opens, assert_released, assert_unread, begin, begin_write, counts_of,
-    dropped, end, made, made_later, read, written,
+    assert_kept, assert_opens, assert_released, assert_same, assert_unread, begin, begin_write,
+    counts_of, dropped, end, made, made_later, read, written,
 };
 use crate::fresh::{Scenario, TwoStoreScenario, play, play_in_two_stores};
 use generational_box::{
@@ -23,17 +23,17 @@ fn assert_counts<S: AnyStorage<u32>>(rt: &impl Abort, store: &S, counts: [usize;
         store.retired(),
         store.peak_live(),
     ];
-    assert_eq!(rt; found, counts);
+    assert_same(rt, &found, &counts);
 }
 
 /// Values at the last generation, one after the other.
 fn end_at_last_generation<S: Storage<u32>>(rt: &impl Abort, store: &mut S) {
     let first = leak_or_again(rt, store, 1);
-    assert_eq!(rt; first.raw_ptr(), 0);
+    assert_same(rt, &first.raw_ptr(), &0);
     end(rt, store, first);
     assert_counts(rt, store, [1, 0, 1, 1]);
     let second = leak_or_again(rt, store, 2);
-    assert_eq!(rt; second.raw_ptr(), 1);
+    assert_same(rt, &second.raw_ptr(), &1);
     assert_counts(rt, store, [2, 0, 1, 1]);
     assert_unread(rt, store, first, dropped(made()));
 }
@@ -51,7 +51,7 @@ fn at_the_last_generation(rt: HostRuntime) {
 
 /// Asserts that a store without tickets gives none, for a read or for an owner.
 fn assert_no_ticket<S: Storage<u32>>(rt: &impl Abort, store: &mut S) {
-    assert_eq!(rt; store.tickets_left(), 0);
+    assert_same(rt, &store.tickets_left(), &0);
     let only = leak_or_again(rt, store, 1);
     assert_unread(
         rt,
@@ -64,21 +64,21 @@ fn assert_no_ticket<S: Storage<u32>>(rt: &impl Abort, store: &mut S) {
             given.leak();
             panic!(rt; "the owner was given");
         }
-        Err(cause) => assert_eq!(rt; cause, StoreError::NumbersExhausted),
+        Err(cause) => assert_same(rt, &cause, &StoreError::NumbersExhausted),
     }
     assert!(rt; only.can_write(store));
 }
 
 /// Asserts that the last ticket goes to an owner, and that none is left for its clone.
 fn assert_last_ticket<S: AnyStorage<u32>>(rt: &impl Abort, store: &mut S) {
-    assert_eq!(rt; store.tickets_left(), 1);
+    assert_same(rt, &store.tickets_left(), &1);
     let owner = owner_or_again(rt, store);
     match owner.clone(store) {
         Ok(given) => {
             given.leak();
             panic!(rt; "the clone was given");
         }
-        Err(cause) => assert_eq!(rt; cause, StoreError::NumbersExhausted),
+        Err(cause) => assert_same(rt, &cause, &StoreError::NumbersExhausted),
     }
     owner.leak();
 }
@@ -104,9 +104,10 @@ fn at_the_last_tickets(rt: HostRuntime) {
 fn assert_unknown<S: Storage<u32>>(rt: &impl Abort, store: &mut S, owner: &Owner) {
     match owner.insert(store, 9, made_later()) {
         Ok(_) => panic!(rt; "the box was made"),
-        Err(refusal) => assert_eq!(rt;
-            (refusal.value, refusal.cause),
-            (9, StoreError::UnknownOwner)
+        Err(refusal) => assert_same(
+            rt,
+            &(refusal.value, refusal.cause),
+            &(9, StoreError::UnknownOwner),
         ),
     }
 }
@@ -125,8 +126,8 @@ impl TwoStoreScenario<u32> for Strangers {
         let unknown = Refused::Store(StoreError::UnknownOwner);
         assert_kept(rt, seven, owner, unknown).leak();
         let writer = begin_write(rt, eight, foreign, written());
-        assert_eq!(rt; writer.release(seven), Err(80));
-        assert_eq!(rt; counts_of(seven), before);
+        assert_same(rt, &writer.release(seven), &Err(80));
+        assert_same(rt, &counts_of(seven), &before);
         let lent = BorrowError::AlreadyBorrowedMut(AlreadyBorrowedMutError::new(written()));
         assert_unread(rt, eight, foreign, Refused::Borrow(lent));
         let guard = begin(rt, seven, own_value, read());
@@ -167,7 +168,7 @@ fn assert_text<S: Storage<Note>>(
         Note::Text(text) => text.as_str() == letters,
         Note::Number(_) => false,
     });
-    assert_eq!(rt; found, Some(true));
+    assert_same(rt, &found, &Some(true));
 }
 
 struct Notes;
@@ -202,8 +203,8 @@ fn assert_parts<S: Storage<(u32, u32)>>(
     guard: &GenerationalRef<(u32, u32)>,
 ) {
     let whole = guard.deref(store).expect(rt, "a view");
-    assert_eq!(rt; whole.cloned(), Ok((1, 2)));
-    assert_eq!(rt; *whole.map(|pair| &pair.1), 2);
+    assert_same(rt, &whole.cloned(), &Ok((1, 2)));
+    assert_same(rt, &*whole.map(|pair| &pair.1), &2);
     let other = guard.deref(store).expect(rt, "a view");
     assert!(rt; other.try_map(|_pair| None::<&u32>).is_none());
 }
@@ -219,7 +220,7 @@ impl Scenario<(u32, u32)> for Pairs {
             Err(Refused::Store(StoreError::OutOfMemory)) => pair.manually_drop(store),
             answer => answer,
         };
-        assert_eq!(rt; refusal, Err(readers(rt, alloc, &[read()])));
+        assert_same(rt, &refusal, &Err(readers(rt, alloc, &[read()])));
         assert_released(rt, store, guard, true);
     }
 }

@@ -2,9 +2,9 @@
 //! of the same number. Boxes of other stores are named by scripts.
 
 use crate::expected::{
-    assert_kept, assert_opens, assert_reads, assert_released, assert_shows, assert_stays,
-    assert_unread, begin, begin_write, borrowed, counts_of, dropped, end, insert, leak, made,
-    made_later, new_owner, read, release, written,
+    assert_kept, assert_opens, assert_reads, assert_released, assert_same, assert_shows,
+    assert_stays, assert_unread, begin, begin_write, borrowed, counts_of, dropped, end, insert,
+    leak, made, made_later, new_owner, read, release, written,
 };
 use crate::fresh::{TwoStoreScenario, play_in_twins, play_in_two_stores};
 use crate::sharing::{insert_rc, leak_rc};
@@ -23,7 +23,7 @@ impl TwoStoreScenario<u32> for GuardsOfTwo {
         let foreign = leak(rt, eight, 80, made_later());
         let guard = begin(rt, seven, own, made());
         let stranger = begin(rt, eight, foreign, read());
-        assert_eq!(rt; (guard.ticket(), stranger.ticket()), (0, 0));
+        assert_same(rt, &(guard.ticket(), stranger.ticket()), &(0, 0));
         assert_opens(rt, seven, &stranger, None);
         assert_opens(rt, eight, &guard, None);
 
@@ -50,7 +50,7 @@ fn assert_handed_back<S: Storage<u32>>(
     writer: GenerationalRefMut<u32>,
     value: u32,
 ) {
-    assert_eq!(rt; writer.release(store), Err(value));
+    assert_same(rt, &writer.release(store), &Err(value));
 }
 
 struct WritersOfTwo;
@@ -63,7 +63,7 @@ impl TwoStoreScenario<u32> for WritersOfTwo {
         let before = counts_of(seven);
 
         assert_handed_back(rt, seven, stranger, 80);
-        assert_eq!(rt; counts_of(seven), before);
+        assert_same(rt, &counts_of(seven), &before);
         assert_reads(rt, seven, own, 70);
         let writing = BorrowError::AlreadyBorrowedMut(AlreadyBorrowedMutError::new(written()));
         assert_unread(rt, eight, foreign, Refused::Borrow(writing));
@@ -105,8 +105,8 @@ fn assert_not_inserted<S: Storage<u32>>(rt: &impl Abort, store: &mut S, owner: &
     match owner.insert(store, 9, made()) {
         Ok(_) => panic!(rt; "the box was made"),
         Err(refusal) => {
-            assert_eq!(rt; refusal.value, 9);
-            assert_eq!(rt; refusal.cause, StoreError::UnknownOwner);
+            assert_same(rt, &refusal.value, &9);
+            assert_same(rt, &refusal.cause, &StoreError::UnknownOwner);
         }
     }
 }
@@ -116,8 +116,8 @@ fn assert_not_shared<S: Storage<u32>>(rt: &impl Abort, store: &mut S, owner: &Ow
     match owner.insert_rc(store, 9, made()) {
         Ok(_) => panic!(rt; "the box was made"),
         Err(refusal) => {
-            assert_eq!(rt; refusal.value, 9);
-            assert_eq!(rt; refusal.cause, StoreError::UnknownOwner);
+            assert_same(rt, &refusal.value, &9);
+            assert_same(rt, &refusal.cause, &StoreError::UnknownOwner);
         }
     }
 }
@@ -141,7 +141,7 @@ fn assert_not_cloned<S: Storage<u32>>(rt: &impl Abort, store: &mut S, owner: &Ow
             given.leak();
             panic!(rt; "the clone was given");
         }
-        Err(cause) => assert_eq!(rt; cause, StoreError::UnknownOwner),
+        Err(cause) => assert_same(rt, &cause, &StoreError::UnknownOwner),
     }
 }
 
@@ -166,12 +166,12 @@ impl TwoStoreScenario<u32> for OwnersOfTwo {
         assert_not_cloned(rt, seven, &owner);
         let unknown = Refused::Store(StoreError::UnknownOwner);
         let owner = assert_kept(rt, seven, owner, unknown);
-        assert_eq!(rt; counts_of(seven), before);
+        assert_same(rt, &counts_of(seven), &before);
 
         release(rt, eight, owner);
         assert_unread(rt, eight, foreign, dropped(made_later()));
         release(rt, seven, own);
-        assert_eq!(rt; seven.free(), 3);
+        assert_same(rt, &seven.free(), &3);
     }
 }
 

@@ -1,6 +1,6 @@
 //! What is printed.
 
-use crate::expected::{assert_prints, assert_shows, leak, made, made_later};
+use crate::expected::{assert_prints, assert_same, assert_shows, leak, made, made_later};
 use generational_box::{
     AlreadyBorrowedError, AlreadyBorrowedMutError, BorrowError, BorrowMutError, GenerationalBox,
     Location, Refused, Storage, Store, StoreError, UnsyncStorage, ValueDroppedError,
@@ -27,12 +27,16 @@ const READ_BY_NOBODY: &str =
 fn errors_of_values_that_are_gone(rt: HostRuntime) {
     let alloc = rt.alloc();
     let gone = ValueDroppedError::new(made());
-    assert_eq!(rt; gone.created_at(), made());
+    assert_same(&rt, &gone.created_at(), &made());
     let held = BorrowError::Dropped(gone);
     assert_prints(&rt, alloc, &gone, DROPPED);
     assert_prints(&rt, alloc, &held, DROPPED);
     assert_prints(&rt, alloc, &BorrowMutError::Dropped(gone), DROPPED);
-    assert_eq!(rt; BorrowMutError::from(held), BorrowMutError::Dropped(gone));
+    assert_same(
+        &rt,
+        &BorrowMutError::from(held),
+        &BorrowMutError::Dropped(gone),
+    );
     let refused = Refused::Borrow(BorrowError::Dropped(gone));
     assert_prints(&rt, alloc, &refused, DROPPED);
 }
@@ -46,7 +50,7 @@ fn errors_of_values_that_are_written(rt: HostRuntime) -> Result<(), Fail> {
     assert_prints(&rt, alloc, &written, WRITTEN);
     assert_prints(&rt, alloc, &asked, WRITTEN);
     assert_prints(&rt, alloc, &held, WRITTEN);
-    assert_eq!(rt; BorrowMutError::from(asked), held);
+    assert_same(&rt, &BorrowMutError::from(asked), &held);
     assert_prints(&rt, alloc, &Refused::Borrow(held.clone()?), WRITTEN);
     Ok(())
 }
@@ -89,8 +93,8 @@ fn assert_location(
     let (line, column) = place;
     let location = Location::new(file, line, column);
     assert_prints(rt, alloc, &location, text);
-    assert_eq!(rt; location.file(), file);
-    assert_eq!(rt; (location.line(), location.column()), place);
+    assert_same(rt, &location.file(), &file);
+    assert_same(rt, &(location.line(), location.column()), &place);
 }
 
 #[test]
@@ -124,7 +128,7 @@ fn boxes(rt: HostRuntime) -> Result<(), Fail> {
 /// Asserts that a value is printed so to a developer, over several lines.
 fn assert_spreads(rt: &impl Abort, alloc: Global, shown: &impl Debug, text: &str) {
     let shown = format!(in alloc; "{shown:#?}").expect(rt, "memory");
-    assert_eq!(rt; shown.as_str(), text);
+    assert_same(rt, &shown.as_str(), &text);
 }
 
 const LOCATION: &str = "Location { file: \"a.rs\", line: 3, column: 5 }";
@@ -184,15 +188,15 @@ fn texts_for_developers(rt: HostRuntime) -> Result<(), Fail> {
 /// Asserts that a value is printed so, whatever the width.
 fn assert_wide(rt: &impl Abort, alloc: Global, printed: &impl Display, text: &str) {
     let left = format!(in alloc; "{printed:200}").expect(rt, "memory");
-    assert_eq!(rt; left.as_str(), text);
+    assert_same(rt, &left.as_str(), &text);
     let right = format!(in alloc; "{printed:*>200.3}").expect(rt, "memory");
-    assert_eq!(rt; right.as_str(), text);
+    assert_same(rt, &right.as_str(), &text);
 }
 
 /// Asserts that a value is printed so to a developer, whatever the width.
 fn assert_wide_for_developers(rt: &impl Abort, alloc: Global, shown: &impl Debug, text: &str) {
     let right = format!(in alloc; "{shown:*>200?}").expect(rt, "memory");
-    assert_eq!(rt; right.as_str(), text);
+    assert_same(rt, &right.as_str(), &text);
 }
 
 // None of these texts is padded or cut, as none is in upstream.

@@ -1,7 +1,8 @@
 //! Views: their parts, clones and texts, and what is written through parts.
 
 use crate::expected::{
-    assert_prints, assert_shows, begin, begin_write, borrowed, leak, made, read, written,
+    assert_prints, assert_same, assert_shows, begin, begin_write, borrowed, leak, made, read,
+    written,
 };
 use crate::fresh::{Scenario, play};
 use generational_box::{GenerationalBox, GenerationalRef, GenerationalRefMut, Ref, Storage};
@@ -25,13 +26,13 @@ fn assert_parts<S: Storage<(u32, u32)>>(
     guard: &GenerationalRef<(u32, u32)>,
 ) {
     let whole = view(rt, store, guard);
-    assert_eq!(rt; whole.cloned(), Ok((1, 2)));
+    assert_same(rt, &whole.cloned(), &Ok((1, 2)));
     assert_shows(rt, alloc, &whole, "(1, 2)");
     let second = whole.map(|pair| &pair.1);
-    assert_eq!(rt; *second, 2);
+    assert_same(rt, &*second, &2);
     assert_prints(rt, alloc, &second, "2");
     let first = view(rt, store, guard).try_map(|pair| Some(&pair.0));
-    assert_eq!(rt; first.map(|part| *part), Some(1));
+    assert_same(rt, &first.map(|part| *part), &Some(1));
     let none = view(rt, store, guard).try_map(|_pair| None::<&u32>);
     assert!(rt; none.is_none());
 }
@@ -45,7 +46,7 @@ fn assert_read<S: Storage<(u32, u32)>>(
 ) {
     match asked.try_write(store, written()) {
         Ok(_) => panic!(rt; "the write was given"),
-        Err(found) => assert_eq!(rt; found, borrowed(rt, alloc, &[read()])),
+        Err(found) => assert_same(rt, &found, &borrowed(rt, alloc, &[read()])),
     }
 }
 
@@ -70,12 +71,12 @@ fn a_pair_is_viewed(rt: HostRuntime) {
 /// Writes both parts of a pair through its views, and looks for a third.
 fn write_parts(rt: &impl Abort, guard: &mut GenerationalRefMut<(u32, u32)>) {
     *guard.deref_mut().map_mut(|pair| &mut pair.1) = 20;
-    assert_eq!(rt; *guard.deref(), (1, 20));
+    assert_same(rt, &*guard.deref(), &(1, 20));
     match guard.deref_mut().try_map_mut(|pair| Some(&mut pair.0)) {
         Some(mut part) => *part = 10,
         None => panic!(rt; "there is a part"),
     }
-    assert_eq!(rt; *guard.deref(), (10, 20));
+    assert_same(rt, &*guard.deref(), &(10, 20));
     let none = guard.deref_mut().try_map_mut(|_pair| None::<&mut u32>);
     assert!(rt; none.is_none());
 }
@@ -91,7 +92,7 @@ fn write_part_of_part(rt: &impl Abort, guard: &mut GenerationalRefMut<(u32, u32)
         Some(mut part) => *part = 22,
         None => panic!(rt; "there is a part"),
     }
-    assert_eq!(rt; *guard.deref(), (11, 22));
+    assert_same(rt, &*guard.deref(), &(11, 22));
 }
 
 struct PartsOfAWriter;
@@ -104,7 +105,7 @@ impl Scenario<(u32, u32)> for PartsOfAWriter {
         write_part_of_part(rt, &mut guard);
         assert!(rt; guard.release(store).is_ok());
         let reader = begin(rt, store, pair, read());
-        assert_eq!(rt; view(rt, store, &reader).cloned(), Ok((11, 22)));
+        assert_same(rt, &view(rt, store, &reader).cloned(), &Ok((11, 22)));
         assert!(rt; reader.release(store));
     }
 }

@@ -1,6 +1,7 @@
 //! Short histories of scopes and signals, with the answers that they must have.
 
-use crate::calls::{
+use crate::expected::assert_same;
+use crate::signal_calls::{
     alias, asked, double, end, end_hindered, first_made, is_gone, scope, second_made, sees, set,
     set_ended, signal, swap, update_ended,
 };
@@ -56,8 +57,8 @@ fn end_both<S: Storage<u64>>(
     end(rt, store, scope);
     is_gone(rt, store, first, first_made());
     is_gone(rt, store, second, second_made());
-    assert_eq!(rt; store.slots(), 5);
-    assert_eq!(rt; store.free(), 5);
+    assert_same(rt, &store.slots(), &5);
+    assert_same(rt, &store.free(), &5);
 }
 
 #[test]
@@ -97,13 +98,13 @@ impl History for TicketsTaken {
         sees(rt, store, s, 6);
         set(rt, store, s, 7);
         double(rt, store, s, 7);
-        assert_eq!(rt; tickets.checked_sub(3), Some(store.tickets_left()));
+        assert_same(rt, &tickets.checked_sub(3), &Some(store.tickets_left()));
         assert!(rt; s.as_box().can_write(store));
         sees(rt, store, s, 14);
         end(rt, store, a);
         set_ended(rt, store, s, 8, first_made());
         update_ended(rt, store, s, first_made());
-        assert_eq!(rt; tickets.checked_sub(4), Some(store.tickets_left()));
+        assert_same(rt, &tickets.checked_sub(4), &Some(store.tickets_left()));
     }
 }
 
@@ -117,14 +118,14 @@ struct CallersAnswer;
 /// What the callers answer, and a scope that is leaked: its signals live on.
 impl History for CallersAnswer {
     fn play<R: Abort, S: Storage<u64>>(rt: &R, _: Global, store: &mut S) {
-        assert_eq!(rt; outlived(store, 4, asked()), Some(4));
+        assert_same(rt, &outlived(store, 4, asked()), &Some(4));
         let a = scope(rt, store);
         let s = signal(rt, store, &a, 6, first_made());
         let u = signal(rt, store, &a, 8, second_made());
-        assert_eq!(rt; set_through_alias(store, &a, s, 7, asked()), Some(7));
-        assert_eq!(rt; set_source(store, s, u, 9, asked()).ok(), Some(9));
+        assert_same(rt, &set_through_alias(store, &a, s, 7, asked()), &Some(7));
+        assert_same(rt, &set_source(store, s, u, 9, asked()).ok(), &Some(9));
         sees(rt, store, u, 9);
-        assert_eq!(rt; count_up(store, u, asked()).ok(), Some(10));
+        assert_same(rt, &count_up(store, u, asked()).ok(), &Some(10));
         a.leak();
         sees(rt, store, s, 10);
     }

@@ -1,5 +1,6 @@
 //! Calls of scopes and signals over any store, one a function, with what they must answer.
 
+use crate::expected::assert_same;
 use generational_box::{
     AlreadyBorrowedError, AnyStorage, BorrowError, BorrowMutError, Location, Refused, Storage,
     ValueDroppedError,
@@ -72,7 +73,7 @@ pub(crate) fn end_hindered<S: AnyStorage<u64>>(
         Err((scope, refused)) => {
             let readers = vec![in alloc; asked()].expect(rt, "memory");
             let read = BorrowMutError::AlreadyBorrowed(AlreadyBorrowedError::new(readers));
-            assert_eq!(rt; refused, Refused::Borrow(read));
+            assert_same(rt, &refused, &Refused::Borrow(read));
             scope
         }
     }
@@ -86,7 +87,7 @@ pub(crate) fn sees<S: Storage<u64>>(
     value: u64,
 ) {
     assert!(rt; signal.is_readable(store));
-    assert_eq!(rt; signal.get(store, asked(), |seen| *seen), Ok(value));
+    assert_same(rt, &signal.get(store, asked(), |seen| *seen), &Ok(value));
 }
 
 /// Reads a signal that has ended: the closure isn't called.
@@ -100,7 +101,7 @@ pub(crate) fn is_gone<S: Storage<u64>>(
     let mut called = false;
     let answer = signal.get(store, asked(), |_| called = true);
     let error = BorrowError::Dropped(ValueDroppedError::new(made));
-    assert_eq!(rt; answer, Err(Refused::Borrow(error)));
+    assert_same(rt, &answer, &Err(Refused::Borrow(error)));
     assert!(rt; !called);
 }
 
@@ -111,7 +112,7 @@ pub(crate) fn set<S: Storage<u64>>(
     signal: Signal<u64>,
     value: u64,
 ) {
-    assert_eq!(rt; signal.set(store, value, asked()), Ok(()));
+    assert_same(rt, &signal.set(store, value, asked()), &Ok(()));
 }
 
 /// Sets a signal that has ended: the value comes back.
@@ -124,7 +125,7 @@ pub(crate) fn set_ended<S: Storage<u64>>(
 ) {
     let error = BorrowMutError::Dropped(ValueDroppedError::new(made));
     let answer = signal.set(store, value, asked());
-    assert_eq!(rt; answer, Err((value, Refused::Borrow(error))));
+    assert_same(rt, &answer, &Err((value, Refused::Borrow(error))));
 }
 
 /// Changes a signal that has ended: the closure isn't called.
@@ -137,7 +138,7 @@ pub(crate) fn update_ended<S: Storage<u64>>(
     let mut called = false;
     let answer = signal.update(store, asked(), |_| called = true);
     let error = BorrowMutError::Dropped(ValueDroppedError::new(made));
-    assert_eq!(rt; answer, Err(Refused::Borrow(error)));
+    assert_same(rt, &answer, &Err(Refused::Borrow(error)));
     assert!(rt; !called);
 }
 
@@ -153,7 +154,7 @@ pub(crate) fn double<S: Storage<u64>>(
         *value = before.wrapping_mul(2);
         before
     });
-    assert_eq!(rt; answer, Ok(before));
+    assert_same(rt, &answer, &Ok(before));
 }
 
 /// Lets a signal lead to the value of another.
@@ -163,5 +164,5 @@ pub(crate) fn swap<S: Storage<u64>>(
     signal: Signal<u64>,
     to: Signal<u64>,
 ) {
-    assert_eq!(rt; signal.swap_source(store, to), Ok(()));
+    assert_same(rt, &signal.swap_source(store, to), &Ok(()));
 }
