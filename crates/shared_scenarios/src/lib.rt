@@ -6,8 +6,6 @@
 #[cfg(test)]
 mod beside;
 #[cfg(test)]
-mod checkpoints;
-#[cfg(test)]
 mod gates;
 #[cfg(test)]
 mod memory;

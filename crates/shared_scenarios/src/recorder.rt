@@ -3,18 +3,21 @@
 
 use crate::workers::{MadeOrBack, Worker};
 use generational_box::{
-    BorrowError, BorrowMutError, BorrowMutResult, BorrowResult, GenerationalBox, GenerationalBoxId,
-    GenerationalRef, GenerationalRefMut, Location, Owner, Refused, StepCall, StoreError,
-    ValueDroppedError,
+    BaseRow, BorrowError, BorrowMutError, BorrowMutResult, BorrowResult, GenerationalBox,
+    GenerationalBoxId, GenerationalRef, GenerationalRefMut, Location, Owner, Refused, StepCall,
+    StoreError, ValueDroppedError,
 };
-use generational_sync::{Kind, Step, StepReply};
+use generational_sync::{Base, Kind, Step, StepReply};
 use std::alloc::Global;
+use std::fmt::Debug;
 use std::process::Abort;
 use std::sync::Wait;
 use std::thread;
 
 // How often a worker looks whether calls wait before it gives up.
 const TURNS: u64 = 10_000_000;
+
+const KINDS: [Kind; 4] = [Kind::Made, Kind::Lent, Kind::Changed, Kind::Refused];
 
 /// A worker, and the steps that its calls are.
 #[derive(Drop)]
@@ -53,7 +56,7 @@ impl<W: Worker> Recorder<W> {
 
     // That a call found no memory, and is called again.
     fn lacks(&mut self, rt: &impl Abort, cause: StoreError) {
-        assert_eq!(rt; cause, StoreError::OutOfMemory);
+        assert_same(rt, &cause, &StoreError::OutOfMemory);
         self.lacks = self.lacks.wrapping_add(1);
     }
 
@@ -287,7 +290,7 @@ impl<W: Worker> Recorder<W> {
     ) {
         match self.asks_to_read(rt, asked, at) {
             Err(Refused::Borrow(BorrowError::Dropped(error))) => {
-                assert_eq!(rt; error.created_at(), made);
+                assert_same(rt, &error.created_at(), &made);
             }
             Err(_) => rt.abort(),
             Ok(guard) => {
@@ -344,7 +347,7 @@ impl<W: Worker> Recorder<W> {
         new: &str,
     ) {
         let before = guard.replace(text(rt, self.alloc, new));
-        assert_eq!(rt; before.as_str(), old);
+        assert!(rt; before.as_str() == old);
         let call = StepCall::ReleaseWrite(guard.ticket());
         assert!(rt; self.worker.release_write(rt, guard).is_ok());
         self.record(rt, call, StepReply::Done);
@@ -380,9 +383,9 @@ impl<W: Worker> Recorder<W> {
             };
             (back, refused) = again;
         }
-        assert_eq!(rt; back.as_str(), value);
+        assert!(rt; back.as_str() == value);
         let gone = BorrowMutError::Dropped(ValueDroppedError::new(made));
-        assert_eq!(rt; refused, Refused::Borrow(gone));
+        assert_same(rt, &refused, &Refused::Borrow(gone));
         let call = StepCall::Set(asked.pointer());
         self.record(rt, call, StepReply::Dropped(made));
     }
@@ -439,7 +442,7 @@ impl<W: Worker> Recorder<W> {
         value: &str,
     ) {
         match self.worker.release_write(rt, guard) {
-            Err(back) => assert_eq!(rt; back.as_str(), value),
+            Err(back) => assert!(rt; back.as_str() == value),
             Ok(()) => rt.abort(),
         }
     }
@@ -464,13 +467,13 @@ impl<W: Worker> Recorder<W> {
             }
             trimmed => trimmed,
         };
-        assert_eq!(rt; answer, Ok(trimmed));
+        assert_same(rt, &answer, &Ok(trimmed));
         self.steps.clear();
         self.trimmed = trimmed;
     }
 
-    // The history, once all other workers' counts were taken over.
-    fn history(&mut self, rt: &(impl Wait + Abort)) -> Vec<Step> {
+    // The base and the history, once all other workers' counts were taken over.
+    fn history(&mut self, rt: &(impl Wait + Abort)) -> (Base, Vec<Step>) {
         let (base, steps) = match self.worker.audit(rt) {
             Some(audit) => audit,
             None => {
@@ -478,8 +481,27 @@ impl<W: Worker> Recorder<W> {
                 self.worker.audit(rt).expect(rt, "an audit")
             }
         };
-        assert_eq!(rt; base.trimmed(), self.trimmed);
-        steps
+        assert_same(rt, &base.trimmed(), &self.trimmed);
+        (base, steps)
+    }
+
+    /// Asserts that the history of this worker alone has a base with this next ticket, this peak and
+    /// these rows, and that both have so many steps of each kind.
+    pub(crate) fn assert_base(
+        &mut self,
+        rt: &(impl Wait + Abort),
+        (next, peak): (u64, usize),
+        rows: &[BaseRow],
+        kinds: [u64; 4],
+    ) {
+        let (base, steps) = self.history(rt);
+        assert_same(rt, &base.number(), &7);
+        assert_same(rt, &(base.next(), base.peak()), &(next, peak));
+        assert!(rt; base.rows() == rows);
+        for (kind, wanted) in KINDS.into_iter().zip(kinds) {
+            let later = steps.iter().filter(|step| step.kind() == kind).count();
+            assert_same(rt, &base.count(kind).wrapping_add(later as u64), &wanted);
+        }
     }
 
     /// Takes over what another worker has counted, and its steps.
@@ -494,8 +516,8 @@ impl<W: Worker> Recorder<W> {
     /// Asserts that the history has each worker's steps in order, and no others. All workers'
     /// counts and steps were taken over.
     pub(crate) fn audit(&mut self, rt: &(impl Wait + Abort), workers: usize) {
-        let history = self.history(rt);
-        assert_eq!(rt; history.len(), self.steps.len());
+        let (_, history) = self.history(rt);
+        assert_same(rt, &history.len(), &self.steps.len());
         for worker in 0..workers {
             assert_recorded(rt, worker, history.as_slice(), self.steps.as_slice());
         }
@@ -517,20 +539,24 @@ fn assert_recorded(rt: &impl Abort, worker: usize, history: &[Step], wanted: &[S
     let own = history.iter().filter(|step| step.worker == worker);
     let mut wanted = wanted.iter().filter(|step| step.worker == worker);
     for step in own {
-        assert_eq!(rt; Some(step), wanted.next());
+        assert_same(rt, &Some(step), &wanted.next());
     }
     assert!(rt; wanted.next().is_none());
 }
 
 // Asserts that so many steps of a worker are of each kind: made, lent, changed, refused.
 fn assert_kinds(rt: &impl Abort, worker: usize, steps: &[Step], counts: [usize; 4]) {
-    let kinds = [Kind::Made, Kind::Lent, Kind::Changed, Kind::Refused];
-    for (kind, wanted) in kinds.into_iter().zip(counts) {
+    for (kind, wanted) in KINDS.into_iter().zip(counts) {
         let found = steps
             .iter()
             .filter(|step| step.worker == worker && step.kind() == kind);
-        assert_eq!(rt; found.count(), wanted);
+        assert_same(rt, &found.count(), &wanted);
     }
+}
+
+/// Asserts that two values are the same. It is proved once for all types.
+pub(crate) fn assert_same<T: PartialEq + Debug>(rt: &impl Abort, found: &T, wanted: &T) {
+    assert_eq!(rt; *found, *wanted);
 }
 
 /// A text. Where memory lacks, it is asked for a second time.

@@ -2,10 +2,10 @@
 //! order.
 
 use crate::places::{made, made_later, read, read_later};
-use crate::recorder::{Recorder, text};
+use crate::recorder::{Recorder, assert_same, text};
 use crate::stages::{Scenario, plays};
 use crate::workers::Worker;
-use generational_box::{GenerationalBox, Storage, UnsyncStorage};
+use generational_box::{BaseRow, GenerationalBox, Storage, UnsyncStorage};
 use std::alloc::Global;
 use std::process::Abort;
 use std::sync::Wait;
@@ -93,8 +93,12 @@ pub(crate) fn slot_is_reused<W: Worker>(rt: &(impl Wait + Abort), mut one: Recor
     one.release_owner(rt, owner);
     let owner = one.owner(rt);
     let second = one.insert(rt, &owner, "1234", made());
-    assert_eq!(rt; (first.raw_ptr(), second.raw_ptr()), (0, 0));
-    assert_eq!(rt; (first.id().generation, second.id().generation), (1, 2));
+    assert_same(rt, &(first.raw_ptr(), second.raw_ptr()), &(0, 0));
+    assert_same(
+        rt,
+        &(first.id().generation, second.id().generation),
+        &(1, 2),
+    );
     assert!(rt; !first.ptr_eq(&second));
     one.release_owner(rt, owner);
     one.finish(rt, &[[4, 0, 2, 0]])
@@ -106,7 +110,7 @@ pub(crate) fn references_count<W: Worker>(rt: &(impl Wait + Abort), mut one: Rec
     let inner = one.owner(rt);
     let shared = one.insert_rc(rt, &inner, "hello world", made());
     let reference = one.insert_reference(rt, &outer, shared);
-    assert_eq!(rt; reference.created_at(), made());
+    assert_same(rt, &reference.created_at(), &made());
     one.release_owner(rt, inner);
     one.reads(rt, reference, read(), "hello world");
     one.release_owner(rt, outer);
@@ -148,6 +152,26 @@ pub(crate) fn value_is_made_beside<W: Worker>(
     one.finish(rt, &[[3, 2, 3, 0]])
 }
 
+/// A base has what stands, a reader or a writer too, and nothing else.
+pub(crate) fn bases_have_borrows<W: Worker>(rt: &(impl Wait + Abort), mut one: Recorder<W>) -> u64 {
+    one.assert_base(rt, (0, 0), &[], [0, 0, 0, 0]);
+    let kept = one.leak(rt, "x", made());
+    let id = kept.id();
+    let (slot, value) = (BaseRow::Slot(0, 1), BaseRow::Value(id, made()));
+    let guard = one.begin(rt, kept, read());
+    one.trim(rt, 2);
+    let reader = BaseRow::Reader(id, 0, read());
+    one.assert_base(rt, (1, 1), &[slot, value, reader], [1, 1, 0, 0]);
+    one.release(rt, guard);
+    let guard = one.begin_write(rt, kept, read_later());
+    one.assert_base(rt, (1, 1), &[slot, value, reader], [1, 2, 1, 0]);
+    one.trim(rt, 4);
+    let writer = BaseRow::Writer(id, 1, read_later());
+    one.assert_base(rt, (2, 1), &[slot, value, writer], [1, 2, 1, 0]);
+    one.release_over(rt, guard, "x", "y");
+    one.finish(rt, &[[0, 0, 1, 0]])
+}
+
 /// A history is let go while a reader stands. The guard opens the value still, and the history has
 /// what comes later.
 pub(crate) fn history_is_trimmed<W: Worker>(rt: &(impl Wait + Abort), mut one: Recorder<W>) -> u64 {
@@ -177,7 +201,7 @@ pub(crate) fn strangers_come<W: Worker>(
     one.end(rt, strange);
     one.sets_dropped(rt, strange, "v", made_later());
     let reader = strange.try_read(&mut other, read()).expect(rt, "a guard");
-    assert_eq!(rt; reader.ticket(), guard.ticket());
+    assert_same(rt, &reader.ticket(), &guard.ticket());
     one.refuses_reader(rt, reader, "own");
     let written = strange_box(rt, alloc, &mut other);
     let writer = written.try_write(&mut other, read()).expect(rt, "a guard");
@@ -241,6 +265,11 @@ fn a_reference_reads_what_it_was_pointed_to(rt: HostRuntime) {
 #[test]
 fn a_value_is_made_beside_a_reader(rt: HostRuntime) {
     plays(&rt, rt.alloc(), 1, Scenario::ValueIsMadeBeside);
+}
+
+#[test]
+fn borrows_stand_in_bases(rt: HostRuntime) {
+    plays(&rt, rt.alloc(), 1, Scenario::BasesHaveBorrows);
 }
 
 #[test]

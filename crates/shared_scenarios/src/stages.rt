@@ -29,6 +29,7 @@ pub(crate) enum Scenario {
     ReferencesCount,
     ReferenceMoves,
     ValueIsMadeBeside,
+    BasesHaveBorrows,
     HistoryIsTrimmed,
     StrangersCome,
     ReadBeside,
@@ -170,6 +171,7 @@ fn act<W: Worker, H: Threads + Wait + Abort + Sync>(
         Scenario::ReferencesCount => references_count(rt, last),
         Scenario::ReferenceMoves => reference_moves(rt, last),
         Scenario::ValueIsMadeBeside => value_is_made_beside(rt, last),
+        Scenario::BasesHaveBorrows => bases_have_borrows(rt, last),
         Scenario::HistoryIsTrimmed => history_is_trimmed(rt, last),
         Scenario::StrangersCome => strangers_come(rt, alloc, last),
         _ => {
