@@ -1,4 +1,4 @@
-//! The containers of a store of generational boxes, none of which knows of boxes: borrows that
+//! The containers of a store of generational boxes, none of which knows a store: borrows that
 //! stand at one cell and a table of their lists, pools of free slots and indexes, and the records
 //! of owners.
 //!

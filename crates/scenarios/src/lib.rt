@@ -29,6 +29,8 @@ mod plenty;
 #[cfg(test)]
 mod rounds;
 #[cfg(test)]
+mod rows;
+#[cfg(test)]
 mod scarcity;
 #[cfg(test)]
 mod sessions;
