@@ -3,7 +3,7 @@
 
 use crate::acts::{looked_at, spawned_at};
 use entity_table::{ComponentTable, Entity, EntityTable};
-use generational_box::{LastFirst, OldestFirst, Storage, Store, StoreError};
+use generational_box::{LastFirst, OldestFirst, Storage, Store};
 use std::alloc::Global;
 use std::process::Abort;
 
@@ -20,10 +20,7 @@ fn spawn_or_again<S: Storage<u64>>(
     let spawned = match table.spawn(element, spawned_at(0)) {
         Ok(entity) => Ok(entity),
         Err(refusal) => {
-            assert_eq!(rt;
-                (refusal.value, refusal.cause),
-                (element, StoreError::OutOfMemory)
-            );
+            assert_eq!(rt; refusal.value, element);
             assert_eq!(rt; table.len(), before);
             table.spawn(element, spawned_at(0))
         }
@@ -31,7 +28,7 @@ fn spawn_or_again<S: Storage<u64>>(
     let entity = spawned
         .map_err(|refusal| refusal.cause)
         .expect(rt, "an entity");
-    assert_eq!(rt; table.get(entity, looked_at(), |seen| *seen), Ok(element));
+    assert!(rt; table.is_alive(entity));
     entity
 }
 
@@ -43,34 +40,15 @@ fn give_or_again<S: Storage<u64>>(
     component: u64,
 ) {
     if let Err(refusal) = table.insert(entity, component, looked_at()) {
-        assert_eq!(rt;
-            (refusal.value, refusal.cause),
-            (component, StoreError::OutOfMemory)
-        );
+        assert_eq!(rt; refusal.value, component);
         assert!(rt; !table.contains(entity));
         assert!(rt; table.insert(entity, component, looked_at()).is_ok());
     }
-    assert_eq!(rt;
-        table.get(entity, looked_at(), |seen| *seen),
-        Ok(Some(component))
-    );
+    assert!(rt; table.contains(entity));
 }
 
-/// Spawns entities with components.
-fn spawn_many<S: Storage<u64>, C: Storage<u64>>(
-    rt: &impl Abort,
-    entities: &mut EntityTable<u64, S>,
-    components: &mut ComponentTable<u64, u64, C>,
-) {
-    for element in 0..MANY {
-        let entity = spawn_or_again(rt, entities, element);
-        give_or_again(rt, components, entity, element);
-    }
-    assert_eq!(rt; entities.len() as u64, MANY);
-}
-
-/// The same in tables over two stores.
-fn spawn_over<S: Storage<u64> + Drop, C: Storage<u64> + Drop>(
+/// Spawns entities with components, in tables over two stores.
+fn spawn_many<S: Storage<u64> + Drop, C: Storage<u64> + Drop>(
     rt: &impl Abort,
     alloc: Global,
     store: S,
@@ -80,7 +58,10 @@ fn spawn_over<S: Storage<u64> + Drop, C: Storage<u64> + Drop>(
     let mut entities = EntityTable::new(alloc, store);
     assert!(rt; parts.is_fresh());
     let mut components = ComponentTable::new(alloc, parts);
-    spawn_many(rt, &mut entities, &mut components);
+    for element in 0..MANY {
+        let entity = spawn_or_again(rt, &mut entities, element);
+        give_or_again(rt, &mut components, entity, element);
+    }
 }
 
 #[test]
@@ -88,5 +69,5 @@ fn what_lacks_memory_changes_nothing(rt: HostRuntime) {
     let alloc = rt.alloc();
     let store: Store<u64, LastFirst> = Store::new(alloc, 1);
     let parts: Store<u64, OldestFirst> = Store::new(alloc, 2);
-    spawn_over(&rt, alloc, store, parts);
+    spawn_many(&rt, alloc, store, parts);
 }
