@@ -34,6 +34,7 @@ LINES = 1_000_000
 # Words, with the status and the output that they have.
 LISTS = [
     ("fuzz 1 200", 0, "same\n"),
+    *((f"fuzz {seed} 20000", 0, "same\n") for seed in range(1, 9)),
     ("fuzz 0 1", 0, "same\n"),
     ("fuzz 2 0", 0, "same\n"),
     ("fuzz 18446744073709551615 1000", 0, "same\n"),
