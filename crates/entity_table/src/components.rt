@@ -98,6 +98,7 @@ impl<T, C, S: Storage<C>> ComponentTable<T, C, S> {
             × ((e : Entity T) → component_in self.new e ≡ component_in self.old e)) }
         ensures back { IfErr result (λ refusal. refusal.value ≡ component) }
         ensures cause { IfErr result (λ refusal. refusal.cause ≡ OutOfMemory) }
+        ensures short { IfErr result (λ _. part_at self.old.parts (slot_in entity) ≡ None) }
     {
         let slot = entity.raw.raw_ptr();
         if let Some(part) = part_in(&self.parts, slot) {

@@ -217,8 +217,7 @@ impl<T, S: Storage<T>> EntityTable<T, S> {
         self.rows.as_slice()
     }
 
-    /// Ends each entity whose element fails a test, which is asked once of each. Every other entity
-    /// shows what it showed.
+    /// Ends each entity whose element fails a test. Every other entity shows what it showed.
     ///
     /// Refused by `NumbersExhausted` alone, where fewer tickets are left than there are entities:
     /// each is looked at. The test isn't asked then, and the table stays as it was. Takes no memory,
