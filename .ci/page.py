@@ -4,8 +4,8 @@
     .ci/page.py           compares
     .ci/page.py --try     compares, and then shows that each block is refused with a line changed
 
-Each block of Rattle on a page must stand in one file of the crate `uses` or of the crates of tests,
-and each proof in one of `uses`: its pieces, which blank lines part, line for line and in order.
+Each block of Rattle on a page must stand in one file of the crates of callers or of tests, and each
+proof in one of callers: its pieces, which blank lines part, line for line and in order.
 Each public function of a block must be named in a crate of tests, which the gate runs. What is
 wrong is printed, and the exit status is 1 then.
 """
@@ -15,10 +15,11 @@ import sys
 
 ROOT = pathlib.Path(__file__).resolve().parent.parent
 PAGES = ["docs/CALLING.md", "README.md"]
-TESTS = ["scenarios", "entity_scenarios"]
+USES = ["uses", "library_uses"]
+TESTS = ["scenarios", "library_scenarios"]
 SOURCES = [
-    path for crate in ["uses", *TESTS] for path in sorted((ROOT / f"crates/{crate}/src").glob("*.rt"))
-] + sorted((ROOT / "crates/uses/proofs").rglob("*.antt"))
+    path for crate in USES + TESTS for path in sorted((ROOT / f"crates/{crate}/src").glob("*.rt"))
+] + [path for crate in USES for path in sorted((ROOT / f"crates/{crate}/proofs").rglob("*.antt"))]
 
 
 def lines_of(path):

@@ -9,7 +9,7 @@ use generational_box::{LastFirst, OldestFirst, Storage, Store};
 use signals::{Scope, Signal};
 use std::alloc::Global;
 use std::process::Abort;
-use uses::scopes::{count_up, outlived, set_source, set_through_alias};
+use library_uses::scopes::{count_up, outlived, set_source, set_through_alias};
 
 /// What happens in one store.
 trait History {

@@ -4,11 +4,9 @@
 pub mod asking;
 pub mod clones;
 pub mod conditions;
-pub mod entities;
 pub mod kinds;
 pub mod leaving;
 pub mod owned;
-pub mod scopes;
 pub mod sessions;
 pub mod shared;
 pub mod slots;

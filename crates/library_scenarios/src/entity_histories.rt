@@ -1,6 +1,6 @@
 //! Histories of tables of entities, as lines.
 
-use crate::acts::{Act, Line, play};
+use crate::entity_acts::{Act, Line, play};
 use entity_table::EntityTable;
 use generational_box::{LastFirst, OldestFirst, Storage, Store};
 use std::alloc::Global;

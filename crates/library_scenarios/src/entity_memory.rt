@@ -1,7 +1,7 @@
 //! Want of memory. Each test passes whichever one allocation is refused: what lacks memory changes
 //! nothing, and is tried a second time.
 
-use crate::acts::{looked_at, spawned_at};
+use crate::entity_acts::{looked_at, spawned_at};
 use entity_table::{ComponentTable, Entity, EntityTable};
 use generational_box::{LastFirst, OldestFirst, Storage, Store};
 use std::alloc::Global;

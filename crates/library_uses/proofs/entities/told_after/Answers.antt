@@ -1,5 +1,5 @@
 use Rattle.std.proofs.Common.{◌∙◌}
-use Rattle.uses.proofs.entities.told_after.Goals as goal
+use Rattle.library_uses.proofs.entities.told_after.Goals as goal
 
 pub returns : goal.returns
 returns g c = c.get.ensures.stale

@@ -1,7 +1,7 @@
 use Rattle.std.proofs.Common.{arith, ◌∙◌}
 use Rattle.std.proofs.lemmas.Grind.{common_steps}
 use Rattle.signals.specs.Signals.{pointer_in}
-use Rattle.uses.proofs.scopes.alias_outlives.Goals as goal
+use Rattle.library_uses.proofs.scopes.alias_outlives.Goals as goal
 
 pub returns-in-Ok-end : goal.returns-in-Ok-end
 returns-in-Ok-end g c =

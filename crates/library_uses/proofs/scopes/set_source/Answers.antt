@@ -4,7 +4,7 @@ use Rattle.generational_core.specs.Texts.{as_refused_mut}
 use Rattle.generational_sessions.proofs.callers.Lefts.{left_ticket, left_twice, set_free}
 use Rattle.generational_sessions.proofs.callers.Results.{err_so}
 use Rattle.generational_sessions.proofs.callers.Shortage.{read_short}
-use Rattle.uses.proofs.scopes.set_source.Goals as goal
+use Rattle.library_uses.proofs.scopes.set_source.Goals as goal
 
 pub returns-in-Err-clause-refused : goal.returns-in-Err-clause-refused
 returns-in-Err-clause-refused g c =

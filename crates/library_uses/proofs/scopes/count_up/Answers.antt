@@ -4,7 +4,7 @@ use Rattle.generational_core.specs.Texts.{as_refused_mut}
 use Rattle.generational_sessions.proofs.callers.Lefts.{left_ticket, left_twice, set_free}
 use Rattle.generational_sessions.proofs.callers.Results.{err_so}
 use Rattle.generational_sessions.proofs.callers.Shortage.{read_short}
-use Rattle.uses.proofs.scopes.count_up.Goals as goal
+use Rattle.library_uses.proofs.scopes.count_up.Goals as goal
 
 pub returns-in_err-seen-clause-refused : goal.returns-in_err-seen-clause-refused
 returns-in_err-seen-clause-refused g c =

@@ -1,0 +1,6 @@
+//! Small callers of the libraries above the boxes, which show that their contracts say what a caller
+//! needs.
+#![tactic(auto)]
+
+pub mod entities;
+pub mod scopes;
