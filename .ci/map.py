@@ -5,8 +5,8 @@
     .ci/map.py --try             does so, and shows that pages with a wrong line are refused
     .ci/map.py --files CRATE..   prints each file of these crates with its first line, and what it uses
 
-The page has a table of the crates with the libraries that each stands on, as crates.txt has them, and
-a table of each crate's sources in the order in which they are read. Each source, definition and file
+The page has a table of the crates, those of crates.txt, and a table of each crate's sources in the
+order in which they are read. Each source, definition and file
 of lemmas says in its first line what it is.
 """
 import os
@@ -24,16 +24,11 @@ class Failure(Exception):
     """The page or a file isn't as it is wanted."""
 
 
-def libraries():
-    """Each crate with the set of libraries that it stands on."""
-    found = {}
+def all_crates():
+    """The names of the crates, in the order of crates.txt."""
     with open(os.path.join(ROOT, "crates.txt"), encoding="utf-8") as lines:
-        for line in lines:
-            line = line.split("#")[0].strip()
-            if line:
-                name, below = line.split(":")
-                found[name.split()[0]] = set(below.split())
-    return found
+        lines = [line.split("#")[0].strip() for line in lines]
+    return [line.split(":")[0].split()[0] for line in lines if line]
 
 
 def files_of(crate, *folders):
@@ -100,10 +95,8 @@ def wanted(ok, what):
 
 
 def compare(page):
-    crates = {names(it[0])[0]: set(names(it[2])) for it in rows(section(page, CRATES))}
-    for crate, below in libraries().items():
-        wanted(crates.get(crate) == below, f"{crate} stands on {sorted(below)}, and not on {crates.get(crate)}")
-    wanted(crates.keys() == libraries().keys(), f"no such crate: {crates.keys() - libraries().keys()}")
+    crates = [names(it[0])[0] for it in rows(section(page, CRATES))]
+    wanted(sorted(crates) == sorted(all_crates()), f"the crates are {all_crates()}, and on the page {crates}")
     order = {names(it[0])[0]: names(it[1]) for it in rows(section(page, SOURCES))}
     for crate in crates:
         on_page, there = sorted(order.get(crate, [])), sorted(sources_of(crate))
@@ -111,7 +104,7 @@ def compare(page):
 
 
 def compare_files():
-    for crate in libraries():
+    for crate in all_crates():
         for file in files_of(crate, "src", "specs", "proofs"):
             if file.endswith((".rt", ".antt")) and not PLAIN.search(file) and not is_list(crate, file):
                 first_line(crate, file)
@@ -131,8 +124,8 @@ def print_files(crate):
 
 
 def wrong_pages(page):
-    """Pages of which a line is wrong: a library less, a crate less, a source less, one twice, one that isn't there."""
-    yield re.sub(r"(\n\| `uses` \|.*), `signals`", r"\1", page)
+    """Pages of which a line is wrong: a crate less, one twice, a source less, one twice, one that isn't there."""
+    yield re.sub(r"(\n\| `uses` \|[^\n]*)", r"\1\1", page, count=1)
     yield re.sub(r"\n\| `line_number` \|[^\n]*", "", page, count=1)
     yield page.replace("`borrow`, ", "", 1)
     yield page.replace("`borrow`, ", "`borrow`, `borrow`, ", 1)

@@ -15,7 +15,7 @@ again with what is asked for next refused too, as long as it is less each time:
   gives the row's reply, and so does every other line: the refusal left nothing behind.
 - Where a line finds no memory before it is a command, the run ends with status 3 and its text,
   after the replies to all lines before.
-- Each marked command was refused in some run. How often each row is, docs/memory.md says.
+- Each marked command was refused in some run. How often each row is, the file `counts` says.
 - Where what is less is given, only readers beside others are refused, and refusals with a list: who
   is refused a step of room takes a smaller one.
 
@@ -25,7 +25,7 @@ a read that failed; what was written is a beginning of the replies.
 Drawn lists are run so as `fuzz SEED 200`, for the seeds 1 to 4: they say `refused at N`, or nothing
 where it wasn't a call that lacked memory, and `same` where none did.
 
-The tests in the modules `memory`, `scarcity` and `shortage` are run so. They ask again
+The tests in the modules `memory`, `scarcity` and `shortage`, and in `entity_memory` and its like, are run so. They ask again
 what lacked memory, and pass.
 
 Whatever is refused, at its end a run has given back all memory. So has each of the tests where nothing is refused, but
@@ -46,7 +46,7 @@ from dataclasses import dataclass
 from itertools import count
 
 HERE = os.path.dirname(os.path.abspath(__file__))
-PAGE = os.path.join(HERE, "..", "..", "docs", "memory.md")
+COUNTS = os.path.join(HERE, "counts")
 REFUSED = "refused: out of memory"
 ERRORS = {
     "dropped: ": "error: Failed to borrow because the value was dropped.created_at: ",
@@ -67,7 +67,7 @@ BESIDES = 30_000
 LEAK = 232
 # While a buffer grows there are the old one and the new one. So the largest, that of the places, counts twice.
 MOVED = 64
-MODULES = ("memory::", "scarcity::", "shortage::")
+MODULES = ("memory", "scarcity", "shortage")
 WRONG = "every_command.row"
 # The C library keeps a thread's stack for the next one, with the vector of its own variables; and how many threads.
 OF_A_THREAD, THREADS = 296, 8
@@ -251,10 +251,15 @@ def of_a_thread(tests):
     return OF_A_THREAD if os.path.basename(tests).startswith("shared_") else 0
 
 
+def kind_of(name):
+    """What the module of a test is about: `memory` for entity_memory::a_test."""
+    return name.split("::")[0].split("_")[-1]
+
+
 def refuse_in_tests(tests):
-    found = [(it, name) for it in tests for name in names_of(it) if name.startswith(MODULES)]
+    found = [(it, name) for it in tests for name in names_of(it) if kind_of(name) in MODULES]
     for module in MODULES:
-        wanted(any(name.startswith(module) for _, name in found), f"no test of want of memory is listed in {module}")
+        wanted(any(kind_of(name) == module for _, name in found), f"no test of want of memory is listed in {module}")
     for it, name in found:
         met = refuse_in_test(it, name), refuse_in_test(it, name, less=1)
         wanted(min(met) > 0, f"{name}: nothing was refused")
@@ -323,19 +328,19 @@ def rows():
     return [(name, row_at(os.path.join(folder, name))) for name in sorted(os.listdir(folder))]
 
 
-def counts_on_page():
-    """How often each row's calls are refused, as the page says: alone, and with what is less."""
-    with open(PAGE, encoding="utf-8") as page:
-        cells = [[cell.strip(" `") for cell in line.split("|")[1:-1]] for line in page]
-    return {it[0]: (int(it[1]), int(it[2])) for it in cells if len(it) == 3 and it[0].endswith(".row")}
+def counts_of_rows():
+    """How often each row's calls are refused: alone, and with what is less."""
+    with open(COUNTS, encoding="utf-8") as lines:
+        words = [line.split() for line in lines if not line.startswith("#")]
+    return {name: (int(alone), int(less)) for name, alone, less in words}
 
 
 def refuse_in_rows(program):
-    told = counts_on_page()
-    wanted(sorted(told) == [name for name, _ in rows()], "the page has other rows")
+    counts = counts_of_rows()
+    wanted(sorted(counts) == [name for name, _ in rows()], "there are other rows than counts")
     for name, row in rows():
         met = refuse_memory(program, row)
-        wanted(met == told[name], f"{name}: {met} allocations of calls were refused, and not {told[name]}")
+        wanted(met == counts[name], f"{name}: {met} allocations of calls were refused, and not {counts[name]}")
         # A read for each line and one at the end, and a write for each line.
         reads = fail_each(program, row, "read", len(row) + 1)
         writes = fail_each(program, row, "write", len(row))

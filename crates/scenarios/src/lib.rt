@@ -47,6 +47,8 @@ mod strangers;
 #[cfg(test)]
 mod texts;
 #[cfg(test)]
+mod tutorial;
+#[cfg(test)]
 mod values;
 #[cfg(test)]
 mod views;

@@ -1,0 +1,62 @@
+//! The tutorial of docs/CALLING.md, run: a value, two readers, a refusal, an owner.
+
+use crate::expected::assert_same;
+use generational_box::{AnyStorage, GenerationalBox, Location, Storage, UnsyncStorage};
+use std::alloc::Global;
+use std::test::Fail;
+
+/// Where each call is made: a refusal tells where a borrow began, and where a value was made.
+fn line(line: u32) -> Location {
+    Location::new("tutorial.rt", line, 5)
+}
+
+/// Reads a value by two guards at once. A write meanwhile is refused, and tells the lines 15 and 16.
+pub fn read_twice<S: Storage<u64>>(store: &mut S, kept: GenerationalBox<u64>) -> Option<u64> {
+    let first = kept.try_read(store, line(15)).ok()?;
+    let Ok(second) = kept.try_read(store, line(16)) else {
+        first.release(store);
+        return None;
+    };
+    let is_written = write(store, kept).is_some();
+    let sum = match (first.deref(store), second.deref(store)) {
+        (Some(one), Some(other)) if !is_written => Some(one.wrapping_add(*other)),
+        _ => None,
+    };
+    first.release(store);
+    second.release(store);
+    sum
+}
+
+/// Writes a value that nobody borrows.
+pub fn write<S: Storage<u64>>(store: &mut S, kept: GenerationalBox<u64>) -> Option<u64> {
+    let mut writer = kept.try_write(store, line(35)).ok()?;
+    *writer.deref_mut() = 8;
+    let _ = writer.release(store);
+    Some(8)
+}
+
+/// Keeps a value by an owner, reads and writes it, and ends the owner. The box is still there then,
+/// and reaches nothing.
+pub fn first_steps(alloc: Global) -> Option<(u64, u64, bool)> {
+    let mut store = UnsyncStorage::new(alloc, 1);
+    let owner = store.owner().ok()?;
+    let Ok(kept) = owner.insert(&mut store, 7, line(46)) else {
+        owner.leak();
+        return None;
+    };
+    let sum = read_twice(&mut store, kept);
+    let written = write(&mut store, kept);
+    match owner.release(&mut store) {
+        Ok(()) => Some((sum?, written?, kept.can_read(&store))),
+        Err((owner, _)) => {
+            owner.leak();
+            None
+        }
+    }
+}
+
+#[test]
+fn a_value_two_readers_a_refusal_an_owner(rt: HostRuntime) -> Result<(), Fail> {
+    assert_same(&rt, &first_steps(rt.alloc()), &Some((14, 8, false)));
+    Ok(())
+}
