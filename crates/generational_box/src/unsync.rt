@@ -17,7 +17,7 @@ use generational_containers::names::CellName;
 use generational_containers::owners::{OwnerRecord, OwnerRecords};
 use generational_containers::pool::{LastFirst, SlotPool};
 use generational_core::parts::{
-    Borrow, id_read, into_reader, into_writer, key_of, owner_at, reader_at, writer_at,
+    Borrow, id_read, into_reader, into_writer, owner_at, reader_at, writer_at,
 };
 use generational_core::{
     AnyStorage, BaseRow, BorrowError, BorrowMutError, BorrowMutResult, BorrowResult,
@@ -214,7 +214,7 @@ impl<T: Drop, P: SlotPool> AnyStorage<T> for Store<T, P> {
         }
         let place = self.owners.count_up(owner);
         self.next += 1;
-        Ok(owner_at(self.number, key_of(owner), place))
+        Ok(owner_at(self.number, owner.id().key, place))
     }
 
     fn release_owner(&mut self, owner: Owner) -> Result<(), (Owner, Refused<BorrowMutError>)> {
@@ -278,6 +278,11 @@ impl<T: Drop, P: SlotPool> AnyStorage<T> for Store<T, P> {
     #[inline(always)]
     fn can_read(&self, pointer: GenerationalPointer) -> bool {
         pointer.id.store == self.number && self.slots.can_read(cell_name(pointer.id))
+    }
+
+    #[inline(always)]
+    fn is_live(&self, pointer: GenerationalPointer) -> bool {
+        pointer.id.store == self.number && self.slots.is_live(cell_name(pointer.id))
     }
 
     #[inline(always)]
@@ -448,6 +453,14 @@ impl<T: Drop, P: SlotPool> Storage<T> for Store<T, P> {
             return self.slots.release_write(cell_name(id), ticket, value);
         }
         Err(value)
+    }
+
+    #[inline(always)]
+    fn peek(&self, pointer: GenerationalPointer) -> Option<&T> {
+        if pointer.id.store == self.number {
+            return self.slots.peek(cell_name(pointer.id));
+        }
+        None
     }
 
     #[inline(always)]

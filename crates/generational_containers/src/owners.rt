@@ -24,7 +24,7 @@ mod rows;
 
 use crate::names::CellName;
 use crate::pool::{LastFirst, SlotPool, make_room};
-use generational_core::parts::{key_of, number_of, place_of};
+use generational_core::parts::{number_of, place_of};
 use generational_core::{Owner, OwnerId, StoreError};
 use reservation::reserve_more;
 use std::alloc::{AllocError, Global};
@@ -363,7 +363,7 @@ fn find_place(places: &Vec<Option<OwnerRecord>>, owner: &Owner) -> Option<usize>
     ensures none { IfNone result ((place : ℕ) →
         record_at owner.now.key (slice_get places.now.items place) ≡ None) }
 {
-    let (key, place) = (key_of(owner), place_of(owner));
+    let (key, place) = (owner.id().key, place_of(owner));
     if has_record(places, place, key) {
         return Some(place);
     }

@@ -178,9 +178,10 @@ impl<T> GenerationalBox<T> {
 }
 
 impl<T> GenerationalBox<T> {
-    ghost use Rattle.std.specs.Prelude.{◌≡◌, true, IfErr, None};
+    ghost use Rattle.std.specs.Prelude.{◌≡◌, true, IfErr, None, is_some, option_copied};
     ghost use Rattle.generational_core.specs.Answers.{pointer_of};
-    ghost use Rattle.generational_core.specs.Borrowing.{can_read, can_write};
+    ghost use Rattle.generational_core.specs.Borrowing.{can_read, can_write, reach};
+    ghost use Rattle.generational_core.specs.Seeing.{value_in};
     ghost use Rattle.generational_core.specs.Machine.Action.{Make, MakeShared, Refer, Read, Write};
     ghost use Rattle.generational_core.specs.Machine.Action.{End, Point, SetValue};
     ghost use Rattle.generational_core.specs.Machine.Answer.{Old};
@@ -328,6 +329,25 @@ impl<T> GenerationalBox<T> {
             (S.state store.new) }
     {
         store.try_write(self.raw, location)
+    }
+
+    /// The value, looked at in passing: without a guard, a ticket or a location. The store is lent
+    /// meanwhile. None where the box's cell has ended or is of another store, or a writer has the
+    /// value. Takes no memory, and is O(1).
+    #[inline(always)]
+    pub fn peek<S: Storage<T>>(self, store: &S) -> Option<&T>
+        ensures { option_copied result ≡ value_in (S.state store.now) (pointer_of self) }
+    {
+        store.peek(self.raw)
+    }
+
+    /// Whether the value is there, also while a writer has it: false where the box's cell has ended
+    /// or is of another store. Takes no memory, and is O(1).
+    #[inline(always)]
+    pub fn is_live<S: Storage<T>>(self, store: &S) -> bool
+        ensures { result ≡ is_some (reach (S.state store.now) (pointer_of self)) }
+    {
+        store.is_live(self.raw)
     }
 
     /// Whether a read of the value is free: false where the box's cell has ended or is of another

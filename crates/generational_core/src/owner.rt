@@ -204,13 +204,6 @@ pub fn number_of(owner: &Owner) -> u64
     owner.store
 }
 
-/// The key of the owner's record.
-pub fn key_of(owner: &Owner) -> u64
-    ensures { result ≡ owner.now.key }
-{
-    owner.key
-}
-
 /// The place that the owner's maker gave as a hint.
 pub fn place_of(owner: &Owner) -> usize {
     owner.place

@@ -1,15 +1,16 @@
 //! What every store does.
 
 ghost use Rattle.std.specs.Prelude.{◌≡◌, ◌≤◌, ◌+◌, ◌-◌, ◌↔◌, true, IsTrue, IfOk, IfErr, None};
-ghost use Rattle.std.specs.Prelude.{option_copied};
+ghost use Rattle.std.specs.Prelude.{is_some, option_copied};
 ghost use Rattle.generational_core.specs.State.{State, IsSound};
 ghost use Rattle.generational_core.specs.Conditions.{IsFresh};
+ghost use Rattle.generational_core.specs.Seeing.{value_in};
 ghost use Rattle.generational_core.specs.Slots.{slots, free, retired};
 ghost use Rattle.generational_core.specs.Machine.Action.{Make, NewOwner, CloneOwner, ReleaseOwner};
 ghost use Rattle.generational_core.specs.Machine.Action.{Read, Write, ReleaseReader, ReleaseWriter};
 ghost use Rattle.generational_core.specs.Machine.Action.{End, MakeShared, Refer, Point, SetValue};
 ghost use Rattle.generational_core.specs.Machine.Answer.{Flag, Old};
-ghost use Rattle.generational_core.specs.Borrowing.{can_read, can_write};
+ghost use Rattle.generational_core.specs.Borrowing.{can_read, can_write, reach};
 ghost use Rattle.generational_core.specs.Rows.{ReadBack, rows_of};
 ghost use Rattle.generational_core.specs.Steps.{Meets, last_ticket};
 ghost use Rattle.generational_core.specs.StepCalls.{is_free, is_ready, target_of};
@@ -97,6 +98,10 @@ pub trait AnyStorage<T> {
     /// which no writer stands. Takes no memory.
     fn can_read(&self, pointer: GenerationalPointer) -> bool
         ensures { result ≡ can_read (state self.now) pointer };
+
+    /// Whether the pointer reaches a value, also one that a writer has. Takes no memory.
+    fn is_live(&self, pointer: GenerationalPointer) -> bool
+        ensures { result ≡ is_some (reach (state self.now) pointer) };
 
     /// Whether a write of the value that the pointer reaches is free: whether it reaches a value at
     /// which no borrow stands. Takes no memory.
@@ -244,6 +249,11 @@ pub trait Storage<T>: AnyStorage<T> {
     ) -> BorrowMutResult<()>
         ensures { Meets (Self.state self.old) (Point pointer other) (end_answer result)
             (Self.state self.new) };
+
+    /// The value that a pointer reaches, looked at in passing: without a guard, a ticket or a
+    /// location. None where it reaches no value, or a writer has it. Takes no memory.
+    fn peek(&self, pointer: GenerationalPointer) -> Option<&T>
+        ensures { option_copied result ≡ value_in (Self.state self.now) pointer };
 
     /// Begins a read of the value that a pointer reaches: its own, or the shared value to which a
     /// reference leads.

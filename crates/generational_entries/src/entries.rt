@@ -7,6 +7,7 @@ ghost use Rattle.std.specs.Prelude.{◌↔◌, IfSome, IfErr, OnOk, OnErr, is_so
 ghost use Rattle.std.specs.Prelude.{length};
 ghost use Rattle.std.specs.Prelude.{option_copied, option_map, slice_get, slice_set};
 ghost use Rattle.generational_core.specs.Cells.Content.{Here};
+ghost use Rattle.generational_core.specs.Answers.{value_of};
 ghost use Rattle.generational_core.specs.Borrowing.{read_refusal, write_refusal};
 ghost use Rattle.generational_core.specs.Borrowing.BorrowRefusal.{BeingWritten};
 ghost use Rattle.generational_core.specs.Machine.{has_reader, has_writer};
@@ -262,6 +263,16 @@ impl<T> Entries<T> {
     #[inline(always)]
     pub fn is_settled(&self) -> bool {
         !self.last.is_noted()
+    }
+
+    /// The slot's value, unless a writer has it.
+    #[inline(always)]
+    pub fn peek(&self, slot: usize) -> Option<&T>
+        requires { slot < length self.now.slots }
+        ensures { IfSome (slice_get self.now.slots slot)
+            (λ e. option_copied result ≡ value_of (content_in e.kept)) }
+    {
+        self.settled.peek(slot)
     }
 
     /// The value, where the reader stands.

@@ -279,6 +279,20 @@ impl<T> SettledEntries<T> {
         }
     }
 
+    /// The value of a cell, unless it is lent.
+    #[inline(always)]
+    pub fn peek(&self, slot: usize) -> Option<&T>
+        requires { slot < length self.now.slots }
+        ensures { IfSome (slice_get self.now.slots slot)
+            (λ e. option_copied result ≡ value_of (content_in e.kept)) }
+    {
+        match &self.entries[slot].content {
+            StorageEntryData::Data(_, value) => Some(value),
+            StorageEntryData::Read(_, _, value) => Some(value),
+            _ => None,
+        }
+    }
+
     // The same, for every value.
     #[cold]
     #[inline(never)]

@@ -21,6 +21,7 @@ ghost use Rattle.generational_core.specs.Ending.{close, hindrance_to};
 ghost use Rattle.generational_core.specs.Machine.{has_reader, has_writer, point, turn};
 ghost use Rattle.generational_core.specs.Machine.Action.{Point};
 ghost use Rattle.generational_core.specs.Names.{is_name};
+ghost use Rattle.generational_core.specs.Seeing.{value_reached};
 ghost use Rattle.generational_core.specs.Slots.{slots, free, retired};
 ghost use Rattle.generational_core.specs.State.{content_at, is_named};
 ghost use Rattle.generational_core.specs.StepCalls.{is_hindered, may_set, tells_of_borrow};
@@ -171,6 +172,27 @@ impl<T: Drop, P: SlotPool> Slots<T, P> {
             Some(value) => self.entries.borrow_error(value.slot).is_none(),
             None => false,
         }
+    }
+
+    /// The value that a box of this name reaches, unless a writer has it.
+    #[inline(always)]
+    pub fn peek(&self, name: CellName) -> Option<&T>
+        requires { IsLinked self.now.state.cells }
+        ensures { option_copied result
+            ≡ value_reached self.now.state (reached self.now.state (name_of_cell name)) }
+    {
+        match self.entries.reach(name) {
+            Some(value) => self.entries.peek(value.slot),
+            None => None,
+        }
+    }
+
+    /// Whether a box of this name reaches a value.
+    #[inline(always)]
+    pub fn is_live(&self, name: CellName) -> bool
+        ensures { result ≡ is_some (reached self.now.state (name_of_cell name)) }
+    {
+        self.entries.reach(name).is_some()
     }
 
     /// Whether no writer has what a box of this name reaches, if it reaches a value.

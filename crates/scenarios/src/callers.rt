@@ -14,7 +14,9 @@ use uses::owned::end_owned;
 use uses::sessions::{ask_for_ended, carries_out, read_later};
 use uses::shared::{outlived, written_through};
 use uses::table::Table;
-use uses::values::{read_value, replaced_value, there_and_back, write_value, written_value};
+use uses::values::{
+    read_value, replaced_value, shown_or, there_and_back, write_value, written_value,
+};
 
 fn here() -> Location {
     Location::new("callers.rt", 13, 5)
@@ -26,7 +28,11 @@ fn value_by_itself<S: Storage<u64>>(store: &mut S) -> Option<(u64, (u64, u64))> 
     write_value(store, made, 4, here()).ok()?;
     let written = written_value(store, made, 8, here()).ok()?;
     let replaced = replaced_value(store, made, 9, here()).ok()?;
-    Some((written, replaced))
+    if shown_or(store, made, 0) == 9 {
+        Some((written, replaced))
+    } else {
+        None
+    }
 }
 
 /// A value is set and read, and then exchanged for another, under conditions.

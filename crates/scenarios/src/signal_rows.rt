@@ -6,10 +6,10 @@ use crate::signal_calls::{
     set_ended, signal, swap, update_ended,
 };
 use generational_box::{LastFirst, OldestFirst, Storage, Store};
+use library_uses::scopes::{count_up, outlived, set_source, set_through_alias};
 use signals::{Scope, Signal};
 use std::alloc::Global;
 use std::process::Abort;
-use library_uses::scopes::{count_up, outlived, set_source, set_through_alias};
 
 /// What happens in one store.
 trait History {

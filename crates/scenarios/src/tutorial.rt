@@ -1,7 +1,9 @@
 //! The tutorial of docs/CALLING.md, run: a value, two readers, a refusal, an owner.
 
 use crate::expected::assert_same;
-use generational_box::{AnyStorage, GenerationalBox, Location, Storage, UnsyncStorage};
+use generational_box::{
+    AnyStorage, BorrowMutResult, GenerationalBox, Location, Storage, UnsyncStorage,
+};
 use std::alloc::Global;
 use std::test::Fail;
 
@@ -10,14 +12,14 @@ fn line(line: u32) -> Location {
     Location::new("tutorial.rt", line, 5)
 }
 
-/// Reads a value by two guards at once. A write meanwhile is refused, and tells the lines 15 and 16.
+/// Reads a value by two guards at once. A write meanwhile is refused, and tells the lines 17 and 18.
 pub fn read_twice<S: Storage<u64>>(store: &mut S, kept: GenerationalBox<u64>) -> Option<u64> {
-    let first = kept.try_read(store, line(15)).ok()?;
-    let Ok(second) = kept.try_read(store, line(16)) else {
+    let first = kept.try_read(store, line(17)).ok()?;
+    let Ok(second) = kept.try_read(store, line(18)) else {
         first.release(store);
         return None;
     };
-    let is_written = write(store, kept).is_some();
+    let is_written = write(store, kept).is_ok();
     let sum = match (first.deref(store), second.deref(store)) {
         (Some(one), Some(other)) if !is_written => Some(one.wrapping_add(*other)),
         _ => None,
@@ -27,27 +29,29 @@ pub fn read_twice<S: Storage<u64>>(store: &mut S, kept: GenerationalBox<u64>) ->
     sum
 }
 
-/// Writes a value that nobody borrows.
-pub fn write<S: Storage<u64>>(store: &mut S, kept: GenerationalBox<u64>) -> Option<u64> {
-    let mut writer = kept.try_write(store, line(35)).ok()?;
+/// Writes 8 in the place of a value, where nobody borrows it.
+pub fn write<S: Storage<u64>>(store: &mut S, kept: GenerationalBox<u64>) -> BorrowMutResult<()> {
+    let mut writer = kept.try_write(store, line(34))?;
     *writer.deref_mut() = 8;
     let _ = writer.release(store);
-    Some(8)
+    Ok(())
 }
 
-/// Keeps a value by an owner, reads and writes it, and ends the owner. The box is still there then,
-/// and reaches nothing.
+/// Keeps 7 by an owner, reads it, writes 8, looks at it in passing, and ends the owner. The box is
+/// still there then, and reaches nothing.
 pub fn first_steps(alloc: Global) -> Option<(u64, u64, bool)> {
     let mut store = UnsyncStorage::new(alloc, 1);
     let owner = store.owner().ok()?;
-    let Ok(kept) = owner.insert(&mut store, 7, line(46)) else {
+    let Ok(kept) = owner.insert(&mut store, 7, line(45)) else {
         owner.leak();
         return None;
     };
     let sum = read_twice(&mut store, kept);
-    let written = write(&mut store, kept);
+    let is_written = write(&mut store, kept).is_ok();
+    let shown = kept.peek(&store).copied();
     match owner.release(&mut store) {
-        Ok(()) => Some((sum?, written?, kept.can_read(&store))),
+        Ok(()) if is_written => Some((sum?, shown?, kept.is_live(&store))),
+        Ok(()) => None,
         Err((owner, _)) => {
             owner.leak();
             None

@@ -1,6 +1,6 @@
 //! A value by itself: kept, read and written.
 
-ghost use Rattle.std.specs.Prelude.{◌≡◌, ◌≢◌, IfOk, IfErr, OnOk, OnErr, Some};
+ghost use Rattle.std.specs.Prelude.{◌≡◌, ◌≢◌, IfOk, IfErr, OnOk, OnErr, Some, unwrap_or};
 ghost use Rattle.generational_core.specs.declared.boxes.GenerationalPointer.{GenerationalPointer};
 ghost use Rattle.generational_core.specs.Answers.{pointer_of, read_refused, end_refused};
 ghost use Rattle.generational_core.specs.Borrowing.{reach};
@@ -136,4 +136,14 @@ pub fn replaced_value<S: Storage<u64>>(
     }
     let seen = read_value(store, target, here)?;
     Ok((old, seen))
+}
+
+/// What a box shows, looked at in passing, or another number where it shows nothing.
+pub fn shown_or<S: Storage<u64>>(store: &S, target: GenerationalBox<u64>, other: u64) -> u64
+    ensures { result ≡ unwrap_or (value_in (S.state store.now) (pointer_of target)) other }
+{
+    match target.peek(store) {
+        Some(shown) => *shown,
+        None => other,
+    }
 }

@@ -14,6 +14,7 @@ use Rattle.generational_core.specs.Machine.{next_guard, has_reader, has_writer, 
 use Rattle.generational_core.specs.Machine.Answer.{Reads, Writes, Flag, Back, BorrowRefused}
 use Rattle.generational_core.specs.Machine.Answer.{Refused as refuses}
 use Rattle.generational_core.specs.Boxes.{id_of}
+use Rattle.generational_core.specs.Seeing.{value_reached, value_in}
 use Rattle.generational_core.specs.Sound.{SoundState, IsSound-prop, IsBounded-prop}
 use Rattle.generational_core.specs.State.{tickets_of}
 use Rattle.generational_containers.specs.Borrows.{AreBelow}
@@ -167,6 +168,10 @@ module _ {T : Type 0} where
     pub reach_own : reach S b ≡ reached X n
     reach_own = rw (← view) reach_here
 
+    pub sees_own : value_in S b ≡ value_reached X (reached X n)
+    unfolding value_in
+    sees_own = rw (← view) (ap (value_reached X) reach_here)
+
     pub read_own : refusal_to_read S b ≡ refusal_to_read_at X n b.created_at
     unfolding refusal_to_read
     read_own = rw (← view)
@@ -182,6 +187,12 @@ module _ {T : Type 0} where
       → b.id.store ≢ V.number → None ≡ reach S b
   unfolding reach
   reach_strange {V} view b strange = rw (← view, ne_eqb b.id.store V.number strange) refl
+
+  -- and sees nothing
+  pub unseen_strange : {V S : State T} → V ≡ S → (b : GenerationalPointer)
+      → b.id.store ≢ V.number → None ≡ value_in S b
+  unfolding value_in
+  unseen_strange view b strange = rw (← reach_strange view b strange) refl
 
   -- ---- calls of boxes
 

@@ -387,6 +387,12 @@ module _ {T : Type 0} where
       → value_for t (content_in k) ≡ value_for t (content_in (with_content (joined s b) k))
   opens_same s b t k apart other fits = grind (arith, nat_tests)
 
+  -- it leaves the value that is seen in passing
+  pub peeks_same : (s : Standing) (b : Borrow) (k : Kept T) → is_noted s ≡ true
+      → may_join s b.ticket (content_in k) ≡ true
+      → value_of (content_in k) ≡ value_of (content_in (with_content (joined s b) k))
+  peeks_same s b k apart fits = grind (arith, nat_tests)
+
   -- whose a value is told of every content
   pub kinds_hold : (c : Option (Cell T)) → is_some (kind_in c) ≡ is_some (content_of c)
   kinds_hold c = grind arith

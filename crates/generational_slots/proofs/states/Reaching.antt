@@ -28,6 +28,10 @@ none_map f None true e = refl
 none_map f (Some x) false e = refl
 none_map f _ _ e = absurd cc
 
+pub some_map : {A B : Type 0} (f : A → B) (o : Option A) → is_some o ≡ is_some (option_map f o)
+some_map f None = refl
+some_map f (Some x) = refl
+
 pub none_there : {A : Type 0} (o : Option A) → is_none o ≡ true → o ≡ None
 none_there None h = refl
 none_there (Some x) h = absurd (false≢true h)

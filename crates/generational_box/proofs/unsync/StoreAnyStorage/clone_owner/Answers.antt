@@ -1,4 +1,4 @@
-use Rattle.std.proofs.Common.{arith, refl, sym, ◌∙◌}
+use Rattle.std.proofs.Common.{ap, arith, refl, sym, ◌∙◌}
 use Rattle.generational_box.proofs.records.Counts.{counted_up}
 use Rattle.generational_box.proofs.calls.OwnerCalls.{clone_unknown, clone_exhausted, clone_made}
 use Rattle.generational_box.proofs.calls.Calls.{both, state_is}
@@ -22,7 +22,7 @@ invariant_of-self g c =
 pub returns : goal.returns
 returns g c =
     clone_made (state_is c.self.view_is) c.args.owner.now (sym c.knows.ensures ∙ c.if-not-knows.false)
-    c.owner_at.result _ (omega arith) (rw (← c.key_of.ensures) c.owner_at.ensures)
+    c.owner_at.result _ (omega arith) (rw (← ap (λ i. i.key) c.id.ensures) c.owner_at.ensures)
     (rw c.count_up-place.ensures refl)
 
 pub invariant_of-self-inside-2 : goal.invariant_of-self-inside-2

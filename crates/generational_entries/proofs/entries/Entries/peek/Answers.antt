@@ -1,0 +1,12 @@
+use Rattle.std.proofs.Common.{◌≡◌, ◌∙◌, option_copied}
+use Rattle.generational_core.specs.Answers.{value_of}
+use Rattle.generational_entries.specs.Entry.{content_in}
+use Rattle.generational_entries.proofs.states.Latest.{joined_says, peeks_same}
+use Rattle.generational_entries.proofs.entries.Entries.peek.Goals as goal
+
+pub returns : goal.returns
+returns g c =
+    let last = c.self.inside.last in
+    rw (← c.self.view_is) (joined_says last c.self.inside.settled.slots c.self.invariant
+    c.args.slot (λ e. option_copied c.peek.result ≡ value_of (content_in e.kept))
+    (λ apart at e fits h. h ∙ peeks_same last.standing last.borrow e.kept apart fits) c.peek.ensures)

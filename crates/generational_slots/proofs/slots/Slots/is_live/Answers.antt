@@ -1,0 +1,9 @@
+use Rattle.std.proofs.Common.{◌∙◌, ap, is_some}
+use Rattle.generational_slots.proofs.Common.{name_of_cell}
+use Rattle.generational_slots.proofs.states.Changes.{state_is}
+use Rattle.generational_slots.proofs.states.Reaching.{reached_seen, some_map}
+use Rattle.generational_slots.proofs.slots.Slots.is_live.Goals as goal
+
+pub returns : goal.returns
+returns g c = c.is_some.ensures ∙ some_map name_of_cell _ ∙ ap is_some (reached_seen
+    c.self.inside.entries.slots (state_is c.self.view_is) (name_of_cell c.args.name) c.reach.ensures)
