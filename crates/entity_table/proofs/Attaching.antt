@@ -25,7 +25,6 @@ use Rattle.generational_core.proofs.machine.Ends.{some_live}
 use Rattle.generational_core.proofs.machine.Leaving.{same_value}
 use Rattle.generational_core.proofs.machine.Unborrowed.{quiet_fresh, quiet_sees, quiet_stays}
 use Rattle.generational_core.proofs.maps.Maps.{by_number, key_cases, same_ids}
-use Rattle.generational_sessions.specs.PlainStores.{IsPlain}
 use Rattle.generational_sessions.proofs.callers.PlainStores.{fresh_plain, reach_apart, stays_plain}
 use Rattle.entity_table.specs.declared.components.Part.{Part}
 use Rattle.entity_table.specs.declared.entity.Entity.{Entity}
@@ -165,17 +164,6 @@ module _ {T C : Type 0} where
     plain = k.plain;
     seen = λ slot p is. k.seen slot p (sym (same slot) ∙ is);
     apart = λ i j p q ne is at. k.apart i j p q ne (sym (same i) ∙ is) (sym (same j) ∙ at);
-  }
-
-  -- nor does a state in which all show what they showed
-  pub attached_still : {S R : State C} {parts : List (Option (Part T C))} → AreAttached S parts
-      → IsUnborrowed R → IsPlain R
-      → ((b : GenerationalPointer) → value_in R b ≡ value_in S b) → AreAttached R parts
-  attached_still k quiet plain same = record {
-    unborrowed = quiet;
-    plain = plain;
-    seen = λ slot p is. ap is_some (same (pointer_of p.raw)) ∙ k.seen slot p is;
-    apart = k.apart;
   }
 
   module _ {S R : State C} (s : IsSound S) {parts : List (Option (Part T C))}

@@ -10,9 +10,8 @@ use Rattle.generational_core.specs.Boxes.{name_in, name_of}
 use Rattle.generational_core.specs.Conditions.{fresh}
 use Rattle.generational_core.specs.Leaving.{BeginsNoBorrow, IsUnborrowed}
 use Rattle.generational_core.specs.Machine.{Action, Answer}
-use Rattle.generational_core.specs.Machine.Action.{Make, End, Read, ReleaseReader, SetValue}
-use Rattle.generational_core.specs.Machine.Answer.{Made, Done, Old, Reads, Flag}
-use Rattle.generational_core.specs.Borrowing.{Guard}
+use Rattle.generational_core.specs.Machine.Action.{Make, End, SetValue}
+use Rattle.generational_core.specs.Machine.Answer.{Made, Done, Old}
 use Rattle.generational_core.specs.Names.{Name}
 use Rattle.generational_core.specs.Seeing.{value_in}
 use Rattle.generational_core.specs.Slots.{Fits, slots}
@@ -29,7 +28,7 @@ use Rattle.generational_core.proofs.machine.Leaving.{same_reach, same_value}
 use Rattle.generational_core.proofs.machine.Resting.{free_sees}
 use Rattle.generational_core.proofs.machine.Seeing.{led_box, reaches}
 use Rattle.generational_core.proofs.machine.Stepping.{meets_number, meets_sound}
-use Rattle.generational_core.proofs.machine.Unborrowed.{quiet_free, quiet_fresh, quiet_read, quiet_sees, quiet_stays}
+use Rattle.generational_core.proofs.machine.Unborrowed.{quiet_free, quiet_fresh, quiet_sees, quiet_stays}
 use Rattle.generational_core.proofs.maps.Maps.{by_number, key_cases, name_cases}
 use Rattle.generational_sessions.proofs.callers.PlainStores.{fresh_plain, stays_plain}
 use Rattle.generational_sessions.specs.PlainStores.{MakesNoReference}
@@ -71,21 +70,6 @@ module _ {T : Type 0} where
       plain = stays_plain call answer m plain k.plain;
       last = stays_last call answer other m k.last;
       bounded = meets_bounded S R call answer s k.bounded m;
-    }
-
-    -- and a read that was released
-    pub simple_read : {Q : State T} (b : GenerationalPointer) (l : Location) (g : Guard)
-        (known : _) → Meets S (Read b l) (Reads g) R
-        → Meets R (ReleaseReader g) (Flag known) Q → IsSimple Q
-    simple_read {Q} b l g known read release = record {
-      unborrowed = quiet_read b l g known s read release k.unborrowed;
-      plain = stays_plain (ReleaseReader g) (Flag known) release tt
-          (stays_plain (Read b l) (Reads g) read tt k.plain);
-      last = stays_last (ReleaseReader g) (Flag known) refl release
-          (stays_last (Read b l) (Reads g) refl read k.last);
-      bounded = meets_bounded R Q (ReleaseReader g) (Flag known)
-          (meets_sound S R (Read b l) (Reads g) s read)
-          (meets_bounded S R (Read b l) (Reads g) s k.bounded read) release;
     }
 
   -- ---- boxes that see values
@@ -247,11 +231,6 @@ module _ {T : Type 0} where
   stands_same {rows = rows} {a = a} at row e is there =
       let same = same_Some at.entity e (sym at.there ∙ (ap (slice_get rows) (sym is) ∙ there)) in
       subst (λ x. IsSame x a) same at.same
-
-  -- what a caller sees where the rows stay
-  pub same_rows : {S R : State T} (rows : List (Entity T)) → R ≡ S
-      → ◌≡◌ {A = TableState T} (record { state = R; rows = rows }) (record { state = S; rows = rows })
-  same_rows rows same = λ i. record { state = same i; rows = rows }
 
   -- where each entity that was live is, and no other, the rows stay
   pub kept_still : {S R : State T} {rows : List (Entity T)} {places : List ℕ} → IsKept S rows places

@@ -1,10 +1,9 @@
 -- What a caller sees of a table of entities.
-use Rattle.std.specs.Prelude.{◌≡◌, ◌⊎◌, ◌≤◌, ◌-◌, ℕ, List, Option, None, Some, Bool, true, false}
+use Rattle.std.specs.Prelude.{◌≡◌, ◌⊎◌, ◌≤◌, ℕ, List, Option, None, Some, Bool, true, false}
 use Rattle.std.specs.Prelude.{is_some, length, slice_get}
 use Rattle.generational_core.specs.Boxes.{name_of}
 use Rattle.generational_core.specs.Seeing.{value_in}
 use Rattle.generational_core.specs.State.{State, IsGiven}
-use Rattle.generational_core.specs.Steps.{last_ticket}
 use Rattle.entity_table.specs.declared.entity.Entity.{Entity}
 use Rattle.entity_table.specs.Entities.{pointer_in, IsSame}
 
@@ -37,7 +36,7 @@ module _ {T : Type 0} where
       ((left ≡ Some v) × answers v true) ⊎ ((left ≡ None) × answers v false)
 
   -- what is left of a table where the rows from one on were tested: each entity as it was, or gone
-  -- where it failed, and those of the tested rows have passed; a ticket is left for each other row
+  -- where it failed, and those of the tested rows have passed
   pub record Sifts (answers : T → Bool → Type 0) (old new : TableState T) (row : ℕ) : Type 0 where
     pub left : (e : Entity T) (v : T) → element_in old e ≡ Some v
         → (element_in new e ≡ Some v) ⊎ ((element_in new e ≡ None) × answers v false)
@@ -46,4 +45,3 @@ module _ {T : Type 0} where
     pub passed : (i : ℕ) (e : Entity T) → slice_get new.rows i ≡ Some e → row ≤ i
         → (v : T) × (element_in new e ≡ Some v) × answers v true
     pub within : row ≤ length new.rows
-    pub tickets : row ≤ last_ticket - new.state.next

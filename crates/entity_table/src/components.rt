@@ -1,12 +1,9 @@
 //! Tables of components, beside a table of entities.
 
-ghost use Rattle.std.specs.Prelude.{◌≡◌, ◌≢◌, ◌<◌, length, None, Some, is_some, IsTrue, MatchOption, ℕ};
-ghost use Rattle.std.specs.Prelude.{IfOk, OnOk, IfErr, OnErr};
-ghost use Rattle.std.specs.Fn.{FnOnceReturnsAt};
+ghost use Rattle.std.specs.Prelude.{◌≡◌, ◌≢◌, ◌<◌, length, None, Some, is_some, option_copied, IsTrue, ℕ};
+ghost use Rattle.std.specs.Prelude.{OnOk, IfErr, OnErr};
 ghost use Rattle.generational_core.specs.Conditions.{IsFresh};
-ghost use Rattle.generational_core.specs.Steps.{last_ticket};
 ghost use Rattle.generational_core.specs.declared.error.StoreError.TheVariants.{OutOfMemory};
-ghost use Rattle.generational_core.specs.declared.error.StoreError.TheVariants.{NumbersExhausted};
 ghost use Rattle.entity_table.specs.declared.entity.Entity.{Entity};
 ghost use Rattle.entity_table.specs.Entities.{slot_in, IsOther};
 ghost use Rattle.entity_table.specs.Components.{part_at, part_of, component_in};
@@ -119,41 +116,13 @@ impl<T, C, S: Storage<C>> ComponentTable<T, C, S> {
         Ok(())
     }
 
-    /// Looks at an entity's component, and answers what the closure makes of it, which is called
-    /// once; None where the entity has none. Each entity keeps its own.
-    ///
-    /// Refused by `NumbersExhausted` alone, where the store gave all its tickets: a look uses one.
-    /// The closure isn't called then, and the table stays as it was. Takes no memory, and is O(1).
-    pub fn get<R, F: FnOnce(&C) -> R>(
-        &mut self,
-        entity: Entity<T>,
-        here: Location,
-        f: F,
-    ) -> Result<Option<R>, StoreError>
-    where
-        F: Drop,
-        requires { F.IsAlwaysCallable f }
-        ensures seen { IfOk result (λ seen. MatchOption seen
-            (component_in self.old entity ≡ None) (λ answer. (v : C) ×
-            (component_in self.old entity ≡ Some v) × FnOnceReturnsAt F.FnOnce f v answer)) }
-        ensures same { (e : Entity T) → component_in self.new e ≡ component_in self.old e }
-        ensures short { IfErr result (λ cause. (cause ≡ NumbersExhausted)
-            × (self.old.state.next ≡ last_ticket)) }
-        ensures refused { OnErr result (self.new ≡ self.old) }
+    /// An entity's component; None where it has none. The table is lent meanwhile. Takes no memory,
+    /// and is O(1).
+    pub fn get(&self, entity: Entity<T>) -> Option<&C>
+        ensures { option_copied result ≡ component_in self.now entity }
     {
-        let Some(part) = part_for(&self.parts, entity) else {
-            return Ok(None);
-        };
-        let guard = match part.raw.read(&mut self.store, here) {
-            Ok(guard) => guard,
-            Err(cause) => return Err(cause),
-        };
-        let answer = match guard.deref(&self.store) {
-            Some(view) => f(&*view),
-            None => unreachable!(),
-        };
-        guard.release(&mut self.store);
-        Ok(Some(answer))
+        let part = part_for(&self.parts, entity)?;
+        part.raw.peek(&self.store)
     }
 
     /// Ends an entity's component. Answers whether it had one. Every other entity keeps its own.

@@ -1,9 +1,9 @@
-//! Handles of entities, and why a call on one is refused.
+//! Handles of entities, and what is told of one whose entity is gone.
 
 ghost use Rattle.std.specs.Prelude.{◌≡◌};
 ghost use Rattle.entity_table.specs.Entities.{pointer_in, spawned_at};
 
-use generational_core::{GenerationalBox, GenerationalBoxId, Location, StoreError};
+use generational_core::{GenerationalBox, GenerationalBoxId, Location};
 use std::alloc::AllocError;
 
 /// A handle of an entity. It is copied freely, owns nothing, and outlives its entity: no later
@@ -48,13 +48,4 @@ impl<T> Entity<T> {
 pub struct Stale {
     /// Where the entity was spawned.
     pub spawned_at: Location,
-}
-
-/// Why an element can't be looked at.
-#[derive(Clone, Copy, Debug, PartialEq, Eq)]
-pub enum EntityError {
-    /// The entity is gone; it was spawned here.
-    Stale(Location),
-    /// The store refused.
-    Store(StoreError),
 }

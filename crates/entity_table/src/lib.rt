@@ -13,5 +13,5 @@ mod rows;
 mod table;
 
 pub use crate::components::ComponentTable;
-pub use crate::entity::{Entity, EntityError, Stale};
+pub use crate::entity::{Entity, Stale};
 pub use crate::table::EntityTable;

@@ -2,19 +2,15 @@
 
 ghost use Rattle.std.specs.Prelude.{◌≡◌, ◌↔◌, ◌⊎◌, ◌<◌, ◌+◌, ◌-◌, ◌++◌, ◌∷◌, [], ℕ, true, length, None, Some, Err, is_some};
 ghost use Rattle.std.specs.Prelude.{IfOk, OnOk, IfErr, OnErr, IsErr, swap_remove, slice_get};
-ghost use Rattle.std.specs.Fn.{FnOnceReturnsAt, FnReturnsAt};
-ghost use Rattle.generational_core.specs.Borrowing.{take_ticket};
+ghost use Rattle.std.specs.Fn.{FnReturnsAt};
 ghost use Rattle.generational_core.specs.Conditions.{IsFresh};
-ghost use Rattle.generational_core.specs.Steps.{last_ticket};
 ghost use Rattle.generational_core.specs.declared.error.StoreError.TheVariants.{OutOfMemory};
-ghost use Rattle.generational_core.specs.declared.error.StoreError.TheVariants.{NumbersExhausted};
 ghost use Rattle.entity_table.specs.declared.entity.Entity.{Entity};
-ghost use Rattle.entity_table.specs.declared.entity.EntityError.TheVariants as error;
 ghost use Rattle.entity_table.specs.Entities.{spawned_at, IsOther, IsSame};
 ghost use Rattle.entity_table.specs.Tables.{TableState, element_in, WasSpawned, IsDense};
 ghost use Rattle.entity_table.specs.Tables.{IsSifted, Sifts};
 
-use crate::entity::{Entity, EntityError, Stale};
+use crate::entity::{Entity, Stale};
 use crate::rows::{entity_at, remove_row, reserve_row};
 use generational_core::{GenerationalBox, Location, Refusal, Storage, StoreError};
 use std::alloc::Global;
@@ -110,7 +106,6 @@ impl<T, S: Storage<T>> EntityTable<T, S> {
         ensures kept { (f : Entity T) → WasSpawned self.old f → WasSpawned self.new f }
         ensures stale { IsErr result ↔ element_in self.old entity ≡ None }
         ensures told { IfErr result (λ stale. stale.spawned_at ≡ spawned_at entity) }
-        ensures ticket { self.new.state.next ≡ self.old.state.next }
         ensures refused { OnErr result (self.new ≡ self.old) }
     {
         if !entity.raw.can_write(&self.store) {
@@ -155,43 +150,20 @@ impl<T, S: Storage<T>> EntityTable<T, S> {
         Ok(())
     }
 
-    /// Looks at an entity's element, and answers what the closure makes of it, which is called once.
-    /// Each entity shows what it showed, and the rows stay.
+    /// An entity's element. The table is lent meanwhile.
     ///
-    /// Refused, in this order: `Stale`, where the entity is gone, or is another table's; `Store` of
-    /// `NumbersExhausted`, where the store gave all its tickets: a look uses one. The closure isn't
-    /// called then, and the table stays as it was. Takes no memory, and is O(1).
-    pub fn get<R, F: FnOnce(&T) -> R>(
-        &mut self,
-        entity: Entity<T>,
-        here: Location,
-        f: F,
-    ) -> Result<R, EntityError>
-        requires { F.IsAlwaysCallable f }
-        ensures seen { IfOk result (λ answer. (v : T) ×
-            (element_in self.old entity ≡ Some v) × FnOnceReturnsAt F.FnOnce f v answer) }
-        ensures same { (e : Entity T) → element_in self.new e ≡ element_in self.old e }
-        ensures ticket { OnOk result (self.new
-            ≡ record self.old { state = take_ticket self.old.state }) }
-        ensures stale { element_in self.old entity ≡ None →
-            result ≡ Err (error.Stale (spawned_at entity)) }
-        ensures short { IfErr result (λ e. (element_in self.old entity ≡ None)
-            ⊎ ((e ≡ error.Store NumbersExhausted) × (self.old.state.next ≡ last_ticket))) }
-        ensures refused { OnErr result (self.new ≡ self.old) }
+    /// Refused where the entity is gone, or is another table's. Takes no memory, and is O(1).
+    pub fn get(&self, entity: Entity<T>) -> Result<&T, Stale>
+        ensures seen { IfOk result (λ element. element_in self.now entity ≡ Some element.now) }
+        ensures stale { IsErr result ↔ element_in self.now entity ≡ None }
+        ensures told { IfErr result (λ stale. stale.spawned_at ≡ spawned_at entity) }
     {
-        if !entity.raw.can_write(&self.store) {
-            return Err(EntityError::Stale(entity.spawned_at()));
+        match entity.raw.peek(&self.store) {
+            Some(element) => Ok(element),
+            None => Err(Stale {
+                spawned_at: entity.spawned_at(),
+            }),
         }
-        let guard = match entity.raw.read(&mut self.store, here) {
-            Ok(guard) => guard,
-            Err(cause) => return Err(EntityError::Store(cause)),
-        };
-        let answer = match guard.deref(&self.store) {
-            Some(view) => f(&*view),
-            None => unreachable!(),
-        };
-        guard.release(&mut self.store);
-        Ok(answer)
     }
 
     /// Whether an entity is live: false where it was despawned, or is another table's. Takes no
@@ -217,41 +189,29 @@ impl<T, S: Storage<T>> EntityTable<T, S> {
         self.rows.as_slice()
     }
 
-    /// Ends each entity whose element fails a test. Every other entity shows what it showed.
-    ///
-    /// Refused by `NumbersExhausted` alone, where fewer tickets are left than there are entities:
-    /// each is looked at. The test isn't asked then, and the table stays as it was. Takes no memory,
-    /// and is O(n).
-    pub fn retain<F: Fn(&T) -> bool>(&mut self, here: Location, test: F) -> Result<(), StoreError>
+    /// Ends each entity whose element fails a test. Every other entity shows what it showed. Never
+    /// refused; takes no memory, and is O(n).
+    pub fn retain<F: Fn(&T) -> bool>(&mut self, test: F)
         requires { F.IsAlwaysCallable test }
-        ensures sifted { OnOk result ((e : Entity T) (v : T) →
-            element_in self.old e ≡ Some v →
-            IsSifted (FnReturnsAt F.Fn test) v (element_in self.new e)) }
+        ensures sifted { (e : Entity T) (v : T) → element_in self.old e ≡ Some v →
+            IsSifted (FnReturnsAt F.Fn test) v (element_in self.new e) }
         ensures none { (e : Entity T) → element_in self.old e ≡ None →
             element_in self.new e ≡ None }
         ensures kept { (f : Entity T) → WasSpawned self.old f → WasSpawned self.new f }
-        ensures short { IfErr result (λ cause. (cause ≡ NumbersExhausted)
-            × (last_ticket < self.old.state.next + length self.old.rows)) }
-        ensures refused { OnErr result (self.new ≡ self.old) }
     {
         let mut row = self.rows.len();
-        if self.store.tickets_left() < row as u64 {
-            return Err(StoreError::NumbersExhausted);
-        }
         while row > 0 {
             row -= 1;
-            self.sift_row(row, here, &test);
+            self.sift_row(row, &test);
         }
         // The rows are dense now, as at any time.
         let _ = &self.rows;
-        Ok(())
     }
 
     // Ends the entity of a row where it fails a test. The rows behind it were tested.
-    fn sift_row<F: Fn(&T) -> bool>(&mut self, row: usize, here: Location, test: &F)
+    fn sift_row<F: Fn(&T) -> bool>(&mut self, row: usize, test: &F)
         requires callable { F.IsAlwaysCallable test.now }
         requires within { row < length self.old.rows }
-        requires ticket { self.old.state.next < last_ticket }
         ensures { (first : TableState T) →
             Sifts (FnReturnsAt F.Fn test.now) first self.old (row + 1) →
             Sifts (FnReturnsAt F.Fn test.now) first self.new row }
@@ -259,7 +219,7 @@ impl<T, S: Storage<T>> EntityTable<T, S> {
         let Some(entity) = self.at(row) else {
             unreachable!();
         };
-        if self.passes(entity, here, test) {
+        if self.passes(entity, test) {
             return;
         }
         match self.despawn(entity) {
@@ -269,17 +229,14 @@ impl<T, S: Storage<T>> EntityTable<T, S> {
     }
 
     // Whether a live entity passes a test.
-    fn passes<F: Fn(&T) -> bool>(&mut self, entity: Entity<T>, here: Location, test: &F) -> bool
+    fn passes<F: Fn(&T) -> bool>(&self, entity: Entity<T>, test: &F) -> bool
         requires callable { F.IsAlwaysCallable test.now }
-        requires live { is_some (element_in self.old entity) ≡ true }
-        requires ticket { self.old.state.next < last_ticket }
-        ensures answer { (v : T) × (element_in self.old entity ≡ Some v)
+        requires live { is_some (element_in self.now entity) ≡ true }
+        ensures { (v : T) × (element_in self.now entity ≡ Some v)
             × FnReturnsAt F.Fn test.now v result }
-        ensures same { (e : Entity T) → element_in self.new e ≡ element_in self.old e }
-        ensures ticket { self.new ≡ record self.old { state = take_ticket self.old.state } }
     {
-        match self.get(entity, here, test) {
-            Ok(answer) => answer,
+        match self.get(entity) {
+            Ok(element) => test(element),
             Err(_) => unreachable!(),
         }
     }

@@ -5,7 +5,6 @@ use Rattle.std.specs.Prelude.{is_some}
 use Rattle.generational_core.proofs.machine.Calling.{ends, unseen}
 use Rattle.generational_core.proofs.machine.Leaving.{same_value}
 use Rattle.generational_core.proofs.machine.Unborrowed.{quiet_ends}
-use Rattle.generational_sessions.proofs.callers.Lacking.{ended_next}
 use Rattle.entity_table.specs.Entities.{pointer_in, slot_in}
 use Rattle.entity_table.proofs.Keeping.{free_seen, kept_removed, others_left, seen_store, row_is, row_within, stands, stands_same, stuck_unseen}
 use Rattle.entity_table.proofs.table.EntityTable.despawn.Goals as goal
@@ -78,6 +77,3 @@ returns-clause-stale g c = rw (← c.self.view_is) (
   λ none. absurd (true≢false (sym (free_seen _ (g.met.S.AnyStorage.sound _)
       c.self.invariant.simple c.can_write.ensures c.if-not-can_write.false) ∙ ap is_some none)),
 )
-
-pub returns-clause-ticket : goal.returns-clause-ticket
-returns-clause-ticket g c = rw (← c.self.view_is) (ended_next _ _ c.in-Ok.ensures)

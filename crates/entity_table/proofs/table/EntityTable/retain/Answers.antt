@@ -9,8 +9,7 @@ use Rattle.entity_table.proofs.table.EntityTable.retain.Goals as goal
 pub loop-row-init : goal.loop-row-init
 loop-row-init g c =
     let len : c.len-row.result ≡ length c.self.inside.rows.items = search (rules, arith) in
-    rw (← c.self.view_is)
-    (sifts_begun _ c.len-row.result len (omega (arith, c.tickets_left.ensures, c.if-tickets_left-row.false)))
+    rw (← c.self.view_is) (sifts_begun _ c.len-row.result len)
 
 pub loop-row-preserved : goal.loop-row-preserved
 loop-row-preserved g c =
