@@ -1,6 +1,6 @@
 //! What is done to a table of entities, one act a line, with what must come of it.
 
-use entity_table::{Entity, EntityError, EntityTable, Stale};
+use entity_table::{Entity, EntityTable, Stale};
 use generational_box::{Location, Storage};
 use std::alloc::Global;
 use std::process::Abort;
@@ -33,9 +33,9 @@ pub(crate) fn spawned_at(number: usize) -> Location {
     Location::new("e.rs", u32::try_from(number).unwrap_or(0), 1)
 }
 
-/// Where an element is looked at.
-pub(crate) fn looked_at() -> Location {
-    Location::new("l.rs", 1, 1)
+/// Where a component is given.
+pub(crate) fn given_at() -> Location {
+    Location::new("c.rs", 1, 1)
 }
 
 /// Does each line's act to a table, and sees what comes of it.
@@ -81,9 +81,10 @@ fn carries_out<S: Storage<u64>>(
             });
             told(rt, answer, number)
         }
-        Act::Retain(bound) => table
-            .retain(looked_at(), |element| *element < bound)
-            .is_ok(),
+        Act::Retain(bound) => {
+            table.retain(|element| *element < bound);
+            true
+        }
         Act::Clear => {
             table.clear();
             true
@@ -123,7 +124,7 @@ fn stands<S: Storage<u64>>(
 /// Sees what each entity shows.
 fn shows<S: Storage<u64>>(
     rt: &impl Abort,
-    table: &mut EntityTable<u64, S>,
+    table: &EntityTable<u64, S>,
     entities: &[Entity<u64>],
     shows: &[Option<u64>],
 ) {
@@ -131,9 +132,10 @@ fn shows<S: Storage<u64>>(
     let mut number: usize = 0;
     for (entity, shown) in entities.iter().zip(shows) {
         assert_eq!(rt; table.is_alive(*entity), shown.is_some());
-        let stale = EntityError::Stale(spawned_at(number));
-        let answer = table.get(*entity, looked_at(), |element| *element);
-        assert_eq!(rt; answer, shown.ok_or(stale));
+        let stale = Stale {
+            spawned_at: spawned_at(number),
+        };
+        assert_eq!(rt; table.get(*entity).copied(), shown.ok_or(stale));
         number = number.wrapping_add(1);
     }
 }

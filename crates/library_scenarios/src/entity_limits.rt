@@ -1,11 +1,11 @@
 //! Tables of components, and tables whose store has given all its tickets.
 
-use crate::entity_acts::{looked_at, spawned_at};
-use entity_table::{ComponentTable, Entity, EntityError, EntityTable};
-use generational_box::{Numbers, Storage, Store, StoreError, UnsyncStorage};
+use crate::entity_acts::{given_at, spawned_at};
+use entity_table::{ComponentTable, Entity, EntityTable, Stale};
+use generational_box::{Numbers, Storage, Store, UnsyncStorage};
+use library_uses::entities::told_after;
 use std::alloc::Global;
 use std::process::Abort;
-use library_uses::entities::told_after;
 
 /// A table of entities over a store.
 fn entities_over<S: Storage<u64>>(rt: &impl Abort, alloc: Global, store: S) -> EntityTable<u64, S> {
@@ -42,18 +42,18 @@ fn give<S: Storage<u64>>(
     entity: Entity<u64>,
     component: u64,
 ) {
-    assert!(rt; table.insert(entity, component, looked_at()).is_ok());
+    assert!(rt; table.insert(entity, component, given_at()).is_ok());
 }
 
 /// Sees what component an entity has.
 fn has<S: Storage<u64>>(
     rt: &impl Abort,
-    table: &mut ComponentTable<u64, u64, S>,
+    table: &ComponentTable<u64, u64, S>,
     entity: Entity<u64>,
     component: Option<u64>,
 ) {
     assert_eq!(rt; table.contains(entity), component.is_some());
-    assert_eq!(rt; table.get(entity, looked_at(), |seen| *seen), Ok(component));
+    assert_eq!(rt; table.get(entity).copied(), component);
 }
 
 /// An entity with a component, which goes, and another that takes its slot.
@@ -91,8 +91,10 @@ fn stale_is_told<S: Storage<u64>>(rt: &impl Abort, table: &mut EntityTable<u64, 
         Ok(entity) => entity,
         Err(_lacking) => rt.abort(),
     };
-    let told = Err(EntityError::Stale(spawned_at(3)));
-    assert_eq!(rt; told_after(table, first, 4, looked_at()), told);
+    let stale = Stale {
+        spawned_at: spawned_at(3),
+    };
+    assert_eq!(rt; told_after(table, first, 4, spawned_at(4)), Err(stale));
     assert_eq!(rt; table.len(), 1);
 }
 
@@ -104,23 +106,18 @@ fn a_caller_is_told_what_is_stale(rt: HostRuntime) {
     stale_is_told(&rt, &mut table);
 }
 
-/// An entity, where no look is left.
-fn looks_are_used_up<S: Storage<u64>>(rt: &impl Abort, table: &mut EntityTable<u64, S>) {
+/// An entity that is looked at, set and tested, where no ticket is left.
+fn an_entity_goes<S: Storage<u64>>(rt: &impl Abort, table: &mut EntityTable<u64, S>) {
     let entity = spawn(rt, table, 0);
-    let mut asked = false;
-    let answer = table.get(entity, looked_at(), |_| asked = true);
-    assert_eq!(rt;
-        answer,
-        Err(EntityError::Store(StoreError::NumbersExhausted))
-    );
-    assert!(rt; !asked);
-    let short = Err(StoreError::NumbersExhausted);
-    assert_eq!(rt; table.retain(looked_at(), |_| false), short);
+    assert!(rt; table.set(entity, 5).is_ok());
+    assert_eq!(rt; table.get(entity).copied().ok(), Some(5));
+    table.retain(|element| *element == 5);
+    assert_eq!(rt; table.len(), 1);
     assert!(rt; table.despawn(entity).is_ok());
 }
 
 #[test]
-fn looks_are_refused_where_no_ticket_is_left(rt: HostRuntime) {
+fn no_call_of_a_table_takes_a_ticket(rt: HostRuntime) {
     let alloc = rt.alloc();
     let numbers = Numbers {
         generation: 1,
@@ -128,5 +125,5 @@ fn looks_are_refused_where_no_ticket_is_left(rt: HostRuntime) {
     };
     let store: UnsyncStorage<u64> = Store::new_at(alloc, 1, numbers);
     let mut table = entities_over(&rt, alloc, store);
-    looks_are_used_up(&rt, &mut table);
+    an_entity_goes(&rt, &mut table);
 }

@@ -1,7 +1,7 @@
 //! Want of memory. Each test passes whichever one allocation is refused: what lacks memory changes
 //! nothing, and is tried a second time.
 
-use crate::entity_acts::{looked_at, spawned_at};
+use crate::entity_acts::{given_at, spawned_at};
 use entity_table::{ComponentTable, Entity, EntityTable};
 use generational_box::{LastFirst, OldestFirst, Storage, Store};
 use std::alloc::Global;
@@ -39,10 +39,10 @@ fn give_or_again<S: Storage<u64>>(
     entity: Entity<u64>,
     component: u64,
 ) {
-    if let Err(refusal) = table.insert(entity, component, looked_at()) {
+    if let Err(refusal) = table.insert(entity, component, given_at()) {
         assert_eq!(rt; refusal.value, component);
         assert!(rt; !table.contains(entity));
-        assert!(rt; table.insert(entity, component, looked_at()).is_ok());
+        assert!(rt; table.insert(entity, component, given_at()).is_ok());
     }
     assert!(rt; table.contains(entity));
 }
