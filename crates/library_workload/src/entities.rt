@@ -1,0 +1,19 @@
+//! Entities of a table.
+
+use crate::rounds::Keeper;
+use entity_table::{Entity, EntityTable};
+use generational_box::{Location, UnsyncStorage};
+
+impl Keeper<Entity<u64>> for EntityTable<u64, UnsyncStorage<u64>> {
+    fn add(&mut self, number: u64) -> Option<Entity<u64>> {
+        self.spawn(number, Location::new("entities.rt", 9, 14)).ok()
+    }
+
+    fn look(&self, entity: Entity<u64>) -> Option<u64> {
+        self.get(entity).copied().ok()
+    }
+
+    fn end(&mut self, entity: Entity<u64>) -> bool {
+        self.despawn(entity).is_ok()
+    }
+}
