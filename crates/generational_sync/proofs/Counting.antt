@@ -29,7 +29,7 @@ use Rattle.generational_core.specs.Machine.Action.{Point, CanRead, CanWrite}
 use Rattle.generational_core.specs.Machine.Answer.{Done, Flag}
 use Rattle.generational_core.specs.Machine.Answer.{Back, BorrowRefused, Refused}
 use Rattle.generational_core.specs.Steps.{Meets, limit_tickets, takes_ticket, last_ticket}
-use Rattle.generational_sync.specs.Standing.{borrows, borrows_of, given_by, leaves}
+use Rattle.shared_history.specs.Standing.{borrows, borrows_of, given_by, leaves}
 use Rattle.generational_sync.proofs.Weighing.{borrows_inserted}
 use Rattle.generational_sync.proofs.Standings.{filled_borrows, read_grows, end_grows, swept_fewer}
 use Rattle.generational_sync.proofs.Standings.{without_stand}

@@ -12,7 +12,7 @@ use Rattle.generational_core.specs.Cells.{Content, Cell, content_of}
 use Rattle.generational_core.specs.Cells.Content.{Here, Lent}
 use Rattle.generational_core.specs.State.{IsSound, tickets_of, content_at}
 use Rattle.generational_core.specs.Machine.{has_reader, has_writer}
-use Rattle.generational_sync.specs.History.{Plain, first_name, reader_cell, writer_cell}
+use Rattle.shared_history.specs.History.{Plain, first_name, reader_cell, writer_cell}
 use Rattle.generational_sync.proofs.Naming.{name_same}
 
 -- an element that passes one test passes another

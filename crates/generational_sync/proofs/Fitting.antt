@@ -12,7 +12,7 @@ use Rattle.generational_core.specs.Machine.Action.{Make, MakeShared, Refer}
 use Rattle.generational_core.specs.Steps.{AreNew, IsNew}
 use Rattle.step_records.specs.declared.step.StepReply.{StepReply}
 use Rattle.step_records.specs.declared.step.StepReply.TheVariants as reply
-use Rattle.generational_sync.specs.History.{Plain, GivesNew, are_new, fits, gives_new, is_new}
+use Rattle.shared_history.specs.History.{Plain, GivesNew, are_new, fits, gives_new, is_new}
 
 -- what passes the test fits, and what fits passes it
 pub fits_from : (P : Plain) (n : Name) → fits P n ≡ true → Fits P n

@@ -33,9 +33,9 @@ use Rattle.generational_core.specs.StepCalls.{is_ready, recorded_as, is_hindered
 use Rattle.generational_sessions.specs.History.{plain, plain_call, plain_answer}
 use Rattle.step_records.specs.declared.step.StepReply.{StepReply}
 use Rattle.step_records.specs.declared.step.StepReply.TheVariants as reply
-use Rattle.generational_sync.specs.Replies.{made_reply, reply_of}
-use Rattle.generational_sync.specs.History.{Plain, plain_step, step_by, action_of, names_of_reply}
-use Rattle.generational_sync.specs.History.{gives_new, guard_at}
+use Rattle.shared_history.specs.Replies.{made_reply, reply_of}
+use Rattle.shared_history.specs.History.{Plain, plain_step, step_by, action_of, names_of_reply}
+use Rattle.shared_history.specs.History.{gives_new, guard_at}
 use Rattle.generational_sync.proofs.Replying.{plain_reply, recorded_is}
 use Rattle.generational_sync.proofs.Fitting.{new_to}
 use Rattle.generational_sync.proofs.Finding.{reader_found, writer_found}

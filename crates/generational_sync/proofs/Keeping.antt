@@ -25,11 +25,12 @@ use Rattle.step_records.specs.declared.step.StepReply.{StepReply}
 use Rattle.step_records.specs.Kinds.{step_of}
 use Rattle.step_records.specs.Records.{HasRecord}
 use Rattle.generational_sync.specs.Refusals.{MayRefuse}
-use Rattle.generational_sync.specs.Replies.{recorded, reply_of}
-use Rattle.generational_sync.specs.History.{Plain, start, plain_step, replay_from}
-use Rattle.generational_sync.specs.Standing.{borrows, borrows_in, given_by, leaves, lent_in}
-use Rattle.generational_sync.specs.Bases.{BaseState, new_base, plain_of}
-use Rattle.generational_sync.specs.Shared.{LogState, IsKept}
+use Rattle.shared_history.specs.Replies.{recorded, reply_of}
+use Rattle.shared_history.specs.History.{Plain, start, plain_step, replay_from}
+use Rattle.shared_history.specs.Standing.{borrows, borrows_in, given_by, leaves, lent_in}
+use Rattle.shared_history.specs.Bases.{BaseState, new_base, plain_of}
+use Rattle.generational_sync.specs.Shared.{IsKept}
+use Rattle.shared_history.specs.Logs.{LogState}
 use Rattle.generational_core.specs.Rows.{ReadBack, told_by}
 use Rattle.generational_sync.proofs.Trimming.{told_number, told_start}
 use Rattle.generational_sync.proofs.Counting.{meets_fine, written_stand}

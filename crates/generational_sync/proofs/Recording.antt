@@ -28,7 +28,7 @@ use Rattle.step_records.specs.declared.step.StepReply.{StepReply}
 use Rattle.step_records.specs.declared.step.StepReply.TheVariants as reply
 use Rattle.step_records.specs.Records.{HasDropped, HasRecord, IsShort}
 use Rattle.generational_sync.specs.Refusals.{MayRefuse, needs_ticket}
-use Rattle.generational_sync.specs.Replies.{made_reply, reply_of}
+use Rattle.shared_history.specs.Replies.{made_reply, reply_of}
 
 dropped_short : (number : ℕ) (c : StepCall) (l : Location) → IsShort c → HasDropped number c l
 dropped_short number (call.PointTo a b) l short = absurd short

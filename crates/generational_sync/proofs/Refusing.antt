@@ -41,7 +41,7 @@ use Rattle.generational_core.specs.Machine.Action.{Point, CanRead, CanWrite}
 use Rattle.generational_core.specs.Machine.Answer.{Back, Done, Flag, BorrowRefused, Refused as refuses}
 use Rattle.generational_core.specs.Steps.{Meets, limit_tickets, takes_ticket, last_ticket}
 use Rattle.generational_core.specs.StepCalls.{is_hindered}
-use Rattle.generational_sync.specs.Shared.{set_answer}
+use Rattle.shared_history.specs.Replies.{set_answer}
 use Rattle.generational_sync.specs.Refusals.{MayDrop, MayRefuse, needs_owner, needs_ticket}
 
 -- what hinders an end is a borrow

@@ -31,7 +31,7 @@ unfoldable use Rattle.generational_sessions.specs.History.{bare_cells}
 use Rattle.generational_sessions.proofs.carrying.Plain.{get_bare}
 use Rattle.step_records.specs.declared.step.StepReply.{StepReply}
 use Rattle.step_records.specs.declared.step.StepReply.TheVariants as reply
-use Rattle.generational_sync.specs.Replies.{reply_of, same_box, same_reply, same_error, is_recorded}
+use Rattle.shared_history.specs.Replies.{reply_of, same_box, same_reply, same_error, is_recorded}
 
 same_number : (n : ℕ) → nat_eq n n ≡ true
 same_number n = eq-eqb n n refl

@@ -21,7 +21,7 @@ use Rattle.generational_core.specs.Machine.{knows_reader, remove_reader}
 use Rattle.generational_core.specs.Machine.Action.{ReleaseReader}
 use Rattle.generational_core.specs.Machine.Answer.{Reads, Done, Flag}
 use Rattle.generational_core.specs.Steps.{Meets, limit_tickets}
-use Rattle.generational_sync.specs.Standing.{borrows, borrows_in}
+use Rattle.shared_history.specs.Standing.{borrows, borrows_in}
 use Rattle.generational_sync.proofs.Weighing.{borrows_retained, borrows_changed}
 
 -- a list without a ticket that is in it is shorter

@@ -6,9 +6,10 @@ use Rattle.generational_core.specs.declared.rows.BaseRow.TheVariants as row
 use Rattle.generational_core.specs.Plain.{Plain, plain}
 use Rattle.generational_core.specs.Rows.{read_row, read_rows, rows_of}
 use Rattle.generational_core.specs.State.{State}
-use Rattle.generational_sync.specs.Bases.{BaseState, Trims, all_trimmed, counts_of, plain_of}
-use Rattle.generational_sync.specs.Shared.{IsCheckpoint, LogState, SharedState}
-use Rattle.generational_sync.specs.declared.base.TrimmedSteps.{TrimmedSteps}
+use Rattle.shared_history.specs.Bases.{BaseState, Trims, all_trimmed, counts_of, plain_of}
+use Rattle.generational_sync.specs.Shared.{IsCheckpoint, SharedState}
+use Rattle.shared_history.specs.Logs.{LogState}
+use Rattle.shared_history.specs.declared.base.TrimmedSteps.{TrimmedSteps}
 use Rattle.step_records.specs.Kinds.{count, kind_of, same_kind}
 use Rattle.step_records.specs.declared.step.Kind.{Kind}
 use Rattle.step_records.specs.declared.step.Kind.TheVariants.{Made, Lent, Changed, Refused}

@@ -9,7 +9,7 @@ use Rattle.std.proofs.lemmas.Bool.{and_parts, and_from}
 use Rattle.std.specs.FinMap as map
 use Rattle.generational_core.specs.Names.{Name, NameMap, name_cmp, change, change_if}
 use Rattle.generational_core.specs.Cells.{Cell}
-use Rattle.generational_sync.specs.Standing.{borrows_of, borrows_in}
+use Rattle.shared_history.specs.Standing.{borrows_of, borrows_in}
 use Rattle.generational_sync.proofs.Naming.{name_total, name_exact}
 
 less : (r : Ordering) → is_lt r ≡ true → r ≡ Less

@@ -1,10 +1,8 @@
 -- What lies under the lock, as contracts see it.
-use Rattle.std.specs.Prelude.{◌≡◌, ℕ, ◌+◌, ◌^◌, ◌<◌, ◌≤◌, ◌⊎◌, true, List, [], Some, Result, Ok}
-use Rattle.std.specs.Prelude.{Err, is_some, length}
+use Rattle.std.specs.Prelude.{◌≡◌, ℕ, ◌+◌, ◌^◌, ◌<◌, ◌≤◌, ◌⊎◌, true, List, [], Some}
+use Rattle.std.specs.Prelude.{is_some, length}
 use Rattle.generational_core.specs.declared.error.Location.{Location}
 use Rattle.generational_core.specs.declared.boxes.GenerationalPointer.{GenerationalPointer}
-use Rattle.generational_core.specs.declared.error.BorrowMutError.{BorrowMutError}
-use Rattle.generational_core.specs.declared.error.Refused.{Refused}
 use Rattle.generational_core.specs.declared.error.StoreError.{StoreError}
 use Rattle.generational_core.specs.declared.error.StoreError.TheVariants.{OutOfMemory}
 use Rattle.generational_core.specs.declared.error.StoreError.TheVariants.{NumbersExhausted}
@@ -13,30 +11,22 @@ use Rattle.generational_core.specs.Rows.{rows_of}
 use Rattle.generational_core.specs.declared.steps.StepCall.{StepCall}
 use Rattle.generational_core.specs.State.{IsSound, State}
 use Rattle.generational_core.specs.Machine.{Action, Answer}
-use Rattle.generational_core.specs.Machine.Answer.{Old, Refused as refuses}
-use Rattle.generational_core.specs.Answers.{end_refused}
+use Rattle.generational_core.specs.Machine.Answer.{Refused as refuses}
 use Rattle.generational_core.specs.Steps.{Meets}
 use Rattle.generational_sessions.specs.History.{plain}
 use Rattle.step_records.specs.declared.step.Step.{Step}
-use Rattle.generational_sync.specs.Bases.{BaseState, Trims, all_trimmed, plain_of}
-use Rattle.generational_sync.specs.Counts.{Counts}
-use Rattle.generational_sync.specs.Replies.{kind_in, raised_by, recorded, reply_of}
-use Rattle.generational_sync.specs.History.{replay_from}
-use Rattle.generational_sync.specs.Standing.{borrows}
+use Rattle.shared_history.specs.Bases.{BaseState, Trims, all_trimmed, plain_of}
+use Rattle.shared_history.specs.Counts.{Counts}
+use Rattle.shared_history.specs.Replies.{kind_in, raised_by, recorded, reply_of}
+use Rattle.shared_history.specs.History.{replay_from}
+use Rattle.shared_history.specs.Logs.{LogState}
+use Rattle.shared_history.specs.Standing.{borrows}
 
 -- A shared state: the machine's state, a base, and the steps that led on from there.
 pub record SharedState (T : Type 0) : Type 0 where
   pub state : State T
   pub base : BaseState
   pub history : List Step
-
--- A history with its base, and with what is reserved in it: the borrows for whose release there is
--- room, and for how many steps beside these there is room.
-pub record LogState : Type 0 where
-  pub base : BaseState
-  pub steps : List Step
-  pub standing : ℕ
-  pub room : ℕ
 
 -- what holds whenever the lock is free: from the base's state, which is sound and of this store, the
 -- history replays to the state without its values, and there is room for the release of each borrow
@@ -45,11 +35,6 @@ abbrev pub IsKept : {T : Type 0} → ℕ → State T → LogState → Type 0
 IsKept number S log =
     (replay_from (plain_of log.base) log.steps ≡ Some (plain S)) × (borrows S ≤ log.standing)
     × IsSound (plain_of log.base) × (log.base.number ≡ number)
-
--- what the setting of a value answers that took the place of this old one
-abbrev pub set_answer : {T U : Type 0} → T → Result U (T × Refused BorrowMutError) → Answer T
-set_answer old (Ok u) = Old old
-set_answer old (Err e) = end_refused e.1
 
 -- a call does the machine's step; or memory lacked, for the machine where it may or for the
 -- history at any time, and nothing changes

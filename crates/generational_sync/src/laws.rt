@@ -12,10 +12,10 @@ ghost use Rattle.generational_sync.specs.Refusals.{MayRefuse};
 ghost use Rattle.generational_sessions.specs.History.{plain};
 ghost use Rattle.step_records.specs.declared.step.Step.{Step};
 ghost use Rattle.step_records.specs.declared.step.StepReply.{StepReply};
-ghost use Rattle.generational_sync.specs.Bases.{BaseState, plain_of};
-ghost use Rattle.generational_sync.specs.Replies.{reply_of};
-ghost use Rattle.generational_sync.specs.History.{Plain, IsTaken, LeadsOver, plain_step, start};
-ghost use Rattle.generational_sync.specs.History.{replay_from};
+ghost use Rattle.shared_history.specs.Bases.{BaseState, plain_of};
+ghost use Rattle.shared_history.specs.Replies.{reply_of};
+ghost use Rattle.shared_history.specs.History.{Plain, IsTaken, LeadsOver, plain_step, start};
+ghost use Rattle.shared_history.specs.History.{replay_from};
 
 use generational_box::laws;
 

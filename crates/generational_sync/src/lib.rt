@@ -11,17 +11,12 @@
 //! [`SyncState`] is what lies under the lock. It needs no threads.
 #![tactic(auto)]
 
-mod base;
 pub mod laws;
-mod log;
 pub mod parts;
-mod replies;
 mod state;
 mod storage;
-mod tally;
 
-pub use crate::base::Base;
 pub use crate::state::SyncState;
 pub use crate::storage::SyncStorage;
-pub use crate::tally::{Count, Tally};
+pub use shared_history::{Base, Count, Tally};
 pub use step_records::{Kind, Step, StepReply};

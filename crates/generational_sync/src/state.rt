@@ -6,8 +6,8 @@ ghost use Rattle.generational_core.specs.declared.steps.StepCall.TheVariants as 
 ghost use Rattle.generational_core.specs.Conditions.{fresh};
 ghost use Rattle.generational_core.specs.Answers.{value_behind};
 ghost use Rattle.generational_core.specs.StepCalls.{id_of_owner, is_ready};
-ghost use Rattle.generational_sync.specs.Counts.{new_tallies};
-ghost use Rattle.generational_sync.specs.Bases.{IsCounted, all_trimmed, new_base};
+ghost use Rattle.shared_history.specs.Counts.{new_tallies};
+ghost use Rattle.shared_history.specs.Bases.{IsCounted, all_trimmed, new_base};
 ghost use Rattle.generational_sync.specs.Shared.{IsCheckpoint, MayRefuseCheckpoint, Replays};
 
 mod borrowing;
@@ -15,13 +15,12 @@ mod ending;
 mod making;
 
 // A law does nothing when it is called: the caller's proof cites it.
-use crate::base::Base;
 use crate::laws::{histories_lead_to_sound_states, recorded_calls_are_lawful};
-use crate::log::{Log, Outdated};
-use crate::tally::{Count, Tally, tallies};
 use generational_box::{
     AnyStorage, GenerationalRef, Owner, StepCall, Storage, StoreError, UnsyncStorage,
 };
+use shared_history::log::{Log, Outdated};
+use shared_history::{Base, Count, Tally, tallies};
 use std::alloc::Global;
 use std::marker::Model;
 use std::sync::ledger::Blank;

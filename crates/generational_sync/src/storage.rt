@@ -5,18 +5,17 @@ ghost use Rattle.std.specs.Sync.Mutex.{mutex_guard_value};
 ghost use Rattle.generational_core.specs.declared.error.StoreError.TheVariants.{OutOfMemory};
 ghost use Rattle.generational_core.specs.declared.steps.StepCall.TheVariants as call;
 ghost use Rattle.generational_core.specs.StepCalls.{id_of_owner, is_ready};
-ghost use Rattle.generational_sync.specs.Counts.{new_tallies};
-ghost use Rattle.generational_sync.specs.Bases.{IsCounted};
+ghost use Rattle.shared_history.specs.Counts.{new_tallies};
+ghost use Rattle.shared_history.specs.Bases.{IsCounted};
 ghost use Rattle.generational_sync.specs.Shared.{IsHistory, MayRefuseTrimming};
 
 mod borrowing;
 mod ending;
 mod making;
 
-use crate::base::Base;
 use crate::state::SyncState;
-use crate::tally::{Count, Tally};
 use generational_box::{GenerationalRef, Owner, StepCall, StoreError};
+use shared_history::{Base, Count, Tally};
 use std::alloc::Global;
 use std::sync::ledger::Blank;
 use std::sync::{Arc, Condvar, Mutex, MutexGuard, Wait};

@@ -13,21 +13,22 @@ ghost use Rattle.generational_core.specs.Machine.Answer.{Flag};
 ghost use Rattle.generational_core.specs.StepCalls.{is_ready};
 ghost use Rattle.generational_core.specs.Steps.{Meets};
 ghost use Rattle.generational_sync.specs.Refusals.{MayRefuse};
-ghost use Rattle.generational_sync.specs.Shared.{Does, Raises, Records, set_answer};
+ghost use Rattle.generational_sync.specs.Shared.{Does, Raises, Records};
+ghost use Rattle.shared_history.specs.Replies.{set_answer};
 
 use super::SyncState;
 use crate::laws::{
     free_calls_are_refused_so, histories_lead_to_sound_states, recorded_calls_are_lawful,
     steps_have_records,
 };
-use crate::replies::{back_reply, flag_reply, read_reply, set_reply, write_reply};
-use crate::tally::{Count, Tally};
 use generational_box::laws::boxes_and_guards_are_new;
 use generational_box::{
     AnyStorage, BorrowMutError, BorrowMutResult, BorrowResult, GenerationalBox,
     GenerationalPointer, GenerationalRef, GenerationalRefMut, Location, Refused, StepCall, Storage,
     StoreError, UnsyncStorage, ValueDroppedError,
 };
+use shared_history::replies::{back_reply, flag_reply, read_reply, set_reply, write_reply};
+use shared_history::{Count, Tally};
 
 impl<T: Drop, const NUMBER: u64, M: Count, L: Count, C: Count, R: Count> SyncState<
     T,

@@ -15,12 +15,12 @@ use crate::laws::{
     free_calls_are_refused_so, histories_lead_to_sound_states, recorded_calls_are_lawful,
     steps_have_records,
 };
-use crate::replies::{end_reply, release_reply};
-use crate::tally::{Count, Tally};
 use generational_box::{
     AnyStorage, BorrowMutError, BorrowMutResult, GenerationalBox, Owner, Refused, StepCall,
     Storage, StoreError,
 };
+use shared_history::replies::{end_reply, release_reply};
+use shared_history::{Count, Tally};
 
 impl<T: Drop, const NUMBER: u64, M: Count, L: Count, C: Count, R: Count> SyncState<
     T,

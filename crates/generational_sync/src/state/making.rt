@@ -17,14 +17,14 @@ use crate::laws::{
     free_calls_are_refused_so, histories_lead_to_sound_states, recorded_calls_are_lawful,
     steps_have_records,
 };
-use crate::replies::{make_reply, owner_reply, reference_reply, shared_reply};
-use crate::tally::{Count, Tally};
 use generational_box::laws::boxes_and_guards_are_new;
 use generational_box::{
     AnyStorage, BorrowResult, GenerationalBox, GenerationalBoxId, GenerationalPointer, Location,
     Owner, Refusal, Refused, StepCall, Storage, StoreError, UnsyncStorage,
 };
 use generational_core::parts::box_at;
+use shared_history::replies::{make_reply, owner_reply, reference_reply, shared_reply};
+use shared_history::{Count, Tally};
 
 impl<T: Drop, const NUMBER: u64, M: Count, L: Count, C: Count, R: Count> SyncState<
     T,

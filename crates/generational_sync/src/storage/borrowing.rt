@@ -6,14 +6,15 @@ ghost use Rattle.generational_core.specs.Answers.{write_answer};
 ghost use Rattle.generational_core.specs.Machine.Action.{Read, SetValue, Write};
 ghost use Rattle.generational_core.specs.Machine.Answer.{Flag};
 ghost use Rattle.generational_sync.specs.Refusals.{MayRefuse};
-ghost use Rattle.generational_sync.specs.Shared.{Raises, set_answer};
+ghost use Rattle.generational_sync.specs.Shared.{Raises};
+ghost use Rattle.shared_history.specs.Replies.{set_answer};
 
 use super::SyncStorage;
-use crate::tally::{Count, Tally};
 use generational_box::{
     BorrowMutError, BorrowMutResult, BorrowResult, GenerationalBox, GenerationalRef,
     GenerationalRefMut, Location, Refused, StepCall,
 };
+use shared_history::{Count, Tally};
 use std::sync::Wait;
 
 impl<T: Drop + Send, const NUMBER: u64, M: Count, L: Count, C: Count, R: Count> SyncStorage<

@@ -9,10 +9,10 @@ ghost use Rattle.generational_sync.specs.Refusals.{MayRefuse};
 ghost use Rattle.generational_sync.specs.Shared.{Raises};
 
 use super::SyncStorage;
-use crate::tally::{Count, Tally};
 use generational_box::{
     BorrowMutError, BorrowMutResult, GenerationalBox, Owner, Refused, StepCall,
 };
+use shared_history::{Count, Tally};
 use std::sync::Wait;
 
 impl<T: Drop + Send, const NUMBER: u64, M: Count, L: Count, C: Count, R: Count> SyncStorage<

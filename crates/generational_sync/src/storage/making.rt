@@ -10,10 +10,10 @@ ghost use Rattle.generational_sync.specs.Refusals.{MayRefuse};
 ghost use Rattle.generational_sync.specs.Shared.{IsBoxOf, Raises};
 
 use super::SyncStorage;
-use crate::tally::{Count, Tally};
 use generational_box::{
     BorrowResult, GenerationalBox, Location, Owner, Refusal, StepCall, StoreError,
 };
+use shared_history::{Count, Tally};
 use std::sync::Wait;
 
 impl<T: Drop + Send, const NUMBER: u64, M: Count, L: Count, C: Count, R: Count> SyncStorage<

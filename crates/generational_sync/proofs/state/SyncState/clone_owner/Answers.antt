@@ -1,4 +1,4 @@
-use Rattle.std.proofs.Common.{rules, Some, ap, refl, sym, ◌∙◌}
+use Rattle.std.proofs.Common.{rules, Some, ap, refl, sym}
 use Rattle.generational_core.specs.Answers.{owner_answer}
 use Rattle.generational_core.specs.Machine.Action.{CloneOwner}
 use Rattle.generational_core.specs.declared.steps.StepCall.TheVariants as call

@@ -1,4 +1,4 @@
-use Rattle.std.proofs.Common.{rules, ap, subst, sym, ◌∙◌}
+use Rattle.std.proofs.Common.{rules, ap, subst, sym}
 use Rattle.std.specs.Prelude.{option_copied}
 use Rattle.generational_core.specs.Answers.{box_answer, make_answer}
 use Rattle.generational_core.specs.Machine.Action.{Make}

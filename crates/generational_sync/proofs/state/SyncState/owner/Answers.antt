@@ -1,4 +1,4 @@
-use Rattle.std.proofs.Common.{rules, ap, refl, ◌∙◌}
+use Rattle.std.proofs.Common.{rules, ap, refl}
 use Rattle.generational_core.specs.Answers.{owner_answer}
 use Rattle.generational_core.specs.Machine.Action.{NewOwner}
 use Rattle.generational_core.specs.declared.steps.StepCall.TheVariants as call

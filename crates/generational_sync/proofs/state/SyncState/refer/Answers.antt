@@ -1,4 +1,4 @@
-use Rattle.std.proofs.Common.{rules, ap, subst, sym, ◌∙◌}
+use Rattle.std.proofs.Common.{rules, ap, subst, sym}
 use Rattle.std.specs.Prelude.{option_copied}
 use Rattle.generational_core.specs.Answers.{reference_box_answer, reference_answer}
 use Rattle.generational_core.specs.Machine.Action.{Refer}

@@ -1,4 +1,4 @@
-use Rattle.std.proofs.Common.{rules, refl, ap, sym, Some, ◌∙◌}
+use Rattle.std.proofs.Common.{rules, refl, ap, sym, Some}
 use Rattle.generational_core.specs.Answers.{back_answer}
 use Rattle.generational_core.specs.Machine.Action.{ReleaseWriter}
 use Rattle.generational_core.specs.declared.steps.StepCall.TheVariants as call

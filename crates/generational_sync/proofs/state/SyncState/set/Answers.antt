@@ -3,7 +3,8 @@ use Rattle.generational_core.specs.Answers.{pointer_of}
 use Rattle.generational_core.specs.Machine.Action.{SetValue}
 use Rattle.generational_core.specs.declared.steps.StepCall.TheVariants as call
 use Rattle.generational_core.specs.StepCalls.{is_ready}
-use Rattle.generational_sync.specs.Shared.{SharedState, set_answer}
+use Rattle.generational_sync.specs.Shared.{SharedState}
+use Rattle.shared_history.specs.Replies.{set_answer}
 use Rattle.generational_sync.proofs.Keeping.{known_as, refused_by, settled}
 use Rattle.generational_sync.proofs.Refusing.{set_may}
 use Rattle.generational_sync.proofs.state.SyncState.set.Goals as goal

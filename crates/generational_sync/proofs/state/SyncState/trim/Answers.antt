@@ -1,7 +1,7 @@
 -- The base after a checkpoint tells the state, and counts the steps that were trimmed.
 use Rattle.std.proofs.Common.{rules, ap, arith, subst, sym, ◌∙◌}
 use Rattle.generational_core.specs.Rows.{ReadBack}
-use Rattle.generational_sync.specs.Bases.{BaseState}
+use Rattle.shared_history.specs.Bases.{BaseState}
 use Rattle.generational_sync.proofs.Keeping.{rebased}
 use Rattle.generational_sync.proofs.Trimming.{checkpoint_seen, trimmed_within, trims_of}
 use Rattle.generational_sync.proofs.state.SyncState.trim.Goals as goal

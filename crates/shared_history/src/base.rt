@@ -1,9 +1,9 @@
 //! The base of a history: the state from which it goes on, without values.
 
 ghost use Rattle.std.specs.Prelude.{◌≡◌, ◌+◌, ◌<◌, ◌^◌, [], IfOk};
-ghost use Rattle.generational_sync.specs.Bases.{all_trimmed, new_base, trimmed_of};
+ghost use Rattle.shared_history.specs.Bases.{all_trimmed, new_base, trimmed_of};
 
-use generational_box::BaseRow;
+use generational_core::BaseRow;
 use std::alloc::{AllocError, Global};
 use std::marker::Model;
 use step_records::Kind;
@@ -25,16 +25,16 @@ pub struct Base {
 
 /// How many steps of each kind were trimmed.
 #[derive(Clone, Copy, Debug)]
-pub(crate) struct TrimmedSteps {
-    pub(crate) made: u64,
-    pub(crate) lent: u64,
-    pub(crate) changed: u64,
-    pub(crate) refused: u64,
+pub struct TrimmedSteps {
+    pub made: u64,
+    pub lent: u64,
+    pub changed: u64,
+    pub refused: u64,
 }
 
 impl Model for Base {
     ghost use Rattle.std.specs.Prelude.{◌+◌, ◌<◌, ◌^◌};
-    ghost use Rattle.generational_sync.specs.Bases.{BaseState};
+    ghost use Rattle.shared_history.specs.Bases.{BaseState};
 
     ghost Value = { BaseState };
 
@@ -55,7 +55,7 @@ impl Model for Base {
 
 impl Base {
     // The base of a new store with this number. Takes no memory.
-    pub(crate) fn new(alloc: Global, number: u64) -> Base
+    pub fn new(alloc: Global, number: u64) -> Base
         ensures { result ≡ new_base number }
     {
         let trimmed = TrimmedSteps {
@@ -68,7 +68,7 @@ impl Base {
     }
 
     // The base of these parts, whose counts together are below 2 ^ 64.
-    pub(crate) fn of(
+    pub fn of(
         number: u64,
         next: u64,
         peak: usize,
@@ -97,7 +97,7 @@ impl Base {
     }
 
     // The same base once more.
-    pub(crate) fn copy(&self, alloc: Global) -> Result<Base, AllocError>
+    pub fn copy(&self, alloc: Global) -> Result<Base, AllocError>
         ensures { IfOk result (λ base. base ≡ self.now) }
     {
         let rows = Vec::from_slice(alloc, self.rows.as_slice())?;

@@ -2,11 +2,11 @@
 
 ghost use Rattle.std.specs.Prelude.{◌≡◌, ◌+◌, ◌↔◌, ◌<◌, ◌≤◌, IsTrue, MatchResult, IfOk, IfErr};
 ghost use Rattle.generational_core.specs.declared.error.StoreError.TheVariants.{OutOfMemory};
-ghost use Rattle.generational_sync.specs.Counts.{Counts, raised, merged, new_tallies};
+ghost use Rattle.shared_history.specs.Counts.{Counts, raised, merged, new_tallies};
 ghost use Rattle.step_records.specs.Kinds.{step_of};
 ghost use Rattle.step_records.specs.Records.{HasRecord, unpack};
 
-use generational_box::{StepCall, StoreError};
+use generational_core::{StepCall, StoreError};
 use std::alloc::Global;
 use std::marker::{Brand, Model, PhantomData};
 use std::sync::ledger::{Ledger, Share};
@@ -27,7 +27,7 @@ impl Count for Brand {
 
 /// Says that the ledger has a part for each worker. No field beside it may name the ledger's parts.
 #[derive(Drop)]
-pub(crate) struct Parted<M: Count> {
+pub struct Parted<M: Count> {
     marker: PhantomData<M>,
     ghost same: { M.parts ≡ M.workers },
 }
@@ -42,7 +42,7 @@ impl<M: Count> Parted<M> {
     }
 
     // Shows it.
-    pub(crate) fn shown(&self)
+    pub fn shown(&self)
         ensures { M.parts ≡ M.workers }
     {
         let _ = &self.marker;
@@ -60,19 +60,19 @@ pub struct Tally<M: Count, L: Count, C: Count, R: Count> {
     worker: u32,
     parts: u64,
     workers: u64,
-    pub(crate) made: Share<M>,
-    pub(crate) lent: Share<L>,
-    pub(crate) changed: Share<C>,
-    pub(crate) refused: Share<R>,
-    pub(crate) made_parted: Parted<M>,
-    pub(crate) lent_parted: Parted<L>,
-    pub(crate) changed_parted: Parted<C>,
-    pub(crate) refused_parted: Parted<R>,
+    pub made: Share<M>,
+    pub lent: Share<L>,
+    pub changed: Share<C>,
+    pub refused: Share<R>,
+    pub made_parted: Parted<M>,
+    pub lent_parted: Parted<L>,
+    pub changed_parted: Parted<C>,
+    pub refused_parted: Parted<R>,
 }
 
 impl<M: Count, L: Count, C: Count, R: Count> Model for Tally<M, L, C, R> {
     ghost use Rattle.std.specs.Prelude.{◌≡◌, ◌<◌, ◌≤◌};
-    ghost use Rattle.generational_sync.specs.Counts.{Counts};
+    ghost use Rattle.shared_history.specs.Counts.{Counts};
 
     ghost Value = { Counts };
 
@@ -102,7 +102,7 @@ impl<M: Count, L: Count, C: Count, R: Count> Tally<M, L, C, R> {
 
     // How the step of the tally's worker is kept that has this call and this reply.
     #[inline(always)]
-    pub(crate) fn record(&self, number: u64, call: StepCall, reply: StepReply) -> Record
+    pub fn record(&self, number: u64, call: StepCall, reply: StepReply) -> Record
         requires { HasRecord number call reply }
         ensures { unpack number result ≡ step_of self.now.worker call reply }
     {
@@ -154,7 +154,7 @@ impl<M: Count, L: Count, C: Count, R: Count> Tally<M, L, C, R> {
 
 // Cuts the whole shares into a tally for each worker. A worker's number takes 32 bits where steps
 // are kept, so more workers are refused.
-pub(crate) fn tallies<M: Count, L: Count, C: Count, R: Count>(
+pub fn tallies<M: Count, L: Count, C: Count, R: Count>(
     alloc: Global,
     workers: usize,
     mut made: Share<M>,

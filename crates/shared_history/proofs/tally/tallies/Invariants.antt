@@ -1,6 +1,6 @@
 use Rattle.std.proofs.Common.{◌≡◌, ◌+◌}
-use Rattle.generational_sync.specs.Counts.{new_tallies}
-use Rattle.generational_sync.proofs.tally.tallies.Given as goal
+use Rattle.shared_history.specs.Counts.{new_tallies}
+use Rattle.shared_history.proofs.tally.tallies.Given as goal
 
 abbrev pub invariant-loop-worker : goal.invariant-loop-worker
 invariant-loop-worker g l = record {

@@ -24,7 +24,7 @@ use Rattle.generational_core.specs.StepCalls.{is_ready, owner_of}
 use Rattle.step_records.specs.declared.step.Step.{Step}
 use Rattle.step_records.specs.declared.step.StepReply.{StepReply}
 use Rattle.step_records.specs.declared.step.StepReply.TheVariants as reply
-use Rattle.generational_sync.specs.Replies.{reply_of, is_recorded}
+use Rattle.shared_history.specs.Replies.{reply_of, is_recorded}
 
 -- where a history starts: a store of this number in which nothing was made
 abbrev pub start : ℕ → Plain

@@ -1,13 +1,13 @@
 -- The history is empty after it, and the books are right on the new base.
 use Rattle.std.proofs.Common.{◌≡◌, ℕ, List, [], ap, arith, map, refl}
-use Rattle.generational_sync.specs.Bases.{trimmed_of}
-use Rattle.generational_sync.specs.Shared.{LogState}
+use Rattle.shared_history.specs.Bases.{trimmed_of}
+use Rattle.shared_history.specs.Logs.{LogState}
 use Rattle.step_records.specs.Kinds.{count}
 use Rattle.step_records.specs.Records.{unpack}
 use Rattle.step_records.specs.declared.record.Record.{Record}
 use Rattle.step_records.specs.declared.step.Kind.{Kind}
 use Rattle.step_records.specs.declared.step.Kind.TheVariants.{Made, Lent, Changed, Refused}
-use Rattle.generational_sync.proofs.log.Log.rebase.Goals as goal
+use Rattle.shared_history.proofs.log.Log.rebase.Goals as goal
 
 nothing_counted : (kind : Kind) (number : ℕ) (items : List Record) → items ≡ []
     → 0 ≡ count kind (map (unpack number) items)

@@ -2,18 +2,18 @@
 
 ghost use Rattle.std.specs.Prelude.{◌≡◌, ◌+◌, ◌^◌, ◌<◌, ◌≤◌, [], ◌∷◌, ◌++◌, IfOk, IfSome, OnOk};
 ghost use Rattle.std.specs.Prelude.{OnErr, OnSome, IfNone, length, option_to_list};
-ghost use Rattle.generational_sync.specs.Bases.{IsCounted, Trims, all_trimmed, counts_of, new_base};
-ghost use Rattle.generational_sync.specs.Counts.{raised};
+ghost use Rattle.shared_history.specs.Bases.{IsCounted, Trims, all_trimmed, counts_of, new_base};
+ghost use Rattle.shared_history.specs.Counts.{raised};
 ghost use Rattle.step_records.specs.Kinds.{count, kind_of, step_of};
 ghost use Rattle.step_records.specs.declared.step.Kind.TheVariants.{Made, Lent, Changed, Refused};
 ghost use Rattle.step_records.specs.Records.{HasRecord};
-ghost use Rattle.generational_sync.specs.Replies.{recorded, tallied};
-ghost use Rattle.generational_sync.specs.Standing.{lent_in};
+ghost use Rattle.shared_history.specs.Replies.{recorded, tallied};
+ghost use Rattle.shared_history.specs.Standing.{lent_in};
 
 use crate::base::{Base, TrimmedSteps};
 use crate::tally::{Count, Tally};
 use chunks::Chunks;
-use generational_box::StepCall;
+use generational_core::StepCall;
 use std::alloc::{AllocError, Global};
 use std::marker::Model;
 use std::mem;
@@ -25,7 +25,7 @@ use step_records::{Kind, Record, Step, StepReply};
 ///
 /// The steps are kept as records of the store with this number.
 #[derive(Drop)]
-pub(crate) struct Log<const NUMBER: u64, M: Count, L: Count, C: Count, R: Count> {
+pub struct Log<const NUMBER: u64, M: Count, L: Count, C: Count, R: Count> {
     alloc: Global,
     base: Base,
     history: Chunks<Record>,
@@ -46,7 +46,7 @@ impl<const NUMBER: u64, M: Count, L: Count, C: Count, R: Count> Model for Log<NU
     ghost use Rattle.std.specs.FinMap as finite;
     ghost use Rattle.step_records.specs.Kinds.{count};
     ghost use Rattle.step_records.specs.Records.{unpack};
-    ghost use Rattle.generational_sync.specs.Shared.{LogState};
+    ghost use Rattle.shared_history.specs.Logs.{LogState};
     ghost use Rattle.step_records.specs.declared.step.Kind.TheVariants.{Made, Lent, Changed};
     ghost use Rattle.step_records.specs.declared.step.Kind.TheVariants.{Refused};
 
@@ -74,7 +74,7 @@ impl<const NUMBER: u64, M: Count, L: Count, C: Count, R: Count> Model for Log<NU
 
 impl<const NUMBER: u64, M: Count, L: Count, C: Count, R: Count> Log<NUMBER, M, L, C, R> {
     // An empty history.
-    pub(crate) fn new(
+    pub fn new(
         alloc: Global,
         made: Book<M>,
         lent: Book<L>,
@@ -103,7 +103,7 @@ impl<const NUMBER: u64, M: Count, L: Count, C: Count, R: Count> Log<NUMBER, M, L
 
     // Makes room for so many steps beside the releases of the borrows that stand.
     #[inline(always)]
-    pub(crate) fn reserve(&mut self, steps: usize) -> Result<(), AllocError>
+    pub fn reserve(&mut self, steps: usize) -> Result<(), AllocError>
         requires { steps ≤ 2 }
         ensures base { self.new.base ≡ self.old.base }
         ensures steps { self.new.steps ≡ self.old.steps }
@@ -154,7 +154,7 @@ impl<const NUMBER: u64, M: Count, L: Count, C: Count, R: Count> Log<NUMBER, M, L
     // Appends the step of the tally's worker, if the reply is one that is recorded. Where it begins
     // a borrow, that stands from then on.
     #[inline(always)]
-    pub(crate) fn settle(
+    pub fn settle(
         &mut self,
         call: StepCall,
         reply: Option<StepReply>,
@@ -178,7 +178,7 @@ impl<const NUMBER: u64, M: Count, L: Count, C: Count, R: Count> Log<NUMBER, M, L
 
     // The same for the end of a borrow, which has room since the borrow began.
     #[inline(always)]
-    pub(crate) fn settle_end(
+    pub fn settle_end(
         &mut self,
         call: StepCall,
         reply: Option<StepReply>,
@@ -225,7 +225,7 @@ impl<const NUMBER: u64, M: Count, L: Count, C: Count, R: Count> Log<NUMBER, M, L
 
     // How many steps of each kind are trimmed where the history begins anew. None where they would
     // be too many together.
-    pub(crate) fn trimmed_steps(&self) -> Option<TrimmedSteps>
+    pub fn trimmed_steps(&self) -> Option<TrimmedSteps>
         ensures counts { IfSome result (λ t. t ≡ counts_of self.now.base self.now.steps) }
         ensures within { OnSome result
             (all_trimmed self.now.base + length self.now.steps < 2 ^ 64) }
@@ -250,7 +250,7 @@ impl<const NUMBER: u64, M: Count, L: Count, C: Count, R: Count> Log<NUMBER, M, L
     // Lets the history begin anew at a base that counts all steps so far as trimmed. What is kept no
     // more is answered, so that who holds a lock can let it go when it is open. Want of memory
     // changes nothing, and the room stays.
-    pub(crate) fn rebase(&mut self, base: Base) -> Result<Outdated, AllocError>
+    pub fn rebase(&mut self, base: Base) -> Result<Outdated, AllocError>
         requires { Trims self.old.base self.old.steps base }
         ensures base { OnOk result (self.new.base ≡ base) }
         ensures steps { OnOk result (self.new.steps ≡ []) }
@@ -268,10 +268,7 @@ impl<const NUMBER: u64, M: Count, L: Count, C: Count, R: Count> Log<NUMBER, M, L
     }
 
     // A copy of the base and of the steps, which a whole tally has counted by their kinds.
-    pub(crate) fn audit(
-        &mut self,
-        whole: &mut Tally<M, L, C, R>,
-    ) -> Result<(Base, Vec<Step>), AllocError>
+    pub fn audit(&mut self, whole: &mut Tally<M, L, C, R>) -> Result<(Base, Vec<Step>), AllocError>
         requires { whole.old.parts ≡ M.workers }
         ensures base { IfOk result (λ r. r.0 ≡ self.old.base) }
         ensures steps { IfOk result (λ r. r.1.items ≡ self.old.steps) }
@@ -303,7 +300,7 @@ impl<const NUMBER: u64, M: Count, L: Count, C: Count, R: Count> Log<NUMBER, M, L
 
 /// A base and a history's chunks that are kept no more.
 #[derive(Drop)]
-pub(crate) struct Outdated {
+pub struct Outdated {
     chunks: Vec<Vec<Record>>,
     base: Base,
 }

@@ -1,7 +1,7 @@
 use Rattle.std.proofs.Common.{ap, sym, ◌∙◌}
 use Rattle.generational_core.specs.Answers.{end_refused}
-use Rattle.generational_sync.specs.Replies.{reply_of}
-use Rattle.generational_sync.proofs.replies.end_refusal.Goals as goal
+use Rattle.shared_history.specs.Replies.{reply_of}
+use Rattle.shared_history.proofs.replies.end_refusal.Goals as goal
 
 pub returns-in-Store-clause-reply : goal.returns-in-Store-clause-reply
 returns-in-Store-clause-reply g c R call =

@@ -12,12 +12,11 @@ ghost use Rattle.generational_core.specs.Machine.Answer.{Flag, Refused as refuse
 ghost use Rattle.generational_core.specs.State.{State};
 ghost use Rattle.generational_core.specs.StepCalls.{target_of};
 ghost use Rattle.std.specs.Prelude.{IfOk, None, Option, is_some, option_map, true};
-ghost use Rattle.generational_sync.specs.Shared.{set_answer};
-ghost use Rattle.generational_sync.specs.Standing.{given_by, leaves, lent_in};
-ghost use Rattle.generational_sync.specs.Replies.{kind_in, reply_of};
+ghost use Rattle.shared_history.specs.Standing.{given_by, leaves, lent_in};
+ghost use Rattle.shared_history.specs.Replies.{kind_in, reply_of, set_answer};
 ghost use Rattle.step_records.specs.Kinds.{kind_of};
 
-use generational_box::{
+use generational_core::{
     BorrowError, BorrowMutError, BorrowMutResult, BorrowResult, GenerationalBoxId,
     GenerationalPointer, GenerationalRef, GenerationalRefMut, Owner, Refusal, Refused, StoreError,
 };
@@ -70,7 +69,7 @@ fn end_refusal<T>(refused: &Refused<BorrowMutError>) -> Option<StepReply>
 }
 
 /// How the answer of a making is recorded.
-pub(crate) fn make_reply<T>(made: &Result<GenerationalPointer, Refusal<T>>) -> Option<StepReply>
+pub fn make_reply<T>(made: &Result<GenerationalPointer, Refusal<T>>) -> Option<StepReply>
     ensures reply { (R : State T) (owner : Option OwnerName) (value : T) (l : Location)
         → result ≡ reply_of R (Make owner value l) (make_answer made.now) }
     ensures kind { option_map kind_of result ≡ kind_in {T = T} (make_answer made.now) }
@@ -84,7 +83,7 @@ pub(crate) fn make_reply<T>(made: &Result<GenerationalPointer, Refusal<T>>) -> O
 }
 
 /// How the answer of a making of a shared value is recorded, whose box names this cell.
-pub(crate) fn shared_reply<T>(
+pub fn shared_reply<T>(
     made: &Result<GenerationalPointer, Refusal<T>>,
     shared: Option<GenerationalBoxId>,
 ) -> Option<StepReply>
@@ -103,7 +102,7 @@ pub(crate) fn shared_reply<T>(
 }
 
 /// How the answer of a making of a reference is recorded.
-pub(crate) fn reference_reply<T>(made: &BorrowResult<GenerationalPointer>) -> Option<StepReply>
+pub fn reference_reply<T>(made: &BorrowResult<GenerationalPointer>) -> Option<StepReply>
     ensures reply { (R : State T) (owner : Option OwnerName) (b : GenerationalPointer)
         → result ≡ reply_of R (Refer owner b) (reference_answer made.now) }
     ensures kind { option_map kind_of result ≡ kind_in {T = T} (reference_answer made.now) }
@@ -117,7 +116,7 @@ pub(crate) fn reference_reply<T>(made: &BorrowResult<GenerationalPointer>) -> Op
 }
 
 /// How the answer of a making of an owner is recorded.
-pub(crate) fn owner_reply<T>(made: &Result<Owner, StoreError>) -> Option<StepReply>
+pub fn owner_reply<T>(made: &Result<Owner, StoreError>) -> Option<StepReply>
     ensures reply { (R : State T) (call : Action T)
         → result ≡ reply_of R call (owner_answer made.now) }
     ensures kind { option_map kind_of result ≡ kind_in {T = T} (owner_answer made.now) }
@@ -131,7 +130,7 @@ pub(crate) fn owner_reply<T>(made: &Result<Owner, StoreError>) -> Option<StepRep
 }
 
 /// How the answer of a read is recorded.
-pub(crate) fn read_reply<T>(read: &BorrowResult<GenerationalRef<T>>) -> Option<StepReply>
+pub fn read_reply<T>(read: &BorrowResult<GenerationalRef<T>>) -> Option<StepReply>
     ensures reply { (R : State T) (call : Action T) → result ≡ reply_of R call (read_answer read.now) }
     ensures kind { option_map kind_of result ≡ kind_in {T = T} (read_answer read.now) }
     ensures lent { lent_in result ≡ given_by {T = T} (read_answer read.now) }
@@ -144,7 +143,7 @@ pub(crate) fn read_reply<T>(read: &BorrowResult<GenerationalRef<T>>) -> Option<S
 }
 
 /// How the answer of a write is recorded.
-pub(crate) fn write_reply<T>(written: &BorrowMutResult<GenerationalRefMut<T>>) -> Option<StepReply>
+pub fn write_reply<T>(written: &BorrowMutResult<GenerationalRefMut<T>>) -> Option<StepReply>
     ensures reply { (R : State T) (call : Action T)
         → result ≡ reply_of R call (write_answer written.now) }
     ensures kind { option_map kind_of result ≡ kind_in (write_answer written.now) }
@@ -158,7 +157,7 @@ pub(crate) fn write_reply<T>(written: &BorrowMutResult<GenerationalRefMut<T>>) -
 }
 
 /// How the answer of an end is recorded.
-pub(crate) fn end_reply<T>(ended: &BorrowMutResult<()>) -> Option<StepReply>
+pub fn end_reply<T>(ended: &BorrowMutResult<()>) -> Option<StepReply>
     ensures reply { (R : State T) (call : Action T) → result ≡ reply_of R call (end_answer ended.now) }
     ensures kind { option_map kind_of result ≡ kind_in {T = T} (end_answer ended.now) }
     ensures lent { lent_in result ≡ given_by {T = T} (end_answer ended.now) }
@@ -171,7 +170,7 @@ pub(crate) fn end_reply<T>(ended: &BorrowMutResult<()>) -> Option<StepReply>
 }
 
 /// How the answer of an owner's release is recorded.
-pub(crate) fn release_reply<T>(
+pub fn release_reply<T>(
     released: &Result<(), (Owner, Refused<BorrowMutError>)>,
 ) -> Option<StepReply>
     ensures reply { (R : State T) (call : Action T)
@@ -187,7 +186,7 @@ pub(crate) fn release_reply<T>(
 }
 
 /// How the setting of a value is recorded.
-pub(crate) fn set_reply<T>(set: &Result<(), (T, Refused<BorrowMutError>)>) -> Option<StepReply>
+pub fn set_reply<T>(set: &Result<(), (T, Refused<BorrowMutError>)>) -> Option<StepReply>
     ensures reply { (R : State T) (call : Action T) (old : T)
         → result ≡ reply_of R call (set_answer old set.now) }
     ensures kind { (old : T) → option_map kind_of result ≡ kind_in (set_answer old set.now) }
@@ -201,7 +200,7 @@ pub(crate) fn set_reply<T>(set: &Result<(), (T, Refused<BorrowMutError>)>) -> Op
 }
 
 /// How the end of a read is recorded.
-pub(crate) fn flag_reply<T>(known: bool) -> Option<StepReply>
+pub fn flag_reply<T>(known: bool) -> Option<StepReply>
     ensures reply { (R : State T) (call : Action T) → result ≡ reply_of R call (Flag known) }
     ensures kind { option_map kind_of result ≡ kind_in {T = T} (Flag known) }
     ensures lent { lent_in result ≡ given_by {T = T} (Flag known) }
@@ -211,7 +210,7 @@ pub(crate) fn flag_reply<T>(known: bool) -> Option<StepReply>
 }
 
 /// How the end of a write is recorded.
-pub(crate) fn back_reply<T>(released: &Result<(), T>) -> Option<StepReply>
+pub fn back_reply<T>(released: &Result<(), T>) -> Option<StepReply>
     ensures reply { (R : State T) (call : Action T)
         → result ≡ reply_of R call (back_answer released.now) }
     ensures kind { option_map kind_of result ≡ kind_in (back_answer released.now) }

@@ -3,8 +3,8 @@ use Rattle.std.specs.Prelude.{◌≡◌, ℕ, ◌+◌, List, []}
 use Rattle.generational_core.specs.declared.rows.BaseRow.{BaseRow}
 use Rattle.generational_core.specs.Plain.{Plain}
 use Rattle.generational_core.specs.Rows.{told_by}
-use Rattle.generational_sync.specs.Counts.{Counts, counted}
-use Rattle.generational_sync.specs.declared.base.TrimmedSteps.{TrimmedSteps}
+use Rattle.shared_history.specs.Counts.{Counts, counted}
+use Rattle.shared_history.specs.declared.base.TrimmedSteps.{TrimmedSteps}
 use Rattle.step_records.specs.Kinds.{count}
 use Rattle.step_records.specs.declared.step.Kind.{Kind}
 use Rattle.step_records.specs.declared.step.Kind.TheVariants.{Made, Lent, Changed, Refused}

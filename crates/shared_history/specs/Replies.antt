@@ -1,11 +1,14 @@
 -- Which reply of a call is recorded, and what is recorded and counted of it.
 use Rattle.std.specs.Prelude.{ℕ, Bool, true, false, ◌&&◌, nat_eq, List, ◌∷◌, [], ◌++◌, Option, Some}
-use Rattle.std.specs.Prelude.{None, option_map}
+use Rattle.std.specs.Prelude.{None, option_map, Result, Ok, Err}
+use Rattle.generational_core.specs.declared.error.BorrowMutError.{BorrowMutError}
+use Rattle.generational_core.specs.declared.error.Refused.{Refused as IsRefused}
 use Rattle.generational_core.specs.declared.error.StoreError.{StoreError}
 use Rattle.generational_core.specs.declared.error.StoreError.TheVariants.{OutOfMemory}
 use Rattle.generational_core.specs.declared.error.StoreError.TheVariants.{NumbersExhausted}
 use Rattle.generational_core.specs.declared.error.StoreError.TheVariants.{UnknownOwner}
 use Rattle.generational_core.specs.declared.steps.StepCall.{StepCall}
+use Rattle.generational_core.specs.Answers.{end_refused}
 use Rattle.generational_core.specs.Boxes.{has_same_id}
 use Rattle.generational_core.specs.Texts.{same_location}
 use Rattle.generational_core.specs.Borrowing.BorrowRefusal.{Dropped}
@@ -23,7 +26,7 @@ use Rattle.step_records.specs.declared.step.StepReply.{StepReply}
 use Rattle.step_records.specs.declared.step.StepReply.TheVariants as reply
 use Rattle.step_records.specs.declared.step.Kind.{Kind}
 use Rattle.step_records.specs.declared.step.Kind.TheVariants as kind
-use Rattle.generational_sync.specs.Counts.{Counts, raised}
+use Rattle.shared_history.specs.Counts.{Counts, raised}
 use Rattle.step_records.specs.Kinds.{kind_of, step_of}
 
 module _ {T : Type 0} where
@@ -111,3 +114,8 @@ same_reply r s = false
 abbrev pub is_recorded : Option StepReply → StepReply → Bool
 is_recorded None r = false
 is_recorded (Some s) r = same_reply s r
+
+-- what the setting of a value answers that took the place of this old one
+abbrev pub set_answer : {T U : Type 0} → T → Result U (T × IsRefused BorrowMutError) → Answer T
+set_answer old (Ok u) = Old old
+set_answer old (Err e) = end_refused e.1

@@ -1,8 +1,8 @@
 use Rattle.std.proofs.Common.{ap, sym, ◌∙◌}
 use Rattle.generational_core.specs.Answers.{make_answer}
 use Rattle.generational_core.specs.Machine.Action.{Make}
-use Rattle.generational_sync.specs.Replies.{reply_of}
-use Rattle.generational_sync.proofs.replies.make_reply.Goals as goal
+use Rattle.shared_history.specs.Replies.{reply_of}
+use Rattle.shared_history.proofs.replies.make_reply.Goals as goal
 
 pub returns-in-Err-clause-reply : goal.returns-in-Err-clause-reply
 returns-in-Err-clause-reply g c R owner value l =

@@ -1,7 +1,7 @@
 use Rattle.std.proofs.Common.{ap, sym, ◌∙◌}
 use Rattle.generational_core.specs.Answers.{owner_answer}
-use Rattle.generational_sync.specs.Replies.{reply_of}
-use Rattle.generational_sync.proofs.replies.owner_reply.Goals as goal
+use Rattle.shared_history.specs.Replies.{reply_of}
+use Rattle.shared_history.proofs.replies.owner_reply.Goals as goal
 
 pub returns-in-Err-clause-reply : goal.returns-in-Err-clause-reply
 returns-in-Err-clause-reply g c R call =
