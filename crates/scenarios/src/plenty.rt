@@ -1,13 +1,15 @@
 //! Plenty of everything: where there is memory nothing lacks it, however much there is already.
 
 use crate::expected::{
-    assert_reads, assert_same, assert_unread, dropped, insert, leak, made, made_later, new_owner,
-    read, release, written,
+    assert_reads, assert_same, assert_unread, dropped, end, insert, leak, made, made_later,
+    new_owner, read, release, written,
 };
 use crate::fresh::{Scenario, SessionScenario, play, play_in_session};
 use crate::sessions::call;
 use crate::sharing::{insert_rc, insert_reference, leak_rc, leak_reference, point};
-use generational_box::{BoxAt, Call, Reply, Session, Storage};
+use generational_box::{
+    AnyStorage, BoxAt, Call, Numbers, Reply, Session, Storage, Store, UnsyncStorage,
+};
 use std::alloc::{AllocError, Global};
 use std::process::Abort;
 
@@ -187,4 +189,20 @@ impl SessionScenario for SharedValuesOfASession {
 #[test]
 fn places_and_references(rt: HostRuntime) {
     play_in_session::<SharedValuesOfASession>(&rt, rt.alloc());
+}
+
+// A slot that has retired hinders nothing.
+#[test]
+fn after_a_slot_has_retired(rt: HostRuntime) {
+    let alloc = rt.alloc();
+    let numbers = Numbers {
+        generation: u64::MAX,
+        ticket: 0,
+    };
+    let mut store: UnsyncStorage<u32> = Store::new_at(alloc, 7, numbers);
+    let only = leak(&rt, &mut store, 1, made());
+    end(&rt, &mut store, only);
+    assert_same(&rt, &store.retired(), &1);
+    BoxesOfAStore::play(&rt, alloc, &mut store);
+    SharedValuesOfAStore::play(&rt, alloc, &mut store);
 }

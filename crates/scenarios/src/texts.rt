@@ -1,6 +1,9 @@
 //! What is printed.
 
-use crate::expected::{assert_prints, assert_same, assert_shows, leak, made, made_later};
+use crate::expected::{
+    assert_prints, assert_released, assert_same, assert_shows, begin, begin_write, insert, leak,
+    made, made_later, new_owner, read, written,
+};
 use generational_box::{
     AlreadyBorrowedError, AlreadyBorrowedMutError, BorrowError, BorrowMutError, GenerationalBox,
     Location, Refused, Storage, Store, StoreError, UnsyncStorage, ValueDroppedError,
@@ -193,10 +196,32 @@ fn assert_wide(rt: &impl Abort, alloc: Global, printed: &impl Display, text: &st
     assert_same(rt, &right.as_str(), &text);
 }
 
-/// Asserts that a value is printed so to a developer, whatever the width.
+/// Asserts that a value is printed so to a developer, whatever the width, and on one line where
+/// several are asked for.
 fn assert_wide_for_developers(rt: &impl Abort, alloc: Global, shown: &impl Debug, text: &str) {
     let right = format!(in alloc; "{shown:*>200?}").expect(rt, "memory");
     assert_same(rt, &right.as_str(), &text);
+    assert_spreads(rt, alloc, shown, text);
+}
+
+/// Asserts so of a store, its owner and the guards of a value.
+fn assert_names_wide<S: Storage<u32> + Debug>(
+    rt: &impl Abort,
+    alloc: Global,
+    store: &mut S,
+    text: &str,
+) {
+    assert_wide_for_developers(rt, alloc, store, text);
+    let owner = new_owner(rt, store);
+    assert_wide_for_developers(rt, alloc, &owner, "owner 0 of store 7");
+    let only = insert(rt, store, &owner, 1, made());
+    let guard = begin(rt, store, only, read());
+    assert_wide_for_developers(rt, alloc, &guard, "reader 1 of 11@1");
+    assert_released(rt, store, guard, true);
+    let guard = begin_write(rt, store, only, written());
+    assert_wide_for_developers(rt, alloc, &guard, "writer 2 of 11@1");
+    assert!(rt; guard.release(store).is_ok());
+    owner.leak();
 }
 
 // None of these texts is padded or cut, as none is in upstream.
@@ -221,5 +246,6 @@ fn texts_with_a_width(rt: HostRuntime) -> Result<(), Fail> {
     let last = tenth(&rt, &mut store);
     assert_wide_for_developers(&rt, alloc, &last, "10@1");
     assert_wide_for_developers(&rt, alloc, &last.id(), "10@1");
+    assert_names_wide(&rt, alloc, &mut store, "store 7: 11 slots, 0 free");
     Ok(())
 }

@@ -1,7 +1,8 @@
-//! Boxes and guards that are sent to another thread and come back.
+//! Boxes, guards, owners and sessions that are sent to another thread and come back.
 
 use generational_box::{
-    GenerationalBox, GenerationalRef, GenerationalRefMut, Location, Storage, Store, UnsyncStorage,
+    AnyStorage, GenerationalBox, GenerationalRef, GenerationalRefMut, Location, Session, Storage,
+    Store, UnsyncStorage,
 };
 use std::process::Abort;
 use std::sync::Wait;
@@ -85,4 +86,22 @@ fn guards_of_writers(rt: HostRuntime) {
     assert_opens(&rt, &mut store, guard, 11);
     let guard = begin(&rt, &mut store, other);
     assert_opens(&rt, &mut store, guard, 21);
+}
+
+#[test]
+fn owners_and_sessions(rt: HostRuntime) {
+    let alloc = rt.alloc();
+    let mut store: UnsyncStorage<u32> = Store::new(alloc, 7);
+    let mut one = store.owner().expect(&rt, "an owner");
+    let mut other = store.owner().expect(&rt, "an owner");
+    swap_elsewhere(&rt, &mut one, &mut other);
+    assert_eq!(rt; (one.id().key, other.id().key), (1, 0));
+    one.leak();
+    other.leak();
+
+    let beside: UnsyncStorage<u32> = Store::new(alloc, 8);
+    let mut first = Session::new(alloc, store);
+    let mut second = Session::new(alloc, beside);
+    swap_elsewhere(&rt, &mut first, &mut second);
+    assert_eq!(rt; (first.finish().number(), second.finish().number()), (8, 7));
 }
