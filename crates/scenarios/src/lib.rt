@@ -13,6 +13,8 @@ mod equality;
 #[cfg(test)]
 mod example;
 #[cfg(test)]
+mod examples;
+#[cfg(test)]
 mod expected;
 #[cfg(test)]
 mod fresh;

@@ -1,0 +1,142 @@
+//! The examples of the calls' own pages, run: `.ci/page.py` compares them with these lines.
+
+use crate::expected::{assert_same, made, read, written};
+use generational_box::{
+    AnyStorage, BoxAt, Call, GenerationalBox, Numbers, Owner, Reply, Session, Storage, Store,
+    StoreError, UnsyncStorage,
+};
+use std::alloc::Global;
+use std::test::Fail;
+
+/// What a box tells by itself.
+fn tell(one: GenerationalBox<u64>, other: GenerationalBox<u64>) -> bool {
+    let is_same = one.ptr_eq(&other);
+    let have_one_id = one.id() == other.id();
+    is_same == have_one_id && one.raw_ptr() != other.raw_ptr()
+}
+
+/// A value that is set, and looked at.
+fn set<S: Storage<u64>>(store: &mut S, kept: GenerationalBox<u64>) -> Option<u64> {
+    if kept.is_live(store) && kept.can_write(store) {
+        kept.set(store, 8);
+    }
+    kept.peek(store).copied()
+}
+
+/// A shared value, and a reference that is led to it.
+fn lead<S: Storage<u64>>(store: &mut S, owner: &Owner) -> Option<u64> {
+    let first = owner.insert_rc(store, 1, made()).ok()?;
+    let second = owner.insert_reference(store, first).ok()?;
+    let other = GenerationalBox::leak_rc(store, 2, made()).ok()?;
+    second.point_to(store, other).ok()?;
+    other.manually_drop(store).ok()?;
+    second.peek(store).copied()
+}
+
+/// A value that is read where nothing is in the way.
+fn read_free<S: Storage<u64>>(
+    store: &mut S,
+    kept: GenerationalBox<u64>,
+) -> Result<Option<u64>, StoreError> {
+    if !kept.can_read(store) {
+        return Ok(None);
+    }
+    let guard = kept.read(store, read())?;
+    let seen = guard.deref(store).map(|view| *view);
+    guard.release(store);
+    Ok(seen)
+}
+
+/// A value that is exchanged where nothing is in the way.
+fn exchange<S: Storage<u64>>(
+    store: &mut S,
+    kept: GenerationalBox<u64>,
+    value: u64,
+) -> Result<Option<u64>, StoreError> {
+    if !kept.can_write(store) {
+        return Ok(None);
+    }
+    let mut guard = kept.write(store, written())?;
+    let old = guard.replace(value);
+    let _ = guard.release(store);
+    Ok(Some(old))
+}
+
+/// Two owner values of one record.
+fn hold<S: Storage<u64>>(store: &mut S, owner: Owner) -> Result<bool, StoreError> {
+    let Ok(other) = owner.clone(store) else {
+        owner.leak();
+        return Ok(false);
+    };
+    let have_one_record = owner.id() == other.id();
+    owner.leak();
+    match other.release(store) {
+        Ok(()) => Ok(have_one_record),
+        Err((other, _borrowed)) => {
+            other.leak();
+            Ok(false)
+        }
+    }
+}
+
+/// A list of calls. Each names what an earlier call gave by the place of that call.
+fn run(alloc: Global, store: UnsyncStorage<u64>) -> Option<u64> {
+    let leak = Call::Leak(7, made());
+    let read = Call::TryRead(BoxAt::Place(0), read());
+    let calls = vec![in alloc; leak, read].ok()?;
+    let mut session = Session::new(alloc, store);
+    let replies = session.run(calls).ok();
+    let seen = session.view(1).copied();
+    let store = session.finish();
+    match replies?.get(1) {
+        Some(Reply::Reader) if store.number() == 1 => seen,
+        _ => None,
+    }
+}
+
+/// The same, a call at a time.
+fn call(alloc: Global, store: UnsyncStorage<u64>) -> Option<u64> {
+    let mut session = Session::new(alloc, store);
+    let made = session.call(Call::Leak(7, made()));
+    let found = session.call(Call::Id(BoxAt::Place(0)));
+    session.finish();
+    match (made.ok()?, found.ok()?) {
+        (Reply::Box(made), Reply::Id(found)) if made.id() == found => Some(found.generation),
+        _ => None,
+    }
+}
+
+/// A store whose last generation is near.
+fn make_late(alloc: Global) -> UnsyncStorage<u64> {
+    let numbers = Numbers {
+        generation: u64::MAX,
+        ticket: 0,
+    };
+    Store::new_at(alloc, 1, numbers)
+}
+
+/// Makes a box that lives until it is ended by hand, and a reference more to a shared value.
+fn leak<S: Storage<u64>>(store: &mut S) -> Option<bool> {
+    let value = GenerationalBox::leak(store, 7, made()).ok()?;
+    let first = GenerationalBox::leak_rc(store, 8, made()).ok()?;
+    let second = first.leak_reference(store).ok()?;
+    Some(tell(value, second) && value.created_at() == first.created_at())
+}
+
+#[test]
+fn examples_of_calls(rt: HostRuntime) -> Result<(), Fail> {
+    let alloc = rt.alloc();
+    let mut store = UnsyncStorage::new(alloc, 1);
+    assert_same(&rt, &leak(&mut store), &Some(true));
+    let owner = store.owner().expect(&rt, "an owner");
+    assert_same(&rt, &lead(&mut store, &owner), &Some(2));
+    assert_same(&rt, &hold(&mut store, owner), &Ok(true));
+    let kept = GenerationalBox::leak(&mut store, 7, made()).ok();
+    let kept = kept.expect(&rt, "a box");
+    assert_same(&rt, &set(&mut store, kept), &Some(8));
+    assert_same(&rt, &exchange(&mut store, kept, 9), &Ok(Some(8)));
+    assert_same(&rt, &read_free(&mut store, kept), &Ok(Some(9)));
+    assert_same(&rt, &run(alloc, make_late(alloc)), &Some(7));
+    assert_same(&rt, &call(alloc, make_late(alloc)), &Some(u64::MAX));
+    Ok(())
+}
