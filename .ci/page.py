@@ -6,8 +6,9 @@
 
 Each block of Rattle on a page must stand in one file of the crates of callers or of tests, and each
 proof in one of callers: its pieces, which blank lines part, line for line and in order.
-Each public function of a block must be named in a crate of tests, which the gate runs. What is
-wrong is printed, and the exit status is 1 then.
+Each public function of a block must be named in a crate of tests, which the gate runs. An example in
+the comment of a public item must stand in one of those files too, whatever its indent. What is wrong
+is printed, and the exit status is 1 then.
 """
 import pathlib
 import re
@@ -21,6 +22,10 @@ TESTS = ["scenarios", "library_scenarios"]
 SOURCES = [
     path for crate in USES + TESTS for path in sorted((ROOT / f"crates/{crate}/src").glob("*.rt"))
 ] + [path for crate in USES for path in sorted((ROOT / f"crates/{crate}/proofs").rglob("*.antt"))]
+
+
+# The crates whose calls have examples.
+CALLS = ["generational_core", "generational_box", "generational_sessions"]
 
 
 def lines_of(path):
@@ -83,6 +88,29 @@ def fault_of(block, sources):
     return None
 
 
+def examples_in(path):
+    """The blocks of Rattle in a source's comments on its items."""
+    comments = [line.strip() for line in lines_of(path)]
+    comments = [line[3:].removeprefix(" ") if line.startswith("///") else "" for line in comments]
+    return blocks_in(comments)
+
+
+def unindented(lines):
+    return [line.strip() for line in lines]
+
+
+def example_faults(sources):
+    """What is wrong with the examples of the calls; and how many there are."""
+    bare = [unindented(lines) for lines in sources.values()]
+    faults, count = [], 0
+    for path in (path for crate in CALLS for path in sorted((ROOT / f"crates/{crate}/src").glob("*.rt"))):
+        for block in examples_in(path):
+            count += 1
+            if all(missing_piece(unindented(block), lines) for lines in bare):
+                faults.append(f"{path.relative_to(ROOT)}: no file has the example {block[0]!r}")
+    return faults, count
+
+
 def faults_in(blocks, sources):
     return [fault for fault in (fault_of(block, sources) for block in blocks) if fault]
 
@@ -113,8 +141,15 @@ def main(words):
                     if fault_of(copy, sources) is None:
                         print(f"{page}: a changed copy isn't refused: {block[0]}", file=sys.stderr)
                         status = 1
+    faults, count = example_faults(sources)
+    for fault in faults or ["the calls have no examples"] * (count == 0):
+        print(fault, file=sys.stderr)
+        status = 1
+    if words == ["--try"] and not example_faults({path: [] for path in sources})[0]:
+        print("examples that stand nowhere aren't refused", file=sys.stderr)
+        status = 1
     if status == 0:
-        print("the pages' code is what the gate proves and runs")
+        print(f"the pages' code, and {count} examples, are what the gate proves and runs")
     return status
 
 

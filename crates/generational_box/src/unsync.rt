@@ -104,6 +104,10 @@ impl<T, P: SlotPool> Store<T, P> {
 
     /// An empty store with this number, by which it tells its boxes from those of other stores:
     /// its maker chooses it. Generations begin at 1, and tickets at 0. Takes no memory.
+    ///
+    /// ```rust
+    /// let mut store = UnsyncStorage::new(alloc, 1);
+    /// ```
     // Not inlined, nor is a store's end: see its `Drop`.
     #[inline(never)]
     pub fn new(alloc: Global, number: u64) -> Self
@@ -120,6 +124,14 @@ impl<T, P: SlotPool> Store<T, P> {
     }
 
     /// The same with other first numbers, to see what happens at their ends. Takes no memory.
+    ///
+    /// ```rust
+    /// let numbers = Numbers {
+    ///     generation: u64::MAX,
+    ///     ticket: 0,
+    /// };
+    /// Store::new_at(alloc, 1, numbers)
+    /// ```
     pub fn new_at(alloc: Global, number: u64, numbers: Numbers) -> Self
         requires { 1 ≤ numbers.generation }
         ensures { result.state ≡ fresh number numbers.generation numbers.ticket }

@@ -1,7 +1,7 @@
 //! The records that a store keeps of owners.
 
 ghost use Rattle.std.specs.Prelude.{◌≡◌, ℕ, ◌<◌, ◌↔◌, [], true};
-ghost use Rattle.std.specs.Prelude.{Option, Some, None, IfSome, IfNone, IsTrue, IfErr, IfOk};
+ghost use Rattle.std.specs.Prelude.{Option, Some, None, IfSome, IfNone, IsSome, IsTrue, IfErr, IfOk};
 ghost use Rattle.std.specs.Prelude.{length, OnOk, OnErr};
 ghost use Rattle.std.specs.Prelude.{option_copied, option_map, is_some, map as list_map};
 ghost use Rattle.std.specs.Prelude.{if◌then◌else◌, vec_len, slice_get, slice_set};
@@ -292,6 +292,8 @@ impl OwnerRecords {
         requires { map.get self.old.owners key ≡ None }
         ensures ok { OnOk result (self.new.owners ≡ map.insert self.old.owners key
             (record { names = []; count = 1 })) }
+        ensures place { IfOk result (λ place.
+            HasRecord key (slice_get self.new.places place)) }
         ensures err { OnErr result (self.new.owners ≡ self.old.owners) }
     {
         let added = OwnerRecord::new(alloc, key);
@@ -332,7 +334,9 @@ impl OwnerRecords {
     pub fn count_up(&mut self, owner: &Owner) -> usize
         requires { IfSome (map.get self.old.owners owner.now.key)
             (λ h. h.count < 18446744073709551615) }
-        ensures { self.new.owners ≡ change self.old.owners owner.now.key one_more }
+        ensures counted { self.new.owners ≡ change self.old.owners owner.now.key one_more }
+        ensures place { IsSome (map.get self.old.owners owner.now.key) →
+            HasRecord owner.now.key (slice_get self.old.places result) }
     {
         match find_place(&self.places, owner) {
             Some(place) => {

@@ -138,6 +138,10 @@ impl<T> GenerationalBox<T> {
     ghost use Rattle.generational_core.specs.Boxes.{has_same_id};
 
     /// The box without its element type, as a recorded call names it.
+    ///
+    /// ```rust
+    /// store.target(one.pointer()).is_some()
+    /// ```
     pub fn pointer(&self) -> GenerationalPointer
         ensures { result ≡ pointer_of self.now }
     {
@@ -145,6 +149,10 @@ impl<T> GenerationalBox<T> {
     }
 
     /// The box's id, which outlives its cell. Looks at no store, and takes no memory.
+    ///
+    /// ```rust
+    /// let have_one_id = one.id() == other.id();
+    /// ```
     pub fn id(&self) -> GenerationalBoxId
         ensures { result ≡ (pointer_of self.now).id }
     {
@@ -154,6 +162,10 @@ impl<T> GenerationalBox<T> {
     /// The number of the box's slot in its store. Looks at no store, and takes no memory.
     ///
     /// Other boxes have had this slot, and others will: only the whole id tells boxes apart.
+    ///
+    /// ```rust
+    /// is_same == have_one_id && one.raw_ptr() != other.raw_ptr()
+    /// ```
     pub fn raw_ptr(&self) -> usize
         ensures { result ≡ (pointer_of self.now).id.slot }
     {
@@ -162,6 +174,10 @@ impl<T> GenerationalBox<T> {
 
     /// Whether both boxes have one id, wherever the two were made. Looks at no store, so ended
     /// boxes are told apart as well. Takes no memory.
+    ///
+    /// ```rust
+    /// let is_same = one.ptr_eq(&other);
+    /// ```
     pub fn ptr_eq(&self, other: &Self) -> bool
         ensures { result ≡ has_same_id (pointer_of self.now) (pointer_of other.now) }
     {
@@ -170,6 +186,10 @@ impl<T> GenerationalBox<T> {
 
     /// The location at which the box's cell was made; a reference takes that of the shared value
     /// from which it was made. Looks at no store, and takes no memory.
+    ///
+    /// ```rust
+    /// Some(tell(value, second) && value.created_at() == first.created_at())
+    /// ```
     pub fn created_at(&self) -> Location
         ensures { result ≡ (pointer_of self.now).created_at }
     {
@@ -195,6 +215,10 @@ impl<T> GenerationalBox<T> {
     ///
     /// Refused by `OutOfMemory`, only where no slot is free: the value comes back, and the store
     /// stays as it was. With a slot free the call takes no memory.
+    ///
+    /// ```rust
+    /// let value = GenerationalBox::leak(store, 7, made()).ok()?;
+    /// ```
     #[inline(always)]
     pub fn leak<S: Storage<T>>(
         store: &mut S,
@@ -220,6 +244,11 @@ impl<T> GenerationalBox<T> {
     /// for finding room.
     ///
     /// Upstream's `leak_rc`.
+    ///
+    /// ```rust
+    /// let first = GenerationalBox::leak_rc(store, 8, made()).ok()?;
+    /// let second = first.leak_reference(store).ok()?;
+    /// ```
     #[inline(always)]
     pub fn leak_rc<S: Storage<T>>(
         store: &mut S,
@@ -247,6 +276,12 @@ impl<T> GenerationalBox<T> {
     /// takes no memory. It is O(1), but for finding room.
     ///
     /// Upstream's `leak_reference`.
+    ///
+    /// ```rust
+    /// let second = first.leak_reference(store)?;
+    /// first.manually_drop(store)?;
+    /// let kept = read_value(store, second, here)?;
+    /// ```
     #[inline(always)]
     pub fn leak_reference<S: Storage<T>>(self, store: &mut S) -> BorrowResult<GenerationalBox<T>>
         ensures { Meets (S.state store.old) (Refer None (pointer_of self))
@@ -280,6 +315,11 @@ impl<T> GenerationalBox<T> {
     /// for the list of locations.
     ///
     /// Upstream's `point_to`.
+    ///
+    /// ```rust
+    /// let other = GenerationalBox::leak_rc(store, 2, made()).ok()?;
+    /// second.point_to(store, other).ok()?;
+    /// ```
     #[inline(always)]
     pub fn point_to<S: Storage<T>>(
         self,
@@ -299,6 +339,12 @@ impl<T> GenerationalBox<T> {
     /// ended or is of another store; `AlreadyBorrowedMut` with the writer's location;
     /// `NumbersExhausted`, where no ticket is left; `OutOfMemory`, only for a reader beside
     /// another. A refused call leaves the store as it was.
+    ///
+    /// ```rust
+    /// let guard = made.try_read(&mut store, here).ok()?;
+    /// let length = guard.deref(&store).map(|view| view.len());
+    /// guard.release(&mut store);
+    /// ```
     #[inline(always)]
     pub fn try_read<S: Storage<T>>(
         self,
@@ -319,6 +365,12 @@ impl<T> GenerationalBox<T> {
     /// `AlreadyBorrowed` with the readers' locations in the order in which they began, in whose
     /// place `OutOfMemory` is answered if that list finds no memory; `NumbersExhausted`, where no
     /// ticket is left. A refused call leaves the store as it was. Nothing else takes memory.
+    ///
+    /// ```rust
+    /// let mut writer = kept.try_write(store, line(34))?;
+    /// *writer.deref_mut() = 8;
+    /// let _ = writer.release(store);
+    /// ```
     #[inline(always)]
     pub fn try_write<S: Storage<T>>(
         self,
@@ -334,6 +386,10 @@ impl<T> GenerationalBox<T> {
     /// The value, looked at in passing: without a guard, a ticket or a location. The store is lent
     /// meanwhile. None where the box's cell has ended or is of another store, or a writer has the
     /// value. Takes no memory, and is O(1).
+    ///
+    /// ```rust
+    /// let shown = kept.peek(&store).copied();
+    /// ```
     #[inline(always)]
     pub fn peek<S: Storage<T>>(self, store: &S) -> Option<&T>
         ensures { option_copied result ≡ value_in (S.state store.now) (pointer_of self) }
@@ -343,6 +399,12 @@ impl<T> GenerationalBox<T> {
 
     /// Whether the value is there, also while a writer has it: false where the box's cell has ended
     /// or is of another store. Takes no memory, and is O(1).
+    ///
+    /// ```rust
+    /// if kept.is_live(store) && kept.can_write(store) {
+    ///     kept.set(store, 8);
+    /// }
+    /// ```
     #[inline(always)]
     pub fn is_live<S: Storage<T>>(self, store: &S) -> bool
         ensures { result ≡ is_some (reach (S.state store.now) (pointer_of self)) }
@@ -353,6 +415,13 @@ impl<T> GenerationalBox<T> {
     /// Whether a read of the value is free: false where the box's cell has ended or is of another
     /// store, or a writer stands at the value. Other readers don't matter. Takes no memory, and is
     /// O(1).
+    ///
+    /// ```rust
+    /// if !kept.can_read(store) {
+    ///     return Ok(None);
+    /// }
+    /// let guard = kept.read(store, read())?;
+    /// ```
     #[inline(always)]
     pub fn can_read<S: Storage<T>>(self, store: &S) -> bool
         ensures { result ≡ can_read (S.state store.now) (pointer_of self) }
@@ -362,6 +431,13 @@ impl<T> GenerationalBox<T> {
 
     /// Whether a write of the value is free: false where the box's cell has ended or is of another
     /// store, or any borrow stands at the value. Takes no memory, and is O(1).
+    ///
+    /// ```rust
+    /// if !target.can_write(store) {
+    ///     return false;
+    /// }
+    /// target.set(store, value);
+    /// ```
     #[inline(always)]
     pub fn can_write<S: Storage<T>>(self, store: &S) -> bool
         ensures { result ≡ can_write (S.state store.now) (pointer_of self) }
@@ -377,6 +453,12 @@ impl<T> GenerationalBox<T> {
     /// finding room.
     ///
     /// Upstream's `read`, which panics where the value may not be read.
+    ///
+    /// ```rust
+    /// let guard = kept.read(store, read())?;
+    /// let seen = guard.deref(store).map(|view| *view);
+    /// guard.release(store);
+    /// ```
     #[inline(always)]
     pub fn read<S: Storage<T>>(
         self,
@@ -401,6 +483,12 @@ impl<T> GenerationalBox<T> {
     /// then. Takes no memory, and is O(1).
     ///
     /// Upstream's `write`, which panics where the value may not be written.
+    ///
+    /// ```rust
+    /// let mut guard = kept.write(store, written())?;
+    /// let old = guard.replace(value);
+    /// let _ = guard.release(store);
+    /// ```
     #[inline(always)]
     pub fn write<S: Storage<T>>(
         self,
@@ -424,6 +512,13 @@ impl<T> GenerationalBox<T> {
     /// refused; takes no memory, and is O(1), but for letting the old value go.
     ///
     /// Upstream's `set`, which panics where the value may not be written.
+    ///
+    /// ```rust
+    /// if !target.can_write(store) {
+    ///     return false;
+    /// }
+    /// target.set(store, value);
+    /// ```
     #[inline(always)]
     pub fn set<S: Storage<T>>(self, store: &mut S, value: T)
     where
@@ -443,6 +538,10 @@ impl<T> GenerationalBox<T> {
     /// with the writer's location, or `AlreadyBorrowed` with the readers' locations in the order in
     /// which they began, in whose place `OutOfMemory` is answered if that list finds no memory.
     /// Nothing else takes memory.
+    ///
+    /// ```rust
+    /// made.manually_drop(&mut store).ok()?;
+    /// ```
     #[inline(always)]
     pub fn manually_drop<S: Storage<T>>(self, store: &mut S) -> BorrowMutResult<()>
         ensures { Meets (S.state store.old) (End (pointer_of self)) (end_answer result)

@@ -57,6 +57,10 @@ impl Owner {
     ghost use Rattle.generational_core.specs.StepCalls.{id_of_owner};
 
     /// The id of the owner's record. Takes no memory.
+    ///
+    /// ```rust
+    /// let have_one_record = owner.id() == other.id();
+    /// ```
     pub fn id(&self) -> OwnerId
         ensures { result ≡ id_of_owner self.now }
     {
@@ -74,6 +78,13 @@ impl Owner {
     /// and the store stays as it was.
     ///
     /// Upstream's `insert_with_caller`: its `insert` takes the caller's location.
+    ///
+    /// ```rust
+    /// let Ok(kept) = owner.insert(&mut store, 7, line(45)) else {
+    ///     owner.leak();
+    ///     return None;
+    /// };
+    /// ```
     #[inline(always)]
     pub fn insert<T, S: Storage<T>>(
         &self,
@@ -101,6 +112,11 @@ impl Owner {
     /// then, and the store stays as it was. The call is O(1), but for finding room.
     ///
     /// Upstream's `insert_rc_with_caller`: its `insert_rc` takes the caller's location.
+    ///
+    /// ```rust
+    /// let first = owner.insert_rc(store, 1, made()).ok()?;
+    /// let second = owner.insert_reference(store, first).ok()?;
+    /// ```
     #[inline(always)]
     pub fn insert_rc<T, S: Storage<T>>(
         &self,
@@ -131,6 +147,10 @@ impl Owner {
     /// finding room.
     ///
     /// Upstream's `insert_reference`.
+    ///
+    /// ```rust
+    /// let second = owner.insert_reference(store, first).ok()?;
+    /// ```
     #[inline(always)]
     pub fn insert_reference<T, S: Storage<T>>(
         &self,
@@ -150,6 +170,13 @@ impl Owner {
     /// `NumbersExhausted`, where no ticket is left. Takes no memory.
     ///
     /// Upstream's `Clone`.
+    ///
+    /// ```rust
+    /// let Ok(other) = owner.clone(store) else {
+    ///     owner.leak();
+    ///     return Ok(false);
+    /// };
+    /// ```
     pub fn clone<T, S: AnyStorage<T>>(&self, store: &mut S) -> Result<Owner, StoreError>
         ensures { Meets (S.state store.old) (CloneOwner self.now) (owner_answer result)
             (S.state store.new) }
@@ -167,6 +194,16 @@ impl Owner {
     /// store stays as it was.
     ///
     /// Upstream's owners end their boxes by their Drop.
+    ///
+    /// ```rust
+    /// match other.release(store) {
+    ///     Ok(()) => Ok(have_one_record),
+    ///     Err((other, _borrowed)) => {
+    ///         other.leak();
+    ///         Ok(false)
+    ///     }
+    /// }
+    /// ```
     pub fn release<T, S: AnyStorage<T>>(
         self,
         store: &mut S,
@@ -180,6 +217,13 @@ impl Owner {
 
     /// Spends the owner value and leaves its record as it is: the record's boxes never end by an
     /// owner from then on.
+    ///
+    /// ```rust
+    /// let Ok(other) = owner.clone(store) else {
+    ///     owner.leak();
+    ///     return Ok(false);
+    /// };
+    /// ```
     pub fn leak(self) {
         let Owner {
             store: _,

@@ -47,6 +47,10 @@ impl<T> GenerationalRef<T> {
 
     /// A view of the value, exactly where the store knows the guard: where the store's number is
     /// the guard's, and a reader with its ticket stands at its cell. Takes no memory.
+    ///
+    /// ```rust
+    /// let length = guard.deref(&store).map(|view| view.len());
+    /// ```
     #[inline(always)]
     pub fn deref<'a, S: Storage<T>>(&self, store: &'a S) -> Option<Ref<'a, T>>
         ensures { result ≡ value_behind (S.state store.now) self.now }
@@ -59,6 +63,10 @@ impl<T> GenerationalRef<T> {
     /// is spent and the store stays as it was. Takes no memory.
     ///
     /// Upstream's guards end by their Drop.
+    ///
+    /// ```rust
+    /// guard.release(&mut store);
+    /// ```
     #[inline(always)]
     pub fn release<S: Storage<T>>(self, store: &mut S) -> bool
         ensures { Meets (S.state store.old) (ReleaseReader self) (Flag result) (S.state store.new) }
@@ -277,6 +285,10 @@ impl<T> GenerationalRefMut<T> {
 
     /// A view of the value for writing: what is written through it is the guard's value from then
     /// on. Takes no memory.
+    ///
+    /// ```rust
+    /// *writer.deref_mut() = 8;
+    /// ```
     #[inline(always)]
     pub fn deref_mut(&mut self) -> Mut<'_, T>
         ensures same_guard { result.guard.ghost_name ≡ self.entry.ghost_name }
@@ -295,6 +307,10 @@ impl<T> GenerationalRefMut<T> {
     }
 
     /// Puts another value in the place of the guard's, and answers the old one. Takes no memory.
+    ///
+    /// ```rust
+    /// let old = guard.replace(value);
+    /// ```
     #[inline(always)]
     pub fn replace(&mut self, value: T) -> T
         ensures old { result ≡ self.old.value }
@@ -306,6 +322,13 @@ impl<T> GenerationalRefMut<T> {
     /// Ends the write, and puts the value into the cell. A store that doesn't know the guard hands
     /// the value back and stays as it was; the guard is spent all the same, and its own cell stays
     /// borrowed. Takes no memory.
+    ///
+    /// ```rust
+    /// match guard.release(store) {
+    ///     Ok(()) => Ok(()),
+    ///     Err(_) => unreachable!(),
+    /// }
+    /// ```
     #[inline(always)]
     pub fn release<S: Storage<T>>(self, store: &mut S) -> Result<(), T>
         ensures { Meets (S.state store.old) (ReleaseWriter self.guard self.value)

@@ -59,6 +59,10 @@ impl<T: Drop, S: Storage<T>> Session<T, S> {
     ghost use Rattle.generational_sessions.specs.Replies.{RefusalLeavesAll};
 
     /// A session over a fresh store (`is_fresh` is the test). Takes no memory.
+    ///
+    /// ```rust
+    /// let mut session = Session::new(alloc, store);
+    /// ```
     pub fn new(alloc: Global, store: S) -> Session<T, S>
         requires { IsFresh (S.state store) }
         ensures session { result ≡ record { state = S.state store; table = [] } }
@@ -74,6 +78,11 @@ impl<T: Drop, S: Storage<T>> Session<T, S> {
 
     /// Answers a call, and gives it the next place, whatever the reply. The call comes back where
     /// its place finds no memory: then it has no place, and nothing changes.
+    ///
+    /// ```rust
+    /// let made = session.call(Call::Leak(7, made()));
+    /// let found = session.call(Call::Id(BoxAt::Place(0)));
+    /// ```
     pub fn call(&mut self, call: Call<T>) -> Result<Reply<T>, Call<T>>
         // The call is a step of the machine on what the places hold.
         ensures step { IfOk result (λ reply. SessionStep self.old call (as_reply reply) self.new) }
@@ -125,6 +134,14 @@ impl<T: Drop, S: Storage<T>> Session<T, S> {
 
     /// Answers calls in order, each as `call` does. All calls come back where memory for the
     /// replies or the places is lacking: then none has a place, and nothing changes.
+    ///
+    /// ```rust
+    /// let leak = Call::Leak(7, made());
+    /// let read = Call::TryRead(BoxAt::Place(0), read());
+    /// let calls = vec![in alloc; leak, read].ok()?;
+    /// let mut session = Session::new(alloc, store);
+    /// let replies = session.run(calls).ok();
+    /// ```
     pub fn run(&mut self, mut calls: Vec<Call<T>>) -> Result<Vec<Reply<T>>, Vec<Call<T>>>
         // The calls and their replies are a run of the machine.
         ensures run { IfOk result (λ replies.
@@ -183,6 +200,10 @@ impl<T: Drop, S: Storage<T>> Session<T, S> {
 
     /// The value that the guard at a place lends, a writer's being its own: None where the place
     /// holds no guard. Takes no memory.
+    ///
+    /// ```rust
+    /// let seen = session.view(1).copied();
+    /// ```
     pub fn view(&self, place: usize) -> Option<&T>
         ensures { option_copied result ≡ loan_at self.now place }
     {
@@ -202,6 +223,10 @@ impl<T: Drop, S: Storage<T>> Session<T, S> {
 
     /// The store, after the held guards were released in order of place; the values of writers are
     /// put back, and owners are leaked. Takes no memory.
+    ///
+    /// ```rust
+    /// let store = session.finish();
+    /// ```
     pub fn finish(self) -> S
         ensures { S.state result ≡ release_all self.state self.table }
     {

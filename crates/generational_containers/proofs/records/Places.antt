@@ -1,5 +1,5 @@
 -- The map for which places of records stand, and what is written to them.
-use Rattle.std.proofs.Common.{◌≡◌, ◌≢◌, ℕ, zero, suc, ◌+◌, ◌<◌, ◌≤◌, Bool, true, false, cond, List}
+use Rattle.std.proofs.Common.{IsSome, ◌≡◌, ◌≢◌, ℕ, zero, suc, ◌+◌, ◌<◌, ◌≤◌, Bool, true, false, cond, List}
 use Rattle.std.proofs.Common.{[], ◌∷◌, ◌++◌, length, Option, None, Some, refl, sym, ap, ◌∙◌, arith}
 use Rattle.std.proofs.Common.{⊎_elim, slice_get, slice_set, nat_eq, is_some, subst, IfSome}
 use Rattle.std.proofs.Common.{option_map}
@@ -539,6 +539,9 @@ module _ (xs : List Place) (S : Owners) (k : ℕ) (view : owners_of xs ≡ S) wh
 
     pub missing_kept : (f : Ownership → Ownership) → S ≡ change S k f
     missing_kept f = sym (get-changed_none by_number S k f missing)
+
+    pub missing_none : {X : Type 0} → IsSome (map.get S k) → X
+    missing_none some = absurd (false≢true (sym (ap is_some missing) ∙ some))
 
     pub missing_removed : S ≡ map.remove S k
     missing_removed = sym (remove_absent S k missing)

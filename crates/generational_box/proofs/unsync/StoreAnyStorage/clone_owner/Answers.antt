@@ -17,20 +17,20 @@ returns-then-self g c =
 
 pub invariant_of-self : goal.invariant_of-self
 invariant_of-self g c =
-    rw c.count_up-place.ensures (counted_up c.self.invariant c.args.owner.now.key)
+    rw c.count_up-place.ensures.counted (counted_up c.self.invariant c.args.owner.now.key)
 
 pub returns : goal.returns
 returns g c =
     clone_made (state_is c.self.view_is) c.args.owner.now (sym c.knows.ensures ∙ c.if-not-knows.false)
     c.owner_at.result _ (omega arith) (rw (← ap (λ i. i.key) c.id.ensures) c.owner_at.ensures)
-    (rw c.count_up-place.ensures refl)
+    (rw c.count_up-place.ensures.counted refl)
 
 pub invariant_of-self-inside-2 : goal.invariant_of-self-inside-2
 invariant_of-self-inside-2 g c =
     meets_kept _ _ (CloneOwner c.args.owner.now) _ c.args.self.now.sound c.args.self.now.bounded
     (clone_made (state_is c.self.view_is) c.args.owner.now (sym c.knows.ensures ∙ c.if-not-knows.false)
     _ _ (omega arith) refl
-    (rw c.count_up-place.ensures refl))
+    (rw c.count_up-place.ensures.counted refl))
 
 pub same-self : goal.same-self
 same-self g c = both (λ s b. record c.self.inside { sound = s; bounded = b })

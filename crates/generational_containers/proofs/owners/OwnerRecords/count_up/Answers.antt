@@ -3,7 +3,7 @@ use Rattle.generational_containers.proofs.Common.{one_more}
 use Rattle.generational_containers.proofs.records.Places.{owners_is}
 use Rattle.generational_containers.proofs.records.Places.{holds_there, record_within}
 use Rattle.generational_containers.proofs.records.Places.{changed_owners}
-use Rattle.generational_containers.proofs.records.Places.{changed_placed, missing_kept}
+use Rattle.generational_containers.proofs.records.Places.{changed_placed, missing_kept, missing_none}
 use Rattle.generational_containers.proofs.owners.OwnerRecords.count_up.Goals as goal
 
 pub count_up_at-requires-clause-within : goal.count_up_at-requires-clause-within
@@ -20,10 +20,13 @@ invariant_of-self c =
     rw c.count_up_at.ensures
     (changed_placed c.self.invariant _ _ c.in-Some.ensures.found one_more)
 
-pub returns-in-Some : goal.returns-in-Some
-returns-in-Some c =
+pub returns-in-Some-clause-counted : goal.returns-in-Some-clause-counted
+returns-in-Some-clause-counted c =
     rw (c.count_up_at.ensures, ← owners_is c.self.view_is)
     (changed_owners c.self.invariant _ _ c.in-Some.ensures.found one_more)
 
-pub returns-in-None : goal.returns-in-None
-returns-in-None c = missing_kept _ _ _ (owners_is c.self.view_is) c.in-None.ensures.none one_more
+pub returns-in-None-clause-counted : goal.returns-in-None-clause-counted
+returns-in-None-clause-counted c = missing_kept _ _ _ (owners_is c.self.view_is) c.in-None.ensures.none one_more
+
+pub returns-in-None-clause-place : goal.returns-in-None-clause-place
+returns-in-None-clause-place c = missing_none _ _ _ (owners_is c.self.view_is) c.in-None.ensures.none
