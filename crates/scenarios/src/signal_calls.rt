@@ -87,6 +87,7 @@ pub(crate) fn sees<S: Storage<u64>>(
     value: u64,
 ) {
     assert!(rt; signal.is_readable(store));
+    assert_same(rt, &signal.peek(store).copied(), &Some(value));
     assert_same(rt, &signal.get(store, asked(), |seen| *seen), &Ok(value));
 }
 

@@ -1,6 +1,6 @@
 //! Signals.
 
-ghost use Rattle.std.specs.Prelude.{◌≡◌, ◌≢◌, Some, IfOk, IfErr, OnOk, OnErr};
+ghost use Rattle.std.specs.Prelude.{◌≡◌, ◌≢◌, Some, IfOk, IfErr, OnOk, OnErr, option_copied};
 ghost use Rattle.std.specs.Fn.{FnOnceReturnsAt, FnOnceReturnsAtMut};
 ghost use Rattle.generational_core.specs.declared.boxes.GenerationalPointer.{GenerationalPointer};
 ghost use Rattle.generational_core.specs.Answers.{read_refused, end_refused, end_answer};
@@ -165,6 +165,15 @@ impl<T> Signal<T> {
             Ok(()) => Ok(answer),
             Err(_) => unreachable!(),
         }
+    }
+
+    /// The value, looked at in passing: without a ticket or a location. The store is lent meanwhile.
+    /// None where the signal has ended or is of another store, or a writer has the value. Takes no
+    /// memory, and is O(1).
+    pub fn peek<S: Storage<T>>(self, store: &S) -> Option<&T>
+        ensures { option_copied result ≡ value_in (S.state store.now) (pointer_in self) }
+    {
+        self.raw.peek(store)
     }
 
     /// Whether a read of the signal is free: false where it has ended or is of another store, or a
