@@ -1,0 +1,95 @@
+use Rattle.std.proofs.Common.{◌∙◌, List, Ok, refl, sym, ap, subst, inl, inr}
+use Rattle.std.specs.Prelude.{is_some, option_copied}
+use Rattle.std.proofs.lemmas.Bool.{true≢false}
+use Rattle.generational_core.specs.Answers.{pointer_of}
+use Rattle.generational_core.proofs.machine.Calling.{made}
+use Rattle.generational_core.proofs.machine.Leaving.{given_other, same_value}
+use Rattle.generational_core.proofs.machine.Stepping.{made_new, meets_given}
+use Rattle.generational_sessions.proofs.callers.Lacking.{make_lacks}
+use Rattle.session_table.specs.declared.entry.PutError.TheVariants as put
+use Rattle.session_table.specs.Entries.{pointer_in}
+use Rattle.session_table.specs.Sessions.{LiveSession, session_in}
+use Rattle.session_table.specs.Tables.{TableState, WasPut}
+use Rattle.session_table.proofs.Calls.{put_keeps, put_rows, put_sessions, put_still_keeps}
+use Rattle.session_table.proofs.Rows.{found_row, no_session, row_held, row_session}
+use Rattle.session_table.proofs.Storing.{others_left}
+use Rattle.session_table.proofs.Sessions.{others_put}
+use Rattle.session_table.proofs.table.SessionTable.put.Goals as goal
+
+pub returns-in_default-clause-short : goal.returns-in_default-clause-short
+returns-in_default-clause-short g c = inl (ap is_some (no_session _ _ c.args.id c.self.view_is
+    (sym c.session_of.ensures ∙ ap option_copied c.in_default.is)))
+
+pub returns-in-Err-clause-unknown : goal.returns-in-Err-clause-unknown
+returns-in-Err-clause-unknown g c =
+    let row = found_row _ _ c.self.invariant c.args.id _ c.session_of.ensures
+    (ap option_copied c.in-Some.is) in
+    rw (← c.self.view_is, ← row.1) (λ none. absurd (true≢false
+    (sym (ap is_some (row_session _ _ c.self.invariant _ row.0)) ∙ none)))
+
+pub returns-in-Err-clause-short : goal.returns-in-Err-clause-short
+returns-in-Err-clause-short g c =
+    let row = found_row _ _ c.self.invariant c.args.id _ c.session_of.ensures
+    (ap option_copied c.in-Some.is) in
+    let held = row_held _ _ c.self.invariant _ row.0 in
+    inr (ap put.Store (make_lacks _ _ _ _ (ap is_some held.1) c.in-Err.ensures.step))
+
+pub invariant_of-self-2 : goal.invariant_of-self-2
+invariant_of-self-2 g c =
+    let row = found_row _ _ c.self.invariant c.args.id _ c.session_of.ensures
+    (ap option_copied c.in-Some.is) in
+    put_rows _ _ (g.met.S.AnyStorage.sound _) _ c.self.invariant _ row.0 _ _ c.in-Ok.raw
+    c.in-Ok.ensures.step
+
+pub returns-clause-shown : goal.returns-clause-shown
+returns-clause-shown g c = made _ _ _ (Ok c.in-Ok.raw) c.in-Ok.ensures.step
+
+pub returns-clause-kept : goal.returns-clause-kept
+returns-clause-kept g c =
+    let row = found_row _ _ c.self.invariant c.args.id _ c.session_of.ensures
+    (ap option_copied c.in-Some.is) in
+    rw (← row.1) (put_keeps _ _ (g.met.S.AnyStorage.sound _) _ c.self.invariant _ row.0 _ _
+    c.in-Ok.raw c.in-Ok.ensures.step (record { raw = c.in-Ok.raw }) refl)
+
+pub returns-clause-sessions : goal.returns-clause-sessions
+returns-clause-sessions g c =
+    let row = found_row _ _ c.self.invariant c.args.id _ c.session_of.ensures
+    (ap option_copied c.in-Some.is) in
+    rw (← c.self.view_is, ← row.1) (put_sessions _ _ (g.met.S.AnyStorage.sound _) _ c.self.invariant
+    _ row.0 _ _ c.in-Ok.raw c.in-Ok.ensures.step)
+
+pub returns-clause-others : goal.returns-clause-others
+returns-clause-others g c =
+    let row = found_row _ _ c.self.invariant c.args.id _ c.session_of.ensures
+    (ap option_copied c.in-Some.is) in
+    rw (← c.self.view_is, ← row.1) (λ other ne.
+    ap (λ (xs : List LiveSession). session_in xs other) (put_sessions _ _
+    (g.met.S.AnyStorage.sound _) _ c.self.invariant _ row.0 _ _ c.in-Ok.raw c.in-Ok.ensures.step)
+    ∙ others_put _ _ _ other ne)
+
+pub returns-clause-beside : goal.returns-clause-beside
+returns-clause-beside g c f other =
+    let sound = g.met.S.AnyStorage.sound in
+    let step = c.in-Ok.ensures.step in
+    rw (← c.self.view_is) (others_left _ _ _ _ (sound _) step (pointer_of c.in-Ok.raw) (pointer_in f)
+    (made_new _ _ _ _ step).0 (same_value _ _ _ _ (sound _) step _ tt) other)
+
+pub returns-clause-left : goal.returns-clause-left
+returns-clause-left g c f given =
+    let step = c.in-Ok.ensures.step in
+    rw (← c.self.view_is) (same_value _ _ _ _ (g.met.S.AnyStorage.sound _) step _ tt
+    (given_other _ _ _ _ (pointer_in f) step
+    (subst (λ (t : TableState _). WasPut t f) (sym c.self.view_is) given)))
+
+pub returns-clause-still : goal.returns-clause-still
+returns-clause-still g c =
+    let row = found_row _ _ c.self.invariant c.args.id _ c.session_of.ensures
+    (ap option_copied c.in-Some.is) in
+    rw (← c.self.view_is) (put_still_keeps _ _ (g.met.S.AnyStorage.sound _) _ c.self.invariant _ row.0
+    _ _ c.in-Ok.raw c.in-Ok.ensures.step)
+
+pub returns-clause-put : goal.returns-clause-put
+returns-clause-put g c f = rw (← c.self.view_is) (meets_given _ _ _ _ c.in-Ok.ensures.step _)
+
+pub returns-clause-given : goal.returns-clause-given
+returns-clause-given g c = (made_new _ _ _ _ c.in-Ok.ensures.step).2
