@@ -33,6 +33,7 @@ module _ {T : Type 0} {time : ℕ} {first old : TableState T} {row : ℕ} where
         (key_cases by_number i row);
     left = e.left;
     put = e.put;
+    ticket = e.ticket;
     within = omega (arith, e.within);
   }
 
@@ -42,8 +43,9 @@ module _ {T : Type 0} {time : ℕ} {first old : TableState T} {row : ℕ} where
       → new.sessions ≡ remove old.sessions row
       → ((e : Entry T) → among s.entries (name_of (pointer_in e)) ≡ false
       → shown_in new e ≡ shown_in old e)
-      → ((e : Entry T) → WasPut old e → WasPut new e) → Expires time first new row
-  expires_old {new} e s at gone is left put = record {
+      → ((e : Entry T) → WasPut old e → WasPut new e) → new.state.next ≡ old.state.next
+      → Expires time first new row
+  expires_old {new} e s at gone is left put ticket = record {
     young = ap (filter (is_young time)) is
         ∙ (filter_removed (is_young time) old.sessions row s at gone ∙ e.young);
     were = λ x there. e.were x (removed_old old.sessions row x (subst (StandsIn x) is there));
@@ -54,6 +56,7 @@ module _ {T : Type 0} {time : ℕ} {first old : TableState T} {row : ℕ} where
         (λ out. ⊎_elim (λ same. inl (left x out ∙ same)) (λ expired. inr expired) (e.left x))
         (cases_Bool (among s.entries (name_of (pointer_in x))));
     put = λ x given. put x (e.put x given);
+    ticket = ticket ∙ e.ticket;
     within = let n = length-remove old.sessions row (slice_get_within old.sessions row s at) in
         let m = ap length is in omega (arith, e.within, n, m);
   }
@@ -67,6 +70,7 @@ expires_begun time old n is = record {
       let lt = slice_get_within old.sessions i s there in absurd (omega (arith, lt, le, is));
   left = λ e. inl refl;
   put = λ e given. given;
+  ticket = refl;
   within = omega (arith, is);
 }
 

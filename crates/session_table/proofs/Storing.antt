@@ -1,12 +1,8 @@
--- What a box shows in a table's store: what a test says of it, and that what shows a value is of the
--- store.
-use Rattle.std.proofs.Common.{◌≡◌, ◌≢◌, Bool, true, false}
+-- What shows a value is of the store, and which calls use tickets.
+use Rattle.std.proofs.Common.{◌≡◌, ◌≢◌}
 use Rattle.std.proofs.Common.{Option, None, Some, refl, sym, ap, ◌∙◌, ⊎_elim}
-use Rattle.std.specs.Prelude.{is_some}
 use Rattle.std.proofs.lemmas.Bool.{true≢false}
-use Rattle.generational_core.specs.Borrowing.{can_write}
 use Rattle.generational_core.specs.Boxes.{name_of}
-use Rattle.generational_core.specs.Leaving.{IsUnborrowed}
 use Rattle.generational_core.specs.Machine.{Action, Answer}
 use Rattle.generational_core.specs.Seeing.{value_in}
 use Rattle.generational_core.specs.State.{State, IsSound}
@@ -15,26 +11,24 @@ use Rattle.generational_core.specs.declared.boxes.GenerationalPointer.{Generatio
 use Rattle.generational_core.proofs.machine.Calling.{seen_reached}
 use Rattle.generational_core.proofs.machine.Boxing.{reached_boxed}
 use Rattle.generational_core.proofs.machine.Stepping.{meets_number, meets_sound}
-use Rattle.generational_core.proofs.machine.Unborrowed.{quiet_sees}
 use Rattle.generational_core.proofs.maps.Maps.{name_cases}
+use Rattle.std.proofs.Common.{[]}
+use Rattle.std.specs.Prelude.{◌+◌, nat_lt}
+use Rattle.generational_core.specs.Borrowing.{BorrowRefusal, reach}
+use Rattle.generational_core.specs.Cells.{Content, content_of}
+use Rattle.generational_core.specs.Cells.Content.{Here}
+use Rattle.generational_core.specs.Ending.{hindrance_to}
+use Rattle.generational_core.specs.Machine.{Outcome, OwnerName, cell_at, is_known, ownership, release_owner}
+use Rattle.generational_core.specs.Machine.{set_at, unless}
+use Rattle.generational_core.specs.Machine.Action.{Make, NewOwner, ReleaseOwner, SetValue}
+use Rattle.generational_core.specs.Machine.Answer.{Owned}
+use Rattle.generational_core.specs.Names.{Name}
+use Rattle.generational_core.specs.State.{Ownership}
+use Rattle.generational_core.specs.declared.error.Location.{Location}
+use Rattle.generational_core.proofs.machine.Ends.{by_cond}
+use Rattle.generational_core.proofs.machine.Stepping.{meets_cases}
 
 module _ {T : Type 0} where
-  -- ---- what a test says
-
-  -- where no borrow stands the test of a write tells what shows a value
-  pub free_seen : (S : State T) → IsSound S → IsUnborrowed S → (b : GenerationalPointer) {r : Bool}
-      → r ≡ can_write S b → r ≡ true → is_some (value_in S b) ≡ true
-  free_seen S s quiet b is can = sym (quiet_sees S quiet b s) ∙ (sym is ∙ can)
-
-  pub stuck_unseen : (S : State T) → IsSound S → IsUnborrowed S → (b : GenerationalPointer) {r : Bool}
-      → r ≡ can_write S b → r ≡ false → value_in S b ≡ None
-  stuck_unseen S s quiet b is cannot = at (value_in S b) refl
-    where
-      at : (v : Option T) → value_in S b ≡ v → value_in S b ≡ None
-      at None e = e
-      at (Some v) e = absurd (true≢false
-          (sym (ap is_some e) ∙ (sym (quiet_sees S quiet b s) ∙ (sym is ∙ cannot))))
-
   -- ---- what is of the store
 
   -- what shows a value is of the store, so a call that leaves each box of another name leaves each of
@@ -67,3 +61,48 @@ module _ {T : Type 0} where
       (λ store. apart (store ∙ meets_number S R call answer m))
       ∙ sym (foreign S b s apart))
       left (name_cases (name_of a) (name_of b))
+
+  -- ---- tickets
+
+  module _ (S R : State T) where
+    -- a new owner uses one, and these calls use none
+    pub owner_next : (o : OwnerName) → Meets S NewOwner (Owned o) R → R.next ≡ S.next + 1
+    owner_next o m = ⊎_elim (λ refused. absurd (true≢false (sym refused.0)))
+        (λ acts. ap (λ (out : Outcome T). out.1.next) acts.2)
+        (meets_cases S R NewOwner (Owned o) m)
+
+    pub put_next : (o : OwnerName) (v : T) (l : Location) (answer : Answer T)
+        → Meets S (Make (Some o) v l) answer R → R.next ≡ S.next
+    put_next o v l answer m = ⊎_elim (λ refused. ap (λ (X : State T). X.next) refused.1)
+        (λ acts. ap (λ (out : Outcome T). out.1.next) acts.2
+        ∙ by_cond (λ (out : Outcome T). out.1.next ≡ S.next) (is_known S (Some o))
+        (λ _. refl) (λ _. refl))
+        (meets_cases S R (Make (Some o) v l) answer m)
+
+    pub set_next : (b : GenerationalPointer) (v : T) (answer : Answer T)
+        → Meets S (SetValue b v) answer R → R.next ≡ S.next
+    set_next b v answer m = ⊎_elim (λ refused. ap (λ (X : State T). X.next) refused.1)
+        (λ acts. ap (λ (out : Outcome T). out.1.next) acts.2
+        ∙ at (reach S b) (content_of (cell_at S (reach S b))))
+        (meets_cases S R (SetValue b v) answer m)
+      where
+        at : (to : Option Name) (c : Option (Content T)) → (set_at S b v to c).1.next ≡ S.next
+        at None c = refl
+        at (Some m) (Some (Here old [])) = refl
+        at (Some m) _ = refl
+
+    pub release_next : (o : OwnerName) (answer : Answer T) → Meets S (ReleaseOwner o) answer R
+        → R.next ≡ S.next
+    release_next o answer m = ⊎_elim (λ refused. ap (λ (X : State T). X.next) refused.1)
+        (λ acts. ap (λ (out : Outcome T). out.1.next) acts.2 ∙ at (ownership S o))
+        (meets_cases S R (ReleaseOwner o) answer m)
+      where
+        still : (t : Option BorrowRefusal) (out : Outcome T) → out.1.next ≡ S.next
+            → (unless t S out).1.next ≡ S.next
+        still None out h = h
+        still (Some t) out h = refl
+
+        at : (h : Option Ownership) → (release_owner S o h).1.next ≡ S.next
+        at None = refl
+        at (Some h) = by_cond (λ (out : Outcome T). out.1.next ≡ S.next) (nat_lt 1 h.count)
+            (λ _. refl) (λ _. still (hindrance_to S h.names) _ refl)

@@ -67,4 +67,5 @@ module _ {T : Type 0} where
         → is_young time s ≡ true
     pub left : (e : Entry T) → (shown_in new e ≡ shown_in old e) ⊎ IsExpired time old e
     pub put : (e : Entry T) → WasPut old e → WasPut new e
+    pub ticket : new.state.next ≡ old.state.next
     pub within : row ≤ length new.sessions

@@ -2,7 +2,7 @@
 
 ghost use Rattle.std.specs.Prelude.{◌≡◌, ◌≢◌, ◌↔◌, ◌⊎◌, ◌<◌, ◌≤◌, ◌+◌, ◌++◌, ◌∷◌, [], ℕ, true, false, length};
 ghost use Rattle.std.specs.Prelude.{None, Some, Err, is_some, IfOk, OnOk, IfErr, OnErr, IsErr};
-ghost use Rattle.std.specs.Prelude.{IsTrue, IsFalse, filter, remove, slice_get, map as list_map};
+ghost use Rattle.std.specs.Prelude.{option_map, option_copied, IsTrue, IsFalse, filter, remove, slice_get, map as list_map};
 ghost use Rattle.std.specs.Fn.{FnOnceReturnsAt};
 ghost use Rattle.generational_core.specs.Borrowing.{take_ticket};
 ghost use Rattle.generational_core.specs.Boxes.{name_of};
@@ -85,6 +85,7 @@ impl<T, S: Storage<T>> SessionTable<T, S> {
             session_in self.new.sessions other ≡ session_in self.old.sessions other }
         ensures shown { (e : Entry T) → shown_in self.new e ≡ shown_in self.old e }
         ensures put { (e : Entry T) → WasPut self.old e → WasPut self.new e }
+        ensures ticket { OnOk result (self.new.state.next ≡ self.old.state.next + 1) }
         ensures in_use { IsTrue (has_session self.old id) → result ≡ Err login.IdInUse }
         ensures short { IfErr result (λ e. (has_session self.old id ≡ true)
             ⊎ ((cause : StoreError) × (e ≡ login.Store cause) × Lacks self.old.state cause)) }
@@ -131,6 +132,7 @@ impl<T, S: Storage<T>> SessionTable<T, S> {
         ensures here { IfOk result (λ e. put_at e ≡ here) }
         ensures put { (f : Entry T) → WasPut self.old f → WasPut self.new f }
         ensures given { IfOk result (λ e. WasPut self.new e) }
+        ensures ticket { self.new.state.next ≡ self.old.state.next }
         ensures unknown { has_session self.old id ≡ false →
             IfErr result (λ refusal. refusal.cause ≡ put.NoSession) }
         ensures short { IfErr result (λ refusal. (has_session self.old id ≡ false)
@@ -150,6 +152,14 @@ impl<T, S: Storage<T>> SessionTable<T, S> {
             }
         };
         Ok(Entry { raw })
+    }
+
+    /// Whether an entry shows a value: false once its session is gone, and of another table's. Takes
+    /// no memory, and is O(1).
+    pub fn shows(&self, entry: Entry<T>) -> bool
+        ensures { result ≡ is_some (shown_in self.now entry) }
+    {
+        entry.raw.can_read(&self.store)
     }
 
     /// Looks at an entry's value, and answers what the closure makes of it, which is called once.
@@ -176,7 +186,7 @@ impl<T, S: Storage<T>> SessionTable<T, S> {
             ⊎ ((e ≡ error.Store NumbersExhausted) × (self.old.state.next ≡ last_ticket))) }
         ensures refused { OnErr result (self.new ≡ self.old) }
     {
-        if !entry.raw.can_write(&self.store) {
+        if !self.shows(entry) {
             return Err(EntryError::Stale(entry.put_at()));
         }
         let guard = match entry.raw.read(&mut self.store, here) {
@@ -204,12 +214,13 @@ impl<T, S: Storage<T>> SessionTable<T, S> {
             shown_in self.new f ≡ shown_in self.old f }
         ensures sessions { self.new.sessions ≡ self.old.sessions }
         ensures put { (f : Entry T) → WasPut self.old f → WasPut self.new f }
+        ensures ticket { self.new.state.next ≡ self.old.state.next }
         ensures stale { IsErr result ↔ shown_in self.old entry ≡ None }
         ensures told { IfErr result (λ back. back.1.put_at ≡ put_at entry) }
         ensures back { IfErr result (λ back. back.0 ≡ value) }
         ensures refused { OnErr result (self.new ≡ self.old) }
     {
-        if !entry.raw.can_write(&self.store) {
+        if !self.shows(entry) {
             let stale = Stale {
                 put_at: entry.put_at(),
             };
@@ -252,6 +263,7 @@ impl<T, S: Storage<T>> SessionTable<T, S> {
         ensures left { (e : Entry T) → keeps self.old id e ≡ false →
             shown_in self.new e ≡ shown_in self.old e }
         ensures put { (e : Entry T) → WasPut self.old e → WasPut self.new e }
+        ensures ticket { self.new.state.next ≡ self.old.state.next }
         ensures none { IsFalse result → self.new ≡ self.old }
     {
         let Some(row) = row_of(&self.rows, id) else {
@@ -271,6 +283,7 @@ impl<T, S: Storage<T>> SessionTable<T, S> {
             among s.entries (name_of (pointer_in e)) ≡ false →
             shown_in self.new e ≡ shown_in self.old e }
         ensures put { (e : Entry T) → WasPut self.old e → WasPut self.new e }
+        ensures ticket { self.new.state.next ≡ self.old.state.next }
         ensures orderly { IsOrderly self.old }
     {
         let Session {
@@ -299,6 +312,7 @@ impl<T, S: Storage<T>> SessionTable<T, S> {
         ensures kept { (id : ℕ) (e : Entry T) → keeps self.old id e ≡ true →
             has_session self.new id ≡ true → shown_in self.new e ≡ shown_in self.old e }
         ensures put { (e : Entry T) → WasPut self.old e → WasPut self.new e }
+        ensures ticket { self.new.state.next ≡ self.old.state.next }
     {
         let count = self.rows.len();
         let mut row = count;
@@ -346,7 +360,15 @@ impl<T, S: Storage<T>> SessionTable<T, S> {
     pub fn has(&self, id: u64) -> bool
         ensures { result ≡ has_session self.now id }
     {
-        row_of(&self.rows, id).is_some()
+        self.session(id).is_some()
+    }
+
+    /// The session of an id, if it has one. Takes no memory, and is O(n) for n sessions.
+    pub fn session(&self, id: u64) -> Option<&Session>
+        ensures { option_map (live_session self.now.state) (option_copied result)
+            ≡ session_in self.now.sessions id }
+    {
+        session_of(&self.rows, id)
     }
 
     /// How many sessions there are. Takes no memory, and is O(1).

@@ -7,6 +7,7 @@ use Rattle.session_table.specs.Entries.{pointer_in}
 use Rattle.session_table.proofs.Calls.{ended_entries, ended_others, ended_rows, ended_sessions}
 use Rattle.session_table.proofs.Rows.{kept_orderly, row_held, row_within}
 use Rattle.session_table.proofs.Lists.{stands_at}
+use Rattle.session_table.proofs.Storing.{release_next}
 use Rattle.session_table.proofs.table.SessionTable.end_row.Goals as goal
 
 pub unreachable-requires : goal.unreachable-requires
@@ -47,3 +48,6 @@ returns-clause-left g c =
 
 pub returns-clause-orderly : goal.returns-clause-orderly
 returns-clause-orderly g c = rw (← c.self.view_is) (kept_orderly _ _ c.self.invariant)
+
+pub returns-clause-ticket : goal.returns-clause-ticket
+returns-clause-ticket g c = rw (← c.self.view_is) (release_next _ _ _ _ c.in-Ok.ensures.step)

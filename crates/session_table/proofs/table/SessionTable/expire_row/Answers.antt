@@ -11,7 +11,7 @@ returns-then-index-before g c first e =
     (row_within _ _ _ c.self.view_is c.requires.within) c.index.ensures in
     let at = row_live _ _ c.self.invariant _ _ c.self.view_is row in
     expires_old e _ at (ap not (lt-ltb _ _ c.if-index-before.true)) c.end_row.ensures.sessions
-    (λ x. c.end_row.ensures.left _ x at) c.end_row.ensures.put
+    (λ x. c.end_row.ensures.left _ x at) c.end_row.ensures.put c.end_row.ensures.ticket
 
 pub returns-else-index-before : goal.returns-else-index-before
 returns-else-index-before g c first e =

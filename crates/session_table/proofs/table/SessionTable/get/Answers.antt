@@ -1,39 +1,31 @@
-use Rattle.std.proofs.Common.{Ok, Err, inl, inr, map, sym, ap, subst, ◌∙◌}
-use Rattle.std.proofs.lemmas.Bool.{true≢false}
+use Rattle.std.proofs.Common.{Ok, Err, inr, map, sym, ap, subst, ◌∙◌}
 use Rattle.std.specs.Prelude.{is_some}
 use Rattle.generational_core.proofs.machine.Calling.{reads_back}
 use Rattle.generational_core.proofs.machine.Guarding.{opens_value, read_leaves}
 use Rattle.generational_core.proofs.machine.Refusing.{refused_free_read}
-use Rattle.generational_core.proofs.machine.Resting.{free_reads}
+use Rattle.generational_core.proofs.machine.Unborrowed.{quiet_sees, test_sees}
 use Rattle.generational_sessions.proofs.callers.Lacking.{free_read_lacks}
 use Rattle.session_table.specs.declared.entry.EntryError.TheVariants as error
 use Rattle.session_table.specs.Keeping.{IsKept, key_of}
-use Rattle.session_table.specs.Tables.{table_of}
+use Rattle.session_table.specs.Tables.{TableState, shown_in, table_of}
 use Rattle.session_table.proofs.Keeping.{ticket_kept}
-use Rattle.session_table.proofs.Storing.{free_seen, stuck_unseen}
 use Rattle.session_table.proofs.table.SessionTable.get.Goals as goal
 
-pub returns-then-not-can_write-clause-short : goal.returns-then-not-can_write-clause-short
-returns-then-not-can_write-clause-short g c = rw (← c.self.view_is)
-    (inl (stuck_unseen _ (g.met.S.AnyStorage.sound _) c.self.invariant.unborrowed _
-    c.can_write.ensures c.if-not-can_write.true))
-
 pub read-requires : goal.read-requires
-read-requires g c = free_reads _ _ (sym c.can_write.ensures ∙ c.if-not-can_write.false)
+read-requires g c = test_sees _ _ (g.met.S.AnyStorage.sound _)
+    ∙ (ap (λ (t : TableState _). is_some (shown_in t c.args.entry)) c.self.view_is
+    ∙ (sym c.shows.ensures ∙ c.if-not-shows.false))
 
 pub invariant_of-self : goal.invariant_of-self
 invariant_of-self g c = subst (λ S. IsKept S (map key_of c.self.inside.rows.items))
     (sym (refused_free_read _ (Err c.in-Err.cause) c.in-Err.ensures)) c.self.invariant
 
-pub returns-in-Err-clause-stale : goal.returns-in-Err-clause-stale
-returns-in-Err-clause-stale g c = rw (← c.self.view_is) (λ none.
-    absurd (true≢false (sym (free_seen _ (g.met.S.AnyStorage.sound _) c.self.invariant.unborrowed _
-    c.can_write.ensures c.if-not-can_write.false) ∙ ap is_some none)))
-
 pub returns-in-Err-clause-short : goal.returns-in-Err-clause-short
 returns-in-Err-clause-short g c =
-    let lacks = free_read_lacks _ _ _ (sym c.can_write.ensures ∙ c.if-not-can_write.false)
-    c.in-Err.ensures in
+    let free = quiet_sees _ c.self.invariant.unborrowed _ (g.met.S.AnyStorage.sound _)
+    ∙ (ap (λ (t : TableState _). is_some (shown_in t c.args.entry)) c.self.view_is
+    ∙ (sym c.shows.ensures ∙ c.if-not-shows.false)) in
+    let lacks = free_read_lacks _ _ _ free c.in-Err.ensures in
     rw (← c.self.view_is) (inr (ap error.Store lacks.0, lacks.1))
 
 pub unreachable-requires : goal.unreachable-requires
@@ -60,8 +52,3 @@ pub returns-clause-ticket : goal.returns-clause-ticket
 returns-clause-ticket g c = rw (← c.self.view_is)
     (ap (λ S. table_of S c.self.inside.rows.items) (reads_back _ _ c.in-Ok.guard _
     (g.met.S.AnyStorage.sound _) c.in-Ok.ensures c.release.ensures))
-
-pub returns-clause-stale : goal.returns-clause-stale
-returns-clause-stale g c = rw (← c.self.view_is) (λ none.
-    absurd (true≢false (sym (free_seen _ (g.met.S.AnyStorage.sound _) c.self.invariant.unborrowed _
-    c.can_write.ensures c.if-not-can_write.false) ∙ ap is_some none)))

@@ -4,6 +4,7 @@ use Rattle.session_table.specs.Sessions.{session_in}
 use Rattle.session_table.specs.Tables.{TableState, has_session}
 use Rattle.session_table.proofs.Calls.{login_rows, login_sessions}
 use Rattle.session_table.proofs.Sessions.{others_pushed}
+use Rattle.session_table.proofs.Storing.{owner_next}
 use Rattle.session_table.proofs.table.SessionTable.login.Goals as goal
 
 pub invariant_of-self-2 : goal.invariant_of-self-2
@@ -26,3 +27,6 @@ returns-clause-others g c other ne =
 pub returns-clause-shown : goal.returns-clause-shown
 returns-clause-shown g c e = rw (← c.self.view_is)
     (same_value _ _ _ _ (g.met.S.AnyStorage.sound _) c.in-Ok.ensures _ tt tt)
+
+pub returns-clause-ticket : goal.returns-clause-ticket
+returns-clause-ticket g c = rw (← c.self.view_is) (owner_next _ _ _ c.in-Ok.ensures)

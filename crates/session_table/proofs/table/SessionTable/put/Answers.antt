@@ -12,7 +12,7 @@ use Rattle.session_table.specs.Sessions.{LiveSession, session_in}
 use Rattle.session_table.specs.Tables.{TableState, WasPut}
 use Rattle.session_table.proofs.Calls.{put_keeps, put_rows, put_sessions, put_still_keeps}
 use Rattle.session_table.proofs.Rows.{found_row, no_session, row_held, row_session}
-use Rattle.session_table.proofs.Storing.{others_left}
+use Rattle.session_table.proofs.Storing.{others_left, put_next}
 use Rattle.session_table.proofs.Sessions.{others_put}
 use Rattle.session_table.proofs.table.SessionTable.put.Goals as goal
 
@@ -93,3 +93,6 @@ returns-clause-put g c f = rw (← c.self.view_is) (meets_given _ _ _ _ c.in-Ok.
 
 pub returns-clause-given : goal.returns-clause-given
 returns-clause-given g c = (made_new _ _ _ _ c.in-Ok.ensures.step).2
+
+pub returns-clause-ticket : goal.returns-clause-ticket
+returns-clause-ticket g c = rw (← c.self.view_is) (put_next _ _ _ _ _ _ c.in-Ok.ensures.step)

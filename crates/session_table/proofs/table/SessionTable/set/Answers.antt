@@ -1,22 +1,21 @@
 use Rattle.std.proofs.Common.{sym, ap, refl, ◌∙◌}
-use Rattle.std.proofs.lemmas.Bool.{true≢false}
 use Rattle.std.specs.Prelude.{is_some}
 use Rattle.generational_core.proofs.machine.Calling.{seen_reached, sets}
 use Rattle.generational_core.proofs.machine.Leaving.{same_value}
 use Rattle.generational_core.proofs.machine.Stepping.{meets_given}
 use Rattle.generational_sessions.proofs.callers.PlainStores.{reach_apart}
+use Rattle.generational_core.proofs.machine.Unborrowed.{quiet_sees}
 use Rattle.session_table.specs.Entries.{pointer_in}
+use Rattle.session_table.specs.Tables.{TableState, shown_in}
 use Rattle.session_table.proofs.Keeping.{set_kept, set_owner}
 use Rattle.session_table.proofs.Rows.{sessions_same}
-use Rattle.session_table.proofs.Storing.{free_seen, others_left, seen_store, stuck_unseen}
+use Rattle.session_table.proofs.Storing.{others_left, seen_store, set_next}
 use Rattle.session_table.proofs.table.SessionTable.set.Goals as goal
 
-pub returns-then-not-can_write-clause-stale : goal.returns-then-not-can_write-clause-stale
-returns-then-not-can_write-clause-stale g c = rw (← c.self.view_is) (
-  λ _. stuck_unseen _ (g.met.S.AnyStorage.sound _) c.self.invariant.unborrowed _ c.can_write.ensures
-      c.if-not-can_write.true,
-  λ _. refl,
-)
+pub set-requires : goal.set-requires
+set-requires g c = quiet_sees _ c.self.invariant.unborrowed _ (g.met.S.AnyStorage.sound _)
+    ∙ (ap (λ (t : TableState _). is_some (shown_in t c.args.entry)) c.self.view_is
+    ∙ (sym c.shows.ensures ∙ c.if-not-shows.false))
 
 pub invariant_of-self : goal.invariant_of-self
 invariant_of-self g c = set_kept _ _ (g.met.S.AnyStorage.sound _) c.self.invariant _ _ _ c.set.ensures.1
@@ -42,9 +41,5 @@ returns-clause-sessions g c = rw (← c.self.view_is) (sessions_same (g.S.AnySto
 pub returns-clause-put : goal.returns-clause-put
 returns-clause-put g c f = rw (← c.self.view_is) (meets_given _ _ _ _ c.set.ensures.1 _)
 
-pub returns-clause-stale : goal.returns-clause-stale
-returns-clause-stale g c = rw (← c.self.view_is) (
-  λ e. absurd (true≢false (sym e)),
-  λ none. absurd (true≢false (sym (free_seen _ (g.met.S.AnyStorage.sound _) c.self.invariant.unborrowed
-      _ c.can_write.ensures c.if-not-can_write.false) ∙ ap is_some none)),
-)
+pub returns-clause-ticket : goal.returns-clause-ticket
+returns-clause-ticket g c = rw (← c.self.view_is) (set_next _ _ _ _ _ c.set.ensures.1)
