@@ -1,5 +1,5 @@
 -- What a caller sees of rows after each call.
-use Rattle.std.proofs.Common.{◌≡◌, ℕ, zero, suc, true, false, List, [], ◌∷◌, ◌++◌, ◌≤◌, map, length}
+use Rattle.std.proofs.Common.{◌≡◌, ◌≢◌, ℕ, zero, suc, true, false, List, [], ◌∷◌, ◌++◌, ◌≤◌, map, length}
 use Rattle.std.proofs.Common.{None, Some, Ok, refl, sym, ap, subst, ◌∙◌, inl, inr, arith}
 use Rattle.std.specs.Prelude.{◌⊎◌, slice_get, slice_set, remove, option_map}
 use Rattle.std.proofs.lemmas.List.{map-append}
@@ -22,14 +22,15 @@ use Rattle.session_table.specs.declared.entry.Entry.{Entry}
 use Rattle.session_table.specs.declared.session.Session.{Session}
 use Rattle.session_table.specs.Entries.{pointer_in}
 use Rattle.session_table.specs.Keeping.{Key, key_of, StandsIn, AreApart, IsKept}
-use Rattle.session_table.specs.Sessions.{LiveSession, put_in, touch_in}
+use Rattle.session_table.specs.Sessions.{LiveSession, put_in, session_in, touch_in}
 use Rattle.session_table.specs.Tables.{TableState, live_session, table_of, keeps, has_session}
 use Rattle.session_table.proofs.Keys.{AreTwo, one_or_two}
 use Rattle.session_table.proofs.Lists.{map_after, map_removed}
 use Rattle.session_table.proofs.Lists.{stands_at, stands_map}
-use Rattle.session_table.proofs.Sessions.{put_beside, put_here, touch_beside, touch_here}
-use Rattle.session_table.proofs.Keeping.{ended_kept, ended_left, ended_other, ended_shows, login_kept, owner_still, put_kept, put_listed, put_new, put_other, put_still}
+use Rattle.session_table.proofs.Sessions.{others_put, others_touched, own_put, own_touched, put_beside, put_here, touch_beside, touch_here}
+use Rattle.session_table.proofs.Keeping.{ended_kept, ended_left, ended_other, ended_shows, login_kept, owner_still, put_kept, put_listed, put_new, put_only, put_other, put_still}
 use Rattle.session_table.proofs.Rows.{keeps_lists, lists_keeps, sessions_same, unused}
+use Rattle.std.proofs.lemmas.Bool.{false_from_ne_true, true≢false}
 
 module _ {T : Type 0} where
   -- ---- the rows after each call
@@ -62,6 +63,21 @@ module _ {T : Type 0} where
       (apart.0 (key_of x) (stands_map key_of rows x (stands_at rows i x at))).0))
       ∙ ap (λ ls. touch_in x.id time (live_session S y) ∷ ls)
       (touched_sessions S rows i time x apart.1 at)
+
+  pub touched_own : (S : State T) (rows : List Session) (i time : ℕ) (x : Session)
+      → AreApart (map key_of rows) → slice_get rows i ≡ Some x
+      → session_in (map (live_session S) (slice_set rows i (record x { used_at = time }))) x.id
+      ≡ option_map (touch_in x.id time) (session_in (map (live_session S) rows) x.id)
+  touched_own S rows i time x apart at = ap (λ xs. session_in xs x.id) (touched_sessions S rows i time x apart at)
+      ∙ own_touched x.id time (map (live_session S) rows)
+
+  pub touched_others : (S : State T) (rows : List Session) (i time : ℕ) (x : Session)
+      → AreApart (map key_of rows) → slice_get rows i ≡ Some x → (one : ℕ) → x.id ≢ one
+      → session_in (map (live_session S) (slice_set rows i (record x { used_at = time }))) one
+      ≡ session_in (map (live_session S) rows) one
+  touched_others S rows i time x apart at one ne =
+      ap (λ xs. session_in xs one) (touched_sessions S rows i time x apart at)
+      ∙ others_touched x.id time (map (live_session S) rows) one ne
 
   module _ (S R : State T) (s : IsSound S) (rows : List Session) (k : IsKept S (map key_of rows)) where
     -- a login
@@ -116,6 +132,16 @@ module _ {T : Type 0} where
               (stands_map key_of rows y at) two.1)
               ∙ sym (put_beside x.id n (live_session S y) (λ e. two.0 (sym e)))
 
+      pub put_own : session_in (map (live_session R) rows) x.id
+          ≡ option_map (put_in x.id (name_of (pointer_of a))) (session_in (map (live_session S) rows) x.id)
+      put_own = ap (λ xs. session_in xs x.id) put_sessions
+          ∙ own_put x.id (name_of (pointer_of a)) (map (live_session S) rows)
+
+      pub put_others : (one : ℕ) → x.id ≢ one
+          → session_in (map (live_session R) rows) one ≡ session_in (map (live_session S) rows) one
+      put_others one ne = ap (λ xs. session_in xs one) put_sessions
+          ∙ others_put x.id (name_of (pointer_of a)) (map (live_session S) rows) one ne
+
       -- its session keeps it, and what was kept is
       pub put_keeps : (e : Entry T) → name_of (pointer_of a) ≡ name_of (pointer_in e)
           → keeps (table_of R rows) x.id e ≡ true
@@ -129,6 +155,15 @@ module _ {T : Type 0} where
           subst (λ n. keeps (table_of R rows) n e ≡ true) row.2
           (lists_keeps R rows put_rows row.0 e row.1 (put_still S R s k (key_of x) key_there v l a m
           (key_of row.0) (stands_map key_of rows row.0 row.1) (pointer_in e) row.3))
+
+      -- and no more
+      pub put_unkept : (id : ℕ) (e : Entry T) → name_of (pointer_of a) ≢ name_of (pointer_in e)
+          → keeps (table_of S rows) id e ≡ false → keeps (table_of R rows) id e ≡ false
+      put_unkept id e ne out = false_from_ne_true _ (λ now.
+          let row = keeps_lists R rows put_rows id e now in
+          true≢false (sym (subst (λ n. keeps (table_of S rows) n e ≡ true) row.2
+          (lists_keeps S rows k row.0 e row.1 (put_only S R s k (key_of x) key_there v l a m
+          (key_of row.0) (stands_map key_of rows row.0 row.1) (pointer_in e) ne row.3))) ∙ out))
 
     -- the end of a row's session
     module _ (i : ℕ) (x : Session) (at : slice_get rows i ≡ Some x)

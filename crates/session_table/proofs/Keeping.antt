@@ -4,7 +4,7 @@ use Rattle.std.proofs.Common.{Option, None, Some, Ok, refl, sym, ap, subst, ◌�
 use Rattle.std.specs.Prelude.{◌⊎◌, nat_eq, slice_get, remove}
 use Rattle.std.specs.FinMap as map
 use Rattle.std.specs.Ordering.{nat_cmp}
-use Rattle.std.proofs.lemmas.Bool.{true≢false, cases_Bool}
+use Rattle.std.proofs.lemmas.Bool.{true≢false, cases_Bool, or_cases}
 use Rattle.std.proofs.lemmas.List.Folds.{list_any-append}
 use Rattle.generational_core.specs.Answers.{pointer_of}
 use Rattle.generational_core.specs.Borrowing.{reach, leads_to, take_ticket}
@@ -28,7 +28,7 @@ use Rattle.generational_core.proofs.machine.Owning.{keeps_known, keeps_record, u
 use Rattle.generational_core.proofs.machine.Releasing.{last_record}
 use Rattle.generational_core.proofs.machine.Seeing.{reaches}
 use Rattle.generational_core.proofs.machine.Unborrowed.{quiet_fresh, quiet_stays}
-use Rattle.generational_core.proofs.maps.Maps.{by_number, key_cases, name_cases}
+use Rattle.generational_core.proofs.maps.Maps.{by_number, key_cases, name_cases, name_same}
 use Rattle.generational_sessions.proofs.callers.ListedOnce.{fresh_listed, stays_listed}
 use Rattle.generational_sessions.proofs.callers.PlainStores.{fresh_plain, stays_plain}
 use Rattle.session_table.specs.Keeping.{Key, StandsIn, Lists, IsHeld, IsKept}
@@ -178,6 +178,26 @@ module _ {T : Type 0} where
           listed : x ≡ y → among (k.held x there).0 (name_of b) ≡ true
           listed is = ap (λ h. among (names_in h) (name_of b)) (sym (k.held x there).1)
               ∙ subst (λ (z : Key). Lists S z.owner b) (sym is) was
+
+      -- nothing else is but the new name
+      pub put_only : (y : Key) → StandsIn y keys → (b : GenerationalPointer)
+          → name_of (pointer_of a) ≢ name_of b → Lists R y.owner b → Lists S y.owner b
+      put_only y at b ne now = ⊎_elim
+          (λ is. subst (λ (z : Key). Lists S z.owner b) is
+          (ap (λ h. among (names_in h) (name_of b)) (k.held x there).1 ∙ listed is))
+          (λ two. lists_same R S _ b (sym (put_other y at two.1)) now)
+          (one_or_two keys k.apart x y there at)
+        where
+          among_all : x ≡ y → among ((k.held x there).0 ++ name_of (pointer_of a) ∷ []) (name_of b) ≡ true
+          among_all is = ap (λ h. among (names_in h) (name_of b)) (sym put_listed)
+              ∙ subst (λ (z : Key). Lists R z.owner b) (sym is) now
+
+          listed : x ≡ y → among (k.held x there).0 (name_of b) ≡ true
+          listed is = ⊎_elim (λ old. old)
+              (λ new. ⊎_elim (λ same. absurd (ne (sym (name_same (name_of b) (name_of (pointer_of a)) same))))
+              (λ none. absurd (true≢false (sym none))) (or_cases _ _ new))
+              (or_cases _ _ (sym (list_any-append (is_name (name_of b)) (k.held x there).0
+              (name_of (pointer_of a) ∷ [])) ∙ among_all is))
 
       -- and the new name
       pub put_new : (b : GenerationalPointer) → name_of (pointer_of a) ≡ name_of b

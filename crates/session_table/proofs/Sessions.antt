@@ -1,11 +1,11 @@
 -- Sessions as a caller sees them: which an id has after each call.
 use Rattle.std.proofs.Common.{◌≡◌, ◌≢◌, ℕ, zero, suc, Bool, true, false, cond, not, List, [], ◌∷◌, ◌++◌, map}
 use Rattle.std.proofs.Common.{Option, None, Some, inl, inr, refl, sym, ap, ◌∙◌, ⊎_elim}
-use Rattle.std.specs.Prelude.{nat_eq, slice_get, remove, filter}
+use Rattle.std.specs.Prelude.{nat_eq, slice_get, remove, filter, option_map, is_some}
 use Rattle.std.specs.List.{AllByRecursion, IsDistinct}
 use Rattle.std.specs.Option.{option_or}
 use Rattle.std.specs.Cmp.{nat_eq_equiv}
-use Rattle.std.proofs.lemmas.Bool.{true≢false, eq-eqb, eqb-true, ne_eqb}
+use Rattle.std.proofs.lemmas.Bool.{true≢false, eq-eqb, eqb-false, eqb-true, ne_eqb}
 use Rattle.std.proofs.lemmas.List.Folds.{find-append}
 use Rattle.std.proofs.lemmas.Map.Keys.{IsDistinct-head, IsDistinct-tail}
 use Rattle.std.proofs.lemmas.Option.{none-some, same_Some}
@@ -97,6 +97,22 @@ others_pushed xs s one ne = find-append (is_of one) xs (s ∷ [])
     none None = refl
     none (Some x) = refl
 
+pub own_pushed : (xs : List LiveSession) (s : LiveSession) → session_in xs s.id ≡ None
+    → session_in (xs ++ s ∷ []) s.id ≡ Some s
+own_pushed xs s none = find-append (is_of s.id) xs (s ∷ [])
+    ∙ (ap (λ o. option_or o (session_in (s ∷ []) s.id)) none
+    ∙ ap (λ b. cond b (Some s) None) (nat_eq_equiv.refl s.id))
+
+pub own_filtered : (id : ℕ) (xs : List LiveSession) → session_in (filter (is_other id) xs) id ≡ None
+own_filtered id [] = refl
+own_filtered id (x ∷ xs) = at (nat_eq x.id id) refl (own_filtered id xs)
+  where
+    at : (b : Bool) → nat_eq x.id id ≡ b → session_in (filter (is_other id) xs) id ≡ None
+        → session_in (cond (not b) (x ∷ filter (is_other id) xs) (filter (is_other id) xs)) id ≡ None
+    at true is rest = rest
+    at false is rest =
+        ap (λ b. cond b (Some x) (session_in (filter (is_other id) xs) id)) is ∙ rest
+
 -- and where that of an id has changed, which keeps its id
 others_changed : (id : ℕ) (f : LiveSession → LiveSession)
     → ((x : LiveSession) → x.id ≡ id → (f x).id ≡ x.id)
@@ -142,7 +158,31 @@ touch_here id time x is = ap (λ b. cond b (record x { used_at = time }) x) (eq-
 pub touch_beside : (id time : ℕ) (x : LiveSession) → x.id ≢ id → touch_in id time x ≡ x
 touch_beside id time x ne = ap (λ b. cond b (record x { used_at = time }) x) (ne_eqb x.id id ne)
 
--- each leaves the sessions of other ids
+-- each changes the session of its id
+own_changed : (id : ℕ) (f : LiveSession → LiveSession)
+    → ((x : LiveSession) → x.id ≡ id → (f x).id ≡ x.id) → ((x : LiveSession) → x.id ≢ id → f x ≡ x)
+    → (xs : List LiveSession) → session_in (map f xs) id ≡ option_map f (session_in xs id)
+own_changed id f same left [] = refl
+own_changed id f same left (x ∷ xs) = at (nat_eq x.id id) refl (own_changed id f same left xs)
+  where
+    at : (b : Bool) → nat_eq x.id id ≡ b → session_in (map f xs) id ≡ option_map f (session_in xs id)
+        → session_in (f x ∷ map f xs) id ≡ option_map f (cond b (Some x) (session_in xs id))
+    at true is rest = ap (λ b. cond b (Some (f x)) (session_in (map f xs) id))
+        (ap (λ n. nat_eq n id) (same x (eqb-true x.id id is)) ∙ is)
+    at false is rest = ap (λ b. cond b (Some (f x)) (session_in (map f xs) id))
+        (ap (λ (y : LiveSession). nat_eq y.id id) (left x (eqb-false x.id id is)) ∙ is) ∙ rest
+
+pub own_put : (id : ℕ) (n : Name) (xs : List LiveSession)
+    → session_in (map (put_in id n) xs) id ≡ option_map (put_in id n) (session_in xs id)
+own_put id n = own_changed id (put_in id n)
+    (λ x is. ap (λ (y : LiveSession). y.id) (put_here id n x is)) (put_beside id n)
+
+pub own_touched : (id time : ℕ) (xs : List LiveSession)
+    → session_in (map (touch_in id time) xs) id ≡ option_map (touch_in id time) (session_in xs id)
+own_touched id time = own_changed id (touch_in id time)
+    (λ x is. ap (λ (y : LiveSession). y.id) (touch_here id time x is)) (touch_beside id time)
+
+-- and leaves those of other ids
 pub others_put : (id : ℕ) (n : Name) (xs : List LiveSession) (one : ℕ) → id ≢ one
     → session_in (map (put_in id n) xs) one ≡ session_in xs one
 others_put id n = others_changed id (put_in id n)
@@ -194,3 +234,12 @@ young_filtered time (x ∷ xs) id once = at (is_young time x) refl (nat_eq x.id 
     at false old true is rest = rest ∙ (ap (if_young time) (gone is _ refl)
         ∙ sym (ap (λ b. cond b (Some x) None) old))
     at false old false is rest = rest
+
+-- an id without a session has none
+pub no_such : (xs : List LiveSession) (id : ℕ) → is_some (session_in xs id) ≡ false
+    → session_in xs id ≡ None
+no_such xs id none = at (session_in xs id) refl
+  where
+    at : (o : Option LiveSession) → session_in xs id ≡ o → session_in xs id ≡ None
+    at None is = is
+    at (Some s) is = absurd (true≢false (sym (ap is_some is) ∙ none))

@@ -5,7 +5,7 @@ use Rattle.std.proofs.lemmas.Bool.{true≢false}
 use Rattle.generational_core.specs.Boxes.{name_of}
 use Rattle.generational_core.specs.Machine.{Action, Answer}
 use Rattle.generational_core.specs.Seeing.{value_in}
-use Rattle.generational_core.specs.State.{State, IsSound}
+use Rattle.generational_core.specs.State.{State, IsGiven, IsSound}
 use Rattle.generational_core.specs.Steps.{Meets}
 use Rattle.generational_core.specs.declared.boxes.GenerationalPointer.{GenerationalPointer}
 use Rattle.generational_core.proofs.machine.Calling.{seen_reached}
@@ -21,7 +21,11 @@ use Rattle.generational_core.specs.Ending.{hindrance_to}
 use Rattle.generational_core.specs.Machine.{Outcome, OwnerName, cell_at, is_known, ownership, release_owner}
 use Rattle.generational_core.specs.Machine.{set_at, unless}
 use Rattle.generational_core.specs.Machine.Action.{Make, NewOwner, ReleaseOwner, SetValue}
-use Rattle.generational_core.specs.Machine.Answer.{Owned}
+use Rattle.generational_core.specs.Answers.{pointer_of}
+use Rattle.generational_core.specs.Machine.Answer.{Made, Owned}
+use Rattle.generational_core.specs.declared.boxes.GenerationalBox.{GenerationalBox}
+use Rattle.generational_core.proofs.machine.Leaving.{given_other, same_value}
+use Rattle.generational_core.proofs.machine.Stepping.{made_new}
 use Rattle.generational_core.specs.Names.{Name}
 use Rattle.generational_core.specs.State.{Ownership}
 use Rattle.generational_core.specs.declared.error.Location.{Location}
@@ -61,6 +65,23 @@ module _ {T : Type 0} where
       (λ store. apart (store ∙ meets_number S R call answer m))
       ∙ sym (foreign S b s apart))
       left (name_cases (name_of a) (name_of b))
+
+  -- so what another box shows a put leaves
+  pub put_beside_others : (S R : State T) → IsSound S → (o : Option OwnerName) (v : T) (l : Location)
+      (a : GenerationalBox T) → Meets S (Make o v l) (Made (pointer_of a)) R
+      → (b : GenerationalPointer) → (pointer_of a).id ≢ b.id → value_in R b ≡ value_in S b
+  put_beside_others S R s o v l a m b other =
+      let answer : Answer T = Made (pointer_of a) in
+      others_left S R (Make o v l) answer s m (pointer_of a) b
+      (made_new S R (Make o v l) (pointer_of a) m).0
+      (same_value S R (Make o v l) answer s m b tt) other
+
+  pub put_given_others : (S R : State T) → IsSound S → (o : Option OwnerName) (v : T) (l : Location)
+      (a : GenerationalBox T) → Meets S (Make o v l) (Made (pointer_of a)) R
+      → (b : GenerationalPointer) → IsGiven S (name_of b) → value_in R b ≡ value_in S b
+  put_given_others S R s o v l a m b given =
+      let answer : Answer T = Made (pointer_of a) in
+      same_value S R (Make o v l) answer s m b tt (given_other S R (Make o v l) answer b m given)
 
   -- ---- tickets
 

@@ -81,6 +81,8 @@ impl<T, S: Storage<T>> SessionTable<T, S> {
     pub fn login(&mut self, id: u64, now: u64) -> Result<(), LoginError>
         ensures sessions { OnOk result (self.new.sessions ≡ self.old.sessions
             ++ record { id = id; used_at = now; entries = [] } ∷ []) }
+        ensures opened { OnOk result (session_in self.new.sessions id
+            ≡ Some (record { id = id; used_at = now; entries = [] })) }
         ensures others { (other : ℕ) → id ≢ other →
             session_in self.new.sessions other ≡ session_in self.old.sessions other }
         ensures shown { (e : Entry T) → shown_in self.new e ≡ shown_in self.old e }
@@ -120,6 +122,8 @@ impl<T, S: Storage<T>> SessionTable<T, S> {
         ensures kept { IfOk result (λ e. keeps self.new id e ≡ true) }
         ensures sessions { IfOk result (λ e. self.new.sessions
             ≡ list_map (put_in id (name_of (pointer_in e))) self.old.sessions) }
+        ensures grown { IfOk result (λ e. session_in self.new.sessions id ≡ option_map
+            (put_in id (name_of (pointer_in e))) (session_in self.old.sessions id)) }
         ensures others { (other : ℕ) → id ≢ other →
             session_in self.new.sessions other ≡ session_in self.old.sessions other }
         ensures beside { IfOk result (λ e. (f : Entry T) → IsOther e f →
@@ -128,6 +132,8 @@ impl<T, S: Storage<T>> SessionTable<T, S> {
             shown_in self.new f ≡ shown_in self.old f }
         ensures still { (other : ℕ) (f : Entry T) → keeps self.old other f ≡ true →
             keeps self.new other f ≡ true }
+        ensures unkept { (other : ℕ) (f : Entry T) → WasPut self.old f →
+            keeps self.old other f ≡ false → keeps self.new other f ≡ false }
         ensures new { IfOk result (λ e. WasPut self.old e → ⊥) }
         ensures here { IfOk result (λ e. put_at e ≡ here) }
         ensures put { (f : Entry T) → WasPut self.old f → WasPut self.new f }
@@ -235,6 +241,8 @@ impl<T, S: Storage<T>> SessionTable<T, S> {
     pub fn touch(&mut self, id: u64, now: u64) -> bool
         ensures had { result ≡ has_session self.old id }
         ensures sessions { self.new.sessions ≡ list_map (touch_in id now) self.old.sessions }
+        ensures used { session_in self.new.sessions id
+            ≡ option_map (touch_in id now) (session_in self.old.sessions id) }
         ensures others { (other : ℕ) → id ≢ other →
             session_in self.new.sessions other ≡ session_in self.old.sessions other }
         ensures state { self.new.state ≡ self.old.state }
@@ -255,6 +263,7 @@ impl<T, S: Storage<T>> SessionTable<T, S> {
     pub fn logout(&mut self, id: u64) -> bool
         ensures had { result ≡ has_session self.old id }
         ensures sessions { self.new.sessions ≡ filter (is_other id) self.old.sessions }
+        ensures ended { session_in self.new.sessions id ≡ None }
         ensures gone { (e : Entry T) → keeps self.old id e ≡ true → shown_in self.new e ≡ None }
         ensures others { (other : ℕ) → id ≢ other →
             session_in self.new.sessions other ≡ session_in self.old.sessions other }

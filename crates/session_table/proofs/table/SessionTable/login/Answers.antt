@@ -3,7 +3,7 @@ use Rattle.generational_core.proofs.machine.Leaving.{same_value}
 use Rattle.session_table.specs.Sessions.{session_in}
 use Rattle.session_table.specs.Tables.{TableState, has_session}
 use Rattle.session_table.proofs.Calls.{login_rows, login_sessions}
-use Rattle.session_table.proofs.Sessions.{others_pushed}
+use Rattle.session_table.proofs.Sessions.{no_such, others_pushed, own_pushed}
 use Rattle.session_table.proofs.Storing.{owner_next}
 use Rattle.session_table.proofs.table.SessionTable.login.Goals as goal
 
@@ -30,3 +30,11 @@ returns-clause-shown g c e = rw (← c.self.view_is)
 
 pub returns-clause-ticket : goal.returns-clause-ticket
 returns-clause-ticket g c = rw (← c.self.view_is) (owner_next _ _ _ c.in-Ok.ensures)
+
+pub returns-clause-opened : goal.returns-clause-opened
+returns-clause-opened g c = rw (c.push_reserved.ensures.items, c.reserve.ensures.items)
+    (ap (λ xs. session_in xs c.args.id)
+    (login_sessions _ _ (g.met.S.AnyStorage.sound _) _ c.self.invariant _ c.in-Ok.ensures)
+    ∙ own_pushed _ _ (no_such _ c.args.id
+    (ap (λ (t : TableState _). has_session t c.args.id) c.self.view_is
+    ∙ (sym c.has.ensures ∙ c.if-has.false))))

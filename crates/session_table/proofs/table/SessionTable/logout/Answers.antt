@@ -7,7 +7,7 @@ use Rattle.generational_core.specs.Names.{among}
 use Rattle.session_table.specs.Entries.{pointer_in}
 use Rattle.session_table.specs.Sessions.{LiveSession, entries_of, session_in}
 use Rattle.session_table.proofs.Rows.{no_session, row_has, row_live}
-use Rattle.session_table.proofs.Sessions.{none_filtered, others_filtered, removed_id, session_at}
+use Rattle.session_table.proofs.Sessions.{none_filtered, others_filtered, own_filtered, removed_id, session_at}
 use Rattle.session_table.proofs.table.SessionTable.logout.Goals as goal
 
 pub returns-in_default-clause-had : goal.returns-in_default-clause-had
@@ -70,3 +70,14 @@ returns-clause-kept g c other e ne kept =
     c.end_row.ensures.left _ e at (ap (λ o. among (entries_of o) (name_of (pointer_in e)))
     (sym (session_at _ _ _ c.args.id c.end_row.ensures.orderly.once at row.2))
     ∙ c.end_row.ensures.orderly.apart other c.args.id e (λ is. ne (sym is)) kept)
+
+pub returns-in_default-clause-ended : goal.returns-in_default-clause-ended
+returns-in_default-clause-ended g c = no_session _ _ c.args.id c.self.view_is c.in_default.ensures.none
+
+pub returns-clause-ended : goal.returns-clause-ended
+returns-clause-ended g c =
+    let row = c.in-Some.ensures.row in
+    let at = row_live _ _ c.self.invariant _ _ c.self.view_is row.1 in
+    ap (λ (xs : List LiveSession). session_in xs c.args.id) (c.end_row.ensures.sessions
+    ∙ removed_id _ _ _ c.args.id c.end_row.ensures.orderly.once at row.2)
+    ∙ own_filtered c.args.id _

@@ -1,19 +1,16 @@
-use Rattle.std.proofs.Common.{◌∙◌, List, Ok, refl, sym, ap, subst, inl, inr}
+use Rattle.std.proofs.Common.{◌∙◌, Ok, refl, sym, ap, subst, inl, inr}
 use Rattle.std.specs.Prelude.{is_some, option_copied}
 use Rattle.std.proofs.lemmas.Bool.{true≢false}
-use Rattle.generational_core.specs.Answers.{pointer_of}
 use Rattle.generational_core.proofs.machine.Calling.{made}
-use Rattle.generational_core.proofs.machine.Leaving.{given_other, same_value}
+use Rattle.generational_core.proofs.machine.Leaving.{given_other}
 use Rattle.generational_core.proofs.machine.Stepping.{made_new, meets_given}
 use Rattle.generational_sessions.proofs.callers.Lacking.{make_lacks}
 use Rattle.session_table.specs.declared.entry.PutError.TheVariants as put
 use Rattle.session_table.specs.Entries.{pointer_in}
-use Rattle.session_table.specs.Sessions.{LiveSession, session_in}
 use Rattle.session_table.specs.Tables.{TableState, WasPut}
-use Rattle.session_table.proofs.Calls.{put_keeps, put_rows, put_sessions, put_still_keeps}
+use Rattle.session_table.proofs.Calls.{put_keeps, put_others, put_own, put_rows, put_sessions, put_still_keeps, put_unkept}
 use Rattle.session_table.proofs.Rows.{found_row, no_session, row_held, row_session}
-use Rattle.session_table.proofs.Storing.{others_left, put_next}
-use Rattle.session_table.proofs.Sessions.{others_put}
+use Rattle.session_table.proofs.Storing.{put_beside_others, put_given_others, put_next}
 use Rattle.session_table.proofs.table.SessionTable.put.Goals as goal
 
 pub returns-in_default-clause-short : goal.returns-in_default-clause-short
@@ -62,24 +59,19 @@ pub returns-clause-others : goal.returns-clause-others
 returns-clause-others g c =
     let row = found_row _ _ c.self.invariant c.args.id _ c.session_of.ensures
     (ap option_copied c.in-Some.is) in
-    rw (← c.self.view_is, ← row.1) (λ other ne.
-    ap (λ (xs : List LiveSession). session_in xs other) (put_sessions _ _
-    (g.met.S.AnyStorage.sound _) _ c.self.invariant _ row.0 _ _ c.in-Ok.raw c.in-Ok.ensures.step)
-    ∙ others_put _ _ _ other ne)
+    rw (← c.self.view_is, ← row.1) (put_others _ _ (g.met.S.AnyStorage.sound _) _ c.self.invariant _
+    row.0 _ _ c.in-Ok.raw c.in-Ok.ensures.step)
 
 pub returns-clause-beside : goal.returns-clause-beside
-returns-clause-beside g c f other =
-    let sound = g.met.S.AnyStorage.sound in
-    let step = c.in-Ok.ensures.step in
-    rw (← c.self.view_is) (others_left _ _ _ _ (sound _) step (pointer_of c.in-Ok.raw) (pointer_in f)
-    (made_new _ _ _ _ step).0 (same_value _ _ _ _ (sound _) step _ tt) other)
+returns-clause-beside g c f other = rw (← c.self.view_is) (put_beside_others
+    (g.S.AnyStorage.state c.self.inside.store) (g.S.AnyStorage.state c.insert.new.store)
+    (g.met.S.AnyStorage.sound c.self.inside.store) _ _ _ c.in-Ok.raw c.in-Ok.ensures.step (pointer_in f) other)
 
 pub returns-clause-left : goal.returns-clause-left
-returns-clause-left g c f given =
-    let step = c.in-Ok.ensures.step in
-    rw (← c.self.view_is) (same_value _ _ _ _ (g.met.S.AnyStorage.sound _) step _ tt
-    (given_other _ _ _ _ (pointer_in f) step
-    (subst (λ (t : TableState _). WasPut t f) (sym c.self.view_is) given)))
+returns-clause-left g c f given = rw (← c.self.view_is) (put_given_others
+    (g.S.AnyStorage.state c.self.inside.store) (g.S.AnyStorage.state c.insert.new.store)
+    (g.met.S.AnyStorage.sound c.self.inside.store) _ _ _ c.in-Ok.raw c.in-Ok.ensures.step (pointer_in f)
+    (subst (λ (t : TableState _). WasPut t f) (sym c.self.view_is) given))
 
 pub returns-clause-still : goal.returns-clause-still
 returns-clause-still g c =
@@ -96,3 +88,19 @@ returns-clause-given g c = (made_new _ _ _ _ c.in-Ok.ensures.step).2
 
 pub returns-clause-ticket : goal.returns-clause-ticket
 returns-clause-ticket g c = rw (← c.self.view_is) (put_next _ _ _ _ _ _ c.in-Ok.ensures.step)
+
+pub returns-clause-grown : goal.returns-clause-grown
+returns-clause-grown g c =
+    let row = found_row _ _ c.self.invariant c.args.id _ c.session_of.ensures
+    (ap option_copied c.in-Some.is) in
+    rw (← c.self.view_is, ← row.1) (put_own _ _ (g.met.S.AnyStorage.sound _) _ c.self.invariant _
+    row.0 _ _ c.in-Ok.raw c.in-Ok.ensures.step)
+
+pub returns-clause-unkept : goal.returns-clause-unkept
+returns-clause-unkept g c =
+    let row = found_row _ _ c.self.invariant c.args.id _ c.session_of.ensures
+    (ap option_copied c.in-Some.is) in
+    rw (← c.self.view_is) (λ other f given. put_unkept _ _ (g.met.S.AnyStorage.sound _) _
+    c.self.invariant _ row.0 _ _ c.in-Ok.raw c.in-Ok.ensures.step other f
+    (given_other (g.S.AnyStorage.state c.self.inside.store) (g.S.AnyStorage.state c.insert.new.store) _ _
+    (pointer_in f) c.in-Ok.ensures.step given))

@@ -1,12 +1,12 @@
-use Rattle.std.proofs.Common.{rules, arith, List, sym, ap, subst, ◌∙◌}
-use Rattle.std.specs.Prelude.{is_some}
+use Rattle.std.proofs.Common.{rules, arith, sym, ap, subst, ◌∙◌}
+use Rattle.std.specs.Prelude.{is_some, option_map}
 use Rattle.std.proofs.Math.Seq.{map-set_same}
 use Rattle.std.proofs.lemmas.Option.{get_or_from_slice_get, slice_get_within}
 use Rattle.session_table.specs.Keeping.{IsKept, key_of}
-use Rattle.session_table.specs.Sessions.{LiveSession, session_in}
-use Rattle.session_table.proofs.Calls.{touched_sessions}
+use Rattle.session_table.specs.Sessions.{touch_in}
+use Rattle.session_table.proofs.Calls.{touched_others, touched_own, touched_sessions}
 use Rattle.session_table.proofs.Rows.{no_session, row_has}
-use Rattle.session_table.proofs.Sessions.{none_touched, others_touched}
+use Rattle.session_table.proofs.Sessions.{none_touched}
 use Rattle.session_table.proofs.table.SessionTable.touch.Goals as goal
 
 pub returns-in_default-clause-had : goal.returns-in_default-clause-had
@@ -38,10 +38,22 @@ returns-clause-sessions g c =
     (touched_sessions (g.S.AnyStorage.state c.self.inside.store) c.self.inside.rows.items c.in-Some.row c.args.now row.0 c.self.invariant.apart row.1)
 
 pub returns-clause-others : goal.returns-clause-others
-returns-clause-others g c other ne =
+returns-clause-others g c =
     let row = c.in-Some.ensures.row in
     let same = c.index_mut.ensures.value ∙ get_or_from_slice_get c.self.inside.rows.items c.in-Some.row _
     c.index_mut.result.now row.1 in
-    rw (← c.self.view_is, same) (ap (λ (xs : List LiveSession). session_in xs other)
-    (touched_sessions (g.S.AnyStorage.state c.self.inside.store) c.self.inside.rows.items c.in-Some.row c.args.now row.0 c.self.invariant.apart row.1)
-    ∙ others_touched row.0.id c.args.now _ other (λ e. ne (sym row.2 ∙ e)))
+    rw (← c.self.view_is, same, ← row.2) (touched_others (g.S.AnyStorage.state c.self.inside.store)
+    c.self.inside.rows.items c.in-Some.row c.args.now row.0 c.self.invariant.apart row.1)
+
+pub returns-in_default-clause-used : goal.returns-in_default-clause-used
+returns-in_default-clause-used g c =
+    let none = no_session _ _ c.args.id c.self.view_is c.in_default.ensures.none in
+    none ∙ sym (ap (option_map (touch_in c.args.id c.args.now)) none)
+
+pub returns-clause-used : goal.returns-clause-used
+returns-clause-used g c =
+    let row = c.in-Some.ensures.row in
+    let same = c.index_mut.ensures.value ∙ get_or_from_slice_get c.self.inside.rows.items c.in-Some.row _
+    c.index_mut.result.now row.1 in
+    rw (← c.self.view_is, same, ← row.2) (touched_own (g.S.AnyStorage.state c.self.inside.store)
+    c.self.inside.rows.items c.in-Some.row c.args.now row.0 c.self.invariant.apart row.1)
