@@ -14,7 +14,7 @@ import re
 import sys
 
 ROOT = pathlib.Path(__file__).resolve().parent.parent
-PAGES = ["docs/CALLING.md", "README.md"]
+PAGES = ["docs/CALLING.md", "docs/sessions.md", "README.md"]
 USES = ["uses", "library_uses"]
 TESTS = ["scenarios", "library_scenarios"]
 SOURCES = [
