@@ -10,23 +10,24 @@ use Rattle.generational_core.specs.Answers.{pointer_of}
 use Rattle.generational_core.specs.Borrowing.{reach, leads_to, take_ticket}
 use Rattle.generational_core.specs.Boxes.{name_of}
 use Rattle.generational_core.specs.Conditions.{fresh, names_in}
-use Rattle.generational_core.specs.Leaving.{IsLeft, LeavesOwner}
+use Rattle.generational_core.specs.Leaving.{GivesOther, IsLeft, LeavesOwner}
 use Rattle.generational_core.specs.Machine.{Action, Answer, OwnerName, ownership}
 use Rattle.generational_core.specs.Machine.Action.{Make, NewOwner, ReleaseOwner, SetValue}
 use Rattle.generational_core.specs.Machine.Answer.{Made, Owned, Done, Old}
 use Rattle.generational_core.specs.Names.{Name, among, is_name, name_cmp}
-use Rattle.generational_core.specs.Seeing.{value_in}
+use Rattle.generational_core.specs.Seeing.{LeavesBox, value_in}
 use Rattle.generational_core.specs.State.{State, IsSound, Ownership}
 use Rattle.generational_core.specs.Steps.{Meets}
 use Rattle.generational_core.specs.declared.boxes.GenerationalBox.{GenerationalBox}
 use Rattle.generational_core.specs.declared.boxes.GenerationalPointer.{GenerationalPointer}
 use Rattle.generational_core.specs.declared.error.Location.{Location}
-use Rattle.generational_core.proofs.machine.Calling.{ends_owned, listed_last, lists, owned, unseen}
+use Rattle.generational_core.proofs.machine.Calling.{ends_owned, listed_last, lists, owned, unseen, made, seen_reached}
 use Rattle.generational_core.proofs.machine.Ends.{none≢some}
 use Rattle.generational_core.proofs.machine.Leaving.{release_leaves, same_reach}
 use Rattle.generational_core.proofs.machine.Owning.{keeps_known, keeps_record, unknown_owner}
 use Rattle.generational_core.proofs.machine.Releasing.{last_record}
 use Rattle.generational_core.proofs.machine.Seeing.{reaches}
+use Rattle.generational_core.proofs.machine.Stepping.{made_new, meets_number}
 use Rattle.generational_core.proofs.machine.Unborrowed.{quiet_fresh, quiet_stays}
 use Rattle.generational_core.proofs.maps.Maps.{by_number, key_cases, name_cases, name_same}
 use Rattle.generational_sessions.proofs.callers.ListedOnce.{fresh_listed, stays_listed}
@@ -69,6 +70,7 @@ module _ {T : Type 0} where
     held = λ k none. absurd none;
     known = λ o h is. absurd (none≢some _ h (fresh_owner T number start next o) is);
     kept = λ b m to. absurd (fresh_reach T number start next b m to);
+    live = λ k none. absurd none;
   }
 
   -- where there are no sessions a box shows nothing
@@ -99,7 +101,16 @@ module _ {T : Type 0} where
     held = k.held;
     known = k.known;
     kept = k.kept;
+    live = k.live;
   }
+
+  -- boxes of one store and name reach the same
+  reach_alike : (S : State T) (a b : GenerationalPointer) → a.id.store ≡ b.id.store
+      → name_of a ≡ name_of b → reach S a ≡ reach S b
+  unfolding reach
+  reach_alike S a b store name =
+      ap (λ n. cond (nat_eq n S.number) (leads_to (map.get S.cells (name_of a)) (name_of a)) None) store
+      ∙ ap (λ n. cond (nat_eq b.id.store S.number) (leads_to (map.get S.cells n) n) None) name
 
   -- ---- what an owner lists
 
@@ -116,6 +127,14 @@ module _ {T : Type 0} where
     owner_still call answer m x there leaves =
         let held = k.held x there in
         keeps_known call answer s m x.owner _ leaves held.1 ∙ sym held.1
+
+    -- what it listed before is left where the call leaves it
+    still_live : (call : Action T) (answer : Answer T) → Meets S call answer R → (x : Key)
+        → StandsIn x keys → (b : GenerationalPointer) → LeavesBox S call b → GivesOther call answer b
+        → Lists S x.owner b → b.id.store ≡ R.number → (n : Name) × (reach R b ≡ Some n)
+    still_live call answer m x there b leaves other listed own =
+        let was = k.live x there b listed (own ∙ meets_number S R call answer m) in
+        (was.0, same_reach S R call answer s m b leaves other ∙ was.1)
 
     held_still : (x : Key) → StandsIn x keys → ownership R x.owner ≡ ownership S x.owner
         → IsHeld R x.owner
@@ -139,6 +158,12 @@ module _ {T : Type 0} where
       kept = λ b n to.
           let was = k.kept b n (sym (same_reach S R NewOwner (Owned o) s m b tt tt) ∙ to) in
           (was.0, stands_old keys new was.0 was.1, lists_same S R _ b (still was.0 was.1) was.2);
+      live = λ x there b listed own. ⊎_elim
+          (λ is. absurd (true≢false (sym listed ∙ ap (λ h. among (names_in h) (name_of b))
+          (ap (λ (y : Key). ownership R y.owner) is ∙ owned (Ok o) m))))
+          (λ old. still_live NewOwner (Owned o) m x old b tt tt
+          (lists_same R S _ b (sym (still x old)) listed) own)
+          (stands_pushed keys new x there);
     }
       where
         new : Key
@@ -220,6 +245,14 @@ module _ {T : Type 0} where
             (λ ne. let was = k.kept b n (sym (same_reach S R call answer s m b tt ne) ∙ to) in
             (was.0, was.1, put_still was.0 was.1 b was.2))
             (name_cases (name_of (pointer_of a)) (name_of b));
+        live = λ y at b listed own. ⊎_elim
+            (λ is. let to = seen_reached R (pointer_of a) v (made (Some x.owner) v l (Ok a) m) in (
+              to.0,
+              reach_alike R b (pointer_of a) (own ∙ sym ((made_new S R call (pointer_of a) m).0
+                  ∙ sym (meets_number S R call answer m))) (sym is) ∙ to.1,
+            ))
+            (λ ne. still_live call answer m y at b tt ne (put_only y at b ne listed) own)
+            (name_cases (name_of (pointer_of a)) (name_of b));
       }
         where
           call : Action T
@@ -246,6 +279,8 @@ module _ {T : Type 0} where
       kept = λ b n to.
           let was = k.kept b n (sym (same_reach S R (SetValue a v) (Old old) s m b tt tt) ∙ to) in
           (was.0, was.1, lists_same S R _ b (set_owner a v old m was.0.owner) was.2);
+      live = λ x there b listed own. still_live (SetValue a v) (Old old) m x there b tt tt
+          (lists_same R S _ b (sym (set_owner a v old m x.owner)) listed) own;
     }
 
     -- ---- a session that ends
@@ -289,6 +324,11 @@ module _ {T : Type 0} where
             (λ was. absurd (none≢some _ n (ended_reach b was) to))
             (λ out. found_still b n to out)
             (cases_Bool (among (names_in (ownership S x.owner)) (name_of b)));
+        live = λ y rest b listed own.
+            let before = lists_same R S _ b (sym (ended_other y rest)) listed in
+            let was = k.live y (removed_old keys i y rest) b before
+            (own ∙ meets_number S R (ReleaseOwner x.owner) Done m) in
+            (was.0, (ended_left b (beside y rest b before)).reached ∙ was.1);
       }
         where
           none : (own : Bool) → cond own (map.get R.owners x.owner.key) None ≡ None
@@ -304,6 +344,15 @@ module _ {T : Type 0} where
               let was = k.known o h (sym (keeps_record (ReleaseOwner x.owner) Done m o ne tt) ∙ is) in
               ⊎_elim (λ same. absurd (ne (ap (λ (z : Key). z.owner) (sym same) ∙ was.2)))
               (λ rest. (was.0, rest, was.2)) (removed_rest keys i x was.0 at was.1)
+
+          beside : (y : Key) → StandsIn y (remove keys i) → (b : GenerationalPointer)
+              → Lists S y.owner b → among (names_in (ownership S x.owner)) (name_of b) ≡ false
+          beside y rest b listed =
+              let also = k.held y (removed_old keys i y rest) in
+              ap (λ h. among (names_in h) (name_of b)) held
+              ∙ k.listed.apart y.owner x.owner _ _ (name_of b)
+              (λ e. (removed_two keys i x y k.apart at rest).1 (sym e)) also.1 held
+              (ap (λ h. among (names_in h) (name_of b)) (sym also.1) ∙ listed)
 
           found_still : (b : GenerationalPointer) (n : Name) → reach R b ≡ Some n
               → among (names_in (ownership S x.owner)) (name_of b) ≡ false

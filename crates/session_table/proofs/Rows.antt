@@ -25,6 +25,9 @@ use Rattle.session_table.proofs.Keys.{one_or_two}
 use Rattle.session_table.proofs.Lists.{find_map, found, map_same}
 use Rattle.session_table.proofs.Lists.{stands_at, stands_map, stands_mapped}
 use Rattle.session_table.proofs.Sessions.{AreOnce, session_of}
+use Rattle.generational_core.specs.State.{IsSound}
+use Rattle.generational_core.proofs.machine.Resting.{free_sees}
+use Rattle.generational_core.proofs.machine.Unborrowed.{quiet_free}
 
 module _ {T : Type 0} where
   -- ---- what a caller sees
@@ -137,8 +140,8 @@ module _ {T : Type 0} where
         true≢false (sym (ap is_some (ap (session_in (map (live_session S) rows)) (sym is)
         ∙ row_session row.0 row.1)) ∙ none)
 
-    pub kept_orderly : IsOrderly (table_of S rows)
-    kept_orderly = record {
+    pub kept_orderly : IsSound S → IsOrderly (table_of S rows)
+    kept_orderly s = record {
       once = rows_once S rows k.apart;
       kept = λ e shown.
           let v = some_live (value_in S (pointer_in e)) shown in
@@ -149,6 +152,11 @@ module _ {T : Type 0} where
             lists_keeps row.0 e row.1
                 (subst (λ (z : Key). Lists S z.owner (pointer_in e)) row.2 by.2),
           );
+      live = λ id e kept own.
+          let row = keeps_lists id e kept in
+          let to = k.live (key_of row.0) (stands_map key_of rows row.0 row.1) (pointer_in e) row.3 own in
+          let saw = free_sees S (pointer_in e) s (quiet_free S k.unborrowed (pointer_in e) to.0 to.1) in
+          ap is_some saw.1;
       apart = λ i j e ne one. at i j e ne one (cases_Bool (keeps (table_of S rows) j e));
     }
       where

@@ -76,12 +76,18 @@ module _ {T : Type 0} where
       (made_new S R (Make o v l) (pointer_of a) m).0
       (same_value S R (Make o v l) answer s m b tt) other
 
+  -- and what was given before isn't what it gives
+  pub put_apart : (S R : State T) (o : Option OwnerName) (v : T) (l : Location) (a : GenerationalBox T)
+      → Meets S (Make o v l) (Made (pointer_of a)) R → (b : GenerationalPointer)
+      → IsGiven S (name_of b) → name_of (pointer_of a) ≢ name_of b
+  put_apart S R o v l a m b given =
+      given_other S R (Make o v l) (Made (pointer_of a)) b m given
+
   pub put_given_others : (S R : State T) → IsSound S → (o : Option OwnerName) (v : T) (l : Location)
       (a : GenerationalBox T) → Meets S (Make o v l) (Made (pointer_of a)) R
       → (b : GenerationalPointer) → IsGiven S (name_of b) → value_in R b ≡ value_in S b
   put_given_others S R s o v l a m b given =
-      let answer : Answer T = Made (pointer_of a) in
-      same_value S R (Make o v l) answer s m b tt (given_other S R (Make o v l) answer b m given)
+      same_value S R (Make o v l) (Made (pointer_of a)) s m b tt (put_apart S R o v l a m b given)
 
   -- ---- tickets
 

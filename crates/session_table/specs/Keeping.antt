@@ -41,7 +41,8 @@ module _ {T : Type 0} where
   IsHeld S o = (names : List Name) × (ownership S o ≡ Some (record { names = names; count = 1 }))
 
   -- no borrow stands, no cell is a reference, and no name is listed twice; the store's records are
-  -- those of the sessions' owners, and what a box reaches is listed for one of them
+  -- those of the sessions' owners, what a box reaches is listed for one of them, and what is listed
+  -- reaches something
   pub record IsKept (S : State T) (keys : List Key) : Type 0 where
     pub unborrowed : IsUnborrowed S
     pub plain : IsPlain S
@@ -52,3 +53,5 @@ module _ {T : Type 0} where
         → (k : Key) × StandsIn k keys × (k.owner ≡ o)
     pub kept : (b : GenerationalPointer) (m : Name) → reach S b ≡ Some m
         → (k : Key) × StandsIn k keys × Lists S k.owner b
+    pub live : (k : Key) → StandsIn k keys → (b : GenerationalPointer) → Lists S k.owner b
+        → b.id.store ≡ S.number → (m : Name) × (reach S b ≡ Some m)

@@ -11,7 +11,7 @@ pub record LiveSession : Type 0 where
   pub used_at : ℕ
   pub entries : List Name
 
--- whether a session has an id, and whether a row has
+-- whether a session has an id, whether a row has it, and whether a session has another
 abbrev pub is_of : ℕ → LiveSession → Bool
 is_of id s = nat_eq s.id id
 
@@ -37,7 +37,7 @@ abbrev pub if_young : ℕ → Option LiveSession → Option LiveSession
 if_young time None = None
 if_young time (Some s) = if is_young time s then Some s else None
 
--- a session after an entry was put into that of an id, and after that was used
+-- what becomes of a session where a name is put into that of an id, and where that is used at a time
 abbrev pub put_in : ℕ → Name → LiveSession → LiveSession
 put_in id n s = if is_of id s then record s { entries = s.entries ++ n ∷ [] } else s
 

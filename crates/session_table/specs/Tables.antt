@@ -46,11 +46,14 @@ module _ {T : Type 0} where
   abbrev pub keeps : TableState T → ℕ → Entry T → Bool
   keeps t id e = among (entries_of (session_in t.sessions id)) (name_of (pointer_in e))
 
-  -- no id has two sessions, each entry that shows something is kept by a session, and none by two
+  -- no id has two sessions; each entry that shows something is kept by a session, and none by two; and
+  -- each that is kept shows something, but for entries of other stores
   pub record IsOrderly (t : TableState T) : Type 0 where
     pub once : IsDistinct nat_eq (list_map (λ s. s.id) t.sessions)
     pub kept : (e : Entry T) → is_some (shown_in t e) ≡ true → (id : ℕ) × (keeps t id e ≡ true)
     pub apart : (i j : ℕ) (e : Entry T) → i ≢ j → keeps t i e ≡ true → keeps t j e ≡ false
+    pub live : (id : ℕ) (e : Entry T) → keeps t id e ≡ true
+        → (pointer_in e).id.store ≡ t.state.number → is_some (shown_in t e) ≡ true
 
   -- an entry is one of a session that was last used before a time
   abbrev pub IsExpired : ℕ → TableState T → Entry T → Type 0

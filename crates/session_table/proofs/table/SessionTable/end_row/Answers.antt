@@ -47,7 +47,7 @@ returns-clause-left g c =
     c.self.invariant _ _ at c.in-Ok.ensures.step l (pointer_in e) there out)
 
 pub returns-clause-orderly : goal.returns-clause-orderly
-returns-clause-orderly g c = rw (← c.self.view_is) (kept_orderly _ _ c.self.invariant)
+returns-clause-orderly g c = rw (← c.self.view_is) (kept_orderly _ _ c.self.invariant (g.met.S.AnyStorage.sound _))
 
 pub returns-clause-ticket : goal.returns-clause-ticket
 returns-clause-ticket g c = rw (← c.self.view_is) (release_next _ _ _ _ c.in-Ok.ensures.step)

@@ -41,13 +41,13 @@ returns-clause-count g c =
 
 pub returns-clause-ids : goal.returns-clause-ids
 returns-clause-ids g c = expired_ids c.loop-row.invariant c.loop-row-test.false
-    (subst IsOrderly c.self.view_is (kept_orderly _ _ c.self.invariant))
+    (subst IsOrderly c.self.view_is (kept_orderly _ _ c.self.invariant (g.met.S.AnyStorage.sound _)))
 
 pub returns-clause-gone : goal.returns-clause-gone
 returns-clause-gone g c = expired_gone c.loop-row.invariant c.loop-row-test.false
-    (subst IsOrderly c.self.view_is (kept_orderly _ _ c.self.invariant))
-    (subst IsOrderly c.self-2.view_is (kept_orderly _ _ c.self-2.invariant))
+    (subst IsOrderly c.self.view_is (kept_orderly _ _ c.self.invariant (g.met.S.AnyStorage.sound _)))
+    (subst IsOrderly c.self-2.view_is (kept_orderly _ _ c.self-2.invariant (g.met.S.AnyStorage.sound _)))
 
 pub returns-clause-kept : goal.returns-clause-kept
 returns-clause-kept g c = expired_kept c.loop-row.invariant c.loop-row-test.false
-    (subst IsOrderly c.self.view_is (kept_orderly _ _ c.self.invariant))
+    (subst IsOrderly c.self.view_is (kept_orderly _ _ c.self.invariant (g.met.S.AnyStorage.sound _)))

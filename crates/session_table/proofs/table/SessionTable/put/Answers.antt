@@ -2,7 +2,6 @@ use Rattle.std.proofs.Common.{◌∙◌, Ok, refl, sym, ap, subst, inl, inr}
 use Rattle.std.specs.Prelude.{is_some, option_copied}
 use Rattle.std.proofs.lemmas.Bool.{true≢false}
 use Rattle.generational_core.proofs.machine.Calling.{made}
-use Rattle.generational_core.proofs.machine.Leaving.{given_other}
 use Rattle.generational_core.proofs.machine.Stepping.{made_new, meets_given}
 use Rattle.generational_sessions.proofs.callers.Lacking.{make_lacks}
 use Rattle.session_table.specs.declared.entry.PutError.TheVariants as put
@@ -10,7 +9,7 @@ use Rattle.session_table.specs.Entries.{pointer_in}
 use Rattle.session_table.specs.Tables.{TableState, WasPut}
 use Rattle.session_table.proofs.Calls.{put_keeps, put_others, put_own, put_rows, put_sessions, put_still_keeps, put_unkept}
 use Rattle.session_table.proofs.Rows.{found_row, no_session, row_held, row_session}
-use Rattle.session_table.proofs.Storing.{put_beside_others, put_given_others, put_next}
+use Rattle.session_table.proofs.Storing.{put_apart, put_beside_others, put_given_others, put_next}
 use Rattle.session_table.proofs.table.SessionTable.put.Goals as goal
 
 pub returns-in_default-clause-short : goal.returns-in_default-clause-short
@@ -102,5 +101,5 @@ returns-clause-unkept g c =
     (ap option_copied c.in-Some.is) in
     rw (← c.self.view_is) (λ other f given. put_unkept _ _ (g.met.S.AnyStorage.sound _) _
     c.self.invariant _ row.0 _ _ c.in-Ok.raw c.in-Ok.ensures.step other f
-    (given_other (g.S.AnyStorage.state c.self.inside.store) (g.S.AnyStorage.state c.insert.new.store) _ _
-    (pointer_in f) c.in-Ok.ensures.step given))
+    (put_apart (g.S.AnyStorage.state c.self.inside.store) (g.S.AnyStorage.state c.insert.new.store) _ _ _
+    c.in-Ok.raw c.in-Ok.ensures.step (pointer_in f) given))
