@@ -135,6 +135,17 @@ module _ {T : Type 0} {time : ℕ} {old new : TableState T} where
             (λ ne. absurd (true≢false (sym before ∙ was.apart id by.0 x (λ e. ne (sym e)) kept)))
             (key_cases by_number by.0 id)
 
+    -- a session that was old is gone
+    expired_ends : IsOrderly old → (x : Entry T) → (expired : IsExpired time old x)
+        → (keeps old expired.0.id x ≡ true) × (has_session new expired.0.id ≡ false)
+    expired_ends was x expired =
+        let s = expired.0 in
+        let there = session_of old.sessions s was.once expired.1 in (
+          ap (λ o. among (entries_of o) (name_of (pointer_in x))) there ∙ expired.3,
+          ap is_some (expired_ids was s.id ∙ (ap (if_young time) there
+              ∙ ap (λ b. cond b (Some s) None) expired.2)),
+        )
+
     -- and what a session keeps that is left shows what it showed
     pub expired_kept : IsOrderly old → (id : ℕ) (x : Entry T) → keeps old id x ≡ true
         → has_session new id ≡ true → shown_in new x ≡ shown_in old x
@@ -142,11 +153,14 @@ module _ {T : Type 0} {time : ℕ} {old new : TableState T} where
       where
         lost : IsExpired time old x → ⊥
         lost expired =
-            let s = expired.0 in
-            let there = session_of old.sessions s was.once expired.1 in
-            let by = ap (λ o. among (entries_of o) (name_of (pointer_in x))) there ∙ expired.3 in
-            ⊎_elim (λ same. true≢false (sym has ∙ (ap is_some (expired_ids was id
-            ∙ (ap (if_young time) (ap (session_in old.sessions) (sym same) ∙ there)
-            ∙ ap (λ b. cond b (Some s) None) expired.2)))))
-            (λ ne. true≢false (sym kept ∙ was.apart s.id id x ne by))
-            (key_cases by_number s.id id)
+            let ends = expired_ends was x expired in
+            ⊎_elim (λ same. true≢false (sym has ∙ (ap (has_session new) (sym same) ∙ ends.1)))
+            (λ ne. true≢false (sym kept ∙ was.apart expired.0.id id x ne ends.0))
+            (key_cases by_number expired.0.id id)
+
+    -- what showed nothing shows nothing
+    pub expired_none : IsOrderly old → IsOrderly new → (x : Entry T) → shown_in old x ≡ None
+        → shown_in new x ≡ None
+    expired_none was now x none = ⊎_elim (λ same. same ∙ none)
+        (λ expired. let ends = expired_ends was x expired in
+        expired_gone was now expired.0.id x ends.0 ends.1) (e.left x)

@@ -320,6 +320,7 @@ impl<T, S: Storage<T>> SessionTable<T, S> {
             has_session self.new id ≡ false → shown_in self.new e ≡ None }
         ensures kept { (id : ℕ) (e : Entry T) → keeps self.old id e ≡ true →
             has_session self.new id ≡ true → shown_in self.new e ≡ shown_in self.old e }
+        ensures none { (e : Entry T) → shown_in self.old e ≡ None → shown_in self.new e ≡ None }
         ensures put { (e : Entry T) → WasPut self.old e → WasPut self.new e }
         ensures ticket { self.new.state.next ≡ self.old.state.next }
     {

@@ -1,6 +1,6 @@
 use Rattle.std.proofs.Common.{rules, arith, length, subst, ◌≡◌}
 use Rattle.session_table.specs.Tables.{IsOrderly}
-use Rattle.session_table.proofs.Expiring.{expired_fewer, expired_gone, expired_ids, expired_kept, expired_sessions}
+use Rattle.session_table.proofs.Expiring.{expired_fewer, expired_gone, expired_ids, expired_kept, expired_none, expired_sessions}
 use Rattle.session_table.proofs.Expiring.{expires_begun}
 use Rattle.session_table.proofs.Rows.{kept_orderly, rows_long}
 use Rattle.session_table.proofs.table.SessionTable.expire.Goals as goal
@@ -51,3 +51,8 @@ returns-clause-gone g c = expired_gone c.loop-row.invariant c.loop-row-test.fals
 pub returns-clause-kept : goal.returns-clause-kept
 returns-clause-kept g c = expired_kept c.loop-row.invariant c.loop-row-test.false
     (subst IsOrderly c.self.view_is (kept_orderly _ _ c.self.invariant (g.met.S.AnyStorage.sound _)))
+
+pub returns-clause-none : goal.returns-clause-none
+returns-clause-none g c = expired_none c.loop-row.invariant c.loop-row-test.false
+    (subst IsOrderly c.self.view_is (kept_orderly _ _ c.self.invariant (g.met.S.AnyStorage.sound _)))
+    (subst IsOrderly c.self-2.view_is (kept_orderly _ _ c.self-2.invariant (g.met.S.AnyStorage.sound _)))
