@@ -1,4 +1,5 @@
-use Rattle.std.proofs.Common.{sym, ap, ◌∙◌}
+use Rattle.std.proofs.Common.{inl, sym, ap, ◌∙◌}
+use Rattle.std.proofs.lemmas.Bool.{true≢false}
 use Rattle.generational_core.proofs.machine.Leaving.{same_value}
 use Rattle.session_table.specs.Sessions.{session_in}
 use Rattle.session_table.specs.Tables.{TableState, has_session}
@@ -38,3 +39,18 @@ returns-clause-opened g c = rw (c.push_reserved.ensures.items, c.reserve.ensures
     ∙ own_pushed _ _ (no_such _ c.args.id
     (ap (λ (t : TableState _). has_session t c.args.id) c.self.view_is
     ∙ (sym c.has.ensures ∙ c.if-has.false))))
+
+pub returns-then-is_err-clause-in_use : goal.returns-then-is_err-clause-in_use
+returns-then-is_err-clause-in_use g c has =
+    absurd (true≢false (sym has ∙ (sym c.has.ensures ∙ c.if-has.false)))
+
+pub returns-in-Err-clause-in_use : goal.returns-in-Err-clause-in_use
+returns-in-Err-clause-in_use g c has =
+    absurd (true≢false (sym has ∙ (sym c.has.ensures ∙ c.if-has.false)))
+
+pub returns-clause-in_use : goal.returns-clause-in_use
+returns-clause-in_use g c has =
+    absurd (true≢false (sym has ∙ (sym c.has.ensures ∙ c.if-has.false)))
+
+pub returns-then-has-clause-short : goal.returns-then-has-clause-short
+returns-then-has-clause-short g c = inl (sym c.has.ensures ∙ c.if-has.true)

@@ -16,6 +16,9 @@ pub returns-in_default-clause-short : goal.returns-in_default-clause-short
 returns-in_default-clause-short g c = inl (ap is_some (no_session _ _ c.args.id c.self.view_is
     (sym c.session_of.ensures ∙ ap option_copied c.in_default.is)))
 
+pub returns-in_default-clause-unknown : goal.returns-in_default-clause-unknown
+returns-in_default-clause-unknown g c none = refl
+
 pub returns-in-Err-clause-unknown : goal.returns-in-Err-clause-unknown
 returns-in-Err-clause-unknown g c =
     let row = found_row _ _ c.self.invariant c.args.id _ c.session_of.ensures
