@@ -1,5 +1,5 @@
-//! Tests of the libraries above the boxes: tables of entities and of components, over stores of either
-//! order of free slots. The expected rows are worked out by hand.
+//! Tests of the libraries above the boxes: tables of entities, of components and of sessions, over
+//! stores of either order of free slots. The expected rows are worked out by hand.
 #![tactic(auto)]
 
 #[cfg(test)]
@@ -10,3 +10,11 @@ mod entity_histories;
 mod entity_limits;
 #[cfg(test)]
 mod entity_memory;
+#[cfg(test)]
+mod session_acts;
+#[cfg(test)]
+mod session_histories;
+#[cfg(test)]
+mod session_limits;
+#[cfg(test)]
+mod session_memory;

@@ -1,0 +1,185 @@
+//! What is done to a table of sessions, one act a line, with what must come of it.
+
+use generational_box::{Location, Storage};
+use session_table::{Entry, EntryError, LoginError, PutError, SessionTable, Stale};
+use std::alloc::Global;
+use std::fmt::Debug;
+use std::process::Abort;
+
+/// An act. Sessions are named by their ids, and entries by the order in which they were put, from 0.
+#[derive(Clone, Copy)]
+pub(crate) enum Act {
+    /// Begins a session of an id, at a time.
+    Login(u64, u64),
+    /// Puts a value into an id's session.
+    Put(u64, u64),
+    /// Sets an entry's value.
+    Set(usize, u64),
+    /// Notes the time of an id's last use.
+    Touch(u64, u64),
+    Logout(u64),
+    /// Ends the sessions that were last used before a time.
+    Expire(u64),
+}
+
+/// What an act answers.
+#[derive(Clone, Copy, Debug, PartialEq, Eq)]
+pub(crate) enum Reply {
+    Done,
+    /// The id has a session already.
+    IdInUse,
+    /// The id has no session.
+    NoSession,
+    /// The entry's session is gone.
+    Stale,
+    /// So many sessions ended.
+    Ended(usize),
+    /// The store refused.
+    Lacks,
+}
+
+/// An act, with what must come of it.
+#[derive(Clone, Copy)]
+pub(crate) struct Line {
+    pub(crate) act: Act,
+    /// What it answers.
+    pub(crate) reply: Reply,
+    /// The sessions afterwards: the id of each, and the time of its last use.
+    pub(crate) sessions: &'static [(u64, u64)],
+    /// What each entry shows afterwards, in the order in which they were put.
+    pub(crate) shows: &'static [Option<u64>],
+}
+
+/// Where a value is put: each at a line of its own, by its number.
+pub(crate) fn put_at(number: usize) -> Location {
+    Location::new("p.rs", u32::try_from(number).unwrap_or(0), 1)
+}
+
+/// Where a value is looked at.
+pub(crate) fn looked_at() -> Location {
+    Location::new("l.rs", 1, 1)
+}
+
+/// Asserts that a value is what it should be. It is proved once, for all types.
+pub(crate) fn assert_same<T: PartialEq + Debug>(rt: &impl Abort, found: &T, wanted: &T) {
+    assert_eq!(rt; *found, *wanted);
+}
+
+/// Does each line's act to a table, and sees what comes of it.
+pub(crate) fn play<S: Storage<u64>>(
+    rt: &impl Abort,
+    alloc: Global,
+    table: &mut SessionTable<u64, S>,
+    lines: &[Line],
+) {
+    let mut entries = Vec::new(alloc);
+    for line in lines {
+        let reply = answer(rt, table, &mut entries, line.act);
+        assert_same(rt, &reply, &line.reply);
+        stands(rt, table, line.sessions);
+        shows(rt, table, &entries, line.shows);
+    }
+}
+
+/// Does an act.
+fn answer<S: Storage<u64>>(
+    rt: &impl Abort,
+    table: &mut SessionTable<u64, S>,
+    entries: &mut Vec<Entry<u64>>,
+    act: Act,
+) -> Reply {
+    match act {
+        Act::Login(id, now) => logged_in(table.login(id, now)),
+        Act::Put(id, value) => put(rt, table, entries, id, value),
+        Act::Set(number, value) => set(rt, table, entry_at(rt, entries, number), number, value),
+        Act::Touch(id, now) => known(table.touch(id, now)),
+        Act::Logout(id) => known(table.logout(id)),
+        Act::Expire(before) => Reply::Ended(table.expire(before)),
+    }
+}
+
+/// What a login answers.
+fn logged_in(answer: Result<(), LoginError>) -> Reply {
+    match answer {
+        Ok(()) => Reply::Done,
+        Err(LoginError::IdInUse) => Reply::IdInUse,
+        Err(LoginError::Store(_)) => Reply::Lacks,
+    }
+}
+
+/// What a call answers that asks for an id's session.
+fn known(had: bool) -> Reply {
+    if had { Reply::Done } else { Reply::NoSession }
+}
+
+/// Puts a value, and keeps its entry. One that isn't put comes back.
+fn put<S: Storage<u64>>(
+    rt: &impl Abort,
+    table: &mut SessionTable<u64, S>,
+    entries: &mut Vec<Entry<u64>>,
+    id: u64,
+    value: u64,
+) -> Reply {
+    let refusal = match table.put(id, value, put_at(entries.len())) {
+        Ok(entry) => {
+            assert!(rt; entries.push(entry).is_ok());
+            return Reply::Done;
+        }
+        Err(refusal) => refusal,
+    };
+    assert_same(rt, &refusal.value, &value);
+    match refusal.cause {
+        PutError::NoSession => Reply::NoSession,
+        PutError::Store(_) => Reply::Lacks,
+    }
+}
+
+/// Sets an entry's value. A stale entry is told where it was put, and the value comes back.
+fn set<S: Storage<u64>>(
+    rt: &impl Abort,
+    table: &mut SessionTable<u64, S>,
+    entry: Entry<u64>,
+    number: usize,
+    value: u64,
+) -> Reply {
+    let Err(back) = table.set(entry, value) else {
+        return Reply::Done;
+    };
+    let stale = Stale {
+        put_at: put_at(number),
+    };
+    assert_same(rt, &back, &(value, stale));
+    Reply::Stale
+}
+
+/// An entry by its number.
+fn entry_at(rt: &impl Abort, entries: &[Entry<u64>], number: usize) -> Entry<u64> {
+    entries.get(number).copied().expect(rt, "an entry")
+}
+
+/// Sees which sessions there are.
+fn stands<S: Storage<u64>>(rt: &impl Abort, table: &SessionTable<u64, S>, sessions: &[(u64, u64)]) {
+    assert_same(rt, &table.len(), &sessions.len());
+    for (session, wanted) in table.sessions().iter().zip(sessions) {
+        assert_same(rt, &(session.id(), session.used_at()), wanted);
+        assert!(rt; table.has(session.id()));
+    }
+}
+
+/// Sees what each entry shows.
+fn shows<S: Storage<u64>>(
+    rt: &impl Abort,
+    table: &mut SessionTable<u64, S>,
+    entries: &[Entry<u64>],
+    shows: &[Option<u64>],
+) {
+    assert_same(rt, &entries.len(), &shows.len());
+    let mut number: usize = 0;
+    for (entry, shown) in entries.iter().zip(shows) {
+        assert_same(rt, &table.shows(*entry), &shown.is_some());
+        let stale = EntryError::Stale(put_at(number));
+        let answer = table.get(*entry, looked_at(), |value| *value);
+        assert_same(rt, &answer, &shown.ok_or(stale));
+        number = number.wrapping_add(1);
+    }
+}

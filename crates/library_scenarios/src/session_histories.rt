@@ -1,0 +1,161 @@
+//! Histories of tables of sessions, as lines.
+
+use crate::session_acts::{Act, Line, Reply, play};
+use generational_box::{LastFirst, OldestFirst, Storage, Store};
+use session_table::SessionTable;
+use std::alloc::Global;
+use std::process::Abort;
+
+/// Plays lines in a table over an empty store, once with each order of free slots.
+fn play_both(rt: &impl Abort, alloc: Global, lines: &[Line]) {
+    let last: Store<u64, LastFirst> = Store::new(alloc, 7);
+    play_over(rt, alloc, last, lines);
+    let oldest: Store<u64, OldestFirst> = Store::new(alloc, 7);
+    play_over(rt, alloc, oldest, lines);
+}
+
+/// The same over a store that is handed in, in which nothing is left.
+fn play_over<S: Storage<u64> + Drop>(rt: &impl Abort, alloc: Global, store: S, lines: &[Line]) {
+    assert!(rt; store.is_fresh());
+    let mut table = SessionTable::new(alloc, store);
+    play(rt, alloc, &mut table, lines);
+    let left = table.finish();
+    assert!(rt; left.free() == left.slots());
+}
+
+/// A line, with what must come of it.
+const fn line(
+    act: Act,
+    reply: Reply,
+    sessions: &'static [(u64, u64)],
+    shows: &'static [Option<u64>],
+) -> Line {
+    Line {
+        act,
+        reply,
+        sessions,
+        shows,
+    }
+}
+
+#[test]
+fn a_logout_ends_its_own_values(rt: HostRuntime) {
+    let lines = [
+        line(Act::Login(1, 10), Reply::Done, &[(1, 10)], &[]),
+        line(Act::Login(2, 11), Reply::Done, &[(1, 10), (2, 11)], &[]),
+        line(Act::Login(1, 12), Reply::IdInUse, &[(1, 10), (2, 11)], &[]),
+        line(Act::Put(1, 5), Reply::Done, &[(1, 10), (2, 11)], &[Some(5)]),
+        line(
+            Act::Put(2, 6),
+            Reply::Done,
+            &[(1, 10), (2, 11)],
+            &[Some(5), Some(6)],
+        ),
+        line(
+            Act::Put(1, 7),
+            Reply::Done,
+            &[(1, 10), (2, 11)],
+            &[Some(5), Some(6), Some(7)],
+        ),
+        line(
+            Act::Logout(1),
+            Reply::Done,
+            &[(2, 11)],
+            &[None, Some(6), None],
+        ),
+        line(
+            Act::Logout(1),
+            Reply::NoSession,
+            &[(2, 11)],
+            &[None, Some(6), None],
+        ),
+        line(
+            Act::Set(2, 9),
+            Reply::Stale,
+            &[(2, 11)],
+            &[None, Some(6), None],
+        ),
+        line(
+            Act::Set(1, 9),
+            Reply::Done,
+            &[(2, 11)],
+            &[None, Some(9), None],
+        ),
+        line(Act::Logout(2), Reply::Done, &[], &[None, None, None]),
+    ];
+    play_both(&rt, rt.alloc(), &lines);
+}
+
+#[test]
+fn a_stale_entry_reads_no_later_value(rt: HostRuntime) {
+    let lines = [
+        line(Act::Put(3, 1), Reply::NoSession, &[], &[]),
+        line(Act::Login(3, 0), Reply::Done, &[(3, 0)], &[]),
+        line(Act::Put(3, 1), Reply::Done, &[(3, 0)], &[Some(1)]),
+        line(Act::Logout(3), Reply::Done, &[], &[None]),
+        // The id comes again, and its value takes the only free slot.
+        line(Act::Login(3, 4), Reply::Done, &[(3, 4)], &[None]),
+        line(Act::Put(3, 2), Reply::Done, &[(3, 4)], &[None, Some(2)]),
+        line(Act::Set(0, 8), Reply::Stale, &[(3, 4)], &[None, Some(2)]),
+    ];
+    play_both(&rt, rt.alloc(), &lines);
+}
+
+#[test]
+fn old_sessions_expire(rt: HostRuntime) {
+    let lines = [
+        line(Act::Login(1, 10), Reply::Done, &[(1, 10)], &[]),
+        line(Act::Login(2, 20), Reply::Done, &[(1, 10), (2, 20)], &[]),
+        line(
+            Act::Login(3, 30),
+            Reply::Done,
+            &[(1, 10), (2, 20), (3, 30)],
+            &[],
+        ),
+        line(
+            Act::Put(1, 4),
+            Reply::Done,
+            &[(1, 10), (2, 20), (3, 30)],
+            &[Some(4)],
+        ),
+        line(
+            Act::Put(2, 5),
+            Reply::Done,
+            &[(1, 10), (2, 20), (3, 30)],
+            &[Some(4), Some(5)],
+        ),
+        line(
+            Act::Put(3, 6),
+            Reply::Done,
+            &[(1, 10), (2, 20), (3, 30)],
+            &[Some(4), Some(5), Some(6)],
+        ),
+        line(
+            Act::Touch(4, 31),
+            Reply::NoSession,
+            &[(1, 10), (2, 20), (3, 30)],
+            &[Some(4), Some(5), Some(6)],
+        ),
+        line(
+            Act::Touch(1, 31),
+            Reply::Done,
+            &[(1, 31), (2, 20), (3, 30)],
+            &[Some(4), Some(5), Some(6)],
+        ),
+        // One that was used at the time itself is young enough.
+        line(
+            Act::Expire(30),
+            Reply::Ended(1),
+            &[(1, 31), (3, 30)],
+            &[Some(4), None, Some(6)],
+        ),
+        line(
+            Act::Expire(30),
+            Reply::Ended(0),
+            &[(1, 31), (3, 30)],
+            &[Some(4), None, Some(6)],
+        ),
+        line(Act::Expire(40), Reply::Ended(2), &[], &[None, None, None]),
+    ];
+    play_both(&rt, rt.alloc(), &lines);
+}

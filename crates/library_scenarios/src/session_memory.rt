@@ -1,0 +1,70 @@
+//! Want of memory. The test passes whichever one allocation is refused: what lacks memory changes
+//! nothing, and is tried a second time.
+
+use crate::session_acts::{assert_same, put_at};
+use generational_box::{LastFirst, OldestFirst, Storage, Store, StoreError};
+use session_table::{LoginError, PutError, SessionTable};
+use std::alloc::Global;
+use std::process::Abort;
+
+/// How many sessions are begun, and how many values each keeps: more than the room that is found at
+/// once.
+const MANY: u64 = 10;
+
+/// Begins a session. A login that lacks memory leaves the table as it was.
+fn log_in_or_again<S: Storage<u64>>(rt: &impl Abort, table: &mut SessionTable<u64, S>, id: u64) {
+    let before = table.len();
+    if let Err(cause) = table.login(id, id) {
+        assert_same(rt, &cause, &LoginError::Store(StoreError::OutOfMemory));
+        assert_same(rt, &table.len(), &before);
+        assert!(rt; table.login(id, id).is_ok());
+    }
+    assert!(rt; table.has(id));
+}
+
+/// Puts a value. One that lacks memory comes back, and the session is as it was.
+fn put_or_again<S: Storage<u64>>(
+    rt: &impl Abort,
+    table: &mut SessionTable<u64, S>,
+    id: u64,
+    value: u64,
+) {
+    let refusal = match table.put(id, value, put_at(0)) {
+        Ok(entry) => {
+            assert!(rt; table.shows(entry));
+            return;
+        }
+        Err(refusal) => refusal,
+    };
+    assert_same(rt, &refusal.value, &value);
+    assert_same(
+        rt,
+        &refusal.cause,
+        &PutError::Store(StoreError::OutOfMemory),
+    );
+    assert!(rt; table.put(id, value, put_at(0)).is_ok());
+}
+
+/// Begins sessions that keep values, and ends half of them.
+fn begin_many<S: Storage<u64> + Drop>(rt: &impl Abort, alloc: Global, store: S) {
+    assert!(rt; store.is_fresh());
+    let mut table = SessionTable::new(alloc, store);
+    for id in 0..MANY {
+        log_in_or_again(rt, &mut table, id);
+        for value in 0..MANY {
+            put_or_again(rt, &mut table, id, value);
+        }
+    }
+    assert_same(rt, &table.expire(MANY / 2), &5);
+    let left = table.finish();
+    assert!(rt; left.free() == left.slots());
+}
+
+#[test]
+fn what_lacks_memory_changes_nothing(rt: HostRuntime) {
+    let alloc = rt.alloc();
+    let last: Store<u64, LastFirst> = Store::new(alloc, 1);
+    begin_many(&rt, alloc, last);
+    let oldest: Store<u64, OldestFirst> = Store::new(alloc, 2);
+    begin_many(&rt, alloc, oldest);
+}

@@ -1,0 +1,56 @@
+//! Sessions, and the rows in which a table keeps them.
+
+ghost use Rattle.std.specs.Prelude.{◌≡◌, ℕ, None, Some, IfSome, IfNone, find, slice_get};
+ghost use Rattle.std.specs.Prelude.{option_copied};
+ghost use Rattle.session_table.specs.declared.session.Session.{Session};
+ghost use Rattle.session_table.specs.Sessions.{is_row};
+
+use generational_core::{Owner, StoreError};
+
+/// A session that is logged in. Its table keeps it.
+pub struct Session {
+    pub(crate) id: u64,
+    pub(crate) used_at: u64,
+    pub(crate) owner: Owner,
+}
+
+impl Session {
+    /// The id that was chosen for it.
+    pub fn id(&self) -> u64
+        ensures { result ≡ self.now.id }
+    {
+        self.id
+    }
+
+    /// The time of its last use: of its login, or of the last `touch`.
+    pub fn used_at(&self) -> u64
+        ensures { result ≡ self.now.used_at }
+    {
+        self.used_at
+    }
+}
+
+/// Why an id can't be logged in.
+#[derive(Clone, Copy, Debug, PartialEq, Eq)]
+pub enum LoginError {
+    /// The id has a session already.
+    IdInUse,
+    /// The store refused.
+    Store(StoreError),
+}
+
+/// The row of an id's session.
+pub(crate) fn row_of(rows: &Vec<Session>, id: u64) -> Option<usize>
+    ensures row { IfSome result (λ row. (s : Session)
+        × (slice_get rows.now.items row ≡ Some s) × (s.id ≡ id)) }
+    ensures none { IfNone result (find (is_row id) rows.now.items ≡ None) }
+{
+    rows.iter().position(|session| session.id == id)
+}
+
+/// The session of an id.
+pub(crate) fn session_of(rows: &Vec<Session>, id: u64) -> Option<&Session>
+    ensures { option_copied result ≡ find (is_row id) rows.now.items }
+{
+    rows.iter().find(|session| session.id == id)
+}
