@@ -1,7 +1,7 @@
 //! What is done to a table of sessions, one act a line, with what must come of it.
 
 use generational_box::{Location, Storage};
-use session_table::{Entry, EntryError, LoginError, PutError, SessionTable, Stale};
+use session_table::{Entry, LoginError, PutError, SessionTable, Stale};
 use std::alloc::Global;
 use std::fmt::Debug;
 use std::process::Abort;
@@ -53,11 +53,6 @@ pub(crate) struct Line {
 /// Where a value is put: each at a line of its own, by its number.
 pub(crate) fn put_at(number: usize) -> Location {
     Location::new("p.rs", u32::try_from(number).unwrap_or(0), 1)
-}
-
-/// Where a value is looked at.
-pub(crate) fn looked_at() -> Location {
-    Location::new("l.rs", 1, 1)
 }
 
 /// Asserts that a value is what it should be. It is proved once, for all types.
@@ -169,7 +164,7 @@ fn stands<S: Storage<u64>>(rt: &impl Abort, table: &SessionTable<u64, S>, sessio
 /// Sees what each entry shows.
 fn shows<S: Storage<u64>>(
     rt: &impl Abort,
-    table: &mut SessionTable<u64, S>,
+    table: &SessionTable<u64, S>,
     entries: &[Entry<u64>],
     shows: &[Option<u64>],
 ) {
@@ -177,9 +172,10 @@ fn shows<S: Storage<u64>>(
     let mut number: usize = 0;
     for (entry, shown) in entries.iter().zip(shows) {
         assert_same(rt, &table.shows(*entry), &shown.is_some());
-        let stale = EntryError::Stale(put_at(number));
-        let answer = table.get(*entry, looked_at(), |value| *value);
-        assert_same(rt, &answer, &shown.ok_or(stale));
+        let stale = Stale {
+            put_at: put_at(number),
+        };
+        assert_same(rt, &table.get(*entry).copied(), &shown.ok_or(stale));
         number = number.wrapping_add(1);
     }
 }

@@ -1,9 +1,9 @@
 //! Tables of sessions whose store has given all its tickets, values that are let go, and callers.
 
-use crate::session_acts::{assert_same, looked_at, put_at};
+use crate::session_acts::{assert_same, put_at};
 use generational_box::{Numbers, Storage, Store, StoreError, UnsyncStorage};
 use library_uses::sessions::{one_visit, seen_beside, told_after_logout};
-use session_table::{Entry, EntryError, LoginError, SessionTable};
+use session_table::{Entry, LoginError, SessionTable, Stale};
 use std::alloc::Global;
 use std::process::Abort;
 use std::rc::Rc;
@@ -35,22 +35,19 @@ fn put<T: Drop, S: Storage<T>>(
         .expect(rt, "an entry")
 }
 
-/// A session, for whose values no look is left, and an id for which no login is.
+/// A session whose value is looked at and set, and an id for which no login is left.
 fn tickets_are_used_up<S: Storage<u64>>(rt: &impl Abort, table: &mut SessionTable<u64, S>) {
     log_in(rt, table, 1);
     let entry = put(rt, table, 1, 5);
-    let mut asked = false;
-    let answer = table.get(entry, looked_at(), |_| asked = true);
     let short = StoreError::NumbersExhausted;
-    assert_same(rt, &answer, &Err(EntryError::Store(short)));
-    assert!(rt; !asked);
     assert_same(rt, &table.login(2, 0), &Err(LoginError::Store(short)));
     assert!(rt; table.set(entry, 6).is_ok());
+    assert_same(rt, &table.get(entry).copied().ok(), &Some(6));
     assert!(rt; table.logout(1));
 }
 
 #[test]
-fn looks_and_logins_are_refused_where_no_ticket_is_left(rt: HostRuntime) {
+fn logins_are_refused_where_no_ticket_is_left(rt: HostRuntime) {
     let alloc = rt.alloc();
     let numbers = Numbers {
         generation: 1,
@@ -123,8 +120,8 @@ fn values_are_let_go_with_their_sessions(rt: HostRuntime) {
 /// Visits of ids with sessions and without.
 fn visits_leave_no_session<S: Storage<u64>>(rt: &impl Abort, table: &mut SessionTable<u64, S>) {
     log_in(rt, table, 1);
-    assert_same(rt, &one_visit(table, 2, 0, 7, looked_at()), &Some(7));
-    assert_same(rt, &one_visit(table, 1, 0, 7, looked_at()), &None);
+    assert_same(rt, &one_visit(table, 2, 0, 7, put_at(6)), &Some(7));
+    assert_same(rt, &one_visit(table, 1, 0, 7, put_at(6)), &None);
     assert_same(rt, &table.len(), &1);
 }
 
@@ -135,14 +132,16 @@ fn callers_are_told<S: Storage<u64>>(rt: &impl Abort, table: &mut SessionTable<u
         Ok(entry) => entry,
         Err(_lacking) => rt.abort(),
     };
-    let stale = Err(EntryError::Stale(put_at(3)));
-    let told = told_after_logout(table, 1, first, 2, 6, looked_at());
-    assert_same(rt, &told, &stale);
+    let stale = Stale {
+        put_at: put_at(3),
+    };
+    let told = told_after_logout(table, 1, first, 2, 6, put_at(5));
+    assert_same(rt, &told, &Err(stale));
     let second = match table.put(2, 8, put_at(4)) {
         Ok(entry) => entry,
         Err(_lacking) => rt.abort(),
     };
-    assert_same(rt, &seen_beside(table, 1, 2, second, looked_at()), &Ok(8));
+    assert_same(rt, &seen_beside(table, 1, 2, second), &Ok(8));
 }
 
 #[test]

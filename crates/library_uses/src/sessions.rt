@@ -1,19 +1,16 @@
 //! Sessions, and entries that outlive them.
 
-ghost use Rattle.std.specs.Prelude.{◌≡◌, ◌≢◌, ◌⊎◌, ℕ, true, false, None, Some, Err, IfOk, IfErr, IfSome};
-ghost use Rattle.generational_core.specs.Steps.{last_ticket};
-ghost use Rattle.generational_core.specs.declared.error.StoreError.TheVariants.{NumbersExhausted};
+ghost use Rattle.std.specs.Prelude.{◌≡◌, ◌≢◌, ℕ, true, false, None, Some, IfOk, IfErr, IfSome, IsErr};
 ghost use Rattle.session_table.specs.declared.entry.Entry.{Entry};
-ghost use Rattle.session_table.specs.declared.entry.EntryError.TheVariants as error;
 ghost use Rattle.session_table.specs.Entries.{put_at};
 ghost use Rattle.session_table.specs.Sessions.{session_in};
 ghost use Rattle.session_table.specs.Tables.{keeps, shown_in, WasPut};
 
 use generational_box::{Location, Storage};
-use session_table::{Entry, EntryError, SessionTable};
+use session_table::{Entry, SessionTable, Stale};
 
-/// Logs a session out, puts a value into another, and looks at what the first kept: it is told that
-/// its session is gone, and where it was put, whichever slot the new value took.
+/// Logs a session out, puts a value into another, and looks at what the first kept: the answer is
+/// that its session is gone, and where it was put, whichever slot the new value took.
 pub fn told_after_logout<S: Storage<u64>>(
     table: &mut SessionTable<u64, S>,
     id: u64,
@@ -21,33 +18,32 @@ pub fn told_after_logout<S: Storage<u64>>(
     other: u64,
     next: u64,
     here: Location,
-) -> Result<u64, EntryError>
+) -> Result<u64, Stale>
     requires put { WasPut table.old entry }
     requires kept { keeps table.old id entry ≡ true }
-    ensures { result ≡ Err (error.Stale (put_at entry)) }
+    ensures gone { IsErr result }
+    ensures told { IfErr result (λ stale. stale.put_at ≡ put_at entry) }
 {
     let _ = table.logout(id);
     let _ = table.put(other, next, here);
-    table.get(entry, here, |value| *value)
+    table.get(entry).copied()
 }
 
 /// Logs a session out, and looks at what another keeps: it is what it was. Refused only where it
-/// showed nothing, or where no ticket is left.
+/// showed nothing.
 pub fn seen_beside<S: Storage<u64>>(
     table: &mut SessionTable<u64, S>,
     id: u64,
     other: u64,
     entry: Entry<u64>,
-    here: Location,
-) -> Result<u64, EntryError>
+) -> Result<u64, Stale>
     requires apart { id ≢ other }
     requires kept { keeps table.old other entry ≡ true }
     ensures same { IfOk result (λ seen. shown_in table.old entry ≡ Some seen) }
-    ensures short { IfErr result (λ e. (shown_in table.old entry ≡ None)
-        ⊎ ((e ≡ error.Store NumbersExhausted) × (table.old.state.next ≡ last_ticket))) }
+    ensures none { IfErr result (λ _. shown_in table.old entry ≡ None) }
 {
     let _ = table.logout(id);
-    table.get(entry, here, |value| *value)
+    table.get(entry).copied()
 }
 
 /// Keeps a value in a session of its own, looks at it, and logs the session out: it is the same value.
@@ -91,5 +87,5 @@ fn put_and_look<S: Storage<u64>>(
         .put(id, value, here)
         .map_err(|refusal| refusal.cause)
         .ok()?;
-    table.get(entry, here, |value| *value).ok()
+    table.get(entry).copied().ok()
 }

@@ -81,6 +81,9 @@ fn hold<S: Storage<u64>>(store: &mut S, owner: Owner) -> Result<bool, StoreError
 
 /// A list of calls. Each names what an earlier call gave by the place of that call.
 fn run(alloc: Global, store: UnsyncStorage<u64>) -> Option<u64> {
+    if !store.is_fresh() {
+        return None;
+    }
     let leak = Call::Leak(7, made());
     let read = Call::TryRead(BoxAt::Place(0), read());
     let calls = vec![in alloc; leak, read].ok()?;
@@ -96,6 +99,9 @@ fn run(alloc: Global, store: UnsyncStorage<u64>) -> Option<u64> {
 
 /// The same, a call at a time.
 fn call(alloc: Global, store: UnsyncStorage<u64>) -> Option<u64> {
+    if !store.is_fresh() {
+        return None;
+    }
     let mut session = Session::new(alloc, store);
     let made = session.call(Call::Leak(7, made()));
     let found = session.call(Call::Id(BoxAt::Place(0)));

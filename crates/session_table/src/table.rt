@@ -3,20 +3,15 @@
 ghost use Rattle.std.specs.Prelude.{◌≡◌, ◌≢◌, ◌↔◌, ◌⊎◌, ◌<◌, ◌≤◌, ◌+◌, ◌++◌, ◌∷◌, [], ℕ, true, false, length};
 ghost use Rattle.std.specs.Prelude.{None, Some, Err, is_some, IfOk, OnOk, IfErr, OnErr, IsErr};
 ghost use Rattle.std.specs.Prelude.{option_map, option_copied, IsTrue, IsFalse, filter, remove, slice_get, map as list_map};
-ghost use Rattle.std.specs.Fn.{FnOnceReturnsAt};
-ghost use Rattle.generational_core.specs.Borrowing.{take_ticket};
 ghost use Rattle.generational_core.specs.Boxes.{name_of};
 ghost use Rattle.generational_core.specs.Conditions.{IsFresh};
 ghost use Rattle.generational_core.specs.Leaving.{IsUnborrowed};
 ghost use Rattle.generational_core.specs.Machine.{OwnerName, ownership};
 ghost use Rattle.generational_core.specs.Names.{among};
 ghost use Rattle.generational_core.specs.Seeing.{value_in};
-ghost use Rattle.generational_core.specs.Steps.{last_ticket};
 ghost use Rattle.generational_core.specs.declared.error.StoreError.TheVariants.{OutOfMemory};
-ghost use Rattle.generational_core.specs.declared.error.StoreError.TheVariants.{NumbersExhausted};
 ghost use Rattle.generational_sessions.specs.Lacking.{Lacks};
 ghost use Rattle.session_table.specs.declared.entry.Entry.{Entry};
-ghost use Rattle.session_table.specs.declared.entry.EntryError.TheVariants as error;
 ghost use Rattle.session_table.specs.declared.entry.PutError.TheVariants as put;
 ghost use Rattle.session_table.specs.declared.session.LoginError.TheVariants as login;
 ghost use Rattle.session_table.specs.Entries.{pointer_in, put_at, IsOther};
@@ -25,7 +20,7 @@ ghost use Rattle.session_table.specs.Sessions.{put_in, touch_in};
 ghost use Rattle.session_table.specs.Tables.{TableState, live_session, shown_in, keeps};
 ghost use Rattle.session_table.specs.Tables.{has_session, WasPut, IsOrderly, Expires};
 
-use crate::entry::{Entry, EntryError, PutError, PutRefusal, Stale};
+use crate::entry::{Entry, PutError, PutRefusal, Stale};
 use crate::session::{LoginError, Session, row_of, session_of};
 use generational_core::{GenerationalBox, Location, Refusal, Storage, StoreError};
 use std::alloc::Global;
@@ -168,43 +163,20 @@ impl<T, S: Storage<T>> SessionTable<T, S> {
         entry.raw.can_read(&self.store)
     }
 
-    /// Looks at an entry's value, and answers what the closure makes of it, which is called once.
-    /// Each entry shows what it showed, and the sessions stay.
+    /// An entry's value. The table is lent meanwhile.
     ///
-    /// Refused, in this order: `Stale`, where the entry's session is gone, or is another table's;
-    /// `Store` of `NumbersExhausted`, where the store gave all its tickets: a look uses one. The
-    /// closure isn't called then, and the table stays as it was. Takes no memory, and is O(1).
-    pub fn get<R, F: FnOnce(&T) -> R>(
-        &mut self,
-        entry: Entry<T>,
-        here: Location,
-        f: F,
-    ) -> Result<R, EntryError>
-        requires { F.IsAlwaysCallable f }
-        ensures seen { IfOk result (λ answer. (v : T) ×
-            (shown_in self.old entry ≡ Some v) × FnOnceReturnsAt F.FnOnce f v answer) }
-        ensures same { (e : Entry T) → shown_in self.new e ≡ shown_in self.old e }
-        ensures ticket { OnOk result (self.new
-            ≡ record self.old { state = take_ticket self.old.state }) }
-        ensures stale { shown_in self.old entry ≡ None →
-            result ≡ Err (error.Stale (put_at entry)) }
-        ensures short { IfErr result (λ e. (shown_in self.old entry ≡ None)
-            ⊎ ((e ≡ error.Store NumbersExhausted) × (self.old.state.next ≡ last_ticket))) }
-        ensures refused { OnErr result (self.new ≡ self.old) }
+    /// Refused where the entry's session is gone, or is another table's. Takes no memory, and is O(1).
+    pub fn get(&self, entry: Entry<T>) -> Result<&T, Stale>
+        ensures seen { IfOk result (λ value. shown_in self.now entry ≡ Some value.now) }
+        ensures stale { IsErr result ↔ shown_in self.now entry ≡ None }
+        ensures told { IfErr result (λ stale. stale.put_at ≡ put_at entry) }
     {
-        if !self.shows(entry) {
-            return Err(EntryError::Stale(entry.put_at()));
+        match entry.raw.peek(&self.store) {
+            Some(value) => Ok(value),
+            None => Err(Stale {
+                put_at: entry.put_at(),
+            }),
         }
-        let guard = match entry.raw.read(&mut self.store, here) {
-            Ok(guard) => guard,
-            Err(cause) => return Err(EntryError::Store(cause)),
-        };
-        let answer = match guard.deref(&self.store) {
-            Some(view) => f(&*view),
-            None => unreachable!(),
-        };
-        guard.release(&mut self.store);
-        Ok(answer)
     }
 
     /// Puts another value in the place of an entry's, which is let go. Every other entry shows what it
