@@ -7,7 +7,7 @@ use Rattle.std.specs.Ordering.{nat_cmp}
 use Rattle.std.proofs.lemmas.Bool.{true≢false, cases_Bool, or_cases}
 use Rattle.std.proofs.lemmas.List.Folds.{list_any-append}
 use Rattle.generational_core.specs.Answers.{pointer_of}
-use Rattle.generational_core.specs.Borrowing.{reach, leads_to, take_ticket}
+use Rattle.generational_core.specs.Borrowing.{reach, leads_to}
 use Rattle.generational_core.specs.Boxes.{name_of}
 use Rattle.generational_core.specs.Conditions.{fresh, names_in}
 use Rattle.generational_core.specs.Leaving.{GivesOther, IsLeft, LeavesOwner}
@@ -88,21 +88,6 @@ module _ {T : Type 0} where
       at : (h : Option Ownership) → ownership S o ≡ h → ownership S o ≡ None
       at None is = is
       at (Some h) is = absurd (k.known o h is).1
-
-  -- ---- a ticket is used up
-
-  pub ticket_kept : (S : State T) (keys : List Key) → IsKept S keys → IsKept (take_ticket S) keys
-  unfolding reach
-  ticket_kept S keys k = record {
-    unborrowed = record { none = k.unborrowed.none };
-    plain = record { none = k.plain.none };
-    listed = record { once = k.listed.once; apart = k.listed.apart };
-    apart = k.apart;
-    held = k.held;
-    known = k.known;
-    kept = k.kept;
-    live = k.live;
-  }
 
   -- boxes of one store and name reach the same
   reach_alike : (S : State T) (a b : GenerationalPointer) → a.id.store ≡ b.id.store

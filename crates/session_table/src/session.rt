@@ -1,6 +1,6 @@
 //! Sessions, and the rows in which a table keeps them.
 
-ghost use Rattle.std.specs.Prelude.{◌≡◌, ℕ, None, Some, IfSome, IfNone, find, slice_get};
+ghost use Rattle.std.specs.Prelude.{◌≡◌, None, Some, IfSome, IfNone, find, slice_get};
 ghost use Rattle.std.specs.Prelude.{option_copied};
 ghost use Rattle.session_table.specs.declared.session.Session.{Session};
 ghost use Rattle.session_table.specs.Sessions.{is_row};

@@ -1,8 +1,9 @@
 //! Tables of sessions.
 
-ghost use Rattle.std.specs.Prelude.{◌≡◌, ◌≢◌, ◌↔◌, ◌⊎◌, ◌<◌, ◌≤◌, ◌+◌, ◌++◌, ◌∷◌, [], ℕ, true, false, length};
-ghost use Rattle.std.specs.Prelude.{None, Some, Err, is_some, IfOk, OnOk, IfErr, OnErr, IsErr};
-ghost use Rattle.std.specs.Prelude.{option_map, option_copied, IsTrue, IsFalse, filter, remove, slice_get, map as list_map};
+ghost use Rattle.std.specs.Prelude.{◌≡◌, ◌≢◌, ◌↔◌, ◌⊎◌, ◌<◌, ◌+◌, ◌++◌, ◌∷◌, [], ℕ, true, false, length};
+ghost use Rattle.std.specs.Prelude.{None, Some, Err, is_some, option_map, option_copied, IfOk, OnOk};
+ghost use Rattle.std.specs.Prelude.{IfErr, OnErr, IsErr, IsTrue, IsFalse, filter, remove, slice_get};
+ghost use Rattle.std.specs.Prelude.{map as list_map};
 ghost use Rattle.generational_core.specs.Boxes.{name_of};
 ghost use Rattle.generational_core.specs.Conditions.{IsFresh};
 ghost use Rattle.generational_core.specs.Leaving.{IsUnborrowed};
@@ -22,7 +23,7 @@ ghost use Rattle.session_table.specs.Tables.{has_session, WasPut, IsOrderly, Exp
 
 use crate::entry::{Entry, PutError, PutRefusal, Stale};
 use crate::session::{LoginError, Session, row_of, session_of};
-use generational_core::{GenerationalBox, Location, Refusal, Storage, StoreError};
+use generational_core::{Location, Refusal, Storage, StoreError};
 use std::alloc::Global;
 use std::marker::{Model, PhantomData};
 
