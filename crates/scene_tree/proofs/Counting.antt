@@ -10,7 +10,7 @@ use Rattle.std.proofs.lemmas.List.{take_more}
 use Rattle.std.proofs.lemmas.Option.{none-some, same_Some}
 use Rattle.scene_tree.specs.declared.node.Node.{Node}
 use Rattle.scene_tree.specs.Families.{Family, IsCleared, alone, count_at, family_at}
-use Rattle.scene_tree.specs.Nodes.{IsSame, is_same, slot_in, without}
+use Rattle.scene_tree.specs.Nodes.{IsSame, is_same, times, slot_in, without}
 
 module _ {T : Type 0} where
   -- with a node more before the others
@@ -111,9 +111,57 @@ module _ {T : Type 0} where
   pub same_slot : (a b : Node T) → is_same a b ≡ true → slot_in a ≡ slot_in b
   same_slot a b same = eqb-true (slot_in a) (slot_in b) (and_parts _ _ (and_parts _ _ same).1).0
 
+  pub is_id : (a b : Node T) → is_same a b ≡ true → IsSame a b
+  is_id a b same =
+      let parts = and_parts _ _ same in
+      let rest = and_parts _ _ parts.1 in
+      let store = eqb-true _ _ parts.0 in
+      let slot = eqb-true _ _ rest.0 in
+      let generation = eqb-true _ _ rest.1 in
+      λ i. record { store = store i; slot = slot i; generation = generation i }
+
   pub same_id : (a b : Node T) → IsSame a b → is_same a b ≡ true
   same_id a b same = and_from _ _ (eq-eqb _ _ (ap (λ id. id.store) same))
       (and_from _ _ (eq-eqb _ _ (ap (λ id. id.slot) same)) (eq-eqb _ _ (ap (λ id. id.generation) same)))
+
+  -- how many times a node stands in a list, with one more before the others
+  pub times_more : (n x : Node T) (xs : List (Node T)) → is_same x n ≡ true
+      → times n (x ∷ xs) ≡ times n xs + 1
+  times_more n x xs same =
+      let more = sum_by-cons (λ c. cond (is_same c n) 1 0) x xs in
+      let one : ◌≡◌ {A = ℕ} (cond (is_same x n) 1 0) 1 = ap (λ b. cond b 1 0) same in
+      omega (arith, more, one)
+
+  pub times_apart : (n x : Node T) (xs : List (Node T)) → is_same x n ≡ false
+      → times n (x ∷ xs) ≡ times n xs
+  times_apart n x xs other =
+      let more = sum_by-cons (λ c. cond (is_same c n) 1 0) x xs in
+      let none : ◌≡◌ {A = ℕ} (cond (is_same x n) 1 0) 0 = ap (λ b. cond b 1 0) other in
+      omega (arith, more, none)
+
+  pub times_both : (n : Node T) (xs ys : List (Node T))
+      → times n (xs ++ ys) ≡ times n xs + times n ys
+  times_both n xs ys = sum_by-append (λ c. cond (is_same c n) 1 0) xs ys
+
+  -- where handles in a list are of a node just where they are at its slot, it is counted so
+  pub times_at : (n : Node T) (xs : List (Node T))
+      → ((k : ℕ) (x : Node T) → slice_get xs k ≡ Some x → slot_in x ≡ slot_in n → is_same x n ≡ true)
+      → times n xs ≡ count_at (slot_in n) xs
+  times_at n [] alike = refl
+  times_at n (x ∷ xs) alike =
+      let rest = times_at n xs (λ k. alike (suc k)) in
+      ⊎_elim
+      (λ same. let one = times_more n x xs same in
+      let here = count_here (slot_in n) x xs (same_slot x n same) in omega (arith, rest, one, here))
+      (λ other. times_apart n x xs other ∙ (rest ∙ sym (count_apart (slot_in n) x xs
+      (λ is. true≢false (sym (alike 0 x refl is) ∙ other))))) (cases_Bool (is_same x n))
+
+  -- and not at all where none is of it
+  pub times_none : (n : Node T) (xs : List (Node T))
+      → ((k : ℕ) (x : Node T) → slice_get xs k ≡ Some x → is_same x n ≡ false) → times n xs ≡ 0
+  times_none n [] none = refl
+  times_none n (x ∷ xs) none =
+      times_apart n x xs (none 0 x refl) ∙ times_none n xs (λ k. none (suc k))
 
   pub count_without : (s : ℕ) (n : Node T) → s ≢ slot_in n → (xs : List (Node T))
       → count_at s (without n xs) ≡ count_at s xs
@@ -133,6 +181,18 @@ module _ {T : Type 0} where
           omega (arith, a, b, rest))
           (λ apart. count_apart s x (without n xs) apart ∙ (rest ∙ sym (count_apart s x xs apart)))
           (cases_eq (slot_in x) s)
+
+  -- a list without a node that doesn't stand there is the list
+  pub same_without : (n : Node T) (xs : List (Node T)) → count_at (slot_in n) xs ≡ 0
+      → without n xs ≡ xs
+  same_without n [] none = refl
+  same_without n (x ∷ xs) none = ⊎_elim
+      (λ same. let here = count_here (slot_in n) x xs (same_slot x n same) in
+      absurd (omega (arith, here, none)))
+      (λ other. ap (λ b. cond (not b) (x ∷ without n xs) (without n xs)) other
+      ∙ ap (λ rest. x ∷ rest) (same_without n xs
+      (let more = count_more (slot_in n) x xs in omega (arith, more, none))))
+      (cases_Bool (is_same x n))
 
   pub none_without : (s : ℕ) (n : Node T) → s ≡ slot_in n → (xs : List (Node T))
       → ((k : ℕ) (x : Node T) → slice_get xs k ≡ Some x → slot_in x ≡ slot_in n → is_same x n ≡ true)

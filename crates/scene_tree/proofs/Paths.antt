@@ -38,6 +38,12 @@ module _ {T : Type 0} (fs : List (Family T)) where
       → IsUnder fs top (suc e) s
   step_under top e s up is under = (up, is, under)
 
+  -- the same at slots that are read elsewhere
+  pub under_at : {top s from to : ℕ} (e : ℕ) → top ≡ from → s ≡ to → IsUnder fs top e s
+      → IsUnder fs from e to
+  under_at {s = s} {from = from} e is at under =
+      subst (IsUnder fs from e) at (subst (λ t. IsUnder fs t e s) is under)
+
   -- one step up
   pub rooted_up : (steps s up : ℕ) → above fs s ≡ Some up → IsRooted fs steps s
       → (less : ℕ) × (less + 1 ≡ steps) × IsRooted fs less up

@@ -7,7 +7,8 @@ use Rattle.std.proofs.lemmas.Option.{same_Some, slice_get-get_or}
 use Rattle.generational_core.proofs.maps.Maps.{by_number, key_cases}
 use Rattle.entity_table.proofs.Removals.{get_set_apart, get_set_here}
 use Rattle.scene_tree.specs.declared.links.Links.{Links}
-use Rattle.scene_tree.specs.Families.{Family, IsOpened, HasRoom, HasSpace, alone, families, family_at, family_in}
+use Rattle.scene_tree.specs.declared.node.Node.{Node}
+use Rattle.scene_tree.specs.Families.{Family, IsDetached, IsOpened, HasRoom, HasSpace, alone, families, family_at, family_in}
 
 module _ {T : Type 0} (links : List (Links T)) (slot : ℕ) where
   -- a slot that is written has the family of what is written, and each other has what it had
@@ -46,20 +47,34 @@ module _ {T : Type 0} (links : List (Links T)) (slot : ℕ) where
     same_families l same = map-set_same family_in links slot l old
         (same ∙ ap family_in is)
 
-    -- and so is the room, where the children are kept
-    pub room_kept : (l : Links T) → l.children ≡ old.children → (s : ℕ) → HasRoom links s
-        → HasRoom (slice_set links slot l) s
-    room_kept l same s room = ⊎_elim
+    -- and so is the room, where the children have room that had it before
+    pub room_less : (l : Links T) → (HasSpace old.children → HasSpace l.children) → (s : ℕ)
+        → HasRoom links s → HasRoom (slice_set links slot l) s
+    room_less l same s room = ⊎_elim
         (λ here. let is = same_Some old room.0 (sym there ∙ (ap (slice_get links) (sym here) ∙ room.1)) in (
           l,
           ap (slice_get (slice_set links slot l)) here ∙ get_set_here links slot l lt,
-          subst HasSpace (sym (same ∙ ap (λ x. x.children) is)) room.2,
+          same (subst HasSpace (sym (ap (λ x. x.children) is)) room.2),
         ))
         (λ apart. (room.0, get_set_apart links slot s l apart ∙ room.1, room.2))
         (key_cases by_number s slot)
+
+    pub room_kept : (l : Links T) → l.children ≡ old.children → (s : ℕ) → HasRoom links s
+        → HasRoom (slice_set links slot l) s
+    room_kept l same = room_less l (subst HasSpace (sym same))
 
 -- what was opened, where the families and the slot are read elsewhere
 pub opened_from : {T : Type 0} {here old : List (Family T)} {slot at : ℕ} {gs : List (Family T)}
     → here ≡ old → slot ≡ at → IsOpened here slot gs → IsOpened old at gs
 opened_from {old = old} {slot = slot} {gs = gs} same is opened =
     subst (λ i. IsOpened old i gs) is (subst (λ fs. IsOpened fs slot gs) same opened)
+
+-- links of one length have families of one
+pub same_length : {T : Type 0} (xs ys : List (Links T)) → length xs ≡ length ys
+    → length (families xs) ≡ length (families ys)
+same_length xs ys same = length-map xs family_in ∙ (same ∙ sym (length-map ys family_in))
+
+-- what was detached, where the families are read elsewhere
+pub detached_from : {T : Type 0} {here old gs : List (Family T)} {node : Node T} → here ≡ old
+    → IsDetached here node gs → IsDetached old node gs
+detached_from {gs = gs} {node = node} same = subst (λ fs. IsDetached fs node gs) same

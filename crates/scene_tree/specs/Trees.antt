@@ -1,11 +1,13 @@
 -- What a caller sees of a tree.
-use Rattle.std.specs.Prelude.{◌≡◌, ℕ, suc, zero, Option, None, Some, Bool, is_some, if◌then◌else◌, List}
+use Rattle.std.specs.List.{flat_map}
+use Rattle.std.specs.Prelude.{◌≡◌, ◌<◌, ◌≤◌, ◌↔◌, ◌∷◌, ℕ, suc, zero, true, Bool, List, Option, None, Some}
+use Rattle.std.specs.Prelude.{is_some, if◌then◌else◌}
 use Rattle.generational_core.specs.Boxes.{name_of}
 use Rattle.generational_core.specs.Seeing.{value_in}
 use Rattle.generational_core.specs.State.{State, IsGiven}
 use Rattle.scene_tree.specs.declared.node.Node.{Node}
 use Rattle.scene_tree.specs.Families.{Family, alone, family_at}
-use Rattle.scene_tree.specs.Nodes.{IsOther, pointer_in, slot_in, times}
+use Rattle.scene_tree.specs.Nodes.{IsOther, IsSame, pointer_in, slot_in, times}
 
 -- the state of the store, and of each slot the family of the node that lives there
 pub record TreeState (T : Type 0) : Type 0 where
@@ -43,6 +45,28 @@ module _ {T : Type 0} where
   abbrev pub IsRootedIn : TreeState T → ℕ → Node T → Type 0
   IsRootedIn t zero n = parent_of t n ≡ None
   IsRootedIn t (suc steps) n = (up : Node T) × (parent_of t n ≡ Some up) × IsRootedIn t steps up
+
+  -- a node is so many steps below another, and is that node or below it
+  abbrev pub IsStepsBelow : TreeState T → Node T → ℕ → Node T → Type 0
+  IsStepsBelow t top zero n = IsSame n top
+  IsStepsBelow t top (suc steps) n =
+      (up : Node T) × (parent_of t n ≡ Some up) × IsStepsBelow t top steps up
+
+  abbrev pub IsBelow : TreeState T → Node T → Node T → Type 0
+  IsBelow t top n = (steps : ℕ) × IsStepsBelow t top steps n
+
+  -- a node may become a child of another: both are live, and the other isn't the node or below it
+  pub record CanMove (t : TreeState T) (moved to : Node T) : Type 0 where
+    pub node : is_live t moved ≡ true
+    pub parent : is_live t to ≡ true
+    pub apart : IsBelow t moved to → ⊥
+
+  -- a list has the nodes that are a node or below it, each once: first the node, and then the
+  -- children of each node of the list, in order
+  pub record IsSubtree (t : TreeState T) (top : Node T) (list : List (Node T)) : Type 0 where
+    pub levels : list ≡ top ∷ flat_map (children_of t) list
+    pub below : (n : Node T) → 0 < times n list ↔ IsBelow t top n
+    pub once : (n : Node T) → times n list ≤ 1
 
   -- a node stands once among its parent's children, and in no other node's, and going from parent to
   -- parent ends at a root

@@ -5,7 +5,7 @@ ghost use Rattle.std.specs.Vec.{vec_capacity};
 ghost use Rattle.scene_tree.specs.Nodes.{slot_in, without};
 ghost use Rattle.scene_tree.specs.Families.{families, family_at, parent_at, children_at, above, alone};
 ghost use Rattle.scene_tree.specs.Families.{IsForest, IsInLevels, IsUnder, IsOpened, IsAttached};
-ghost use Rattle.scene_tree.specs.Families.{IsDetached, IsCleared, count_at, HasRoom};
+ghost use Rattle.scene_tree.specs.Families.{IsDetached, IsCleared, count_at, HasRoom, HasSpace};
 ghost use Rattle.scene_tree.specs.declared.node.Node.{Node};
 
 use crate::node::Node;
@@ -26,17 +26,24 @@ pub(crate) fn reserve_one<X>(list: &mut Vec<X>) -> bool
     list.reserve(1).is_ok()
 }
 
-/// Room for one slot more, and for one child more of the node of a slot.
+/// Room for one child more of the node of a slot.
 pub(crate) fn reserve_child<T>(links: &mut Vec<Links<T>>, slot: usize) -> bool
+    requires within { slot < length links.old.items }
+    ensures same { families links.new.items ≡ families links.old.items }
+    ensures capacity { vec_capacity links.new ≡ vec_capacity links.old }
+    ensures room { result ≡ true → HasRoom links.new.items slot }
+{
+    reserve_one(&mut links[slot].children)
+}
+
+/// The same, and room for one slot more.
+pub(crate) fn reserve_node<T>(links: &mut Vec<Links<T>>, slot: usize) -> bool
     requires within { slot < length links.old.items }
     ensures same { families links.new.items ≡ families links.old.items }
     ensures slot { result ≡ true → length links.new.items < vec_capacity links.new }
     ensures child { result ≡ true → HasRoom links.new.items slot }
 {
-    if !reserve_one(links) {
-        return false;
-    }
-    reserve_one(&mut links[slot].children)
+    reserve_one(links) && reserve_child(links, slot)
 }
 
 /// Opens the slot of a new node, where it is the next one.
@@ -68,7 +75,8 @@ pub(crate) fn detach<T>(links: &mut Vec<Links<T>>, node: Node<T>)
     requires node { slot_in node < length links.old.items }
     requires parent { (up : ℕ) → above (families links.old.items) (slot_in node) ≡ Some up →
         up < length links.old.items }
-    ensures { IsDetached (families links.old.items) node (families links.new.items) }
+    ensures detached { IsDetached (families links.old.items) node (families links.new.items) }
+    ensures room { (s : ℕ) → HasRoom links.old.items s → HasRoom links.new.items s }
 {
     let Some(parent) = parent_at(links, node.slot()) else {
         return;
@@ -111,6 +119,7 @@ fn remove_child<T>(links: &mut Vec<Links<T>>, slot: usize, child: Node<T>)
     ensures length { length links.new.items ≡ length links.old.items }
     ensures lost { children_at (families links.new.items) slot
         ≡ without child (children_at (families links.old.items) slot) }
+    ensures room { (s : ℕ) → HasRoom links.old.items s → HasRoom links.new.items s }
     ensures others { (s : ℕ) → s ≢ slot →
         children_at (families links.new.items) s ≡ children_at (families links.old.items) s }
     ensures parents { (s : ℕ) →
@@ -121,7 +130,8 @@ fn remove_child<T>(links: &mut Vec<Links<T>>, slot: usize, child: Node<T>)
 
 // Takes a node out of a list.
 fn remove_node<T>(list: &mut Vec<Node<T>>, node: Node<T>)
-    ensures { list.new.items ≡ without node list.old.items }
+    ensures without { list.new.items ≡ without node list.old.items }
+    ensures room { HasSpace list.old → HasSpace list.new }
 {
     list.retain(|other| !other.raw.ptr_eq(&node.raw));
 }

@@ -1,5 +1,6 @@
 //! Trees of nodes.
 
+ghost use Rattle.std.specs.Prelude.{ℕ, ◌<◌, true, slice_get};
 ghost use Rattle.std.specs.Prelude.{◌≡◌, ◌↔◌, ◌⊎◌, ◌++◌, ◌∷◌, [], None, Some, Err, is_some};
 ghost use Rattle.std.specs.Prelude.{IfOk, OnOk, IfErr, OnErr, IsErr};
 ghost use Rattle.std.specs.Fn.{FnOnceReturnsAt};
@@ -11,11 +12,17 @@ ghost use Rattle.generational_core.specs.declared.error.StoreError.TheVariants.{
 ghost use Rattle.scene_tree.specs.declared.node.Node.{Node};
 ghost use Rattle.scene_tree.specs.declared.node.TreeError.TheVariants as error;
 ghost use Rattle.scene_tree.specs.Families.{alone};
-ghost use Rattle.scene_tree.specs.Nodes.{made_at, IsOther};
+ghost use Rattle.entity_table.specs.Keeping.{IsSimple};
+ghost use Rattle.scene_tree.specs.Keeping.{HasLost, IsLiveIn};
+ghost use Rattle.scene_tree.specs.Nodes.{made_at, pointer_in, times, without, IsOther};
 ghost use Rattle.scene_tree.specs.Trees.{TreeState, value_of, is_live, family_of, parent_of};
-ghost use Rattle.scene_tree.specs.Trees.{children_of, WasMade, IsLeft, IsTree};
+ghost use Rattle.scene_tree.specs.Trees.{children_of, WasMade, IsBelow, IsLeft, CanMove};
+ghost use Rattle.scene_tree.specs.Trees.{IsSubtree, IsTree};
 
-use crate::links::{Links, attach, children_at, open_slot, parent_at, reserve_child, reserve_one};
+use crate::links::{
+    Links, attach, children_at, clear_all, detach, gather, is_under, open_slot, parent_at,
+    reserve_child, reserve_node, reserve_one,
+};
 use crate::node::{Node, Stale, TreeError};
 use generational_core::{GenerationalBox, Location, Refusal, Storage, StoreError};
 use std::alloc::Global;
@@ -128,7 +135,7 @@ impl<T, S: Storage<T>> SceneTree<T, S> {
         if !parent.raw.can_write(&self.store) {
             return Err((value, TreeError::Stale(parent.made_at())));
         }
-        if !reserve_child(&mut self.links, parent.slot()) {
+        if !reserve_node(&mut self.links, parent.slot()) {
             return Err((value, TreeError::Store(StoreError::OutOfMemory)));
         }
         let raw = match GenerationalBox::leak(&mut self.store, value, here) {
@@ -223,7 +230,7 @@ impl<T, S: Storage<T>> SceneTree<T, S> {
         ensures stale { IsErr result ↔ value_of self.now node ≡ None }
         ensures told { IfErr result (λ stale. stale.made_at ≡ made_at node) }
     {
-        if !self.is_alive(node) {
+        if !node.raw.can_write(&self.store) {
             return Err(Stale {
                 made_at: node.made_at(),
             });
@@ -236,14 +243,164 @@ impl<T, S: Storage<T>> SceneTree<T, S> {
     /// Refused where the node is gone, or is another tree's. Takes no memory, and is O(1).
     pub fn children(&self, node: Node<T>) -> Result<&[Node<T>], Stale>
         ensures children { IfOk result (λ children. children.now ≡ children_of self.now node) }
+        ensures tree { IsTree self.now }
         ensures stale { IsErr result ↔ value_of self.now node ≡ None }
         ensures told { IfErr result (λ stale. stale.made_at ≡ made_at node) }
     {
-        if !self.is_alive(node) {
+        if !node.raw.can_write(&self.store) {
             return Err(Stale {
                 made_at: node.made_at(),
             });
         }
         Ok(children_at(&self.links, node.slot()))
+    }
+
+    /// A node and all below it, each once, level by level: first the node, and then the children of
+    /// each node of the list, in order. So parents stand before their children.
+    ///
+    /// Refused, in this order: `Stale`, where the node is gone, or is another tree's; `Store` of
+    /// `OutOfMemory`. Takes memory for the list, and O(k) time for k nodes, but for finding room.
+    pub fn subtree(&self, node: Node<T>) -> Result<Vec<Node<T>>, TreeError>
+        ensures subtree { IfOk result (λ list. IsSubtree self.now node list.items) }
+        ensures stale { value_of self.now node ≡ None →
+            result ≡ Err (error.Stale (made_at node)) }
+        ensures short { IfErr result (λ e. (value_of self.now node ≡ None)
+            ⊎ (e ≡ error.Store OutOfMemory)) }
+    {
+        if !node.raw.can_write(&self.store) {
+            return Err(TreeError::Stale(node.made_at()));
+        }
+        match gather(self.alloc, &self.links, node) {
+            Ok(list) => Ok(list),
+            Err(_) => Err(TreeError::Store(StoreError::OutOfMemory)),
+        }
+    }
+
+    /// Moves a node with all below it: it becomes the last child of another. Its parent loses this
+    /// one child, all below it stays where it is, and every node shows what it showed.
+    ///
+    /// Refused, in this order: `Stale`, where the node is gone, or is another tree's; `Stale`, where
+    /// the parent is; `Cycle`, where the parent is the node or below it; `Store` of `OutOfMemory`. The
+    /// tree stays as it was then. Takes memory where the parent's children have no room, and
+    /// O(d + c) time for d steps from the parent to its root and c children of the parent before, but
+    /// for finding room.
+    pub fn move_to(&mut self, node: Node<T>, parent: Node<T>) -> Result<(), TreeError>
+        ensures state { self.new.state ≡ self.old.state }
+        ensures moved { OnOk result (parent_of self.new node ≡ Some parent) }
+        ensures last { OnOk result (children_of self.new parent
+            ≡ without node (children_of self.old parent) ++ node ∷ []) }
+        ensures lost { OnOk result ((up : Node T) → parent_of self.old node ≡ Some up →
+            IsOther parent up →
+            children_of self.new up ≡ without node (children_of self.old up)) }
+        ensures parents { (n : Node T) → IsOther node n →
+            parent_of self.new n ≡ parent_of self.old n }
+        ensures others { (n : Node T) → IsOther parent n →
+            ((up : Node T) → parent_of self.old node ≡ Some up → IsOther up n) →
+            children_of self.new n ≡ children_of self.old n }
+        ensures gone { value_of self.old node ≡ None → result ≡ Err (error.Stale (made_at node)) }
+        ensures stale { is_live self.old node ≡ true → value_of self.old parent ≡ None →
+            result ≡ Err (error.Stale (made_at parent)) }
+        ensures cycle { is_live self.old node ≡ true → IsBelow self.old node parent →
+            result ≡ Err error.Cycle }
+        ensures short { IfErr result (λ e. (value_of self.old node ≡ None)
+            ⊎ (value_of self.old parent ≡ None)
+            ⊎ IsBelow self.old node parent
+            ⊎ (e ≡ error.Store OutOfMemory)) }
+        ensures refused { OnErr result (self.new ≡ self.old) }
+    {
+        self.test_move(node, parent)?;
+        if !reserve_child(&mut self.links, parent.slot()) {
+            return Err(TreeError::Store(StoreError::OutOfMemory));
+        }
+        detach(&mut self.links, node);
+        attach(&mut self.links, parent, node);
+        Ok(())
+    }
+
+    // Whether a node may become a child of another, or why not.
+    fn test_move(&self, node: Node<T>, parent: Node<T>) -> Result<(), TreeError>
+        ensures may { OnOk result (CanMove self.now node parent) }
+        ensures gone { value_of self.now node ≡ None → result ≡ Err (error.Stale (made_at node)) }
+        ensures stale { is_live self.now node ≡ true → value_of self.now parent ≡ None →
+            result ≡ Err (error.Stale (made_at parent)) }
+        ensures cycle { is_live self.now node ≡ true → IsBelow self.now node parent →
+            result ≡ Err error.Cycle }
+        ensures why { IfErr result (λ e. (value_of self.now node ≡ None)
+            ⊎ (value_of self.now parent ≡ None)
+            ⊎ IsBelow self.now node parent) }
+    {
+        if !node.raw.can_write(&self.store) {
+            return Err(TreeError::Stale(node.made_at()));
+        }
+        if !parent.raw.can_write(&self.store) {
+            return Err(TreeError::Stale(parent.made_at()));
+        }
+        if is_under(&self.links, parent.slot(), node.slot()) {
+            return Err(TreeError::Cycle);
+        }
+        Ok(())
+    }
+
+    /// Removes a node and all below it, and answers their handles as `subtree` does: each shows
+    /// nothing from then on, and no later node is mistaken for it. The node's parent loses this one
+    /// child, and every other node is left.
+    ///
+    /// Refused, in this order: `Stale`, where the node is gone, or is another tree's; `Store` of
+    /// `OutOfMemory`. The tree stays as it was then. Takes memory for the list, and O(k + c) time for
+    /// k nodes and c children of the parent, but for finding room and for letting the values go.
+    pub fn remove_subtree(&mut self, node: Node<T>) -> Result<Vec<Node<T>>, TreeError>
+        ensures subtree { IfOk result (λ list. IsSubtree self.old node list.items) }
+        ensures gone { IfOk result (λ list. (n : Node T) → 0 < times n list.items →
+            value_of self.new n ≡ None) }
+        ensures lost { OnOk result ((up : Node T) → parent_of self.old node ≡ Some up →
+            (value_of self.new up ≡ value_of self.old up) × (family_of self.new up ≡ record {
+              parent = parent_of self.old up;
+              children = without node (children_of self.old up);
+            })) }
+        ensures others { IfOk result (λ list. (n : Node T) → times n list.items ≡ 0 →
+            ((up : Node T) → parent_of self.old node ≡ Some up → IsOther up n) →
+            IsLeft self.old n self.new) }
+        ensures kept { (f : Node T) → WasMade self.old f → WasMade self.new f }
+        ensures stale { value_of self.old node ≡ None →
+            result ≡ Err (error.Stale (made_at node)) }
+        ensures short { IfErr result (λ e. (value_of self.old node ≡ None)
+            ⊎ (e ≡ error.Store OutOfMemory)) }
+        ensures refused { OnErr result (self.new ≡ self.old) }
+    {
+        if !node.raw.can_write(&self.store) {
+            return Err(TreeError::Stale(node.made_at()));
+        }
+        let list = match gather(self.alloc, &self.links, node) {
+            Ok(list) => list,
+            Err(_) => return Err(TreeError::Store(StoreError::OutOfMemory)),
+        };
+        detach(&mut self.links, node);
+        clear_all(&mut self.links, &list);
+        end_all(&mut self.store, &list);
+        Ok(list)
+    }
+}
+
+// Ends the values of nodes.
+fn end_all<T, S: Storage<T>>(store: &mut S, nodes: &Vec<Node<T>>)
+    requires simple { IsSimple (S.state store.old) }
+    requires live { (i : ℕ) (n : Node T) → slice_get nodes.now.items i ≡ Some n →
+        IsLiveIn (S.state store.old) n }
+    ensures { HasLost (S.state store.old) nodes.now.items (S.state store.new) }
+{
+    for node in nodes {
+        end(store, *node);
+    }
+}
+
+// Ends the value of a node.
+fn end<T, S: Storage<T>>(store: &mut S, node: Node<T>)
+    requires simple { IsSimple (S.state store.old) }
+    requires own { (pointer_in node).id.store ≡ (S.state store.old).number }
+    ensures { HasLost (S.state store.old) (node ∷ []) (S.state store.new) }
+{
+    match node.raw.manually_drop(store) {
+        Ok(()) => {}
+        Err(_) => unreachable!(),
     }
 }

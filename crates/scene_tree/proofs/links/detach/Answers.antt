@@ -9,3 +9,6 @@ remove_child-requires g c =
     ∙ (sym c.parent_at.ensures ∙ c.in-Some.is)) in
     let lt = c.requires.parent (slot_in c.in-Some.parent) up in
     record { within = omega (arith, lt, c.slot-3.ensures, c.set_parent.ensures.length) }
+
+pub returns-clause-room : goal.returns-clause-room
+returns-clause-room g c s room = c.remove_child.ensures.room s (c.set_parent.ensures.room s room)

@@ -21,15 +21,15 @@ returns-then-not-can_write-clause-short g c = rw (← c.self.view_is)
     (inl (stuck_unseen _ (g.met.S.AnyStorage.sound _) c.self.invariant.simple c.can_write.ensures
     c.if-not-can_write.true))
 
-pub reserve_child-requires : goal.reserve_child-requires
-reserve_child-requires g c =
+pub reserve_node-requires : goal.reserve_node-requires
+reserve_node-requires g c =
     let lt = live_slot c.self.inside.links.items (g.met.S.AnyStorage.sound _) c.self.invariant c.args.parent
     (free_seen _ (g.met.S.AnyStorage.sound _) c.self.invariant.simple c.can_write.ensures
     c.if-not-can_write.false) in
     record { within = omega (arith, lt, c.slot.ensures) }
 
-pub returns-then-not-reserve_child-clause-stale : goal.returns-then-not-reserve_child-clause-stale
-returns-then-not-reserve_child-clause-stale g c = rw (← c.self.view_is) (λ none.
+pub returns-then-not-reserve_node-clause-stale : goal.returns-then-not-reserve_node-clause-stale
+returns-then-not-reserve_node-clause-stale g c = rw (← c.self.view_is) (λ none.
     absurd (true≢false (sym (free_seen _ (g.met.S.AnyStorage.sound _) c.self.invariant.simple
     c.can_write.ensures c.if-not-can_write.false) ∙ ap is_some none)))
 
@@ -45,11 +45,11 @@ returns-clause-stale g c = rw (← c.self.view_is) (λ none.
 
 pub attach-requires-clause-room : goal.attach-requires-clause-room
 attach-requires-clause-room g c = c.open_slot.ensures.kept _
-    (subst (HasRoom _) c.slot.ensures (c.reserve_child.ensures.child c.if-not-reserve_child.false))
+    (subst (HasRoom _) c.slot.ensures (c.reserve_node.ensures.child c.if-not-reserve_node.false))
 
 pub attach-requires-clause-child : goal.attach-requires-clause-child
 attach-requires-clause-child g c =
-    let opened = opened_from c.reserve_child.ensures.same c.slot-2.ensures c.open_slot.ensures.opened in
+    let opened = opened_from c.reserve_node.ensures.same c.slot-2.ensures c.open_slot.ensures.opened in
     let lt = opened_within c.self.invariant (g.met.S.AnyStorage.sound _) _ _ (pointer_of c.in-Ok.raw)
     c.in-Ok.ensures.step _ opened in
     let long = length-map c.open_slot.new.links.items family_in in omega (arith, lt, long)
@@ -57,7 +57,7 @@ attach-requires-clause-child g c =
 pub invariant_of-self-2 : goal.invariant_of-self-2
 invariant_of-self-2 g c =
     let sound = g.met.S.AnyStorage.sound in
-    let opened = opened_from c.reserve_child.ensures.same c.slot-2.ensures c.open_slot.ensures.opened in
+    let opened = opened_from c.reserve_node.ensures.same c.slot-2.ensures c.open_slot.ensures.opened in
     kept_added c.self.invariant (sound _) _ _ c.args.parent (record { raw = c.in-Ok.raw })
     c.in-Ok.ensures.step (free_seen _ (sound _) c.self.invariant.simple c.can_write.ensures
     c.if-not-can_write.false) _ _ opened c.attach.ensures
@@ -68,7 +68,7 @@ returns-clause-shown g c = made None _ _ (Ok c.in-Ok.raw) c.in-Ok.ensures.step
 pub returns-clause-below : goal.returns-clause-below
 returns-clause-below g c =
     let sound = g.met.S.AnyStorage.sound in
-    let opened = opened_from c.reserve_child.ensures.same c.slot-2.ensures c.open_slot.ensures.opened in
+    let opened = opened_from c.reserve_node.ensures.same c.slot-2.ensures c.open_slot.ensures.opened in
     live_family _ (record { raw = c.in-Ok.raw })
     (ap is_some (made None _ _ (Ok c.in-Ok.raw) c.in-Ok.ensures.step))
     ∙ added_child c.self.invariant (sound _) _ _ c.args.parent (record { raw = c.in-Ok.raw })
@@ -86,7 +86,7 @@ returns-clause-parent g c =
 pub returns-clause-last : goal.returns-clause-last
 returns-clause-last g c =
     let sound = g.met.S.AnyStorage.sound in
-    let opened = opened_from c.reserve_child.ensures.same c.slot-2.ensures c.open_slot.ensures.opened in
+    let opened = opened_from c.reserve_node.ensures.same c.slot-2.ensures c.open_slot.ensures.opened in
     let child : Node _ = record { raw = c.in-Ok.raw } in
     let live = free_seen _ (sound _) c.self.invariant.simple c.can_write.ensures
     c.if-not-can_write.false in
@@ -100,7 +100,7 @@ returns-clause-last g c =
 pub returns-clause-others : goal.returns-clause-others
 returns-clause-others g c f other beside =
     let sound = g.met.S.AnyStorage.sound in
-    let opened = opened_from c.reserve_child.ensures.same c.slot-2.ensures c.open_slot.ensures.opened in
+    let opened = opened_from c.reserve_node.ensures.same c.slot-2.ensures c.open_slot.ensures.opened in
     let child : Node _ = record { raw = c.in-Ok.raw } in
     let step = c.in-Ok.ensures.step in
     let live = free_seen _ (sound _) c.self.invariant.simple c.can_write.ensures
