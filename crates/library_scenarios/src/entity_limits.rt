@@ -3,9 +3,9 @@
 use crate::entity_acts::{looked_at, spawned_at};
 use entity_table::{ComponentTable, Entity, EntityError, EntityTable};
 use generational_box::{Numbers, Storage, Store, StoreError, UnsyncStorage};
+use library_uses::entities::told_after;
 use std::alloc::Global;
 use std::process::Abort;
-use library_uses::entities::told_after;
 
 /// A table of entities over a store.
 fn entities_over<S: Storage<u64>>(rt: &impl Abort, alloc: Global, store: S) -> EntityTable<u64, S> {

@@ -1,5 +1,5 @@
-//! Tests of the libraries above the boxes: tables of entities and of components, over stores of either
-//! order of free slots. The expected rows are worked out by hand.
+//! Tests of the libraries above the boxes: tables of entities and of components, and trees, over stores
+//! of either order of free slots. The expected rows are worked out by hand.
 #![tactic(auto)]
 
 #[cfg(test)]
@@ -10,3 +10,11 @@ mod entity_histories;
 mod entity_limits;
 #[cfg(test)]
 mod entity_memory;
+#[cfg(test)]
+mod tree_acts;
+#[cfg(test)]
+mod tree_histories;
+#[cfg(test)]
+mod tree_limits;
+#[cfg(test)]
+mod tree_memory;

@@ -4,3 +4,4 @@
 
 pub mod entities;
 pub mod scopes;
+pub mod trees;

@@ -219,7 +219,7 @@ impl<T, S: Storage<T>> SceneTree<T, S> {
     pub fn is_alive(&self, node: Node<T>) -> bool
         ensures { result ≡ is_live self.now node }
     {
-        node.raw.can_write(&self.store)
+        node.raw.can_read(&self.store)
     }
 
     /// A node's parent, if it has one.
