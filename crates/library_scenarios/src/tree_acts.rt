@@ -3,6 +3,7 @@
 use generational_box::{Location, Storage};
 use scene_tree::{Node, SceneTree, Stale, TreeError};
 use std::alloc::Global;
+use std::fmt::Debug;
 use std::process::Abort;
 
 /// An act. Nodes are named by the order in which they were made, from 0.
@@ -109,7 +110,7 @@ fn add_child<S: Storage<u64>>(
     match tree.add_child(parent, value, made_at(number)) {
         Ok(child) => Ok(child),
         Err((back, error)) => {
-            assert_eq!(rt; back, value);
+            assert_same(rt, &back, &value);
             Err(error)
         }
     }
@@ -125,10 +126,15 @@ fn set<S: Storage<u64>>(
     match tree.set(node, value) {
         Ok(()) => Ok(()),
         Err((back, stale)) => {
-            assert_eq!(rt; back, value);
+            assert_same(rt, &back, &value);
             Err(TreeError::Stale(stale.made_at))
         }
     }
+}
+
+/// Asserts that a value is what it should be: proved once for all types.
+pub(crate) fn assert_same<T: PartialEq + Debug>(rt: &impl Abort, found: &T, wanted: &T) {
+    assert_eq!(rt; *found, *wanted);
 }
 
 /// A node by its number.
@@ -143,7 +149,7 @@ fn reply_is(rt: &impl Abort, answer: Result<(), TreeError>, reply: Reply) {
         Reply::Stale(number) => Err(TreeError::Stale(made_at(number))),
         Reply::Cycle => Err(TreeError::Cycle),
     };
-    assert_eq!(rt; answer, wanted);
+    assert_same(rt, &answer, &wanted);
 }
 
 /// Sees which nodes stand in a list.
@@ -153,9 +159,9 @@ pub(crate) fn are_nodes(
     list: &[Node<u64>],
     numbers: &[usize],
 ) {
-    assert_eq!(rt; list.len(), numbers.len());
+    assert_same(rt, &list.len(), &numbers.len());
     for (node, number) in list.iter().zip(numbers) {
-        assert_eq!(rt; node.id(), node_at(rt, nodes, *number).id());
+        assert_same(rt, &node.id(), &node_at(rt, nodes, *number).id());
     }
 }
 
@@ -166,7 +172,7 @@ fn shows<S: Storage<u64>>(
     nodes: &[Node<u64>],
     shows: &[Option<(u64, Option<usize>)>],
 ) {
-    assert_eq!(rt; nodes.len(), shows.len());
+    assert_same(rt, &nodes.len(), &shows.len());
     let mut number: usize = 0;
     for (node, shown) in nodes.iter().zip(shows) {
         match *shown {
@@ -187,13 +193,13 @@ fn is_shown<S: Storage<u64>>(
     parent: Option<usize>,
 ) {
     assert!(rt; tree.is_alive(node));
-    assert_eq!(rt; tree.get(node, looked_at(), |seen| *seen), Ok(value));
+    assert_same(rt, &tree.get(node, looked_at(), |seen| *seen), &Ok(value));
     let above = tree.parent(node).expect(rt, "a live node");
     match (above, parent) {
         (Some(above), Some(number)) => {
-            assert_eq!(rt; above.id(), node_at(rt, nodes, number).id());
+            assert_same(rt, &above.id(), &node_at(rt, nodes, number).id());
         }
-        (above, parent) => assert_eq!(rt; above.is_some(), parent.is_some()),
+        (above, parent) => assert_same(rt, &above.is_some(), &parent.is_some()),
     }
 }
 
@@ -228,8 +234,8 @@ fn is_gone<S: Storage<u64>>(
     };
     let error = TreeError::Stale(stale.made_at);
     assert!(rt; !tree.is_alive(node));
-    assert_eq!(rt; tree.get(node, looked_at(), |seen| *seen), Err(error));
-    assert_eq!(rt; tree.parent(node).map(|_| ()), Err(stale));
-    assert_eq!(rt; tree.children(node).map(|_| ()), Err(stale));
-    assert_eq!(rt; tree.subtree(node).map(|_| ()), Err(error));
+    assert_same(rt, &tree.get(node, looked_at(), |seen| *seen), &Err(error));
+    assert_same(rt, &tree.parent(node).map(|_| ()), &Err(stale));
+    assert_same(rt, &tree.children(node).map(|_| ()), &Err(stale));
+    assert_same(rt, &tree.subtree(node).map(|_| ()), &Err(error));
 }

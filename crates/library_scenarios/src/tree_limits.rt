@@ -1,6 +1,6 @@
 //! Trees of values that are let go, trees whose store has given all its tickets, and callers of trees.
 
-use crate::tree_acts::{looked_at, made_at};
+use crate::tree_acts::{assert_same, looked_at, made_at};
 use generational_box::{Numbers, Storage, Store, StoreError, UnsyncStorage};
 use library_uses::trees::{moved_round, told_after};
 use scene_tree::{Node, SceneTree, TreeError};
@@ -48,13 +48,13 @@ fn values_go<S: Storage<Rc<u32>>>(
     let below = child(rt, tree, top, another(rt, value));
     child(rt, tree, below, another(rt, value));
     child(rt, tree, top, another(rt, value));
-    assert_eq!(rt; Rc::strong_count(value), 5);
+    assert_same(rt, &Rc::strong_count(value), &5);
     assert!(rt; tree.set(top, another(rt, value)).is_ok());
-    assert_eq!(rt; Rc::strong_count(value), 5);
+    assert_same(rt, &Rc::strong_count(value), &5);
     assert!(rt; tree.remove_subtree(below).is_ok());
-    assert_eq!(rt; Rc::strong_count(value), 3);
+    assert_same(rt, &Rc::strong_count(value), &3);
     assert!(rt; tree.remove_subtree(top).is_ok());
-    assert_eq!(rt; Rc::strong_count(value), 1);
+    assert_same(rt, &Rc::strong_count(value), &1);
 }
 
 #[test]
@@ -75,14 +75,18 @@ fn stale_is_told<S: Storage<u64>>(rt: &impl Abort, tree: &mut SceneTree<u64, S>)
         Err(_lacking) => rt.abort(),
     };
     let told = Err(TreeError::Stale(made_at(3)));
-    assert_eq!(rt; told_after(tree, first, 4, looked_at()), told);
+    assert_same(rt, &told_after(tree, first, 4, looked_at()), &told);
 }
 
 /// Two nodes, each of which is to be below the other.
 fn no_cycle_is_made<S: Storage<u64>>(rt: &impl Abort, tree: &mut SceneTree<u64, S>) {
     let first = root(rt, tree, 1);
     let second = root(rt, tree, 2);
-    assert_eq!(rt; moved_round(tree, first, second), Err(TreeError::Cycle));
+    assert_same(
+        rt,
+        &moved_round(tree, first, second),
+        &Err(TreeError::Cycle),
+    );
 }
 
 #[test]
@@ -99,7 +103,11 @@ fn looks_are_used_up<S: Storage<u64>>(rt: &impl Abort, tree: &mut SceneTree<u64,
     let node = root(rt, tree, 0);
     let mut asked = false;
     let answer = tree.get(node, looked_at(), |_| asked = true);
-    assert_eq!(rt; answer, Err(TreeError::Store(StoreError::NumbersExhausted)));
+    assert_same(
+        rt,
+        &answer,
+        &Err(TreeError::Store(StoreError::NumbersExhausted)),
+    );
     assert!(rt; !asked);
     assert!(rt; tree.remove_subtree(node).is_ok());
 }

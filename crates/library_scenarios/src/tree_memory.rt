@@ -1,7 +1,7 @@
 //! Want of memory in trees. The test passes whichever one allocation is refused: what lacks memory
 //! changes nothing, and is tried a second time.
 
-use crate::tree_acts::{are_nodes, made_at};
+use crate::tree_acts::{are_nodes, assert_same, made_at};
 use generational_box::{LastFirst, Storage, Store, StoreError};
 use scene_tree::{Node, SceneTree, TreeError};
 use std::alloc::Global;
@@ -18,7 +18,7 @@ fn root_or_again<S: Storage<u64>>(rt: &impl Abort, tree: &mut SceneTree<u64, S>)
     let made = match tree.add_root(0, made_at(0)) {
         Ok(root) => Ok(root),
         Err(refusal) => {
-            assert_eq!(rt; refusal.value, 0);
+            assert_same(rt, &refusal.value, &0);
             tree.add_root(refusal.value, made_at(0))
         }
     };
@@ -36,9 +36,9 @@ fn child_or_again<S: Storage<u64>>(
     let made = match tree.add_child(parent, value, made_at(1)) {
         Ok(child) => Ok(child),
         Err((back, error)) => {
-            assert_eq!(rt; back, value);
-            assert_eq!(rt; error, LACKING);
-            assert_eq!(rt; count_of(rt, tree, parent), before);
+            assert_same(rt, &back, &value);
+            assert_same(rt, &error, &LACKING);
+            assert_same(rt, &count_of(rt, tree, parent), &before);
             tree.add_child(parent, back, made_at(1))
         }
     };
@@ -59,8 +59,8 @@ fn move_or_again<S: Storage<u64>>(
 ) {
     let before = count_of(rt, tree, parent);
     if let Err(error) = tree.move_to(node, parent) {
-        assert_eq!(rt; error, LACKING);
-        assert_eq!(rt; count_of(rt, tree, parent), before);
+        assert_same(rt, &error, &LACKING);
+        assert_same(rt, &count_of(rt, tree, parent), &before);
         assert!(rt; tree.move_to(node, parent).is_ok());
     }
 }
@@ -74,7 +74,7 @@ fn remove_or_again<S: Storage<u64>>(
     match tree.remove_subtree(node) {
         Ok(list) => list,
         Err(error) => {
-            assert_eq!(rt; error, LACKING);
+            assert_same(rt, &error, &LACKING);
             assert!(rt; tree.is_alive(node));
             tree.remove_subtree(node).expect(rt, "the nodes")
         }
@@ -96,8 +96,8 @@ fn grow_and_cut<S: Storage<u64>>(rt: &impl Abort, tree: &mut SceneTree<u64, S>) 
         &[0],
     );
     let list = remove_or_again(rt, tree, first);
-    assert_eq!(rt; list.len() as u64, MANY);
-    assert_eq!(rt; count_of(rt, tree, root), 0);
+    assert_same(rt, &(list.len() as u64), &MANY);
+    assert_same(rt, &count_of(rt, tree, root), &0);
 }
 
 /// The same over a store.
