@@ -85,6 +85,14 @@ module _ {T : Type 0} where
   same_shown S a b same = ap (λ (id : GenerationalBoxId). value_reached S (cond (nat_eq id.store S.number)
       (leads_to (map.get S.cells (name_in id)) (name_in id)) None)) same
 
+  -- what is below a live node is live
+  pub below_live : (t : TreeState T) (top n : Node T) (e : ℕ) → is_live t top ≡ true
+      → IsStepsBelow t top e n → is_live t n ≡ true
+  below_live t top n zero live same = ap is_some (same_shown t.state n top same) ∙ live
+  below_live t top n (suc e) live below = ⊎_elim (λ lives. lives)
+      (λ gone. absurd (none-some below.0 (sym (ap (λ f. f.parent) (gone_family t n gone)) ∙ below.1)))
+      (cases_Bool (is_live t n))
+
   abbrev pub AreLive : State T → List (Node T) → Type 0
   AreLive S list = (i : ℕ) (c : Node T) → slice_get list i ≡ Some c → IsLiveIn S c
 

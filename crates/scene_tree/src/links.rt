@@ -167,6 +167,7 @@ pub(crate) fn is_under<T>(links: &Vec<Links<T>>, slot: usize, top: usize) -> boo
     ensures { IsTrue result ↔ (steps : ℕ) × IsUnder (families links.now.items) top steps slot }
 {
     let mut at = slot;
+    // No way to a root is longer than there are slots.
     for _ in 0..links.len() {
         if at == top {
             return true;

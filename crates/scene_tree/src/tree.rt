@@ -230,7 +230,7 @@ impl<T, S: Storage<T>> SceneTree<T, S> {
         ensures stale { IsErr result ↔ value_of self.now node ≡ None }
         ensures told { IfErr result (λ stale. stale.made_at ≡ made_at node) }
     {
-        if !node.raw.can_write(&self.store) {
+        if !self.is_alive(node) {
             return Err(Stale {
                 made_at: node.made_at(),
             });
@@ -247,12 +247,13 @@ impl<T, S: Storage<T>> SceneTree<T, S> {
         ensures stale { IsErr result ↔ value_of self.now node ≡ None }
         ensures told { IfErr result (λ stale. stale.made_at ≡ made_at node) }
     {
-        if !node.raw.can_write(&self.store) {
+        let links = &self.links;
+        if !self.is_alive(node) {
             return Err(Stale {
                 made_at: node.made_at(),
             });
         }
-        Ok(children_at(&self.links, node.slot()))
+        Ok(children_at(links, node.slot()))
     }
 
     /// A node and all below it, each once, level by level: first the node, and then the children of
@@ -267,7 +268,7 @@ impl<T, S: Storage<T>> SceneTree<T, S> {
         ensures short { IfErr result (λ e. (value_of self.now node ≡ None)
             ⊎ (e ≡ error.Store OutOfMemory)) }
     {
-        if !node.raw.can_write(&self.store) {
+        if !self.is_alive(node) {
             return Err(TreeError::Stale(node.made_at()));
         }
         match gather(self.alloc, &self.links, node) {
@@ -329,10 +330,10 @@ impl<T, S: Storage<T>> SceneTree<T, S> {
             ⊎ (value_of self.now parent ≡ None)
             ⊎ IsBelow self.now node parent) }
     {
-        if !node.raw.can_write(&self.store) {
+        if !self.is_alive(node) {
             return Err(TreeError::Stale(node.made_at()));
         }
-        if !parent.raw.can_write(&self.store) {
+        if !self.is_alive(parent) {
             return Err(TreeError::Stale(parent.made_at()));
         }
         if is_under(&self.links, parent.slot(), node.slot()) {
@@ -367,7 +368,7 @@ impl<T, S: Storage<T>> SceneTree<T, S> {
             ⊎ (e ≡ error.Store OutOfMemory)) }
         ensures refused { OnErr result (self.new ≡ self.old) }
     {
-        if !node.raw.can_write(&self.store) {
+        if !self.is_alive(node) {
             return Err(TreeError::Stale(node.made_at()));
         }
         let list = match gather(self.alloc, &self.links, node) {
