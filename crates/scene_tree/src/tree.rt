@@ -132,7 +132,7 @@ impl<T, S: Storage<T>> SceneTree<T, S> {
         ensures back { IfErr result (λ back. back.0 ≡ value) }
         ensures refused { OnErr result (self.new ≡ self.old) }
     {
-        if !parent.raw.can_write(&self.store) {
+        if !self.is_alive(parent) {
             return Err((value, TreeError::Stale(parent.made_at())));
         }
         if !reserve_node(&mut self.links, parent.slot()) {
@@ -165,7 +165,7 @@ impl<T, S: Storage<T>> SceneTree<T, S> {
         ensures back { IfErr result (λ back. back.0 ≡ value) }
         ensures refused { OnErr result (self.new ≡ self.old) }
     {
-        if !node.raw.can_write(&self.store) {
+        if !self.is_alive(node) {
             let stale = Stale {
                 made_at: node.made_at(),
             };
@@ -199,7 +199,7 @@ impl<T, S: Storage<T>> SceneTree<T, S> {
             ⊎ ((e ≡ error.Store NumbersExhausted) × (self.old.state.next ≡ last_ticket))) }
         ensures refused { OnErr result (self.new ≡ self.old) }
     {
-        if !node.raw.can_write(&self.store) {
+        if !self.is_alive(node) {
             return Err(TreeError::Stale(node.made_at()));
         }
         let guard = match node.raw.read(&mut self.store, here) {

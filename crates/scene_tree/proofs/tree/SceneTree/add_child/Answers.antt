@@ -1,11 +1,11 @@
-use Rattle.std.proofs.Common.{None, Ok, arith, inl, sym, subst, ap, ◌∙◌, ◌++◌, ◌∷◌, []}
+use Rattle.std.proofs.Common.{None, Ok, arith, sym, subst, ap, true, ◌∙◌, ◌++◌, ◌∷◌, [], ◌≡◌}
+use Rattle.scene_tree.specs.Trees.{TreeState, is_live}
 use Rattle.std.specs.Prelude.{is_some}
-use Rattle.std.proofs.lemmas.Bool.{true≢false}
 use Rattle.generational_core.specs.Answers.{pointer_of}
 use Rattle.generational_core.proofs.machine.Calling.{made}
 use Rattle.generational_core.proofs.machine.Leaving.{same_value}
 use Rattle.generational_core.proofs.machine.Stepping.{made_new, meets_given}
-use Rattle.entity_table.proofs.Keeping.{free_seen, others_left, stuck_unseen}
+use Rattle.entity_table.proofs.Keeping.{others_left}
 use Rattle.std.proofs.lemmas.List.{length-map}
 use Rattle.scene_tree.specs.declared.node.Node.{Node}
 use Rattle.scene_tree.specs.Families.{Family, HasRoom, family_in}
@@ -16,32 +16,12 @@ use Rattle.scene_tree.proofs.Trees.{left_with, live_family}
 use Rattle.scene_tree.proofs.Writes.{opened_from}
 use Rattle.scene_tree.proofs.tree.SceneTree.add_child.Goals as goal
 
-pub returns-then-not-can_write-clause-short : goal.returns-then-not-can_write-clause-short
-returns-then-not-can_write-clause-short g c = rw (← c.self.view_is)
-    (inl (stuck_unseen _ (g.met.S.AnyStorage.sound _) c.self.invariant.simple c.can_write.ensures
-    c.if-not-can_write.true))
-
 pub reserve_node-requires : goal.reserve_node-requires
 reserve_node-requires g c =
     let lt = live_slot c.self.inside.links.items (g.met.S.AnyStorage.sound _) c.self.invariant c.args.parent
-    (free_seen _ (g.met.S.AnyStorage.sound _) c.self.invariant.simple c.can_write.ensures
-    c.if-not-can_write.false) in
+    (subst (λ (t : TreeState _). is_live t c.args.parent ≡ true) (sym c.self.view_is)
+    (sym c.is_alive.ensures ∙ c.if-not-is_alive.false)) in
     record { within = omega (arith, lt, c.slot.ensures) }
-
-pub returns-then-not-reserve_node-clause-stale : goal.returns-then-not-reserve_node-clause-stale
-returns-then-not-reserve_node-clause-stale g c = rw (← c.self.view_is) (λ none.
-    absurd (true≢false (sym (free_seen _ (g.met.S.AnyStorage.sound _) c.self.invariant.simple
-    c.can_write.ensures c.if-not-can_write.false) ∙ ap is_some none)))
-
-pub returns-in-Err-clause-stale : goal.returns-in-Err-clause-stale
-returns-in-Err-clause-stale g c = rw (← c.self.view_is) (λ none.
-    absurd (true≢false (sym (free_seen _ (g.met.S.AnyStorage.sound _) c.self.invariant.simple
-    c.can_write.ensures c.if-not-can_write.false) ∙ ap is_some none)))
-
-pub returns-clause-stale : goal.returns-clause-stale
-returns-clause-stale g c = rw (← c.self.view_is) (λ none.
-    absurd (true≢false (sym (free_seen _ (g.met.S.AnyStorage.sound _) c.self.invariant.simple
-    c.can_write.ensures c.if-not-can_write.false) ∙ ap is_some none)))
 
 pub attach-requires-clause-room : goal.attach-requires-clause-room
 attach-requires-clause-room g c = c.open_slot.ensures.kept _
@@ -59,8 +39,8 @@ invariant_of-self-2 g c =
     let sound = g.met.S.AnyStorage.sound in
     let opened = opened_from c.reserve_node.ensures.same c.slot-2.ensures c.open_slot.ensures.opened in
     kept_added c.self.invariant (sound _) _ _ c.args.parent (record { raw = c.in-Ok.raw })
-    c.in-Ok.ensures.step (free_seen _ (sound _) c.self.invariant.simple c.can_write.ensures
-    c.if-not-can_write.false) _ _ opened c.attach.ensures
+    c.in-Ok.ensures.step (subst (λ (t : TreeState _). is_live t c.args.parent ≡ true) (sym c.self.view_is)
+    (sym c.is_alive.ensures ∙ c.if-not-is_alive.false)) _ _ opened c.attach.ensures
 
 pub returns-clause-shown : goal.returns-clause-shown
 returns-clause-shown g c = made None _ _ (Ok c.in-Ok.raw) c.in-Ok.ensures.step
@@ -72,14 +52,14 @@ returns-clause-below g c =
     live_family _ (record { raw = c.in-Ok.raw })
     (ap is_some (made None _ _ (Ok c.in-Ok.raw) c.in-Ok.ensures.step))
     ∙ added_child c.self.invariant (sound _) _ _ c.args.parent (record { raw = c.in-Ok.raw })
-    c.in-Ok.ensures.step (free_seen _ (sound _) c.self.invariant.simple c.can_write.ensures
-    c.if-not-can_write.false) _ _ opened c.attach.ensures
+    c.in-Ok.ensures.step (subst (λ (t : TreeState _). is_live t c.args.parent ≡ true) (sym c.self.view_is)
+    (sym c.is_alive.ensures ∙ c.if-not-is_alive.false)) _ _ opened c.attach.ensures
 
 pub returns-clause-parent : goal.returns-clause-parent
 returns-clause-parent g c =
     let sound = g.met.S.AnyStorage.sound in
-    let live = free_seen _ (sound _) c.self.invariant.simple c.can_write.ensures
-    c.if-not-can_write.false in
+    let live = subst (λ (t : TreeState _). is_live t c.args.parent ≡ true) (sym c.self.view_is)
+    (sym c.is_alive.ensures ∙ c.if-not-is_alive.false) in
     rw (← c.self.view_is) (added_left c.self.invariant (sound _) _ _ (record { raw = c.in-Ok.raw })
     c.in-Ok.ensures.step c.args.parent live)
 
@@ -88,8 +68,8 @@ returns-clause-last g c =
     let sound = g.met.S.AnyStorage.sound in
     let opened = opened_from c.reserve_node.ensures.same c.slot-2.ensures c.open_slot.ensures.opened in
     let child : Node _ = record { raw = c.in-Ok.raw } in
-    let live = free_seen _ (sound _) c.self.invariant.simple c.can_write.ensures
-    c.if-not-can_write.false in
+    let live = subst (λ (t : TreeState _). is_live t c.args.parent ≡ true) (sym c.self.view_is)
+    (sym c.is_alive.ensures ∙ c.if-not-is_alive.false) in
     let lives = ap is_some (added_left c.self.invariant (sound _) _ _ child c.in-Ok.ensures.step c.args.parent live) ∙ live in
     rw (← c.self.view_is) (live_family _ c.args.parent lives
     ∙ (added_parent c.self.invariant (sound _) _ _ c.args.parent child c.in-Ok.ensures.step live _ _
@@ -103,8 +83,8 @@ returns-clause-others g c f other beside =
     let opened = opened_from c.reserve_node.ensures.same c.slot-2.ensures c.open_slot.ensures.opened in
     let child : Node _ = record { raw = c.in-Ok.raw } in
     let step = c.in-Ok.ensures.step in
-    let live = free_seen _ (sound _) c.self.invariant.simple c.can_write.ensures
-    c.if-not-can_write.false in
+    let live = subst (λ (t : TreeState _). is_live t c.args.parent ≡ true) (sym c.self.view_is)
+    (sym c.is_alive.ensures ∙ c.if-not-is_alive.false) in
     rw (← c.self.view_is) (left_with _ _ f (others_left _ _ (sound _) step (pointer_of c.in-Ok.raw)
     (pointer_in f) (made_new _ _ _ _ step).0 (same_value _ _ _ _ (sound _) step _ tt) other)
     (λ lives. added_beside c.self.invariant (sound _) _ _ c.args.parent child step live _ _

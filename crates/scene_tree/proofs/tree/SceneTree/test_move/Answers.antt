@@ -1,4 +1,4 @@
-use Rattle.std.proofs.Common.{arith, inl, inr, sym, subst, true, ◌∙◌, ◌≡◌}
+use Rattle.std.proofs.Common.{arith, inr, sym, subst, true, ◌∙◌, ◌≡◌}
 use Rattle.std.proofs.lemmas.Bool.{true≢false}
 use Rattle.scene_tree.specs.Families.{families}
 use Rattle.scene_tree.specs.Trees.{TreeState, is_live}
