@@ -41,7 +41,7 @@ module _ {T : Type 0} where
       let to = seen_reached S (pointer_in n) v.0 v.1 in
       (led_box _ (name_of (pointer_in n)) to.0 (reaches S (pointer_in n) to.0 to.1).leads).0
 
-  slot_made : (S : State T) (n : Name) → IsGiven S n → map.contains_key (slots_of S) n.slot ≡ true
+  pub slot_made : (S : State T) (n : Name) → IsGiven S n → map.contains_key (slots_of S) n.slot ≡ true
   slot_made S n given = at (map.get (slots_of S) n.slot) refl
     where
       within : IsIn (set.items S.given) n

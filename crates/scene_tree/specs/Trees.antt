@@ -1,4 +1,5 @@
 -- What a caller sees of a tree.
+use Rattle.std.specs.FinMap as map
 use Rattle.std.specs.List.{flat_map}
 use Rattle.std.specs.Prelude.{◌≡◌, ◌<◌, ◌≤◌, ◌↔◌, ◌∷◌, ℕ, suc, zero, true, Bool, List, Option, None, Some}
 use Rattle.std.specs.Prelude.{is_some, if◌then◌else◌}
@@ -21,6 +22,10 @@ module _ {T : Type 0} where
 
   abbrev pub is_live : TreeState T → Node T → Bool
   is_live t n = is_some (value_of t n)
+
+  -- how many nodes are live: each has a cell of the store, and no other is there
+  abbrev pub count_of : TreeState T → ℕ
+  count_of t = map.len t.state.cells
 
   -- a handle that the tree gave, once
   abbrev pub WasMade : TreeState T → Node T → Type 0

@@ -17,7 +17,7 @@ ghost use Rattle.scene_tree.specs.Keeping.{HasLost, IsLiveIn};
 ghost use Rattle.scene_tree.specs.Nodes.{made_at, pointer_in, times, without, IsOther};
 ghost use Rattle.scene_tree.specs.Trees.{TreeState, value_of, is_live, family_of, parent_of};
 ghost use Rattle.scene_tree.specs.Trees.{children_of, WasMade, IsBelow, IsLeft, CanMove};
-ghost use Rattle.scene_tree.specs.Trees.{IsSubtree, IsTree};
+ghost use Rattle.scene_tree.specs.Trees.{IsSubtree, IsTree, count_of};
 
 use crate::links::{
     Links, attach, children_at, clear_all, detach, gather, is_under, open_slot, parent_at,
@@ -220,6 +220,13 @@ impl<T, S: Storage<T>> SceneTree<T, S> {
         ensures { result ≡ is_live self.now node }
     {
         node.raw.can_read(&self.store)
+    }
+
+    /// How many nodes are live: as many as the store has live cells. Takes no memory, and is O(1).
+    pub fn len(&self) -> usize
+        ensures { result ≡ count_of self.now }
+    {
+        self.store.slots() - self.store.free() - self.store.retired()
     }
 
     /// A node's parent, if it has one.
