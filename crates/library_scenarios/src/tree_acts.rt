@@ -174,13 +174,18 @@ fn shows<S: Storage<u64>>(
 ) {
     assert_same(rt, &nodes.len(), &shows.len());
     let mut number: usize = 0;
+    let mut live: usize = 0;
     for (node, shown) in nodes.iter().zip(shows) {
         match *shown {
-            Some((value, parent)) => is_shown(rt, tree, nodes, *node, value, parent),
+            Some((value, parent)) => {
+                is_shown(rt, tree, nodes, *node, value, parent);
+                live = live.wrapping_add(1);
+            }
             None => is_gone(rt, tree, *node, number),
         }
         number = number.wrapping_add(1);
     }
+    assert_same(rt, &tree.len(), &live);
 }
 
 /// Sees a live node's value and parent.

@@ -1,5 +1,6 @@
 -- What holds of a tree's store and of its families.
-use Rattle.std.specs.Prelude.{◌≡◌, ◌<◌, ℕ, List, None, Some, true, is_some, length, slice_get}
+use Rattle.std.specs.FinMap as map
+use Rattle.std.specs.Prelude.{◌+◌, ◌≡◌, ◌<◌, ℕ, List, None, Some, true, is_some, length, slice_get}
 use Rattle.generational_core.specs.Names.{Name}
 use Rattle.generational_core.specs.Seeing.{value_in}
 use Rattle.generational_core.specs.Slots.{slots}
@@ -19,6 +20,7 @@ module _ {T : Type 0} where
     pub simple : IsSimple new
     pub same : slots new ≡ slots old
     pub number : new.number ≡ old.number
+    pub count : map.len new.cells + length gone ≡ map.len old.cells
     pub given : (n : Name) → IsGiven old n → IsGiven new n
     pub ended : (n : Node T) → 0 < times n gone → value_in new (pointer_in n) ≡ None
     pub others : (n : Node T) → times n gone ≡ 0

@@ -1,6 +1,6 @@
 //! Trees of nodes.
 
-ghost use Rattle.std.specs.Prelude.{ℕ, ◌<◌, true, slice_get};
+ghost use Rattle.std.specs.Prelude.{ℕ, ◌<◌, ◌≤◌, ◌+◌, true, length, slice_get};
 ghost use Rattle.std.specs.Prelude.{◌≡◌, ◌↔◌, ◌⊎◌, ◌++◌, ◌∷◌, [], None, Some, Err, is_some};
 ghost use Rattle.std.specs.Prelude.{IfOk, OnOk, IfErr, OnErr, IsErr};
 ghost use Rattle.std.specs.Fn.{FnOnceReturnsAt};
@@ -14,7 +14,7 @@ ghost use Rattle.scene_tree.specs.declared.node.TreeError.TheVariants as error;
 ghost use Rattle.scene_tree.specs.Families.{alone};
 ghost use Rattle.entity_table.specs.Keeping.{IsSimple};
 ghost use Rattle.scene_tree.specs.Keeping.{HasLost, IsLiveIn};
-ghost use Rattle.scene_tree.specs.Nodes.{made_at, pointer_in, times, without, IsOther};
+ghost use Rattle.scene_tree.specs.Nodes.{made_at, times, without, IsOther};
 ghost use Rattle.scene_tree.specs.Trees.{TreeState, value_of, is_live, family_of, parent_of};
 ghost use Rattle.scene_tree.specs.Trees.{children_of, WasMade, IsBelow, IsLeft, CanMove};
 ghost use Rattle.scene_tree.specs.Trees.{IsSubtree, IsTree, count_of};
@@ -79,6 +79,7 @@ impl<T, S: Storage<T>> SceneTree<T, S> {
     pub fn add_root(&mut self, value: T, here: Location) -> Result<Node<T>, Refusal<T>>
         ensures shown { IfOk result (λ n. value_of self.new n ≡ Some value) }
         ensures alone { IfOk result (λ n. family_of self.new n ≡ alone) }
+        ensures count { OnOk result (count_of self.new ≡ count_of self.old + 1) }
         ensures others { IfOk result (λ n. (f : Node T) → IsOther n f →
             IsLeft self.old f self.new) }
         ensures left { (f : Node T) → WasMade self.old f → IsLeft self.old f self.new }
@@ -118,6 +119,7 @@ impl<T, S: Storage<T>> SceneTree<T, S> {
           parent = parent_of self.old parent;
           children = children_of self.old parent ++ n ∷ [];
         }) }
+        ensures count { OnOk result (count_of self.new ≡ count_of self.old + 1) }
         ensures parent { value_of self.new parent ≡ value_of self.old parent }
         ensures others { IfOk result (λ n. (f : Node T) → IsOther n f → IsOther parent f →
             IsLeft self.old f self.new) }
@@ -158,6 +160,7 @@ impl<T, S: Storage<T>> SceneTree<T, S> {
         T: Drop,
         ensures shown { OnOk result (value_of self.new node ≡ Some value) }
         ensures family { family_of self.new node ≡ family_of self.old node }
+        ensures count { count_of self.new ≡ count_of self.old }
         ensures others { (f : Node T) → IsOther node f → IsLeft self.old f self.new }
         ensures kept { (f : Node T) → WasMade self.old f → WasMade self.new f }
         ensures stale { IsErr result ↔ value_of self.old node ≡ None }
@@ -360,6 +363,8 @@ impl<T, S: Storage<T>> SceneTree<T, S> {
         ensures subtree { IfOk result (λ list. IsSubtree self.old node list.items) }
         ensures gone { IfOk result (λ list. (n : Node T) → 0 < times n list.items →
             value_of self.new n ≡ None) }
+        ensures count { IfOk result (λ list.
+            count_of self.new + length list.items ≡ count_of self.old) }
         ensures lost { OnOk result ((up : Node T) → parent_of self.old node ≡ Some up →
             (value_of self.new up ≡ value_of self.old up) × (family_of self.new up ≡ record {
               parent = parent_of self.old up;
@@ -394,6 +399,7 @@ fn end_all<T, S: Storage<T>>(store: &mut S, nodes: &Vec<Node<T>>)
     requires simple { IsSimple (S.state store.old) }
     requires live { (i : ℕ) (n : Node T) → slice_get nodes.now.items i ≡ Some n →
         IsLiveIn (S.state store.old) n }
+    requires once { (n : Node T) → times n nodes.now.items ≤ 1 }
     ensures { HasLost (S.state store.old) nodes.now.items (S.state store.new) }
 {
     for node in nodes {
@@ -404,7 +410,7 @@ fn end_all<T, S: Storage<T>>(store: &mut S, nodes: &Vec<Node<T>>)
 // Ends the value of a node.
 fn end<T, S: Storage<T>>(store: &mut S, node: Node<T>)
     requires simple { IsSimple (S.state store.old) }
-    requires own { (pointer_in node).id.store ≡ (S.state store.old).number }
+    requires live { IsLiveIn (S.state store.old) node }
     ensures { HasLost (S.state store.old) (node ∷ []) (S.state store.new) }
 {
     match node.raw.manually_drop(store) {

@@ -11,7 +11,7 @@ use Rattle.scene_tree.specs.declared.node.Node.{Node}
 use Rattle.scene_tree.specs.Families.{Family, HasRoom, family_in}
 use Rattle.scene_tree.specs.Nodes.{pointer_in, slot_in}
 use Rattle.scene_tree.proofs.Keeping.{added_beside, added_child, added_left, added_parent, kept_added, live_slot, opened_within}
-use Rattle.scene_tree.proofs.Stores.{made_beside, one_live}
+use Rattle.scene_tree.proofs.Stores.{made_count, made_beside, one_live}
 use Rattle.scene_tree.proofs.Trees.{left_with, live_family}
 use Rattle.scene_tree.proofs.Writes.{opened_from}
 use Rattle.scene_tree.proofs.tree.SceneTree.add_child.Goals as goal
@@ -97,3 +97,7 @@ returns-clause-made g c = (made_new _ _ _ _ c.in-Ok.ensures.step).2
 
 pub returns-clause-kept : goal.returns-clause-kept
 returns-clause-kept g c f = rw (← c.self.view_is) (meets_given _ _ _ _ c.in-Ok.ensures.step _)
+
+pub returns-clause-count : goal.returns-clause-count
+returns-clause-count g c = rw (← c.self.view_is) (made_count (g.met.S.AnyStorage.sound _)
+    c.self.invariant.simple _ _ (pointer_of c.in-Ok.raw) c.in-Ok.ensures.step)

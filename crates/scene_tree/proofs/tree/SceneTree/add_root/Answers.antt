@@ -9,6 +9,7 @@ use Rattle.scene_tree.specs.Families.{families}
 use Rattle.scene_tree.specs.Nodes.{pointer_in, slot_in}
 use Rattle.scene_tree.specs.Trees.{TreeState, WasMade}
 use Rattle.scene_tree.proofs.Keeping.{kept_opened, opened_alone, opened_same}
+use Rattle.scene_tree.proofs.Stores.{made_count}
 use Rattle.scene_tree.proofs.Trees.{left_with, live_family}
 use Rattle.scene_tree.proofs.Writes.{opened_from}
 use Rattle.scene_tree.proofs.tree.SceneTree.add_root.Goals as goal
@@ -53,3 +54,7 @@ returns-clause-made g c = (made_new _ _ _ _ c.in_ok-raw.ensures.step).2
 
 pub returns-clause-kept : goal.returns-clause-kept
 returns-clause-kept g c f = rw (← c.self.view_is) (meets_given _ _ _ _ c.in_ok-raw.ensures.step _)
+
+pub returns-clause-count : goal.returns-clause-count
+returns-clause-count g c = rw (← c.self.view_is) (made_count (g.met.S.AnyStorage.sound _)
+    c.self.invariant.simple _ _ (pointer_of c.in_ok-raw.raw) c.in_ok-raw.ensures.step)

@@ -1,4 +1,4 @@
-use Rattle.std.proofs.Common.{◌≡◌, arith}
+use Rattle.std.proofs.Common.{arith}
 use Rattle.scene_tree.proofs.Lengths.{slots_are}
 use Rattle.scene_tree.proofs.tree.SceneTree.len.Goals as goal
 

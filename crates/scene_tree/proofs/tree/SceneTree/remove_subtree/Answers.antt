@@ -94,3 +94,11 @@ returns-clause-others g c = rw (← c.self.view_is) (λ n out other.
     other_family (sound _) c.self.invariant c.args.node live c.in-Ok.list.items c.in-Ok.ensures
     c.detach.ensures.detached long c.clear_all.ensures.cleared c.end_all.ensures n lives out
     (λ up is. other up (live_parent (sound _) c.self.invariant c.args.node live ∙ is))))
+
+pub end_all-requires-clause-once : goal.end_all-requires-clause-once
+end_all-requires-clause-once g c = (subtree (g.met.S.AnyStorage.sound _) c.self.invariant c.args.node
+    (subst (λ (t : TreeState _). is_live t c.args.node ≡ true) (sym c.self.view_is)
+    (sym c.is_alive.ensures ∙ c.if-not-is_alive.false)) c.in-Ok.list.items c.in-Ok.ensures).once
+
+pub returns-clause-count : goal.returns-clause-count
+returns-clause-count g c = rw (← c.self.view_is) c.end_all.ensures.count

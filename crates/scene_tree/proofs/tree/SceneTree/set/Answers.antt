@@ -8,7 +8,7 @@ use Rattle.generational_sessions.proofs.callers.PlainStores.{reach_apart}
 use Rattle.entity_table.proofs.Keeping.{others_left, seen_store, set_seen, simple_still}
 use Rattle.scene_tree.specs.Nodes.{pointer_in}
 use Rattle.scene_tree.proofs.Keeping.{kept_still}
-use Rattle.scene_tree.proofs.Stores.{same_slots}
+use Rattle.scene_tree.proofs.Stores.{same_slots, set_count}
 use Rattle.scene_tree.proofs.Trees.{left_with, live_family}
 use Rattle.scene_tree.proofs.tree.SceneTree.set.Goals as goal
 
@@ -45,3 +45,6 @@ returns-clause-others g c f other =
     (λ ne. same_value _ _ _ _ (sound _) c.set.ensures.1 _
     (λ same. ne (reach_apart _ c.self.invariant.simple.plain _ _ to.0 to.1 (sym same))) tt) other)
     (λ live. refl))
+
+pub returns-clause-count : goal.returns-clause-count
+returns-clause-count g c = rw (← c.self.view_is) (set_count _ _ _ c.set.ensures.1)
