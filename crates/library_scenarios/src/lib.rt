@@ -1,5 +1,5 @@
-//! Tests of the libraries above the boxes: tables of entities, of components and of sessions, over
-//! stores of either order of free slots. The expected rows are worked out by hand.
+//! Tests of the libraries above the boxes: tables of entities, of components and of sessions, and
+//! trees, over stores of either order of free slots. The expected rows are worked out by hand.
 #![tactic(auto)]
 
 #[cfg(test)]
@@ -18,3 +18,11 @@ mod session_histories;
 mod session_limits;
 #[cfg(test)]
 mod session_memory;
+#[cfg(test)]
+mod tree_acts;
+#[cfg(test)]
+mod tree_histories;
+#[cfg(test)]
+mod tree_limits;
+#[cfg(test)]
+mod tree_memory;

@@ -132,9 +132,7 @@ fn callers_are_told<S: Storage<u64>>(rt: &impl Abort, table: &mut SessionTable<u
         Ok(entry) => entry,
         Err(_lacking) => rt.abort(),
     };
-    let stale = Stale {
-        put_at: put_at(3),
-    };
+    let stale = Stale { put_at: put_at(3) };
     let told = told_after_logout(table, 1, first, 2, 6, put_at(5));
     assert_same(rt, &told, &Err(stale));
     let second = match table.put(2, 8, put_at(4)) {

@@ -5,3 +5,4 @@
 pub mod entities;
 pub mod scopes;
 pub mod sessions;
+pub mod trees;

@@ -1,0 +1,241 @@
+//! What is done to a tree, one act a line, with what must come of it.
+
+use generational_box::{Location, Storage};
+use scene_tree::{Node, SceneTree, Stale, TreeError};
+use std::alloc::Global;
+use std::fmt::Debug;
+use std::process::Abort;
+
+/// An act. Nodes are named by the order in which they were made, from 0.
+#[derive(Clone, Copy)]
+pub(crate) enum Act {
+    Root(u64),
+    /// A child of a node, with a value.
+    Child(usize, u64),
+    Set(usize, u64),
+    /// Moves a node below another.
+    Move(usize, usize),
+    Remove(usize),
+}
+
+/// How an act is answered.
+#[derive(Clone, Copy)]
+pub(crate) enum Reply {
+    Done,
+    /// This node is gone.
+    Stale(usize),
+    Cycle,
+}
+
+/// An act, with what must come of it.
+#[derive(Clone, Copy)]
+pub(crate) struct Line {
+    pub(crate) act: Act,
+    pub(crate) reply: Reply,
+    /// The nodes that are removed, in order.
+    pub(crate) gone: &'static [usize],
+    /// Each node's value and parent afterwards, in the order in which they were made.
+    pub(crate) shows: &'static [Option<(u64, Option<usize>)>],
+    /// The children of the first node that is live, in order, then those of the next, and so on.
+    pub(crate) below: &'static [usize],
+}
+
+/// Where a node is made: each at a line of its own, by its number.
+pub(crate) fn made_at(number: usize) -> Location {
+    Location::new("t.rs", u32::try_from(number).unwrap_or(0), 1)
+}
+
+/// Does each line's act to a tree, and sees what comes of it.
+pub(crate) fn play<S: Storage<u64>>(
+    rt: &impl Abort,
+    alloc: Global,
+    tree: &mut SceneTree<u64, S>,
+    lines: &[Line],
+) {
+    let mut nodes = Vec::new(alloc);
+    for line in lines {
+        let told = answer(rt, tree, &mut nodes, line.act, line.gone);
+        reply_is(rt, told, line.reply);
+        shows(rt, tree, &nodes, line.shows);
+        stand_below(rt, tree, &nodes, line.below);
+    }
+}
+
+/// Does an act, and gives its answer.
+fn answer<S: Storage<u64>>(
+    rt: &impl Abort,
+    tree: &mut SceneTree<u64, S>,
+    nodes: &mut Vec<Node<u64>>,
+    act: Act,
+    gone: &[usize],
+) -> Result<(), TreeError> {
+    match act {
+        Act::Root(value) => {
+            let made = tree.add_root(value, made_at(nodes.len()));
+            let root = made.map_err(|refusal| refusal.cause).expect(rt, "a root");
+            assert!(rt; nodes.push(root).is_ok());
+            Ok(())
+        }
+        Act::Child(parent, value) => {
+            let parent = node_at(rt, nodes, parent);
+            let child = add_child(rt, tree, parent, value, nodes.len())?;
+            assert!(rt; nodes.push(child).is_ok());
+            Ok(())
+        }
+        Act::Set(node, value) => set(rt, tree, node_at(rt, nodes, node), value),
+        Act::Move(node, parent) => {
+            tree.move_to(node_at(rt, nodes, node), node_at(rt, nodes, parent))
+        }
+        Act::Remove(node) => {
+            let list = tree.remove_subtree(node_at(rt, nodes, node))?;
+            are_nodes(rt, nodes, list.as_slice(), gone);
+            Ok(())
+        }
+    }
+}
+
+/// Makes a child. Its value comes back where that is refused.
+fn add_child<S: Storage<u64>>(
+    rt: &impl Abort,
+    tree: &mut SceneTree<u64, S>,
+    parent: Node<u64>,
+    value: u64,
+    number: usize,
+) -> Result<Node<u64>, TreeError> {
+    match tree.add_child(parent, value, made_at(number)) {
+        Ok(child) => Ok(child),
+        Err((back, error)) => {
+            assert_same(rt, &back, &value);
+            Err(error)
+        }
+    }
+}
+
+/// Sets a value. It comes back where that is refused.
+fn set<S: Storage<u64>>(
+    rt: &impl Abort,
+    tree: &mut SceneTree<u64, S>,
+    node: Node<u64>,
+    value: u64,
+) -> Result<(), TreeError> {
+    match tree.set(node, value) {
+        Ok(()) => Ok(()),
+        Err((back, stale)) => {
+            assert_same(rt, &back, &value);
+            Err(TreeError::Stale(stale.made_at))
+        }
+    }
+}
+
+/// Asserts that a value is what it should be: proved once for all types.
+pub(crate) fn assert_same<T: PartialEq + Debug>(rt: &impl Abort, found: &T, wanted: &T) {
+    assert_eq!(rt; *found, *wanted);
+}
+
+/// A node by its number.
+pub(crate) fn node_at(rt: &impl Abort, nodes: &[Node<u64>], number: usize) -> Node<u64> {
+    nodes.get(number).copied().expect(rt, "a node")
+}
+
+/// Sees how an act was answered. A stale node is told where it was made.
+fn reply_is(rt: &impl Abort, answer: Result<(), TreeError>, reply: Reply) {
+    let wanted = match reply {
+        Reply::Done => Ok(()),
+        Reply::Stale(number) => Err(TreeError::Stale(made_at(number))),
+        Reply::Cycle => Err(TreeError::Cycle),
+    };
+    assert_same(rt, &answer, &wanted);
+}
+
+/// Sees which nodes stand in a list.
+pub(crate) fn are_nodes(
+    rt: &impl Abort,
+    nodes: &[Node<u64>],
+    list: &[Node<u64>],
+    numbers: &[usize],
+) {
+    assert_same(rt, &list.len(), &numbers.len());
+    for (node, number) in list.iter().zip(numbers) {
+        assert_same(rt, &node.id(), &node_at(rt, nodes, *number).id());
+    }
+}
+
+/// Sees each node's value and parent.
+fn shows<S: Storage<u64>>(
+    rt: &impl Abort,
+    tree: &mut SceneTree<u64, S>,
+    nodes: &[Node<u64>],
+    shows: &[Option<(u64, Option<usize>)>],
+) {
+    assert_same(rt, &nodes.len(), &shows.len());
+    let mut number: usize = 0;
+    let mut live: usize = 0;
+    for (node, shown) in nodes.iter().zip(shows) {
+        match *shown {
+            Some((value, parent)) => {
+                is_shown(rt, tree, nodes, *node, value, parent);
+                live = live.wrapping_add(1);
+            }
+            None => is_gone(rt, tree, *node, number),
+        }
+        number = number.wrapping_add(1);
+    }
+    assert_same(rt, &tree.len(), &live);
+}
+
+/// Sees a live node's value and parent.
+fn is_shown<S: Storage<u64>>(
+    rt: &impl Abort,
+    tree: &mut SceneTree<u64, S>,
+    nodes: &[Node<u64>],
+    node: Node<u64>,
+    value: u64,
+    parent: Option<usize>,
+) {
+    assert!(rt; tree.is_alive(node));
+    assert_same(rt, &tree.get(node).copied(), &Ok(value));
+    let above = tree.parent(node).expect(rt, "a live node");
+    match (above, parent) {
+        (Some(above), Some(number)) => {
+            assert_same(rt, &above.id(), &node_at(rt, nodes, number).id());
+        }
+        (above, parent) => assert_same(rt, &above.is_some(), &parent.is_some()),
+    }
+}
+
+/// Sees the children of the live nodes.
+fn stand_below<S: Storage<u64>>(
+    rt: &impl Abort,
+    tree: &SceneTree<u64, S>,
+    nodes: &[Node<u64>],
+    below: &[usize],
+) {
+    let mut rest = below;
+    for node in nodes {
+        if let Ok(children) = tree.children(*node) {
+            assert!(rt; children.len() <= rest.len());
+            let (first, others) = rest.split_at(children.len());
+            are_nodes(rt, nodes, children, first);
+            rest = others;
+        }
+    }
+    assert!(rt; rest.is_empty());
+}
+
+/// Sees that a node is gone: each call on it tells where it was made.
+fn is_gone<S: Storage<u64>>(
+    rt: &impl Abort,
+    tree: &mut SceneTree<u64, S>,
+    node: Node<u64>,
+    number: usize,
+) {
+    let stale = Stale {
+        made_at: made_at(number),
+    };
+    let error = TreeError::Stale(stale.made_at);
+    assert!(rt; !tree.is_alive(node));
+    assert_same(rt, &tree.get(node).copied(), &Err(stale));
+    assert_same(rt, &tree.parent(node).map(|_| ()), &Err(stale));
+    assert_same(rt, &tree.children(node).map(|_| ()), &Err(stale));
+    assert_same(rt, &tree.subtree(node).map(|_| ()), &Err(error));
+}

@@ -1,0 +1,245 @@
+//! Histories of trees, as lines.
+
+use crate::tree_acts::{Act, Line, Reply, play};
+use generational_box::{LastFirst, OldestFirst, Storage, Store};
+use scene_tree::SceneTree;
+use std::alloc::Global;
+use std::process::Abort;
+
+/// Plays lines in a tree over an empty store, once with each order of free slots.
+fn play_both(rt: &impl Abort, alloc: Global, lines: &[Line]) {
+    let last: Store<u64, LastFirst> = Store::new(alloc, 7);
+    play_over(rt, alloc, last, lines);
+    let oldest: Store<u64, OldestFirst> = Store::new(alloc, 7);
+    play_over(rt, alloc, oldest, lines);
+}
+
+/// The same over a store that is handed in.
+fn play_over<S: Storage<u64> + Drop>(rt: &impl Abort, alloc: Global, store: S, lines: &[Line]) {
+    assert!(rt; store.is_fresh());
+    let mut tree = SceneTree::new(alloc, store);
+    play(rt, alloc, &mut tree, lines);
+}
+
+/// A line whose act is carried out, and removes nothing.
+const fn done(
+    act: Act,
+    shows: &'static [Option<(u64, Option<usize>)>],
+    below: &'static [usize],
+) -> Line {
+    Line {
+        act,
+        reply: Reply::Done,
+        gone: &[],
+        shows,
+        below,
+    }
+}
+
+/// A line that removes nodes.
+const fn removed(
+    node: usize,
+    gone: &'static [usize],
+    shows: &'static [Option<(u64, Option<usize>)>],
+    below: &'static [usize],
+) -> Line {
+    Line {
+        act: Act::Remove(node),
+        reply: Reply::Done,
+        gone,
+        shows,
+        below,
+    }
+}
+
+/// A line whose act is refused.
+const fn refused(
+    act: Act,
+    reply: Reply,
+    shows: &'static [Option<(u64, Option<usize>)>],
+    below: &'static [usize],
+) -> Line {
+    Line {
+        act,
+        reply,
+        gone: &[],
+        shows,
+        below,
+    }
+}
+
+#[test]
+fn a_subtree_goes_level_by_level(rt: HostRuntime) {
+    let lines = [
+        done(Act::Root(1), &[Some((1, None))], &[]),
+        done(
+            Act::Child(0, 2),
+            &[Some((1, None)), Some((2, Some(0)))],
+            &[1],
+        ),
+        done(
+            Act::Child(1, 3),
+            &[Some((1, None)), Some((2, Some(0))), Some((3, Some(1)))],
+            &[1, 2],
+        ),
+        done(
+            Act::Child(0, 4),
+            &[
+                Some((1, None)),
+                Some((2, Some(0))),
+                Some((3, Some(1))),
+                Some((4, Some(0))),
+            ],
+            &[1, 3, 2],
+        ),
+        // Node 1 goes, with node 2 below it. Its sibling stays.
+        removed(
+            1,
+            &[1, 2],
+            &[Some((1, None)), None, None, Some((4, Some(0)))],
+            &[3],
+        ),
+        refused(
+            Act::Remove(2),
+            Reply::Stale(2),
+            &[Some((1, None)), None, None, Some((4, Some(0)))],
+            &[3],
+        ),
+        refused(
+            Act::Child(1, 9),
+            Reply::Stale(1),
+            &[Some((1, None)), None, None, Some((4, Some(0)))],
+            &[3],
+        ),
+        // A free slot is taken again. The stale handles read nothing of the new node.
+        done(
+            Act::Child(3, 5),
+            &[
+                Some((1, None)),
+                None,
+                None,
+                Some((4, Some(0))),
+                Some((5, Some(3))),
+            ],
+            &[3, 4],
+        ),
+        refused(
+            Act::Set(1, 9),
+            Reply::Stale(1),
+            &[
+                Some((1, None)),
+                None,
+                None,
+                Some((4, Some(0))),
+                Some((5, Some(3))),
+            ],
+            &[3, 4],
+        ),
+        removed(0, &[0, 3, 4], &[None, None, None, None, None], &[]),
+    ];
+    play_both(&rt, rt.alloc(), &lines);
+}
+
+#[test]
+fn a_node_moves_with_all_below_it(rt: HostRuntime) {
+    let lines = [
+        done(Act::Root(1), &[Some((1, None))], &[]),
+        done(
+            Act::Child(0, 2),
+            &[Some((1, None)), Some((2, Some(0)))],
+            &[1],
+        ),
+        done(
+            Act::Child(1, 3),
+            &[Some((1, None)), Some((2, Some(0))), Some((3, Some(1)))],
+            &[1, 2],
+        ),
+        // No node is moved below itself, at once or over two steps.
+        refused(
+            Act::Move(0, 0),
+            Reply::Cycle,
+            &[Some((1, None)), Some((2, Some(0))), Some((3, Some(1)))],
+            &[1, 2],
+        ),
+        refused(
+            Act::Move(0, 2),
+            Reply::Cycle,
+            &[Some((1, None)), Some((2, Some(0))), Some((3, Some(1)))],
+            &[1, 2],
+        ),
+        done(
+            Act::Root(4),
+            &[
+                Some((1, None)),
+                Some((2, Some(0))),
+                Some((3, Some(1))),
+                Some((4, None)),
+            ],
+            &[1, 2],
+        ),
+        done(
+            Act::Move(1, 3),
+            &[
+                Some((1, None)),
+                Some((2, Some(3))),
+                Some((3, Some(1))),
+                Some((4, None)),
+            ],
+            &[2, 1],
+        ),
+        // A root moves, and the other order is no cycle any more.
+        done(
+            Act::Move(0, 2),
+            &[
+                Some((1, Some(2))),
+                Some((2, Some(3))),
+                Some((3, Some(1))),
+                Some((4, None)),
+            ],
+            &[2, 0, 1],
+        ),
+        removed(3, &[3, 1, 2, 0], &[None, None, None, None], &[]),
+        refused(
+            Act::Move(3, 0),
+            Reply::Stale(3),
+            &[None, None, None, None],
+            &[],
+        ),
+    ];
+    play_both(&rt, rt.alloc(), &lines);
+}
+
+#[test]
+fn a_node_moves_behind_its_siblings(rt: HostRuntime) {
+    let lines = [
+        done(Act::Root(1), &[Some((1, None))], &[]),
+        done(
+            Act::Child(0, 2),
+            &[Some((1, None)), Some((2, Some(0)))],
+            &[1],
+        ),
+        done(
+            Act::Child(0, 3),
+            &[Some((1, None)), Some((2, Some(0))), Some((3, Some(0)))],
+            &[1, 2],
+        ),
+        done(
+            Act::Set(1, 5),
+            &[Some((1, None)), Some((5, Some(0))), Some((3, Some(0)))],
+            &[1, 2],
+        ),
+        done(
+            Act::Move(1, 0),
+            &[Some((1, None)), Some((5, Some(0))), Some((3, Some(0)))],
+            &[2, 1],
+        ),
+        removed(2, &[2], &[Some((1, None)), Some((5, Some(0))), None], &[1]),
+        refused(
+            Act::Move(1, 2),
+            Reply::Stale(2),
+            &[Some((1, None)), Some((5, Some(0))), None],
+            &[1],
+        ),
+    ];
+    play_both(&rt, rt.alloc(), &lines);
+}

@@ -1,0 +1,115 @@
+//! Want of memory in trees. The test passes whichever one allocation is refused: what lacks memory
+//! changes nothing, and is tried a second time.
+
+use crate::tree_acts::{are_nodes, assert_same, made_at};
+use generational_box::{LastFirst, Storage, Store, StoreError};
+use scene_tree::{Node, SceneTree, TreeError};
+use std::alloc::Global;
+use std::process::Abort;
+
+/// How many children are made: more than the room that is found at once.
+const MANY: u64 = 12;
+
+/// How a call is refused that lacks memory.
+const LACKING: TreeError = TreeError::Store(StoreError::OutOfMemory);
+
+/// Makes a root. One that lacks memory leaves the tree as it was.
+fn root_or_again<S: Storage<u64>>(rt: &impl Abort, tree: &mut SceneTree<u64, S>) -> Node<u64> {
+    let made = match tree.add_root(0, made_at(0)) {
+        Ok(root) => Ok(root),
+        Err(refusal) => {
+            assert_same(rt, &refusal.value, &0);
+            tree.add_root(refusal.value, made_at(0))
+        }
+    };
+    made.map_err(|refusal| refusal.cause).expect(rt, "a root")
+}
+
+/// Makes a child. One that lacks memory leaves the parent's children as they were.
+fn child_or_again<S: Storage<u64>>(
+    rt: &impl Abort,
+    tree: &mut SceneTree<u64, S>,
+    parent: Node<u64>,
+    value: u64,
+) -> Node<u64> {
+    let before = count_of(rt, tree, parent);
+    let made = match tree.add_child(parent, value, made_at(1)) {
+        Ok(child) => Ok(child),
+        Err((back, error)) => {
+            assert_same(rt, &back, &value);
+            assert_same(rt, &error, &LACKING);
+            assert_same(rt, &count_of(rt, tree, parent), &before);
+            tree.add_child(parent, back, made_at(1))
+        }
+    };
+    made.map_err(|(_, error)| error).expect(rt, "a child")
+}
+
+/// How many children a node has.
+fn count_of<S: Storage<u64>>(rt: &impl Abort, tree: &SceneTree<u64, S>, node: Node<u64>) -> usize {
+    tree.children(node).expect(rt, "a live node").len()
+}
+
+/// Moves a node. A move that lacks memory leaves it where it was.
+fn move_or_again<S: Storage<u64>>(
+    rt: &impl Abort,
+    tree: &mut SceneTree<u64, S>,
+    node: Node<u64>,
+    parent: Node<u64>,
+) {
+    let before = count_of(rt, tree, parent);
+    if let Err(error) = tree.move_to(node, parent) {
+        assert_same(rt, &error, &LACKING);
+        assert_same(rt, &count_of(rt, tree, parent), &before);
+        assert!(rt; tree.move_to(node, parent).is_ok());
+    }
+}
+
+/// Removes a subtree. A removal that lacks memory leaves it.
+fn remove_or_again<S: Storage<u64>>(
+    rt: &impl Abort,
+    tree: &mut SceneTree<u64, S>,
+    node: Node<u64>,
+) -> Vec<Node<u64>> {
+    match tree.remove_subtree(node) {
+        Ok(list) => list,
+        Err(error) => {
+            assert_same(rt, &error, &LACKING);
+            assert!(rt; tree.is_alive(node));
+            tree.remove_subtree(node).expect(rt, "the nodes")
+        }
+    }
+}
+
+/// Makes children, moves them all below one of them, and removes that.
+fn grow_and_cut<S: Storage<u64>>(rt: &impl Abort, tree: &mut SceneTree<u64, S>) {
+    let root = root_or_again(rt, tree);
+    let first = child_or_again(rt, tree, root, 0);
+    for value in 1..MANY {
+        let child = child_or_again(rt, tree, root, value);
+        move_or_again(rt, tree, child, first);
+    }
+    are_nodes(
+        rt,
+        &[first],
+        tree.children(root).expect(rt, "a live node"),
+        &[0],
+    );
+    let list = remove_or_again(rt, tree, first);
+    assert_same(rt, &(list.len() as u64), &MANY);
+    assert_same(rt, &count_of(rt, tree, root), &0);
+}
+
+/// The same over a store.
+fn grow_over<S: Storage<u64> + Drop>(rt: &impl Abort, alloc: Global, store: S) {
+    assert!(rt; store.is_fresh());
+    let mut tree = SceneTree::new(alloc, store);
+    grow_and_cut(rt, &mut tree);
+}
+
+#[test]
+fn trees_that_lack_memory_stay(rt: HostRuntime) {
+    let alloc = rt.alloc();
+    let store: Store<u64, LastFirst> = Store::new(alloc, 1);
+    grow_over(&rt, alloc, store);
+}

@@ -1,0 +1,235 @@
+-- How many nodes of a list live at a slot.
+use Rattle.std.proofs.Common.{◌≡◌, ◌≢◌, ◌<◌, ◌≤◌, ◌+◌, ℕ, zero, suc, true, false, cond, List, [], ◌∷◌, ◌++◌}
+use Rattle.std.proofs.Common.{Some, refl, sym, ap, subst, ◌∙◌, ⊎_elim, arith, not, take, get_or, length}
+use Rattle.std.specs.Prelude.{slice_get, nat_eq, map}
+use Rattle.std.specs.List.{IsDistinct, AllByRecursion}
+use Rattle.std.proofs.lemmas.Bool.{and_from, and_parts, cases_Bool, cases_eq, eq-eqb, eqb-true, true≢false}
+use Rattle.std.proofs.lemmas.Bool.Decides.{eqb_tells}
+use Rattle.std.proofs.lemmas.List.Sums.{sum_by-append, sum_by-cons, sum_by-take-le}
+use Rattle.std.proofs.lemmas.List.{take_more}
+use Rattle.std.proofs.lemmas.Option.{none-some, same_Some}
+use Rattle.scene_tree.specs.declared.node.Node.{Node}
+use Rattle.scene_tree.specs.Families.{Family, IsCleared, alone, count_at, family_at}
+use Rattle.scene_tree.specs.Nodes.{IsSame, is_same, times, slot_in, without}
+
+module _ {T : Type 0} where
+  -- with a node more before the others
+  pub count_here : (s : ℕ) (c : Node T) (xs : List (Node T)) → slot_in c ≡ s
+      → count_at s (c ∷ xs) ≡ count_at s xs + 1
+  count_here s c xs is =
+      let more = sum_by-cons (λ n. cond (nat_eq (slot_in n) s) 1 0) c xs in
+      let one : ◌≡◌ {A = ℕ} (cond (nat_eq (slot_in c) s) 1 0) 1 = ap (λ b. cond b 1 0) (eq-eqb (slot_in c) s is) in
+      omega (arith, more, one)
+
+  pub count_apart : (s : ℕ) (c : Node T) (xs : List (Node T)) → slot_in c ≢ s
+      → count_at s (c ∷ xs) ≡ count_at s xs
+  count_apart s c xs ne =
+      let more = sum_by-cons (λ n. cond (nat_eq (slot_in n) s) 1 0) c xs in
+      let none : ◌≡◌ {A = ℕ} (cond (nat_eq (slot_in c) s) 1 0) 0 = ⊎_elim (λ yes. absurd (ne yes.1))
+      (λ no. ap (λ b. cond b 1 0) no.0) (eqb_tells (slot_in c) s) in
+      omega (arith, more, none)
+
+  pub count_more : (s : ℕ) (c : Node T) (xs : List (Node T)) → count_at s xs ≤ count_at s (c ∷ xs)
+  count_more s c xs = let more = sum_by-cons (λ n. cond (nat_eq (slot_in n) s) 1 0) c xs in
+      omega (arith, more)
+
+  -- with others at the end
+  pub count_both : (s : ℕ) (xs ys : List (Node T))
+      → count_at s (xs ++ ys) ≡ count_at s xs + count_at s ys
+  count_both s xs ys = sum_by-append (λ n. cond (nat_eq (slot_in n) s) 1 0) xs ys
+
+  pub count_last : (s : ℕ) (xs : List (Node T)) (c : Node T) → slot_in c ≡ s
+      → count_at s (xs ++ c ∷ []) ≡ count_at s xs + 1
+  count_last s xs c is =
+      let both = count_both s xs (c ∷ []) in let one = count_here s c [] is in omega (arith, both, one)
+
+  pub count_others : (s : ℕ) (xs : List (Node T)) (c : Node T) → slot_in c ≢ s
+      → count_at s (xs ++ c ∷ []) ≡ count_at s xs
+  count_others s xs c ne =
+      let both = count_both s xs (c ∷ []) in let none = count_apart s c [] ne in
+      omega (arith, both, none)
+
+  pub count_take : (s : ℕ) (xs : List (Node T)) (n : ℕ) → count_at s (take n xs) ≤ count_at s xs
+  count_take s xs n = sum_by-take-le (λ m. cond (nat_eq (slot_in m) s) 1 0) xs n
+
+  -- of the first nodes, with the next one
+  count_next : (s : ℕ) (xs : List (Node T)) (i : ℕ) (d : Node T) → i < length xs
+      → count_at s (take (i + 1) xs) ≡ count_at s (take i xs) + count_at s (get_or xs i d ∷ [])
+  count_next s xs i d lt =
+      ap (count_at s) (take_more xs i d lt) ∙ count_both s (take i xs) (get_or xs i d ∷ [])
+
+  pub next_here : (s : ℕ) (xs : List (Node T)) (i : ℕ) (d : Node T) → i < length xs
+      → slot_in (get_or xs i d) ≡ s → 0 < count_at s (take (i + 1) xs)
+  next_here s xs i d lt is =
+      let both = count_next s xs i d lt in
+      let one = count_here s (get_or xs i d) [] is in omega (arith, both, one)
+
+  pub next_apart : (s : ℕ) (xs : List (Node T)) (i : ℕ) (d : Node T) → i < length xs
+      → slot_in (get_or xs i d) ≢ s → count_at s (take (i + 1) xs) ≡ count_at s (take i xs)
+  next_apart s xs i d lt ne =
+      let both = count_next s xs i d lt in
+      let none = count_apart s (get_or xs i d) [] ne in omega (arith, both, none)
+
+  -- what is counted stands there, and what stands there is counted
+  pub counted : (s : ℕ) (xs : List (Node T)) → 0 < count_at s xs
+      → (k : ℕ) × (x : Node T) × (slice_get xs k ≡ Some x) × (slot_in x ≡ s)
+  counted s [] lt = absurd (omega (arith, lt))
+  counted s (x ∷ xs) lt = ⊎_elim (λ yes. (0, x, refl, yes.1))
+      (λ no. let rest = counted s xs (subst (λ n. 0 < n) (count_apart s x xs no.1) lt) in
+      (suc rest.0, rest.1, rest.2, rest.3)) (eqb_tells (slot_in x) s)
+
+  pub counts : (s : ℕ) (xs : List (Node T)) (k : ℕ) (x : Node T) → slice_get xs k ≡ Some x
+      → slot_in x ≡ s → 0 < count_at s xs
+  counts s [] k x at is = absurd (none-some x at)
+  counts s (y ∷ ys) zero x at is =
+      let here = count_here s y ys (ap slot_in (same_Some y x at) ∙ is) in omega (arith, here)
+  counts s (y ∷ ys) (suc k) x at is =
+      let rest = counts s ys k x at is in let more = count_more s y ys in omega (arith, rest, more)
+
+  -- each once
+  pub distinct : (xs : List (Node T)) → ((s : ℕ) → count_at s xs ≤ 1)
+      → IsDistinct nat_eq (map slot_in xs)
+  unfolding IsDistinct
+  distinct [] once = tt
+  distinct (x ∷ xs) once = (apart xs none, distinct xs (λ s. let le = once s in let more = count_more s x xs in omega (arith, le, more)))
+    where
+      none : count_at (slot_in x) xs ≡ 0
+      none = let here = count_here (slot_in x) x xs refl in
+          let le = once (slot_in x) in omega (arith, here, le)
+
+      apart : (ys : List (Node T)) → count_at (slot_in x) ys ≡ 0
+          → AllByRecursion (λ s. nat_eq (slot_in x) s ≡ false) (map slot_in ys)
+      apart [] e = tt
+      apart (y ∷ ys) e = ⊎_elim
+          (λ yes. let here = count_here (slot_in x) y ys (sym yes.1) in absurd (omega (arith, here, e)))
+          (λ no. (no.0, apart ys (let more = count_more (slot_in x) y ys in omega (arith, e, more))))
+          (eqb_tells (slot_in x) (slot_in y))
+
+  -- ---- a list without a node
+
+  -- handles of one node have one slot
+  pub same_slot : (a b : Node T) → is_same a b ≡ true → slot_in a ≡ slot_in b
+  same_slot a b same = eqb-true (slot_in a) (slot_in b) (and_parts _ _ (and_parts _ _ same).1).0
+
+  pub is_id : (a b : Node T) → is_same a b ≡ true → IsSame a b
+  is_id a b same =
+      let parts = and_parts _ _ same in
+      let rest = and_parts _ _ parts.1 in
+      let store = eqb-true _ _ parts.0 in
+      let slot = eqb-true _ _ rest.0 in
+      let generation = eqb-true _ _ rest.1 in
+      λ i. record { store = store i; slot = slot i; generation = generation i }
+
+  pub same_id : (a b : Node T) → IsSame a b → is_same a b ≡ true
+  same_id a b same = and_from _ _ (eq-eqb _ _ (ap (λ id. id.store) same))
+      (and_from _ _ (eq-eqb _ _ (ap (λ id. id.slot) same)) (eq-eqb _ _ (ap (λ id. id.generation) same)))
+
+  -- how many times a node stands in a list, with one more before the others
+  pub times_more : (n x : Node T) (xs : List (Node T)) → is_same x n ≡ true
+      → times n (x ∷ xs) ≡ times n xs + 1
+  times_more n x xs same =
+      let more = sum_by-cons (λ c. cond (is_same c n) 1 0) x xs in
+      let one : ◌≡◌ {A = ℕ} (cond (is_same x n) 1 0) 1 = ap (λ b. cond b 1 0) same in
+      omega (arith, more, one)
+
+  pub times_apart : (n x : Node T) (xs : List (Node T)) → is_same x n ≡ false
+      → times n (x ∷ xs) ≡ times n xs
+  times_apart n x xs other =
+      let more = sum_by-cons (λ c. cond (is_same c n) 1 0) x xs in
+      let none : ◌≡◌ {A = ℕ} (cond (is_same x n) 1 0) 0 = ap (λ b. cond b 1 0) other in
+      omega (arith, more, none)
+
+  pub times_both : (n : Node T) (xs ys : List (Node T))
+      → times n (xs ++ ys) ≡ times n xs + times n ys
+  times_both n xs ys = sum_by-append (λ c. cond (is_same c n) 1 0) xs ys
+
+  -- where handles in a list are of a node just where they are at its slot, it is counted so
+  pub times_at : (n : Node T) (xs : List (Node T))
+      → ((k : ℕ) (x : Node T) → slice_get xs k ≡ Some x → slot_in x ≡ slot_in n → is_same x n ≡ true)
+      → times n xs ≡ count_at (slot_in n) xs
+  times_at n [] alike = refl
+  times_at n (x ∷ xs) alike =
+      let rest = times_at n xs (λ k. alike (suc k)) in
+      ⊎_elim
+      (λ same. let one = times_more n x xs same in
+      let here = count_here (slot_in n) x xs (same_slot x n same) in omega (arith, rest, one, here))
+      (λ other. times_apart n x xs other ∙ (rest ∙ sym (count_apart (slot_in n) x xs
+      (λ is. true≢false (sym (alike 0 x refl is) ∙ other))))) (cases_Bool (is_same x n))
+
+  -- and not at all where none is of it
+  pub times_none : (n : Node T) (xs : List (Node T))
+      → ((k : ℕ) (x : Node T) → slice_get xs k ≡ Some x → is_same x n ≡ false) → times n xs ≡ 0
+  times_none n [] none = refl
+  times_none n (x ∷ xs) none =
+      times_apart n x xs (none 0 x refl) ∙ times_none n xs (λ k. none (suc k))
+
+  pub count_without : (s : ℕ) (n : Node T) → s ≢ slot_in n → (xs : List (Node T))
+      → count_at s (without n xs) ≡ count_at s xs
+  count_without s n ne [] = refl
+  count_without s n ne (x ∷ xs) =
+      let rest = count_without s n ne xs in
+      ⊎_elim
+      (λ same. ap (λ b. count_at s (cond (not b) (x ∷ without n xs) (without n xs))) same
+      ∙ (rest ∙ sym (count_apart s x xs (λ is. ne (sym is ∙ same_slot x n same)))))
+      (λ other. ap (λ b. count_at s (cond (not b) (x ∷ without n xs) (without n xs))) other
+      ∙ more rest) (cases_Bool (is_same x n))
+    where
+      more : count_at s (without n xs) ≡ count_at s xs
+          → count_at s (x ∷ without n xs) ≡ count_at s (x ∷ xs)
+      more rest = ⊎_elim
+          (λ here. let a = count_here s x xs here in let b = count_here s x (without n xs) here in
+          omega (arith, a, b, rest))
+          (λ apart. count_apart s x (without n xs) apart ∙ (rest ∙ sym (count_apart s x xs apart)))
+          (cases_eq (slot_in x) s)
+
+  -- a list without a node that doesn't stand there is the list
+  pub same_without : (n : Node T) (xs : List (Node T)) → count_at (slot_in n) xs ≡ 0
+      → without n xs ≡ xs
+  same_without n [] none = refl
+  same_without n (x ∷ xs) none = ⊎_elim
+      (λ same. let here = count_here (slot_in n) x xs (same_slot x n same) in
+      absurd (omega (arith, here, none)))
+      (λ other. ap (λ b. cond (not b) (x ∷ without n xs) (without n xs)) other
+      ∙ ap (λ rest. x ∷ rest) (same_without n xs
+      (let more = count_more (slot_in n) x xs in omega (arith, more, none))))
+      (cases_Bool (is_same x n))
+
+  pub none_without : (s : ℕ) (n : Node T) → s ≡ slot_in n → (xs : List (Node T))
+      → ((k : ℕ) (x : Node T) → slice_get xs k ≡ Some x → slot_in x ≡ slot_in n → is_same x n ≡ true)
+      → count_at s (without n xs) ≡ 0
+  none_without s n at [] alike = refl
+  none_without s n at (x ∷ xs) alike =
+      let rest = none_without s n at xs (λ k. alike (suc k)) in
+      ⊎_elim
+      (λ same. ap (λ b. count_at s (cond (not b) (x ∷ without n xs) (without n xs))) same ∙ rest)
+      (λ other. ap (λ b. count_at s (cond (not b) (x ∷ without n xs) (without n xs))) other
+      ∙ (count_apart s x (without n xs)
+      (λ is. true≢false (sym (alike 0 x refl (is ∙ at)) ∙ other)) ∙ rest))
+      (cases_Bool (is_same x n))
+
+  -- one node more of a list is left alone
+  clear_next : (old here new : List (Family T)) (nodes : List (Node T)) (i slot : ℕ) (d : Node T)
+      → i < length nodes → slot ≡ slot_in (get_or nodes i d) → IsCleared old here (take i nodes)
+      → family_at new slot ≡ alone → ((s : ℕ) → s ≢ slot → family_at new s ≡ family_at here s)
+      → IsCleared old new (take (i + 1) nodes)
+  clear_next old here new nodes i slot d lt is c cleared others = record {
+    cleared = λ s some. ⊎_elim (λ same. ap (family_at new) same ∙ cleared)
+        (λ ne. others s ne ∙ c.cleared s (let less = apart s ne in omega (arith, some, less)))
+        (cases_eq s slot);
+    others = λ s none. ⊎_elim
+        (λ same. let some = next_here s nodes i d lt (sym (same ∙ is)) in absurd (omega (arith, some, none)))
+        (λ ne. others s ne ∙ c.others s (sym (apart s ne) ∙ none)) (cases_eq s slot);
+  }
+    where
+      apart : (s : ℕ) → s ≢ slot → count_at s (take (i + 1) nodes) ≡ count_at s (take i nodes)
+      apart s ne = next_apart s nodes i d lt (λ e. ne (sym (is ∙ e)))
+
+  -- the same where the list is read elsewhere
+  pub clear_more : (old here new : List (Family T)) (nodes items : List (Node T)) (i slot : ℕ)
+      (d : Node T) → items ≡ nodes → i < length items → slot ≡ slot_in (get_or items i d)
+      → IsCleared old here (take i nodes) → family_at new slot ≡ alone
+      → ((s : ℕ) → s ≢ slot → family_at new s ≡ family_at here s)
+      → IsCleared old new (take (i + 1) nodes)
+  clear_more old here new nodes items i slot d same lt is c =
+      clear_next old here new nodes i slot d (subst (λ xs. i < length xs) same lt)
+      (is ∙ ap (λ xs. slot_in (get_or xs i d)) same) c

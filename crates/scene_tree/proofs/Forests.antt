@@ -1,0 +1,203 @@
+-- Forests after a change.
+use Rattle.std.proofs.Common.{◌≡◌, ◌≢◌, ◌<◌, ℕ, zero, suc, true, List}
+use Rattle.std.proofs.Common.{Option, None, Some, refl, sym, ap, ◌∙◌, ⊎_elim, arith, inl, inr}
+use Rattle.std.specs.Prelude.{◌⊎◌, slice_get}
+use Rattle.std.proofs.lemmas.Bool.{cases_eq, cases_lt}
+use Rattle.std.proofs.lemmas.Option.{none-some, same_Some}
+use Rattle.scene_tree.specs.declared.node.Node.{Node}
+use Rattle.scene_tree.specs.Families.{Family, IsAttached, IsCleared, IsDetached, IsForest, IsRooted, IsUnder, above, alone, children_at, count_at, family_at, parent_at}
+use Rattle.scene_tree.specs.Families.{slot_of}
+use Rattle.scene_tree.specs.Nodes.{is_same, slot_in}
+use Rattle.scene_tree.proofs.Counting.{counts, count_last, count_others, count_without, none_without}
+use Rattle.scene_tree.proofs.Paths.{step_under}
+
+pub slot_cases : (o : Option ℕ) (up : ℕ) → (o ≡ Some up) ⊎ (o ≢ Some up)
+slot_cases None up = inr (λ is. none-some up is)
+slot_cases (Some s) up = ⊎_elim (λ is. inl (ap Some is)) (λ ne. inr (λ is. ne (same_Some s up is)))
+    (cases_eq s up)
+
+module _ {T : Type 0} (fs : List (Family T)) where
+  -- a slot below another has a parent there
+  pub above_parent : (s up : ℕ) → above fs s ≡ Some up
+      → (p : Node T) × (parent_at fs s ≡ Some p) × (slot_in p ≡ up)
+  above_parent s up is = at (parent_at fs s) refl
+    where
+      at : (o : Option (Node T)) → parent_at fs s ≡ o
+          → (p : Node T) × (parent_at fs s ≡ Some p) × (slot_in p ≡ up)
+      at None none = absurd (none-some up (sym (ap slot_of none) ∙ is))
+      at (Some p) some = (p, some, same_Some (slot_in p) up (sym (ap slot_of some) ∙ is))
+
+  module _ (f : IsForest fs) where
+    -- a child has its slot's node as its parent
+    pub parent_is : (s k : ℕ) (c : Node T) → slice_get (children_at fs s) k ≡ Some c
+        → above fs (slot_in c) ≡ Some s
+    parent_is s k c at = ⊎_elim (λ is. is)
+        (λ ne. let some = counts (slot_in c) (children_at fs s) k c at refl in
+        let none = f.only (slot_in c) s ne in absurd (omega (arith, some, none)))
+        (slot_cases (above fs (slot_in c)) s)
+
+    -- nothing but itself is under a slot that is alone
+    pub under_alone : (top e s : ℕ) → family_at fs top ≡ alone → IsUnder fs top e s → s ≡ top
+    under_alone top zero s none under = under
+    under_alone top (suc e) s none under =
+        let at = under_alone top e under.0 none under.2 in
+        let one = f.once s top (under.1 ∙ ap Some at) in
+        let zero = ap (λ x. count_at s x.children) none in absurd (omega (arith, one, zero))
+
+module _ {T : Type 0} (fs gs : List (Family T)) where
+  -- ---- the same families
+
+  pub same_forest : IsForest fs → ((s : ℕ) → family_at gs s ≡ family_at fs s) → IsForest gs
+  same_forest f same = record {
+    once = λ s up is. ap (λ x. count_at s x.children) (same up)
+        ∙ f.once s up (sym (ap (λ x. slot_of x.parent) (same s)) ∙ is);
+    only = λ s other ne. ap (λ x. count_at s x.children) (same other)
+        ∙ f.only s other (λ is. ne (ap (λ x. slot_of x.parent) (same s) ∙ is));
+    rooted = λ s. let r = f.rooted s in (r.0, rooted r.0 s r.1);
+  }
+    where
+      rooted : (d s : ℕ) → IsRooted fs d s → IsRooted gs d s
+      rooted zero s r = ap (λ x. slot_of x.parent) (same s) ∙ r
+      rooted (suc d) s r = (r.0, ap (λ x. slot_of x.parent) (same s) ∙ r.1, rooted d r.0 r.2)
+
+  -- ---- a node that was made the last child of another
+
+  module _ (f : IsForest fs) (parent child : Node T) (root : above fs (slot_in child) ≡ None)
+      (apart : (e : ℕ) → IsUnder fs (slot_in child) e (slot_in parent) → ⊥)
+      (new : IsAttached fs parent child gs) where
+    same_above : (s : ℕ) → s ≢ slot_in child → above gs s ≡ above fs s
+    same_above s ne = ap slot_of (new.parents s ne)
+
+    -- ways that don't meet the child are what they were
+    far : (d s : ℕ) → ((e : ℕ) → IsUnder fs (slot_in child) e s → ⊥) → IsRooted fs d s → IsRooted gs d s
+    far zero s off r = same_above s (λ is. off 0 is) ∙ r
+    far (suc d) s off r = (
+      r.0,
+      same_above s (λ is. off 0 is) ∙ r.1,
+      far d r.0 (λ e under. off (suc e) (step_under fs (slot_in child) e s r.0 r.1 under)) r.2,
+    )
+
+    at_child : (s : ℕ) → s ≡ slot_in child → (e : ℕ) × IsRooted gs e s
+    at_child s is =
+        let up = f.rooted (slot_in parent) in (
+          suc up.0,
+          (slot_in parent, ap (above gs) is ∙ ap slot_of new.here, far up.0 (slot_in parent) apart up.1),
+        )
+
+    rooted : (d s : ℕ) → IsRooted fs d s → (e : ℕ) × IsRooted gs e s
+    rooted zero s r = ⊎_elim (at_child s) (λ ne. (0, same_above s ne ∙ r)) (cases_eq s (slot_in child))
+    rooted (suc d) s r =
+        let up = rooted d r.0 r.2 in
+        ⊎_elim (at_child s) (λ ne. (suc up.0, (r.0, same_above s ne ∙ r.1, up.1)))
+        (cases_eq s (slot_in child))
+
+    -- how often a node stands in a list
+    kept : (s up : ℕ) → s ≢ slot_in child → count_at s (children_at gs up) ≡ count_at s (children_at fs up)
+    kept s up ne = ⊎_elim
+        (λ is. ap (λ i. count_at s (children_at gs i)) is ∙ (ap (count_at s) new.last
+        ∙ (count_others s (children_at fs (slot_in parent)) child (λ e. ne (sym e))
+        ∙ ap (λ i. count_at s (children_at fs i)) (sym is))))
+        (λ other. ap (count_at s) (new.others up other)) (cases_eq up (slot_in parent))
+
+    none : (s up : ℕ) → s ≡ slot_in child → count_at s (children_at fs up) ≡ 0
+    none s up is = f.only s up (λ some. none-some up (sym root ∙ (ap (above fs) (sym is) ∙ some)))
+
+    up_is : (s up : ℕ) → s ≡ slot_in child → above gs s ≡ Some up → up ≡ slot_in parent
+    up_is s up is some =
+        same_Some up (slot_in parent) (sym some ∙ (ap (above gs) is ∙ ap slot_of new.here))
+
+    pub attached : IsForest gs
+    attached = record {
+      once = λ s up is. ⊎_elim
+          (λ at. let zero = none s (slot_in parent) at in
+          let more = count_last s (children_at fs (slot_in parent)) child (sym at) in
+          ap (λ i. count_at s (children_at gs i)) (up_is s up at is)
+          ∙ (ap (count_at s) new.last ∙ (omega (arith, zero, more))))
+          (λ ne. kept s up ne ∙ f.once s up (sym (same_above s ne) ∙ is)) (cases_eq s (slot_in child));
+      only = λ s other ne. ⊎_elim
+          (λ at. ap (count_at s) (new.others other (λ is. ne (ap (above gs) at ∙ (ap slot_of new.here ∙ ap Some (sym is)))))
+          ∙ none s other at)
+          (λ apart. kept s other apart ∙ f.only s other (λ is. ne (same_above s apart ∙ is)))
+          (cases_eq s (slot_in child));
+      rooted = λ s. let r = f.rooted s in rooted r.0 s r.1;
+    }
+
+  -- ---- a node that was taken out of its parent's children
+
+  module _ (f : IsForest fs) (child : Node T)
+      (alike : (s k : ℕ) (x : Node T) → slice_get (children_at fs s) k ≡ Some x
+      → slot_in x ≡ slot_in child → is_same x child ≡ true)
+      (new : IsDetached fs child gs) where
+    left_above : (s : ℕ) → s ≢ slot_in child → above gs s ≡ above fs s
+    left_above s ne = ap slot_of (new.parents s ne)
+
+    left : (s up : ℕ) → s ≢ slot_in child → count_at s (children_at gs up) ≡ count_at s (children_at fs up)
+    left s up ne = ⊎_elim
+        (λ is. ap (count_at s) (new.lost up is) ∙ count_without s child ne (children_at fs up))
+        (λ other. ap (count_at s) (new.others up other)) (slot_cases (above fs (slot_in child)) up)
+
+    gone : (s up : ℕ) → s ≡ slot_in child → count_at s (children_at gs up) ≡ 0
+    gone s up at = ⊎_elim
+        (λ is. ap (count_at s) (new.lost up is) ∙ none_without s child at (children_at fs up) (alike up))
+        (λ other. ap (count_at s) (new.others up other)
+        ∙ f.only s up (λ is. other (ap (above fs) (sym at) ∙ is)))
+        (slot_cases (above fs (slot_in child)) up)
+
+    left_rooted : (d s : ℕ) → IsRooted fs d s → (e : ℕ) × IsRooted gs e s
+    left_rooted zero s r = ⊎_elim (λ is. (0, ap (above gs) is ∙ ap slot_of new.here))
+        (λ ne. (0, left_above s ne ∙ r)) (cases_eq s (slot_in child))
+    left_rooted (suc d) s r =
+        let up = left_rooted d r.0 r.2 in
+        ⊎_elim (λ is. (0, ap (above gs) is ∙ ap slot_of new.here))
+        (λ ne. (suc up.0, (r.0, left_above s ne ∙ r.1, up.1))) (cases_eq s (slot_in child))
+
+    pub detached : IsForest gs
+    detached = record {
+      once = λ s up is. ⊎_elim
+          (λ at. absurd (none-some up (sym (ap slot_of new.here) ∙ (ap (above gs) (sym at) ∙ is))))
+          (λ ne. left s up ne ∙ f.once s up (sym (left_above s ne) ∙ is)) (cases_eq s (slot_in child));
+      only = λ s other ne. ⊎_elim (λ at. gone s other at)
+          (λ apart. left s other apart ∙ f.only s other (λ is. ne (left_above s apart ∙ is)))
+          (cases_eq s (slot_in child));
+      rooted = λ s. let r = f.rooted s in left_rooted r.0 s r.1;
+    }
+
+  -- ---- nodes that were left alone, with all that are below them and none above
+
+  module _ (f : IsForest fs) (list : List (Node T)) (c : IsCleared fs gs list)
+      (down : (s up : ℕ) → above fs s ≡ Some up → 0 < count_at up list → 0 < count_at s list)
+      (upward : (s up : ℕ) → above fs s ≡ Some up → 0 < count_at s list → 0 < count_at up list) where
+    -- a slot is of the list, or is not
+    listed : (s : ℕ) → (0 < count_at s list) ⊎ (count_at s list ≡ 0)
+    listed s = ⊎_elim (λ lt. inl lt) (λ le. inr (omega (arith, le))) (cases_lt 0 (count_at s list))
+
+    out : (s : ℕ) → count_at s list ≡ 0 → above gs s ≡ above fs s
+    out s none = ap (λ x. slot_of x.parent) (c.others s none)
+
+    within : (s : ℕ) → 0 < count_at s list → above gs s ≡ None
+    within s lt = ap (λ x. slot_of x.parent) (c.cleared s lt)
+
+    cleared_rooted : (d s : ℕ) → IsRooted fs d s → (e : ℕ) × IsRooted gs e s
+    cleared_rooted zero s r = ⊎_elim (λ lt. (0, within s lt)) (λ no. (0, out s no ∙ r)) (listed s)
+    cleared_rooted (suc d) s r =
+        let up = cleared_rooted d r.0 r.2 in
+        ⊎_elim (λ lt. (0, within s lt)) (λ no. (suc up.0, (r.0, out s no ∙ r.1, up.1))) (listed s)
+
+    zero_lt : {n : ℕ} → 0 < n → n ≡ 0 → ⊥
+    zero_lt lt is = omega (arith, lt, is)
+
+    pub cleared : IsForest gs
+    cleared = record {
+      once = λ s up is. ⊎_elim
+          (λ lt. absurd (none-some up (sym (within s lt) ∙ is)))
+          (λ no. let was = sym (out s no) ∙ is in ⊎_elim
+          (λ lt. absurd (zero_lt (down s up was lt) no))
+          (λ none. ap (λ x. count_at s x.children) (c.others up none) ∙ f.once s up was) (listed up))
+          (listed s);
+      only = λ s other ne. ⊎_elim
+          (λ lt. ap (λ x. count_at s x.children) (c.cleared other lt))
+          (λ none. ap (λ x. count_at s x.children) (c.others other none) ∙ f.only s other
+          (λ was. ⊎_elim (λ lt. zero_lt (upward s other was lt) none) (λ no. ne (out s no ∙ was)) (listed s)))
+          (listed other);
+      rooted = λ s. let r = f.rooted s in cleared_rooted r.0 s r.1;
+    }

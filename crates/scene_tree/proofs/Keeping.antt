@@ -1,0 +1,271 @@
+-- A tree's store and families after each of its calls.
+use Rattle.std.specs.FinMap as map
+use Rattle.std.proofs.Common.{◌≡◌, ◌≢◌, ◌<◌, ℕ, zero, suc, Bool, true, cond, List, [], ◌∷◌, ◌++◌}
+use Rattle.std.proofs.Common.{Ok, Option, None, Some, refl, sym, ap, subst, ◌∙◌, ⊎_elim, arith, length, length-append}
+use Rattle.std.specs.Ordering.{nat_cmp}
+use Rattle.std.specs.Prelude.{is_some, slice_get, filter}
+use Rattle.std.proofs.lemmas.Bool.{cases_Bool, cases_eq, cases_lt}
+use Rattle.std.proofs.lemmas.List.{length-map}
+use Rattle.std.proofs.lemmas.Option.{none-some, same_Some}
+use Rattle.generational_core.specs.Conditions.{fresh}
+use Rattle.generational_core.specs.Slots.{slots}
+use Rattle.generational_core.specs.State.{State, IsSound}
+use Rattle.generational_core.specs.Machine.Action.{Make}
+use Rattle.generational_core.specs.Machine.Answer.{Made}
+use Rattle.generational_core.specs.Seeing.{value_in}
+use Rattle.generational_core.specs.Steps.{Meets}
+use Rattle.generational_core.specs.declared.boxes.GenerationalPointer.{GenerationalPointer}
+use Rattle.generational_core.specs.declared.error.Location.{Location}
+use Rattle.generational_core.proofs.machine.Bounding.{no_slots}
+use Rattle.generational_core.proofs.machine.Calling.{made}
+use Rattle.generational_core.proofs.machine.Leaving.{same_value}
+use Rattle.entity_table.specs.Keeping.{IsSimple}
+use Rattle.entity_table.proofs.Keeping.{fresh_simple}
+use Rattle.entity_table.proofs.Removals.{get_pushed}
+use Rattle.scene_tree.specs.declared.node.Node.{Node}
+use Rattle.scene_tree.specs.Families.{Family, IsAttached, IsCleared, IsDetached, IsOpened, IsUnder, above, alone, children_at, count_at, family_at, parent_at}
+use Rattle.scene_tree.specs.Families.{families, family_in, slot_of}
+use Rattle.scene_tree.specs.declared.links.Links.{Links}
+use Rattle.scene_tree.specs.Keeping.{IsKept, IsLiveIn}
+use Rattle.scene_tree.specs.Nodes.{is_same, pointer_in, slot_in}
+use Rattle.scene_tree.proofs.Counting.{counted, same_id}
+use Rattle.scene_tree.proofs.Forests.{above_parent, attached, cleared, detached, parent_is, same_forest, slot_cases, under_alone}
+use Rattle.scene_tree.proofs.Stores.{live_within, made_beside, made_simple, made_slots, one_live}
+
+-- what a filter leaves stood there before
+filtered_from : {X : Type 0} (test : X → Bool) (xs : List X) (k : ℕ) (x : X)
+    → slice_get (filter test xs) k ≡ Some x → (i : ℕ) × (slice_get xs i ≡ Some x)
+filtered_from test [] k x at = absurd (none-some x at)
+filtered_from test (y ∷ xs) k x at = ⊎_elim
+    (λ yes. passes (λ i. filtered_from test xs i x) k
+    (ap (λ b. slice_get (cond b (y ∷ filter test xs) (filter test xs)) k) (sym yes) ∙ at))
+    (λ other. let rest = filtered_from test xs k x
+    (ap (λ b. slice_get (cond b (y ∷ filter test xs) (filter test xs)) k) (sym other) ∙ at) in
+    (suc rest.0, rest.1)) (cases_Bool (test y))
+  where
+    passes : ((i : ℕ) → slice_get (filter test xs) i ≡ Some x → (j : ℕ) × (slice_get xs j ≡ Some x))
+        → (i : ℕ) → slice_get (y ∷ filter test xs) i ≡ Some x
+        → (j : ℕ) × (slice_get (y ∷ xs) j ≡ Some x)
+    passes rest zero at = (0, at)
+    passes rest (suc i) at = let old = rest i at in (suc old.0, old.1)
+
+module _ {T : Type 0} where
+  -- a slot more that is alone changes no family
+  pub pushed_family : (fs : List (Family T)) (s : ℕ) → family_at (fs ++ alone ∷ []) s ≡ family_at fs s
+  pushed_family [] zero = refl
+  pushed_family [] (suc s) = refl
+  pushed_family (f ∷ fs) zero = refl
+  pushed_family (f ∷ fs) (suc s) = pushed_family fs s
+
+  pub fresh_kept : (number start next : ℕ) → IsKept (fresh {T = T} number start next) []
+  fresh_kept number start next = record {
+    simple = fresh_simple number start next;
+    whole = sym (ap map.len no_slots ∙ map.len-empty nat_cmp ℕ);
+    forest = record {
+      once = λ s up is. absurd (none-some up is);
+      only = λ s other ne. refl;
+      rooted = λ s. (0, refl);
+    };
+    parents = λ s up is. absurd (none-some up is);
+    children = λ s k c is. absurd (none-some c is);
+  }
+
+  module _ {S : State T} {fs : List (Family T)} (k : IsKept S fs) where
+    -- a slot without a live node is alone
+    pub lone : (slot : ℕ) → ((n : Node T) → IsLiveIn S n → slot_in n ≢ slot) → family_at fs slot ≡ alone
+    lone slot none = λ i. record { parent = root i; children = childless i }
+      where
+        root : parent_at fs slot ≡ None
+        root = at (parent_at fs slot) refl
+          where
+            at : (o : Option (Node T)) → parent_at fs slot ≡ o → parent_at fs slot ≡ None
+            at None is = is
+            at (Some up) is =
+                let one = k.forest.once slot (slot_in up) (ap slot_of is) in
+                let there = counted slot (children_at fs (slot_in up)) (omega (arith, one)) in
+                absurd (none there.1 (k.children (slot_in up) there.0 there.1 there.2) there.3)
+
+        childless : children_at fs slot ≡ []
+        childless = at (children_at fs slot) refl
+          where
+            at : (cs : List (Node T)) → children_at fs slot ≡ cs → children_at fs slot ≡ []
+            at [] is = is
+            at (c ∷ cs) is =
+                let up = above_parent fs (slot_in c) slot
+                (parent_is fs k.forest slot 0 c (ap (λ xs. slice_get xs 0) is)) in
+                absurd (none up.0 (k.parents (slot_in c) up.0 up.1) up.2)
+
+    -- the same families over a store in which all live nodes are live
+    pub kept_same : {R : State T} (gs : List (Family T)) → IsSimple R → length gs ≡ slots R
+        → ((s : ℕ) → family_at gs s ≡ family_at fs s)
+        → ((n : Node T) → IsLiveIn S n → IsLiveIn R n) → IsKept R gs
+    kept_same gs simple whole same live = record {
+      simple = simple;
+      whole = whole;
+      forest = same_forest fs gs k.forest same;
+      parents = λ s up is. live up (k.parents s up (sym (ap (λ f. f.parent) (same s)) ∙ is));
+      children = λ s i c is. live c (k.children s i c (sym (ap (λ f. slice_get f.children i) (same s)) ∙ is));
+    }
+
+    -- the same families where the same nodes are live
+    pub kept_still : {R : State T} → IsSimple R → slots R ≡ slots S
+        → ((n : Node T) → is_some (value_in R (pointer_in n)) ≡ is_some (value_in S (pointer_in n)))
+        → IsKept R fs
+    kept_still simple same live =
+        kept_same fs simple (k.whole ∙ sym same) (λ s. refl) (λ n lives. live n ∙ lives)
+
+    -- a slot that was opened for a new node
+    module _ {R : State T} (sound : IsSound S) (v : T) (l : Location) (b : GenerationalPointer)
+        (m : Meets S (Make None v l) (Made b) R) (gs : List (Family T)) (o : IsOpened fs b.id.slot gs) where
+      pub opened_same : (s : ℕ) → family_at gs s ≡ family_at fs s
+      opened_same s = ⊎_elim
+          (λ old. ap (λ x. family_at x s) (o.old (omega (arith, old.0, k.whole))))
+          (λ next. ap (λ x. family_at x s) (o.next (next.0 ∙ sym k.whole)) ∙ pushed_family fs s)
+          (made_slots sound k.simple v l b m)
+
+      opened_whole : length gs ≡ slots R
+      opened_whole = ⊎_elim
+          (λ old. ap length (o.old (omega (arith, old.0, k.whole))) ∙ (k.whole ∙ sym old.1))
+          (λ next. let long = ap length (o.next (next.0 ∙ sym k.whole)) ∙ length-append fs (alone ∷ []) in
+          let more = next.1 in omega (arith, long, more, k.whole))
+          (made_slots sound k.simple v l b m)
+
+      pub opened_within : b.id.slot < length gs
+      opened_within = let long = opened_whole in ⊎_elim
+          (λ old. omega (arith, old.0, old.1, long)) (λ next. omega (arith, next.0, next.1, long))
+          (made_slots sound k.simple v l b m)
+
+      pub kept_opened : IsKept R gs
+      kept_opened = kept_same gs (made_simple sound k.simple v l b m) opened_whole opened_same
+          (λ n live. ap is_some (same_value S R (Make None v l) (Made b) sound m (pointer_in n) tt
+          (λ is. made_beside sound k.simple v l b m n live (sym (ap (λ n. n.slot) is)))) ∙ live)
+
+      -- the new node has neither parent nor children
+      pub opened_alone : family_at gs b.id.slot ≡ alone
+      opened_alone = opened_same b.id.slot ∙ lone b.id.slot (made_beside sound k.simple v l b m)
+
+    -- a node that was made the last child of another
+    pub kept_attached : (gs : List (Family T)) (parent child : Node T) → IsLiveIn S parent
+        → IsLiveIn S child → above fs (slot_in child) ≡ None
+        → ((e : ℕ) → IsUnder fs (slot_in child) e (slot_in parent) → ⊥)
+        → IsAttached fs parent child gs → IsKept S gs
+    kept_attached gs parent child live lives root apart new = record {
+      simple = k.simple;
+      whole = new.long ∙ k.whole;
+      forest = attached fs gs k.forest parent child root apart new;
+      parents = λ s up is. ⊎_elim
+          (λ at. subst (IsLiveIn S) (same_Some parent up (sym new.here ∙ (ap (parent_at gs) (sym at) ∙ is))) live)
+          (λ ne. k.parents s up (sym (new.parents s ne) ∙ is)) (cases_eq s (slot_in child));
+      children = λ s i c is. ⊎_elim
+          (λ at. ⊎_elim (λ old. k.children (slot_in parent) i c old)
+          (λ more. subst (IsLiveIn S) more.1 lives)
+          (get_pushed (children_at fs (slot_in parent)) i child c
+          (sym (ap (λ xs. slice_get xs i) (ap (children_at gs) at ∙ new.last)) ∙ is)))
+          (λ ne. k.children s i c (sym (ap (λ xs. slice_get xs i) (new.others s ne)) ∙ is))
+          (cases_eq s (slot_in parent));
+    }
+
+    -- a node that was taken out of its parent's children
+    alike : IsSound S → (child : Node T) → IsLiveIn S child → (s i : ℕ) (x : Node T)
+        → slice_get (children_at fs s) i ≡ Some x → slot_in x ≡ slot_in child → is_same x child ≡ true
+    alike sound child live s i x at same =
+        same_id x child (one_live S x child sound k.simple (k.children s i x at) live same)
+
+    pub kept_detached : IsSound S → (gs : List (Family T)) (child : Node T) → IsLiveIn S child
+        → IsDetached fs child gs → IsKept S gs
+    kept_detached sound gs child live new = record {
+      simple = k.simple;
+      whole = new.long ∙ k.whole;
+      forest = detached fs gs k.forest child (alike sound child live) new;
+      parents = λ s up is. ⊎_elim
+          (λ at. absurd (none-some up (sym new.here ∙ (ap (parent_at gs) (sym at) ∙ is))))
+          (λ ne. k.parents s up (sym (new.parents s ne) ∙ is)) (cases_eq s (slot_in child));
+      children = λ s i c is. ⊎_elim
+          (λ up. let old = filtered_from _ (children_at fs s) i c
+          (sym (ap (λ xs. slice_get xs i) (new.lost s up)) ∙ is) in k.children s old.0 c old.1)
+          (λ other. k.children s i c (sym (ap (λ xs. slice_get xs i) (new.others s other)) ∙ is))
+          (slot_cases (above fs (slot_in child)) s);
+    }
+
+    -- nodes that were left alone, with all that are below them and none above, and whose values ended
+    module _ (R : State T) (gs : List (Family T)) (list : List (Node T)) (c : IsCleared fs gs list)
+        (down : (s up : ℕ) → above fs s ≡ Some up → 0 < count_at up list → 0 < count_at s list)
+        (upward : (s up : ℕ) → above fs s ≡ Some up → 0 < count_at s list → 0 < count_at up list)
+        (live : (n : Node T) → count_at (slot_in n) list ≡ 0 → IsLiveIn S n → IsLiveIn R n) where
+      out : (s : ℕ) → (0 < count_at s list → ⊥) → count_at s list ≡ 0
+      out s never = ⊎_elim (λ lt. absurd (never lt)) (λ le. omega (arith, le)) (cases_lt 0 (count_at s list))
+
+      pub kept_cleared : IsSimple R → length gs ≡ slots R → IsKept R gs
+      kept_cleared simple whole = record {
+        simple = simple;
+        whole = whole;
+        forest = cleared fs gs k.forest list c down upward;
+        parents = λ s up is.
+            let none = out s (λ lt. none-some up (sym (ap (λ f. f.parent) (c.cleared s lt)) ∙ is)) in
+            let was = sym (ap (λ f. f.parent) (c.others s none)) ∙ is in
+            live up (out (slot_in up) (λ lt. let some = down s (slot_in up) (ap slot_of was) lt in
+            omega (arith, some, none))) (k.parents s up was);
+        children = λ s i x is.
+            let none = out s (λ lt. none-some x (sym (ap (λ f. slice_get f.children i) (c.cleared s lt)) ∙ is)) in
+            let was = sym (ap (λ f. slice_get f.children i) (c.others s none)) ∙ is in
+            live x (out (slot_in x) (λ lt. let some = upward (slot_in x) s (parent_is fs k.forest s i x was) lt in
+            omega (arith, some, none))) (k.children s i x was);
+      }
+
+  -- a live node is left by a making
+  pub added_left : {S R : State T} {fs : List (Family T)} → IsKept S fs → (sound : IsSound S) (v : T)
+      (l : Location) (child : Node T) → Meets S (Make None v l) (Made (pointer_in child)) R
+      → (n : Node T) → IsLiveIn S n → value_in R (pointer_in n) ≡ value_in S (pointer_in n)
+  added_left {S} {R} k sound v l child m n live =
+      same_value S R (Make None v l) (Made (pointer_in child)) sound m (pointer_in n) tt
+      (λ is. made_beside sound k.simple v l (pointer_in child) m n live (sym (ap (λ n. n.slot) is)))
+
+  -- both: a new child
+  module _ {S R : State T} {fs : List (Family T)} (k : IsKept S fs) (sound : IsSound S) (v : T) (l : Location) (parent child : Node T)
+      (m : Meets S (Make None v l) (Made (pointer_in child)) R) (live : IsLiveIn S parent)
+      (gs hs : List (Family T)) (o : IsOpened fs (slot_in child) gs) (a : IsAttached gs parent child hs) where
+    apart : slot_in parent ≢ slot_in child
+    apart = made_beside sound k.simple v l (pointer_in child) m parent live
+
+    same : (s : ℕ) → family_at gs s ≡ family_at fs s
+    same = opened_same k sound v l (pointer_in child) m gs o
+
+    lone_child : family_at gs (slot_in child) ≡ alone
+    lone_child = opened_alone k sound v l (pointer_in child) m gs o
+
+    pub kept_added : IsKept R hs
+    kept_added = kept_attached (kept_opened k sound v l (pointer_in child) m gs o) hs parent child
+        (ap is_some (added_left k sound v l child m parent live) ∙ live)
+        (ap is_some (made None v l (Ok child.raw) m)) (ap (λ x. slot_of x.parent) lone_child)
+        (λ e under. apart (under_alone gs
+        (kept_opened k sound v l (pointer_in child) m gs o).forest (slot_in child) e (slot_in parent)
+        lone_child under)) a
+
+    pub added_child : family_at hs (slot_in child) ≡ record { parent = Some parent; children = [] }
+    added_child = λ i. record {
+      parent = a.here i;
+      children = (a.others (slot_in child) (λ is. apart (sym is)) ∙ ap (λ x. x.children) lone_child) i;
+    }
+
+    pub added_parent : family_at hs (slot_in parent) ≡ record {
+      parent = parent_at fs (slot_in parent);
+      children = children_at fs (slot_in parent) ++ child ∷ [];
+    }
+    added_parent = λ i. record {
+      parent = (a.parents (slot_in parent) apart ∙ ap (λ x. x.parent) (same (slot_in parent))) i;
+      children = (a.last ∙ ap (λ x. x.children ++ child ∷ []) (same (slot_in parent))) i;
+    }
+
+    pub added_beside : (s : ℕ) → s ≢ slot_in child → s ≢ slot_in parent
+        → family_at hs s ≡ family_at fs s
+    added_beside s ne other = λ i. record {
+      parent = (a.parents s ne ∙ ap (λ x. x.parent) (same s)) i;
+      children = (a.others s other ∙ ap (λ x. x.children) (same s)) i;
+    }
+
+  -- a live node's slot has links
+  pub live_slot : {S : State T} (links : List (Links T)) → IsSound S → IsKept S (families links)
+      → (n : Node T) → IsLiveIn S n → slot_in n < length links
+  live_slot {S} links sound k n live =
+      let lt = live_within S n sound k.simple live in
+      let long = length-map links family_in in omega (arith, lt, long, k.whole)

@@ -1,0 +1,153 @@
+-- How many slots of a store are live, free and retired, where each live name is the last of its slot.
+use Rattle.std.specs.FinMap as map
+use Rattle.std.proofs.Common.{◌≡◌, ◌+◌, ℕ, Bool, true, false, List, [], ◌∷◌, ◌++◌, sym, ap, subst, ◌∙◌}
+use Rattle.std.proofs.Common.{⊎_elim, arith, length-append, not}
+use Rattle.std.specs.Cmp.{eq_by_cmp_equiv, nat_cmp_total}
+use Rattle.std.specs.List.{AllByRecursion, IsDistinct, list_any}
+use Rattle.std.specs.Ordering.{eq_by_cmp, nat_cmp}
+use Rattle.std.specs.Prelude.{◌&&◌, is_some, map as list_map}
+use Rattle.std.proofs.lemmas.Bool.{and_parts, cases_Bool, not-true, or_cases, or_left, or_right, true≢false}
+use Rattle.std.proofs.lemmas.List.{length-map}
+use Rattle.std.proofs.lemmas.List.Folds.{list_any-append}
+use Rattle.std.proofs.lemmas.Map.Made.{length-le_from_is_member}
+use Rattle.generational_core.specs.Names.{Name, name_cmp}
+use Rattle.generational_core.specs.Slots.{free, is_free, is_last_live, is_retired, last_name, retired, slots, slots_of}
+use Rattle.generational_core.specs.State.{State, IsSound}
+use Rattle.generational_core.proofs.machine.Bounding.{slots_bounded}
+use Rattle.generational_core.proofs.maps.Maps.{by_name, by_number, keep_view, key_here, key_same, keys_apart, len_keys}
+use Rattle.entity_table.specs.Keeping.{AreLast}
+use Rattle.scene_tree.proofs.Stores.{slot_made}
+
+module _ {K : Type 0} (e : K → K → Bool) where
+  any_false : (x : K) (ys : List K) → (list_any (e x) ys ≡ true → ⊥)
+      → AllByRecursion (λ y. e x y ≡ false) ys
+  any_false x [] never = tt
+  any_false x (y ∷ ys) never = (
+    ⊎_elim (λ yes. absurd (never (or_left _ _ yes))) (λ other. other) (cases_Bool (e x y)),
+    any_false x ys (λ any. never (or_right _ _ any)),
+  )
+
+  no_any : (x : K) (ys : List K) → AllByRecursion (λ y. e x y ≡ false) ys
+      → list_any (e x) ys ≡ true → ⊥
+  no_any x [] all any = true≢false (sym any)
+  no_any x (y ∷ ys) all any = ⊎_elim (λ yes. true≢false (sym yes ∙ all.0))
+      (λ rest. no_any x ys all.1 rest) (or_cases _ _ any)
+
+  -- two lists that have nothing in common, each of which has each once, do so in a row
+  distinct_both : ((x : K) → e x x ≡ true) → (xs ys : List K) → IsDistinct e xs → IsDistinct e ys
+      → ((q : K) → list_any (e q) xs ≡ true → list_any (e q) ys ≡ true → ⊥) → IsDistinct e (xs ++ ys)
+  unfolding IsDistinct
+  distinct_both here [] ys dx dy apart = dy
+  distinct_both here (x ∷ xs) ys dx dy apart = (
+    any_false x (xs ++ ys) (λ any. ⊎_elim (λ a. no_any x xs dx.0 a)
+        (λ b. apart x (or_left _ _ (here x)) b)
+        (or_cases _ _ (sym (list_any-append (e x) xs ys) ∙ any))),
+    distinct_both here xs ys dx.1 dy (λ q a b. apart q (or_right _ _ a) b),
+  )
+
+abbrev slots_in : List Name → List ℕ
+slots_in names = list_map (λ (n : Name). n.slot) names
+
+found_slot : (names : List Name) (s : ℕ) → list_any (eq_by_cmp nat_cmp s) (slots_in names) ≡ true
+    → (m : Name) × (list_any (eq_by_cmp name_cmp m) names ≡ true) × (s ≡ m.slot)
+found_slot [] s any = absurd (true≢false (sym any))
+found_slot (n ∷ names) s any = ⊎_elim
+    (λ yes. (n, or_left _ _ (key_here by_name n), key_same by_number s n.slot yes))
+    (λ rest. let m = found_slot names s rest in (m.0, or_right _ _ m.1, m.2)) (or_cases _ _ any)
+
+module _ {T : Type 0} (S : State T) (s : IsSound S) (last : AreLast S) where
+  abbrev IsLiveName : Name → Type 0
+  IsLiveName n = is_some (map.get S.cells n) ≡ true
+
+  slots_apart : (names : List Name)
+      → ((n : Name) → list_any (eq_by_cmp name_cmp n) names ≡ true → IsLiveName n)
+      → IsDistinct (eq_by_cmp name_cmp) names → IsDistinct (eq_by_cmp nat_cmp) (slots_in names)
+  unfolding IsDistinct
+  slots_apart [] live d = tt
+  slots_apart (n ∷ names) live d = (
+    any_false (eq_by_cmp nat_cmp) n.slot (slots_in names) (λ any.
+        let m = found_slot names n.slot any in
+        let same = last n (live n (or_left _ _ (key_here by_name n)))
+        ∙ (ap (last_name S) m.2 ∙ sym (last m.0 (live m.0 (or_right _ _ m.1)))) in
+        no_any (eq_by_cmp name_cmp) n names d.0
+        (subst (λ q. list_any (eq_by_cmp name_cmp q) names ≡ true) (sym same) m.1)),
+    slots_apart names (λ q any. live q (or_right _ _ any)) d.1,
+  )
+
+  abbrev live_slots : List ℕ
+  live_slots = slots_in (map.keys S.cells)
+
+  abbrev kept_slots : (ℕ → Bool) → List ℕ
+  kept_slots p = map.keys (map.retain_keys (slots_of S) p)
+
+  live_key : (n : Name) → list_any (eq_by_cmp name_cmp n) (map.keys S.cells) ≡ true → IsLiveName n
+  live_key n any = map.contains_key-keys S.cells n ∙ any
+
+  -- what stands in these lists
+  is_live_slot : (q : ℕ) → list_any (eq_by_cmp nat_cmp q) live_slots ≡ true
+      → (is_last_live S q ≡ true) × (map.contains_key (slots_of S) q ≡ true)
+  is_live_slot q any =
+      let m = found_slot (map.keys S.cells) q any in
+      let live = live_key m.0 m.1 in (
+        ap (is_last_live S) m.2
+            ∙ (ap (λ n. is_some (map.get S.cells n)) (sym (last m.0 live)) ∙ live),
+        ap (map.contains_key (slots_of S)) m.2 ∙ slot_made S m.0 (s.given m.0 live),
+      )
+
+  is_kept_slot : (p : ℕ → Bool) (q : ℕ) → list_any (eq_by_cmp nat_cmp q) (kept_slots p) ≡ true
+      → (p q ≡ true) × (map.contains_key (slots_of S) q ≡ true)
+  is_kept_slot p q any =
+      let there = map.contains_key-keys (map.retain_keys (slots_of S) p) q ∙ any in
+      ⊎_elim (λ kept. (kept.1, sym (ap is_some kept.0) ∙ there))
+      (λ gone. absurd (true≢false (sym there ∙ ap is_some gone.0)))
+      (keep_view by_number (slots_of S) p q)
+
+  -- a slot isn't free and retired, nor live and one of these
+  one_kind : (q : ℕ) → is_free S q ≡ true → is_retired S q ≡ true → ⊥
+  one_kind q f r = true≢false (sym (and_parts _ _ f).1 ∙ not-true _ (and_parts _ _ r).1)
+
+  unkept : (low : Bool) (q : ℕ) → is_last_live S q ≡ true → (not (is_last_live S q) && low) ≡ true → ⊥
+  unkept low q live kept = true≢false (sym live ∙ not-true _ (and_parts _ _ kept).0)
+
+  rest_apart : IsDistinct (eq_by_cmp nat_cmp) (kept_slots (is_free S) ++ kept_slots (is_retired S))
+  rest_apart = distinct_both (eq_by_cmp nat_cmp) (key_here by_number) (kept_slots (is_free S))
+      (kept_slots (is_retired S)) (keys_apart nat_cmp (map.retain_keys (slots_of S) (is_free S)))
+      (keys_apart nat_cmp (map.retain_keys (slots_of S) (is_retired S)))
+      (λ q a b. one_kind q (is_kept_slot (is_free S) q a).0 (is_kept_slot (is_retired S) q b).0)
+
+  all_apart : IsDistinct (eq_by_cmp nat_cmp)
+      (live_slots ++ (kept_slots (is_free S) ++ kept_slots (is_retired S)))
+  all_apart = distinct_both (eq_by_cmp nat_cmp) (key_here by_number) live_slots
+      (kept_slots (is_free S) ++ kept_slots (is_retired S))
+      (slots_apart (map.keys S.cells) live_key (keys_apart name_cmp S.cells)) rest_apart
+      (λ q a b. ⊎_elim
+      (λ f. unkept _ q (is_live_slot q a).0 (is_kept_slot (is_free S) q f).0)
+      (λ r. unkept _ q (is_live_slot q a).0 (is_kept_slot (is_retired S) q r).0)
+      (or_cases _ _ (sym (list_any-append (eq_by_cmp nat_cmp q) (kept_slots (is_free S))
+      (kept_slots (is_retired S))) ∙ b)))
+
+  all_slots : (q : ℕ) → list_any (eq_by_cmp nat_cmp q)
+      (live_slots ++ (kept_slots (is_free S) ++ kept_slots (is_retired S))) ≡ true
+      → map.contains_key (slots_of S) q ≡ true
+  all_slots q any = ⊎_elim (λ live. (is_live_slot q live).1)
+      (λ rest. ⊎_elim (λ f. (is_kept_slot (is_free S) q f).1) (λ r. (is_kept_slot (is_retired S) q r).1)
+      (or_cases _ _ (sym (list_any-append (eq_by_cmp nat_cmp q) (kept_slots (is_free S))
+      (kept_slots (is_retired S))) ∙ rest)))
+      (or_cases _ _ (sym (list_any-append (eq_by_cmp nat_cmp q) live_slots
+      (kept_slots (is_free S) ++ kept_slots (is_retired S))) ∙ any))
+
+  -- each slot is live, free or retired, and is one of them
+  pub slots_are : slots S ≡ map.len S.cells + free S + retired S
+  slots_are =
+      let few = slots_bounded S in
+      let all = length-le_from_is_member (eq_by_cmp_equiv nat_cmp_total)
+      (live_slots ++ (kept_slots (is_free S) ++ kept_slots (is_retired S))) (map.keys (slots_of S))
+      all_apart (λ q any. sym (map.contains_key-keys (slots_of S) q) ∙ all_slots q any) in
+      let long = length-append live_slots (kept_slots (is_free S) ++ kept_slots (is_retired S)) in
+      let rest = length-append (kept_slots (is_free S)) (kept_slots (is_retired S)) in
+      let live = length-map (map.keys S.cells) (λ (n : Name). n.slot) in
+      let cells = len_keys name_cmp S.cells in
+      let frees = len_keys nat_cmp (map.retain_keys (slots_of S) (is_free S)) in
+      let gone = len_keys nat_cmp (map.retain_keys (slots_of S) (is_retired S)) in
+      let whole = len_keys nat_cmp (slots_of S) in
+      omega (arith, few, all, long, rest, live, cells, frees, gone, whole)

@@ -1,0 +1,12 @@
+pub mod Counting
+pub mod Cutting
+pub mod Forests
+pub mod Gathering
+pub mod Keeping
+pub mod Lengths
+pub mod Losing
+pub mod Moving
+pub mod Paths
+pub mod Stores
+pub mod Trees
+pub mod Writes

@@ -1,0 +1,107 @@
+-- A store after the values of nodes have ended.
+use Rattle.std.proofs.Common.{◌≡◌, ◌<◌, ◌+◌, ℕ, List, [], ◌∷◌, ◌++◌, Some, Ok, refl, sym}
+use Rattle.std.proofs.Common.{ap, subst, ◌∙◌, ⊎_elim, arith, cond, get_or, length, length-append, take, ◌≤◌}
+use Rattle.std.proofs.lemmas.List.Sums.{sum_by-take-le}
+use Rattle.std.proofs.lemmas.Bool.{cases_Bool, cases_lt}
+use Rattle.std.specs.Prelude.{is_some, slice_get}
+use Rattle.std.proofs.lemmas.List.{take_more}
+use Rattle.std.proofs.lemmas.Option.{slice_get-get_or}
+use Rattle.generational_core.specs.Machine.Action.{End}
+use Rattle.generational_core.specs.Machine.Answer.{Done}
+use Rattle.generational_core.specs.State.{State, IsSound}
+use Rattle.generational_core.specs.Steps.{Meets}
+use Rattle.generational_core.proofs.machine.Calling.{ends, unseen}
+use Rattle.generational_core.proofs.machine.Leaving.{same_value}
+use Rattle.generational_core.proofs.machine.Stepping.{meets_given, meets_number}
+use Rattle.entity_table.specs.Keeping.{IsSimple}
+use Rattle.entity_table.proofs.Keeping.{others_left, seen_store, simple_still}
+use Rattle.scene_tree.specs.declared.node.Node.{Node}
+use Rattle.scene_tree.specs.Keeping.{HasLost, IsLiveIn}
+use Rattle.scene_tree.specs.Nodes.{is_same, pointer_in, times}
+use Rattle.scene_tree.proofs.Counting.{is_id, same_id, times_apart, times_both, times_more}
+use Rattle.scene_tree.proofs.Stores.{ended_count, same_slots}
+use Rattle.scene_tree.proofs.Trees.{same_shown}
+
+zero_less : {n : ℕ} → 0 < n → n ≡ 0 → ⊥
+zero_less lt is = omega (arith, lt, is)
+
+module _ {T : Type 0} where
+  -- of one node
+  pub lost_one : {S R : State T} → IsSound S → IsSimple S → (a : Node T) → IsLiveIn S a
+      → Meets S (End (pointer_in a)) Done R → HasLost S (a ∷ []) R
+  lost_one {S} {R} s k a live m = record {
+    simple = simple_still s k (End (pointer_in a)) Done m refl tt tt;
+    same = same_slots (End (pointer_in a)) Done refl m;
+    number = meets_number S R (End (pointer_in a)) Done m;
+    count = ended_count s k a live m;
+    given = meets_given S R (End (pointer_in a)) Done m;
+    ended = λ n some. ⊎_elim
+        (λ same. sym (same_shown R a n (is_id a n same))
+        ∙ unseen R (pointer_in a) (ends (pointer_in a) {U = Unit {0}} (Ok tt) m))
+        (λ other. absurd (zero_less some (times_apart n a [] other))) (cases_Bool (is_same a n));
+    others = λ n none. others_left (End (pointer_in a)) Done s m (pointer_in a) (pointer_in n)
+        (seen_store S (pointer_in a) s live)
+        (λ ne. same_value S R (End (pointer_in a)) Done s m (pointer_in n) ne tt)
+        (λ same. let one = times_more n a [] (same_id a n same) in absurd (omega (arith, none, one)));
+  }
+
+  module _ {S R Q : State T} where
+    -- of others, and then of one more
+    lost_last : (xs : List (Node T)) (x : Node T) → HasLost S xs R → HasLost R (x ∷ []) Q
+        → HasLost S (xs ++ x ∷ []) Q
+    lost_last xs x before last = record {
+      simple = last.simple;
+      same = last.same ∙ before.same;
+      number = last.number ∙ before.number;
+      count = let more = length-append xs (x ∷ []) in
+          omega (arith, more, before.count, last.count);
+      given = λ n given. last.given n (before.given n given);
+      ended = λ n some. ⊎_elim (λ lt. last.ended n lt)
+          (λ le. let both = times_both n xs (x ∷ []) in
+          last.others n (omega (arith, le)) ∙ before.ended n (omega (arith, some, both, le)))
+          (cases_lt 0 (times n (x ∷ [])));
+      others = λ n none. let both = times_both n xs (x ∷ []) in
+          last.others n (omega (arith, none, both)) ∙ before.others n (omega (arith, none, both));
+    }
+
+    pub lost_more : (nodes items : List (Node T)) (i : ℕ) (x d : Node T) → items ≡ nodes
+        → i < length items → x ≡ get_or items i d → HasLost S (take i nodes) R
+        → HasLost R (x ∷ []) Q → HasLost S (take (i + 1) nodes) Q
+    lost_more nodes items i x d same lt is before last = subst (λ xs. HasLost S xs Q)
+        (sym (take_more nodes i d (subst (λ xs. i < length xs) same lt)
+        ∙ ap (λ y. take i nodes ++ y ∷ []) (sym (is ∙ ap (λ xs. get_or xs i d) same))))
+        (lost_last (take i nodes) x before last)
+
+  -- of none
+  pub lost_none : {S : State T} → IsSimple S → HasLost S [] S
+  lost_none simple = record {
+    simple = simple;
+    same = refl;
+    number = refl;
+    count = omega arith;
+    given = λ n given. given;
+    ended = λ n some. absurd (zero_less some refl);
+    others = λ n none. refl;
+  }
+
+  -- a node that was live, and stands once in the list, is live until its turn comes
+  pub still_live : {S R : State T} {nodes items : List (Node T)} {i : ℕ} (d : Node T)
+      → HasLost S (take i nodes) R → items ≡ nodes → i < length items
+      → ((j : ℕ) (n : Node T) → slice_get nodes j ≡ Some n → IsLiveIn S n)
+      → ((n : Node T) → times n nodes ≤ 1) → IsLiveIn R (get_or items i d)
+  still_live {S} {R} {nodes} {items} {i} d lost same lt live once =
+      subst (λ xs. IsLiveIn R (get_or xs i d)) (sym same)
+      (ap is_some (lost.others n none) ∙ live i n (slice_get-get_or nodes i d within))
+    where
+      n : Node T
+      n = get_or nodes i d
+
+      within : i < length nodes
+      within = subst (λ xs. i < length xs) same lt
+
+      none : times n (take i nodes) ≡ 0
+      none =
+          let more = ap (times n) (take_more nodes i d within) ∙ times_both n (take i nodes) (n ∷ []) in
+          let one = times_more n n [] (same_id n n refl) in
+          let all = sum_by-take-le (λ c. cond (is_same c n) 1 0) nodes (i + 1) in
+          let few = once n in omega (arith, more, one, all, few)

@@ -1,0 +1,236 @@
+-- What a tree shows of its nodes.
+use Rattle.std.specs.FinMap as map
+use Rattle.std.proofs.Common.{◌≡◌, ◌<◌, ℕ, zero, suc, true, false, cond, List, [], ◌∷◌, ◌++◌, length}
+use Rattle.std.proofs.Common.{Option, None, Some, refl, sym, ap, subst, ◌∙◌, ⊎_elim, inl, inr, arith}
+use Rattle.std.specs.List.{flat_map}
+use Rattle.std.specs.Prelude.{◌⊎◌, is_some, nat_eq, slice_get}
+use Rattle.std.proofs.lemmas.Bool.{cases_Bool, true≢false}
+use Rattle.std.proofs.lemmas.Option.{none-some, same_Some}
+use Rattle.generational_core.specs.Borrowing.{leads_to, reach}
+use Rattle.generational_core.specs.Boxes.{name_in}
+use Rattle.generational_core.specs.Seeing.{value_in, value_reached}
+use Rattle.generational_core.specs.State.{State, IsSound}
+use Rattle.generational_core.specs.declared.boxes.GenerationalBoxId.{GenerationalBoxId}
+use Rattle.scene_tree.specs.declared.node.Node.{Node}
+use Rattle.scene_tree.specs.Families.{Family, IsInLevels, IsRooted, IsUnder, alone, children_at, count_at, family_at, parent_at, slot_of}
+use Rattle.scene_tree.specs.Keeping.{IsKept, IsLiveIn}
+use Rattle.scene_tree.specs.Nodes.{IsSame, is_same, pointer_in, slot_in, times}
+use Rattle.scene_tree.specs.Trees.{IsLeft, IsRootedIn, IsStepsBelow, IsSubtree, IsTree, TreeState, children_of, family_of, is_live}
+use Rattle.scene_tree.specs.Trees.{parent_of, value_of}
+use Rattle.scene_tree.proofs.Counting.{is_id, same_id, times_at, times_none}
+use Rattle.scene_tree.proofs.Forests.{above_parent}
+use Rattle.scene_tree.proofs.Gathering.{all_listed, listed_below, listed_once, part_whole}
+use Rattle.scene_tree.proofs.Stores.{one_live}
+
+module _ {T : Type 0} where
+  -- a live node has the family of its slot, and one that is gone is alone
+  pub live_family : (t : TreeState T) (n : Node T) → is_live t n ≡ true
+      → family_of t n ≡ family_at t.families (slot_in n)
+  live_family t n live = ap (λ b. cond b (family_at t.families (slot_in n)) alone) live
+
+  pub gone_family : (t : TreeState T) (n : Node T) → is_live t n ≡ false → family_of t n ≡ alone
+  gone_family t n gone = ap (λ b. cond b (family_at t.families (slot_in n)) alone) gone
+
+  -- a part of a node's family is what it was, where it is so of a live node
+  pub part_with : {X : Type 0} (part : Family T → X) (t u : TreeState T) (n : Node T)
+      → value_of u n ≡ value_of t n
+      → (is_live t n ≡ true
+      → part (family_at u.families (slot_in n)) ≡ part (family_at t.families (slot_in n)))
+      → part (family_of u n) ≡ part (family_of t n)
+  part_with part t u n value same = ⊎_elim
+      (λ live. ap part (live_family u n (ap is_some value ∙ live))
+      ∙ (same live ∙ sym (ap part (live_family t n live))))
+      (λ gone. ap part (gone_family u n (ap is_some value ∙ gone) ∙ sym (gone_family t n gone)))
+      (cases_Bool (is_live t n))
+
+  -- a node is left that shows what it showed, and has the family that it had where it is live
+  pub left_with : (t u : TreeState T) (n : Node T) → value_of u n ≡ value_of t n
+      → (is_live t n ≡ true → family_at u.families (slot_in n) ≡ family_at t.families (slot_in n))
+      → IsLeft t n u
+  left_with t u n value family =
+      record { value = value; family = part_with (λ f. f) t u n value family }
+
+  pub left_still : (t u : TreeState T) (n : Node T) → u ≡ t → IsLeft t n u
+  left_still t u n same =
+      record { value = ap (λ x. value_of x n) same; family = ap (λ x. family_of x n) same }
+
+  -- what a caller sees where the families stay
+  pub same_families : {S R : State T} (fs : List (Family T)) → R ≡ S
+      → ◌≡◌ {A = TreeState T} (record { state = R; families = fs }) (record { state = S; families = fs })
+  same_families fs same = λ i. record { state = same i; families = fs }
+
+-- what is there isn't missing
+pub never : {X : Type 0} {x : Option X} → is_some x ≡ true → x ≡ None → ⊥
+never there none = true≢false (sym there ∙ ap is_some none)
+
+-- what stands in two lists in a row stands in one of them
+get_both : {X : Type 0} (xs ys : List X) (i : ℕ) (x : X) → slice_get (xs ++ ys) i ≡ Some x
+    → ((j : ℕ) × (slice_get xs j ≡ Some x)) ⊎ ((j : ℕ) × (slice_get ys j ≡ Some x))
+get_both [] ys i x at = inr (i, at)
+get_both (z ∷ xs) ys zero x at = inl (0, at)
+get_both (z ∷ xs) ys (suc i) x at =
+    ⊎_elim (λ old. inl (suc old.0, old.1)) inr (get_both xs ys i x at)
+
+get_flat : {X Y : Type 0} (f : X → List Y) (xs : List X) (i : ℕ) (y : Y)
+    → slice_get (flat_map f xs) i ≡ Some y → (x : X) × (j : ℕ) × (slice_get (f x) j ≡ Some y)
+get_flat f [] i y at = absurd (none-some y at)
+get_flat f (x ∷ xs) i y at = ⊎_elim (λ here. (x, here.0, here.1))
+    (λ rest. get_flat f xs rest.0 y rest.1) (get_both (f x) (flat_map f xs) i y at)
+
+module _ {T : Type 0} where
+  -- handles of one node show the same
+  pub same_shown : (S : State T) (a b : Node T) → IsSame a b
+      → value_in S (pointer_in a) ≡ value_in S (pointer_in b)
+  unfolding value_in reach
+  same_shown S a b same = ap (λ (id : GenerationalBoxId). value_reached S (cond (nat_eq id.store S.number)
+      (leads_to (map.get S.cells (name_in id)) (name_in id)) None)) same
+
+  -- what is below a live node is live
+  pub below_live : (t : TreeState T) (top n : Node T) (e : ℕ) → is_live t top ≡ true
+      → IsStepsBelow t top e n → is_live t n ≡ true
+  below_live t top n zero live same = ap is_some (same_shown t.state n top same) ∙ live
+  below_live t top n (suc e) live below = ⊎_elim (λ lives. lives)
+      (λ gone. absurd (none-some below.0 (sym (ap (λ f. f.parent) (gone_family t n gone)) ∙ below.1)))
+      (cases_Bool (is_live t n))
+
+  abbrev pub AreLive : State T → List (Node T) → Type 0
+  AreLive S list = (i : ℕ) (c : Node T) → slice_get list i ≡ Some c → IsLiveIn S c
+
+  module _ {S : State T} {fs : List (Family T)} (sound : IsSound S) (k : IsKept S fs) where
+    abbrev tree : TreeState T
+    tree = record { state = S; families = fs }
+
+    pub times_live : (n : Node T) → IsLiveIn S n → (list : List (Node T)) → AreLive S list
+        → times n list ≡ count_at (slot_in n) list
+    times_live n live list lives = times_at n list (λ i x at same.
+        same_id x n (one_live S x n sound k.simple (lives i x at) live same))
+
+    pub times_gone : (n : Node T) → is_some (value_in S (pointer_in n)) ≡ false → (list : List (Node T))
+        → AreLive S list → times n list ≡ 0
+    times_gone n gone list lives = times_none n list (λ i x at. ⊎_elim
+        (λ same. absurd (true≢false (sym (lives i x at)
+        ∙ (ap is_some (same_shown S x n (is_id x n same)) ∙ gone))))
+        (λ other. other) (cases_Bool (is_same x n)))
+
+    pub live_children : (n : Node T) → IsLiveIn S n → children_of tree n ≡ children_at fs (slot_in n)
+    live_children n live = ap (λ f. f.children) (live_family tree n live)
+
+    pub live_parent : (n : Node T) → IsLiveIn S n → parent_of tree n ≡ parent_at fs (slot_in n)
+    live_parent n live = ap (λ f. f.parent) (live_family tree n live)
+
+    -- a node with a parent is live, and so is the parent
+    pub has_parent : (n up : Node T) → parent_of tree n ≡ Some up
+        → IsLiveIn S n × (parent_at fs (slot_in n) ≡ Some up)
+    has_parent n up is = ⊎_elim (λ live. (live, sym (live_parent n live) ∙ is))
+        (λ gone. absurd (none-some up (sym (ap (λ f. f.parent) (gone_family tree n gone)) ∙ is)))
+        (cases_Bool (is_live tree n))
+
+    -- ---- the tree
+
+    rooted_in : (d : ℕ) (n : Node T) → IsLiveIn S n → IsRooted fs d (slot_in n) → IsRootedIn tree d n
+    rooted_in zero n live r = ⊎_elim (λ is. live_parent n live ∙ is)
+        (λ some. absurd (none-some (slot_in some.0) (sym r ∙ ap slot_of some.1)))
+        (parent_cases (parent_at fs (slot_in n)) refl)
+      where
+        parent_cases : (o : Option (Node T)) → parent_at fs (slot_in n) ≡ o
+            → (parent_at fs (slot_in n) ≡ None)
+            ⊎ ((p : Node T) × (parent_at fs (slot_in n) ≡ Some p))
+        parent_cases None is = inl is
+        parent_cases (Some p) is = inr (p, is)
+    rooted_in (suc d) n live r =
+        let up = above_parent fs (slot_in n) r.0 r.1 in (
+          up.0,
+          live_parent n live ∙ up.1,
+          rooted_in d up.0 (k.parents (slot_in n) up.0 up.1) (subst (IsRooted fs d) (sym up.2) r.2),
+        )
+
+    pub kept_tree : IsTree tree
+    kept_tree = record {
+      once = λ n up is.
+          let at = has_parent n up is in
+          let live = k.parents (slot_in n) up at.1 in
+          ap (times n) (live_children up live)
+          ∙ (times_live n at.0 (children_at fs (slot_in up)) (k.children (slot_in up))
+          ∙ k.forest.once (slot_in n) (slot_in up) (ap slot_of at.1));
+      only = λ n other apart. ⊎_elim
+          (λ live. ap (times n) (live_children other live) ∙ ⊎_elim
+          (λ lives. times_live n lives (children_at fs (slot_in other)) (k.children (slot_in other))
+          ∙ k.forest.only (slot_in n) (slot_in other) (λ is.
+          let p = above_parent fs (slot_in n) (slot_in other) is in
+          apart p.0 (live_parent n lives ∙ p.1)
+          (one_live S p.0 other sound k.simple (k.parents (slot_in n) p.0 p.1) live p.2)))
+          (λ gone. times_gone n gone (children_at fs (slot_in other)) (k.children (slot_in other)))
+          (cases_Bool (is_live tree n)))
+          (λ gone. ap (λ f. times n f.children) (gone_family tree other gone))
+          (cases_Bool (is_live tree other));
+      rooted = λ n. ⊎_elim
+          (λ live. let r = k.forest.rooted (slot_in n) in (r.0, rooted_in r.0 n live r.1))
+          (λ gone. (0, ap (λ f. f.parent) (gone_family tree n gone))) (cases_Bool (is_live tree n));
+    }
+
+    -- ---- what is below a node
+
+    module _ (top : Node T) (live : IsLiveIn S top) where
+      pub under_below : (e : ℕ) (n : Node T) → IsLiveIn S n → IsUnder fs (slot_in top) e (slot_in n)
+          → IsStepsBelow tree top e n
+      under_below zero n lives is = one_live S n top sound k.simple lives live is
+      under_below (suc e) n lives under =
+          let up = above_parent fs (slot_in n) under.0 under.1 in (
+            up.0,
+            live_parent n lives ∙ up.1,
+            under_below e up.0 (k.parents (slot_in n) up.0 up.1)
+                (subst (IsUnder fs (slot_in top) e) (sym up.2) under.2),
+          )
+
+      pub below_under : (e : ℕ) (n : Node T) → IsStepsBelow tree top e n
+          → IsLiveIn S n × IsUnder fs (slot_in top) e (slot_in n)
+      below_under zero n same =
+          (ap is_some (same_shown S n top same) ∙ live, ap (λ id. id.slot) same)
+      below_under (suc e) n below =
+          let at = has_parent n below.0 below.1 in
+          let rest = below_under e below.0 below.2 in
+          (at.0, (slot_in below.0, ap slot_of at.1, rest.1))
+
+      module _ (list : List (Node T)) (level : IsInLevels fs top list) where
+        pub list_live : AreLive S list
+        list_live i c at = first i (ap (λ xs. slice_get xs i) (sym level) ∙ at)
+          where
+            first : (i : ℕ) → slice_get (top ∷ flat_map (λ n. children_at fs (slot_in n)) list) i ≡ Some c
+                → IsLiveIn S c
+            first zero at = subst (IsLiveIn S) (same_Some top c at) live
+            first (suc i) at =
+                let from = get_flat (λ n. children_at fs (slot_in n)) list i c at in
+                k.children (slot_in from.0) from.1 c from.2
+
+        flat_same : (xs : List (Node T)) → AreLive S xs
+            → flat_map (λ n. children_at fs (slot_in n)) xs ≡ flat_map (children_of tree) xs
+        flat_same [] lives = refl
+        flat_same (x ∷ xs) lives = ap (λ cs. cs ++ flat_map (λ n. children_at fs (slot_in n)) xs)
+            (sym (live_children x (lives 0 x refl)))
+            ∙ ap (λ rest. children_of tree x ++ rest) (flat_same xs (λ i. lives (suc i)))
+
+        pub subtree : IsSubtree tree top list
+        subtree = record {
+          levels = level ∙ ap (λ rest. top ∷ rest) (flat_same list list_live);
+          below = λ n. (
+            λ some. ⊎_elim
+                (λ lives. let under = listed_below fs k.forest top list (length list)
+                (part_whole fs k.forest top list level) (slot_in n)
+                (subst (λ c. 0 < c) (times_live n lives list list_live) some) in
+                (under.0, under_below under.0 n lives under.1))
+                (λ gone. absurd (zero_less some (times_gone n gone list list_live)))
+                (cases_Bool (is_live tree n)),
+            λ below. let at = below_under below.0 n below.1 in
+                subst (λ c. 0 < c) (sym (times_live n at.0 list list_live))
+                (all_listed fs k.forest top list level below.0 (slot_in n) at.1),
+          );
+          once = λ n. ⊎_elim
+              (λ lives. let same = times_live n lives list list_live in
+              let one = listed_once fs k.forest top list (length list)
+              (part_whole fs k.forest top list level) (slot_in n) in omega (arith, same, one))
+              (λ gone. let none = times_gone n gone list list_live in omega (arith, none))
+              (cases_Bool (is_live tree n));
+        }
+          where
+            zero_less : {n : ℕ} → 0 < n → n ≡ 0 → ⊥
+            zero_less lt is = omega (arith, lt, is)

@@ -1,0 +1,43 @@
+use Rattle.std.proofs.Common.{arith, ap, sym, ◌<◌, ◌≡◌, ◌∙◌, Some, length, suc}
+use Rattle.std.proofs.lemmas.Bool.{true≢false}
+use Rattle.std.proofs.lemmas.List.{length-map}
+use Rattle.scene_tree.specs.Families.{above, families, family_in, slot_of}
+use Rattle.scene_tree.proofs.Gathering.{above_within}
+use Rattle.scene_tree.proofs.Paths.{depth_within, root_under, rooted_up, step_under, under_up}
+use Rattle.scene_tree.proofs.links.is_under.Goals as goal
+
+pub loop-init : goal.loop-init
+loop-init g c =
+    let fs = families c.args.links.now.items in
+    let len = length-map c.args.links.now.items family_in in
+    let r = c.requires.forest.rooted c.args.slot in
+    let lt : c.args.slot < length fs = omega (arith, len, c.requires.within) in
+    let far = depth_within fs (length fs) (above_within fs c.requires.forest) r.0 c.args.slot r.1 lt in
+    record { rooted = (r.0, omega (arith, far, len), r.1); same = (λ u. u, λ u. u) }
+
+pub returns-in-None : goal.returns-in-None
+returns-in-None g c = (
+  λ is. absurd (true≢false (sym is)),
+  λ under.
+      let here = c.loop.invariant.same.0 under in
+      absurd (c.if-at-top.false (root_under (families c.args.links.now.items) c.args.top here.0 c.loop.at
+      (ap slot_of (sym c.parent_at.ensures ∙ c.in-None.is)) here.1)),
+)
+
+pub loop-preserved : goal.loop-preserved
+loop-preserved g c =
+    let fs = families c.args.links.now.items in
+    let up : above fs c.loop.at ≡ Some c.slot-at.result =
+    ap slot_of (sym c.parent_at.ensures ∙ c.in-Some.is) ∙ ap Some (sym c.slot-at.ensures) in
+    let r = c.loop.invariant.rooted in
+    let lt = r.1 in
+    let less = rooted_up fs r.0 c.loop.at c.slot-at.result up r.2 in
+    let one = less.1 in record {
+      rooted = (less.0, omega (arith, lt, one), less.2);
+      same = (
+        λ under. let here = c.loop.invariant.same.0 under in
+            under_up fs c.args.top here.0 c.loop.at c.slot-at.result up c.if-at-top.false here.1,
+        λ under. c.loop.invariant.same.1
+            (suc under.0, step_under fs c.args.top under.0 c.loop.at c.slot-at.result up under.1),
+      );
+    }

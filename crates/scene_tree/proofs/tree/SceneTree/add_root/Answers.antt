@@ -1,0 +1,60 @@
+use Rattle.std.proofs.Common.{None, Ok, sym, subst, ap, ◌∙◌}
+use Rattle.std.specs.Prelude.{is_some}
+use Rattle.generational_core.specs.Answers.{pointer_of}
+use Rattle.generational_core.proofs.machine.Calling.{made}
+use Rattle.generational_core.proofs.machine.Leaving.{given_other, same_value}
+use Rattle.generational_core.proofs.machine.Stepping.{made_new, meets_given}
+use Rattle.entity_table.proofs.Keeping.{others_left}
+use Rattle.scene_tree.specs.Families.{families}
+use Rattle.scene_tree.specs.Nodes.{pointer_in, slot_in}
+use Rattle.scene_tree.specs.Trees.{TreeState, WasMade}
+use Rattle.scene_tree.proofs.Keeping.{kept_opened, opened_alone, opened_same}
+use Rattle.scene_tree.proofs.Stores.{made_count}
+use Rattle.scene_tree.proofs.Trees.{left_with, live_family}
+use Rattle.scene_tree.proofs.Writes.{opened_from}
+use Rattle.scene_tree.proofs.tree.SceneTree.add_root.Goals as goal
+
+pub invariant_of-self-2 : goal.invariant_of-self-2
+invariant_of-self-2 g c =
+    kept_opened c.self.invariant (g.met.S.AnyStorage.sound _) _ _ (pointer_of c.in_ok-raw.raw)
+    c.in_ok-raw.ensures.step _
+    (opened_from (ap families c.reserve_one.ensures.same) c.raw_ptr.ensures c.open_slot.ensures.opened)
+
+pub returns-clause-shown : goal.returns-clause-shown
+returns-clause-shown g c = made None _ _ (Ok c.in_ok-raw.raw) c.in_ok-raw.ensures.step
+
+pub returns-clause-alone : goal.returns-clause-alone
+returns-clause-alone g c =
+    live_family _ _ (ap is_some (made None _ _ (Ok c.in_ok-raw.raw) c.in_ok-raw.ensures.step))
+    ∙ opened_alone c.self.invariant (g.met.S.AnyStorage.sound _) _ _ (pointer_of c.in_ok-raw.raw)
+    c.in_ok-raw.ensures.step _
+    (opened_from (ap families c.reserve_one.ensures.same) c.raw_ptr.ensures c.open_slot.ensures.opened)
+
+pub returns-clause-others : goal.returns-clause-others
+returns-clause-others g c f other =
+    let sound = g.met.S.AnyStorage.sound in
+    let step = c.in_ok-raw.ensures.step in
+    rw (← c.self.view_is) (left_with _ _ f (others_left _ _ (sound _) step (pointer_of c.in_ok-raw.raw)
+    (pointer_in f) (made_new _ _ _ _ step).0 (same_value _ _ _ _ (sound _) step _ tt) other)
+    (λ live. opened_same c.self.invariant (sound _) _ _ (pointer_of c.in_ok-raw.raw) step _
+    (opened_from (ap families c.reserve_one.ensures.same) c.raw_ptr.ensures c.open_slot.ensures.opened) (slot_in f)))
+
+pub returns-clause-left : goal.returns-clause-left
+returns-clause-left g c f given =
+    let sound = g.met.S.AnyStorage.sound in
+    let step = c.in_ok-raw.ensures.step in
+    let was = subst (λ (t : TreeState _). WasMade t f) (sym c.self.view_is) given in
+    rw (← c.self.view_is) (left_with _ _ f
+    (same_value _ _ _ _ (sound _) step _ tt (given_other _ _ _ _ (pointer_in f) step was))
+    (λ live. opened_same c.self.invariant (sound _) _ _ (pointer_of c.in_ok-raw.raw) step _
+    (opened_from (ap families c.reserve_one.ensures.same) c.raw_ptr.ensures c.open_slot.ensures.opened) (slot_in f)))
+
+pub returns-clause-made : goal.returns-clause-made
+returns-clause-made g c = (made_new _ _ _ _ c.in_ok-raw.ensures.step).2
+
+pub returns-clause-kept : goal.returns-clause-kept
+returns-clause-kept g c f = rw (← c.self.view_is) (meets_given _ _ _ _ c.in_ok-raw.ensures.step _)
+
+pub returns-clause-count : goal.returns-clause-count
+returns-clause-count g c = rw (← c.self.view_is) (made_count (g.met.S.AnyStorage.sound _)
+    c.self.invariant.simple _ _ (pointer_of c.in_ok-raw.raw) c.in_ok-raw.ensures.step)

@@ -1,0 +1,15 @@
+use Rattle.std.proofs.Common.{[], sym, subst, ap, ◌∙◌}
+use Rattle.generational_core.specs.Seeing.{value_in}
+use Rattle.entity_table.proofs.Keeping.{fresh_sees}
+use Rattle.scene_tree.specs.Keeping.{IsKept}
+use Rattle.scene_tree.specs.Nodes.{pointer_in}
+use Rattle.scene_tree.proofs.Keeping.{fresh_kept}
+use Rattle.scene_tree.proofs.tree.SceneTree.new.Goals as goal
+
+pub invariant_of-result : goal.invariant_of-result
+invariant_of-result g c =
+    rw c.new.ensures.items (subst (λ S. IsKept S []) (sym c.requires) (fresh_kept _ _ _))
+
+pub returns-clause-none : goal.returns-clause-none
+returns-clause-none g c n =
+    ap (λ S. value_in S (pointer_in n)) c.requires ∙ fresh_sees _ _ _ (pointer_in n)

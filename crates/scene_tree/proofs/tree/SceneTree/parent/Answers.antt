@@ -1,0 +1,13 @@
+use Rattle.std.proofs.Common.{sym, ap, subst, true, ◌∙◌, ◌≡◌}
+use Rattle.scene_tree.specs.Families.{families, parent_at}
+use Rattle.scene_tree.specs.Trees.{TreeState, is_live}
+use Rattle.scene_tree.proofs.Trees.{live_parent}
+use Rattle.scene_tree.proofs.tree.SceneTree.parent.Goals as goal
+
+pub returns-clause-parent : goal.returns-clause-parent
+returns-clause-parent g c =
+    let live = subst (λ (t : TreeState _). is_live t c.args.node ≡ true) (sym c.self.view_is)
+    (sym c.is_alive.ensures ∙ c.if-not-is_alive.false) in
+    rw (← c.self.view_is) (c.parent_at.ensures
+    ∙ (ap (parent_at (families c.self.inside.links.items)) c.slot.ensures
+    ∙ sym (live_parent (g.met.S.AnyStorage.sound _) c.self.invariant c.args.node live)))

@@ -1,0 +1,18 @@
+use Rattle.std.proofs.Common.{sym, subst, true, ◌∙◌, ◌≡◌}
+use Rattle.scene_tree.specs.Trees.{IsSubtree, TreeState, is_live}
+use Rattle.scene_tree.proofs.Keeping.{live_slot}
+use Rattle.scene_tree.proofs.Trees.{subtree}
+use Rattle.scene_tree.proofs.tree.SceneTree.subtree.Goals as goal
+
+pub gather-requires-clause-within : goal.gather-requires-clause-within
+gather-requires-clause-within g c =
+    let live = subst (λ (t : TreeState _). is_live t c.args.node ≡ true) (sym c.self.view_is)
+    (sym c.is_alive.ensures ∙ c.if-not-is_alive.false) in
+    live_slot c.self.inside.links.items (g.met.S.AnyStorage.sound _) c.self.invariant c.args.node live
+
+pub returns-in-Ok-clause-subtree : goal.returns-in-Ok-clause-subtree
+returns-in-Ok-clause-subtree g c =
+    let live = subst (λ (t : TreeState _). is_live t c.args.node ≡ true) (sym c.self.view_is)
+    (sym c.is_alive.ensures ∙ c.if-not-is_alive.false) in
+    subst (λ (t : TreeState _). IsSubtree t c.args.node c.in-Ok.list.items) c.self.view_is
+    (subtree (g.met.S.AnyStorage.sound _) c.self.invariant c.args.node live c.in-Ok.list.items c.in-Ok.ensures)

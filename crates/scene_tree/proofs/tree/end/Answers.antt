@@ -1,0 +1,12 @@
+use Rattle.std.proofs.Common.{Err, sym}
+use Rattle.std.proofs.lemmas.Bool.{true≢false}
+use Rattle.generational_core.proofs.machine.Unborrowed.{quiet_ends}
+use Rattle.scene_tree.proofs.Losing.{lost_one}
+use Rattle.scene_tree.proofs.tree.end.Goals as goal
+
+pub unreachable-requires : goal.unreachable-requires
+unreachable-requires g c = true≢false (sym (quiet_ends _ {U = Unit {0}} (Err c.in-Err.field-0)
+    c.requires.simple.unborrowed c.in-Err.ensures))
+
+pub returns : goal.returns
+returns g c = lost_one (g.met.S.AnyStorage.sound _) c.requires.simple c.args.node c.requires.live c.in-Ok.ensures

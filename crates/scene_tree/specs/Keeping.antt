@@ -1,0 +1,37 @@
+-- What holds of a tree's store and of its families.
+use Rattle.std.specs.FinMap as map
+use Rattle.std.specs.Prelude.{◌+◌, ◌≡◌, ◌<◌, ℕ, List, None, Some, true, is_some, length, slice_get}
+use Rattle.generational_core.specs.Names.{Name}
+use Rattle.generational_core.specs.Seeing.{value_in}
+use Rattle.generational_core.specs.Slots.{slots}
+use Rattle.generational_core.specs.State.{State, IsGiven}
+use Rattle.entity_table.specs.Keeping.{IsSimple}
+use Rattle.scene_tree.specs.declared.node.Node.{Node}
+use Rattle.scene_tree.specs.Families.{Family, IsForest, children_at, parent_at}
+use Rattle.scene_tree.specs.Nodes.{pointer_in, times}
+
+module _ {T : Type 0} where
+  -- a node is live in a state
+  abbrev pub IsLiveIn : State T → Node T → Type 0
+  IsLiveIn S n = is_some (value_in S (pointer_in n)) ≡ true
+
+  -- from one state to another the nodes of a list are gone, and each other shows what it showed
+  pub record HasLost (old : State T) (gone : List (Node T)) (new : State T) : Type 0 where
+    pub simple : IsSimple new
+    pub same : slots new ≡ slots old
+    pub number : new.number ≡ old.number
+    pub count : map.len new.cells + length gone ≡ map.len old.cells
+    pub given : (n : Name) → IsGiven old n → IsGiven new n
+    pub ended : (n : Node T) → 0 < times n gone → value_in new (pointer_in n) ≡ None
+    pub others : (n : Node T) → times n gone ≡ 0
+        → value_in new (pointer_in n) ≡ value_in old (pointer_in n)
+
+  -- no borrow stands, each slot has one live node at most, each slot has a family, the families are
+  -- those of a forest, and all that they name is live
+  pub record IsKept (S : State T) (fs : List (Family T)) : Type 0 where
+    pub simple : IsSimple S
+    pub whole : length fs ≡ slots S
+    pub forest : IsForest fs
+    pub parents : (slot : ℕ) (up : Node T) → parent_at fs slot ≡ Some up → IsLiveIn S up
+    pub children : (slot k : ℕ) (c : Node T) → slice_get (children_at fs slot) k ≡ Some c
+        → IsLiveIn S c

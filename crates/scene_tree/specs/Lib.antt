@@ -1,0 +1,4 @@
+pub mod Families
+pub mod Keeping
+pub mod Nodes
+pub mod Trees

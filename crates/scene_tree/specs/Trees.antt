@@ -1,0 +1,83 @@
+-- What a caller sees of a tree.
+use Rattle.std.specs.FinMap as map
+use Rattle.std.specs.List.{flat_map}
+use Rattle.std.specs.Prelude.{◌≡◌, ◌<◌, ◌≤◌, ◌↔◌, ◌∷◌, ℕ, suc, zero, true, Bool, List, Option, None, Some}
+use Rattle.std.specs.Prelude.{is_some, if◌then◌else◌}
+use Rattle.generational_core.specs.Boxes.{name_of}
+use Rattle.generational_core.specs.Seeing.{value_in}
+use Rattle.generational_core.specs.State.{State, IsGiven}
+use Rattle.scene_tree.specs.declared.node.Node.{Node}
+use Rattle.scene_tree.specs.Families.{Family, alone, family_at}
+use Rattle.scene_tree.specs.Nodes.{IsOther, IsSame, pointer_in, slot_in, times}
+
+-- the state of the store, and of each slot the family of the node that lives there
+pub record TreeState (T : Type 0) : Type 0 where
+  pub state : State T
+  pub families : List (Family T)
+
+module _ {T : Type 0} where
+  -- what a node shows: its value, or nothing once it was removed
+  abbrev pub value_of : TreeState T → Node T → Option T
+  value_of t n = value_in t.state (pointer_in n)
+
+  abbrev pub is_live : TreeState T → Node T → Bool
+  is_live t n = is_some (value_of t n)
+
+  -- how many nodes are live: each has a cell of the store, and no other is there
+  abbrev pub count_of : TreeState T → ℕ
+  count_of t = map.len t.state.cells
+
+  -- a handle that the tree gave, once
+  abbrev pub WasMade : TreeState T → Node T → Type 0
+  WasMade t n = IsGiven t.state (name_of (pointer_in n))
+
+  -- a node's parent and children; a node that was removed has none
+  abbrev pub family_of : TreeState T → Node T → Family T
+  family_of t n = if is_live t n then family_at t.families (slot_in n) else alone
+
+  abbrev pub parent_of : TreeState T → Node T → Option (Node T)
+  parent_of t n = (family_of t n).parent
+
+  abbrev pub children_of : TreeState T → Node T → List (Node T)
+  children_of t n = (family_of t n).children
+
+  -- from one tree to another a node is left: it shows what it showed, and has the family that it had
+  pub record IsLeft (old : TreeState T) (n : Node T) (new : TreeState T) : Type 0 where
+    pub value : value_of new n ≡ value_of old n
+    pub family : family_of new n ≡ family_of old n
+
+  -- a root is so many steps above a node
+  abbrev pub IsRootedIn : TreeState T → ℕ → Node T → Type 0
+  IsRootedIn t zero n = parent_of t n ≡ None
+  IsRootedIn t (suc steps) n = (up : Node T) × (parent_of t n ≡ Some up) × IsRootedIn t steps up
+
+  -- a node is so many steps below another, and is that node or below it
+  abbrev pub IsStepsBelow : TreeState T → Node T → ℕ → Node T → Type 0
+  IsStepsBelow t top zero n = IsSame n top
+  IsStepsBelow t top (suc steps) n =
+      (up : Node T) × (parent_of t n ≡ Some up) × IsStepsBelow t top steps up
+
+  abbrev pub IsBelow : TreeState T → Node T → Node T → Type 0
+  IsBelow t top n = (steps : ℕ) × IsStepsBelow t top steps n
+
+  -- a node may become a child of another: both are live, and the other isn't the node or below it
+  pub record CanMove (t : TreeState T) (moved to : Node T) : Type 0 where
+    pub node : is_live t moved ≡ true
+    pub parent : is_live t to ≡ true
+    pub apart : IsBelow t moved to → ⊥
+
+  -- a list has the nodes that are a node or below it, each once: first the node, and then the
+  -- children of each node of the list, in order
+  pub record IsSubtree (t : TreeState T) (top : Node T) (list : List (Node T)) : Type 0 where
+    pub levels : list ≡ top ∷ flat_map (children_of t) list
+    pub below : (n : Node T) → 0 < times n list ↔ IsBelow t top n
+    pub once : (n : Node T) → times n list ≤ 1
+
+  -- a node stands once among its parent's children, and in no other node's, and going from parent to
+  -- parent ends at a root
+  pub record IsTree (t : TreeState T) : Type 0 where
+    pub once : (n up : Node T) → parent_of t n ≡ Some up → times n (children_of t up) ≡ 1
+    pub only : (n other : Node T)
+        → ((up : Node T) → parent_of t n ≡ Some up → IsOther up other)
+        → times n (children_of t other) ≡ 0
+    pub rooted : (n : Node T) → (steps : ℕ) × IsRootedIn t steps n

@@ -1,0 +1,14 @@
+//! Trees above the boxes: nodes with a parent and children in order, and handles that are copied
+//! freely and outlive what they name.
+//!
+//! A [`Node`] is the box of a node's value. A [`SceneTree`] has a store of the values, and beside it
+//! each node's parent and children. It is a tree after each call: a node stands once in its parent's
+//! list of children and in no other, and going from parent to parent ends at a root.
+#![tactic(auto)]
+
+mod links;
+mod node;
+mod tree;
+
+pub use crate::node::{Node, Stale, TreeError};
+pub use crate::tree::SceneTree;

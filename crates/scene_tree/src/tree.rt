@@ -1,0 +1,393 @@
+//! Trees of nodes.
+
+ghost use Rattle.std.specs.Prelude.{ℕ, ◌<◌, ◌≤◌, ◌+◌, true, length, slice_get};
+ghost use Rattle.std.specs.Prelude.{◌≡◌, ◌↔◌, ◌⊎◌, ◌++◌, ◌∷◌, [], None, Some, Err, is_some};
+ghost use Rattle.std.specs.Prelude.{IfOk, OnOk, IfErr, OnErr, IsErr};
+ghost use Rattle.generational_core.specs.Conditions.{IsFresh};
+ghost use Rattle.generational_core.specs.declared.error.StoreError.TheVariants.{OutOfMemory};
+ghost use Rattle.scene_tree.specs.declared.node.Node.{Node};
+ghost use Rattle.scene_tree.specs.declared.node.TreeError.TheVariants as error;
+ghost use Rattle.scene_tree.specs.Families.{alone};
+ghost use Rattle.entity_table.specs.Keeping.{IsSimple};
+ghost use Rattle.scene_tree.specs.Keeping.{HasLost, IsLiveIn};
+ghost use Rattle.scene_tree.specs.Nodes.{made_at, times, without, IsOther};
+ghost use Rattle.scene_tree.specs.Trees.{TreeState, value_of, is_live, family_of, parent_of};
+ghost use Rattle.scene_tree.specs.Trees.{children_of, WasMade, IsBelow, IsLeft, CanMove};
+ghost use Rattle.scene_tree.specs.Trees.{IsSubtree, IsTree, count_of};
+
+use crate::links::{
+    Links, attach, children_at, clear_all, detach, gather, is_under, open_slot, parent_at,
+    reserve_child, reserve_node, reserve_one,
+};
+use crate::node::{Node, Stale, TreeError};
+use generational_core::{GenerationalBox, Location, Refusal, Storage, StoreError};
+use std::alloc::Global;
+use std::marker::Model;
+
+/// Nodes, each with a value, a parent or none, and children in order. Contracts see the machine's
+/// state, which says what each node shows, and the families of the nodes.
+#[derive(Drop)]
+pub struct SceneTree<T, S: Storage<T>> {
+    alloc: Global,
+    store: S,
+    // of each slot the parent and the children of the node that lives there
+    links: Vec<Links<T>>,
+}
+
+impl<T, S: Storage<T>> Model for SceneTree<T, S> {
+    ghost use Rattle.std.specs.Coded.{codes};
+    ghost use Rattle.std.specs.FinMap as map;
+    ghost use Rattle.scene_tree.specs.Families.{families};
+    ghost use Rattle.scene_tree.specs.Keeping.{IsKept};
+    ghost use Rattle.scene_tree.specs.Trees.{TreeState};
+
+    ghost Value = { TreeState T };
+
+    ghost coded = { Prim.hlevel (codes, map.code) };
+
+    ghost view = { λ t. record {
+      state = S.state t.store;
+      families = families t.links.items;
+    } };
+
+    ghost invariant = { λ t. IsKept (S.state t.store) (families t.links.items) };
+}
+
+impl<T, S: Storage<T>> SceneTree<T, S> {
+    /// A tree without nodes, over a fresh store (`is_fresh` is the test). Takes no memory.
+    pub fn new(alloc: Global, store: S) -> Self
+        requires { IsFresh (S.state store) }
+        ensures tree { result ≡ record { state = S.state store; families = [] } }
+        ensures none { (n : Node T) → value_of result n ≡ None }
+    {
+        SceneTree {
+            alloc,
+            store,
+            links: Vec::new(alloc),
+        }
+    }
+
+    /// A new node with this value, without a parent and without children. Its handle is none that
+    /// was ever given, and every other node is left.
+    ///
+    /// Refused by `OutOfMemory` alone: the value comes back, and the tree stays as it was. Takes
+    /// memory where the links have no room, or no slot is free. O(1), but for finding room.
+    pub fn add_root(&mut self, value: T, here: Location) -> Result<Node<T>, Refusal<T>>
+        ensures shown { IfOk result (λ n. value_of self.new n ≡ Some value) }
+        ensures alone { IfOk result (λ n. family_of self.new n ≡ alone) }
+        ensures count { OnOk result (count_of self.new ≡ count_of self.old + 1) }
+        ensures others { IfOk result (λ n. (f : Node T) → IsOther n f →
+            IsLeft self.old f self.new) }
+        ensures left { (f : Node T) → WasMade self.old f → IsLeft self.old f self.new }
+        ensures new { IfOk result (λ n. WasMade self.old n → ⊥) }
+        ensures made { IfOk result (λ n. WasMade self.new n) }
+        ensures here { IfOk result (λ n. made_at n ≡ here) }
+        ensures kept { (f : Node T) → WasMade self.old f → WasMade self.new f }
+        ensures refused { OnErr result (self.new ≡ self.old) }
+        ensures back { IfErr result (λ refusal. refusal.value ≡ value) }
+        ensures cause { IfErr result (λ refusal. refusal.cause ≡ OutOfMemory) }
+    {
+        if !reserve_one(&mut self.links) {
+            let cause = StoreError::OutOfMemory;
+            return Err(Refusal { value, cause });
+        }
+        let raw = GenerationalBox::leak(&mut self.store, value, here)?;
+        open_slot(self.alloc, &mut self.links, raw.raw_ptr());
+        Ok(Node { raw })
+    }
+
+    /// A new node with this value, as the last child of another, and without children. Its handle is
+    /// none that was ever given, and every other node is left.
+    ///
+    /// Refused, in this order: `Stale`, where the parent is gone, or is another tree's; `Store` of
+    /// `OutOfMemory`. The value comes back then, and the tree stays as it was. Takes memory where the
+    /// links or the parent's children have no room, or no slot is free. O(1), but for finding room.
+    pub fn add_child(
+        &mut self,
+        parent: Node<T>,
+        value: T,
+        here: Location,
+    ) -> Result<Node<T>, (T, TreeError)>
+        ensures shown { IfOk result (λ n. value_of self.new n ≡ Some value) }
+        ensures below { IfOk result (λ n. family_of self.new n
+            ≡ record { parent = Some parent; children = [] }) }
+        ensures last { IfOk result (λ n. family_of self.new parent ≡ record {
+          parent = parent_of self.old parent;
+          children = children_of self.old parent ++ n ∷ [];
+        }) }
+        ensures count { OnOk result (count_of self.new ≡ count_of self.old + 1) }
+        ensures parent { value_of self.new parent ≡ value_of self.old parent }
+        ensures others { IfOk result (λ n. (f : Node T) → IsOther n f → IsOther parent f →
+            IsLeft self.old f self.new) }
+        ensures new { IfOk result (λ n. WasMade self.old n → ⊥) }
+        ensures made { IfOk result (λ n. WasMade self.new n) }
+        ensures here { IfOk result (λ n. made_at n ≡ here) }
+        ensures kept { (f : Node T) → WasMade self.old f → WasMade self.new f }
+        ensures stale { value_of self.old parent ≡ None →
+            result ≡ Err (value, error.Stale (made_at parent)) }
+        ensures short { IfErr result (λ back. (value_of self.old parent ≡ None)
+            ⊎ (back.1 ≡ error.Store OutOfMemory)) }
+        ensures back { IfErr result (λ back. back.0 ≡ value) }
+        ensures refused { OnErr result (self.new ≡ self.old) }
+    {
+        if !self.is_alive(parent) {
+            return Err((value, TreeError::Stale(parent.made_at())));
+        }
+        if !reserve_node(&mut self.links, parent.slot()) {
+            return Err((value, TreeError::Store(StoreError::OutOfMemory)));
+        }
+        let raw = match GenerationalBox::leak(&mut self.store, value, here) {
+            Ok(raw) => raw,
+            Err(refusal) => return Err((refusal.value, TreeError::Store(refusal.cause))),
+        };
+        let child = Node { raw };
+        open_slot(self.alloc, &mut self.links, child.slot());
+        attach(&mut self.links, parent, child);
+        Ok(child)
+    }
+
+    /// Puts another value in the place of a node's, which is let go. Every other node is left, and
+    /// the node has the family that it had.
+    ///
+    /// Refused where the node is gone, or is another tree's: the value comes back, and the tree stays
+    /// as it was. Takes no memory, and is O(1), but for letting the old value go.
+    pub fn set(&mut self, node: Node<T>, value: T) -> Result<(), (T, Stale)>
+    where
+        T: Drop,
+        ensures shown { OnOk result (value_of self.new node ≡ Some value) }
+        ensures family { family_of self.new node ≡ family_of self.old node }
+        ensures count { count_of self.new ≡ count_of self.old }
+        ensures others { (f : Node T) → IsOther node f → IsLeft self.old f self.new }
+        ensures kept { (f : Node T) → WasMade self.old f → WasMade self.new f }
+        ensures stale { IsErr result ↔ value_of self.old node ≡ None }
+        ensures told { IfErr result (λ back. back.1.made_at ≡ made_at node) }
+        ensures back { IfErr result (λ back. back.0 ≡ value) }
+        ensures refused { OnErr result (self.new ≡ self.old) }
+    {
+        if !self.is_alive(node) {
+            let stale = Stale {
+                made_at: node.made_at(),
+            };
+            return Err((value, stale));
+        }
+        node.raw.set(&mut self.store, value);
+        Ok(())
+    }
+
+    /// A node's value. The tree is lent meanwhile.
+    ///
+    /// Refused where the node is gone, or is another tree's. Takes no memory, and is O(1).
+    pub fn get(&self, node: Node<T>) -> Result<&T, Stale>
+        ensures seen { IfOk result (λ value. value_of self.now node ≡ Some value.now) }
+        ensures stale { IsErr result ↔ value_of self.now node ≡ None }
+        ensures told { IfErr result (λ stale. stale.made_at ≡ made_at node) }
+    {
+        match node.raw.peek(&self.store) {
+            Some(value) => Ok(value),
+            None => Err(Stale {
+                made_at: node.made_at(),
+            }),
+        }
+    }
+
+    /// Whether a node is live: false where it was removed, or is another tree's. Takes no memory,
+    /// and is O(1).
+    pub fn is_alive(&self, node: Node<T>) -> bool
+        ensures { result ≡ is_live self.now node }
+    {
+        node.raw.can_read(&self.store)
+    }
+
+    /// How many nodes are live: as many as the store has live cells. Takes no memory, and is O(1).
+    pub fn len(&self) -> usize
+        ensures { result ≡ count_of self.now }
+    {
+        self.store.slots() - self.store.free() - self.store.retired()
+    }
+
+    /// A node's parent, if it has one.
+    ///
+    /// Refused where the node is gone, or is another tree's. Takes no memory, and is O(1).
+    pub fn parent(&self, node: Node<T>) -> Result<Option<Node<T>>, Stale>
+        ensures parent { IfOk result (λ parent. parent ≡ parent_of self.now node) }
+        ensures stale { IsErr result ↔ value_of self.now node ≡ None }
+        ensures told { IfErr result (λ stale. stale.made_at ≡ made_at node) }
+    {
+        if !self.is_alive(node) {
+            return Err(Stale {
+                made_at: node.made_at(),
+            });
+        }
+        Ok(parent_at(&self.links, node.slot()))
+    }
+
+    /// A node's children, in order.
+    ///
+    /// Refused where the node is gone, or is another tree's. Takes no memory, and is O(1).
+    pub fn children(&self, node: Node<T>) -> Result<&[Node<T>], Stale>
+        ensures children { IfOk result (λ children. children.now ≡ children_of self.now node) }
+        ensures tree { IsTree self.now }
+        ensures stale { IsErr result ↔ value_of self.now node ≡ None }
+        ensures told { IfErr result (λ stale. stale.made_at ≡ made_at node) }
+    {
+        let links = &self.links;
+        if !self.is_alive(node) {
+            return Err(Stale {
+                made_at: node.made_at(),
+            });
+        }
+        Ok(children_at(links, node.slot()))
+    }
+
+    /// A node and all below it, each once, level by level: first the node, and then the children of
+    /// each node of the list, in order. So parents stand before their children.
+    ///
+    /// Refused, in this order: `Stale`, where the node is gone, or is another tree's; `Store` of
+    /// `OutOfMemory`. Takes memory for the list, and O(k) time for k nodes, but for finding room.
+    pub fn subtree(&self, node: Node<T>) -> Result<Vec<Node<T>>, TreeError>
+        ensures subtree { IfOk result (λ list. IsSubtree self.now node list.items) }
+        ensures stale { value_of self.now node ≡ None →
+            result ≡ Err (error.Stale (made_at node)) }
+        ensures short { IfErr result (λ e. (value_of self.now node ≡ None)
+            ⊎ (e ≡ error.Store OutOfMemory)) }
+    {
+        if !self.is_alive(node) {
+            return Err(TreeError::Stale(node.made_at()));
+        }
+        match gather(self.alloc, &self.links, node) {
+            Ok(list) => Ok(list),
+            Err(_) => Err(TreeError::Store(StoreError::OutOfMemory)),
+        }
+    }
+
+    /// Moves a node with all below it: it becomes the last child of another. Its parent loses this
+    /// one child, all below it stays where it is, and every node shows what it showed.
+    ///
+    /// Refused, in this order: `Stale`, where the node is gone, or is another tree's; `Stale`, where
+    /// the parent is; `Cycle`, where the parent is the node or below it; `Store` of `OutOfMemory`. The
+    /// tree stays as it was then. Takes memory where the parent's children have no room, and
+    /// O(d + c) time for d steps from the parent to its root and c children of the parent before, but
+    /// for finding room.
+    pub fn move_to(&mut self, node: Node<T>, parent: Node<T>) -> Result<(), TreeError>
+        ensures state { self.new.state ≡ self.old.state }
+        ensures moved { OnOk result (parent_of self.new node ≡ Some parent) }
+        ensures last { OnOk result (children_of self.new parent
+            ≡ without node (children_of self.old parent) ++ node ∷ []) }
+        ensures lost { OnOk result ((up : Node T) → parent_of self.old node ≡ Some up →
+            IsOther parent up →
+            children_of self.new up ≡ without node (children_of self.old up)) }
+        ensures parents { (n : Node T) → IsOther node n →
+            parent_of self.new n ≡ parent_of self.old n }
+        ensures others { (n : Node T) → IsOther parent n →
+            ((up : Node T) → parent_of self.old node ≡ Some up → IsOther up n) →
+            children_of self.new n ≡ children_of self.old n }
+        ensures gone { value_of self.old node ≡ None → result ≡ Err (error.Stale (made_at node)) }
+        ensures stale { is_live self.old node ≡ true → value_of self.old parent ≡ None →
+            result ≡ Err (error.Stale (made_at parent)) }
+        ensures cycle { is_live self.old node ≡ true → IsBelow self.old node parent →
+            result ≡ Err error.Cycle }
+        ensures short { IfErr result (λ e. (value_of self.old node ≡ None)
+            ⊎ (value_of self.old parent ≡ None)
+            ⊎ IsBelow self.old node parent
+            ⊎ (e ≡ error.Store OutOfMemory)) }
+        ensures refused { OnErr result (self.new ≡ self.old) }
+    {
+        self.test_move(node, parent)?;
+        if !reserve_child(&mut self.links, parent.slot()) {
+            return Err(TreeError::Store(StoreError::OutOfMemory));
+        }
+        detach(&mut self.links, node);
+        attach(&mut self.links, parent, node);
+        Ok(())
+    }
+
+    // Whether a node may become a child of another, or why not.
+    fn test_move(&self, node: Node<T>, parent: Node<T>) -> Result<(), TreeError>
+        ensures may { OnOk result (CanMove self.now node parent) }
+        ensures gone { value_of self.now node ≡ None → result ≡ Err (error.Stale (made_at node)) }
+        ensures stale { is_live self.now node ≡ true → value_of self.now parent ≡ None →
+            result ≡ Err (error.Stale (made_at parent)) }
+        ensures cycle { is_live self.now node ≡ true → IsBelow self.now node parent →
+            result ≡ Err error.Cycle }
+        ensures why { IfErr result (λ e. (value_of self.now node ≡ None)
+            ⊎ (value_of self.now parent ≡ None)
+            ⊎ IsBelow self.now node parent) }
+    {
+        if !self.is_alive(node) {
+            return Err(TreeError::Stale(node.made_at()));
+        }
+        if !self.is_alive(parent) {
+            return Err(TreeError::Stale(parent.made_at()));
+        }
+        if is_under(&self.links, parent.slot(), node.slot()) {
+            return Err(TreeError::Cycle);
+        }
+        Ok(())
+    }
+
+    /// Removes a node and all below it, and answers their handles as `subtree` does: each shows
+    /// nothing from then on, and no later node is mistaken for it. The node's parent loses this one
+    /// child, and every other node is left.
+    ///
+    /// Refused, in this order: `Stale`, where the node is gone, or is another tree's; `Store` of
+    /// `OutOfMemory`. The tree stays as it was then. Takes memory for the list, and O(k + c) time for
+    /// k nodes and c children of the parent, but for finding room and for letting the values go.
+    pub fn remove_subtree(&mut self, node: Node<T>) -> Result<Vec<Node<T>>, TreeError>
+        ensures subtree { IfOk result (λ list. IsSubtree self.old node list.items) }
+        ensures gone { IfOk result (λ list. (n : Node T) → 0 < times n list.items →
+            value_of self.new n ≡ None) }
+        ensures count { IfOk result (λ list.
+            count_of self.new + length list.items ≡ count_of self.old) }
+        ensures lost { OnOk result ((up : Node T) → parent_of self.old node ≡ Some up →
+            (value_of self.new up ≡ value_of self.old up) × (family_of self.new up ≡ record {
+              parent = parent_of self.old up;
+              children = without node (children_of self.old up);
+            })) }
+        ensures others { IfOk result (λ list. (n : Node T) → times n list.items ≡ 0 →
+            ((up : Node T) → parent_of self.old node ≡ Some up → IsOther up n) →
+            IsLeft self.old n self.new) }
+        ensures kept { (f : Node T) → WasMade self.old f → WasMade self.new f }
+        ensures stale { value_of self.old node ≡ None →
+            result ≡ Err (error.Stale (made_at node)) }
+        ensures short { IfErr result (λ e. (value_of self.old node ≡ None)
+            ⊎ (e ≡ error.Store OutOfMemory)) }
+        ensures refused { OnErr result (self.new ≡ self.old) }
+    {
+        if !self.is_alive(node) {
+            return Err(TreeError::Stale(node.made_at()));
+        }
+        let list = match gather(self.alloc, &self.links, node) {
+            Ok(list) => list,
+            Err(_) => return Err(TreeError::Store(StoreError::OutOfMemory)),
+        };
+        detach(&mut self.links, node);
+        clear_all(&mut self.links, &list);
+        end_all(&mut self.store, &list);
+        Ok(list)
+    }
+}
+
+// Ends the values of nodes.
+fn end_all<T, S: Storage<T>>(store: &mut S, nodes: &Vec<Node<T>>)
+    requires simple { IsSimple (S.state store.old) }
+    requires live { (i : ℕ) (n : Node T) → slice_get nodes.now.items i ≡ Some n →
+        IsLiveIn (S.state store.old) n }
+    requires once { (n : Node T) → times n nodes.now.items ≤ 1 }
+    ensures { HasLost (S.state store.old) nodes.now.items (S.state store.new) }
+{
+    for node in nodes {
+        end(store, *node);
+    }
+}
+
+// Ends the value of a node.
+fn end<T, S: Storage<T>>(store: &mut S, node: Node<T>)
+    requires simple { IsSimple (S.state store.old) }
+    requires live { IsLiveIn (S.state store.old) node }
+    ensures { HasLost (S.state store.old) (node ∷ []) (S.state store.new) }
+{
+    match node.raw.manually_drop(store) {
+        Ok(()) => {}
+        Err(_) => unreachable!(),
+    }
+}
