@@ -5,21 +5,29 @@
 //! |------------|------------------------------------------|
 //! | `entities` | entities of an `EntityTable`             |
 //! | `options`  | places of a plain vector, taken and free |
+//! | `scene`    | nodes of a `SceneTree`                   |
+//! | `forest`   | nodes at places of a plain vector        |
 //!
-//! N things are added. 10 N times a drawn one is looked at. N times a drawn one ends, and another is
-//! added in its place. Then all end: 14 N calls.
+//! Of the first two N are added. 10 N times a drawn one is looked at. N times a drawn one ends, and
+//! another is added in its place. Then all end: 14 N calls. Of the others N make one tree, which is
+//! walked ten times; N / 10 drawn nodes are moved below others, and the tree is removed.
 //!
 //! The status is 1 where a call wasn't carried out, as for want of memory, and 2 for other words.
 #![tactic(auto)]
 
 mod entities;
+mod families;
 mod options;
+mod plain_forest;
 mod rounds;
+mod scene;
 
 use crate::options::Options;
-use crate::rounds::run;
+use crate::plain_forest::PlainForest;
 use entity_table::EntityTable;
 use generational_box::{AnyStorage, Store, UnsyncStorage};
+use scene_tree::SceneTree;
+use std::alloc::Global;
 use std::env;
 use std::process::ExitCode;
 use std::rt::Env;
@@ -28,18 +36,7 @@ fn main(rt: HostRuntime) -> ExitCode {
     let Some(words) = Words::read(&rt) else {
         return ExitCode::from(2);
     };
-    let alloc = rt.alloc();
-    let seen = match words.list {
-        List::Entities => {
-            let store: UnsyncStorage<u64> = Store::new(alloc, 1);
-            if !store.is_fresh() {
-                return ExitCode::from(1);
-            }
-            run(alloc, &mut EntityTable::new(alloc, store), words.things)
-        }
-        List::Options => run(alloc, &mut Options::new(alloc), words.things),
-    };
-    let Some(seen) = seen else {
+    let Some(seen) = seen_in(rt.alloc(), words) else {
         return ExitCode::from(1);
     };
     match println!(rt; "seen {}", seen) {
@@ -48,11 +45,28 @@ fn main(rt: HostRuntime) -> ExitCode {
     }
 }
 
+/// Makes the list's calls. None where one wasn't carried out.
+fn seen_in(alloc: Global, words: Words) -> Option<u64> {
+    let store: UnsyncStorage<u64> = Store::new(alloc, 1);
+    if !store.is_fresh() {
+        return None;
+    }
+    let n = words.things;
+    match words.list {
+        List::Entities => rounds::run(alloc, &mut EntityTable::new(alloc, store), n),
+        List::Options => rounds::run(alloc, &mut Options::new(alloc), n),
+        List::Scene => families::run(alloc, &mut SceneTree::new(alloc, store), n),
+        List::Forest => families::run(alloc, &mut PlainForest::new(alloc), n),
+    }
+}
+
 /// What keeps the things.
 #[derive(Clone, Copy, PartialEq, Eq)]
 enum List {
     Entities,
     Options,
+    Scene,
+    Forest,
 }
 
 /// The program's words.
@@ -69,6 +83,8 @@ impl Words {
         let list = match words.next()?.as_str() {
             "entities" => List::Entities,
             "options" => List::Options,
+            "scene" => List::Scene,
+            "forest" => List::Forest,
             _ => return None,
         };
         let things = words.next()?.parse::<usize>().ok()?;

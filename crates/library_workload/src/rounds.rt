@@ -55,7 +55,7 @@ fn turn_over<H: Copy, K: Keeper<H>>(keeper: &mut K, handles: &mut Vec<H>) -> Opt
 }
 
 /// A number below n: numbers that follow each other are far apart.
-fn drawn(i: usize, n: usize) -> usize {
+pub(crate) fn drawn(i: usize, n: usize) -> usize {
     let word = i.wrapping_mul(0x9e37_79b9_7f4a_7c15) >> 20;
     word.checked_rem(n).unwrap_or(0)
 }
