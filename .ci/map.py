@@ -5,8 +5,8 @@
     .ci/map.py --try             does so, and shows that pages with a wrong line are refused
     .ci/map.py --files CRATE..   prints each file of these crates with its first line, and what it uses
 
-The page has a table of the crates, those of crates.txt, and a table of each crate's sources in the
-order in which they are read. Each source, definition and file
+The page has a table of the crates, those of crates.txt, and a table of each crate's sources, but for
+tests, in the order in which they are read. Each source, definition and file
 of lemmas says in its first line what it is.
 """
 import os
@@ -16,6 +16,8 @@ import sys
 ROOT = os.path.join(os.path.dirname(os.path.abspath(__file__)), "..")
 PAGE = os.path.join(ROOT, "docs", "map.md")
 CRATES, SOURCES = "## The crates", "## In which order to read"
+# Of crates of tests the order of the sources is nobody's matter.
+TESTS = "scenarios"
 # Files that only name others, or answer the goals of one function.
 PLAIN = re.compile(r"(/|^)(Lib|Answers|Invariants)\.antt$")
 
@@ -98,7 +100,7 @@ def compare(page):
     crates = [names(it[0])[0] for it in rows(section(page, CRATES))]
     wanted(sorted(crates) == sorted(all_crates()), f"the crates are {all_crates()}, and on the page {crates}")
     order = {names(it[0])[0]: names(it[1]) for it in rows(section(page, SOURCES))}
-    for crate in crates:
+    for crate in [it for it in crates if not it.endswith(TESTS)]:
         on_page, there = sorted(order.get(crate, [])), sorted(sources_of(crate))
         wanted(on_page == there, f"{crate} has the sources {there}, and on the page {on_page}")
 
