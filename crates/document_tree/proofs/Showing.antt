@@ -1,10 +1,10 @@
 -- What places show after each call of their document.
 use Rattle.std.specs.FinMap as map
-use Rattle.std.proofs.Common.{◌≡◌, ◌≢◌, ℕ, true, cond, Option, None, Some, refl, sym, ap, subst}
+use Rattle.std.proofs.Common.{suc, List, ℕ, ◌≡◌, ◌≢◌, ℕ, true, cond, Option, None, Some, refl, sym, ap, subst}
 use Rattle.std.proofs.Common.{◌∙◌, ⊎_elim}
 use Rattle.std.proofs.lemmas.Bool.{true≢false, eqb-true}
 use Rattle.std.proofs.lemmas.Option.{same_Some}
-use Rattle.std.specs.Prelude.{is_some, nat_eq}
+use Rattle.std.specs.Prelude.{is_some, nat_eq, slice_get}
 use Rattle.generational_core.specs.Borrowing.{reach, leads_to}
 use Rattle.generational_core.specs.Boxes.{name_of}
 use Rattle.generational_core.specs.Conditions.{fresh}
@@ -26,7 +26,8 @@ use Rattle.generational_core.proofs.machine.Seeing.{led_box, reaches}
 use Rattle.generational_core.proofs.machine.Stepping.{meets_given, meets_number}
 use Rattle.document_tree.specs.declared.part.Part.{Part}
 use Rattle.document_tree.specs.declared.place.Place.{Place}
-use Rattle.document_tree.specs.Documents.{Shown, shown_by, shown_of, shown_in, part_in, WasMade, Leaves, Changes}
+use Rattle.document_tree.specs.Documents.{Shown, children_of, shown_by, shown_of, shown_in, part_in, WasMade, Leaves, Changes}
+use Rattle.document_tree.specs.Outlines.{IsBelow, IsChild}
 use Rattle.document_tree.specs.Places.{IsSame}
 
 -- ---- boxes
@@ -195,3 +196,13 @@ module _ {T : Type 0} where
       → Changes E p y F → y ≡ shown_in D p → is_some (part_in D p) ≡ true → (q : Place) → Leaves D q F
   put_back {D} {E} {F} {p} first second same =
       unchanged (subst (λ shown. Changes D p shown F) same (changed_twice first second))
+
+  -- ---- what stands below a place
+
+  pub child_below : {D : State (Part T)} {top p : Place} {children : List Place} (at : ℕ) (q : Place)
+      → IsBelow D top p → children_of (shown_in D p) ≡ Some children
+      → slice_get children at ≡ Some q → IsBelow D top q
+  child_below {D} {p = p} {children} at q below shown there =
+      let child : IsChild D p q =
+      record { children = children; shown = shown; at = at; there = there } in
+      (suc below.0, (p, below.1, child))

@@ -1,5 +1,5 @@
 -- What a caller sees of a document: to which part each place leads, and what it shows.
-use Rattle.std.specs.Prelude.{◌≡◌, ◌≢◌, ◌⊎◌, ◌++◌, ◌∷◌, [], List, Option, None, Some}
+use Rattle.std.specs.Prelude.{◌≡◌, ◌≢◌, ◌++◌, ◌∷◌, [], List, Option, None, Some}
 use Rattle.generational_core.specs.Borrowing.{reach}
 use Rattle.generational_core.specs.Boxes.{name_of}
 use Rattle.generational_core.specs.Names.{Name}
@@ -8,8 +8,6 @@ use Rattle.generational_core.specs.State.{State, IsGiven}
 use Rattle.document_tree.specs.declared.part.Body.{Body}
 use Rattle.document_tree.specs.declared.part.Part.{Part}
 use Rattle.document_tree.specs.declared.place.Place.{Place}
-use Rattle.document_tree.specs.declared.place.PlaceError.{PlaceError}
-use Rattle.document_tree.specs.declared.place.PlaceError.TheVariants.{Gone}
 use Rattle.document_tree.specs.Places.{made_at}
 use Rattle.generational_core.specs.declared.error.Location.{Location}
 
@@ -74,8 +72,3 @@ module _ {T : Type 0} where
   abbrev pub first_gone : Option (Shown T) → Place → Place → Location
   first_gone None p q = made_at p
   first_gone (Some shown) p q = made_at q
-
-  -- an error tells of the first of two places that is gone
-  pub record IsGoneFirst (D : State (Part T)) (p q : Place) (error : PlaceError) : Type 0 where
-    pub told : error ≡ Gone (record { made_at = first_gone (shown_in D p) p q })
-    pub gone : (shown_in D p ≡ None) ⊎ (shown_in D q ≡ None)

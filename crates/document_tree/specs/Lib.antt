@@ -1,3 +1,4 @@
 pub mod Documents
 pub mod Keeping
+pub mod Outlines
 pub mod Places

@@ -1,20 +1,22 @@
 //! Documents.
 
 ghost use Rattle.std.specs.Prelude.{◌≡◌, ◌≢◌, ◌↔◌, ◌⊎◌, [], None, Some, true, is_some, option_copied};
-ghost use Rattle.std.specs.Prelude.{IfOk, OnOk, IfErr, OnErr, IsErr, IsTrue, IsFalse, ◌++◌, ◌∷◌};
+ghost use Rattle.std.specs.Prelude.{Err, IfOk, OnOk, IfErr, OnErr, IsErr, IsTrue, IsFalse, ◌++◌, ◌∷◌, ◌≤◌, length};
+ghost use Rattle.std.specs.List.{All};
 ghost use Rattle.generational_core.specs.Conditions.{IsFresh};
 ghost use Rattle.generational_core.specs.declared.error.StoreError.TheVariants.{OutOfMemory};
 ghost use Rattle.document_tree.specs.declared.place.Place.{Place};
 ghost use Rattle.document_tree.specs.Documents.{shown_by, shown_in, part_in, content_of, children_of};
 ghost use Rattle.document_tree.specs.Documents.{with_content, with_child, WasMade, Leaves, Changes};
-ghost use Rattle.document_tree.specs.Documents.{first_gone, IsGoneFirst};
+ghost use Rattle.document_tree.specs.Documents.{first_gone};
 ghost use Rattle.document_tree.specs.declared.place.PlaceError.TheVariants as errors;
+ghost use Rattle.document_tree.specs.Outlines.{IsBelow};
 ghost use Rattle.document_tree.specs.Places.{made_at, IsSame, IsOther};
 
 use crate::part::{Body, Part};
 use crate::place::{Gone, Place, PlaceError};
 use generational_core::{Location, Refusal, Refused, Storage};
-use std::alloc::Global;
+use std::alloc::{AllocError, Global};
 use std::marker::{Model, PhantomData};
 
 /// A document. Contracts see the machine's state, which says what each place shows.
@@ -69,7 +71,7 @@ impl<T, S: Storage<Part<T>>> Document<T, S> {
         ensures left { (q : Place) → WasMade self.old q → Leaves self.old q self.new }
         ensures alone { IfOk result (λ p. (q : Place) → WasMade self.old q →
             part_in self.new p ≢ part_in self.new q) }
-        ensures new { IfOk result (λ p. WasMade self.old p → ⊥) }
+        ensures new { IfOk result (λ p. (q : Place) → WasMade self.old q → IsOther p q) }
         ensures made { IfOk result (λ p. WasMade self.new p) }
         ensures here { IfOk result (λ p. made_at p ≡ here) }
         ensures kept { (q : Place) → WasMade self.old q → WasMade self.new q }
@@ -98,7 +100,7 @@ impl<T, S: Storage<Part<T>>> Document<T, S> {
         ensures others { IfOk result (λ p. (q : Place) → IsOther p q →
             Leaves self.old q self.new) }
         ensures left { (q : Place) → WasMade self.old q → Leaves self.old q self.new }
-        ensures new { IfOk result (λ p. WasMade self.old p → ⊥) }
+        ensures new { IfOk result (λ p. (q : Place) → WasMade self.old q → IsOther p q) }
         ensures made { IfOk result (λ p. WasMade self.new p) }
         ensures kept { (q : Place) → WasMade self.old q → WasMade self.new q }
         ensures refused { OnErr result (self.new ≡ self.old) }
@@ -148,6 +150,29 @@ impl<T, S: Storage<Part<T>>> Document<T, S> {
                 made_at: place.made_at(),
             }),
         }
+    }
+
+    /// The place and those that stand below it, in the order in which they are read: each before its
+    /// children, and these in their order. A part is gone over at each place that leads to it, and a
+    /// place that is gone is there without children.
+    ///
+    /// At most `limit` places are answered, so that it ends where the document has a cycle too.
+    /// Refused for want of memory alone. Takes memory for the list, and for the places that wait. O(n)
+    /// for n places that are answered and their children.
+    pub fn outline(&self, place: Place, limit: usize) -> Result<Vec<Place>, AllocError>
+        ensures below { IfOk result (λ places. All (IsBelow self.now place) places.items) }
+        ensures within { IfOk result (λ places. length places.items ≤ limit) }
+    {
+        let mut places = Vec::new(self.alloc);
+        let mut waiting = vec![in self.alloc; place]?;
+        while places.len() < limit {
+            let Some(next) = waiting.pop() else {
+                break;
+            };
+            places.push(next)?;
+            self.put_children(&mut waiting, next)?;
+        }
+        Ok(places)
     }
 
     /// Puts another content in the place of a part's, which is let go. It shows at each place that
@@ -201,9 +226,12 @@ impl<T, S: Storage<Part<T>>> Document<T, S> {
         ensures parts { (q : Place) → part_in self.new q ≡ part_in self.old q }
         ensures kept { (q : Place) → WasMade self.old q → WasMade self.new q }
         ensures refused { OnErr result ((q : Place) → Leaves self.old q self.new) }
-        ensures cause { IfErr result (λ error.
-            (error ≡ errors.OutOfMemory) ⊎ IsGoneFirst self.old parent child error) }
-        ensures gone { OnOk result (is_some (shown_in self.old child) ≡ true) }
+        ensures gone { (shown_in self.old parent ≡ None) ⊎ (shown_in self.old child ≡ None) →
+            result ≡ Err (errors.Gone (record {
+              made_at = first_gone (shown_in self.old parent) parent child;
+            })) }
+        ensures cause { IfErr result (λ error. (error ≡ errors.OutOfMemory)
+            ⊎ (shown_in self.old parent ≡ None) ⊎ (shown_in self.old child ≡ None)) }
     {
         self.find(parent)?;
         self.find(child)?;
@@ -251,10 +279,10 @@ impl<T, S: Storage<Part<T>>> Document<T, S> {
     /// Refused where the place is gone, or is another document's; the document stays as it was then.
     /// Takes no memory, and is O(1), but for letting the part go.
     pub fn remove(&mut self, place: Place) -> Result<(), Gone>
-        ensures gone { (q : Place) → IsSame place q → shown_in self.new q ≡ None }
+        ensures ended { (q : Place) → IsSame place q → shown_in self.new q ≡ None }
         ensures others { (q : Place) → IsOther place q → Leaves self.old q self.new }
         ensures kept { (q : Place) → WasMade self.old q → WasMade self.new q }
-        ensures stale { IsErr result ↔ shown_in self.old place ≡ None }
+        ensures gone { IsErr result ↔ shown_in self.old place ≡ None }
         ensures told { IfErr result (λ gone. gone.made_at ≡ made_at place) }
         ensures refused { OnErr result (self.new ≡ self.old) }
     {
@@ -263,6 +291,23 @@ impl<T, S: Storage<Part<T>>> Document<T, S> {
             Ok(()) => Ok(()),
             Err(_) => unreachable!(),
         }
+    }
+
+    // Puts the children of a place at the end of a list, the first one last.
+    fn put_children(&self, places: &mut Vec<Place>, place: Place) -> Result<(), AllocError>
+        ensures { OnOk result ((top : Place) → IsBelow self.now top place →
+            All (IsBelow self.now top) places.old.items →
+            All (IsBelow self.now top) places.new.items) }
+    {
+        let Ok(children) = self.children(place) else {
+            return Ok(());
+        };
+        let mut left = children.len();
+        while left > 0 {
+            left -= 1;
+            places.push(children[left])?;
+        }
+        Ok(())
     }
 
     // Puts another body in the place of a part's.

@@ -1,3 +1,5 @@
+use Rattle.std.specs.FinSet as set
+use Rattle.generational_core.specs.Boxes.{name_in}
 use Rattle.std.proofs.Common.{Some, sym, ap, subst, ◌∙◌}
 use Rattle.std.proofs.lemmas.Bool.{true≢false}
 use Rattle.generational_core.specs.State.{State}
@@ -26,9 +28,10 @@ returns-clause-left g c q made = rw (← c.self.view_is)
     (subst (λ (D : State _). WasMade D q) (sym c.self.view_is) made))
 
 pub returns-clause-new : goal.returns-clause-new
-returns-clause-new g c made =
+returns-clause-new g c q made same =
     let new = (made_new _ _ _ _ c.in-Ok.ensures.step).1 in
-    true≢false (sym (rw c.self.view_is made) ∙ new)
+    true≢false (sym (rw c.self.view_is made)
+    ∙ (ap (λ id. set.contains (g.S.AnyStorage.state c.self.inside.store).given (name_in id)) (sym same) ∙ new))
 
 pub returns-clause-made : goal.returns-clause-made
 returns-clause-made g c = (made_new _ _ _ _ c.in-Ok.ensures.step).2

@@ -8,8 +8,8 @@ use Rattle.document_tree.proofs.Showing.{left_other, left_place, shown_store, sa
 use Rattle.document_tree.specs.Documents.{shown_in}
 use Rattle.document_tree.proofs.document.Document.remove.Goals as goal
 
-pub returns-in_err-find-clause-gone : goal.returns-in_err-find-clause-gone
-returns-in_err-find-clause-gone g c q same =
+pub returns-in_err-find-clause-ended : goal.returns-in_err-find-clause-ended
+returns-in_err-find-clause-ended g c q same =
     same_part_shown _ _ q (same_place_part _ _ q same) ∙ c.in_err-find.ensures.gone.0 refl
 
 pub unreachable-requires : goal.unreachable-requires
@@ -19,8 +19,8 @@ unreachable-requires g c = true≢false (sym (quiet_ends _ {U = Unit {0}} (Err c
 pub invariant_of-self : goal.invariant_of-self
 invariant_of-self g c = stays_kept _ _ c.in-Ok.ensures tt c.self.invariant
 
-pub returns-clause-gone : goal.returns-clause-gone
-returns-clause-gone g c q same = unreached_shown _ q
+pub returns-clause-ended : goal.returns-clause-ended
+returns-clause-ended g c q same = unreached_shown _ q
     (same_place_part _ c.args.place q same ∙ ends _ {U = Unit {0}} (Ok tt) c.in-Ok.ensures)
 
 pub returns-clause-others : goal.returns-clause-others
