@@ -2,5 +2,6 @@
 //! needs.
 #![tactic(auto)]
 
+pub mod documents;
 pub mod entities;
 pub mod scopes;
