@@ -267,10 +267,8 @@ impl<T, S: Storage<Part<T>>> Document<T, S> {
     {
         self.find(place)?;
         self.find(other)?;
-        match self.store.change_reference(place.raw, other.raw) {
-            Ok(()) => Ok(()),
-            Err(_) => unreachable!(),
-        }
+        self.lead(place, other);
+        Ok(())
     }
 
     /// Ends a place: it shows nothing from then on, and its part ends with it where no other place
@@ -310,6 +308,23 @@ impl<T, S: Storage<Part<T>>> Document<T, S> {
         Ok(())
     }
 
+    // Lets a place lead to the part to which another leads.
+    fn lead(&mut self, place: Place, other: Place)
+        requires place { is_some (shown_in self.old place) ≡ true }
+        requires other { is_some (shown_in self.old other) ≡ true }
+        ensures part { (q : Place) → IsSame place q →
+            part_in self.new q ≡ part_in self.old other }
+        ensures shown { (q : Place) → IsSame place q →
+            shown_in self.new q ≡ shown_in self.old other }
+        ensures others { (q : Place) → IsOther place q → Leaves self.old q self.new }
+        ensures kept { (q : Place) → WasMade self.old q → WasMade self.new q }
+    {
+        match self.store.change_reference(place.raw, other.raw) {
+            Ok(()) => {}
+            Err(_) => unreachable!(),
+        }
+    }
+
     // Puts another body in the place of a part's.
     fn swap(&mut self, place: Place, body: Option<Body<T>>) -> Option<Body<T>>
         requires { is_some (part_in self.old place) ≡ true }
@@ -322,6 +337,7 @@ impl<T, S: Storage<Part<T>>> Document<T, S> {
     // Whether a place shows a part.
     fn find(&self, place: Place) -> Result<(), Gone>
         ensures gone { IsErr result ↔ shown_in self.now place ≡ None }
+        ensures shown { OnOk result (is_some (shown_in self.now place) ≡ true) }
         ensures told { IfErr result (λ gone. gone.made_at ≡ made_at place) }
     {
         match self.body(place) {

@@ -1,3 +1,4 @@
+use Rattle.std.specs.Prelude.{is_some}
 use Rattle.std.proofs.Common.{◌≡◌, None, Ok, sym, ap, ◌∙◌}
 use Rattle.std.proofs.lemmas.Bool.{true≢false}
 use Rattle.generational_core.proofs.machine.Boxing.{points_seen}
@@ -7,13 +8,13 @@ use Rattle.generational_core.proofs.machine.Stepping.{meets_given}
 use Rattle.document_tree.proofs.Keeping.{point_done, stays_kept}
 use Rattle.document_tree.proofs.Showing.{left_other, left_place, shown_store, same_part_shown, same_place_part, some_shown}
 use Rattle.document_tree.specs.Documents.{shown_in, shown_of}
-use Rattle.document_tree.proofs.document.Document.exchange.Goals as goal
+use Rattle.document_tree.proofs.document.Document.lead.Goals as goal
 
 pub unreachable-requires : goal.unreachable-requires
 unreachable-requires g c =
     let sound = g.met.S.AnyStorage.sound in
-    let seen = some_shown _ c.args.place (λ none. true≢false (sym (c.in_ok-find.ensures.gone.1 none))) in
-    let saw = some_shown _ c.args.other (λ none. true≢false (sym (c.in_ok-find-2.ensures.gone.1 none))) in
+    let seen = some_shown _ c.args.place (λ none. true≢false (sym c.requires.place ∙ ap is_some none)) in
+    let saw = some_shown _ c.args.other (λ none. true≢false (sym c.requires.other ∙ ap is_some none)) in
     point_done (sound _) c.self.invariant _ _ seen.0 saw.0 (rw c.self.view_is seen.1)
     (rw c.self.view_is saw.1) c.in-Err.field-0 c.in-Err.ensures
 
@@ -33,7 +34,7 @@ pub returns-clause-others : goal.returns-clause-others
 returns-clause-others g c q other =
     let sound = g.met.S.AnyStorage.sound in
     let there : shown_in c.args.self.now c.args.place ≡ None → ⊥ =
-    λ none. true≢false (sym (c.in_ok-find.ensures.gone.1 none)) in
+    λ none. true≢false (sym c.requires.place ∙ ap is_some none) in
     rw (← c.self.view_is) (left_other _ _ (sound _) c.in-Ok.ensures c.args.place.raw
     (shown_store (sound _) c.args.place (rw c.self.view_is there))
     (λ p ne. left_place (leaves _ _ _ _ (sound _) c.in-Ok.ensures p.raw ne tt)) q other)
