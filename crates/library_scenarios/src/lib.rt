@@ -1,7 +1,13 @@
-//! Tests of the libraries above the boxes: tables of entities, of components and of sessions, and
-//! trees, over stores of either order of free slots. The expected rows are worked out by hand.
+//! Tests of the libraries above the boxes: tables of entities, of components and of sessions, trees and
+//! documents, over stores of either order of free slots. The expected rows are worked out by hand.
 #![tactic(auto)]
 
+#[cfg(test)]
+mod document_acts;
+#[cfg(test)]
+mod document_histories;
+#[cfg(test)]
+mod document_memory;
 #[cfg(test)]
 mod entity_acts;
 #[cfg(test)]

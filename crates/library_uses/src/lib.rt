@@ -2,6 +2,7 @@
 //! needs.
 #![tactic(auto)]
 
+pub mod documents;
 pub mod entities;
 pub mod scopes;
 pub mod sessions;

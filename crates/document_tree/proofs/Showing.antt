@@ -1,0 +1,208 @@
+-- What places show after each call of their document.
+use Rattle.std.specs.FinMap as map
+use Rattle.std.proofs.Common.{suc, List, ℕ, ◌≡◌, ◌≢◌, ℕ, true, cond, Option, None, Some, refl, sym, ap, subst}
+use Rattle.std.proofs.Common.{◌∙◌, ⊎_elim}
+use Rattle.std.proofs.lemmas.Bool.{true≢false, eqb-true}
+use Rattle.std.proofs.lemmas.Option.{same_Some}
+use Rattle.std.specs.Prelude.{is_some, nat_eq, slice_get}
+use Rattle.generational_core.specs.Borrowing.{reach, leads_to}
+use Rattle.generational_core.specs.Boxes.{name_of}
+use Rattle.generational_core.specs.Conditions.{fresh}
+use Rattle.generational_core.specs.Leaving.{IsLeft, LeavesContent}
+use Rattle.generational_core.specs.Machine.{Action, Answer}
+use Rattle.generational_core.specs.Machine.Action.{SetValue}
+use Rattle.generational_core.specs.Machine.Answer.{Old}
+use Rattle.generational_core.specs.Names.{Name, name_cmp}
+use Rattle.generational_core.specs.Seeing.{value_in, value_reached}
+use Rattle.generational_core.specs.State.{State, IsSound}
+use Rattle.generational_core.specs.Steps.{Meets}
+use Rattle.generational_core.specs.declared.boxes.GenerationalPointer.{GenerationalPointer}
+use Rattle.generational_core.proofs.maps.Maps.{name_cases}
+use Rattle.generational_core.proofs.machine.Boxing.{reached_boxed}
+use Rattle.generational_core.proofs.machine.Calling.{sets, unseen}
+use Rattle.generational_core.proofs.machine.Ends.{none≢some, some_live}
+use Rattle.generational_core.proofs.machine.Leaving.{given_other, leaves}
+use Rattle.generational_core.proofs.machine.Seeing.{led_box, reaches}
+use Rattle.generational_core.proofs.machine.Stepping.{meets_given, meets_number}
+use Rattle.document_tree.specs.declared.part.Part.{Part}
+use Rattle.document_tree.specs.declared.place.Place.{Place}
+use Rattle.document_tree.specs.Documents.{Shown, children_of, shown_by, shown_of, shown_in, part_in, WasMade, Leaves, Changes}
+use Rattle.document_tree.specs.Outlines.{IsBelow, IsChild}
+use Rattle.document_tree.specs.Places.{IsSame}
+
+-- ---- boxes
+
+module _ {C : Type 0} where
+  -- what a box sees lies at what it reaches
+  pub same_value_there : (S : State C) (a b : GenerationalPointer) → reach S a ≡ reach S b
+      → value_in S a ≡ value_in S b
+  unfolding value_in
+  same_value_there S a b same = ap (value_reached S) same
+
+  -- and what it reaches depends on its id alone
+  pub same_id_reach : (S : State C) (a b : GenerationalPointer) → a.id ≡ b.id → reach S a ≡ reach S b
+  unfolding reach
+  same_id_reach S a b same =
+      ap (λ id. let n : Name = record { slot = id.slot; generation = id.generation } in
+      cond (nat_eq id.store S.number) (leads_to (map.get S.cells n) n) None) same
+
+  -- a box of another store reaches nothing
+  foreign : (S : State C) (b : GenerationalPointer) → b.id.store ≢ S.number → reach S b ≡ None
+  foreign S b other = at (reach S b) refl
+    where
+      at : (to : Option Name) → reach S b ≡ to → reach S b ≡ None
+      at None is = is
+      at (Some m) is = absurd (other (eqb-true b.id.store S.number (reaches S b m is).number))
+
+fresh_none : (C : Type 0) (number start next : ℕ) (b : GenerationalPointer)
+    → reach (fresh {T = C} number start next) b ≡ None
+fresh_none C number start next b = at (reach (fresh {T = C} number start next) b) refl
+  where
+    at : (to : Option Name) → reach (fresh {T = C} number start next) b ≡ to
+        → reach (fresh {T = C} number start next) b ≡ None
+    at None is = is
+    at (Some m) is =
+        let led = (led_box _ (name_of b) m (reaches _ b m is).leads).0 in
+        absurd (true≢false (sym led ∙ ap is_some (map.get-empty name_cmp (name_of b))))
+
+-- ---- places
+
+module _ {T : Type 0} where
+  -- a place that shows something sees a part
+  pub some_shown : (D : State (Part T)) (p : Place) → (shown_in D p ≡ None → ⊥)
+      → (v : Part T) × (value_in D p.raw ≡ Some v)
+  some_shown D p not = at (value_in D p.raw) refl
+    where
+      at : (x : Option (Part T)) → value_in D p.raw ≡ x → (v : Part T) × (value_in D p.raw ≡ Some v)
+      at None is = absurd (not (ap shown_of is))
+      at (Some v) is = (v, is)
+
+  pub fresh_shown : (number start next : ℕ) (p : Place)
+      → shown_in (fresh {T = Part T} number start next) p ≡ None
+  fresh_shown number start next p = ap shown_of (unseen _ p.raw (fresh_none (Part T) number start next p.raw))
+
+  pub same_part_shown : (D : State (Part T)) (p q : Place) → part_in D q ≡ part_in D p
+      → shown_in D q ≡ shown_in D p
+  same_part_shown D p q same = ap shown_of (same_value_there D q.raw p.raw same)
+
+  -- handles of one place show the same
+  pub same_place_part : (D : State (Part T)) (p q : Place) → IsSame p q → part_in D q ≡ part_in D p
+  same_place_part D p q same = sym (same_id_reach D p.raw q.raw same)
+
+  pub unreached_shown : (D : State (Part T)) (p : Place) → part_in D p ≡ None → shown_in D p ≡ None
+  unreached_shown D p none = ap shown_of (unseen D p.raw none)
+
+  -- a place that shows something leads somewhere
+  pub shown_part : (D : State (Part T)) (p : Place) → (shown_in D p ≡ None → ⊥)
+      → is_some (part_in D p) ≡ true
+  shown_part D p not = at (part_in D p) refl
+    where
+      at : (to : Option Name) → part_in D p ≡ to → is_some (part_in D p) ≡ true
+      at None is = absurd (not (unreached_shown D p is))
+      at (Some m) is = ap is_some is
+
+  -- and is of its document's store
+  pub shown_store : {D : State (Part T)} → IsSound D → (p : Place) → (shown_in D p ≡ None → ⊥)
+      → p.raw.id.store ≡ D.number
+  shown_store {D} s p not =
+      let to = some_live (part_in D p) (shown_part D p not) in
+      (reached_boxed D p.raw to.0 s to.1).0
+
+  -- ---- what is left
+
+  pub left_place : {D E : State (Part T)} {p : Place} → IsLeft D p.raw E → Leaves D p E
+  left_place left = record { part = left.reached; shown = ap shown_of left.seen }
+
+  pub left_still : {D E : State (Part T)} (p : Place) → E ≡ D → Leaves D p E
+  left_still p same = record {
+    part = ap (λ (X : State (Part T)). part_in X p) same;
+    shown = ap (λ (X : State (Part T)). shown_in X p) same;
+  }
+
+  pub left_twice : {D E F : State (Part T)} {p : Place} → Leaves D p E → Leaves E p F → Leaves D p F
+  left_twice first second = record {
+    part = second.part ∙ first.part;
+    shown = second.shown ∙ first.shown;
+  }
+
+  module _ {D E : State (Part T)} (call : Action (Part T)) (answer : Answer (Part T)) (s : IsSound D)
+      (m : Meets D call answer E) where
+    -- a place that was made before, by a call that makes another
+    pub left_made : (q : Place) → LeavesContent D call q.raw → WasMade D q → Leaves D q E
+    left_made q leaving made = left_place
+        (leaves D E call answer s m q.raw leaving (given_other D E call answer q.raw m made))
+
+    -- each other place, where each of another name is left
+    pub left_other : (a : GenerationalPointer) → a.id.store ≡ D.number
+        → ((q : Place) → name_of a ≢ name_of q.raw → Leaves D q E)
+        → (q : Place) → a.id ≢ q.raw.id → Leaves D q E
+    left_other a own left q other = ⊎_elim
+        (λ same. let apart : q.raw.id.store ≢ D.number = λ store. other
+        (let e = own ∙ sym store in λ i. record {
+          store = e i;
+          slot = (same i).slot;
+          generation = (same i).generation;
+        }) in
+        let before = foreign D q.raw apart in
+        let after = foreign E q.raw (λ store. apart (store ∙ meets_number D E call answer m)) in record {
+          part = after ∙ sym before;
+          shown = unreached_shown E q after ∙ sym (unreached_shown D q before);
+        })
+        (left q) (name_cases (name_of a) (name_of q.raw))
+
+  -- ---- changes of one part
+
+  pub set_changes : {D E : State (Part T)} (p : Place) (v old : Part T) → IsSound D
+      → Meets D (SetValue p.raw v) (Old old) E → Changes D p (shown_by v.body) E
+  set_changes {D} {E} p v old s m =
+      let told = sets p.raw v old m in record {
+        here = λ q same. ap shown_of (told.2 q.raw same);
+        others = λ q other. left_place
+            (leaves D E (SetValue p.raw v) (Old old) s m q.raw (λ same. other (sym same)) tt);
+        parts = λ q. told.1 q.raw;
+        kept = λ q. meets_given D E (SetValue p.raw v) (Old old) m (name_of q.raw);
+      }
+
+  pub changed_twice : {D E F : State (Part T)} {p : Place} {x y : Option (Shown T)}
+      → Changes D p x E → Changes E p y F → Changes D p y F
+  changed_twice {p = p} first second = record {
+    here = λ q same. second.here q (first.parts q ∙ (same ∙ sym (first.parts p)));
+    others = λ q other. left_twice (first.others q other)
+        (second.others q (λ same. other (sym (first.parts q) ∙ (same ∙ first.parts p))));
+    parts = λ q. second.parts q ∙ first.parts q;
+    kept = λ q made. second.kept q (first.kept q made);
+  }
+
+  -- where the part shows what it showed each place is left
+  pub unchanged : {D E : State (Part T)} {p : Place} → Changes D p (shown_in D p) E
+      → is_some (part_in D p) ≡ true → (q : Place) → Leaves D q E
+  unchanged {D} {E} {p} it there q = at (part_in D q) refl
+    where
+      to : (m : Name) × (part_in D p ≡ Some m)
+      to = some_live (part_in D p) there
+
+      apart : part_in D q ≢ part_in D p → Leaves D q E
+      apart = it.others q
+
+      same : part_in D q ≡ part_in D p → Leaves D q E
+      same is = record { part = it.parts q; shown = it.here q is ∙ sym (same_part_shown D p q is) }
+
+      at : (x : Option Name) → part_in D q ≡ x → Leaves D q E
+      at None is = apart (λ one. none≢some _ to.0 is (one ∙ to.1))
+      at (Some n) is = ⊎_elim (λ one. same (is ∙ (ap Some one ∙ sym to.1)))
+          (λ ne. apart (λ one. ne (same_Some n to.0 (sym is ∙ (one ∙ to.1))))) (name_cases n to.0)
+
+  pub put_back : {D E F : State (Part T)} {p : Place} {x y : Option (Shown T)} → Changes D p x E
+      → Changes E p y F → y ≡ shown_in D p → is_some (part_in D p) ≡ true → (q : Place) → Leaves D q F
+  put_back {D} {E} {F} {p} first second same =
+      unchanged (subst (λ shown. Changes D p shown F) same (changed_twice first second))
+
+  -- ---- what stands below a place
+
+  pub child_below : {D : State (Part T)} {top p : Place} {children : List Place} (at : ℕ) (q : Place)
+      → IsBelow D top p → children_of (shown_in D p) ≡ Some children
+      → slice_get children at ≡ Some q → IsBelow D top q
+  child_below {D} {p = p} {children} at q below shown there =
+      let child : IsChild D p q =
+      record { children = children; shown = shown; at = at; there = there } in
+      (suc below.0, (p, below.1, child))

@@ -1,0 +1,4 @@
+pub mod Documents
+pub mod Keeping
+pub mod Outlines
+pub mod Places

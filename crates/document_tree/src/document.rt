@@ -1,0 +1,382 @@
+//! Documents.
+
+ghost use Rattle.std.specs.Prelude.{◌≡◌, ◌≢◌, ◌↔◌, ◌⊎◌, [], None, Some, true, is_some, option_copied};
+ghost use Rattle.std.specs.Prelude.{Err, IfOk, OnOk, IfErr, OnErr, IsErr, IsTrue, IsFalse, ◌++◌, ◌∷◌, ◌≤◌, length};
+ghost use Rattle.std.specs.List.{All};
+ghost use Rattle.generational_core.specs.Conditions.{IsFresh};
+ghost use Rattle.generational_core.specs.declared.error.StoreError.TheVariants.{OutOfMemory};
+ghost use Rattle.document_tree.specs.declared.place.Place.{Place};
+ghost use Rattle.document_tree.specs.Documents.{shown_by, shown_in, part_in, content_of, children_of};
+ghost use Rattle.document_tree.specs.Documents.{with_content, with_child, WasMade, Leaves, Changes};
+ghost use Rattle.document_tree.specs.Documents.{first_gone};
+ghost use Rattle.document_tree.specs.declared.place.PlaceError.TheVariants as errors;
+ghost use Rattle.document_tree.specs.Outlines.{IsBelow};
+ghost use Rattle.document_tree.specs.Places.{made_at, IsSame, IsOther};
+
+use crate::part::{Body, Part};
+use crate::place::{Gone, Place, PlaceError};
+use generational_core::{Location, Refusal, Refused, Storage};
+use std::alloc::{AllocError, Global};
+use std::marker::{Model, PhantomData};
+
+/// A document. Contracts see the machine's state, which says what each place shows.
+#[derive(Drop)]
+pub struct Document<T, S: Storage<Part<T>>> {
+    store: S,
+    alloc: Global,
+    marker: PhantomData<T>,
+}
+
+impl<T, S: Storage<Part<T>>> Model for Document<T, S> {
+    ghost use Rattle.std.specs.Coded.{codes};
+    ghost use Rattle.std.specs.FinMap as map;
+    ghost use Rattle.generational_core.specs.State.{State};
+    ghost use Rattle.document_tree.specs.declared.part.Part.{Part};
+    ghost use Rattle.document_tree.specs.Keeping.{IsKept};
+
+    ghost Value = { State (Part T) };
+
+    ghost coded = { Prim.hlevel (codes, map.code) };
+
+    ghost view = { λ d. S.state d.store };
+
+    ghost invariant = { λ d. IsKept (S.state d.store) };
+}
+
+impl<T, S: Storage<Part<T>>> Document<T, S> {
+    /// A document without parts, over a fresh store (`is_fresh` is the test). Takes no memory.
+    pub fn new(alloc: Global, store: S) -> Self
+        requires { IsFresh (S.state store) }
+        ensures document { result ≡ S.state store }
+        ensures none { (p : Place) → shown_in result p ≡ None }
+    {
+        Document {
+            store,
+            alloc,
+            marker: PhantomData,
+        }
+    }
+
+    /// A new part with this content and without children, and its first place. The place is none
+    /// that was ever given, it leads to no part to which another leads, and every other place shows
+    /// what it showed.
+    ///
+    /// Refused by `OutOfMemory` alone: the content comes back, and the document stays as it was.
+    /// Takes memory where fewer than two slots are free. O(1), but for finding room.
+    pub fn add(&mut self, content: T, here: Location) -> Result<Place, Refusal<T>>
+        ensures shown { IfOk result (λ p. shown_in self.new p ≡
+            Some (record { content = content; children = [] })) }
+        ensures others { IfOk result (λ p. (q : Place) → IsOther p q →
+            Leaves self.old q self.new) }
+        ensures left { (q : Place) → WasMade self.old q → Leaves self.old q self.new }
+        ensures alone { IfOk result (λ p. (q : Place) → WasMade self.old q →
+            part_in self.new p ≢ part_in self.new q) }
+        ensures new { IfOk result (λ p. (q : Place) → WasMade self.old q → IsOther p q) }
+        ensures made { IfOk result (λ p. WasMade self.new p) }
+        ensures here { IfOk result (λ p. made_at p ≡ here) }
+        ensures kept { (q : Place) → WasMade self.old q → WasMade self.new q }
+        ensures refused { OnErr result (self.new ≡ self.old) }
+        ensures back { IfErr result (λ refusal. refusal.value ≡ content) }
+        ensures cause { IfErr result (λ refusal. refusal.cause ≡ OutOfMemory) }
+    {
+        let children = Vec::new(self.alloc);
+        let body = Some(Body { content, children });
+        let raw = match self.store.new_rc(Part { body }, here, None) {
+            Ok(raw) => raw,
+            Err(refusal) => return Err(content_back(refusal)),
+        };
+        Ok(Place { raw })
+    }
+
+    /// Another place that leads to the same part. It is none that was ever given, and every other
+    /// place shows what it showed.
+    ///
+    /// Refused, in this order: `Gone`, where the place is gone, or is another document's;
+    /// `OutOfMemory`. The document stays as it was then. Takes memory where no slot is free. O(1), but
+    /// for finding room.
+    pub fn repeat(&mut self, place: Place) -> Result<Place, PlaceError>
+        ensures part { IfOk result (λ p. part_in self.new p ≡ part_in self.old place) }
+        ensures shown { IfOk result (λ p. shown_in self.new p ≡ shown_in self.old place) }
+        ensures others { IfOk result (λ p. (q : Place) → IsOther p q →
+            Leaves self.old q self.new) }
+        ensures left { (q : Place) → WasMade self.old q → Leaves self.old q self.new }
+        ensures new { IfOk result (λ p. (q : Place) → WasMade self.old q → IsOther p q) }
+        ensures made { IfOk result (λ p. WasMade self.new p) }
+        ensures kept { (q : Place) → WasMade self.old q → WasMade self.new q }
+        ensures refused { OnErr result (self.new ≡ self.old) }
+        ensures gone { shown_in self.old place ≡ None →
+            result ≡ Err (errors.Gone (record { made_at = made_at place })) }
+        ensures cause { IfErr result (λ error. (shown_in self.old place ≡ None)
+            ⊎ (error ≡ errors.OutOfMemory)) }
+    {
+        self.find(place)?;
+        let raw = match self.store.new_reference(place.raw, None) {
+            Ok(raw) => raw,
+            Err(Refused::Store(_)) => return Err(PlaceError::OutOfMemory),
+            Err(Refused::Borrow(_)) => unreachable!(),
+        };
+        Ok(Place { raw })
+    }
+
+    /// The content of a place's part. The document is lent meanwhile.
+    ///
+    /// Refused where the place is gone, or is another document's. Takes no memory, and is O(1).
+    pub fn get(&self, place: Place) -> Result<&T, Gone>
+        ensures seen { IfOk result (λ content.
+            content_of (shown_in self.now place) ≡ Some content.now) }
+        ensures gone { IsErr result ↔ shown_in self.now place ≡ None }
+        ensures told { IfErr result (λ gone. gone.made_at ≡ made_at place) }
+    {
+        match self.body(place) {
+            Some(body) => Ok(&body.content),
+            None => Err(Gone {
+                made_at: place.made_at(),
+            }),
+        }
+    }
+
+    /// The children of a place's part, in order. The document is lent meanwhile.
+    ///
+    /// Refused where the place is gone, or is another document's. Takes no memory, and is O(1).
+    pub fn children(&self, place: Place) -> Result<&[Place], Gone>
+        ensures seen { IfOk result (λ children.
+            children_of (shown_in self.now place) ≡ Some children.now) }
+        ensures gone { IsErr result ↔ shown_in self.now place ≡ None }
+        ensures told { IfErr result (λ gone. gone.made_at ≡ made_at place) }
+    {
+        match self.body(place) {
+            Some(body) => Ok(body.children.as_slice()),
+            None => Err(Gone {
+                made_at: place.made_at(),
+            }),
+        }
+    }
+
+    /// The place and those that stand below it, in the order in which they are read: each before its
+    /// children, and these in their order. A part is gone over at each place that leads to it, and a
+    /// place that is gone is there without children.
+    ///
+    /// At most `limit` places are answered, so that it ends where the document has a cycle too.
+    /// Refused for want of memory alone. Takes memory for the list, and for the places that wait. O(n)
+    /// for n places that are answered and their children.
+    pub fn outline(&self, place: Place, limit: usize) -> Result<Vec<Place>, AllocError>
+        ensures below { IfOk result (λ places. All (IsBelow self.now place) places.items) }
+        ensures within { IfOk result (λ places. length places.items ≤ limit) }
+    {
+        let mut places = Vec::new(self.alloc);
+        let mut waiting = vec![in self.alloc; place]?;
+        while places.len() < limit {
+            let Some(next) = waiting.pop() else {
+                break;
+            };
+            places.push(next)?;
+            self.put_children(&mut waiting, next)?;
+        }
+        Ok(places)
+    }
+
+    /// Puts another content in the place of a part's, which is let go. It shows at each place that
+    /// leads to the part, with the children that there were; every other place shows what it showed.
+    ///
+    /// Refused where the place is gone, or is another document's: the content comes back, and the
+    /// document stays as it was. Takes no memory, and is O(1), but for letting the old content go.
+    pub fn set(&mut self, place: Place, content: T) -> Result<(), (T, Gone)>
+    where
+        T: Drop,
+        ensures shown { OnOk result ((q : Place) →
+            part_in self.old q ≡ part_in self.old place →
+            shown_in self.new q ≡ with_content content (shown_in self.old place)) }
+        ensures others { (q : Place) → part_in self.old q ≢ part_in self.old place →
+            Leaves self.old q self.new }
+        ensures parts { (q : Place) → part_in self.new q ≡ part_in self.old q }
+        ensures kept { (q : Place) → WasMade self.old q → WasMade self.new q }
+        ensures gone { IsErr result ↔ shown_in self.old place ≡ None }
+        ensures told { IfErr result (λ back. back.1.made_at ≡ made_at place) }
+        ensures back { IfErr result (λ back. back.0 ≡ content) }
+        ensures refused { OnErr result (self.new ≡ self.old) }
+    {
+        if let Err(gone) = self.find(place) {
+            return Err((content, gone));
+        }
+        let Some(mut body) = self.swap(place, None) else {
+            unreachable!();
+        };
+        body.content = content;
+        self.swap(place, Some(body));
+        Ok(())
+    }
+
+    /// The child becomes the last child of the parent's part, at each place that leads there. Every
+    /// other place shows what it showed.
+    ///
+    /// The child may be anything's child already, this part's as well. A document may have cycles:
+    /// nothing keeps a part from standing below itself.
+    ///
+    /// Refused, in this order: `Gone`, where the parent is gone, or is another document's, and then
+    /// where the child is; `OutOfMemory`. Every place shows what it showed then. Takes memory for the
+    /// list of children. O(1), but for finding room.
+    pub fn append(&mut self, parent: Place, child: Place) -> Result<(), PlaceError>
+    where
+        T: Drop,
+        ensures shown { OnOk result ((q : Place) →
+            part_in self.old q ≡ part_in self.old parent →
+            shown_in self.new q ≡ with_child child (shown_in self.old parent)) }
+        ensures others { (q : Place) → part_in self.old q ≢ part_in self.old parent →
+            Leaves self.old q self.new }
+        ensures parts { (q : Place) → part_in self.new q ≡ part_in self.old q }
+        ensures kept { (q : Place) → WasMade self.old q → WasMade self.new q }
+        ensures refused { OnErr result ((q : Place) → Leaves self.old q self.new) }
+        ensures gone { (shown_in self.old parent ≡ None) ⊎ (shown_in self.old child ≡ None) →
+            result ≡ Err (errors.Gone (record {
+              made_at = first_gone (shown_in self.old parent) parent child;
+            })) }
+        ensures cause { IfErr result (λ error. (error ≡ errors.OutOfMemory)
+            ⊎ (shown_in self.old parent ≡ None) ⊎ (shown_in self.old child ≡ None)) }
+    {
+        self.find(parent)?;
+        self.find(child)?;
+        let Some(mut body) = self.swap(parent, None) else {
+            unreachable!();
+        };
+        let pushed = push_place(&mut body.children, child);
+        self.swap(parent, Some(body));
+        if !pushed {
+            return Err(PlaceError::OutOfMemory);
+        }
+        Ok(())
+    }
+
+    /// Lets a place lead to the part to which another leads: it shows that part from then on, wherever
+    /// it stands as a child. Every other place shows what it showed. The part to which it led before
+    /// ends where no other place leads there.
+    ///
+    /// Refused where the place is gone, or is another document's, and then where the other is. The
+    /// document stays as it was then. Takes no memory, and is O(1), but for letting the old part go.
+    pub fn exchange(&mut self, place: Place, other: Place) -> Result<(), Gone>
+        ensures part { OnOk result ((q : Place) → IsSame place q →
+            part_in self.new q ≡ part_in self.old other) }
+        ensures shown { OnOk result ((q : Place) → IsSame place q →
+            shown_in self.new q ≡ shown_in self.old other) }
+        ensures others { (q : Place) → IsOther place q → Leaves self.old q self.new }
+        ensures kept { (q : Place) → WasMade self.old q → WasMade self.new q }
+        ensures gone { IsErr result ↔
+            (shown_in self.old place ≡ None) ⊎ (shown_in self.old other ≡ None) }
+        ensures told { IfErr result (λ gone.
+            gone.made_at ≡ first_gone (shown_in self.old place) place other) }
+        ensures refused { OnErr result (self.new ≡ self.old) }
+    {
+        self.find(place)?;
+        self.find(other)?;
+        self.lead(place, other);
+        Ok(())
+    }
+
+    /// Ends a place: it shows nothing from then on, and its part ends with it where no other place
+    /// leads there. Every other place shows what it showed.
+    ///
+    /// Refused where the place is gone, or is another document's; the document stays as it was then.
+    /// Takes no memory, and is O(1), but for letting the part go.
+    pub fn remove(&mut self, place: Place) -> Result<(), Gone>
+        ensures ended { (q : Place) → IsSame place q → shown_in self.new q ≡ None }
+        ensures others { (q : Place) → IsOther place q → Leaves self.old q self.new }
+        ensures kept { (q : Place) → WasMade self.old q → WasMade self.new q }
+        ensures gone { IsErr result ↔ shown_in self.old place ≡ None }
+        ensures told { IfErr result (λ gone. gone.made_at ≡ made_at place) }
+        ensures refused { OnErr result (self.new ≡ self.old) }
+    {
+        self.find(place)?;
+        match self.store.recycle(place.raw) {
+            Ok(()) => Ok(()),
+            Err(_) => unreachable!(),
+        }
+    }
+
+    // Puts the children of a place at the end of a list, the first one last.
+    fn put_children(&self, places: &mut Vec<Place>, place: Place) -> Result<(), AllocError>
+        ensures { OnOk result ((top : Place) → IsBelow self.now top place →
+            All (IsBelow self.now top) places.old.items →
+            All (IsBelow self.now top) places.new.items) }
+    {
+        let Ok(children) = self.children(place) else {
+            return Ok(());
+        };
+        let mut left = children.len();
+        while left > 0 {
+            left -= 1;
+            places.push(children[left])?;
+        }
+        Ok(())
+    }
+
+    // Lets a place lead to the part to which another leads.
+    fn lead(&mut self, place: Place, other: Place)
+        requires place { is_some (shown_in self.old place) ≡ true }
+        requires other { is_some (shown_in self.old other) ≡ true }
+        ensures part { (q : Place) → IsSame place q →
+            part_in self.new q ≡ part_in self.old other }
+        ensures shown { (q : Place) → IsSame place q →
+            shown_in self.new q ≡ shown_in self.old other }
+        ensures others { (q : Place) → IsOther place q → Leaves self.old q self.new }
+        ensures kept { (q : Place) → WasMade self.old q → WasMade self.new q }
+    {
+        match self.store.change_reference(place.raw, other.raw) {
+            Ok(()) => {}
+            Err(_) => unreachable!(),
+        }
+    }
+
+    // Puts another body in the place of a part's.
+    fn swap(&mut self, place: Place, body: Option<Body<T>>) -> Option<Body<T>>
+        requires { is_some (part_in self.old place) ≡ true }
+        ensures old { shown_by result ≡ shown_in self.old place }
+        ensures changed { Changes self.old place (shown_by body) self.new }
+    {
+        self.store.replace_value(place.raw, Part { body }).body
+    }
+
+    // Whether a place shows a part.
+    fn find(&self, place: Place) -> Result<(), Gone>
+        ensures gone { IsErr result ↔ shown_in self.now place ≡ None }
+        ensures shown { OnOk result (is_some (shown_in self.now place) ≡ true) }
+        ensures told { IfErr result (λ gone. gone.made_at ≡ made_at place) }
+    {
+        match self.body(place) {
+            Some(_) => Ok(()),
+            None => Err(Gone {
+                made_at: place.made_at(),
+            }),
+        }
+    }
+
+    // What the part of a place has.
+    fn body(&self, place: Place) -> Option<&Body<T>>
+        ensures { shown_by (option_copied result) ≡ shown_in self.now place }
+    {
+        self.store.peek(place.raw)?.body.as_ref()
+    }
+}
+
+// The content of a part that wasn't taken.
+fn content_back<T>(refusal: Refusal<Part<T>>) -> Refusal<T>
+    requires { is_some refusal.value.body ≡ true }
+    ensures value { content_of (shown_by refusal.value.body) ≡ Some result.value }
+    ensures cause { result.cause ≡ refusal.cause }
+{
+    let Refusal { value, cause } = refusal;
+    let Part { body } = value;
+    let Some(Body { content, .. }) = body else {
+        unreachable!();
+    };
+    Refusal {
+        value: content,
+        cause,
+    }
+}
+
+// Puts a place at the end of a list. Whether there was room.
+fn push_place(places: &mut Vec<Place>, place: Place) -> bool
+    ensures pushed { IsTrue result → places.new.items ≡ places.old.items ++ place ∷ [] }
+    ensures same { IsFalse result → places.new.items ≡ places.old.items }
+{
+    places.push(place).is_ok()
+}

@@ -1,0 +1,121 @@
+//! What is done to a document, one act a line, with what must come of it.
+
+use document_tree::{Document, Part, Place};
+use generational_box::{Location, Storage};
+use std::alloc::Global;
+use std::process::Abort;
+
+/// An act. Places are named by the order in which they were made, from 0.
+#[derive(Clone, Copy)]
+pub(crate) enum Act {
+    Add(u64),
+    Repeat(usize),
+    /// The first takes the second as its last child.
+    Append(usize, usize),
+    Set(usize, u64),
+    /// The first leads to the second's part.
+    Exchange(usize, usize),
+    Remove(usize),
+}
+
+/// What a place shows: content, and children. None where it is gone.
+pub(crate) type Shown<'a> = Option<(u64, &'a [usize])>;
+
+/// An act, with what must come of it.
+#[derive(Clone, Copy)]
+pub(crate) struct Line<'a> {
+    pub(crate) act: Act,
+    /// Whether it is carried out. Only one of a place that is gone isn't.
+    pub(crate) done: bool,
+    /// What each place shows afterwards, in the order in which they were made.
+    pub(crate) shows: &'a [Shown<'a>],
+}
+
+/// Where a part is added.
+pub(crate) fn added_at(line: u32) -> Location {
+    Location::new("d.rs", line, 1)
+}
+
+/// Does each line's act to a document, and sees what comes of it.
+pub(crate) fn play<S: Storage<Part<u64>>>(
+    rt: &impl Abort,
+    alloc: Global,
+    document: &mut Document<u64, S>,
+    lines: &[Line],
+) {
+    let mut places = Vec::new(alloc);
+    for line in lines {
+        assert_eq!(rt; carries_out(rt, document, &mut places, line.act), line.done);
+        shows(rt, document, &places, line.shows);
+    }
+}
+
+/// Does an act, and says whether it was carried out.
+fn carries_out<S: Storage<Part<u64>>>(
+    rt: &impl Abort,
+    document: &mut Document<u64, S>,
+    places: &mut Vec<Place>,
+    act: Act,
+) -> bool {
+    match act {
+        Act::Add(content) => match document.add(content, added_at(1)) {
+            Ok(place) => places.push(place).is_ok(),
+            Err(_) => false,
+        },
+        Act::Repeat(number) => match document.repeat(place_at(rt, places, number)) {
+            Ok(place) => places.push(place).is_ok(),
+            Err(_) => false,
+        },
+        Act::Append(parent, child) => {
+            let child = place_at(rt, places, child);
+            document.append(place_at(rt, places, parent), child).is_ok()
+        }
+        Act::Set(number, content) => document.set(place_at(rt, places, number), content).is_ok(),
+        Act::Exchange(number, other) => {
+            let other = place_at(rt, places, other);
+            document
+                .exchange(place_at(rt, places, number), other)
+                .is_ok()
+        }
+        Act::Remove(number) => document.remove(place_at(rt, places, number)).is_ok(),
+    }
+}
+
+/// A place by its number.
+pub(crate) fn place_at(rt: &impl Abort, places: &[Place], number: usize) -> Place {
+    places.get(number).copied().expect(rt, "a place")
+}
+
+/// Sees what each place shows.
+fn shows<S: Storage<Part<u64>>>(
+    rt: &impl Abort,
+    document: &Document<u64, S>,
+    places: &[Place],
+    shows: &[Shown],
+) {
+    assert_eq!(rt; places.len(), shows.len());
+    for (place, shown) in places.iter().zip(shows) {
+        let content = shown.map(|(content, _)| content);
+        assert_eq!(rt; document.get(*place).copied().ok(), content);
+        if let Some((_, numbers)) = shown {
+            has_children(rt, document, places, *place, numbers);
+        }
+    }
+}
+
+/// Sees which children a place has.
+fn has_children<S: Storage<Part<u64>>>(
+    rt: &impl Abort,
+    document: &Document<u64, S>,
+    places: &[Place],
+    place: Place,
+    numbers: &[usize],
+) {
+    let Ok(children) = document.children(place) else {
+        panic!(rt; "a place is gone");
+    };
+    assert_eq!(rt; children.len(), numbers.len());
+    for (child, number) in children.iter().zip(numbers) {
+        assert_eq!(rt; child.id(), place_at(rt, places, *number).id());
+    }
+}

@@ -1,0 +1,149 @@
+//! Histories of documents, as lines.
+
+use crate::document_acts::{Act, Line, Shown, play};
+use document_tree::{Document, Part};
+use generational_box::{LastFirst, OldestFirst, Storage, Store};
+use std::alloc::Global;
+use std::process::Abort;
+
+/// Plays lines in a document over an empty store, once with each order of free slots.
+fn play_both(rt: &impl Abort, alloc: Global, lines: &[Line]) {
+    let last: Store<Part<u64>, LastFirst> = Store::new(alloc, 7);
+    play_over(rt, alloc, last, lines);
+    let oldest: Store<Part<u64>, OldestFirst> = Store::new(alloc, 7);
+    play_over(rt, alloc, oldest, lines);
+}
+
+/// The same over a store that is handed in.
+fn play_over<S: Storage<Part<u64>> + Drop>(
+    rt: &impl Abort,
+    alloc: Global,
+    store: S,
+    lines: &[Line],
+) {
+    assert!(rt; store.is_fresh());
+    let mut document = Document::new(alloc, store);
+    play(rt, alloc, &mut document, lines);
+}
+
+/// A line whose act is carried out.
+fn done<'a>(act: Act, shows: &'a [Shown<'a>]) -> Line<'a> {
+    Line {
+        act,
+        done: true,
+        shows,
+    }
+}
+
+/// A line with a place that is gone.
+fn gone<'a>(act: Act, shows: &'a [Shown<'a>]) -> Line<'a> {
+    Line {
+        act,
+        done: false,
+        shows,
+    }
+}
+
+#[test]
+fn a_heading_is_exchanged_on_each_page(rt: HostRuntime) {
+    let lines = [
+        // The place 0 is the heading, 1 and 2 are pages.
+        done(Act::Add(10), &[Some((10, &[]))]),
+        done(Act::Add(1), &[Some((10, &[])), Some((1, &[]))]),
+        done(
+            Act::Add(2),
+            &[Some((10, &[])), Some((1, &[])), Some((2, &[]))],
+        ),
+        done(
+            Act::Append(1, 0),
+            &[Some((10, &[])), Some((1, &[0])), Some((2, &[]))],
+        ),
+        done(
+            Act::Append(2, 0),
+            &[Some((10, &[])), Some((1, &[0])), Some((2, &[0]))],
+        ),
+        done(
+            Act::Add(20),
+            &[
+                Some((10, &[])),
+                Some((1, &[0])),
+                Some((2, &[0])),
+                Some((20, &[])),
+            ],
+        ),
+        done(
+            Act::Exchange(0, 3),
+            &[
+                Some((20, &[])),
+                Some((1, &[0])),
+                Some((2, &[0])),
+                Some((20, &[])),
+            ],
+        ),
+        // The new part lives on by the heading's place.
+        done(
+            Act::Remove(3),
+            &[Some((20, &[])), Some((1, &[0])), Some((2, &[0])), None],
+        ),
+        gone(
+            Act::Exchange(0, 3),
+            &[Some((20, &[])), Some((1, &[0])), Some((2, &[0])), None],
+        ),
+        done(
+            Act::Remove(0),
+            &[None, Some((1, &[0])), Some((2, &[0])), None],
+        ),
+        gone(
+            Act::Append(1, 0),
+            &[None, Some((1, &[0])), Some((2, &[0])), None],
+        ),
+    ];
+    play_both(&rt, rt.alloc(), &lines);
+}
+
+#[test]
+fn what_is_set_shows_at_each_place(rt: HostRuntime) {
+    let lines = [
+        done(Act::Add(5), &[Some((5, &[]))]),
+        done(Act::Repeat(0), &[Some((5, &[])), Some((5, &[]))]),
+        done(
+            Act::Add(8),
+            &[Some((5, &[])), Some((5, &[])), Some((8, &[]))],
+        ),
+        done(
+            Act::Append(1, 2),
+            &[Some((5, &[2])), Some((5, &[2])), Some((8, &[]))],
+        ),
+        done(
+            Act::Append(0, 2),
+            &[Some((5, &[2, 2])), Some((5, &[2, 2])), Some((8, &[]))],
+        ),
+        done(
+            Act::Set(0, 6),
+            &[Some((6, &[2, 2])), Some((6, &[2, 2])), Some((8, &[]))],
+        ),
+        // The part lives on by its second place.
+        done(Act::Remove(0), &[None, Some((6, &[2, 2])), Some((8, &[]))]),
+        gone(Act::Repeat(0), &[None, Some((6, &[2, 2])), Some((8, &[]))]),
+        done(Act::Remove(1), &[None, None, Some((8, &[]))]),
+        gone(Act::Set(1, 9), &[None, None, Some((8, &[]))]),
+    ];
+    play_both(&rt, rt.alloc(), &lines);
+}
+
+#[test]
+fn a_place_that_is_gone_reads_no_later_part(rt: HostRuntime) {
+    let lines = [
+        done(Act::Add(1), &[Some((1, &[]))]),
+        done(Act::Remove(0), &[None]),
+        // The free slots are taken again.
+        done(Act::Add(2), &[None, Some((2, &[]))]),
+        gone(Act::Remove(0), &[None, Some((2, &[]))]),
+        gone(Act::Append(0, 1), &[None, Some((2, &[]))]),
+        // A part may stand below itself.
+        done(Act::Append(1, 1), &[None, Some((2, &[1]))]),
+        done(Act::Exchange(1, 1), &[None, Some((2, &[1]))]),
+        done(Act::Remove(1), &[None, None]),
+    ];
+    play_both(&rt, rt.alloc(), &lines);
+}
