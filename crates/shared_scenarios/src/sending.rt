@@ -4,6 +4,7 @@ use generational_box::{
     AnyStorage, GenerationalBox, GenerationalRef, GenerationalRefMut, Location, Session, Storage,
     Store, UnsyncStorage,
 };
+use std::alloc::Global;
 use std::process::Abort;
 use std::sync::Wait;
 use std::thread::Threads;
@@ -88,20 +89,28 @@ fn guards_of_writers(rt: HostRuntime) {
     assert_opens(&rt, &mut store, guard, 21);
 }
 
+/// A session over a store with this number.
+fn session(rt: &impl Abort, alloc: Global, number: u64) -> Session<u32, UnsyncStorage<u32>> {
+    let store: UnsyncStorage<u32> = Store::new(alloc, number);
+    assert!(rt; store.is_fresh());
+    Session::new(alloc, store)
+}
+
 #[test]
-fn owners_and_sessions(rt: HostRuntime) {
-    let alloc = rt.alloc();
-    let mut store: UnsyncStorage<u32> = Store::new(alloc, 7);
+fn owners(rt: HostRuntime) {
+    let mut store: UnsyncStorage<u32> = Store::new(rt.alloc(), 7);
     let mut one = store.owner().expect(&rt, "an owner");
     let mut other = store.owner().expect(&rt, "an owner");
     swap_elsewhere(&rt, &mut one, &mut other);
     assert_eq!(rt; (one.id().key, other.id().key), (1, 0));
     one.leak();
     other.leak();
+}
 
-    let beside: UnsyncStorage<u32> = Store::new(alloc, 8);
-    let mut first = Session::new(alloc, store);
-    let mut second = Session::new(alloc, beside);
+#[test]
+fn sessions(rt: HostRuntime) {
+    let mut first = session(&rt, rt.alloc(), 7);
+    let mut second = session(&rt, rt.alloc(), 8);
     swap_elsewhere(&rt, &mut first, &mut second);
     assert_eq!(rt; (first.finish().number(), second.finish().number()), (8, 7));
 }
