@@ -20,6 +20,7 @@ use Rattle.generational_core.specs.Machine.Action.{MakeShared, Refer, SetValue, 
 use Rattle.generational_core.specs.Machine.Answer.{Done, Refused}
 use Rattle.generational_core.specs.Names.{Name, NameMap, is_name, name_cmp}
 use Rattle.generational_core.specs.Seeing.{value_in}
+use Rattle.generational_core.specs.Slots.{free}
 use Rattle.generational_core.specs.State.{State, IsSound, content_at}
 use Rattle.generational_core.specs.Steps.{Meets, last_ticket, limit_tickets, may_lack, needs_memory}
 use Rattle.generational_core.specs.Steps.{no_names, takes_ticket}
@@ -180,9 +181,10 @@ module _ {C : Type 0} where
   -- so it is refused a reference for want of memory alone
   pub refer_lacks : {S R : State C} → IsSound S → IsKept S → (b : GenerationalPointer) (v : C)
       → value_in S b ≡ Some v → (e : error.Refused BorrowError)
-      → Meets S (Refer None b) (read_refused e) R → e ≡ refused.Store OutOfMemory
+      → Meets S (Refer None b) (read_refused e) R
+      → (e ≡ refused.Store OutOfMemory) × (free S ≡ 0)
   refer_lacks {S} s k b v seen e m =
-      (refer_short b e s (seen_reference s k b v seen) (test_sees S b s ∙ ap is_some seen) m).0
+      refer_short b e s (seen_reference s k b v seen) (test_sees S b s ∙ ap is_some seen) m
 
   -- a call that is done whatever names it takes is answered so
   done_always : {S R : State C} (call : Action C) (answer : Answer C)

@@ -1,7 +1,8 @@
 //! Documents.
 
 ghost use Rattle.std.specs.Prelude.{◌≡◌, ◌≢◌, ◌↔◌, ◌⊎◌, [], None, Some, true, is_some, option_copied};
-ghost use Rattle.std.specs.Prelude.{Err, IfOk, OnOk, IfErr, OnErr, IsErr, IsTrue, IsFalse, ◌++◌, ◌∷◌, ◌≤◌, length};
+ghost use Rattle.std.specs.Prelude.{Err, IfOk, OnOk, IfErr, OnErr, IsErr, IsTrue, IsFalse, ◌++◌, ◌∷◌, ◌≤◌, ◌<◌, length};
+ghost use Rattle.generational_core.specs.Slots.{free};
 ghost use Rattle.std.specs.List.{All};
 ghost use Rattle.generational_core.specs.Conditions.{IsFresh};
 ghost use Rattle.generational_core.specs.declared.error.StoreError.TheVariants.{OutOfMemory};
@@ -78,6 +79,7 @@ impl<T, S: Storage<Part<T>>> Document<T, S> {
         ensures refused { OnErr result (self.new ≡ self.old) }
         ensures back { IfErr result (λ refusal. refusal.value ≡ content) }
         ensures cause { IfErr result (λ refusal. refusal.cause ≡ OutOfMemory) }
+        ensures short { OnErr result (free self.old < 2) }
     {
         let children = Vec::new(self.alloc);
         let body = Some(Body { content, children });
@@ -107,7 +109,7 @@ impl<T, S: Storage<Part<T>>> Document<T, S> {
         ensures gone { shown_in self.old place ≡ None →
             result ≡ Err (errors.Gone (record { made_at = made_at place })) }
         ensures cause { IfErr result (λ error. (shown_in self.old place ≡ None)
-            ⊎ (error ≡ errors.OutOfMemory)) }
+            ⊎ ((error ≡ errors.OutOfMemory) × (free self.old ≡ 0))) }
     {
         self.find(place)?;
         let raw = match self.store.new_reference(place.raw, None) {

@@ -6,7 +6,7 @@ use Rattle.generational_core.specs.State.{State}
 use Rattle.generational_core.proofs.machine.Leaving.{leaves}
 use Rattle.generational_core.proofs.machine.Stepping.{made_new, meets_given}
 use Rattle.generational_core.proofs.machine.Telling.{meets_tells}
-use Rattle.generational_sessions.proofs.callers.Shortage.{shared_apart}
+use Rattle.generational_sessions.proofs.callers.Shortage.{share_short, shared_apart}
 use Rattle.document_tree.proofs.Keeping.{stays_kept}
 use Rattle.document_tree.proofs.Showing.{left_made, left_other, left_place}
 use Rattle.document_tree.specs.Documents.{shown_of, WasMade}
@@ -48,3 +48,6 @@ pub returns-clause-alone : goal.returns-clause-alone
 returns-clause-alone g c q made =
     shared_apart _ _ _ (g.met.S.AnyStorage.sound _) c.in-Ok.ensures.step q.raw
     (subst (λ (D : State _). WasMade D q) (sym c.self.view_is) made)
+
+pub returns-in-Err-clause-short : goal.returns-in-Err-clause-short
+returns-in-Err-clause-short g c = rw (← c.self.view_is) (share_short _ _ _ c.in-Err.ensures.step).1

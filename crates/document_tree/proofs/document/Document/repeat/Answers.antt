@@ -1,6 +1,6 @@
 use Rattle.std.specs.FinSet as set
 use Rattle.generational_core.specs.Boxes.{name_in}
-use Rattle.std.proofs.Common.{sym, ap, subst, ◌∙◌}
+use Rattle.std.proofs.Common.{inr, refl, sym, ap, subst, ◌∙◌}
 use Rattle.std.proofs.lemmas.Bool.{true≢false}
 use Rattle.generational_core.specs.State.{State}
 use Rattle.generational_core.proofs.machine.Leaving.{leaves}
@@ -14,8 +14,8 @@ use Rattle.document_tree.proofs.document.Document.repeat.Goals as goal
 pub unreachable-requires : goal.unreachable-requires
 unreachable-requires g c =
     let seen = some_shown _ c.args.place (λ none. true≢false (sym (c.in_ok-find.ensures.gone.1 none))) in
-    let lacks = refer_lacks (g.met.S.AnyStorage.sound _) c.self.invariant _ seen.0
-    (rw c.self.view_is seen.1) c.in-Err-Borrow.field-0 c.in-Err-Borrow.ensures in
+    let lacks = (refer_lacks (g.met.S.AnyStorage.sound _) c.self.invariant _ seen.0
+    (rw c.self.view_is seen.1) c.in-Err-Borrow.field-0 c.in-Err-Borrow.ensures).0 in
     absurd cc
 
 pub invariant_of-self-2 : goal.invariant_of-self-2
@@ -51,3 +51,10 @@ returns-clause-made g c = (made_new _ _ _ _ c.in-Ok.ensures).2
 
 pub returns-clause-kept : goal.returns-clause-kept
 returns-clause-kept g c q = rw (← c.self.view_is) (meets_given _ _ _ _ c.in-Ok.ensures _)
+
+pub returns-in-Err-Store-clause-cause : goal.returns-in-Err-Store-clause-cause
+returns-in-Err-Store-clause-cause g c =
+    let seen = some_shown _ c.args.place (λ none. true≢false (sym (c.in_ok-find.ensures.gone.1 none))) in
+    let lacks = refer_lacks (g.met.S.AnyStorage.sound _) c.self.invariant _ seen.0
+    (rw c.self.view_is seen.1) c.in-Err-Store.field-0 c.in-Err-Store.ensures in
+    rw (← c.self.view_is) (inr (refl, lacks.1))
