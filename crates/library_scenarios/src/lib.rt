@@ -7,6 +7,8 @@ mod document_acts;
 #[cfg(test)]
 mod document_histories;
 #[cfg(test)]
+mod document_limits;
+#[cfg(test)]
 mod document_memory;
 #[cfg(test)]
 mod entity_acts;
