@@ -1,5 +1,5 @@
 //! Want of memory in trees. The test passes whichever one allocation is refused: what lacks memory
-//! changes nothing, and is tried a second time.
+//! changes nothing, and is tried again.
 
 use crate::tree_acts::{are_nodes, assert_same, made_at};
 use generational_box::{LastFirst, Storage, Store, StoreError};
@@ -65,20 +65,23 @@ fn move_or_again<S: Storage<u64>>(
     }
 }
 
-/// Removes a subtree. A removal that lacks memory leaves it.
+/// Removes a subtree. A removal that lacks memory leaves it, and is tried again: its list begins with
+/// little room, and may lack memory for that too.
 fn remove_or_again<S: Storage<u64>>(
     rt: &impl Abort,
     tree: &mut SceneTree<u64, S>,
     node: Node<u64>,
 ) -> Vec<Node<u64>> {
-    match tree.remove_subtree(node) {
-        Ok(list) => list,
-        Err(error) => {
-            assert_same(rt, &error, &LACKING);
-            assert!(rt; tree.is_alive(node));
-            tree.remove_subtree(node).expect(rt, "the nodes")
+    for _ in 0..3 {
+        match tree.remove_subtree(node) {
+            Ok(list) => return list,
+            Err(error) => {
+                assert_same(rt, &error, &LACKING);
+                assert!(rt; tree.is_alive(node));
+            }
         }
     }
+    panic!(rt; "the nodes aren't removed")
 }
 
 /// Makes children, moves them all below one of them, and removes that.
