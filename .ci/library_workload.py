@@ -11,7 +11,7 @@ import re
 import subprocess
 import sys
 
-LISTS = ("entities", "options", "scene", "forest")
+LISTS = ("entities", "options", "scene", "forest", "sessions", "shelves")
 
 
 def instructions(program, name, things):

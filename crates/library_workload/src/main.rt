@@ -7,26 +7,35 @@
 //! | `options`  | places of a plain vector, taken and free |
 //! | `scene`    | nodes of a `SceneTree`                   |
 //! | `forest`   | nodes at places of a plain vector        |
+//! | `sessions` | what sessions of a `SessionTable` keep   |
+//! | `shelves`  | the same in plain vectors                |
 //!
 //! Of the first two N are added. 10 N times a drawn one is looked at. N times a drawn one ends, and
 //! another is added in its place. Then all end: 14 N calls. Of the others N make one tree, which is
-//! walked ten times; N / 10 drawn nodes are moved below others, and the tree is removed.
+//! walked ten times; N / 10 drawn nodes are moved below others, and the tree is removed. Of the last
+//! two N are kept in sessions of a hundred, of which ten last at once, each is looked at, and the
+//! sessions end.
 //!
 //! The status is 1 where a call wasn't carried out, as for want of memory, and 2 for other words.
 #![tactic(auto)]
 
 mod entities;
 mod families;
+mod logins;
 mod options;
 mod plain_forest;
 mod rounds;
 mod scene;
+mod shelves;
+mod visits;
 
 use crate::options::Options;
 use crate::plain_forest::PlainForest;
+use crate::shelves::Shelves;
 use entity_table::EntityTable;
 use generational_box::{AnyStorage, Store, UnsyncStorage};
 use scene_tree::SceneTree;
+use session_table::SessionTable;
 use std::alloc::Global;
 use std::env;
 use std::process::ExitCode;
@@ -57,6 +66,13 @@ fn seen_in(alloc: Global, words: Words) -> Option<u64> {
         List::Options => rounds::run(alloc, &mut Options::new(alloc), n),
         List::Scene => families::run(alloc, &mut SceneTree::new(alloc, store), n),
         List::Forest => families::run(alloc, &mut PlainForest::new(alloc), n),
+        List::Sessions => {
+            let mut table = SessionTable::new(alloc, store);
+            let seen = visits::run(alloc, &mut table, n);
+            let _store = table.finish();
+            seen
+        }
+        List::Shelves => visits::run(alloc, &mut Shelves::new(alloc), n),
     }
 }
 
@@ -67,6 +83,8 @@ enum List {
     Options,
     Scene,
     Forest,
+    Sessions,
+    Shelves,
 }
 
 /// The program's words.
@@ -85,6 +103,8 @@ impl Words {
             "options" => List::Options,
             "scene" => List::Scene,
             "forest" => List::Forest,
+            "sessions" => List::Sessions,
+            "shelves" => List::Shelves,
             _ => return None,
         };
         let things = words.next()?.parse::<usize>().ok()?;

@@ -1,0 +1,24 @@
+//! Sessions of a table.
+
+use crate::visits::Keeper;
+use generational_box::{Location, UnsyncStorage};
+use session_table::{Entry, SessionTable};
+
+impl Keeper<Entry<u64>> for SessionTable<u64, UnsyncStorage<u64>> {
+    fn begin(&mut self, id: u64) -> bool {
+        self.login(id, 0).is_ok()
+    }
+
+    fn keep(&mut self, id: u64, number: u64) -> Option<Entry<u64>> {
+        self.put(id, number, Location::new("logins.rt", 13, 14))
+            .ok()
+    }
+
+    fn look(&self, entry: Entry<u64>) -> Option<u64> {
+        self.get(entry).copied().ok()
+    }
+
+    fn end(&mut self, id: u64) -> bool {
+        self.logout(id)
+    }
+}
