@@ -332,7 +332,7 @@ def counts_of_rows():
     """How often each row's calls are refused: alone, and with what is less."""
     with open(COUNTS, encoding="utf-8") as lines:
         words = [line.split() for line in lines if not line.startswith("#")]
-    return {name: (int(alone), int(less)) for name, alone, less in words}
+    return {f"{name}.row": (int(alone), int(less)) for alone, less, name in words}
 
 
 def refuse_in_rows(program):
