@@ -1,7 +1,7 @@
 //! Documents.
 
 ghost use Rattle.std.specs.Prelude.{◌≡◌, ◌≢◌, ◌↔◌, ◌⊎◌, [], None, Some, true, is_some, option_copied};
-ghost use Rattle.std.specs.Prelude.{Err, IfOk, OnOk, IfErr, OnErr, IsErr, IsTrue, IsFalse, ◌++◌, ◌∷◌, ◌≤◌, ◌<◌, length};
+ghost use Rattle.std.specs.Prelude.{Err, IfOk, OnOk, IfErr, OnErr, IsErr, IsTrue, IsFalse, ◌++◌, ◌∷◌, ◌≤◌, ◌<◌, length, slice_get};
 ghost use Rattle.generational_core.specs.Slots.{free};
 ghost use Rattle.std.specs.List.{All};
 ghost use Rattle.generational_core.specs.Conditions.{IsFresh};
@@ -164,6 +164,7 @@ impl<T, S: Storage<Part<T>>> Document<T, S> {
     pub fn outline(&self, place: Place, limit: usize) -> Result<Vec<Place>, AllocError>
         ensures below { IfOk result (λ places. All (IsBelow self.now place) places.items) }
         ensures within { IfOk result (λ places. length places.items ≤ limit) }
+        ensures first { IfOk result (λ places. 0 < limit → slice_get places.items 0 ≡ Some place) }
     {
         let mut places = Vec::new(self.alloc);
         let mut waiting = vec![in self.alloc; place]?;
