@@ -6,7 +6,7 @@ use Rattle.std.specs.Prelude.{String, ◌⊎◌, map as list_map}
 use Rattle.std.proofs.lemmas.Bool.{cases_order}
 use Rattle.std.proofs.lemmas.Option.{slice_get-map, slice_get_past, slice_get_cases}
 use Rattle.std.proofs.lemmas.Option.{same_Some, none-some}
-use Rattle.generational_core.specs.declared.error.StoreError.TheVariants.{OutOfMemory}
+use Rattle.generational_errors.specs.declared.error.StoreError.TheVariants.{OutOfMemory}
 use Rattle.generational_sessions.specs.declared.calls.Reply.{Reply}
 use Rattle.generational_sessions.specs.Numbered.{refusal_in}
 use Rattle.generational_sessions.specs.Places.{as_reply}

@@ -4,8 +4,8 @@ use Rattle.std.specs.Prelude.{String, string_bytes, nat_lt, if◌then◌else◌,
 use Rattle.std.specs.Prelude.{slice_get}
 use Rattle.generational_core.specs.Borrowing.{BorrowRefusal}
 use Rattle.generational_core.specs.Borrowing.BorrowRefusal.{Dropped, BeingWritten, BeingRead}
-use Rattle.generational_core.specs.declared.error.Location.{Location}
-use Rattle.generational_core.specs.declared.error.StoreError.TheVariants.{OutOfMemory}
+use Rattle.generational_errors.specs.declared.error.Location.{Location}
+use Rattle.generational_errors.specs.declared.error.StoreError.TheVariants.{OutOfMemory}
 use Rattle.generational_sessions.specs.declared.calls.Reply.{Reply}
 use Rattle.generational_sessions.specs.Numbered.{erase, refusal_in}
 use Rattle.generational_sessions.specs.Places.{as_reply}

@@ -2,7 +2,7 @@
 
 ghost use Rattle.std.specs.Prelude.{◌≡◌, ◌↔◌, IsTrue, Some, option_map, string_bytes};
 ghost use Rattle.generational_core.specs.Answers.{refusal_of_error};
-ghost use Rattle.generational_core.specs.declared.error.StoreError.TheVariants.{OutOfMemory};
+ghost use Rattle.generational_errors.specs.declared.error.StoreError.TheVariants.{OutOfMemory};
 ghost use Rattle.generational_sessions.specs.Numbered.{refusal_in};
 ghost use Rattle.generational_sessions.specs.Places.{as_reply};
 ghost use Rattle.agreement.specs.Told.{told, plain, plain_refusal};

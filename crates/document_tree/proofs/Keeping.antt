@@ -25,12 +25,12 @@ use Rattle.generational_core.specs.State.{State, IsSound, content_at}
 use Rattle.generational_core.specs.Steps.{Meets, last_ticket, limit_tickets, may_lack, needs_memory}
 use Rattle.generational_core.specs.Steps.{no_names, takes_ticket}
 use Rattle.generational_core.specs.declared.boxes.GenerationalPointer.{GenerationalPointer}
-use Rattle.generational_core.specs.declared.error.BorrowError.{BorrowError}
-use Rattle.generational_core.specs.declared.error.BorrowMutError.{BorrowMutError}
-use Rattle.generational_core.specs.declared.error.Location.{Location}
-use Rattle.generational_core.specs.declared.error.Refused as error
-use Rattle.generational_core.specs.declared.error.Refused.TheVariants as refused
-use Rattle.generational_core.specs.declared.error.StoreError.TheVariants.{NumbersExhausted, OutOfMemory}
+use Rattle.generational_errors.specs.declared.error.BorrowError.{BorrowError}
+use Rattle.generational_errors.specs.declared.error.BorrowMutError.{BorrowMutError}
+use Rattle.generational_errors.specs.declared.error.Location.{Location}
+use Rattle.generational_errors.specs.declared.error.Refused as error
+use Rattle.generational_errors.specs.declared.error.Refused.TheVariants as refused
+use Rattle.generational_errors.specs.declared.error.StoreError.TheVariants.{NumbersExhausted, OutOfMemory}
 use Rattle.generational_core.proofs.maps.Maps.{by_name, get-insert_apart, get-insert_here, name_cases}
 use Rattle.generational_core.proofs.machine.Calling.{seen_reached}
 use Rattle.generational_core.proofs.machine.Changes.{is_making, new_content}

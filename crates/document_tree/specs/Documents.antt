@@ -9,7 +9,7 @@ use Rattle.document_tree.specs.declared.part.Body.{Body}
 use Rattle.document_tree.specs.declared.part.Part.{Part}
 use Rattle.document_tree.specs.declared.place.Place.{Place}
 use Rattle.document_tree.specs.Places.{made_at}
-use Rattle.generational_core.specs.declared.error.Location.{Location}
+use Rattle.generational_errors.specs.declared.error.Location.{Location}
 
 -- what a place shows: the content of its part, and that part's children
 pub record Shown (T : Type 0) : Type 0 where

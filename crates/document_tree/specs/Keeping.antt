@@ -6,7 +6,7 @@ use Rattle.generational_core.specs.Cells.Cell.{Value}
 use Rattle.generational_core.specs.Leaving.{IsUnborrowed}
 use Rattle.generational_core.specs.Names.{Name}
 use Rattle.generational_core.specs.State.{State}
-use Rattle.generational_core.specs.declared.error.Location.{Location}
+use Rattle.generational_errors.specs.declared.error.Location.{Location}
 
 module _ {C : Type 0} where
   -- no borrow stands, and each live cell is a part, or a place that leads to one

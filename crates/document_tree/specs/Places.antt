@@ -1,6 +1,6 @@
 -- Places: where each was made, and which handles are of one place.
 use Rattle.std.specs.Prelude.{◌≡◌, ◌≢◌}
-use Rattle.generational_core.specs.declared.error.Location.{Location}
+use Rattle.generational_errors.specs.declared.error.Location.{Location}
 use Rattle.document_tree.specs.declared.place.Place.{Place}
 
 abbrev pub made_at : Place → Location

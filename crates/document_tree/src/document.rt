@@ -5,7 +5,7 @@ ghost use Rattle.std.specs.Prelude.{Err, IfOk, OnOk, IfErr, OnErr, IsErr, IsTrue
 ghost use Rattle.generational_core.specs.Slots.{free};
 ghost use Rattle.std.specs.List.{All};
 ghost use Rattle.generational_core.specs.Conditions.{IsFresh};
-ghost use Rattle.generational_core.specs.declared.error.StoreError.TheVariants.{OutOfMemory};
+ghost use Rattle.generational_errors.specs.declared.error.StoreError.TheVariants.{OutOfMemory};
 ghost use Rattle.document_tree.specs.declared.place.Place.{Place};
 ghost use Rattle.document_tree.specs.Documents.{shown_by, shown_in, part_in, content_of, children_of};
 ghost use Rattle.document_tree.specs.Documents.{with_content, with_child, WasMade, Leaves, Changes};

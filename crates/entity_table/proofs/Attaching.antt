@@ -19,7 +19,7 @@ use Rattle.generational_core.specs.State.{State, IsSound}
 use Rattle.generational_core.specs.Steps.{Meets}
 use Rattle.generational_core.specs.declared.boxes.GenerationalBox.{GenerationalBox}
 use Rattle.generational_core.specs.declared.boxes.GenerationalPointer.{GenerationalPointer}
-use Rattle.generational_core.specs.declared.error.Location.{Location}
+use Rattle.generational_errors.specs.declared.error.Location.{Location}
 use Rattle.generational_core.proofs.machine.Calling.{made, made_apart, seen_reached, sets}
 use Rattle.generational_core.proofs.machine.Ends.{some_live}
 use Rattle.generational_core.proofs.machine.Leaving.{same_value}

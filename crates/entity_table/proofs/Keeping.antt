@@ -18,7 +18,7 @@ use Rattle.generational_core.specs.Slots.{Fits, slots}
 use Rattle.generational_core.specs.State.{State, IsSound}
 use Rattle.generational_core.specs.Steps.{Meets}
 use Rattle.generational_core.specs.declared.boxes.GenerationalPointer.{GenerationalPointer}
-use Rattle.generational_core.specs.declared.error.Location.{Location}
+use Rattle.generational_errors.specs.declared.error.Location.{Location}
 use Rattle.generational_core.proofs.machine.Bounding.{fresh_bounded, meets_bounded}
 use Rattle.generational_core.proofs.machine.Boxing.{ended, reached_boxed}
 use Rattle.generational_core.proofs.machine.Calling.{made, seen_reached, unseen}

@@ -19,7 +19,7 @@ use Rattle.generational_core.specs.Slots.{Fits, slots_of, slots, last_name, is_l
 use Rattle.generational_core.specs.State.{State, IsSound, IsGiven}
 use Rattle.generational_core.specs.Steps.{Meets}
 use Rattle.generational_core.specs.declared.boxes.GenerationalPointer.{GenerationalPointer}
-use Rattle.generational_core.specs.declared.error.Location.{Location}
+use Rattle.generational_errors.specs.declared.error.Location.{Location}
 use Rattle.generational_core.proofs.machine.Bounding.{IsIn, IsLast, get_lasts, lasts_insert}
 use Rattle.generational_core.proofs.machine.Changes.{is_making}
 use Rattle.generational_core.proofs.machine.Soundness.{live_before}

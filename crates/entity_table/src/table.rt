@@ -4,7 +4,7 @@ ghost use Rattle.std.specs.Prelude.{◌≡◌, ◌↔◌, ◌⊎◌, ◌<◌, �
 ghost use Rattle.std.specs.Prelude.{IfOk, OnOk, IfErr, OnErr, IsErr, swap_remove, slice_get};
 ghost use Rattle.std.specs.Fn.{FnReturnsAt};
 ghost use Rattle.generational_core.specs.Conditions.{IsFresh};
-ghost use Rattle.generational_core.specs.declared.error.StoreError.TheVariants.{OutOfMemory};
+ghost use Rattle.generational_errors.specs.declared.error.StoreError.TheVariants.{OutOfMemory};
 ghost use Rattle.entity_table.specs.declared.entity.Entity.{Entity};
 ghost use Rattle.entity_table.specs.Entities.{spawned_at, IsOther, IsSame};
 ghost use Rattle.entity_table.specs.Tables.{TableState, element_in, WasSpawned, IsDense};

@@ -52,10 +52,10 @@ pub use Rattle.generational_core.specs.Steps.{needs_memory, no_names, takes_tick
 pub use Rattle.generational_core.specs.declared.borrow.Borrow.{Borrow}
 pub use Rattle.generational_core.specs.declared.boxes.GenerationalBoxId.{GenerationalBoxId}
 pub use Rattle.generational_core.specs.declared.boxes.GenerationalPointer.{GenerationalPointer}
-pub use Rattle.generational_core.specs.declared.error.BorrowMutError.{BorrowMutError}
-pub use Rattle.generational_core.specs.declared.error.Location.{Location}
-pub use Rattle.generational_core.specs.declared.error.StoreError.{StoreError}
-pub use Rattle.generational_core.specs.declared.error.StoreError.TheVariants.{NumbersExhausted}
-pub use Rattle.generational_core.specs.declared.error.StoreError.TheVariants.{OutOfMemory}
-pub use Rattle.generational_core.specs.declared.error.StoreError.TheVariants.{UnknownOwner}
+pub use Rattle.generational_errors.specs.declared.error.BorrowMutError.{BorrowMutError}
+pub use Rattle.generational_errors.specs.declared.error.Location.{Location}
+pub use Rattle.generational_errors.specs.declared.error.StoreError.{StoreError}
+pub use Rattle.generational_errors.specs.declared.error.StoreError.TheVariants.{NumbersExhausted}
+pub use Rattle.generational_errors.specs.declared.error.StoreError.TheVariants.{OutOfMemory}
+pub use Rattle.generational_errors.specs.declared.error.StoreError.TheVariants.{UnknownOwner}
 pub use Rattle.generational_core.specs.declared.steps.StepCall.TheVariants.{ManuallyDrop}

@@ -3,9 +3,9 @@ use Rattle.std.specs.Prelude.{◌≡◌, Bool, true, false, nat_eq, if◌then◌
 use Rattle.std.specs.Prelude.{◌<◌, ◌≤◌, Option, None, Some}
 use Rattle.std.specs.List.{IsDistinct}
 use Rattle.std.specs.FinMap as map
-use Rattle.generational_core.specs.declared.error.StoreError.{StoreError}
-use Rattle.generational_core.specs.declared.error.StoreError.TheVariants.{UnknownOwner, OutOfMemory}
-use Rattle.generational_core.specs.declared.error.StoreError.TheVariants.{NumbersExhausted}
+use Rattle.generational_errors.specs.declared.error.StoreError.{StoreError}
+use Rattle.generational_errors.specs.declared.error.StoreError.TheVariants.{UnknownOwner, OutOfMemory}
+use Rattle.generational_errors.specs.declared.error.StoreError.TheVariants.{NumbersExhausted}
 use Rattle.generational_core.specs.Names.{Name, change, is_name}
 use Rattle.generational_core.specs.Machine.{OwnerName}
 use Rattle.generational_core.specs.State.{Ownership, Owners}

@@ -4,7 +4,7 @@ ghost use Rattle.std.specs.Prelude.{◌≡◌, ◌+◌, ◌<◌, ◌∷◌, ◌+
 ghost use Rattle.std.specs.Prelude.{OnOk, OnErr, drop, length, max, slice_get, ◌-◌, ◌≤◌};
 ghost use Rattle.std.specs.Prelude.{if◌then◌else◌, is_ok, replicate, take, vec_len};
 ghost use Rattle.std.specs.FinSet as set;
-ghost use Rattle.generational_core.specs.declared.error.StoreError.TheVariants.{OutOfMemory};
+ghost use Rattle.generational_errors.specs.declared.error.StoreError.TheVariants.{OutOfMemory};
 ghost use Rattle.generational_containers.specs.Pools.{last_of, members_of};
 
 use generational_core::StoreError;

@@ -3,7 +3,7 @@
 ghost use Rattle.std.specs.Prelude.{◌≡◌, ℕ, ◌<◌, ◌≤◌, false, true, IfSome, IfNone, IfErr, OnOk};
 ghost use Rattle.std.specs.Prelude.{max, vec_capacity};
 ghost use Rattle.std.specs.FinSet as set;
-ghost use Rattle.generational_core.specs.declared.error.StoreError.TheVariants.{OutOfMemory};
+ghost use Rattle.generational_errors.specs.declared.error.StoreError.TheVariants.{OutOfMemory};
 ghost use Rattle.generational_containers.specs.Pools.{members_of};
 
 use crate::room::reserve_room;

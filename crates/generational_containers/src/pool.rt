@@ -5,7 +5,7 @@ ghost use Rattle.std.specs.Prelude.{slice_get, IfSome, IfNone, IfErr, OnOk, OnEr
 ghost use Rattle.std.specs.Prelude.{vec_capacity};
 ghost use Rattle.std.specs.Ordering.{nat_cmp};
 ghost use Rattle.std.specs.FinSet as set;
-ghost use Rattle.generational_core.specs.declared.error.StoreError.TheVariants.{OutOfMemory};
+ghost use Rattle.generational_errors.specs.declared.error.StoreError.TheVariants.{OutOfMemory};
 
 use crate::free_list::FreeList;
 use generational_core::StoreError;

@@ -4,7 +4,7 @@ ghost use Rattle.std.specs.Prelude.{◌≡◌, ◌<◌, ◌≤◌, ◌∷◌, �
 ghost use Rattle.std.specs.Prelude.{slice_get, slice_set, Some, IfErr, OnOk, OnErr};
 ghost use Rattle.std.specs.List.{list_any, filter};
 ghost use Rattle.std.specs.FinSet as set;
-ghost use Rattle.generational_core.specs.declared.error.StoreError.TheVariants.{OutOfMemory};
+ghost use Rattle.generational_errors.specs.declared.error.StoreError.TheVariants.{OutOfMemory};
 ghost use Rattle.generational_containers.specs.Borrows.{AreBelow};
 ghost use Rattle.generational_containers.specs.Table.{list_at, put_list, IsClosed, IsUsed, IsVacant};
 ghost use Rattle.generational_containers.specs.Table.{Releases};

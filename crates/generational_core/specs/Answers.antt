@@ -1,12 +1,12 @@
 -- The results of calls as answers of the machine.
 use Rattle.std.specs.Prelude.{if◌then◌else◌, Option, Some, None, Result, Ok, Err}
-use Rattle.generational_core.specs.declared.error.BorrowError.{BorrowError}
-use Rattle.generational_core.specs.declared.error.BorrowError.TheVariants as reads
-use Rattle.generational_core.specs.declared.error.BorrowMutError.{BorrowMutError}
-use Rattle.generational_core.specs.declared.error.BorrowMutError.TheVariants as writes
-use Rattle.generational_core.specs.declared.error.Refused.{Refused}
-use Rattle.generational_core.specs.declared.error.Refused.TheVariants as refused
-use Rattle.generational_core.specs.declared.error.Refusal.{Refusal}
+use Rattle.generational_errors.specs.declared.error.BorrowError.{BorrowError}
+use Rattle.generational_errors.specs.declared.error.BorrowError.TheVariants as reads
+use Rattle.generational_errors.specs.declared.error.BorrowMutError.{BorrowMutError}
+use Rattle.generational_errors.specs.declared.error.BorrowMutError.TheVariants as writes
+use Rattle.generational_errors.specs.declared.error.Refused.{Refused}
+use Rattle.generational_errors.specs.declared.error.Refused.TheVariants as refused
+use Rattle.generational_errors.specs.declared.error.Refusal.{Refusal}
 use Rattle.generational_core.specs.declared.boxes.GenerationalPointer.{GenerationalPointer}
 use Rattle.generational_core.specs.declared.boxes.GenerationalBox.{GenerationalBox}
 use Rattle.generational_core.specs.Cells.{Content}
@@ -15,7 +15,7 @@ use Rattle.generational_core.specs.Names.{Name}
 use Rattle.generational_core.specs.State.{State, content_at}
 use Rattle.generational_core.specs.Borrowing.{BorrowRefusal, Guard}
 use Rattle.generational_core.specs.Borrowing.BorrowRefusal.{Dropped, BeingRead, BeingWritten}
-use Rattle.generational_core.specs.declared.error.StoreError.{StoreError}
+use Rattle.generational_errors.specs.declared.error.StoreError.{StoreError}
 use Rattle.generational_core.specs.Machine.{Answer, OwnerName, knows_reader}
 use Rattle.generational_core.specs.Machine.Answer.{Made, Owned, Reads, Writes, Back, Done, BorrowRefused}
 use Rattle.generational_core.specs.Machine.Answer.{Refused as refuses}

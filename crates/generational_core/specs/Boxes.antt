@@ -1,7 +1,7 @@
 -- Boxes and their names.
 use Rattle.std.specs.Prelude.{ℕ, Bool, nat_eq}
 use Rattle.std.specs.Ordering.{eq_of_both, on}
-use Rattle.generational_core.specs.declared.error.Location.{Location}
+use Rattle.generational_errors.specs.declared.error.Location.{Location}
 use Rattle.generational_core.specs.declared.boxes.GenerationalBoxId.{GenerationalBoxId}
 use Rattle.generational_core.specs.declared.boxes.GenerationalPointer.{GenerationalPointer}
 use Rattle.generational_core.specs.Names.{Name}

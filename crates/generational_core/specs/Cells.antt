@@ -1,6 +1,6 @@
 -- What a live cell is.
 use Rattle.std.specs.Prelude.{Bool, true, false, List, Option, None, Some}
-use Rattle.generational_core.specs.declared.error.Location.{Location}
+use Rattle.generational_errors.specs.declared.error.Location.{Location}
 use Rattle.generational_core.specs.declared.borrow.Borrow.{Borrow}
 use Rattle.generational_core.specs.Names.{Name, is_name}
 

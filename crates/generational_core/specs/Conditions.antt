@@ -4,7 +4,7 @@ use Rattle.std.specs.Prelude.{Some, None, is_some}
 use Rattle.generational_core.specs.State.{Owners, State, Ownership, IsGiven, HasTargets}
 use Rattle.std.specs.FinMap as map
 use Rattle.std.specs.FinSet as set
-use Rattle.generational_core.specs.declared.error.Location.{Location}
+use Rattle.generational_errors.specs.declared.error.Location.{Location}
 use Rattle.generational_core.specs.Names.{Name, NameMap, among}
 use Rattle.generational_core.specs.Cells.{Cell, is_shared}
 use Rattle.generational_core.specs.Cells.Cell.{Ref}

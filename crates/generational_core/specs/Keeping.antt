@@ -2,7 +2,7 @@
 use Rattle.generational_core.specs.Cells.{location_of}
 use Rattle.std.specs.Prelude.{◌≡◌, true, Option, Some, is_some}
 use Rattle.std.specs.FinMap as map
-use Rattle.generational_core.specs.declared.error.Location.{Location}
+use Rattle.generational_errors.specs.declared.error.Location.{Location}
 use Rattle.generational_core.specs.declared.boxes.GenerationalPointer.{GenerationalPointer}
 use Rattle.generational_core.specs.Names.{Name}
 use Rattle.generational_core.specs.State.{State}

@@ -5,7 +5,7 @@ use Rattle.std.specs.Ordering.{nat_cmp}
 use Rattle.std.specs.List.{list_any, IsDistinct, AllByRecursion}
 use Rattle.std.specs.FinMap as map
 use Rattle.std.specs.FinSet as set
-use Rattle.generational_core.specs.declared.error.Location.{Location}
+use Rattle.generational_errors.specs.declared.error.Location.{Location}
 use Rattle.generational_core.specs.Names.{Name, Names, NameMap}
 use Rattle.generational_core.specs.Cells.{Content, Cell, content_of, refers_to, is_shared}
 use Rattle.generational_core.specs.Cells.Content.{Here, Lent}

@@ -5,9 +5,9 @@ use Rattle.std.specs.Prelude.{◌⊎◌, nat_eq, nat_lt, [], Option, None, Some}
 use Rattle.generational_core.specs.Machine.{cell_at, Action, Answer, NewNames, Outcome, act, add_cell}
 use Rattle.generational_core.specs.Cells.{content_of}
 use Rattle.std.specs.FinSet as set
-use Rattle.generational_core.specs.declared.error.StoreError.{StoreError}
-use Rattle.generational_core.specs.declared.error.StoreError.TheVariants.{NumbersExhausted}
-use Rattle.generational_core.specs.declared.error.StoreError.TheVariants.{OutOfMemory, UnknownOwner}
+use Rattle.generational_errors.specs.declared.error.StoreError.{StoreError}
+use Rattle.generational_errors.specs.declared.error.StoreError.TheVariants.{NumbersExhausted}
+use Rattle.generational_errors.specs.declared.error.StoreError.TheVariants.{OutOfMemory, UnknownOwner}
 use Rattle.generational_core.specs.Names.{Name}
 use Rattle.generational_core.specs.Cells.Content.{Here}
 use Rattle.generational_core.specs.Cells.Cell.{Shared}

@@ -1,40 +1,12 @@
--- What the errors print, and what one error is as another.
-use Rattle.std.specs.Prelude.{ℕ, List, ◌∷◌, ◌++◌, Option, Some, codes, Bool, nat_eq}
-use Rattle.std.specs.Cmp.Lexicographic.{pointwise}
-use Rattle.std.specs.Ordering.{eq_of_both, on}
-use Rattle.std.specs.List.{flat_map}
+-- What ids, guards, owners and stores print.
+use Rattle.std.specs.Prelude.{ℕ, List, ◌∷◌, ◌++◌, codes}
 use Rattle.std.specs.Fmt.{decimal}
 use Rattle.generational_core.specs.declared.boxes.GenerationalBoxId.{GenerationalBoxId}
-use Rattle.generational_core.specs.declared.error.Location.{Location}
-use Rattle.generational_core.specs.declared.error.BorrowError.{BorrowError}
-use Rattle.generational_core.specs.declared.error.BorrowError.TheVariants as reads
-use Rattle.generational_core.specs.declared.error.BorrowMutError.{BorrowMutError}
-use Rattle.generational_core.specs.declared.error.BorrowMutError.TheVariants as writes
-use Rattle.generational_core.specs.declared.error.StoreError.{StoreError}
-use Rattle.generational_core.specs.declared.error.StoreError.TheVariants.{OutOfMemory}
-use Rattle.generational_core.specs.declared.error.StoreError.TheVariants.{NumbersExhausted}
-use Rattle.generational_core.specs.declared.error.StoreError.TheVariants.{UnknownOwner}
-use Rattle.generational_core.specs.declared.error.Refused.{Refused}
-use Rattle.generational_core.specs.declared.error.Refused.TheVariants as refused
 use Rattle.generational_core.specs.Names.{Name}
 use Rattle.generational_core.specs.State.{State}
 use Rattle.generational_core.specs.Borrowing.{Guard}
 use Rattle.generational_core.specs.Machine.{OwnerName}
 use Rattle.generational_core.specs.Slots.{slots, free}
-
--- file:line:column, in decimal
-abbrev pub location_text : Location → List ℕ
-location_text l = l.file.now ++ (58 ∷ (decimal l.line ++ (58 ∷ decimal l.column)))
-
--- the same text of the file, the same line and the same column
-abbrev pub same_location : Location → Location → Bool
-same_location =
-    eq_of_both
-    (on (λ l. l.file.now) (pointwise nat_eq))
-    (eq_of_both (on (λ l. l.line) nat_eq) (on (λ l. l.column) nat_eq))
-
-abbrev pub same_locations : List Location → List Location → Bool
-same_locations = pointwise same_location
 
 -- slot@generation, in decimal
 abbrev pub id_text : GenerationalBoxId → List ℕ
@@ -59,47 +31,3 @@ abbrev pub store_text : {T : Type 0} → State T → List ℕ
 store_text S =
     codes "store " ++ (decimal S.number ++ (codes ": " ++ (decimal (slots S)
     ++ (codes " slots, " ++ (decimal (free S) ++ codes " free")))))
-
-abbrev pub dropped_text : Location → List ℕ
-dropped_text l =
-    codes "Failed to borrow because the value was dropped.created_at: " ++ location_text l
-
-abbrev pub borrowed_mut_text : Location → List ℕ
-borrowed_mut_text l =
-    codes "Failed to borrow because the value was already borrowed mutably.borrowed_mut_at: "
-    ++ location_text l
-
--- one tab and the location, for each location in order
-abbrev pub borrowed_text : List Location → List ℕ
-borrowed_text ls =
-    codes "Failed to borrow mutably because the value was already borrowed immutably.borrowed_at:"
-    ++ flat_map (λ l. 9 ∷ location_text l) ls
-
-abbrev pub borrow_error_text : BorrowError → List ℕ
-borrow_error_text (reads.Dropped e) = dropped_text e.created_at
-borrow_error_text (reads.AlreadyBorrowedMut e) = borrowed_mut_text e.borrowed_mut_at
-
-abbrev pub borrow_mut_error_text : BorrowMutError → List ℕ
-borrow_mut_error_text (writes.Dropped e) = dropped_text e.created_at
-borrow_mut_error_text (writes.AlreadyBorrowed e) = borrowed_text e
-borrow_mut_error_text (writes.AlreadyBorrowedMut e) = borrowed_mut_text e.borrowed_mut_at
-
-abbrev pub store_error_text : StoreError → List ℕ
-store_error_text OutOfMemory = codes "out of memory"
-store_error_text NumbersExhausted = codes "numbers exhausted"
-store_error_text UnknownOwner = codes "unknown owner"
-
--- the same variant with the same content
-abbrev pub as_borrow_mut : BorrowError → BorrowMutError
-as_borrow_mut (reads.Dropped e) = writes.Dropped e
-as_borrow_mut (reads.AlreadyBorrowedMut e) = writes.AlreadyBorrowedMut e
-
--- the same refusal, of a write or an end
-abbrev pub as_refused_mut : Refused BorrowError → Refused BorrowMutError
-as_refused_mut (refused.Borrow e) = refused.Borrow (as_borrow_mut e)
-as_refused_mut (refused.Store e) = refused.Store e
-
--- the text of what a refusal holds
-abbrev pub refused_output : {E : Type 0} → (E → Option (List ℕ)) → Refused E → Option (List ℕ)
-refused_output shown (refused.Borrow e) = shown e
-refused_output shown (refused.Store e) = Some (store_error_text e)

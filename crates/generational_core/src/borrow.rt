@@ -1,6 +1,6 @@
 //! A borrow that stands.
 
-use crate::error::Location;
+use generational_errors::Location;
 
 /// A borrow that stands: its ticket, and the location where it was asked for.
 #[derive(Clone, Copy, Debug, PartialEq, Eq)]

@@ -1,14 +1,14 @@
 //! Ids, pointers and boxes.
 
 ghost use Rattle.std.specs.Prelude.{◌≡◌, Some, ⊤};
-ghost use Rattle.generational_core.specs.declared.error.StoreError.TheVariants.{NumbersExhausted};
+ghost use Rattle.generational_errors.specs.declared.error.StoreError.TheVariants.{NumbersExhausted};
 ghost use Rattle.generational_core.specs.Boxes.{box_of};
 ghost use Rattle.generational_core.specs.Answers.{pointer_of};
 ghost use Rattle.generational_core.specs.Texts.{id_text};
 
-use crate::error::{BorrowMutResult, BorrowResult, Location, Refusal, Refused, StoreError};
 use crate::references::{GenerationalRef, GenerationalRefMut};
 use crate::storage::Storage;
+use generational_errors::{BorrowMutResult, BorrowResult, Location, Refusal, Refused, StoreError};
 use std::alloc::AllocError;
 use std::fmt;
 use std::marker::PhantomData;

@@ -1,5 +1,5 @@
-//! What every storage of generational boxes has in common: boxes, guards and owners, their errors,
-//! and the traits of storages.
+//! What every storage of generational boxes has in common: boxes, guards and owners, and the traits
+//! of storages.
 //!
 //! Its definitions, in `specs/`, are those of the abstract machine that `docs/machine.md` tells of
 //! at the repository's root. The clauses of [`AnyStorage`] and [`Storage`] say that each call is a
@@ -10,7 +10,6 @@
 
 mod borrow;
 mod boxes;
-mod error;
 mod owner;
 pub mod parts;
 mod references;
@@ -19,12 +18,12 @@ mod steps;
 mod storage;
 
 pub use crate::boxes::{GenerationalBox, GenerationalBoxId, GenerationalPointer};
-pub use crate::error::{
-    AlreadyBorrowedError, AlreadyBorrowedMutError, BorrowError, BorrowMutError, BorrowMutResult,
-    BorrowResult, Location, Refusal, Refused, StoreError, ValueDroppedError,
-};
 pub use crate::owner::{Owner, OwnerId};
 pub use crate::references::{GenerationalRef, GenerationalRefMut, Mut, MutPart, Ref};
 pub use crate::rows::BaseRow;
 pub use crate::steps::StepCall;
 pub use crate::storage::{AnyStorage, Storage};
+pub use generational_errors::{
+    AlreadyBorrowedError, AlreadyBorrowedMutError, BorrowError, BorrowMutError, BorrowMutResult,
+    BorrowResult, Location, Refusal, Refused, StoreError, ValueDroppedError,
+};

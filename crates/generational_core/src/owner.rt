@@ -4,8 +4,8 @@ ghost use Rattle.std.specs.Prelude.{◌≡◌, Some, IfErr};
 ghost use Rattle.generational_core.specs.Texts.{owner_text};
 
 use crate::boxes::{GenerationalBox, box_at};
-use crate::error::{BorrowMutError, BorrowResult, Location, Refusal, Refused, StoreError};
 use crate::storage::{AnyStorage, Storage};
+use generational_errors::{BorrowMutError, BorrowResult, Location, Refusal, Refused, StoreError};
 use std::fmt;
 use std::marker::Model;
 

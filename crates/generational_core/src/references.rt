@@ -6,8 +6,8 @@ ghost use Rattle.generational_core.specs.Boxes.{name_in};
 ghost use Rattle.generational_core.specs.Texts.{reader_text, writer_text};
 
 use crate::boxes::GenerationalBoxId;
-use crate::error::StoreError;
 use crate::storage::Storage;
+use generational_errors::StoreError;
 use std::marker::{Model, PhantomData};
 use std::ops::{Deref, DerefMut};
 use std::{fmt, mem};
@@ -169,7 +169,7 @@ impl<'a, T> Deref for Ref<'a, T> {
 impl<'a, T> Ref<'a, T> {
     ghost use Rattle.std.specs.Prelude.{◌≡◌, IfOk, IfErr, option_copied};
     ghost use Rattle.std.specs.Fn.{FnOnceReturnsAt};
-    ghost use Rattle.generational_core.specs.declared.error.StoreError.TheVariants.{OutOfMemory};
+    ghost use Rattle.generational_errors.specs.declared.error.StoreError.TheVariants.{OutOfMemory};
 
     /// The view of what the closure finds in the value, as a part of it. The closure is called
     /// once. Takes no memory of its own.

@@ -1,7 +1,7 @@
 //! What a store has, in rows.
 
 use crate::boxes::GenerationalBoxId;
-use crate::error::Location;
+use generational_errors::Location;
 
 /// A row of what a store has, without values: a slot, a live cell, a borrow that stands, or a part
 /// of an owner's record.

@@ -1,8 +1,8 @@
 //! Calls without their values, as a history records them.
 
 use crate::boxes::GenerationalPointer;
-use crate::error::Location;
 use crate::owner::OwnerId;
+use generational_errors::Location;
 
 /// A call of a store, without a value that was handed in. A guard is named by its ticket, and an
 /// owner by its id.

@@ -17,16 +17,16 @@ ghost use Rattle.generational_core.specs.StepCalls.{is_free, is_ready, target_of
 ghost use Rattle.generational_core.specs.Answers.{make_answer, owner_answer, release_answer};
 ghost use Rattle.generational_core.specs.Answers.{read_answer, write_answer, back_answer};
 ghost use Rattle.generational_core.specs.Answers.{reference_answer, end_answer, value_behind};
-ghost use Rattle.generational_core.specs.declared.error.StoreError.TheVariants.{OutOfMemory};
+ghost use Rattle.generational_errors.specs.declared.error.StoreError.TheVariants.{OutOfMemory};
 
 use crate::boxes::{GenerationalBoxId, GenerationalPointer};
-use crate::error::{
-    BorrowMutError, BorrowMutResult, BorrowResult, Location, Refusal, Refused, StoreError,
-};
 use crate::owner::Owner;
 use crate::references::{GenerationalRef, GenerationalRefMut};
 use crate::rows::BaseRow;
 use crate::steps::StepCall;
+use generational_errors::{
+    BorrowMutError, BorrowMutResult, BorrowResult, Location, Refusal, Refused, StoreError,
+};
 
 /// What a store of values of one type does, whatever it keeps.
 ///

@@ -3,11 +3,11 @@ use Rattle.std.specs.Prelude.{◌≡◌, ℕ, Bool, true, false, ◌&&◌, not, 
 use Rattle.std.specs.Prelude.{◌∷◌, ◌++◌, Option, Some, None, Result, Ok, Err, map as list_map}
 use Rattle.std.specs.Prelude.{is_none, slice_get, slice_set}
 use Rattle.std.specs.List.{filter}
-use Rattle.generational_core.specs.declared.error.Location.{Location}
-use Rattle.generational_core.specs.declared.error.BorrowMutError.{BorrowMutError}
-use Rattle.generational_core.specs.declared.error.StoreError.TheVariants.{OutOfMemory}
-use Rattle.generational_core.specs.declared.error.Refused.{Refused}
-use Rattle.generational_core.specs.declared.error.Refused.TheVariants as refused
+use Rattle.generational_errors.specs.declared.error.Location.{Location}
+use Rattle.generational_errors.specs.declared.error.BorrowMutError.{BorrowMutError}
+use Rattle.generational_errors.specs.declared.error.StoreError.TheVariants.{OutOfMemory}
+use Rattle.generational_errors.specs.declared.error.Refused.{Refused}
+use Rattle.generational_errors.specs.declared.error.Refused.TheVariants as refused
 use Rattle.generational_core.specs.declared.borrow.Borrow.{Borrow}
 use Rattle.generational_entries.specs.declared.entry.Kind.{Kind}
 use Rattle.generational_entries.specs.declared.entry.Kind.TheVariants as kind

@@ -12,7 +12,7 @@ ghost use Rattle.generational_core.specs.Borrowing.{read_refusal, write_refusal}
 ghost use Rattle.generational_core.specs.Borrowing.BorrowRefusal.{BeingWritten};
 ghost use Rattle.generational_core.specs.Machine.{has_reader, has_writer};
 ghost use Rattle.generational_core.specs.Slots.{last_generation};
-ghost use Rattle.generational_core.specs.declared.error.StoreError.TheVariants.{OutOfMemory};
+ghost use Rattle.generational_errors.specs.declared.error.StoreError.TheVariants.{OutOfMemory};
 ghost use Rattle.generational_entries.specs.declared.entry.StorageEntryData.TheVariants as content;
 ghost use Rattle.generational_containers.specs.Borrows.{AreBelow};
 ghost use Rattle.generational_containers.specs.Table.{no_index};

@@ -5,7 +5,7 @@ use Rattle.std.specs.Prelude.{option_map, map as list_map}
 use Rattle.std.specs.List.{AllByRecursion}
 use Rattle.std.specs.FinMap as map
 use Rattle.std.specs.FinSet as set
-use Rattle.generational_core.specs.declared.error.Location.{Location}
+use Rattle.generational_errors.specs.declared.error.Location.{Location}
 use Rattle.generational_core.specs.declared.boxes.GenerationalPointer.{GenerationalPointer}
 use Rattle.generational_core.specs.Names.{Name, NameMap}
 use Rattle.generational_core.specs.declared.borrow.Borrow.{Borrow}

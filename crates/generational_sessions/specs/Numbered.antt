@@ -4,7 +4,7 @@ use Rattle.std.specs.Prelude.{◌≡◌, ◌+◌, true, List, [], Option, None, 
 use Rattle.std.specs.Prelude.{ℕ, ◌<◌, ◌∷◌}
 use Rattle.std.specs.List.{slice_index_or, AllByRecursion}
 use Rattle.std.specs.FinSet as set
-use Rattle.generational_core.specs.declared.error.StoreError.{StoreError}
+use Rattle.generational_errors.specs.declared.error.StoreError.{StoreError}
 use Rattle.generational_core.specs.declared.boxes.GenerationalBoxId.{GenerationalBoxId}
 use Rattle.generational_sessions.specs.declared.calls.Call.{Call}
 use Rattle.generational_core.specs.Names.{Name, Names, among}

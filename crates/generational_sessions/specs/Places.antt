@@ -5,11 +5,11 @@ use Rattle.generational_sessions.specs.declared.places.Thing.{Thing}
 use Rattle.generational_sessions.specs.declared.places.Thing.TheVariants as thing
 use Rattle.generational_sessions.specs.declared.calls.Reply.{Reply}
 use Rattle.generational_sessions.specs.declared.calls.Reply.TheVariants as reply
-use Rattle.generational_core.specs.declared.error.BorrowError.{BorrowError}
-use Rattle.generational_core.specs.declared.error.BorrowMutError.{BorrowMutError}
-use Rattle.generational_core.specs.declared.error.Refusal.{Refusal}
-use Rattle.generational_core.specs.declared.error.Refused.{Refused}
-use Rattle.generational_core.specs.declared.error.Refused.TheVariants as refused
+use Rattle.generational_errors.specs.declared.error.BorrowError.{BorrowError}
+use Rattle.generational_errors.specs.declared.error.BorrowMutError.{BorrowMutError}
+use Rattle.generational_errors.specs.declared.error.Refusal.{Refusal}
+use Rattle.generational_errors.specs.declared.error.Refused.{Refused}
+use Rattle.generational_errors.specs.declared.error.Refused.TheVariants as refused
 use Rattle.generational_core.specs.Answers.{pointer_of, refusal_of_read_error, refusal_of_error}
 use Rattle.generational_sessions.specs.declared.calls.Call.{Call}
 use Rattle.generational_core.specs.State.{State}

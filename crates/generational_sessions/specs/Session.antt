@@ -2,8 +2,8 @@
 use Rattle.std.specs.Prelude.{◌≡◌, ℕ, Bool, true, false, if◌then◌else◌, nat_eq, List, [], ◌∷◌, ◌++◌}
 use Rattle.std.specs.Prelude.{Option, None, Some, slice_set}
 use Rattle.std.specs.List.{slice_index_or}
-use Rattle.generational_core.specs.declared.error.Location.{Location}
-use Rattle.generational_core.specs.declared.error.StoreError.{StoreError}
+use Rattle.generational_errors.specs.declared.error.Location.{Location}
+use Rattle.generational_errors.specs.declared.error.StoreError.{StoreError}
 use Rattle.generational_core.specs.declared.boxes.GenerationalPointer.{GenerationalPointer}
 use Rattle.generational_core.specs.declared.boxes.GenerationalBoxId.{GenerationalBoxId}
 use Rattle.generational_sessions.specs.declared.calls.BoxAt.{BoxAt}

@@ -2,10 +2,10 @@
 -- finds the box, or the owner, in the struct.
 use Rattle.std.specs.Prelude.{Result, Ok, Err}
 use Rattle.generational_core.specs.declared.boxes.GenerationalPointer.{GenerationalPointer}
-use Rattle.generational_core.specs.declared.error.BorrowError.{BorrowError}
-use Rattle.generational_core.specs.declared.error.Refusal.{Refusal}
-use Rattle.generational_core.specs.declared.error.Refused as error
-use Rattle.generational_core.specs.declared.error.StoreError.{StoreError}
+use Rattle.generational_errors.specs.declared.error.BorrowError.{BorrowError}
+use Rattle.generational_errors.specs.declared.error.Refusal.{Refusal}
+use Rattle.generational_errors.specs.declared.error.Refused as error
+use Rattle.generational_errors.specs.declared.error.StoreError.{StoreError}
 use Rattle.generational_core.specs.Answers.{read_refused}
 use Rattle.generational_core.specs.Machine.{Answer, OwnerName}
 use Rattle.generational_core.specs.Machine.Answer.{Made, Owned, Refused}

@@ -43,8 +43,8 @@ pub use Rattle.generational_core.specs.Slots.{retired, slots, slots_of}
 pub use Rattle.generational_core.specs.State.{Owners, State, content_at}
 pub use Rattle.generational_core.specs.State.{is_named}
 pub use Rattle.generational_core.specs.Steps.{IsNew}
-pub use Rattle.generational_core.specs.declared.error.BorrowMutError.{BorrowMutError}
-pub use Rattle.generational_core.specs.declared.error.Location.{Location}
-pub use Rattle.generational_core.specs.declared.error.StoreError.{StoreError}
-pub use Rattle.generational_core.specs.declared.error.StoreError.TheVariants.{OutOfMemory}
-pub use Rattle.generational_core.specs.declared.error.StoreError.TheVariants.{UnknownOwner}
+pub use Rattle.generational_errors.specs.declared.error.BorrowMutError.{BorrowMutError}
+pub use Rattle.generational_errors.specs.declared.error.Location.{Location}
+pub use Rattle.generational_errors.specs.declared.error.StoreError.{StoreError}
+pub use Rattle.generational_errors.specs.declared.error.StoreError.TheVariants.{OutOfMemory}
+pub use Rattle.generational_errors.specs.declared.error.StoreError.TheVariants.{UnknownOwner}

@@ -9,7 +9,7 @@ use Rattle.std.specs.Ordering.{nat_cmp}
 use Rattle.std.specs.FinMap as map
 use Rattle.std.specs.FinSet as set
 use Rattle.generational_core.specs.Names.{Name, NameMap, Names}
-use Rattle.generational_core.specs.declared.error.Location.{Location}
+use Rattle.generational_errors.specs.declared.error.Location.{Location}
 use Rattle.generational_core.specs.Borrowing.{BorrowRefusal, fill, leads_to, read_refusal, refusal_at}
 use Rattle.generational_core.specs.Borrowing.{write_refusal}
 use Rattle.generational_core.specs.Borrowing.BorrowRefusal.{Dropped}
@@ -18,8 +18,8 @@ use Rattle.generational_core.specs.Cells.Cell.{Value, Ref}
 use Rattle.generational_core.specs.State.{State, Owners, content_at}
 use Rattle.generational_core.specs.Machine.{add_cell, Outcome}
 use Rattle.generational_core.specs.Machine.Answer.{Done, BorrowRefused}
-use Rattle.generational_core.specs.declared.error.BorrowMutError.{BorrowMutError}
-use Rattle.generational_core.specs.declared.error.Refused.{Refused}
+use Rattle.generational_errors.specs.declared.error.BorrowMutError.{BorrowMutError}
+use Rattle.generational_errors.specs.declared.error.Refused.{Refused}
 use Rattle.generational_core.specs.Slots.{last_generation}
 use Rattle.generational_core.specs.Steps.{IsNew}
 use Rattle.generational_entries.specs.Entry.{Entry, FoundBorrowed, cell_of, is_live}

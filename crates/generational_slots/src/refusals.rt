@@ -1,9 +1,9 @@
 //! The answers to calls of boxes that reach nothing.
 
 ghost use Rattle.std.specs.Prelude.{◌≡◌};
-ghost use Rattle.generational_core.specs.declared.error.Refused.TheVariants as refused;
-ghost use Rattle.generational_core.specs.declared.error.BorrowError.TheVariants as reads;
-ghost use Rattle.generational_core.specs.declared.error.BorrowMutError.TheVariants as writes;
+ghost use Rattle.generational_errors.specs.declared.error.Refused.TheVariants as refused;
+ghost use Rattle.generational_errors.specs.declared.error.BorrowError.TheVariants as reads;
+ghost use Rattle.generational_errors.specs.declared.error.BorrowMutError.TheVariants as writes;
 
 use generational_core::{BorrowError, BorrowMutError, Location, Refused, ValueDroppedError};
 

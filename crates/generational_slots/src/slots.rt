@@ -8,7 +8,7 @@ ghost use Rattle.std.specs.Prelude.{map as list_map};
 ghost use Rattle.std.specs.List.{IsDistinct};
 ghost use Rattle.std.specs.FinMap as map;
 ghost use Rattle.generational_core.specs.declared.boxes.GenerationalPointer.{GenerationalPointer};
-ghost use Rattle.generational_core.specs.declared.error.StoreError.TheVariants.{OutOfMemory};
+ghost use Rattle.generational_errors.specs.declared.error.StoreError.TheVariants.{OutOfMemory};
 ghost use Rattle.generational_core.specs.Answers.{refusal_of_read_error};
 ghost use Rattle.generational_core.specs.Borrowing.{fill, read_refusal, write_refusal};
 ghost use Rattle.generational_core.specs.Boxes.{box_of, name_of};

@@ -5,7 +5,7 @@ use Rattle.std.proofs.Common.{arith, inl, inr, IfSome}
 use Rattle.std.specs.Prelude.{option_to_list}
 use Rattle.std.proofs.lemmas.Bool.{true≢false}
 use Rattle.std.specs.FinMap as map
-use Rattle.generational_core.specs.declared.error.Location.{Location}
+use Rattle.generational_errors.specs.declared.error.Location.{Location}
 use Rattle.generational_core.specs.declared.steps.StepCall.{StepCall}
 use Rattle.generational_core.specs.Names.{Name, name_cmp}
 use Rattle.generational_core.specs.Cells.{Cell}

@@ -1,7 +1,7 @@
 //! What lies under the lock.
 
 ghost use Rattle.std.specs.Prelude.{◌≡◌, ◌<◌, [], IfOk, IfErr, OnOk, OnErr, option_copied};
-ghost use Rattle.generational_core.specs.declared.error.StoreError.TheVariants.{OutOfMemory};
+ghost use Rattle.generational_errors.specs.declared.error.StoreError.TheVariants.{OutOfMemory};
 ghost use Rattle.generational_core.specs.declared.steps.StepCall.TheVariants as call;
 ghost use Rattle.generational_core.specs.Conditions.{fresh};
 ghost use Rattle.generational_core.specs.Answers.{value_behind};

@@ -2,8 +2,8 @@
 
 ghost use Rattle.std.specs.Prelude.{◌≡◌, ◌≢◌, ◌+◌, ◌%◌, ◌^◌, ◌⊎◌, ℕ, [], Some, IfSome, IfOk, IfErr};
 ghost use Rattle.generational_core.specs.declared.boxes.GenerationalPointer.{GenerationalPointer};
-ghost use Rattle.generational_core.specs.declared.error.Refused.TheVariants as refused;
-ghost use Rattle.generational_core.specs.declared.error.StoreError.TheVariants.{NumbersExhausted};
+ghost use Rattle.generational_errors.specs.declared.error.Refused.TheVariants as refused;
+ghost use Rattle.generational_errors.specs.declared.error.StoreError.TheVariants.{NumbersExhausted};
 ghost use Rattle.generational_core.specs.Answers.{end_refused};
 ghost use Rattle.generational_core.specs.Borrowing.{reach};
 ghost use Rattle.generational_core.specs.Boxes.{name_of};

@@ -1,7 +1,7 @@
 //! Trees, and handles of their nodes.
 
 ghost use Rattle.std.specs.Prelude.{◌≡◌, ◌⊎◌, Err, IsErr};
-ghost use Rattle.generational_core.specs.declared.error.StoreError.TheVariants.{OutOfMemory};
+ghost use Rattle.generational_errors.specs.declared.error.StoreError.TheVariants.{OutOfMemory};
 ghost use Rattle.scene_tree.specs.declared.node.TreeError.TheVariants as error;
 ghost use Rattle.scene_tree.specs.Nodes.{made_at};
 ghost use Rattle.scene_tree.specs.Trees.{WasMade};

@@ -11,8 +11,8 @@ use Rattle.std.specs.FinMap.{find, put, is_sorted}
 use Rattle.std.specs.FinSet as set
 use Rattle.generational_core.specs.declared.borrow.Borrow.{Borrow}
 use Rattle.generational_core.specs.declared.boxes.GenerationalPointer.{GenerationalPointer}
-use Rattle.generational_core.specs.declared.error.Location.{Location}
-use Rattle.generational_core.specs.declared.error.StoreError.TheVariants.{NumbersExhausted}
+use Rattle.generational_errors.specs.declared.error.Location.{Location}
+use Rattle.generational_errors.specs.declared.error.StoreError.TheVariants.{NumbersExhausted}
 use Rattle.generational_core.specs.Names.{Name, Names, NameMap, name_cmp, change}
 use Rattle.generational_core.specs.Cells.{Cell, Content, refill}
 use Rattle.generational_core.specs.Cells.Content.{Here, Lent}

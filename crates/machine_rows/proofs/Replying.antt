@@ -13,7 +13,7 @@ use Rattle.generational_core.specs.Machine.Answer.{Refused}
 use Rattle.generational_core.specs.Names.{Name, Names, name_cmp}
 use Rattle.generational_core.specs.State.{State, Ownership}
 use Rattle.generational_core.specs.Steps.{limit_tickets}
-use Rattle.generational_core.specs.declared.error.StoreError.TheVariants.{NumbersExhausted}
+use Rattle.generational_errors.specs.declared.error.StoreError.TheVariants.{NumbersExhausted}
 use Rattle.generational_sessions.specs.declared.calls.Call.{Call}
 use Rattle.generational_sessions.specs.Session.{Held, Request, SessionReply, SessionState}
 use Rattle.generational_sessions.specs.Session.{Settles, ask, gives, reply_of, settle, spend}

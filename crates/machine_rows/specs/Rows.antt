@@ -1,7 +1,7 @@
 -- Worked rows: calls of the machine one after another, with what each of them should tell.
 use Rattle.std.specs.Prelude.{◌≡◌, ℕ, Bool, List, [], ◌∷◌, Option}
 use Rattle.std.specs.FinMap as map
-use Rattle.generational_core.specs.declared.error.Location.{Location}
+use Rattle.generational_errors.specs.declared.error.Location.{Location}
 use Rattle.generational_core.specs.declared.boxes.GenerationalPointer.{GenerationalPointer}
 use Rattle.generational_core.specs.Names.{Name}
 use Rattle.generational_core.specs.Answers.{value_behind}

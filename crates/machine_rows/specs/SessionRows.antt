@@ -1,6 +1,6 @@
 -- Rows of sessions: calls that name earlier ones by their places, with their replies.
 use Rattle.std.specs.Prelude.{◌≡◌, List, [], ◌∷◌}
-use Rattle.generational_core.specs.declared.error.Location.{Location}
+use Rattle.generational_errors.specs.declared.error.Location.{Location}
 use Rattle.generational_core.specs.Conditions.{fresh}
 use Rattle.generational_core.specs.Machine.{NewNames, act}
 use Rattle.generational_core.specs.Names.{Name}

@@ -4,7 +4,7 @@
 #![tactic(auto)]
 
 ghost use Rattle.std.specs.Prelude.{◌≡◌, ◌-◌, ◌^◌, map as list_map};
-ghost use Rattle.generational_core.specs.declared.error.Location.{Location};
+ghost use Rattle.generational_errors.specs.declared.error.Location.{Location};
 ghost use Rattle.generational_core.specs.Slots.{Fits};
 ghost use Rattle.generational_core.specs.Conditions.{fresh};
 ghost use Rattle.generational_sessions.specs.Numbered.{erase};

@@ -24,7 +24,7 @@ use Rattle.generational_core.specs.Slots.{last_name, slots, slots_of}
 use Rattle.generational_core.specs.State.{State, IsGiven, IsSound}
 use Rattle.generational_core.specs.Steps.{Meets}
 use Rattle.generational_core.specs.declared.boxes.GenerationalPointer.{GenerationalPointer}
-use Rattle.generational_core.specs.declared.error.Location.{Location}
+use Rattle.generational_errors.specs.declared.error.Location.{Location}
 use Rattle.generational_core.proofs.machine.Bounding.{IsIn, IsLast, get_lasts, lasts_insert, meets_bounded}
 use Rattle.generational_core.proofs.machine.Calling.{seen_reached}
 use Rattle.generational_core.proofs.machine.Changes.{is_making}

@@ -4,7 +4,7 @@ use Rattle.std.specs.List.{count_by}
 use Rattle.generational_core.specs.Answers.{pointer_of}
 use Rattle.generational_core.specs.Boxes.{has_same_id}
 use Rattle.generational_core.specs.declared.boxes.GenerationalPointer.{GenerationalPointer}
-use Rattle.generational_core.specs.declared.error.Location.{Location}
+use Rattle.generational_errors.specs.declared.error.Location.{Location}
 use Rattle.scene_tree.specs.declared.node.Node.{Node}
 
 module _ {T : Type 0} where

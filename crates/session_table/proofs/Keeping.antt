@@ -20,7 +20,7 @@ use Rattle.generational_core.specs.State.{State, IsSound, Ownership}
 use Rattle.generational_core.specs.Steps.{Meets}
 use Rattle.generational_core.specs.declared.boxes.GenerationalBox.{GenerationalBox}
 use Rattle.generational_core.specs.declared.boxes.GenerationalPointer.{GenerationalPointer}
-use Rattle.generational_core.specs.declared.error.Location.{Location}
+use Rattle.generational_errors.specs.declared.error.Location.{Location}
 use Rattle.generational_core.proofs.machine.Calling.{ends_owned, listed_last, lists, owned, unseen, made, seen_reached}
 use Rattle.generational_core.proofs.machine.Ends.{none≢some}
 use Rattle.generational_core.proofs.machine.Leaving.{release_leaves, same_reach}

@@ -28,7 +28,7 @@ use Rattle.generational_core.proofs.machine.Leaving.{given_other, same_value}
 use Rattle.generational_core.proofs.machine.Stepping.{made_new}
 use Rattle.generational_core.specs.Names.{Name}
 use Rattle.generational_core.specs.State.{Ownership}
-use Rattle.generational_core.specs.declared.error.Location.{Location}
+use Rattle.generational_errors.specs.declared.error.Location.{Location}
 use Rattle.generational_core.proofs.machine.Ends.{by_cond}
 use Rattle.generational_core.proofs.machine.Stepping.{meets_cases}
 

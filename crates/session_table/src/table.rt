@@ -10,7 +10,7 @@ ghost use Rattle.generational_core.specs.Leaving.{IsUnborrowed};
 ghost use Rattle.generational_core.specs.Machine.{OwnerName, ownership};
 ghost use Rattle.generational_core.specs.Names.{among};
 ghost use Rattle.generational_core.specs.Seeing.{value_in};
-ghost use Rattle.generational_core.specs.declared.error.StoreError.TheVariants.{OutOfMemory};
+ghost use Rattle.generational_errors.specs.declared.error.StoreError.TheVariants.{OutOfMemory};
 ghost use Rattle.generational_sessions.specs.Lacking.{Lacks};
 ghost use Rattle.session_table.specs.declared.entry.Entry.{Entry};
 ghost use Rattle.session_table.specs.declared.entry.PutError.TheVariants as put;

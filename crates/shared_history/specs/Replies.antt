@@ -1,16 +1,16 @@
 -- Which reply of a call is recorded, and what is recorded and counted of it.
 use Rattle.std.specs.Prelude.{ℕ, Bool, true, false, ◌&&◌, nat_eq, List, ◌∷◌, [], ◌++◌, Option, Some}
 use Rattle.std.specs.Prelude.{None, option_map, Result, Ok, Err}
-use Rattle.generational_core.specs.declared.error.BorrowMutError.{BorrowMutError}
-use Rattle.generational_core.specs.declared.error.Refused.{Refused as IsRefused}
-use Rattle.generational_core.specs.declared.error.StoreError.{StoreError}
-use Rattle.generational_core.specs.declared.error.StoreError.TheVariants.{OutOfMemory}
-use Rattle.generational_core.specs.declared.error.StoreError.TheVariants.{NumbersExhausted}
-use Rattle.generational_core.specs.declared.error.StoreError.TheVariants.{UnknownOwner}
+use Rattle.generational_errors.specs.declared.error.BorrowMutError.{BorrowMutError}
+use Rattle.generational_errors.specs.declared.error.Refused.{Refused as IsRefused}
+use Rattle.generational_errors.specs.declared.error.StoreError.{StoreError}
+use Rattle.generational_errors.specs.declared.error.StoreError.TheVariants.{OutOfMemory}
+use Rattle.generational_errors.specs.declared.error.StoreError.TheVariants.{NumbersExhausted}
+use Rattle.generational_errors.specs.declared.error.StoreError.TheVariants.{UnknownOwner}
 use Rattle.generational_core.specs.declared.steps.StepCall.{StepCall}
 use Rattle.generational_core.specs.Answers.{end_refused}
 use Rattle.generational_core.specs.Boxes.{has_same_id}
-use Rattle.generational_core.specs.Texts.{same_location}
+use Rattle.generational_errors.specs.Texts.{same_location}
 use Rattle.generational_core.specs.Borrowing.BorrowRefusal.{Dropped}
 use Rattle.generational_core.specs.declared.boxes.GenerationalBoxId.{GenerationalBoxId}
 use Rattle.generational_core.specs.declared.boxes.GenerationalPointer.{GenerationalPointer}

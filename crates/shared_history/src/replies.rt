@@ -2,7 +2,7 @@
 
 ghost use Rattle.std.specs.Prelude.{◌≡◌};
 ghost use Rattle.generational_core.specs.declared.boxes.GenerationalPointer.{GenerationalPointer};
-ghost use Rattle.generational_core.specs.declared.error.Location.{Location};
+ghost use Rattle.generational_errors.specs.declared.error.Location.{Location};
 ghost use Rattle.generational_core.specs.Answers.{back_answer, end_answer, end_refused, make_answer};
 ghost use Rattle.generational_core.specs.Answers.{owner_answer, read_answer, read_refused};
 ghost use Rattle.generational_core.specs.Answers.{reference_answer, release_answer, write_answer};

@@ -1,7 +1,7 @@
 //! What workers count of their steps.
 
 ghost use Rattle.std.specs.Prelude.{◌≡◌, ◌+◌, ◌↔◌, ◌<◌, ◌≤◌, IsTrue, MatchResult, IfOk, IfErr};
-ghost use Rattle.generational_core.specs.declared.error.StoreError.TheVariants.{OutOfMemory};
+ghost use Rattle.generational_errors.specs.declared.error.StoreError.TheVariants.{OutOfMemory};
 ghost use Rattle.shared_history.specs.Counts.{Counts, raised, merged, new_tallies};
 ghost use Rattle.step_records.specs.Kinds.{step_of};
 ghost use Rattle.step_records.specs.Records.{HasRecord, unpack};

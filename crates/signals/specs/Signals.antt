@@ -9,9 +9,9 @@ use Rattle.generational_core.specs.Seeing.{value_in}
 use Rattle.generational_core.specs.State.{State}
 use Rattle.generational_core.specs.declared.boxes.GenerationalBox.{GenerationalBox}
 use Rattle.generational_core.specs.declared.boxes.GenerationalPointer.{GenerationalPointer}
-use Rattle.generational_core.specs.declared.error.BorrowError.{BorrowError}
-use Rattle.generational_core.specs.declared.error.Refusal.{Refusal}
-use Rattle.generational_core.specs.declared.error.Refused.{Refused}
+use Rattle.generational_errors.specs.declared.error.BorrowError.{BorrowError}
+use Rattle.generational_errors.specs.declared.error.Refusal.{Refusal}
+use Rattle.generational_errors.specs.declared.error.Refused.{Refused}
 use Rattle.signals.specs.declared.signal.Signal.{Signal}
 
 module _ {T : Type 0} where

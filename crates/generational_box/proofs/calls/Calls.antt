@@ -7,8 +7,8 @@ use Rattle.std.specs.List.{list_any, filter}
 use Rattle.std.proofs.lemmas.Bool.{true≢false, false≢true, eq-eqb, ne_eqb, false_from_ne_true}
 use Rattle.std.specs.Cmp.{nat_eq_equiv}
 use Rattle.std.specs.FinMap as map
-use Rattle.generational_core.specs.declared.error.Refused.TheVariants as refused
-use Rattle.generational_core.specs.declared.error.Refused.{Refused}
+use Rattle.generational_errors.specs.declared.error.Refused.TheVariants as refused
+use Rattle.generational_errors.specs.declared.error.Refused.{Refused}
 use Rattle.generational_core.specs.Machine.{Action, Outcome, act, read_at, write_at}
 use Rattle.generational_core.specs.Machine.{next_guard, has_reader, has_writer, cell_at, unless}
 use Rattle.generational_core.specs.Machine.Answer.{Reads, Writes, Flag, Back, BorrowRefused}

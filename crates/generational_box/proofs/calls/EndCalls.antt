@@ -5,7 +5,7 @@ use Rattle.std.proofs.Common.{is_none, OnOk, OnErr}
 use Rattle.std.proofs.lemmas.Bool.{eq-eqb, ne_eqb}
 use Rattle.std.specs.FinMap as map
 use Rattle.std.specs.Option.{option_or}
-use Rattle.generational_core.specs.declared.error.Refused.{Refused}
+use Rattle.generational_errors.specs.declared.error.Refused.{Refused}
 use Rattle.generational_core.specs.Answers.{end_answer}
 use Rattle.generational_core.specs.Ending.{hindrance_at}
 use Rattle.generational_core.specs.Machine.Answer.{Done}

@@ -4,7 +4,7 @@ use Rattle.std.proofs.Common.{Option, None, Some, Err, refl, sym, ap, ◌∙◌,
 use Rattle.std.proofs.Common.{nat_eq, subst}
 use Rattle.std.proofs.lemmas.Bool.{eq-eqb, eqb-true, ne_eqb, lt-ltb, le-ltb, false≢true, true≢false}
 use Rattle.std.specs.FinMap as map
-use Rattle.generational_core.specs.declared.error.Refused.{Refused as Refusing}
+use Rattle.generational_errors.specs.declared.error.Refused.{Refused as Refusing}
 use Rattle.generational_core.specs.Machine.{OwnerName, Outcome, act, ownership, unless}
 use Rattle.generational_core.specs.Machine.Answer.{Owned, Done, Refused}
 use Rattle.generational_entries.specs.Entry.{FoundBorrowed}

@@ -3,11 +3,11 @@ use Rattle.std.proofs.Common.{◌≡◌, ◌≢◌, ℕ, Bool, true, false, cond
 use Rattle.std.proofs.Common.{Err, refl, ap, ◌∙◌, inl}
 use Rattle.std.proofs.lemmas.Bool.{eq-eqb, false≢true, ne_eqb}
 use Rattle.std.specs.FinMap as map
-use Rattle.generational_core.specs.declared.error.Refused.{Refused}
+use Rattle.generational_errors.specs.declared.error.Refused.{Refused}
 use Rattle.generational_core.specs.Answers.{end_answer, refusal_of_read_error, refusal_of_error}
-use Rattle.generational_core.specs.Texts.{as_borrow_mut}
-use Rattle.generational_core.specs.declared.error.BorrowError.{BorrowError}
-use Rattle.generational_core.specs.declared.error.BorrowError.TheVariants as reads
+use Rattle.generational_errors.specs.Texts.{as_borrow_mut}
+use Rattle.generational_errors.specs.declared.error.BorrowError.{BorrowError}
+use Rattle.generational_errors.specs.declared.error.BorrowError.TheVariants as reads
 use Rattle.generational_core.specs.Boxes.{has_same_id}
 use Rattle.generational_core.specs.Ending.{hindrance_at}
 use Rattle.generational_core.specs.Machine.{act, own_cell, point, unless}

@@ -19,8 +19,8 @@ use Rattle.generational_core.specs.Seeing.{value_in}
 use Rattle.generational_core.specs.State.{State, IsSound, IsGiven, IsBoxed, Ownership}
 use Rattle.generational_core.specs.Steps.{Meets}
 use Rattle.generational_core.specs.declared.boxes.GenerationalPointer.{GenerationalPointer}
-use Rattle.generational_core.specs.declared.error.BorrowMutError.{BorrowMutError}
-use Rattle.generational_core.specs.declared.error.Refused.{Refused}
+use Rattle.generational_errors.specs.declared.error.BorrowMutError.{BorrowMutError}
+use Rattle.generational_errors.specs.declared.error.Refused.{Refused}
 use Rattle.generational_core.proofs.maps.Maps.{name_here, name_same}
 use Rattle.generational_core.proofs.machine.Calling.{points, unseen}
 use Rattle.generational_core.proofs.machine.Changes.{held_record}

@@ -14,13 +14,14 @@ use machine.{last_cells, made_new, reads_known}
 use Rattle.generational_core.specs
 use specs.Answers.{value_behind, WriteGuard, pointer_of, box_answer, reference_box_answer}
 use specs.Answers.{read_answer, write_answer, back_answer, end_answer, owner_answer, release_answer}
-use specs.{Answers.free_read_answer, Answers.free_write_answer, declared.error.Refused.Refused}
+use specs.{Answers.free_read_answer, Answers.free_write_answer}
+use Rattle.generational_errors.specs.declared.error.Refused.{Refused}
 use Rattle.generational_core.proofs.machine.Resting.{free_stays, free_ends, read_released}
 use Rattle.generational_core.proofs.machine.Seeing.{reaches, reach_stays, value_stays}
 use Rattle.generational_core.proofs.machine.Telling.{meets_tells, ended_leads}
 use Rattle.std.specs.FinMap as map
 use Rattle.std.specs.FinSet as set
-use Rattle.generational_core.specs.declared.error.Refused.TheVariants as refused
+use Rattle.generational_errors.specs.declared.error.Refused.TheVariants as refused
 
 -- a name stands in the list that it ends
 pub listed_last : (names : List Name) (n : Name) → among (names ++ n ∷ []) n ≡ true

@@ -15,19 +15,21 @@ pub use specs.Machine.Answer.{Done, Flag, Made, Old, Owned, Reads, Refused, Borr
 pub use specs.Seeing.{Borrows, ending, LeavesBox, LeavesUnborrowed, LeavesValue, Lends, Turns}
 pub use specs.State.{content_at, IsBoxed, IsGiven, IsSound, Owners, Ownership, Stands, State}
 pub use specs.Steps.{AreNew, IsNew, last_ticket, limit_tickets, Meets, needs_memory, no_names}
-pub use specs.declared.error.StoreError.TheVariants.{NumbersExhausted, UnknownOwner}
 pub use specs.{Answers.value_at, Answers.value_of, Boxes.box_of, Cells.Cell.Value, State.tickets_at}
 pub use specs.{Borrowing.take_ticket, Borrowing.write_refusal, declared.borrow.Borrow.Borrow}
 pub use specs.{Borrowing.BorrowRefusal, Boxes.has_same_id, Cells.Cell.Shared, Steps.takes_ticket}
 pub use specs.{Borrowing.BorrowRefusal.Dropped, declared.boxes.GenerationalPointer.GenerationalPointer}
 pub use specs.{Boxes.name_of, Cells.Cell.Ref, Names.name_cmp, Names.NameMap, State.tickets_of}
-pub use specs.{Cells.Content.Here, declared.error.Refusal.Refusal, declared.steps.StepCall.StepCall}
+pub use specs.{Cells.Content.Here, declared.steps.StepCall.StepCall}
 pub use specs.{Cells.Content.Lent, Conditions.names_in, State.one_listed, Seeing.value_reached}
-pub use specs.{State.one_less, State.one_more, Keeping.location_at, Texts.location_text}
+pub use specs.{State.one_less, State.one_more, Keeping.location_at}
 pub use specs.{Keeping.Sets, Names.among, Names.Name, Names.Names, Steps.Takes, Steps.want}
-pub use specs.{declared.boxes.GenerationalBox.GenerationalBox, declared.error.StoreError.StoreError}
-pub use specs.{declared.boxes.GenerationalBoxId.GenerationalBoxId, declared.error.Location.Location}
-pub use specs.{declared.error.BorrowError.BorrowError, declared.error.BorrowMutError.BorrowMutError}
+pub use specs.declared.boxes.GenerationalBox.{GenerationalBox}
+pub use specs.declared.boxes.GenerationalBoxId.{GenerationalBoxId}
+use Rattle.generational_errors.specs.declared.error as error
+pub use error.{BorrowError.BorrowError, BorrowMutError.BorrowMutError, Location.Location}
+pub use error.{Refusal.Refusal, StoreError.StoreError}
+pub use error.StoreError.TheVariants.{NumbersExhausted, UnknownOwner}
 use Rattle.std.proofs
 pub use proofs.Common.{[], ap, arith, Bool, cond, false, inl, inr, List, None, not, Option, refl}
 pub use proofs.Common.{Some, subst, sym, take, true, ℕ, ⊎_elim, ◌++◌, ◌+◌, ◌<◌, ◌||◌, ◌∙◌, ◌∷◌, ◌≡◌}

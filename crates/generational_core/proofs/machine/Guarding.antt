@@ -28,9 +28,9 @@ use Rattle.generational_core.specs.State.{State, IsSound, content_at, tickets_of
 use Rattle.generational_core.specs.Steps.{Meets, takes_ticket}
 use Rattle.generational_core.specs.declared.borrow.Borrow.{Borrow}
 use Rattle.generational_core.specs.declared.boxes.GenerationalPointer.{GenerationalPointer}
-use Rattle.generational_core.specs.declared.error.BorrowError.{BorrowError}
-use Rattle.generational_core.specs.declared.error.Location.{Location}
-use Rattle.generational_core.specs.declared.error.Refused.{Refused}
+use Rattle.generational_errors.specs.declared.error.BorrowError.{BorrowError}
+use Rattle.generational_errors.specs.declared.error.Location.{Location}
+use Rattle.generational_errors.specs.declared.error.Refused.{Refused}
 use Rattle.generational_core.proofs.maps.Maps.{by_name, get-changed_apart, get-changed_name}
 use Rattle.generational_core.proofs.maps.Maps.{name_exact, name_total}
 use Rattle.generational_core.proofs.machine.Calling.{opens, unseen, reads_back}

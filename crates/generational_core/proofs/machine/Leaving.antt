@@ -23,7 +23,7 @@ use Rattle.generational_core.specs.Seeing.{value_in, LeavesBox, LeavesValue, Bor
 use Rattle.generational_core.specs.State.{State, IsSound, IsGiven, Ownership, content_at}
 use Rattle.generational_core.specs.Steps.{AreNew, Meets}
 use Rattle.generational_core.specs.declared.boxes.GenerationalPointer.{GenerationalPointer}
-use Rattle.generational_core.specs.declared.error.Location.{Location}
+use Rattle.generational_errors.specs.declared.error.Location.{Location}
 use Rattle.generational_core.proofs.maps.Maps.{by_name, get-insert_here, get-insert_apart, name_cases}
 use Rattle.generational_core.proofs.machine.Calling.{unseen}
 use Rattle.generational_core.proofs.machine.Changes.{Filling, IsFilling, held_record, is_making}

@@ -31,11 +31,11 @@ use Rattle.generational_core.specs.State.{State, IsSound, IsGiven, IsBoxed, Owne
 use Rattle.generational_core.specs.Steps.{Meets}
 use Rattle.generational_core.specs.declared.boxes.GenerationalBox.{GenerationalBox}
 use Rattle.generational_core.specs.declared.boxes.GenerationalPointer.{GenerationalPointer}
-use Rattle.generational_core.specs.declared.error.BorrowError.{BorrowError}
-use Rattle.generational_core.specs.declared.error.Location.{Location}
-use Rattle.generational_core.specs.declared.error.Refusal.{Refusal}
-use Rattle.generational_core.specs.declared.error.Refused as error
-use Rattle.generational_core.specs.declared.error.StoreError.{StoreError}
+use Rattle.generational_errors.specs.declared.error.BorrowError.{BorrowError}
+use Rattle.generational_errors.specs.declared.error.Location.{Location}
+use Rattle.generational_errors.specs.declared.error.Refusal.{Refusal}
+use Rattle.generational_errors.specs.declared.error.Refused as error
+use Rattle.generational_errors.specs.declared.error.StoreError.{StoreError}
 use Rattle.generational_core.proofs.maps.Maps.{by_number, get-insert_apart, get-remove_apart}
 use Rattle.generational_core.proofs.maps.Maps.{get-changed_apart, name_same}
 use Rattle.generational_core.proofs.machine.Changes.{held_record}

@@ -29,14 +29,14 @@ use Rattle.generational_core.specs.State.{State, Ownership}
 use Rattle.generational_core.specs.Steps.{Meets}
 use Rattle.generational_core.specs.declared.boxes.GenerationalBox.{GenerationalBox}
 use Rattle.generational_core.specs.declared.boxes.GenerationalPointer.{GenerationalPointer}
-use Rattle.generational_core.specs.declared.error.BorrowError.{BorrowError}
-use Rattle.generational_core.specs.declared.error.BorrowMutError.{BorrowMutError}
-use Rattle.generational_core.specs.declared.error.Location.{Location}
-use Rattle.generational_core.specs.declared.error.Refusal.{Refusal}
-use Rattle.generational_core.specs.declared.error.Refused as error
-use Rattle.generational_core.specs.declared.error.Refused.TheVariants as refused
-use Rattle.generational_core.specs.declared.error.StoreError.{StoreError}
-use Rattle.generational_core.specs.declared.error.StoreError.TheVariants.{UnknownOwner}
+use Rattle.generational_errors.specs.declared.error.BorrowError.{BorrowError}
+use Rattle.generational_errors.specs.declared.error.BorrowMutError.{BorrowMutError}
+use Rattle.generational_errors.specs.declared.error.Location.{Location}
+use Rattle.generational_errors.specs.declared.error.Refusal.{Refusal}
+use Rattle.generational_errors.specs.declared.error.Refused as error
+use Rattle.generational_errors.specs.declared.error.Refused.TheVariants as refused
+use Rattle.generational_errors.specs.declared.error.StoreError.{StoreError}
+use Rattle.generational_errors.specs.declared.error.StoreError.TheVariants.{UnknownOwner}
 use Rattle.generational_core.proofs.machine.Stepping.{meets_cases}
 
 module _ {T : Type 0} where

@@ -19,7 +19,7 @@ use Rattle.std.specs.Prelude.{IfSome}
 use Rattle.generational_core.specs.Machine.{clone_owner, is_known, knows_writer, refer, set_at}
 use Rattle.generational_core.specs.Machine.{write_at}
 use Rattle.generational_core.specs.Borrowing.{fill, refusal_to_write}
-use Rattle.generational_core.specs.declared.error.StoreError.TheVariants.{UnknownOwner}
+use Rattle.generational_errors.specs.declared.error.StoreError.TheVariants.{UnknownOwner}
 use Rattle.generational_core.specs.declared.boxes.GenerationalPointer.{GenerationalPointer}
 use Rattle.std.specs.FinMap as map
 

@@ -33,11 +33,11 @@ use Rattle.generational_core.specs.State.{tickets_of}
 use Rattle.generational_core.specs.Steps.{Meets, last_ticket, limit_tickets, may_lack, needs_memory}
 use Rattle.generational_core.specs.Steps.{no_names, takes_ticket}
 use Rattle.generational_core.specs.declared.boxes.GenerationalPointer.{GenerationalPointer}
-use Rattle.generational_core.specs.declared.error.BorrowMutError.{BorrowMutError}
-use Rattle.generational_core.specs.declared.error.Location.{Location}
-use Rattle.generational_core.specs.declared.error.Refused as error
-use Rattle.generational_core.specs.declared.error.Refused.TheVariants as refused
-use Rattle.generational_core.specs.declared.error.StoreError.TheVariants.{NumbersExhausted}
+use Rattle.generational_errors.specs.declared.error.BorrowMutError.{BorrowMutError}
+use Rattle.generational_errors.specs.declared.error.Location.{Location}
+use Rattle.generational_errors.specs.declared.error.Refused as error
+use Rattle.generational_errors.specs.declared.error.Refused.TheVariants as refused
+use Rattle.generational_errors.specs.declared.error.StoreError.TheVariants.{NumbersExhausted}
 use Rattle.generational_core.proofs.maps.Maps.{by_name, get-changed_apart, name_cases, name_here}
 use Rattle.generational_core.proofs.machine.Calling.{reads_back}
 use Rattle.generational_core.proofs.machine.Changes.{Filling, IsFilling, filled_content, new_content}

@@ -13,7 +13,8 @@ use Rattle.generational_core.specs
 use specs.Names.{Name, Names, NameMap, name_cmp, is_name, change, change_if}
 use specs.{Boxes.has_same_id, Cells.Cell, Cells.refers_to, Cells.Cell.Ref, Conditions.IsNamed}
 use specs.{State.is_named, declared.boxes.GenerationalBoxId.GenerationalBoxId}
-use specs.{declared.boxes.GenerationalPointer.GenerationalPointer, declared.error.Location.Location}
+use specs.declared.boxes.GenerationalPointer.{GenerationalPointer}
+use Rattle.generational_errors.specs.declared.error.Location.{Location}
 use Rattle.std.proofs.Common.{◌≡◌, ◌≢◌, ℕ, ◌+◌, ◌≤◌, Bool, true, false, cond, ◌||◌, Option, None}
 use Rattle.std.proofs.Common.{Some, List, [], ◌∷◌, ◌++◌, length, refl, sym, ap, subst, ◌∙◌, inl}
 use Rattle.std.proofs.Common.{inr, ⊎_elim, arith}

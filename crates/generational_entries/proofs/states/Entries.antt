@@ -14,7 +14,7 @@ use Rattle.generational_core.specs.Cells.Content.{Here}
 use Rattle.generational_core.specs.Answers.{value_of}
 use Rattle.generational_core.specs.Machine.{has_reader, has_writer}
 use Rattle.generational_core.specs.Names.{Name}
-use Rattle.generational_core.specs.declared.error.Location.{Location}
+use Rattle.generational_errors.specs.declared.error.Location.{Location}
 use Rattle.generational_core.specs.Cells.{location_of}
 use Rattle.generational_entries.specs.declared.entry.EntryDetails.{EntryDetails}
 use Rattle.generational_entries.specs.declared.entry.StorageEntry.{StorageEntry}

@@ -11,7 +11,7 @@ use Rattle.std.proofs.lemmas.Bool.Decides.{nat_tests}
 use Rattle.std.proofs.lemmas.Grind.{common_steps}
 use Rattle.generational_core.specs.Answers.{value_of}
 use Rattle.generational_core.specs.Cells.{content_of, location_of, Content, Cell}
-use Rattle.generational_core.specs.declared.error.Location.{Location}
+use Rattle.generational_errors.specs.declared.error.Location.{Location}
 use Rattle.generational_core.specs.declared.borrow.Borrow.{Borrow}
 use Rattle.generational_core.specs.Borrowing.{leads_to, read_refusal, write_refusal}
 use Rattle.generational_core.specs.Cells.Content.{Here, Lent}

@@ -7,7 +7,7 @@ use Rattle.std.proofs.lemmas.Bool.{true≢false, eq-eqb, eqb-true, ne_eqb}
 use Rattle.std.proofs.lemmas.List.{get_or-set_same, length-set}
 use Rattle.generational_core.specs.declared.borrow.Borrow.{Borrow}
 use Rattle.generational_core.specs.Cells.Content.{Here}
-use Rattle.generational_core.specs.declared.error.Location.{Location}
+use Rattle.generational_errors.specs.declared.error.Location.{Location}
 use Rattle.generational_entries.specs.declared.entry.EntryDetails.{EntryDetails}
 use Rattle.generational_entries.specs.declared.entry.StorageEntry.{StorageEntry}
 use Rattle.generational_entries.specs.Entries.{EntryList, kept_data, index_in, index_of, has_index}

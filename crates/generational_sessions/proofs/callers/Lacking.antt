@@ -17,9 +17,9 @@ use Rattle.generational_core.specs.State.{State}
 use Rattle.generational_core.specs.Steps.{Meets, limit_tickets, takes_ticket, last_ticket, may_lack}
 use Rattle.generational_core.specs.Steps.{needs_memory, no_names}
 use Rattle.generational_core.specs.declared.boxes.GenerationalPointer.{GenerationalPointer}
-use Rattle.generational_core.specs.declared.error.Location.{Location}
-use Rattle.generational_core.specs.declared.error.StoreError.{StoreError}
-use Rattle.generational_core.specs.declared.error.StoreError.TheVariants.{OutOfMemory, NumbersExhausted}
+use Rattle.generational_errors.specs.declared.error.Location.{Location}
+use Rattle.generational_errors.specs.declared.error.StoreError.{StoreError}
+use Rattle.generational_errors.specs.declared.error.StoreError.TheVariants.{OutOfMemory, NumbersExhausted}
 use Rattle.generational_core.proofs.machine.Resting.{free_reads, rests}
 use Rattle.generational_core.proofs.machine.Stepping.{meets_cases}
 use Rattle.generational_sessions.specs.Lacking.{Lacks}

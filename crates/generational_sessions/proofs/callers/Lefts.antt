@@ -13,7 +13,7 @@ use Rattle.generational_core.specs.Seeing.{value_in}
 use Rattle.generational_core.specs.State.{State, IsGiven, IsSound}
 use Rattle.generational_core.specs.Steps.{Meets}
 use Rattle.generational_core.specs.declared.boxes.GenerationalPointer.{GenerationalPointer}
-use Rattle.generational_core.specs.declared.error.Location.{Location}
+use Rattle.generational_errors.specs.declared.error.Location.{Location}
 use Rattle.generational_core.proofs.machine.Changes.{filled_content}
 use Rattle.generational_core.proofs.machine.Guarding.{writes_back}
 use Rattle.generational_core.proofs.machine.Leaving.{given_other, leaves}

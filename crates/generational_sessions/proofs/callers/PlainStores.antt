@@ -18,7 +18,7 @@ use Rattle.generational_core.specs.Names.{Name, NameMap, name_cmp}
 use Rattle.generational_core.specs.State.{State}
 use Rattle.generational_core.specs.Steps.{Meets}
 use Rattle.generational_core.specs.declared.boxes.GenerationalPointer.{GenerationalPointer}
-use Rattle.generational_core.specs.declared.error.Location.{Location}
+use Rattle.generational_errors.specs.declared.error.Location.{Location}
 use Rattle.generational_core.proofs.maps.Maps.{by_name, get-insert_apart, get-insert_here, name_cases}
 use Rattle.generational_core.proofs.machine.Changes.{is_making, new_content}
 use Rattle.generational_core.proofs.machine.Ends.{by_cond, none≢some}

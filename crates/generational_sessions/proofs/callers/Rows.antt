@@ -14,7 +14,7 @@ use Rattle.generational_core.specs.State.{State, IsSound}
 use Rattle.generational_core.specs.Steps.{Meets}
 use Rattle.generational_core.specs.declared.boxes.GenerationalBox.{GenerationalBox}
 use Rattle.generational_core.specs.declared.boxes.GenerationalPointer.{GenerationalPointer}
-use Rattle.generational_core.specs.declared.error.Location.{Location}
+use Rattle.generational_errors.specs.declared.error.Location.{Location}
 use Rattle.generational_core.proofs.machine.Calling.{made, made_apart, made_free, keeps, keeps_free}
 use Rattle.generational_core.proofs.machine.Resting.{free_sees}
 use Rattle.generational_sessions.specs.BoxRows.{Rows, IsFree, shown_in, values_in, EachBox, HasOtherName}

@@ -20,7 +20,7 @@ use Rattle.generational_sessions.proofs.carrying.{act_matched, AskedAlike, asked
 use Rattle.generational_sessions.proofs.carrying.{swapped_alike, settled_alike, placed_alike, older}
 use Rattle.std.specs.FinMap as map
 use Rattle.std.specs.FinSet as set
-use Rattle.generational_core.specs.declared.error.StoreError.TheVariants as error
+use Rattle.generational_errors.specs.declared.error.StoreError.TheVariants as error
 
 -- a slot behind those of all names in a list
 slot_behind : (names : List Name)

@@ -41,7 +41,7 @@ pub use proofs.{machine.Resting.free_sees, machine.Stepping.writes_known}
 pub use Rattle.generational_core.specs.Answers.{back_answer, end_refused, pointer_of}
 pub use Rattle.generational_core.specs.Conditions.{count_in, count_under, IsFresh}
 pub use Rattle.generational_core.specs.Machine.Action.{CanRead, CanWrite, LeakOwner}
-pub use Rattle.generational_core.specs.declared.error.StoreError.TheVariants.{OutOfMemory}
+pub use Rattle.generational_errors.specs.declared.error.StoreError.TheVariants.{OutOfMemory}
 pub use Rattle.generational_core.specs.{Boxes.name_in, Machine.own_cell, Machine.turn}
 pub use Rattle.generational_core.specs.{Machine.Answer.Back, Names.change_if, Steps.answer_to}
 use Rattle.generational_sessions.specs

@@ -19,9 +19,9 @@ use sessions.{State, NewNames, Meets, gives, spend, Boxed, Error, tells, swaps, 
 use sessions.{pointer_of, IsReleased, owner_held, with_owner, ended_read, meets_says, meets_given}
 use Rattle.generational_core.proofs.machine.Releasing.{box_ends, box_stays, shared_ends}
 use Rattle.generational_core.proofs.machine.Releasing.{shared_stays, listed_boxed, last_cells}
-use Rattle.generational_core.specs.declared.error.Refused.{Refused}
+use Rattle.generational_errors.specs.declared.error.Refused.{Refused}
 use Rattle.generational_sessions.specs.declared.calls.Call.TheVariants as call
-use Rattle.generational_core.specs.declared.error.Refused.TheVariants as refused
+use Rattle.generational_errors.specs.declared.error.Refused.TheVariants as refused
 
 -- what is put back to where it was taken from
 set_back : {X : Type 0} (xs : List X) (p : ℕ) (x y : X) → slice_get xs p ≡ Some x

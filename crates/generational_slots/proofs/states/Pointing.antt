@@ -5,9 +5,9 @@ use Rattle.std.proofs.lemmas.Bool.{false≢true, true≢false}
 use Rattle.generational_core.specs.Boxes.{box_of}
 use Rattle.generational_core.specs.Machine.{point, turn}
 use Rattle.generational_core.specs.declared.boxes.GenerationalPointer.{GenerationalPointer}
-use Rattle.generational_core.specs.declared.error.BorrowMutError.TheVariants as writes
-use Rattle.generational_core.specs.declared.error.Refused.{Refused}
-use Rattle.generational_core.specs.declared.error.Refused.TheVariants as refused
+use Rattle.generational_errors.specs.declared.error.BorrowMutError.TheVariants as writes
+use Rattle.generational_errors.specs.declared.error.Refused.{Refused}
+use Rattle.generational_errors.specs.declared.error.Refused.TheVariants as refused
 use Rattle.generational_entries.specs.Entry.{target_in}
 use Rattle.generational_slots.specs.SlotsState.{IsTurned}
 use Rattle.generational_slots.proofs.Common.{BorrowMutError, Cell, Location, Name, Ref, Shared}

@@ -16,7 +16,7 @@ use Rattle.generational_slots.proofs.Common.{is_named}
 use Rattle.generational_slots.proofs.Common.{is_shared, leads_to, read_refusal, state_of}
 use Rattle.generational_slots.proofs.Common.{write_refusal}
 use Rattle.generational_core.specs.StepCalls.{tells_of_borrow}
-use Rattle.generational_core.specs.declared.error.Refused.{Refused}
+use Rattle.generational_errors.specs.declared.error.Refused.{Refused}
 use Rattle.generational_entries.specs.Entry.{FoundBorrowed}
 use Rattle.generational_slots.proofs.Common.{BorrowMutError, content_in}
 use Rattle.generational_slots.proofs.states.Changes.{IsHeld, cell_seen, held_in, seen_in}

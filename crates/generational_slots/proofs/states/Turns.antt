@@ -6,8 +6,8 @@ use Rattle.std.specs.FinMap as map
 use Rattle.generational_core.proofs.machine.Closing.{turn_hindered, turn_sweep}
 use Rattle.generational_core.specs.Ending.{hindrance_at}
 use Rattle.generational_core.specs.Machine.{turn}
-use Rattle.generational_core.specs.declared.error.Refused.{Refused}
-use Rattle.generational_core.specs.declared.error.Refused.TheVariants as refused
+use Rattle.generational_errors.specs.declared.error.Refused.{Refused}
+use Rattle.generational_errors.specs.declared.error.Refused.TheVariants as refused
 use Rattle.generational_entries.specs.Entry.{FoundBorrowed, target_in}
 use Rattle.generational_slots.specs.SlotsState.{IsTurned, refusal_of}
 use Rattle.generational_slots.proofs.Common.{BorrowMutError, Cell, IsLinked, Location, Name}

@@ -1,8 +1,8 @@
 //! Calls that end boxes and owners, and that let a reference lead elsewhere.
 
 ghost use Rattle.std.specs.Prelude.{◌≡◌, true, IfErr};
-ghost use Rattle.generational_core.specs.declared.error.Refused.TheVariants as refused;
-ghost use Rattle.generational_core.specs.declared.error.StoreError.TheVariants.{OutOfMemory};
+ghost use Rattle.generational_errors.specs.declared.error.Refused.TheVariants as refused;
+ghost use Rattle.generational_errors.specs.declared.error.StoreError.TheVariants.{OutOfMemory};
 ghost use Rattle.generational_core.specs.declared.steps.StepCall.TheVariants as call;
 ghost use Rattle.generational_core.specs.Answers.{end_answer, pointer_of, release_answer};
 ghost use Rattle.generational_core.specs.Machine.Action.{End, Point, ReleaseOwner};

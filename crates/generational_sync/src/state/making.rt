@@ -1,7 +1,7 @@
 //! Calls that make boxes and owners.
 
 ghost use Rattle.std.specs.Prelude.{◌≡◌, true, None, Some, IfOk, IfErr, option_copied, is_some};
-ghost use Rattle.generational_core.specs.declared.error.StoreError.TheVariants.{OutOfMemory};
+ghost use Rattle.generational_errors.specs.declared.error.StoreError.TheVariants.{OutOfMemory};
 ghost use Rattle.generational_core.specs.declared.steps.StepCall.TheVariants as call;
 ghost use Rattle.generational_core.specs.Answers.{box_answer, make_answer, owner_answer, pointer_of};
 ghost use Rattle.generational_core.specs.Answers.{reference_answer, reference_box_answer};

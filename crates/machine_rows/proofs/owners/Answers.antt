@@ -8,7 +8,7 @@ use Rattle.generational_core.specs.Cells.Content.{Here}
 use Rattle.generational_core.specs.Borrowing.{reach, refusal_to_read, refusal_to_write}
 use Rattle.generational_core.specs.Ending.{hindrance_to}
 use Rattle.generational_core.specs.Conditions.{fresh}
-use Rattle.generational_core.specs.declared.error.Location.{Location}
+use Rattle.generational_errors.specs.declared.error.Location.{Location}
 use Rattle.generational_core.proofs.maps.Maps.{contains-insert_name, name_here}
 use Rattle.machine_rows.specs.Histories as row
 use Rattle.machine_rows.specs.Rows.{Tells, ◌#◌}

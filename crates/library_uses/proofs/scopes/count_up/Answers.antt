@@ -1,6 +1,6 @@
 use Rattle.std.proofs.Common.{inr, ap, subst, sym, ◌∙◌, refl}
 use Rattle.generational_core.specs.Leaving.{IsLeft}
-use Rattle.generational_core.specs.Texts.{as_refused_mut}
+use Rattle.generational_errors.specs.Texts.{as_refused_mut}
 use Rattle.generational_sessions.proofs.callers.Lefts.{left_ticket, left_twice, set_free}
 use Rattle.generational_sessions.proofs.callers.Results.{err_so}
 use Rattle.generational_sessions.proofs.callers.Shortage.{read_short}

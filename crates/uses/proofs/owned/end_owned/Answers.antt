@@ -15,8 +15,8 @@ use Rattle.generational_core.specs.State.{State, Ownership, content_at}
 use Rattle.generational_core.specs.Steps.{Meets}
 use Rattle.generational_core.specs.declared.boxes.GenerationalBox.{GenerationalBox}
 use Rattle.generational_core.specs.declared.boxes.GenerationalPointer.{GenerationalPointer}
-use Rattle.generational_core.specs.declared.error.Location.{Location}
-use Rattle.generational_core.specs.declared.error.Refusal.{Refusal}
+use Rattle.generational_errors.specs.declared.error.Location.{Location}
+use Rattle.generational_errors.specs.declared.error.Refusal.{Refusal}
 use Rattle.generational_core.proofs.maps.Maps.{name_apart, name_same}
 use Rattle.generational_core.proofs.machine.Boxing.{ended_owned}
 use Rattle.generational_core.proofs.machine.Calling.{owned, lists, made_free, listed_last}

@@ -13,7 +13,7 @@ use Rattle.generational_sessions.proofs.callers.Results.{err_so}
 use Rattle.generational_sessions.proofs.callers.Shortage.{read_short, refer_short, referred_free}
 use Rattle.generational_sessions.proofs.callers.Shortage.{referred_next, share_short, shares}
 use Rattle.generational_sessions.proofs.callers.Shortage.{short_refusal}
-use Rattle.generational_core.specs.Texts.{as_refused_mut}
+use Rattle.generational_errors.specs.Texts.{as_refused_mut}
 use Rattle.generational_sessions.specs.Lacking.{IsShort}
 use Rattle.uses.proofs.shared.outlived.Goals as goal
 

@@ -1,6 +1,6 @@
 use Rattle.std.proofs.Common.{Err, Ok, None, arith, ap, subst, sym, ◌∙◌}
 use Rattle.std.proofs.lemmas.Option.{same_Some}
-use Rattle.generational_core.specs.Texts.{as_refused_mut}
+use Rattle.generational_errors.specs.Texts.{as_refused_mut}
 use Rattle.generational_core.proofs.machine.Calling.{keeps_free, made_shared, made_shared_free}
 use Rattle.generational_core.proofs.machine.Calling.{referred_apart, referred_together}
 use Rattle.generational_core.proofs.machine.Leaving.{leaves}

@@ -2,9 +2,9 @@
 use Rattle.std.proofs.Common.{refl, ◌≡◌, ◌≢◌, ℕ, List, [], Err, arith}
 use Rattle.generational_core.specs.Borrowing.{write_refusal}
 use Rattle.generational_core.specs.declared.borrow.Borrow.{Borrow}
-use Rattle.generational_core.specs.declared.error.BorrowMutError.{BorrowMutError}
-use Rattle.generational_core.specs.declared.error.Refused.{Refused}
-use Rattle.generational_core.specs.declared.error.Location.{Location}
+use Rattle.generational_errors.specs.declared.error.BorrowMutError.{BorrowMutError}
+use Rattle.generational_errors.specs.declared.error.Refused.{Refused}
+use Rattle.generational_errors.specs.declared.error.Location.{Location}
 use Rattle.generational_entries.specs.declared.entry.Kind.{Kind}
 use Rattle.generational_entries.specs.declared.entry.StorageEntryData.{StorageEntryData}
 use Rattle.generational_entries.specs.Entries.{index_of, kept_data, writer_in}
@@ -12,8 +12,8 @@ use Rattle.generational_entries.specs.Entry.{FoundBorrowed, FoundReaders, conten
 use Rattle.generational_containers.specs.Table.{list_at}
 use Rattle.generational_entries.proofs.states.Entries.{kept, says, lent_used, used_at, no_refusal}
 use Rattle.generational_entries.proofs.states.Entries.{list_none, says_of, read_details, found}
-use Rattle.generational_core.specs.declared.error.BorrowMutError.TheVariants as writes
-use Rattle.generational_core.specs.declared.error.Refused.TheVariants as refused
+use Rattle.generational_errors.specs.declared.error.BorrowMutError.TheVariants as writes
+use Rattle.generational_errors.specs.declared.error.Refused.TheVariants as refused
 use Rattle.generational_entries.specs.declared.entry.StorageEntryData.TheVariants as slot
 use Rattle.generational_entries.proofs.settled.SettledEntries.borrow_mut_error.Goals as goal
 

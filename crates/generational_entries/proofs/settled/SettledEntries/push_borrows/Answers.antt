@@ -4,7 +4,7 @@ use Rattle.std.proofs.Common.{map as list_map}
 use Rattle.std.proofs.lemmas.Result.{on_ok_weaker}
 use Rattle.generational_core.specs.declared.borrow.Borrow.{Borrow}
 use Rattle.generational_core.specs.declared.boxes.GenerationalBoxId.{GenerationalBoxId}
-use Rattle.generational_core.specs.declared.error.Location.{Location}
+use Rattle.generational_errors.specs.declared.error.Location.{Location}
 use Rattle.generational_core.specs.declared.rows.BaseRow.{BaseRow}
 use Rattle.generational_core.specs.declared.rows.BaseRow.TheVariants as row
 use Rattle.generational_core.specs.Rows.{content_rows, reader_row}

@@ -1,12 +1,12 @@
 //! Locations, the errors of borrows, the store's own refusals, and their texts.
 
 ghost use Rattle.std.specs.Prelude.{◌≡◌, Some};
-ghost use Rattle.generational_core.specs.Texts.{location_text, dropped_text, borrowed_mut_text};
-ghost use Rattle.generational_core.specs.Texts.{borrowed_text, borrow_error_text};
-ghost use Rattle.generational_core.specs.Texts.{borrow_mut_error_text, store_error_text};
-ghost use Rattle.generational_core.specs.Texts.{as_borrow_mut, as_refused_mut};
-ghost use Rattle.generational_core.specs.declared.error.Refused.TheVariants as refused;
-ghost use Rattle.generational_core.specs.declared.error.StoreError.TheVariants.{OutOfMemory};
+ghost use Rattle.generational_errors.specs.Texts.{location_text, dropped_text, borrowed_mut_text};
+ghost use Rattle.generational_errors.specs.Texts.{borrowed_text, borrow_error_text};
+ghost use Rattle.generational_errors.specs.Texts.{borrow_mut_error_text, store_error_text};
+ghost use Rattle.generational_errors.specs.Texts.{as_borrow_mut, as_refused_mut};
+ghost use Rattle.generational_errors.specs.declared.error.Refused.TheVariants as refused;
+ghost use Rattle.generational_errors.specs.declared.error.StoreError.TheVariants.{OutOfMemory};
 
 use std::alloc::AllocError;
 use std::error::Error;
@@ -138,7 +138,7 @@ pub struct AlreadyBorrowedError {
 
 impl Model for AlreadyBorrowedError {
     ghost use Rattle.std.specs.Prelude.{List};
-    ghost use Rattle.generational_core.specs.declared.error.Location.{Location};
+    ghost use Rattle.generational_errors.specs.declared.error.Location.{Location};
 
     ghost Value = { List Location };
 
@@ -160,7 +160,7 @@ impl PartialEq for AlreadyBorrowedError {
     ghost use Rattle.std.proofs.Common.{rules};
     ghost use Rattle.std.specs.Cmp.Lexicographic.{lists_per};
     ghost use Rattle.std.specs.Cmp.Rules.{comparing};
-    ghost use Rattle.generational_core.specs.Texts.{same_locations};
+    ghost use Rattle.generational_errors.specs.Texts.{same_locations};
 
     ghost eq = { same_locations };
 
@@ -291,7 +291,7 @@ pub enum Refused<E> {
 
 /// Prints the text of what it holds.
 impl<E: fmt::Display> fmt::Display for Refused<E> {
-    ghost use Rattle.generational_core.specs.Texts.{refused_output};
+    ghost use Rattle.generational_errors.specs.Texts.{refused_output};
 
     ghost output = { refused_output E.output };
 
