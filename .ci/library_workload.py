@@ -11,7 +11,7 @@ import re
 import subprocess
 import sys
 
-LISTS = ("entities", "options", "scene", "forest", "sessions", "shelves")
+LISTS = ("entities", "options", "scene", "forest", "sessions", "shelves", "parts", "copies")
 
 
 def instructions(program, name, things):

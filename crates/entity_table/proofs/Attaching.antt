@@ -30,7 +30,7 @@ use Rattle.entity_table.specs.declared.components.Part.{Part}
 use Rattle.entity_table.specs.declared.entity.Entity.{Entity}
 use Rattle.entity_table.specs.Components.{AreAttached, part_at, part_if, part_of, shown_by}
 use Rattle.entity_table.specs.Entities.{pointer_in, slot_in, IsOther}
-use Rattle.entity_table.proofs.Keeping.{set_seen}
+use Rattle.generational_sessions.proofs.callers.SimpleStores.{set_seen}
 
 -- a box that sees a value may be written, where no borrow stands
 pub seen_free : {C : Type 0} {S : State C} (b : GenerationalPointer) → IsSound S → IsUnborrowed S

@@ -30,129 +30,19 @@ use Rattle.generational_core.proofs.machine.Seeing.{led_box, reaches}
 use Rattle.generational_core.proofs.machine.Stepping.{meets_number, meets_sound}
 use Rattle.generational_core.proofs.machine.Unborrowed.{quiet_free, quiet_fresh, quiet_sees, quiet_stays}
 use Rattle.generational_core.proofs.maps.Maps.{by_number, key_cases, name_cases}
-use Rattle.generational_sessions.proofs.callers.PlainStores.{fresh_plain, stays_plain}
-use Rattle.generational_sessions.specs.PlainStores.{MakesNoReference}
+use Rattle.generational_sessions.specs.PlainStores.{IsSimple}
+use Rattle.generational_sessions.proofs.callers.SimpleStores.{IsSeen, fresh_simple, made_simple, making}
+use Rattle.generational_sessions.proofs.callers.SimpleStores.{one_id, seen_cell, seen_store, simple_still}
+use Rattle.generational_core.proofs.machine.Bounding.{slot_apart, slot_within}
 use Rattle.entity_table.specs.declared.entity.Entity.{Entity}
 use Rattle.entity_table.specs.Entities.{pointer_in, slot_in, IsSame}
-use Rattle.entity_table.specs.Keeping.{IsSimple, IsKept}
+use Rattle.entity_table.specs.Keeping.{IsKept}
 use Rattle.entity_table.specs.Rows.{ArePlaced, KeepsPlaces}
 use Rattle.entity_table.specs.Tables.{TableState, IsDense}
-use Rattle.entity_table.proofs.Lasts.{fresh_last, made_last, making, slot_apart, slot_within, stays_last}
-use Rattle.entity_table.proofs.Removals.{get_pushed, get_set_apart, get_set_here, pushed_new, pushed_old}
+use Rattle.generational_sessions.proofs.callers.Elements.{get_pushed, get_set_apart, get_set_here, pushed_new, pushed_old}
 use Rattle.entity_table.proofs.Removals.{removed_get, removed_last, removed_old}
 
 module _ {T : Type 0} where
-  -- ---- the store
-
-  pub fresh_simple : (number start next : ℕ) → IsSimple (fresh {T = T} number start next)
-  fresh_simple number start next = record {
-    unborrowed = quiet_fresh number start next;
-    plain = fresh_plain number start next;
-    last = fresh_last T number start next;
-    bounded = fresh_bounded number start next;
-  }
-
-  module _ {S R : State T} (s : IsSound S) (k : IsSimple S) where
-    made_simple : (v : T) (l : Location) (b : GenerationalPointer)
-        → Meets S (Make None v l) (Made b) R → IsSimple R
-    made_simple v l b m = record {
-      unborrowed = quiet_stays (Make None v l) (Made b) m tt k.unborrowed;
-      plain = stays_plain (Make None v l) (Made b) m tt k.plain;
-      last = made_last v l b s k.bounded k.last m;
-      bounded = meets_bounded S R (Make None v l) (Made b) s k.bounded m;
-    }
-
-    -- each call that makes nothing and begins no borrow
-    pub simple_still : (call : Action T) (answer : Answer T) → Meets S call answer R
-        → is_making call ≡ false → BeginsNoBorrow call → MakesNoReference call → IsSimple R
-    simple_still call answer m other begins plain = record {
-      unborrowed = quiet_stays call answer m begins k.unborrowed;
-      plain = stays_plain call answer m plain k.plain;
-      last = stays_last call answer other m k.last;
-      bounded = meets_bounded S R call answer s k.bounded m;
-    }
-
-  -- ---- boxes that see values
-
-  abbrev IsSeen : State T → GenerationalPointer → Type 0
-  IsSeen S b = is_some (value_in S b) ≡ true
-
-  -- such a box is of the store, and has a live cell
-  seen_reach : (S : State T) (b : GenerationalPointer) → IsSeen S b → (m : Name) × (reach S b ≡ Some m)
-  seen_reach S b seen = let v = some_live (value_in S b) seen in seen_reached S b v.0 v.1
-
-  seen_cell : (S : State T) (b : GenerationalPointer) → IsSeen S b
-      → is_some (map.get S.cells (name_of b)) ≡ true
-  seen_cell S b seen =
-      let to = seen_reach S b seen in
-      (led_box _ (name_of b) to.0 (reaches S b to.0 to.1).leads).0
-
-  pub seen_store : (S : State T) (b : GenerationalPointer) → IsSound S → IsSeen S b
-      → b.id.store ≡ S.number
-  seen_store S b s seen = let to = seen_reach S b seen in (reached_boxed S b to.0 s to.1).0
-
-  -- where no borrow stands the test of a write tells which they are
-  pub free_seen : {S : State T} (b : GenerationalPointer) → IsSound S → IsSimple S → {r : Bool}
-      → r ≡ can_write S b → r ≡ true → IsSeen S b
-  free_seen {S} b s k is can = sym (quiet_sees S k.unborrowed b s) ∙ (sym is ∙ can)
-
-  pub stuck_unseen : {S : State T} (b : GenerationalPointer) → IsSound S → IsSimple S → {r : Bool}
-      → r ≡ can_write S b → r ≡ false → value_in S b ≡ None
-  stuck_unseen {S} b s k is cannot = at (value_in S b) refl
-    where
-      at : (v : Option T) → value_in S b ≡ v → value_in S b ≡ None
-      at None e = e
-      at (Some v) e = absurd (true≢false
-          (sym (ap is_some e) ∙ (sym (quiet_sees S k.unborrowed b s) ∙ (sym is ∙ cannot))))
-
-  -- and what a box reaches does
-  reached_alike : (S R : State T) (b : GenerationalPointer) → IsSound S → IsSound R
-      → IsUnborrowed S → IsUnborrowed R → reach R b ≡ reach S b
-      → is_some (value_in R b) ≡ is_some (value_in S b)
-  reached_alike S R b s r quiet still same = at (reach S b) refl
-    where
-      at : (to : Option Name) → reach S b ≡ to → is_some (value_in R b) ≡ is_some (value_in S b)
-      at None is = ap is_some (unseen R b (same ∙ is) ∙ sym (unseen S b is))
-      at (Some m) is =
-          let before = free_sees S b s (quiet_free S quiet b m is) in
-          let after = free_sees R b r (quiet_free R still b m (same ∙ is)) in
-          ap is_some after.1 ∙ sym (ap is_some before.1)
-
-  -- so those of one name are of one id
-  one_id : (S : State T) (a b : GenerationalPointer) → IsSound S → IsSeen S a → IsSeen S b
-      → name_of a ≡ name_of b → a.id ≡ b.id
-  one_id S a b s seen saw same =
-      let store = seen_store S a s seen ∙ sym (seen_store S b s saw) in
-      λ i. record { store = store i; slot = (same i).slot; generation = (same i).generation }
-
-  -- a box of another store sees nothing, so a call that leaves each box of another name leaves each
-  -- of another id
-  foreign : (S : State T) (b : GenerationalPointer) → IsSound S → b.id.store ≢ S.number
-      → value_in S b ≡ None
-  foreign S b s other = at (value_in S b) refl
-    where
-      at : (v : Option T) → value_in S b ≡ v → value_in S b ≡ None
-      at None is = is
-      at (Some v) is = absurd (other (seen_store S b s (ap is_some is)))
-
-  pub others_left : {S R : State T} (call : Action T) (answer : Answer T) → IsSound S
-      → Meets S call answer R → (a b : GenerationalPointer) → a.id.store ≡ S.number
-      → (name_of a ≢ name_of b → value_in R b ≡ value_in S b) → a.id ≢ b.id
-      → value_in R b ≡ value_in S b
-  others_left {S} {R} call answer s m a b own left other = ⊎_elim
-      (λ same. let apart : b.id.store ≢ S.number = λ store. other
-      (let e = own ∙ sym store in λ i. record {
-        store = e i;
-        slot = (same i).slot;
-        generation = (same i).generation;
-      }) in
-      foreign R b (meets_sound S R call answer s m)
-      (λ store. apart (store ∙ meets_number S R call answer m))
-      ∙ sym (foreign S b s apart))
-      left (name_cases (name_of a) (name_of b))
-
-  -- ---- the rows
-
   pub fresh_kept : (number start next : ℕ) → IsKept (fresh {T = T} number start next) [] []
   fresh_kept number start next = record {
     simple = fresh_simple number start next;
@@ -161,17 +51,6 @@ module _ {T : Type 0} where
     listed = λ e seen. absurd (true≢false (sym (seen_cell _ (pointer_in e) seen)
         ∙ ap is_some (map.get-empty _ _)));
   }
-
-  -- a fresh store has no entity
-  pub fresh_sees : (number start next : ℕ) (b : GenerationalPointer)
-      → value_in (fresh {T = T} number start next) b ≡ None
-  fresh_sees number start next b = at (value_in (fresh {T = T} number start next) b) refl
-    where
-      at : (v : Option T) → value_in (fresh {T = T} number start next) b ≡ v
-          → value_in (fresh {T = T} number start next) b ≡ None
-      at None is = is
-      at (Some v) is = absurd (true≢false (sym (seen_cell _ b (ap is_some is))
-          ∙ ap is_some (map.get-empty _ _)))
 
   -- the rows are dense
   pub kept_dense : {S : State T} {rows : List (Entity T)} {places : List ℕ} → IsKept S rows places
@@ -253,16 +132,6 @@ module _ {T : Type 0} where
     listed = k.listed;
   }
 
-  -- a set leaves which boxes see a value
-  pub set_seen : {S R : State T} → IsSound S → IsUnborrowed S → (a : GenerationalPointer) (v old : T)
-      → Meets S (SetValue a v) (Old old) R → (b : GenerationalPointer)
-      → is_some (value_in R b) ≡ is_some (value_in S b)
-  set_seen {S} {R} s quiet a v old m b =
-      let answer : Answer T = Old old in
-      let after = quiet_stays (SetValue a v) answer m tt quiet in
-      let reached = same_reach S R (SetValue a v) answer s m b tt tt in
-      reached_alike S R b s (meets_sound S R (SetValue a v) answer s m) quiet after reached
-
   module _ {S R : State T} (s : IsSound S) {rows : List (Entity T)} {places : List ℕ}
       (k : IsKept S rows places) where
     -- a new entity in a row of its own
@@ -304,7 +173,7 @@ module _ {T : Type 0} where
         seen = ap is_some (made None v l (Ok e.raw) m)
 
         apart : (f : Entity T) → IsSeen S (pointer_in f) → slot_in f ≢ slot_in e
-        apart f live = slot_apart S (name_of b) s k.simple.last k.simple.bounded fits
+        apart f live = slot_apart S (name_of b) s.given k.simple.bounded fits
             (name_of (pointer_in f)) (seen_cell S (pointer_in f) live)
 
         same : (f : Entity T) → name_of b ≢ name_of (pointer_in f)
@@ -317,7 +186,7 @@ module _ {T : Type 0} where
         → slice_get rows row ≡ Some f → IsSame f a → ArePlaced (swap_remove rows row d) left
         → IsKept R (swap_remove rows row d) left
     kept_despawned a d f row left seen m there same placed = record {
-      simple = simple_still s k.simple (End (pointer_in a)) Done m refl tt tt;
+      simple = simple_still s k.simple (End (pointer_in a)) Done m tt tt;
       placed = placed;
       live = λ j x is. ⊎_elim
           (λ moved. still (length rows - 1) x moved.2

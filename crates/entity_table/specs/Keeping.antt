@@ -1,31 +1,14 @@
 -- What holds of a table's store, its rows and its places.
 use Rattle.std.specs.Prelude.{◌≡◌, ℕ, List, Some, true, is_some, slice_get}
-use Rattle.std.specs.FinMap as map
-use Rattle.generational_core.specs.Conditions.{IsBounded}
-use Rattle.generational_core.specs.Leaving.{IsUnborrowed}
-use Rattle.generational_core.specs.Names.{Name}
 use Rattle.generational_core.specs.Seeing.{value_in}
-use Rattle.generational_core.specs.Slots.{last_name}
 use Rattle.generational_core.specs.State.{State}
-use Rattle.generational_sessions.specs.PlainStores.{IsPlain}
+use Rattle.generational_sessions.specs.PlainStores.{IsSimple}
 use Rattle.entity_table.specs.declared.entity.Entity.{Entity}
 use Rattle.entity_table.specs.Entities.{pointer_in, IsSame}
 use Rattle.entity_table.specs.Rows.{ArePlaced}
 
 module _ {T : Type 0} where
-  -- each live name is the last that its slot has had
-  abbrev pub AreLast : State T → Type 0
-  AreLast S = (n : Name) → is_some (map.get S.cells n) ≡ true → n ≡ last_name S n.slot
-
-  -- no borrow stands, no cell is a reference, each slot has one live entity at most, and there are
-  -- no more slots than are needed
-  pub record IsSimple (S : State T) : Type 0 where
-    pub unborrowed : IsUnborrowed S
-    pub plain : IsPlain S
-    pub last : AreLast S
-    pub bounded : IsBounded S
-
-  -- and the rows have the live entities, each at the place of its slot
+  -- the rows have the live entities, each at the place of its slot
   pub record IsKept (S : State T) (rows : List (Entity T)) (places : List ℕ) : Type 0 where
     pub simple : IsSimple S
     pub placed : ArePlaced rows places

@@ -17,7 +17,7 @@ use generational_containers::names::CellName;
 use generational_containers::owners::{OwnerRecord, OwnerRecords};
 use generational_containers::pool::{LastFirst, SlotPool};
 use generational_core::parts::{
-    Borrow, id_read, into_reader, into_writer, owner_at, reader_at, writer_at,
+    Borrow, id_read, into_reader, into_writer, owner_at, pointer_at, reader_at, writer_at,
 };
 use generational_core::{
     AnyStorage, BaseRow, BorrowError, BorrowMutError, BorrowMutResult, BorrowResult,
@@ -146,6 +146,27 @@ impl<T, P: SlotPool> Store<T, P> {
     }
 }
 
+impl<T: Drop, P: SlotPool> Store<T, P> {
+    ghost use Rattle.std.specs.Prelude.{◌≡◌, IfErr};
+    ghost use Rattle.generational_errors.specs.declared.error.StoreError.TheVariants.{OutOfMemory};
+
+    /// Makes room for this many cells more. After it so many makings without an owner take no memory,
+    /// where a shared value is two cells. That isn't said by their contracts, which allow a refusal
+    /// wherever no slot is free: it is proved of the slots beneath, and tested.
+    ///
+    /// Refused by `OutOfMemory` alone. No call changes the state.
+    ///
+    /// ```rust
+    /// store.reserve(1).ok()?;
+    /// ```
+    pub fn reserve(&mut self, more: usize) -> Result<(), StoreError>
+        ensures state { self.new.state ≡ self.old.state }
+        ensures cause { IfErr result (λ error. error ≡ OutOfMemory) }
+    {
+        self.slots.reserve(more)
+    }
+}
+
 /// Prints `store NUMBER: SLOTS slots, FREE free`.
 impl<T: Drop, P: SlotPool> fmt::Debug for Store<T, P> {
     ghost use Rattle.std.specs.Prelude.{Some};
@@ -168,7 +189,7 @@ impl<T: Drop, P: SlotPool> AnyStorage<T> for Store<T, P> {
 
     ghost sound = { λ s. s.sound };
 
-    ghost bounded = { λ s. s.bounded.few };
+    ghost bounded = { λ s. s.bounded };
 
     #[inline(always)]
     fn number(&self) -> u64 {
@@ -185,6 +206,11 @@ impl<T: Drop, P: SlotPool> AnyStorage<T> for Store<T, P> {
 
     fn free(&self) -> usize {
         self.slots.counts().free
+    }
+
+    fn len(&self) -> usize {
+        let counts = self.slots.counts();
+        counts.slots - counts.free - counts.retired
     }
 
     fn retired(&self) -> usize {
@@ -278,6 +304,14 @@ impl<T: Drop, P: SlotPool> AnyStorage<T> for Store<T, P> {
         }
         let name = self.slots.target(cell_name(pointer.id))?;
         Some(id_in(self.number, name))
+    }
+
+    fn find(&self, id: GenerationalBoxId) -> Option<GenerationalPointer> {
+        if id.store != self.number {
+            return None;
+        }
+        let created_at = self.slots.find(cell_name(id))?;
+        Some(pointer_at(id.store, id.slot, id.generation, created_at))
     }
 
     fn rows(&self) -> Result<Vec<BaseRow>, StoreError> {

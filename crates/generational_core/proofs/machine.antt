@@ -16,6 +16,7 @@ pub mod Releasing
 pub mod Resting
 pub mod Rows
 pub mod Seeing
+pub mod SlotKinds
 pub mod Soundness
 pub mod Stepping
 pub mod Telling

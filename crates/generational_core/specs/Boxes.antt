@@ -1,5 +1,6 @@
 -- Boxes and their names.
-use Rattle.std.specs.Prelude.{ℕ, Bool, nat_eq}
+use Rattle.std.specs.Prelude.{ℕ, Bool, List, nat_eq, ◌++◌}
+use Rattle.std.specs.Hash as fed
 use Rattle.std.specs.Ordering.{eq_of_both, on}
 use Rattle.generational_errors.specs.declared.error.Location.{Location}
 use Rattle.generational_core.specs.declared.boxes.GenerationalBoxId.{GenerationalBoxId}
@@ -18,6 +19,10 @@ id_of number n = record { store = number; slot = n.slot; generation = n.generati
 
 abbrev pub box_of : ℕ → Name → Location → GenerationalPointer
 box_of number n l = record { id = id_of number n; created_at = l }
+
+-- what a box gives to a hash: its id
+abbrev pub hashed_id : GenerationalPointer → List (List ℕ)
+hashed_id b = fed.u64 b.id.store ++ (fed.usize b.id.slot ++ fed.u64 b.id.generation)
 
 -- whether two ids are the same, by their three numbers
 abbrev pub has_same_id : GenerationalPointer → GenerationalPointer → Bool

@@ -12,7 +12,7 @@ use Rattle.generational_core.specs.Machine.{OwnerName, ownership}
 use Rattle.generational_core.specs.Machine.Action.{ReleaseOwner}
 use Rattle.generational_core.specs.Machine.Answer.{Done}
 use Rattle.generational_core.specs.Steps.{Meets}
-use Rattle.generational_core.specs.Slots.{slots, slots_of, retired}
+use Rattle.generational_core.specs.Slots.{slots, slots_of, last_name, retired}
 
 -- the state without given names and without owners' records
 abbrev pub fresh : {T : Type 0} → ℕ → ℕ → ℕ → State T
@@ -69,6 +69,8 @@ module _ {T : Type 0} where
     pub live : map.len S.cells ≤ S.peak
     -- slots are numbered from 0 in the order in which they were made
     pub dense : (s : ℕ) → map.contains_key (slots_of S) s ≡ true → s < slots S
+    -- each live name is the last that its slot has had
+    pub last : (n : Name) → IsLive S n → n ≡ last_name S n.slot
 
   -- an owner whose record is h is released, which leads from S to R
   pub record IsReleased (S : State T) (o : OwnerName) (h : Ownership) (R : State T) : Type 0 where

@@ -57,6 +57,7 @@ module _ {T : Type 0} where
         few = le_prop a.few b.few i;
         live = le_prop a.live b.live i;
         dense = λ s h. le_prop (a.dense s h) (b.dense s h) i;
+        last = λ n h. names-prop (a.last n h) (b.last n h) i;
       }
 
 -- A state that is sound, and whose slots are bounded.

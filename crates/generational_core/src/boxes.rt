@@ -11,13 +11,14 @@ use crate::storage::Storage;
 use generational_errors::{BorrowMutResult, BorrowResult, Location, Refusal, Refused, StoreError};
 use std::alloc::AllocError;
 use std::fmt;
+use std::hash::{Hash, Hasher};
 use std::marker::PhantomData;
 
 /// The name of a cell: its store's number, its slot, and the slot's generation when it was made.
 ///
-/// Two ids are equal if all three are. A name is never given twice, so an id names one cell for
-/// good, also when the cell has ended.
-#[derive(Clone, Copy, PartialEq, Eq, Hash)]
+/// Two ids are equal if all three are, and ordered by the store, then the slot, then the generation.
+/// A name is never given twice, so an id names one cell for good, also when the cell has ended.
+#[derive(Clone, Copy, PartialEq, Eq, PartialOrd, Ord, Hash)]
 #[non_exhaustive]
 pub struct GenerationalBoxId {
     /// The number of the store.
@@ -92,6 +93,28 @@ impl PartialEq for GenerationalPointer {
     }
 }
 
+impl Eq for GenerationalPointer {
+    ghost use Rattle.std.proofs.Common.{rules};
+    ghost use Rattle.std.specs.Cmp.Rules.{comparing};
+
+    ghost laws = { Prim.search (comparing, rules) };
+}
+
+/// Hashes the id.
+impl Hash for GenerationalPointer {
+    ghost use Rattle.std.proofs.Common.{rules};
+    ghost use Rattle.std.specs.Cmp.Rules.{hashing};
+    ghost use Rattle.generational_core.specs.Boxes.{hashed_id};
+
+    ghost hash_input = { hashed_id };
+
+    ghost respects_eq = { Prim.search (hashing, rules) };
+
+    fn hash<H: Hasher>(&self, state: &mut H) {
+        self.id.hash(state);
+    }
+}
+
 /// Prints the id.
 impl fmt::Debug for GenerationalPointer {
     ghost debug_output = { λ it. Some (id_text it.id) };
@@ -122,6 +145,44 @@ impl<T> Clone for GenerationalBox<T> {
 }
 
 impl<T> Copy for GenerationalBox<T> {}
+
+/// Equal if the ids are, as `ptr_eq`.
+impl<T> PartialEq for GenerationalBox<T> {
+    ghost use Rattle.std.proofs.Common.{rules};
+    ghost use Rattle.std.specs.Cmp.Rules.{comparing};
+    ghost use Rattle.std.specs.Ordering.{on};
+    ghost use Rattle.generational_core.specs.Boxes.{has_same_id};
+
+    ghost eq = { on (λ b. b.raw) has_same_id };
+
+    ghost laws = { Prim.search (comparing, rules) };
+
+    fn eq(&self, other: &Self) -> bool {
+        self.ptr_eq(other)
+    }
+}
+
+impl<T> Eq for GenerationalBox<T> {
+    ghost use Rattle.std.proofs.Common.{rules};
+    ghost use Rattle.std.specs.Cmp.Rules.{comparing};
+
+    ghost laws = { Prim.search (comparing, rules) };
+}
+
+/// Hashes the id.
+impl<T> Hash for GenerationalBox<T> {
+    ghost use Rattle.std.proofs.Common.{rules};
+    ghost use Rattle.std.specs.Cmp.Rules.{hashing};
+    ghost use Rattle.generational_core.specs.Boxes.{hashed_id};
+
+    ghost hash_input = { λ b. hashed_id b.raw };
+
+    ghost respects_eq = { Prim.search (hashing, rules) };
+
+    fn hash<H: Hasher>(&self, state: &mut H) {
+        self.raw.hash(state);
+    }
+}
 
 /// Prints the id.
 impl<T> fmt::Debug for GenerationalBox<T> {
@@ -198,9 +259,10 @@ impl<T> GenerationalBox<T> {
 }
 
 impl<T> GenerationalBox<T> {
-    ghost use Rattle.std.specs.Prelude.{◌≡◌, true, IfErr, None, is_some, option_copied};
+    ghost use Rattle.std.specs.Prelude.{◌≡◌, true, IfErr, None, is_some, option_copied, option_map};
     ghost use Rattle.generational_core.specs.Answers.{pointer_of};
     ghost use Rattle.generational_core.specs.Borrowing.{can_read, can_write, reach};
+    ghost use Rattle.generational_core.specs.Keeping.{box_with};
     ghost use Rattle.generational_core.specs.Seeing.{value_in};
     ghost use Rattle.generational_core.specs.Machine.Action.{Make, MakeShared, Refer, Read, Write};
     ghost use Rattle.generational_core.specs.Machine.Action.{End, Point, SetValue};
@@ -289,6 +351,20 @@ impl<T> GenerationalBox<T> {
     {
         let raw = store.new_reference(self.raw, None)?;
         Ok(box_at(raw))
+    }
+
+    /// The box of an id that was kept: exactly where a live box of this store has the id. It is the
+    /// box that was made, with the location where it was made. An id whose cell has ended is never
+    /// had by another. Takes no memory, and is O(1).
+    ///
+    /// ```rust
+    /// let found = GenerationalBox::find(store, kept.id());
+    /// ```
+    pub fn find<S: Storage<T>>(store: &S, id: GenerationalBoxId) -> Option<GenerationalBox<T>>
+        ensures { option_map pointer_of result ≡ box_with (S.state store.now) id }
+    {
+        let raw = store.find(id)?;
+        Some(box_at(raw))
     }
 
     /// Lets the box, which is a reference, lead to the shared value that another box reaches. The

@@ -11,7 +11,7 @@ use std::marker::Model;
 
 /// The name of an owner's record: its store's number, and its key, which is never given twice in a
 /// store.
-#[derive(Clone, Copy, Debug, PartialEq, Eq, Hash)]
+#[derive(Clone, Copy, Debug, PartialEq, Eq, PartialOrd, Ord, Hash)]
 #[non_exhaustive]
 pub struct OwnerId {
     /// The number of the store.

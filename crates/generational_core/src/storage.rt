@@ -3,7 +3,9 @@
 ghost use Rattle.std.specs.Prelude.{◌≡◌, ◌≤◌, ◌+◌, ◌-◌, ◌↔◌, true, IsTrue, IfOk, IfErr, None};
 ghost use Rattle.std.specs.Prelude.{is_some, option_copied};
 ghost use Rattle.generational_core.specs.State.{State, IsSound};
-ghost use Rattle.generational_core.specs.Conditions.{IsFresh};
+ghost use Rattle.std.specs.FinMap as map;
+ghost use Rattle.generational_core.specs.Conditions.{IsBounded, IsFresh};
+ghost use Rattle.generational_core.specs.Keeping.{box_with};
 ghost use Rattle.generational_core.specs.Seeing.{value_in};
 ghost use Rattle.generational_core.specs.Slots.{slots, free, retired};
 ghost use Rattle.generational_core.specs.Machine.Action.{Make, NewOwner, CloneOwner, ReleaseOwner};
@@ -62,6 +64,10 @@ pub trait AnyStorage<T> {
     fn retired(&self) -> usize
         ensures { result ≡ retired (state self.now) };
 
+    /// How many cells are live: values, shared values and references. Takes no memory.
+    fn len(&self) -> usize
+        ensures { result ≡ map.len (state self.now).cells };
+
     /// The most cells that were live at once. Takes no memory.
     fn peak_live(&self) -> usize
         ensures { result ≡ (state self.now).peak };
@@ -93,6 +99,11 @@ pub trait AnyStorage<T> {
     /// no memory.
     fn target(&self, pointer: GenerationalPointer) -> Option<GenerationalBoxId>
         ensures { result ≡ target_of (state self.now) pointer };
+
+    /// The pointer with an id, exactly where a live box of this store has it, with the location where
+    /// that was made. Takes no memory.
+    fn find(&self, id: GenerationalBoxId) -> Option<GenerationalPointer>
+        ensures { result ≡ box_with (state self.now) id };
 
     /// Whether a read of the value that the pointer reaches is free: whether it reaches a value at
     /// which no writer stands. Takes no memory.
@@ -166,8 +177,9 @@ pub trait AnyStorage<T> {
     /// The state of a store is sound at any time.
     ghost sound: { (s : Self) → IsSound (state s) };
 
-    /// There are never more slots than the most cells that were live at once and the retired slots.
-    ghost bounded: { (s : Self) → slots (state s) ≤ (state s).peak + retired (state s) };
+    /// There are never more slots than the most cells that were live at once and the retired slots,
+    /// and each live name is the last that its slot has had. So each slot is live, free or retired.
+    ghost bounded: { (s : Self) → IsBounded (state s) };
 }
 
 /// What a store of values of one type does with values.

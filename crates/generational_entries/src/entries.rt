@@ -304,6 +304,17 @@ impl<T: Drop> Entries<T> {
         self.settled.grow()
     }
 
+    /// Makes room for this many slots in all, where there is less. The only refusal is want of memory,
+    /// also where no index of 32 bits is left for a slot's borrows; it leaves the room that was.
+    pub fn reserve(&mut self, room: usize) -> Result<(), StoreError>
+        ensures slots { self.new.slots ≡ self.old.slots }
+        ensures rooms { self.old.rooms ≤ self.new.rooms }
+        ensures ok { OnOk result (room ≤ self.new.rooms) }
+        ensures cause { IfErr result (λ error. error ≡ OutOfMemory) }
+    {
+        self.settled.reserve(room)
+    }
+
     /// The borrow that stands apart, if there is one, goes to the table.
     #[inline(always)]
     pub fn settle(&mut self)

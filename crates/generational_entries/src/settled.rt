@@ -127,6 +127,29 @@ impl<T> SettledEntries<T> {
         self.grow_within(room)
     }
 
+    /// Makes room for this many slots in all, where there is less. The only refusal is want of memory,
+    /// also where no index of 32 bits is left for a slot's borrows; it leaves the room that was.
+    pub fn reserve(&mut self, room: usize) -> Result<(), StoreError>
+    where
+        T: Drop,
+        ensures slots { self.new.slots ≡ self.old.slots }
+        ensures rooms { self.old.rooms ≤ self.new.rooms }
+        ensures ok { OnOk result (room ≤ self.new.rooms) }
+        ensures cause { IfErr result (λ error. error ≡ OutOfMemory) }
+    {
+        if room <= self.room {
+            return Ok(());
+        }
+        if room >= NO_INDEX as usize {
+            return Err(StoreError::OutOfMemory);
+        }
+        if let Err(cause) = self.reserve_all(room) {
+            self.give_back_room();
+            return Err(cause);
+        }
+        Ok(())
+    }
+
     // Makes room for this many slots in all. Where memory is refused it makes room for half of those
     // that are more than before, then for a quarter and so on, and for one more at least.
     fn grow_within(&mut self, room: usize) -> Result<(), StoreError>
@@ -141,7 +164,7 @@ impl<T> SettledEntries<T> {
         ensures err { OnErr result (self.new.rooms ≡ self.old.rooms) }
         ensures cause { IfErr result (λ error. error ≡ OutOfMemory) }
     {
-        match self.reserve(room) {
+        match self.reserve_all(room) {
             Ok(()) => Ok(()),
             Err(cause) => {
                 self.give_back_room();
@@ -164,7 +187,7 @@ impl<T> SettledEntries<T> {
 
     // Makes room for this many slots in all. The lists of borrows come first: their buffer, mostly
     // the largest, mostly has nothing to be moved. So few refusals come after slots were moved.
-    fn reserve(&mut self, room: usize) -> Result<(), StoreError>
+    fn reserve_all(&mut self, room: usize) -> Result<(), StoreError>
     where
         T: Drop,
         requires more { self.old.rooms ≤ room }

@@ -114,6 +114,13 @@ impl AlreadyBorrowedMutError {
     {
         AlreadyBorrowedMutError { borrowed_mut_at }
     }
+
+    /// Where the writer began. Takes no memory.
+    pub fn borrowed_mut_at(&self) -> Location
+        ensures { result ≡ self.now.borrowed_mut_at }
+    {
+        self.borrowed_mut_at
+    }
 }
 
 impl fmt::Display for AlreadyBorrowedMutError {
@@ -152,6 +159,13 @@ impl AlreadyBorrowedError {
         ensures { result ≡ borrowed_at.items }
     {
         AlreadyBorrowedError { borrowed_at }
+    }
+
+    /// Where the readers began, in this order. Takes no memory.
+    pub fn borrowed_at(&self) -> &[Location]
+        ensures { result.now ≡ self.now }
+    {
+        self.borrowed_at.as_slice()
     }
 }
 
@@ -334,6 +348,17 @@ pub struct Refusal<T> {
     /// Why it wasn't taken in.
     pub cause: StoreError,
 }
+
+/// Prints the text of the cause.
+impl<T> fmt::Display for Refusal<T> {
+    ghost output = { λ it. Some (store_error_text it.cause) };
+
+    fn fmt<W: fmt::Write>(&self, f: &mut fmt::Formatter<W>) -> fmt::Result {
+        write!(f, "{}", self.cause)
+    }
+}
+
+impl<T: fmt::Debug + Drop> Error for Refusal<T> {}
 
 /// What a read or a making of a reference answers.
 pub type BorrowResult<T> = Result<T, Refused<BorrowError>>;

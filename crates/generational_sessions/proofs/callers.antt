@@ -1,4 +1,5 @@
 -- What the proofs of callers cite.
+pub mod Elements
 pub mod Lacking
 pub mod Lefts
 pub mod ListedOnce
@@ -6,3 +7,4 @@ pub mod PlainStores
 pub mod Results
 pub mod Rows
 pub mod Shortage
+pub mod SimpleStores

@@ -1,8 +1,11 @@
--- Stores without references: what a box reaches is its own cell there.
+-- Stores without references: what a box reaches is its own cell there. And what a table or a tree
+-- keeps of its store.
 use Rattle.std.specs.Prelude.{◌≡◌, Some}
 use Rattle.std.specs.FinMap as map
 use Rattle.generational_errors.specs.declared.error.Location.{Location}
 use Rattle.generational_core.specs.Cells.Cell.{Ref}
+use Rattle.generational_core.specs.Conditions.{IsBounded}
+use Rattle.generational_core.specs.Leaving.{IsUnborrowed}
 use Rattle.generational_core.specs.Machine.{Action}
 use Rattle.generational_core.specs.Machine.Action.{MakeShared, Refer}
 use Rattle.generational_core.specs.Names.{Name}
@@ -18,3 +21,9 @@ module _ {T : Type 0} where
   MakesNoReference (MakeShared o v l) = ⊥
   MakesNoReference (Refer o b) = ⊥
   MakesNoReference _ = Unit {0}
+
+  -- no borrow stands, no cell is a reference, and there are no more slots than are needed
+  pub record IsSimple (S : State T) : Type 0 where
+    pub unborrowed : IsUnborrowed S
+    pub plain : IsPlain S
+    pub bounded : IsBounded S

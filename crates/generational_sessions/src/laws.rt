@@ -24,7 +24,7 @@ ghost use Rattle.generational_core.specs.Machine.Answer.{Done};
 ghost use Rattle.generational_core.specs.State.{one_less};
 ghost use Rattle.generational_core.specs.Conditions.{IsReleased};
 ghost use Rattle.generational_core.specs.Steps.{Meets};
-ghost use Rattle.generational_core.specs.Slots.{slots, retired, lasts};
+ghost use Rattle.generational_core.specs.Slots.{slots, free, retired, lasts};
 ghost use Rattle.generational_core.specs.Conditions.{IsBounded};
 ghost use Rattle.generational_sessions.specs.declared.calls.Call.{Call};
 ghost use Rattle.generational_sessions.specs.declared.calls.Call.TheVariants as call;
@@ -149,12 +149,14 @@ pub fn owners_last_release_ends_its_boxes<T>()
 {}
 
 /// The slots of a store are never more than the most cells that were live at once and the slots
-/// whose generations are used up.
+/// whose generations are used up. Each is live, free or used up.
 pub fn slots_are_bounded<T>()
     ensures fresh { (number start next : ℕ) → IsBounded (fresh {T = T} number start next) }
     ensures step { (S R : State T) (call : Action T) (answer : Answer T) →
         IsSound S → IsBounded S → Meets S call answer R → IsBounded R }
     ensures few { (S : State T) → IsBounded S → slots S ≤ S.peak + retired S }
+    ensures counted { (S : State T) → IsSound S → IsBounded S →
+        slots S ≡ map.len S.cells + free S + retired S }
 {}
 
 /// What holds of every session: of one of a fresh store, after each call, and so after each run.

@@ -1,8 +1,9 @@
 //! What references lead to and name, and the counts of references at the slots of their targets.
 
-ghost use Rattle.std.specs.Prelude.{◌≡◌, ◌<◌, IfSome, length, option_map, slice_get};
+ghost use Rattle.std.specs.Prelude.{◌≡◌, ◌<◌, IfSome, is_some, length, option_map, slice_get};
 ghost use Rattle.generational_core.specs.Borrowing.{leads_to};
 ghost use Rattle.generational_core.specs.Cells.{is_shared};
+ghost use Rattle.generational_core.specs.Keeping.{boxed_at};
 ghost use Rattle.generational_containers.specs.CellNames.{name_of_cell};
 ghost use Rattle.generational_entries.specs.Entry.{cell_at};
 ghost use Rattle.generational_slots.specs.SlotsState.{count_less, count_more, shared_target};
@@ -27,6 +28,16 @@ pub(crate) fn is_shared<T: Drop>(entries: &Entries<T>, name: CellName) -> bool
     ensures { result ≡ is_shared (cell_at entries.now.slots (name_of_cell name)) }
 {
     matches!(entries.kind(name), Some(Kind::Shared))
+}
+
+// Whether a live cell of this name has a box: a shared value has none.
+pub(crate) fn is_boxed<T: Drop>(entries: &Entries<T>, name: CellName) -> bool
+    ensures { result ≡ is_some (boxed_at (cell_at entries.now.slots (name_of_cell name))) }
+{
+    match entries.kind(name) {
+        Some(kind) => matches!(kind, Kind::Value),
+        None => entries.target(name).is_some(),
+    }
 }
 
 // The slot of what a new reference names counts it.

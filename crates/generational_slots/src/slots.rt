@@ -20,6 +20,7 @@ ghost use Rattle.generational_core.specs.State.{HasTargets};
 ghost use Rattle.generational_core.specs.Ending.{close, hindrance_to};
 ghost use Rattle.generational_core.specs.Machine.{has_reader, has_writer, point, turn};
 ghost use Rattle.generational_core.specs.Machine.Action.{Point};
+ghost use Rattle.generational_core.specs.Keeping.{boxed_at};
 ghost use Rattle.generational_core.specs.Names.{is_name};
 ghost use Rattle.generational_core.specs.Seeing.{value_reached};
 ghost use Rattle.generational_core.specs.Slots.{slots, free, retired};
@@ -42,7 +43,7 @@ ghost use Rattle.generational_slots.specs.SlotsState.{with_records};
 
 use crate::counts::{Counts, SlotCounts};
 use crate::hindrance::{doomed, find_hindered, find_hindrance};
-use crate::references::{forget, is_shared, reach_slow, refer};
+use crate::references::{forget, is_boxed, is_shared, reach_slow, refer};
 use crate::refusals::{dropped, dropped_mut};
 use crate::rows::push_slots;
 use generational_containers::names::CellName;
@@ -151,6 +152,16 @@ impl<T: Drop, P: SlotPool> Slots<T, P> {
         ensures { location_of (map.get self.now.state.cells (name_of_cell name)) ≡ Some result }
     {
         self.entries.details(name.slot).created_at
+    }
+
+    /// Where the cell of this name was made, if that is live and has a box: a shared value has none.
+    pub fn find(&self, name: CellName) -> Option<Location>
+        ensures { result ≡ boxed_at (map.get self.now.state.cells (name_of_cell name)) }
+    {
+        if !is_boxed(&self.entries, name) {
+            return None;
+        }
+        Some(self.created_at(name))
     }
 
     /// A reference to a cell.
@@ -545,6 +556,25 @@ impl<T: Drop, P: SlotPool> Slots<T, P> {
             self.make_room()?;
         }
         Ok(())
+    }
+
+    /// Makes room for this many cells more, where there isn't, and for no more than these. Want of
+    /// memory is the only refusal. No slot changes.
+    pub fn reserve(&mut self, more: usize) -> Result<(), StoreError>
+        ensures state { self.new.state ≡ self.old.state }
+        ensures ok { OnOk result (more ≤ self.new.spare) }
+        ensures spare { self.old.spare ≤ self.new.spare }
+        ensures cause { IfErr result (λ error. error ≡ OutOfMemory) }
+    {
+        let spare = self.spare();
+        if more <= spare {
+            return Ok(());
+        }
+        let Some(room) = self.pool.room().checked_add(more - spare) else {
+            return Err(StoreError::OutOfMemory);
+        };
+        self.entries.reserve(room)?;
+        self.pool.grow(room)
     }
 
     /// Makes a cell without borrows. What a reference names counts it from then on. A refusal hands

@@ -9,21 +9,27 @@
 //! | `forest`   | nodes at places of a plain vector        |
 //! | `sessions` | what sessions of a `SessionTable` keep   |
 //! | `shelves`  | the same in plain vectors                |
+//! | `parts`    | places of the parts of a `Document`      |
+//! | `copies`   | the same in plain vectors                |
 //!
 //! Of the first two N are added. 10 N times a drawn one is looked at. N times a drawn one ends, and
 //! another is added in its place. Then all end: 14 N calls. Of the others N make one tree, which is
-//! walked ten times; N / 10 drawn nodes are moved below others, and the tree is removed. Of the last
+//! walked ten times; N / 10 drawn nodes are moved below others, and the tree is removed. Of the next
 //! two N are kept in sessions of a hundred, of which ten last at once, each is looked at, and the
-//! sessions end.
+//! sessions end. Of the last two N are made, ten of a part. 10 N times a drawn one is looked at. N times
+//! a drawn one's part is set and the place led to another part; then all are removed.
 //!
 //! The status is 1 where a call wasn't carried out, as for want of memory, and 2 for other words.
 #![tactic(auto)]
 
+mod copies;
 mod entities;
 mod families;
 mod logins;
 mod options;
+mod parts;
 mod plain_forest;
+mod plain_parts;
 mod rounds;
 mod scene;
 mod shelves;
@@ -31,7 +37,9 @@ mod visits;
 
 use crate::options::Options;
 use crate::plain_forest::PlainForest;
+use crate::plain_parts::PlainParts;
 use crate::shelves::Shelves;
+use document_tree::{Document, Part};
 use entity_table::EntityTable;
 use generational_box::{AnyStorage, Store, UnsyncStorage};
 use scene_tree::SceneTree;
@@ -57,7 +65,8 @@ fn main(rt: HostRuntime) -> ExitCode {
 /// Makes the list's calls. None where one wasn't carried out.
 fn seen_in(alloc: Global, words: Words) -> Option<u64> {
     let store: UnsyncStorage<u64> = Store::new(alloc, 1);
-    if !store.is_fresh() {
+    let parts: UnsyncStorage<Part<u64>> = Store::new(alloc, 2);
+    if !store.is_fresh() || !parts.is_fresh() {
         return None;
     }
     let n = words.things;
@@ -73,6 +82,8 @@ fn seen_in(alloc: Global, words: Words) -> Option<u64> {
             seen
         }
         List::Shelves => visits::run(alloc, &mut Shelves::new(alloc), n),
+        List::Parts => copies::run(alloc, &mut Document::new(alloc, parts), n),
+        List::Copies => copies::run(alloc, &mut PlainParts::new(alloc), n),
     }
 }
 
@@ -85,6 +96,8 @@ enum List {
     Forest,
     Sessions,
     Shelves,
+    Parts,
+    Copies,
 }
 
 /// The program's words.
@@ -105,6 +118,8 @@ impl Words {
             "forest" => List::Forest,
             "sessions" => List::Sessions,
             "shelves" => List::Shelves,
+            "parts" => List::Parts,
+            "copies" => List::Copies,
             _ => return None,
         };
         let things = words.next()?.parse::<usize>().ok()?;

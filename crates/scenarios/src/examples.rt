@@ -23,6 +23,18 @@ fn set<S: Storage<u64>>(store: &mut S, kept: GenerationalBox<u64>) -> Option<u64
     kept.peek(store).copied()
 }
 
+/// A box that is found again by its id.
+fn find<S: Storage<u64>>(store: &S, kept: GenerationalBox<u64>) -> bool {
+    let found = GenerationalBox::find(store, kept.id());
+    found == Some(kept)
+}
+
+/// A value for which there is room already.
+fn make_within(store: &mut UnsyncStorage<u64>) -> Option<GenerationalBox<u64>> {
+    store.reserve(1).ok()?;
+    GenerationalBox::leak(store, 7, made()).ok()
+}
+
 /// A shared value, and a reference that is led to it.
 fn lead<S: Storage<u64>>(store: &mut S, owner: &Owner) -> Option<u64> {
     let first = owner.insert_rc(store, 1, made()).ok()?;
@@ -137,8 +149,8 @@ fn examples_of_calls(rt: HostRuntime) -> Result<(), Fail> {
     let owner = store.owner().expect(&rt, "an owner");
     assert_same(&rt, &lead(&mut store, &owner), &Some(2));
     assert_same(&rt, &hold(&mut store, owner), &Ok(true));
-    let kept = GenerationalBox::leak(&mut store, 7, made()).ok();
-    let kept = kept.expect(&rt, "a box");
+    let kept = make_within(&mut store).expect(&rt, "a box");
+    assert_same(&rt, &find(&store, kept), &true);
     assert_same(&rt, &set(&mut store, kept), &Some(8));
     assert_same(&rt, &exchange(&mut store, kept, 9), &Ok(Some(8)));
     assert_same(&rt, &read_free(&mut store, kept), &Ok(Some(9)));

@@ -33,6 +33,7 @@ pub(crate) fn written() -> Location {
 #[derive(Clone, Copy, Debug, PartialEq)]
 pub(crate) struct Counts {
     pub(crate) slots: usize,
+    pub(crate) live: usize,
     pub(crate) free: usize,
     pub(crate) retired: usize,
     pub(crate) peak_live: usize,
@@ -43,6 +44,7 @@ pub(crate) struct Counts {
 pub(crate) fn counts_of<T, S: AnyStorage<T>>(store: &S) -> Counts {
     Counts {
         slots: store.slots(),
+        live: store.len(),
         free: store.free(),
         retired: store.retired(),
         peak_live: store.peak_live(),

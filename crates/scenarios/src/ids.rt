@@ -4,11 +4,12 @@ use crate::expected::{
     assert_same, assert_shows, end, insert, leak, made, made_later, new_owner, release,
 };
 use crate::fresh::{Scenario, TwoStoreScenario, play, play_in_two_stores};
+use crate::sharing::{leak_rc, leak_reference};
 use generational_box::{
     AnyStorage, GenerationalBox, GenerationalBoxId, Location, Storage, Store, UnsyncStorage,
 };
 use std::alloc::Global;
-use std::collections::BTreeSet;
+use std::collections::{BTreeSet, HashSet};
 use std::hash::{DefaultHasher, Hash, Hasher};
 use std::process::Abort;
 
@@ -138,4 +139,118 @@ fn ids_have_many_hashes(rt: HostRuntime) {
         stores.insert(hash).expect(&rt, "memory");
     }
     assert!(rt; stores.len() > 90);
+}
+
+/// Asserts that a store finds a box by its id, with the location where it was made.
+fn assert_found<S: Storage<u32>>(rt: &impl Abort, store: &S, given: GenerationalBox<u32>) {
+    let found = GenerationalBox::find(store, given.id());
+    assert!(rt; found == Some(given));
+    let place = found.map(|found| found.created_at());
+    assert_same(rt, &place, &Some(given.created_at()));
+}
+
+/// Asserts that a store has no box of an id.
+fn assert_lost<S: Storage<u32>>(rt: &impl Abort, store: &S, id: Option<GenerationalBoxId>) {
+    let id = id.expect(rt, "an id");
+    assert!(rt; GenerationalBox::find(store, id).is_none());
+}
+
+struct BoxesFoundByTheirIds;
+
+impl TwoStoreScenario<u32> for BoxesFoundByTheirIds {
+    fn play<R: Abort, S: Storage<u32>>(rt: &R, _: Global, store: &mut S, eight: &mut S) {
+        let value = leak(rt, store, 1, made());
+        let first = leak_rc(rt, store, 2, made_later());
+        let second = leak_reference(rt, store, first);
+        for given in [value, first, second] {
+            assert_found(rt, store, given);
+            assert_lost(rt, eight, Some(given.id()));
+        }
+        // a shared value has no box
+        assert_lost(rt, store, store.target(first.pointer()));
+        end(rt, store, value);
+        assert_lost(rt, store, Some(value.id()));
+        let next = leak(rt, store, 3, made());
+        assert_same(rt, &next.raw_ptr(), &value.raw_ptr());
+        assert_lost(rt, store, Some(value.id()));
+        assert_found(rt, store, next);
+    }
+}
+
+#[test]
+fn boxes_found_by_their_ids(rt: HostRuntime) {
+    play_in_two_stores::<u32, BoxesFoundByTheirIds>(&rt, rt.alloc());
+}
+
+struct BoxesInASet;
+
+impl TwoStoreScenario<u32> for BoxesInASet {
+    fn play<R: Abort, S: Storage<u32>>(rt: &R, alloc: Global, store: &mut S, eight: &mut S) {
+        let mut seen = HashSet::new(alloc);
+        let one = leak(rt, store, 1, made());
+        let other = leak(rt, store, 1, made());
+        let foreign = leak(rt, eight, 1, made());
+        end(rt, store, one);
+        let later = leak(rt, store, 1, made());
+        for given in [one, other, foreign, later] {
+            assert_same(rt, &seen.insert(given).expect(rt, "memory"), &true);
+            assert_same(rt, &seen.insert(given).expect(rt, "memory"), &false);
+        }
+        assert_same(rt, &seen.len(), &4);
+    }
+}
+
+// Boxes are kept apart by their whole ids, and a copy is the same.
+#[test]
+fn boxes_in_a_set(rt: HostRuntime) {
+    play_in_two_stores::<u32, BoxesInASet>(&rt, rt.alloc());
+}
+
+struct IdsInOrder;
+
+impl TwoStoreScenario<u32> for IdsInOrder {
+    fn play<R: Abort, S: Storage<u32>>(rt: &R, _: Global, store: &mut S, eight: &mut S) {
+        let first = leak(rt, store, 1, made());
+        end(rt, store, first);
+        let second = leak(rt, store, 1, made());
+        let beside = leak(rt, store, 1, made());
+        let foreign = leak(rt, eight, 1, made());
+        let ids = [first.id(), second.id(), beside.id(), foreign.id()];
+        for (place, id) in ids.iter().enumerate() {
+            for (other_place, other) in ids.iter().enumerate() {
+                assert!(rt; id.cmp(other) == place.cmp(&other_place));
+            }
+        }
+    }
+}
+
+// By the store, then by the slot, then by the generation.
+#[test]
+fn ids_in_order(rt: HostRuntime) {
+    play_in_two_stores::<u32, IdsInOrder>(&rt, rt.alloc());
+}
+
+struct LiveCells;
+
+impl Scenario<u32> for LiveCells {
+    fn play<R: Abort, S: Storage<u32>>(rt: &R, _: Global, store: &mut S) {
+        let value = leak(rt, store, 1, made());
+        assert_same(rt, &store.len(), &1);
+        let first = leak_rc(rt, store, 2, made());
+        assert_same(rt, &store.len(), &3);
+        let second = leak_reference(rt, store, first);
+        assert_same(rt, &store.len(), &4);
+        end(rt, store, first);
+        assert_same(rt, &store.len(), &3);
+        end(rt, store, second);
+        assert_same(rt, &store.len(), &1);
+        end(rt, store, value);
+        assert_same(rt, &(store.len(), store.free()), &(0, 4));
+    }
+}
+
+// A shared value and each of its references is a cell.
+#[test]
+fn live_cells(rt: HostRuntime) {
+    play::<u32, LiveCells>(&rt, rt.alloc());
 }

@@ -7,9 +7,10 @@ use crate::expected::{
     dropped, end, leak, made, made_later, read, release,
 };
 use crate::fresh::{Scenario, SessionScenario, play, play_in_session};
+use crate::sharing::{leak_rc, leak_reference};
 use generational_box::{
-    AnyStorage, BoxAt, Call, GenerationalBox, GenerationalRef, Location, Owner, Refused, Reply,
-    Session, Storage, Store, StoreError,
+    AnyStorage, BoxAt, Call, GenerationalBox, GenerationalRef, LastFirst, Location, OldestFirst,
+    Owner, Refused, Reply, Session, SlotPool, Storage, Store, StoreError,
 };
 use std::alloc::{AllocError, Global};
 use std::process::Abort;
@@ -267,4 +268,47 @@ impl SessionScenario for Places {
 #[test]
 fn for_the_places_of_calls(rt: HostRuntime) {
     play_in_session::<Places>(&rt, rt.alloc());
+}
+
+/// Makes room for so many cells, the third time at the latest.
+fn reserve_or_again<P: SlotPool>(rt: &impl Abort, store: &mut Store<u32, P>, more: usize) {
+    for _ in 0..2 {
+        if store.reserve(more).is_ok() {
+            return;
+        }
+    }
+    assert!(rt; store.reserve(more).is_ok());
+}
+
+/// Values, shared values and references for which there is room.
+fn make_in_reserve<P: SlotPool>(rt: &impl Abort, store: &mut Store<u32, P>) {
+    reserve_or_again(rt, store, 40);
+    for value in 0..10 {
+        leak(rt, store, value, made());
+        let shared = leak_rc(rt, store, value, made());
+        leak_reference(rt, store, shared);
+    }
+}
+
+// What room was made for takes no memory: no making is tried a second time.
+#[test]
+fn makings_in_reserved_room(rt: HostRuntime) {
+    let mut last: Store<u32, LastFirst> = Store::new(rt.alloc(), 7);
+    make_in_reserve(&rt, &mut last);
+    make_in_reserve(&rt, &mut last);
+    let mut oldest: Store<u32, OldestFirst> = Store::new(rt.alloc(), 7);
+    make_in_reserve(&rt, &mut oldest);
+    make_in_reserve(&rt, &mut oldest);
+}
+
+// More room than there can be is refused, and takes none.
+#[test]
+fn room_beyond_all(rt: HostRuntime) {
+    let mut store: Store<u32, LastFirst> = Store::new(rt.alloc(), 7);
+    for more in [usize::MAX, usize::MAX - 1, 1 << 32] {
+        assert_same(&rt, &store.reserve(more), &Err(StoreError::OutOfMemory));
+    }
+    reserve_or_again(&rt, &mut store, 1);
+    leak(&rt, &mut store, 1, made());
+    assert_same(&rt, &store.reserve(usize::MAX), &Err(StoreError::OutOfMemory));
 }

@@ -19,9 +19,9 @@ use Rattle.generational_errors.specs.declared.error.Location.{Location}
 use Rattle.generational_core.proofs.machine.Bounding.{no_slots}
 use Rattle.generational_core.proofs.machine.Calling.{made}
 use Rattle.generational_core.proofs.machine.Leaving.{same_value}
-use Rattle.entity_table.specs.Keeping.{IsSimple}
-use Rattle.entity_table.proofs.Keeping.{fresh_simple}
-use Rattle.entity_table.proofs.Removals.{get_pushed}
+use Rattle.generational_sessions.specs.PlainStores.{IsSimple}
+use Rattle.generational_sessions.proofs.callers.SimpleStores.{fresh_simple, made_simple}
+use Rattle.generational_sessions.proofs.callers.Elements.{get_pushed}
 use Rattle.scene_tree.specs.declared.node.Node.{Node}
 use Rattle.scene_tree.specs.Families.{Family, IsAttached, IsCleared, IsDetached, IsOpened, IsUnder, above, alone, children_at, count_at, family_at, parent_at}
 use Rattle.scene_tree.specs.Families.{families, family_in, slot_of}
@@ -30,7 +30,7 @@ use Rattle.scene_tree.specs.Keeping.{IsKept, IsLiveIn}
 use Rattle.scene_tree.specs.Nodes.{is_same, pointer_in, slot_in}
 use Rattle.scene_tree.proofs.Counting.{counted, same_id}
 use Rattle.scene_tree.proofs.Forests.{above_parent, attached, cleared, detached, parent_is, same_forest, slot_cases, under_alone}
-use Rattle.scene_tree.proofs.Stores.{live_within, made_beside, made_simple, made_slots, one_live}
+use Rattle.scene_tree.proofs.Stores.{live_within, made_beside, made_slots, one_live}
 
 -- what a filter leaves stood there before
 filtered_from : {X : Type 0} (test : X → Bool) (xs : List X) (k : ℕ) (x : X)

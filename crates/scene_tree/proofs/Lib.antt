@@ -3,7 +3,6 @@ pub mod Cutting
 pub mod Forests
 pub mod Gathering
 pub mod Keeping
-pub mod Lengths
 pub mod Losing
 pub mod Moving
 pub mod Paths

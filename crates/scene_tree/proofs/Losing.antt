@@ -13,8 +13,8 @@ use Rattle.generational_core.specs.Steps.{Meets}
 use Rattle.generational_core.proofs.machine.Calling.{ends, unseen}
 use Rattle.generational_core.proofs.machine.Leaving.{same_value}
 use Rattle.generational_core.proofs.machine.Stepping.{meets_given, meets_number}
-use Rattle.entity_table.specs.Keeping.{IsSimple}
-use Rattle.entity_table.proofs.Keeping.{others_left, seen_store, simple_still}
+use Rattle.generational_sessions.specs.PlainStores.{IsSimple}
+use Rattle.generational_sessions.proofs.callers.SimpleStores.{others_left, seen_store, simple_still}
 use Rattle.scene_tree.specs.declared.node.Node.{Node}
 use Rattle.scene_tree.specs.Keeping.{HasLost, IsLiveIn}
 use Rattle.scene_tree.specs.Nodes.{is_same, pointer_in, times}
@@ -30,7 +30,7 @@ module _ {T : Type 0} where
   pub lost_one : {S R : State T} → IsSound S → IsSimple S → (a : Node T) → IsLiveIn S a
       → Meets S (End (pointer_in a)) Done R → HasLost S (a ∷ []) R
   lost_one {S} {R} s k a live m = record {
-    simple = simple_still s k (End (pointer_in a)) Done m refl tt tt;
+    simple = simple_still s k (End (pointer_in a)) Done m tt tt;
     same = same_slots (End (pointer_in a)) Done refl m;
     number = meets_number S R (End (pointer_in a)) Done m;
     count = ended_count s k a live m;

@@ -25,7 +25,7 @@ use Rattle.generational_core.specs.State.{State, IsGiven, IsSound}
 use Rattle.generational_core.specs.Steps.{Meets}
 use Rattle.generational_core.specs.declared.boxes.GenerationalPointer.{GenerationalPointer}
 use Rattle.generational_errors.specs.declared.error.Location.{Location}
-use Rattle.generational_core.proofs.machine.Bounding.{IsIn, IsLast, get_lasts, lasts_insert, meets_bounded}
+use Rattle.generational_core.proofs.machine.Bounding.{lasts_insert, slot_apart, slot_made}
 use Rattle.generational_core.proofs.machine.Calling.{seen_reached}
 use Rattle.generational_core.proofs.machine.Changes.{is_making}
 use Rattle.generational_core.proofs.machine.Closing.{close_one}
@@ -35,11 +35,8 @@ use Rattle.generational_core.proofs.maps.Maps.{name_total}
 use Rattle.generational_core.proofs.machine.Ends.{some_live}
 use Rattle.generational_core.proofs.machine.Seeing.{led_box, reaches}
 use Rattle.generational_core.proofs.machine.Stepping.{act_start, made_new, meets_cases}
-use Rattle.generational_core.proofs.machine.Unborrowed.{quiet_stays}
-use Rattle.generational_sessions.proofs.callers.PlainStores.{stays_plain}
-use Rattle.entity_table.specs.Keeping.{IsSimple}
-use Rattle.entity_table.proofs.Keeping.{seen_store}
-use Rattle.entity_table.proofs.Lasts.{made_last, making, slot_apart}
+use Rattle.generational_sessions.specs.PlainStores.{IsSimple}
+use Rattle.generational_sessions.proofs.callers.SimpleStores.{making, seen_cell, seen_store}
 use Rattle.scene_tree.specs.declared.node.Node.{Node}
 use Rattle.scene_tree.specs.Keeping.{IsLiveIn}
 use Rattle.scene_tree.specs.Nodes.{IsSame, pointer_in, slot_in}
@@ -48,21 +45,7 @@ module _ {T : Type 0} where
   -- a live node has a live cell
   live_cell : (S : State T) (n : Node T) → IsLiveIn S n
       → is_some (map.get S.cells (name_of (pointer_in n))) ≡ true
-  live_cell S n live =
-      let v = some_live (value_in S (pointer_in n)) live in
-      let to = seen_reached S (pointer_in n) v.0 v.1 in
-      (led_box _ (name_of (pointer_in n)) to.0 (reaches S (pointer_in n) to.0 to.1).leads).0
-
-  pub slot_made : (S : State T) (n : Name) → IsGiven S n → map.contains_key (slots_of S) n.slot ≡ true
-  slot_made S n given = at (map.get (slots_of S) n.slot) refl
-    where
-      within : IsIn (set.items S.given) n
-      within = sym (set.contains-items S.given n) ∙ given
-
-      at : (o : Option ℕ) → map.get (slots_of S) n.slot ≡ o → is_some o ≡ true
-      at (Some g) is = refl
-      at None is = absurd (subst (IsLast (set.items S.given) n.slot) is
-          (get_lasts (set.items S.given) n.slot) n within refl)
+  live_cell S n live = seen_cell S (pointer_in n) live
 
   -- its slot is one of the store's, and no other live node has it
   pub live_within : (S : State T) (n : Node T) → IsSound S → IsSimple S → IsLiveIn S n
@@ -73,8 +56,8 @@ module _ {T : Type 0} where
   pub one_live : (S : State T) (a b : Node T) → IsSound S → IsSimple S → IsLiveIn S a
       → IsLiveIn S b → slot_in a ≡ slot_in b → IsSame a b
   one_live S a b s k live lives same =
-      let name = k.last (name_of (pointer_in a)) (live_cell S a live)
-      ∙ (ap (last_name S) same ∙ sym (k.last (name_of (pointer_in b)) (live_cell S b lives))) in
+      let name = k.bounded.last (name_of (pointer_in a)) (live_cell S a live)
+      ∙ (ap (last_name S) same ∙ sym (k.bounded.last (name_of (pointer_in b)) (live_cell S b lives))) in
       let store = seen_store S (pointer_in a) s live ∙ sym (seen_store S (pointer_in b) s lives) in
       λ i. record { store = store i; slot = (name i).slot; generation = (name i).generation }
 
@@ -82,14 +65,6 @@ module _ {T : Type 0} where
 
   module _ {S R : State T} (s : IsSound S) (k : IsSimple S) (v : T) (l : Location) (b : GenerationalPointer)
       (m : Meets S (Make None v l) (Made b) R) where
-    pub made_simple : IsSimple R
-    made_simple = record {
-      unborrowed = quiet_stays (Make None v l) (Made b) m tt k.unborrowed;
-      plain = stays_plain (Make None v l) (Made b) m tt k.plain;
-      last = made_last v l b s k.bounded k.last m;
-      bounded = meets_bounded S R (Make None v l) (Made b) s k.bounded m;
-    }
-
     -- the new node's slot is one of the store's, or the next
     pub made_slots : ((b.id.slot < slots S) × (slots R ≡ slots S))
         ⊎ ((b.id.slot ≡ slots S) × (slots R ≡ slots S + 1))
@@ -114,7 +89,7 @@ module _ {T : Type 0} where
         ∙ ap (λ t. cond t (map.len S.cells) (map.len S.cells + 1)) absent)
 
     pub made_beside : (n : Node T) → IsLiveIn S n → slot_in n ≢ b.id.slot
-    made_beside n live = slot_apart S (name_of b) s k.last k.bounded (making {S = S} {R = R} v l b m).fits
+    made_beside n live = slot_apart S (name_of b) s.given k.bounded (making {S = S} {R = R} v l b m).fits
         (name_of (pointer_in n)) (live_cell S n live)
 
   -- ---- a call that makes nothing

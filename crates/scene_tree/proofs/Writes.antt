@@ -5,7 +5,7 @@ use Rattle.std.proofs.lemmas.List.{get_or-map, get_or-set_same, get_or-set_other
 use Rattle.std.proofs.Math.Seq.{map-set_same}
 use Rattle.std.proofs.lemmas.Option.{same_Some, slice_get-get_or}
 use Rattle.generational_core.proofs.maps.Maps.{by_number, key_cases}
-use Rattle.entity_table.proofs.Removals.{get_set_apart, get_set_here}
+use Rattle.generational_sessions.proofs.callers.Elements.{get_set_apart, get_set_here}
 use Rattle.scene_tree.specs.declared.links.Links.{Links}
 use Rattle.scene_tree.specs.declared.node.Node.{Node}
 use Rattle.scene_tree.specs.Families.{Family, IsDetached, IsOpened, HasRoom, HasSpace, alone, families, family_at, family_in}

@@ -5,7 +5,7 @@ use Rattle.generational_core.specs.Names.{Name}
 use Rattle.generational_core.specs.Seeing.{value_in}
 use Rattle.generational_core.specs.Slots.{slots}
 use Rattle.generational_core.specs.State.{State, IsGiven}
-use Rattle.entity_table.specs.Keeping.{IsSimple}
+use Rattle.generational_sessions.specs.PlainStores.{IsSimple}
 use Rattle.scene_tree.specs.declared.node.Node.{Node}
 use Rattle.scene_tree.specs.Families.{Family, IsForest, children_at, parent_at}
 use Rattle.scene_tree.specs.Nodes.{pointer_in, times}

@@ -8,7 +8,7 @@ ghost use Rattle.generational_errors.specs.declared.error.StoreError.TheVariants
 ghost use Rattle.scene_tree.specs.declared.node.Node.{Node};
 ghost use Rattle.scene_tree.specs.declared.node.TreeError.TheVariants as error;
 ghost use Rattle.scene_tree.specs.Families.{alone};
-ghost use Rattle.entity_table.specs.Keeping.{IsSimple};
+ghost use Rattle.generational_sessions.specs.PlainStores.{IsSimple};
 ghost use Rattle.scene_tree.specs.Keeping.{HasLost, IsLiveIn};
 ghost use Rattle.scene_tree.specs.Nodes.{made_at, times, without, IsOther};
 ghost use Rattle.scene_tree.specs.Trees.{TreeState, value_of, is_live, family_of, parent_of};
@@ -202,7 +202,7 @@ impl<T, S: Storage<T>> SceneTree<T, S> {
     pub fn len(&self) -> usize
         ensures { result ≡ count_of self.now }
     {
-        self.store.slots() - self.store.free() - self.store.retired()
+        self.store.len()
     }
 
     /// A node's parent, if it has one.

@@ -1,14 +1,23 @@
 //! What can be asked of a store before a call, and what its references name.
 
-ghost use Rattle.std.specs.Prelude.{◌≡◌, IfErr, IfSome, OnErr, OnOk, Some, true};
+ghost use Rattle.std.specs.Prelude.{◌≡◌, ◌+◌, IfErr, IfOk, IfSome, OnErr, OnOk, Some, true, ◌||◌};
 ghost use Rattle.generational_core.specs.Answers.{pointer_of};
+ghost use Rattle.generational_core.specs.Boxes.{has_same_id};
+ghost use Rattle.generational_core.specs.Conditions.{fresh};
+ghost use Rattle.generational_core.specs.Seeing.{value_in};
+ghost use Rattle.generational_core.specs.Slots.{retired, slots};
 ghost use Rattle.generational_core.specs.StepCalls.{id_of_owner, is_free, is_ready, target_of};
 ghost use Rattle.generational_core.specs.Machine.Action.{ReleaseOwner};
 ghost use Rattle.generational_core.specs.Machine.Answer.{Done};
 ghost use Rattle.generational_core.specs.Steps.{Meets};
+ghost use Rattle.generational_core.specs.declared.boxes.GenerationalPointer.{GenerationalPointer};
 ghost use Rattle.generational_core.specs.declared.steps.StepCall.TheVariants as call;
 
-use generational_box::{AnyStorage, GenerationalBox, Owner, StepCall, Storage};
+use generational_box::{
+    AnyStorage, GenerationalBox, GenerationalBoxId, Owner, StepCall, Storage, StoreError,
+    UnsyncStorage,
+};
+use std::alloc::Global;
 
 /// Releases an owner value, if no borrow stands in the way. Where one does, or where the store
 /// doesn't know the owner, the owner comes back and nothing changes.
@@ -49,4 +58,40 @@ pub fn are_aliases<S: Storage<u64>>(
 {
     store.target(one.pointer()).is_some()
         && store.target(one.pointer()) == store.target(other.pointer())
+}
+
+/// The value of a box of which only the id was kept: what the box itself shows, if it is shown.
+pub fn look_by_id<S: Storage<u64>>(store: &S, id: GenerationalBoxId) -> Option<u64>
+    ensures { IfSome result (λ value. (kept : GenerationalPointer) → kept.id ≡ id
+        → value_in (S.state store.now) kept ≡ Some value) }
+{
+    GenerationalBox::find(store, id)?.peek(store).copied()
+}
+
+/// Whether a box is one of two.
+pub fn is_one_of(
+    asked: GenerationalBox<u64>,
+    one: GenerationalBox<u64>,
+    other: GenerationalBox<u64>,
+) -> bool
+    ensures { result ≡ has_same_id (pointer_of asked) (pointer_of one)
+        || has_same_id (pointer_of asked) (pointer_of other) }
+{
+    asked == one || asked == other
+}
+
+/// How many slots of a store serve still: those that are live, and those that are free.
+pub fn serving_slots<S: Storage<u64>>(store: &S) -> usize
+    ensures { result + retired (S.state store.now) ≡ slots (S.state store.now) }
+{
+    store.len() + store.free()
+}
+
+/// A new store with the memory for so many values. None of them is there yet.
+pub fn store_for(alloc: Global, number: u64, values: usize) -> Result<UnsyncStorage<u64>, StoreError>
+    ensures { IfOk result (λ store. store.state ≡ fresh number 1 0) }
+{
+    let mut store = UnsyncStorage::new(alloc, number);
+    store.reserve(values)?;
+    Ok(store)
 }

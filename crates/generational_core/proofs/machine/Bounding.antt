@@ -11,6 +11,8 @@ use machine.{arith, ⊎_elim, is_some, nat_lt, Content, Outcome, IsSound, by_nam
 use machine.{true≢false, cases_Bool, length-map, keys_apart, meets_cases, meets_sound, live_before}
 use machine.{or_left, not_from_false, nat_cmp_total, get-insert_here, change_follows, absent_beside}
 use machine.{and_parts, nat_cmp, eq_by_cmp, unwrap_or, IsBounded, act_leads, len_within, name_total}
+use machine.{IsGiven}
+use Rattle.generational_core.specs.Conditions.{IsLive}
 use Rattle.generational_core.specs.Slots.{lasts, slots_of, last_name, is_last_live, is_free}
 use Rattle.generational_core.specs.Slots.{is_retired, slots, free, retired, last_generation, Fits}
 use Rattle.std.specs.FinMap as map
@@ -121,6 +123,10 @@ key_kept : {X : Type 0} (m : map.FinMap nat_cmp X) (p : ℕ → Bool) (k : ℕ)
 key_kept m p k h = ⊎_elim (λ e. (sym (ap is_some e.0) ∙ h, e.1))
     (λ e. absurd (true≢false (sym h ∙ ap is_some e.0))) (keep_view by_number m p k)
 
+-- the name of a slot with the last generation that a map has for it
+abbrev named_at : ℕ → map.FinMap nat_cmp ℕ → Name
+named_at s m = record { slot = s; generation = unwrap_or (map.get m s) 0 }
+
 -- every slot is live, free or retired, and those whose last names are live are no more than the
 -- live cells
 pub slots_bounded : {T : Type 0} (S : State T) → slots S ≤ map.len S.cells + free S + retired S
@@ -169,16 +175,57 @@ module _ {T : Type 0} where
         live = let a = b.live in let c = len_within by_name R.cells S.cells live in omega arith;
         dense = λ s h.
             let a = b.dense s (sym (ap (λ m. map.contains_key m s) same) ∙ h) in omega arith;
+        last = λ n h. b.last n (live n h) ∙ ap (named_at n.slot) (sym same);
       }
 
+  -- a given name's slot was made
+  pub slot_made : (S : State T) (n : Name) → IsGiven S n → map.contains_key (slots_of S) n.slot ≡ true
+  slot_made S n given = at (map.get (slots_of S) n.slot) refl
+    where
+      at : (o : Option ℕ) → map.get (slots_of S) n.slot ≡ o → is_some o ≡ true
+      at (Some g) is = refl
+      at None is = absurd (subst (IsLast (set.items S.given) n.slot) is
+          (get_lasts (set.items S.given) n.slot) n (sym (set.contains-items S.given n) ∙ given) refl)
+
+  -- a new name's slot is one of those that were made, or the next
+  pub slot_within : (S : State T) (n : Name) → IsBounded S → Fits S n → n.slot ≤ slots S
+  slot_within S n b fits = ⊎_elim (λ new. omega (arith, new.1))
+      (λ old. omega (arith, b.dense n.slot old.0)) fits
+
+  -- live names were given
+  abbrev AreGiven : State T → Type 0
+  AreGiven S = (q : Name) → IsLive S q → IsGiven S q
+
+  -- no live name has the slot of a new one
+  pub slot_apart : (S : State T) (n : Name) → AreGiven S → IsBounded S → Fits S n
+      → (q : Name) → IsLive S q → q.slot ≢ n.slot
+  slot_apart S n given b fits q live same = ⊎_elim
+      (λ new. let lt = b.dense q.slot (slot_made S q (given q live)) in
+      absurd (omega (arith, new.1, same)))
+      (λ old. absurd (true≢false (sym live ∙ (ap (λ m. is_some (map.get S.cells m)) (b.last q live)
+      ∙ (ap (is_last_live S) same ∙ not-true _ (and_parts _ _ old.1).0)))))
+      fits
+
+  -- what is live beside a new cell, and where names were given they are with the new one
+  live_beside : (S : State T) (n : Name) (c : Cell T) (q : Name) → q ≢ n
+      → IsLive (add_cell S n c) q → IsLive S q
+  live_beside S n c q ne live = sym (ap is_some (get-insert_apart by_name S.cells n c q ne)) ∙ live
+
+  given_beside : (S : State T) (n : Name) (c : Cell T) → AreGiven S → AreGiven (add_cell S n c)
+  given_beside S n c given q live = set.contains-insert name_total S.given n q
+      ∙ ⊎_elim (λ is. or_left _ _ (ap (λ m. eq_by_cmp name_cmp m n) is ∙ key_here by_name n))
+      (λ ne. or_right _ _ (given q (live_beside S n c q ne live))) (key_cases by_name q n)
+
   -- a new cell at a name that fits
-  module _ (S : State T) (n : Name) (c : Cell T)
+  module _ (S : State T) (n : Name) (c : Cell T) (given : AreGiven S)
       (none : map.get S.cells n ≡ None) (b : IsBounded S) where
     -- where its slot isn't retired, and no slot is made without need
     bounded_with : (is_retired S n.slot ≡ true → map.contains_key (slots_of S) n.slot ≡ true → ⊥)
         → slots (add_cell S n c) ≤ max S.peak (map.len S.cells + 1) + retired S → slots S ≤
-        slots (add_cell S n c) → n.slot < slots (add_cell S n c) → IsBounded (add_cell S n c)
-    bounded_with plain few up here =
+        slots (add_cell S n c) → n.slot < slots (add_cell S n c)
+        → ((q : Name) → IsLive (add_cell S n c) q → q ≡ last_name (add_cell S n c) q.slot)
+        → IsBounded (add_cell S n c)
+    bounded_with plain few up here named =
         let R = add_cell S n c in
         let get_slot : (s : ℕ) → s ≢ n.slot → map.get (slots_of R) s ≡ map.get (slots_of S) s =
         λ s ne. ap (λ m. map.get m s) (lasts_insert S.given n)
@@ -197,7 +244,33 @@ module _ {T : Type 0} where
           live = omega arith;
           dense = λ s h. ⊎_elim (λ is. omega arith) (λ ne. let lt = b.dense s
               (sym (ap is_some (get_slot s ne)) ∙ h) in omega arith) (key_cases by_number s n.slot);
+          last = named;
         }
+
+    -- the new name is the last of its slot, and so are the others still
+    greatest : Fits S n → greater n.generation (map.get (slots_of S) n.slot) ≡ n.generation
+    greatest = ⊎_elim (λ new. ap (greater n.generation) (missing new.1 _ refl) ∙ (omega arith))
+        (λ old. omega (arith, old.2))
+      where
+        missing : n.slot ≡ slots S → (o : Option ℕ) → map.get (slots_of S) n.slot ≡ o
+            → map.get (slots_of S) n.slot ≡ None
+        missing same None is = is
+        missing same (Some g) is = absurd (omega (arith, same, b.dense n.slot (ap is_some is)))
+
+    all_last : Fits S n → (q : Name) → IsLive (add_cell S n c) q
+        → q ≡ last_name (add_cell S n c) q.slot
+    all_last fits q live = ⊎_elim (λ is. subst (λ m. m ≡ last_name (add_cell S n c) m.slot) (sym is)
+        (λ i. record { slot = n.slot; generation = new i }))
+        (λ ne. let old = live_beside S n c q ne live in b.last q old
+        ∙ ap (λ o. let m : Name = record { slot = q.slot; generation = unwrap_or o 0 } in m)
+        (sym (ap (λ m. map.get m q.slot) (lasts_insert S.given n)
+        ∙ get-insert_apart by_number (slots_of S) n.slot _ q.slot
+        (slot_apart S n given b fits q old)))) (key_cases by_name q n)
+      where
+        new : n.generation ≡ unwrap_or (map.get (slots_of (add_cell S n c)) n.slot) 0
+        new = sym (ap (λ m. unwrap_or (map.get m n.slot) 0) (lasts_insert S.given n)
+            ∙ (ap (λ o. unwrap_or o 0) (get-insert_here by_number (slots_of S) n.slot _)
+            ∙ greatest fits))
 
     born_bounded : Fits S n → IsBounded (add_cell S n c)
     born_bounded fits =
@@ -208,12 +281,12 @@ module _ {T : Type 0} where
         (slots_of S) n.slot ≡ false = false_from_ne_true _ (λ e. let lt = b.dense n.slot e in
         omega arith) in let grown = slots_grow ∙ ap (λ t. cond t (slots S) (slots S + 1)) no_slot in
         let bound = slots_bounded S in bounded_with (λ r e. true≢false (sym e ∙ no_slot))
-        (omega arith) (omega arith) (omega arith)) (λ f. let same = slots_grow
+        (omega arith) (omega arith) (omega arith) (all_last fits)) (λ f. let same = slots_grow
         ∙ ap (λ t. cond t (slots S) (slots S + 1)) f.0 in let old = b.few in
         let lt = b.dense n.slot f.0 in let ended = not (is_last_live S n.slot) in let low = nat_lt
         (last_name S n.slot).generation last_generation in bounded_with (λ r there. true≢false
         (sym (and_parts ended low f.1).1 ∙ not-true low (and_parts ended (not low) r).1))
-        (omega arith) (omega arith) (omega arith)) fits
+        (omega arith) (omega arith) (omega arith) (all_last fits)) fits
 
   -- each change keeps the bound
   change_bounded : (S : State T) (call : Action T) (f : NewNames) (next : ℕ) (c : Change T)
@@ -223,12 +296,13 @@ module _ {T : Type 0} where
       ⊎ ((set.contains S.given q ≡ false) × (set.contains (after S f c).given q ≡ true)))
       → IsBounded (after S f c)
   change_bounded S call f next (Change.Birth c) s b new law live =
-      let it = law.2 new in born_bounded S f.first c (absent S s f.first it.ungiven) b it.fits
+      let it = law.2 new in
+      born_bounded S f.first c s.given (absent S s f.first it.ungiven) b it.fits
   change_bounded S call f next (Change.Pair v l) s b new law live =
       let c : Cell T = Cell.Shared (Content.Here v []) l in let it = law.1 new in
-      born_bounded (add_cell S f.first c)
-      f.second (Cell.Ref f.first l) (absent_beside S s f.first f.second c it.1.ungiven)
-      (born_bounded S f.first c (absent S s f.first it.0.ungiven) b it.0.fits) it.1.fits
+      born_bounded (add_cell S f.first c) f.second (Cell.Ref f.first l)
+      (given_beside S f.first c s.given) (absent_beside S s f.first f.second c it.1.ungiven)
+      (born_bounded S f.first c s.given (absent S s f.first it.0.ungiven) b it.0.fits) it.1.fits
   change_bounded S call f next c s b new law live = kept_bounded S (after S f c) refl refl
       (λ q h. ⊎_elim (λ e. e) (λ e. absurd (true≢false (sym e.1 ∙ e.0))) (live q h)) b
 
@@ -261,6 +335,7 @@ module _ {T : Type 0} where
         live = omega arith;
         dense = λ s h. absurd (true≢false (sym h
             ∙ (ap (λ m. map.contains_key m s) no_slots ∙ ap is_some (map.get-empty nat_cmp s))));
+        last = λ n h. absurd (true≢false (sym h ∙ ap is_some (map.get-empty name_cmp n)));
       }
 
   -- so a call takes a sound and bounded state to another one

@@ -1,6 +1,6 @@
 use Rattle.std.proofs.Common.{ap, ◌∙◌}
 use Rattle.std.specs.Prelude.{slice_get}
-use Rattle.entity_table.proofs.Removals.{pushed_old}
+use Rattle.generational_sessions.proofs.callers.Elements.{pushed_old}
 use Rattle.scene_tree.proofs.links.open_slot.Goals as goal
 
 pub returns-then-slot-len-clause-kept : goal.returns-then-slot-len-clause-kept

@@ -1,4 +1,4 @@
-use Rattle.entity_table.proofs.Removals.{get_set_here}
+use Rattle.generational_sessions.proofs.callers.Elements.{get_set_here}
 use Rattle.scene_tree.proofs.Writes.{same_families}
 use Rattle.scene_tree.proofs.links.reserve_child.Goals as goal
 

@@ -6,7 +6,8 @@ use Rattle.generational_core.proofs.machine.Calling.{ends, unseen}
 use Rattle.generational_core.proofs.machine.Leaving.{same_value}
 use Rattle.generational_core.proofs.machine.Unborrowed.{quiet_ends}
 use Rattle.entity_table.specs.Entities.{pointer_in, slot_in}
-use Rattle.entity_table.proofs.Keeping.{free_seen, kept_removed, others_left, seen_store, row_is, row_within, stands, stands_same, stuck_unseen}
+use Rattle.generational_sessions.proofs.callers.SimpleStores.{free_seen, others_left, seen_store, stuck_unseen}
+use Rattle.entity_table.proofs.Keeping.{kept_removed, row_is, row_within, stands, stands_same}
 use Rattle.entity_table.proofs.table.EntityTable.despawn.Goals as goal
 
 pub returns-then-not-can_write-clause-gone : goal.returns-then-not-can_write-clause-gone

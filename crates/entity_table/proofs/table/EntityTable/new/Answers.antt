@@ -1,6 +1,7 @@
 use Rattle.std.proofs.Common.{sym, subst, ap, ◌∙◌, []}
 use Rattle.generational_core.specs.Seeing.{value_in}
-use Rattle.entity_table.proofs.Keeping.{fresh_kept, fresh_sees}
+use Rattle.entity_table.proofs.Keeping.{fresh_kept}
+use Rattle.generational_sessions.proofs.callers.SimpleStores.{fresh_sees}
 use Rattle.entity_table.specs.Entities.{pointer_in}
 use Rattle.entity_table.specs.Keeping.{IsKept}
 use Rattle.entity_table.proofs.table.EntityTable.new.Goals as goal

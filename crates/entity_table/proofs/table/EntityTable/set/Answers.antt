@@ -5,7 +5,8 @@ use Rattle.generational_core.proofs.machine.Calling.{seen_reached, sets}
 use Rattle.generational_core.proofs.machine.Leaving.{same_value}
 use Rattle.generational_sessions.proofs.callers.PlainStores.{reach_apart}
 use Rattle.entity_table.specs.Entities.{pointer_in}
-use Rattle.entity_table.proofs.Keeping.{free_seen, kept_still, others_left, seen_store, set_seen, simple_still, stuck_unseen}
+use Rattle.generational_sessions.proofs.callers.SimpleStores.{free_seen, others_left, seen_store, set_seen, simple_still, stuck_unseen}
+use Rattle.entity_table.proofs.Keeping.{kept_still}
 use Rattle.entity_table.proofs.table.EntityTable.set.Goals as goal
 
 pub returns-then-not-can_write-clause-stale : goal.returns-then-not-can_write-clause-stale
@@ -19,7 +20,7 @@ pub invariant_of-self : goal.invariant_of-self
 invariant_of-self g c =
     let sound = g.met.S.AnyStorage.sound in
     kept_still c.self.invariant
-    (simple_still (sound _) c.self.invariant.simple _ _ c.set.ensures.1 refl tt tt)
+    (simple_still (sound _) c.self.invariant.simple _ _ c.set.ensures.1 tt tt)
     (set_seen (sound _) c.self.invariant.simple.unborrowed _ _ _ c.set.ensures.1)
 
 pub returns-clause-shown : goal.returns-clause-shown

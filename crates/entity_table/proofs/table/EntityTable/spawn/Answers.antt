@@ -8,7 +8,8 @@ use Rattle.entity_table.specs.Keeping.{IsKept}
 use Rattle.generational_core.specs.Answers.{pointer_of}
 use Rattle.entity_table.specs.Entities.{pointer_in}
 use Rattle.entity_table.specs.Tables.{TableState, WasSpawned}
-use Rattle.entity_table.proofs.Keeping.{kept_reserved, kept_spawned, others_left}
+use Rattle.entity_table.proofs.Keeping.{kept_reserved, kept_spawned}
+use Rattle.generational_sessions.proofs.callers.SimpleStores.{others_left}
 use Rattle.entity_table.proofs.table.EntityTable.spawn.Goals as goal
 
 pub invariant_of-self : goal.invariant_of-self

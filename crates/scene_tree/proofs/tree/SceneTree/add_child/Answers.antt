@@ -5,7 +5,7 @@ use Rattle.generational_core.specs.Answers.{pointer_of}
 use Rattle.generational_core.proofs.machine.Calling.{made}
 use Rattle.generational_core.proofs.machine.Leaving.{same_value}
 use Rattle.generational_core.proofs.machine.Stepping.{made_new, meets_given}
-use Rattle.entity_table.proofs.Keeping.{others_left}
+use Rattle.generational_sessions.proofs.callers.SimpleStores.{others_left}
 use Rattle.std.proofs.lemmas.List.{length-map}
 use Rattle.scene_tree.specs.declared.node.Node.{Node}
 use Rattle.scene_tree.specs.Families.{Family, HasRoom, family_in}

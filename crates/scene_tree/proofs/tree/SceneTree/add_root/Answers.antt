@@ -4,7 +4,7 @@ use Rattle.generational_core.specs.Answers.{pointer_of}
 use Rattle.generational_core.proofs.machine.Calling.{made}
 use Rattle.generational_core.proofs.machine.Leaving.{given_other, same_value}
 use Rattle.generational_core.proofs.machine.Stepping.{made_new, meets_given}
-use Rattle.entity_table.proofs.Keeping.{others_left}
+use Rattle.generational_sessions.proofs.callers.SimpleStores.{others_left}
 use Rattle.scene_tree.specs.Families.{families}
 use Rattle.scene_tree.specs.Nodes.{pointer_in, slot_in}
 use Rattle.scene_tree.specs.Trees.{TreeState, WasMade}

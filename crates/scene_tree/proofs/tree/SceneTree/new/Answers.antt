@@ -1,6 +1,6 @@
 use Rattle.std.proofs.Common.{[], sym, subst, ap, ◌∙◌}
 use Rattle.generational_core.specs.Seeing.{value_in}
-use Rattle.entity_table.proofs.Keeping.{fresh_sees}
+use Rattle.generational_sessions.proofs.callers.SimpleStores.{fresh_sees}
 use Rattle.scene_tree.specs.Keeping.{IsKept}
 use Rattle.scene_tree.specs.Nodes.{pointer_in}
 use Rattle.scene_tree.proofs.Keeping.{fresh_kept}

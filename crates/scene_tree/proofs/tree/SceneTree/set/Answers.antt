@@ -5,7 +5,7 @@ use Rattle.std.specs.Prelude.{is_some}
 use Rattle.generational_core.proofs.machine.Calling.{seen_reached, sets}
 use Rattle.generational_core.proofs.machine.Leaving.{same_value}
 use Rattle.generational_sessions.proofs.callers.PlainStores.{reach_apart}
-use Rattle.entity_table.proofs.Keeping.{others_left, seen_store, set_seen, simple_still}
+use Rattle.generational_sessions.proofs.callers.SimpleStores.{others_left, seen_store, set_seen, simple_still}
 use Rattle.scene_tree.specs.Nodes.{pointer_in}
 use Rattle.scene_tree.proofs.Keeping.{kept_still}
 use Rattle.scene_tree.proofs.Stores.{same_slots, set_count}
@@ -21,7 +21,7 @@ pub invariant_of-self : goal.invariant_of-self
 invariant_of-self g c =
     let sound = g.met.S.AnyStorage.sound in
     kept_still c.self.invariant
-    (simple_still (sound _) c.self.invariant.simple _ _ c.set.ensures.1 refl tt tt)
+    (simple_still (sound _) c.self.invariant.simple _ _ c.set.ensures.1 tt tt)
     (same_slots _ _ refl c.set.ensures.1)
     (λ n. set_seen (sound _) c.self.invariant.simple.unborrowed _ _ _ c.set.ensures.1 (pointer_in n))
 

@@ -1,22 +1,17 @@
--- How many slots of a store are live, free and retired, where each live name is the last of its slot.
+-- How many slots are live, free and retired: each is one of these, and no two live names have one
+-- slot.
+use Rattle.generational_core.proofs.machine
+use machine.{◌≡◌, ◌+◌, ℕ, Bool, true, false, List, [], ◌∷◌, ◌++◌, sym, ap, subst, ◌∙◌, ⊎_elim, arith}
+use machine.{AllByRecursion, IsDistinct, IsSound, Name, State, and_parts, by_name, by_number, cases_Bool}
+use machine.{eq_by_cmp, eq_by_cmp_equiv, is_some, keep_view, key_here, key_same, keys_apart, len_keys}
+use machine.{length-le_from_is_member, length-map, list_any, list_any-append, list_map, name_cmp, not}
+use machine.{nat_cmp, nat_cmp_total, not-true, or_cases, or_left, or_right, true≢false, ◌&&◌, IsBounded}
+use Rattle.std.proofs.Common.{length-append}
 use Rattle.std.specs.FinMap as map
-use Rattle.std.proofs.Common.{◌≡◌, ◌+◌, ℕ, Bool, true, false, List, [], ◌∷◌, ◌++◌, sym, ap, subst, ◌∙◌}
-use Rattle.std.proofs.Common.{⊎_elim, arith, length-append, not}
-use Rattle.std.specs.Cmp.{eq_by_cmp_equiv, nat_cmp_total}
-use Rattle.std.specs.List.{AllByRecursion, IsDistinct, list_any}
-use Rattle.std.specs.Ordering.{eq_by_cmp, nat_cmp}
-use Rattle.std.specs.Prelude.{◌&&◌, is_some, map as list_map}
-use Rattle.std.proofs.lemmas.Bool.{and_parts, cases_Bool, not-true, or_cases, or_left, or_right, true≢false}
-use Rattle.std.proofs.lemmas.List.{length-map}
-use Rattle.std.proofs.lemmas.List.Folds.{list_any-append}
-use Rattle.std.proofs.lemmas.Map.Made.{length-le_from_is_member}
-use Rattle.generational_core.specs.Names.{Name, name_cmp}
-use Rattle.generational_core.specs.Slots.{free, is_free, is_last_live, is_retired, last_name, retired, slots, slots_of}
-use Rattle.generational_core.specs.State.{State, IsSound}
-use Rattle.generational_core.proofs.machine.Bounding.{slots_bounded}
-use Rattle.generational_core.proofs.maps.Maps.{by_name, by_number, keep_view, key_here, key_same, keys_apart, len_keys}
-use Rattle.entity_table.specs.Keeping.{AreLast}
-use Rattle.scene_tree.proofs.Stores.{slot_made}
+use Rattle.generational_core.specs.Conditions.{IsLive}
+use Rattle.generational_core.specs.Slots.{free, is_free, is_last_live, is_retired, last_name, retired}
+use Rattle.generational_core.specs.Slots.{slots, slots_of}
+use Rattle.generational_core.proofs.machine.Bounding.{slot_made, slots_bounded}
 
 module _ {K : Type 0} (e : K → K → Bool) where
   any_false : (x : K) (ys : List K) → (list_any (e x) ys ≡ true → ⊥)
@@ -55,20 +50,17 @@ found_slot (n ∷ names) s any = ⊎_elim
     (λ yes. (n, or_left _ _ (key_here by_name n), key_same by_number s n.slot yes))
     (λ rest. let m = found_slot names s rest in (m.0, or_right _ _ m.1, m.2)) (or_cases _ _ any)
 
-module _ {T : Type 0} (S : State T) (s : IsSound S) (last : AreLast S) where
-  abbrev IsLiveName : Name → Type 0
-  IsLiveName n = is_some (map.get S.cells n) ≡ true
-
+module _ {T : Type 0} (S : State T) (s : IsSound S) (b : IsBounded S) where
   slots_apart : (names : List Name)
-      → ((n : Name) → list_any (eq_by_cmp name_cmp n) names ≡ true → IsLiveName n)
+      → ((n : Name) → list_any (eq_by_cmp name_cmp n) names ≡ true → IsLive S n)
       → IsDistinct (eq_by_cmp name_cmp) names → IsDistinct (eq_by_cmp nat_cmp) (slots_in names)
   unfolding IsDistinct
   slots_apart [] live d = tt
   slots_apart (n ∷ names) live d = (
     any_false (eq_by_cmp nat_cmp) n.slot (slots_in names) (λ any.
         let m = found_slot names n.slot any in
-        let same = last n (live n (or_left _ _ (key_here by_name n)))
-        ∙ (ap (last_name S) m.2 ∙ sym (last m.0 (live m.0 (or_right _ _ m.1)))) in
+        let same = b.last n (live n (or_left _ _ (key_here by_name n)))
+        ∙ (ap (last_name S) m.2 ∙ sym (b.last m.0 (live m.0 (or_right _ _ m.1)))) in
         no_any (eq_by_cmp name_cmp) n names d.0
         (subst (λ q. list_any (eq_by_cmp name_cmp q) names ≡ true) (sym same) m.1)),
     slots_apart names (λ q any. live q (or_right _ _ any)) d.1,
@@ -80,7 +72,7 @@ module _ {T : Type 0} (S : State T) (s : IsSound S) (last : AreLast S) where
   abbrev kept_slots : (ℕ → Bool) → List ℕ
   kept_slots p = map.keys (map.retain_keys (slots_of S) p)
 
-  live_key : (n : Name) → list_any (eq_by_cmp name_cmp n) (map.keys S.cells) ≡ true → IsLiveName n
+  live_key : (n : Name) → list_any (eq_by_cmp name_cmp n) (map.keys S.cells) ≡ true → IsLive S n
   live_key n any = map.contains_key-keys S.cells n ∙ any
 
   -- what stands in these lists
@@ -90,7 +82,7 @@ module _ {T : Type 0} (S : State T) (s : IsSound S) (last : AreLast S) where
       let m = found_slot (map.keys S.cells) q any in
       let live = live_key m.0 m.1 in (
         ap (is_last_live S) m.2
-            ∙ (ap (λ n. is_some (map.get S.cells n)) (sym (last m.0 live)) ∙ live),
+            ∙ (ap (λ n. is_some (map.get S.cells n)) (sym (b.last m.0 live)) ∙ live),
         ap (map.contains_key (slots_of S)) m.2 ∙ slot_made S m.0 (s.given m.0 live),
       )
 
