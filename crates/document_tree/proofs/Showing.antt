@@ -27,32 +27,9 @@ use Rattle.generational_core.proofs.machine.Stepping.{meets_given, meets_number}
 use Rattle.document_tree.specs.declared.part.Part.{Part}
 use Rattle.document_tree.specs.declared.place.Place.{Place}
 use Rattle.document_tree.specs.Documents.{Shown, children_of, shown_by, shown_of, shown_in, part_in, WasMade, Leaves, Changes}
+use Rattle.generational_sessions.proofs.callers.Ids.{same_id_reach, same_value_there, unreached}
 use Rattle.document_tree.specs.Outlines.{IsBelow, IsChild}
 use Rattle.document_tree.specs.Places.{IsSame}
-
--- ---- boxes
-
-module _ {C : Type 0} where
-  -- what a box sees lies at what it reaches
-  pub same_value_there : (S : State C) (a b : GenerationalPointer) → reach S a ≡ reach S b
-      → value_in S a ≡ value_in S b
-  unfolding value_in
-  same_value_there S a b same = ap (value_reached S) same
-
-  -- and what it reaches depends on its id alone
-  pub same_id_reach : (S : State C) (a b : GenerationalPointer) → a.id ≡ b.id → reach S a ≡ reach S b
-  unfolding reach
-  same_id_reach S a b same =
-      ap (λ id. let n : Name = record { slot = id.slot; generation = id.generation } in
-      cond (nat_eq id.store S.number) (leads_to (map.get S.cells n) n) None) same
-
-  -- a box of another store reaches nothing
-  foreign : (S : State C) (b : GenerationalPointer) → b.id.store ≢ S.number → reach S b ≡ None
-  foreign S b other = at (reach S b) refl
-    where
-      at : (to : Option Name) → reach S b ≡ to → reach S b ≡ None
-      at None is = is
-      at (Some m) is = absurd (other (eqb-true b.id.store S.number (reaches S b m is).number))
 
 fresh_none : (C : Type 0) (number start next : ℕ) (b : GenerationalPointer)
     → reach (fresh {T = C} number start next) b ≡ None
@@ -143,8 +120,8 @@ module _ {T : Type 0} where
           slot = (same i).slot;
           generation = (same i).generation;
         }) in
-        let before = foreign D q.raw apart in
-        let after = foreign E q.raw (λ store. apart (store ∙ meets_number D E call answer m)) in record {
+        let before = unreached D q.raw apart in
+        let after = unreached E q.raw (λ store. apart (store ∙ meets_number D E call answer m)) in record {
           part = after ∙ sym before;
           shown = unreached_shown E q after ∙ sym (unreached_shown D q before);
         })

@@ -31,8 +31,10 @@ use Rattle.generational_core.proofs.machine.Stepping.{meets_number, meets_sound}
 use Rattle.generational_core.proofs.machine.Unborrowed.{quiet_free, quiet_fresh, quiet_sees, quiet_stays}
 use Rattle.generational_core.proofs.maps.Maps.{by_number, key_cases, name_cases}
 use Rattle.generational_sessions.specs.PlainStores.{IsSimple}
-use Rattle.generational_sessions.proofs.callers.SimpleStores.{IsSeen, fresh_simple, made_simple, making}
-use Rattle.generational_sessions.proofs.callers.SimpleStores.{one_id, seen_cell, seen_store, simple_still}
+use Rattle.generational_sessions.proofs.callers.Ids.{IsSeen}
+use Rattle.generational_sessions.proofs.callers.SimpleStores.{fresh_simple, made_simple, making}
+use Rattle.generational_sessions.proofs.callers.Ids.{one_id, seen_cell, seen_reach, seen_store}
+use Rattle.generational_sessions.proofs.callers.SimpleStores.{simple_still}
 use Rattle.generational_core.proofs.machine.Bounding.{slot_apart, slot_within}
 use Rattle.entity_table.specs.declared.entity.Entity.{Entity}
 use Rattle.entity_table.specs.Entities.{pointer_in, slot_in, IsSame}

@@ -1,5 +1,6 @@
 -- What the proofs of callers cite.
 pub mod Elements
+pub mod Ids
 pub mod Lacking
 pub mod Lefts
 pub mod ListedOnce
@@ -8,3 +9,4 @@ pub mod Results
 pub mod Rows
 pub mod Shortage
 pub mod SimpleStores
+pub mod Tickets

@@ -14,7 +14,8 @@ use Rattle.generational_core.proofs.machine.Calling.{ends, unseen}
 use Rattle.generational_core.proofs.machine.Leaving.{same_value}
 use Rattle.generational_core.proofs.machine.Stepping.{meets_given, meets_number}
 use Rattle.generational_sessions.specs.PlainStores.{IsSimple}
-use Rattle.generational_sessions.proofs.callers.SimpleStores.{others_left, seen_store, simple_still}
+use Rattle.generational_sessions.proofs.callers.Ids.{others_left, seen_store}
+use Rattle.generational_sessions.proofs.callers.SimpleStores.{simple_still}
 use Rattle.scene_tree.specs.declared.node.Node.{Node}
 use Rattle.scene_tree.specs.Keeping.{HasLost, IsLiveIn}
 use Rattle.scene_tree.specs.Nodes.{is_same, pointer_in, times}
@@ -39,7 +40,7 @@ module _ {T : Type 0} where
         (λ same. sym (same_shown R a n (is_id a n same))
         ∙ unseen R (pointer_in a) (ends (pointer_in a) {U = Unit {0}} (Ok tt) m))
         (λ other. absurd (zero_less some (times_apart n a [] other))) (cases_Bool (is_same a n));
-    others = λ n none. others_left (End (pointer_in a)) Done s m (pointer_in a) (pointer_in n)
+    others = λ n none. others_left (End (pointer_in a)) Done m (pointer_in a) (pointer_in n)
         (seen_store S (pointer_in a) s live)
         (λ ne. same_value S R (End (pointer_in a)) Done s m (pointer_in n) ne tt)
         (λ same. let one = times_more n a [] (same_id a n same) in absurd (omega (arith, none, one)));

@@ -36,7 +36,8 @@ use Rattle.generational_core.proofs.machine.Ends.{some_live}
 use Rattle.generational_core.proofs.machine.Seeing.{led_box, reaches}
 use Rattle.generational_core.proofs.machine.Stepping.{act_start, made_new, meets_cases}
 use Rattle.generational_sessions.specs.PlainStores.{IsSimple}
-use Rattle.generational_sessions.proofs.callers.SimpleStores.{making, seen_cell, seen_store}
+use Rattle.generational_sessions.proofs.callers.Ids.{seen_cell, seen_store}
+use Rattle.generational_sessions.proofs.callers.SimpleStores.{making}
 use Rattle.scene_tree.specs.declared.node.Node.{Node}
 use Rattle.scene_tree.specs.Keeping.{IsLiveIn}
 use Rattle.scene_tree.specs.Nodes.{IsSame, pointer_in, slot_in}

@@ -5,7 +5,7 @@ ghost use Rattle.generational_core.specs.Answers.{pointer_of};
 ghost use Rattle.generational_core.specs.Boxes.{has_same_id};
 ghost use Rattle.generational_core.specs.Conditions.{fresh};
 ghost use Rattle.generational_core.specs.Seeing.{value_in};
-ghost use Rattle.generational_core.specs.Slots.{retired, slots};
+ghost use Rattle.generational_core.specs.Slots.{free, retired};
 ghost use Rattle.generational_core.specs.StepCalls.{id_of_owner, is_free, is_ready, target_of};
 ghost use Rattle.generational_core.specs.Machine.Action.{ReleaseOwner};
 ghost use Rattle.generational_core.specs.Machine.Answer.{Done};
@@ -80,11 +80,11 @@ pub fn is_one_of(
     asked == one || asked == other
 }
 
-/// How many slots of a store serve still: those that are live, and those that are free.
-pub fn serving_slots<S: Storage<u64>>(store: &S) -> usize
-    ensures { result + retired (S.state store.now) ≡ slots (S.state store.now) }
+/// How many slots of a store have no live cell: they are free, or retired.
+pub fn slots_without_cells<S: Storage<u64>>(store: &S) -> usize
+    ensures { result ≡ free (S.state store.now) + retired (S.state store.now) }
 {
-    store.len() + store.free()
+    store.slots() - store.len()
 }
 
 /// A new store with the memory for so many values. None of them is there yet.

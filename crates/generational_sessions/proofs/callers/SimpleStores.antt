@@ -1,6 +1,6 @@
 -- What a table or a tree keeps of its store, after each of its calls: no borrow, no reference, and
 -- slots that are bounded.
-use Rattle.std.proofs.Common.{◌≡◌, ◌≢◌, ℕ, Bool, true, false, Option, None, Some, [], refl, sym, ap, subst}
+use Rattle.std.proofs.Common.{◌≡◌, ℕ, Bool, true, false, Option, None, Some, [], refl, sym, ap, subst}
 use Rattle.std.proofs.Common.{◌∙◌, ⊎_elim}
 use Rattle.std.proofs.lemmas.Bool.{true≢false}
 use Rattle.std.specs.Prelude.{is_some}
@@ -22,16 +22,13 @@ use Rattle.generational_core.specs.Steps.{Meets}
 use Rattle.generational_core.specs.declared.boxes.GenerationalPointer.{GenerationalPointer}
 use Rattle.generational_errors.specs.declared.error.Location.{Location}
 use Rattle.generational_core.proofs.machine.Bounding.{fresh_bounded, meets_bounded}
-use Rattle.generational_core.proofs.machine.Boxing.{reached_boxed}
-use Rattle.generational_core.proofs.machine.Calling.{seen_reached, unseen}
-use Rattle.generational_core.proofs.machine.Ends.{some_live}
+use Rattle.generational_core.proofs.machine.Calling.{unseen}
 use Rattle.generational_core.proofs.machine.Leaving.{same_reach}
 use Rattle.generational_core.proofs.machine.Resting.{free_sees}
-use Rattle.generational_core.proofs.machine.Seeing.{led_box, reaches}
-use Rattle.generational_core.proofs.machine.Stepping.{meets_cases, meets_number, meets_sound}
+use Rattle.generational_core.proofs.machine.Stepping.{meets_cases, meets_sound}
 use Rattle.generational_core.proofs.machine.Unborrowed.{quiet_free, quiet_fresh, quiet_sees, quiet_stays}
-use Rattle.generational_core.proofs.maps.Maps.{name_cases}
 use Rattle.generational_sessions.specs.PlainStores.{IsSimple, MakesNoReference}
+use Rattle.generational_sessions.proofs.callers.Ids.{IsSeen, seen_cell}
 use Rattle.generational_sessions.proofs.callers.PlainStores.{fresh_plain, stays_plain}
 
 module _ {T : Type 0} where
@@ -62,25 +59,6 @@ module _ {T : Type 0} where
       bounded = meets_bounded S R call answer s k.bounded m;
     }
 
-  -- ---- boxes that see values
-
-  abbrev pub IsSeen : State T → GenerationalPointer → Type 0
-  IsSeen S b = is_some (value_in S b) ≡ true
-
-  -- such a box is of the store, and has a live cell
-  pub seen_reach : (S : State T) (b : GenerationalPointer) → IsSeen S b → (m : Name) × (reach S b ≡ Some m)
-  seen_reach S b seen = let v = some_live (value_in S b) seen in seen_reached S b v.0 v.1
-
-  pub seen_cell : (S : State T) (b : GenerationalPointer) → IsSeen S b
-      → is_some (map.get S.cells (name_of b)) ≡ true
-  seen_cell S b seen =
-      let to = seen_reach S b seen in
-      (led_box _ (name_of b) to.0 (reaches S b to.0 to.1).leads).0
-
-  pub seen_store : (S : State T) (b : GenerationalPointer) → IsSound S → IsSeen S b
-      → b.id.store ≡ S.number
-  seen_store S b s seen = let to = seen_reach S b seen in (reached_boxed S b to.0 s to.1).0
-
   -- where no borrow stands the test of a write tells which they are
   pub free_seen : {S : State T} (b : GenerationalPointer) → IsSound S → IsSimple S → {r : Bool}
       → r ≡ can_write S b → r ≡ true → IsSeen S b
@@ -107,39 +85,6 @@ module _ {T : Type 0} where
           let before = free_sees S b s (quiet_free S quiet b m is) in
           let after = free_sees R b r (quiet_free R still b m (same ∙ is)) in
           ap is_some after.1 ∙ sym (ap is_some before.1)
-
-  -- so those of one name are of one id
-  pub one_id : (S : State T) (a b : GenerationalPointer) → IsSound S → IsSeen S a → IsSeen S b
-      → name_of a ≡ name_of b → a.id ≡ b.id
-  one_id S a b s seen saw same =
-      let store = seen_store S a s seen ∙ sym (seen_store S b s saw) in
-      λ i. record { store = store i; slot = (same i).slot; generation = (same i).generation }
-
-  -- a box of another store sees nothing, so a call that leaves each box of another name leaves each
-  -- of another id
-  foreign : (S : State T) (b : GenerationalPointer) → IsSound S → b.id.store ≢ S.number
-      → value_in S b ≡ None
-  foreign S b s other = at (value_in S b) refl
-    where
-      at : (v : Option T) → value_in S b ≡ v → value_in S b ≡ None
-      at None is = is
-      at (Some v) is = absurd (other (seen_store S b s (ap is_some is)))
-
-  pub others_left : {S R : State T} (call : Action T) (answer : Answer T) → IsSound S
-      → Meets S call answer R → (a b : GenerationalPointer) → a.id.store ≡ S.number
-      → (name_of a ≢ name_of b → value_in R b ≡ value_in S b) → a.id ≢ b.id
-      → value_in R b ≡ value_in S b
-  others_left {S} {R} call answer s m a b own left other = ⊎_elim
-      (λ same. let apart : b.id.store ≢ S.number = λ store. other
-      (let e = own ∙ sym store in λ i. record {
-        store = e i;
-        slot = (same i).slot;
-        generation = (same i).generation;
-      }) in
-      foreign R b (meets_sound S R call answer s m)
-      (λ store. apart (store ∙ meets_number S R call answer m))
-      ∙ sym (foreign S b s apart))
-      left (name_cases (name_of a) (name_of b))
 
   -- a fresh store shows no box a value
   pub fresh_sees : (number start next : ℕ) (b : GenerationalPointer)

@@ -6,7 +6,8 @@ use Rattle.generational_core.proofs.machine.Calling.{ends, unseen}
 use Rattle.generational_core.proofs.machine.Leaving.{same_value}
 use Rattle.generational_core.proofs.machine.Unborrowed.{quiet_ends}
 use Rattle.entity_table.specs.Entities.{pointer_in, slot_in}
-use Rattle.generational_sessions.proofs.callers.SimpleStores.{free_seen, others_left, seen_store, stuck_unseen}
+use Rattle.generational_sessions.proofs.callers.Ids.{others_left, seen_store}
+use Rattle.generational_sessions.proofs.callers.SimpleStores.{free_seen, stuck_unseen}
 use Rattle.entity_table.proofs.Keeping.{kept_removed, row_is, row_within, stands, stands_same}
 use Rattle.entity_table.proofs.table.EntityTable.despawn.Goals as goal
 
@@ -60,7 +61,7 @@ returns-clause-others g c f other =
     let sound = g.met.S.AnyStorage.sound in
     let seen = free_seen _ (sound _) c.self.invariant.simple c.can_write.ensures
     c.if-not-can_write.false in
-    rw (← c.self.view_is) (others_left _ _ (sound _) c.in-Ok.ensures (pointer_in c.args.entity) (pointer_in f)
+    rw (← c.self.view_is) (others_left _ _ c.in-Ok.ensures (pointer_in c.args.entity) (pointer_in f)
     (seen_store _ _ (sound _) seen) (λ ne. same_value _ _ _ _ (sound _) c.in-Ok.ensures _ ne tt) other)
 
 pub returns-clause-row : goal.returns-clause-row

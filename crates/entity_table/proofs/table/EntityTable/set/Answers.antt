@@ -5,7 +5,8 @@ use Rattle.generational_core.proofs.machine.Calling.{seen_reached, sets}
 use Rattle.generational_core.proofs.machine.Leaving.{same_value}
 use Rattle.generational_sessions.proofs.callers.PlainStores.{reach_apart}
 use Rattle.entity_table.specs.Entities.{pointer_in}
-use Rattle.generational_sessions.proofs.callers.SimpleStores.{free_seen, others_left, seen_store, set_seen, simple_still, stuck_unseen}
+use Rattle.generational_sessions.proofs.callers.Ids.{others_left, seen_store}
+use Rattle.generational_sessions.proofs.callers.SimpleStores.{free_seen, set_seen, simple_still, stuck_unseen}
 use Rattle.entity_table.proofs.Keeping.{kept_still}
 use Rattle.entity_table.proofs.table.EntityTable.set.Goals as goal
 
@@ -32,7 +33,7 @@ returns-clause-others g c f other =
     let seen = free_seen _ (sound _) c.self.invariant.simple c.can_write.ensures
     c.if-not-can_write.false in
     let to = seen_reached _ _ _ (sets _ _ _ c.set.ensures.1).0 in
-    rw (← c.self.view_is) (others_left _ _ (sound _) c.set.ensures.1 (pointer_in c.args.entity) (pointer_in f) (seen_store _ _ (sound _) seen)
+    rw (← c.self.view_is) (others_left _ _ c.set.ensures.1 (pointer_in c.args.entity) (pointer_in f) (seen_store _ _ (sound _) seen)
     (λ ne. same_value _ _ _ _ (sound _) c.set.ensures.1 _
     (λ same. ne (reach_apart _ c.self.invariant.simple.plain _ _ to.0 to.1 (sym same))) tt) other)
 

@@ -9,7 +9,7 @@ use Rattle.generational_core.specs.Answers.{pointer_of}
 use Rattle.entity_table.specs.Entities.{pointer_in}
 use Rattle.entity_table.specs.Tables.{TableState, WasSpawned}
 use Rattle.entity_table.proofs.Keeping.{kept_reserved, kept_spawned}
-use Rattle.generational_sessions.proofs.callers.SimpleStores.{others_left}
+use Rattle.generational_sessions.proofs.callers.Ids.{others_left}
 use Rattle.entity_table.proofs.table.EntityTable.spawn.Goals as goal
 
 pub invariant_of-self : goal.invariant_of-self
@@ -42,7 +42,7 @@ pub returns-clause-others : goal.returns-clause-others
 returns-clause-others g c f other =
     let sound = g.met.S.AnyStorage.sound in
     let step = c.in_ok-raw.ensures.step in
-    rw (← c.self.view_is) (others_left _ _ (sound _) step (pointer_of c.in_ok-raw.raw) (pointer_in f) (made_new _ _ _ _ step).0
+    rw (← c.self.view_is) (others_left _ _ step (pointer_of c.in_ok-raw.raw) (pointer_in f) (made_new _ _ _ _ step).0
     (same_value _ _ _ _ (sound _) step _ tt) other)
 
 pub returns-clause-left : goal.returns-clause-left

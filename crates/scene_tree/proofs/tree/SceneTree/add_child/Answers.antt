@@ -5,7 +5,7 @@ use Rattle.generational_core.specs.Answers.{pointer_of}
 use Rattle.generational_core.proofs.machine.Calling.{made}
 use Rattle.generational_core.proofs.machine.Leaving.{same_value}
 use Rattle.generational_core.proofs.machine.Stepping.{made_new, meets_given}
-use Rattle.generational_sessions.proofs.callers.SimpleStores.{others_left}
+use Rattle.generational_sessions.proofs.callers.Ids.{others_left}
 use Rattle.std.proofs.lemmas.List.{length-map}
 use Rattle.scene_tree.specs.declared.node.Node.{Node}
 use Rattle.scene_tree.specs.Families.{Family, HasRoom, family_in}
@@ -85,7 +85,7 @@ returns-clause-others g c f other beside =
     let step = c.in-Ok.ensures.step in
     let live = subst (λ (t : TreeState _). is_live t c.args.parent ≡ true) (sym c.self.view_is)
     (sym c.is_alive.ensures ∙ c.if-not-is_alive.false) in
-    rw (← c.self.view_is) (left_with _ _ f (others_left _ _ (sound _) step (pointer_of c.in-Ok.raw)
+    rw (← c.self.view_is) (left_with _ _ f (others_left _ _ step (pointer_of c.in-Ok.raw)
     (pointer_in f) (made_new _ _ _ _ step).0 (same_value _ _ _ _ (sound _) step _ tt) other)
     (λ lives. added_beside c.self.invariant (sound _) _ _ c.args.parent child step live _ _
     opened c.attach.ensures (slot_in f)

@@ -4,7 +4,7 @@ use Rattle.generational_core.specs.Answers.{pointer_of}
 use Rattle.generational_core.proofs.machine.Calling.{made}
 use Rattle.generational_core.proofs.machine.Leaving.{given_other, same_value}
 use Rattle.generational_core.proofs.machine.Stepping.{made_new, meets_given}
-use Rattle.generational_sessions.proofs.callers.SimpleStores.{others_left}
+use Rattle.generational_sessions.proofs.callers.Ids.{others_left}
 use Rattle.scene_tree.specs.Families.{families}
 use Rattle.scene_tree.specs.Nodes.{pointer_in, slot_in}
 use Rattle.scene_tree.specs.Trees.{TreeState, WasMade}
@@ -34,7 +34,7 @@ pub returns-clause-others : goal.returns-clause-others
 returns-clause-others g c f other =
     let sound = g.met.S.AnyStorage.sound in
     let step = c.in_ok-raw.ensures.step in
-    rw (← c.self.view_is) (left_with _ _ f (others_left _ _ (sound _) step (pointer_of c.in_ok-raw.raw)
+    rw (← c.self.view_is) (left_with _ _ f (others_left _ _ step (pointer_of c.in_ok-raw.raw)
     (pointer_in f) (made_new _ _ _ _ step).0 (same_value _ _ _ _ (sound _) step _ tt) other)
     (λ live. opened_same c.self.invariant (sound _) _ _ (pointer_of c.in_ok-raw.raw) step _
     (opened_from (ap families c.reserve_one.ensures.same) c.raw_ptr.ensures c.open_slot.ensures.opened) (slot_in f)))

@@ -5,7 +5,8 @@ use Rattle.std.specs.Prelude.{is_some}
 use Rattle.generational_core.proofs.machine.Calling.{seen_reached, sets}
 use Rattle.generational_core.proofs.machine.Leaving.{same_value}
 use Rattle.generational_sessions.proofs.callers.PlainStores.{reach_apart}
-use Rattle.generational_sessions.proofs.callers.SimpleStores.{others_left, seen_store, set_seen, simple_still}
+use Rattle.generational_sessions.proofs.callers.Ids.{others_left, seen_store}
+use Rattle.generational_sessions.proofs.callers.SimpleStores.{set_seen, simple_still}
 use Rattle.scene_tree.specs.Nodes.{pointer_in}
 use Rattle.scene_tree.proofs.Keeping.{kept_still}
 use Rattle.scene_tree.proofs.Stores.{same_slots, set_count}
@@ -40,7 +41,7 @@ returns-clause-others g c f other =
     let seen = subst (λ (t : TreeState _). is_live t c.args.node ≡ true) (sym c.self.view_is)
     (sym c.is_alive.ensures ∙ c.if-not-is_alive.false) in
     let to = seen_reached _ _ _ (sets _ _ _ c.set.ensures.1).0 in
-    rw (← c.self.view_is) (left_with _ _ f (others_left _ _ (sound _) c.set.ensures.1
+    rw (← c.self.view_is) (left_with _ _ f (others_left _ _ c.set.ensures.1
     (pointer_in c.args.node) (pointer_in f) (seen_store _ _ (sound _) seen)
     (λ ne. same_value _ _ _ _ (sound _) c.set.ensures.1 _
     (λ same. ne (reach_apart _ c.self.invariant.simple.plain _ _ to.0 to.1 (sym same))) tt) other)

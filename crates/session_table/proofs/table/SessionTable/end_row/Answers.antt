@@ -7,7 +7,7 @@ use Rattle.session_table.specs.Entries.{pointer_in}
 use Rattle.session_table.proofs.Calls.{ended_entries, ended_others, ended_rows, ended_sessions}
 use Rattle.session_table.proofs.Rows.{kept_orderly, row_held, row_within}
 use Rattle.session_table.proofs.Lists.{stands_at}
-use Rattle.session_table.proofs.Storing.{release_next}
+use Rattle.generational_sessions.proofs.callers.Tickets.{release_next}
 use Rattle.session_table.proofs.table.SessionTable.end_row.Goals as goal
 
 pub unreachable-requires : goal.unreachable-requires

@@ -5,7 +5,7 @@ use Rattle.session_table.specs.Sessions.{session_in}
 use Rattle.session_table.specs.Tables.{TableState, has_session}
 use Rattle.session_table.proofs.Calls.{login_rows, login_sessions}
 use Rattle.session_table.proofs.Sessions.{no_such, others_pushed, own_pushed}
-use Rattle.session_table.proofs.Storing.{owner_next}
+use Rattle.generational_sessions.proofs.callers.Tickets.{owner_next}
 use Rattle.session_table.proofs.table.SessionTable.login.Goals as goal
 
 pub invariant_of-self-2 : goal.invariant_of-self-2

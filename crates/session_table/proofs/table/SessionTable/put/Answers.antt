@@ -9,7 +9,8 @@ use Rattle.session_table.specs.Entries.{pointer_in}
 use Rattle.session_table.specs.Tables.{TableState, WasPut}
 use Rattle.session_table.proofs.Calls.{put_keeps, put_others, put_own, put_rows, put_sessions, put_still_keeps, put_unkept}
 use Rattle.session_table.proofs.Rows.{found_row, no_session, row_held, row_session}
-use Rattle.session_table.proofs.Storing.{put_apart, put_beside_others, put_given_others, put_next}
+use Rattle.generational_sessions.proofs.callers.Tickets.{put_next}
+use Rattle.session_table.proofs.Storing.{put_apart, put_beside_others, put_given_others}
 use Rattle.session_table.proofs.table.SessionTable.put.Goals as goal
 
 pub returns-in_default-clause-short : goal.returns-in_default-clause-short

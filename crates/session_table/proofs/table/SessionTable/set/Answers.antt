@@ -9,7 +9,8 @@ use Rattle.session_table.specs.Entries.{pointer_in}
 use Rattle.session_table.specs.Tables.{TableState, shown_in}
 use Rattle.session_table.proofs.Keeping.{set_kept, set_owner}
 use Rattle.session_table.proofs.Rows.{sessions_same}
-use Rattle.session_table.proofs.Storing.{others_left, seen_store, set_next}
+use Rattle.generational_sessions.proofs.callers.Ids.{others_left, seen_store}
+use Rattle.generational_sessions.proofs.callers.Tickets.{set_next}
 use Rattle.session_table.proofs.table.SessionTable.set.Goals as goal
 
 pub set-requires : goal.set-requires
@@ -28,8 +29,8 @@ returns-clause-others g c f other =
     let sound = g.met.S.AnyStorage.sound in
     let saw = (sets _ _ _ c.set.ensures.1).0 in
     let to = seen_reached _ _ _ saw in
-    rw (← c.self.view_is) (others_left _ _ _ _ (sound _) c.set.ensures.1 (pointer_in c.args.entry)
-    (pointer_in f) (seen_store _ _ _ (sound _) saw)
+    rw (← c.self.view_is) (others_left _ _ c.set.ensures.1 (pointer_in c.args.entry)
+    (pointer_in f) (seen_store _ _ (sound _) (ap is_some saw))
     (λ ne. same_value _ _ _ _ (sound _) c.set.ensures.1 _
     (λ same. ne (reach_apart _ c.self.invariant.plain _ _ to.0 to.1 (sym same))) tt) other)
 
