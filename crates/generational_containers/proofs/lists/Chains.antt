@@ -1,17 +1,12 @@
 -- Slots to which links lead, one after the other.
-use Rattle.std.proofs.Common.{◌≡◌, ◌≢◌, ℕ, zero, suc, ◌<◌, Bool, true, false, List, [], ◌∷◌}
-use Rattle.std.proofs.Common.{◌++◌, length, refl, sym, ap, ◌∙◌, arith, slice_set, nat_eq, ◌||◌}
-use Rattle.std.proofs.Common.{drop, get_or, ◌-◌, ◌+◌, ◌≤◌, length-append, take}
-use Rattle.std.proofs.Common.{if◌then◌else◌}
+use Rattle.generational_containers.proofs.Common
+use Common.{ap, arith, Bool, chain, drop, eq-eqb, false, get_or, get_or-set_other, get_or-set_same}
+use Common.{get_or_append_left, get_or_read, if◌then◌else◌, IsPool, last_of, length, length-append}
+use Common.{List, nat_eq, refl, slice_set, suc, sym, take, take_all, true, true≢false, zero, ℕ, []}
+use Common.{◌++◌, ◌+◌, ◌-◌, ◌<◌, ◌||◌, ◌∙◌, ◌∷◌, ◌≡◌, ◌≢◌, ◌≤◌}
+use Rattle.generational_containers.proofs.lists.Lists.{head_absent, holds, members, members-holds}
+use Rattle.generational_containers.proofs.lists.Lists.{pool_length, pool_put, pool_take}
 use Rattle.std.specs.FinSet as set
-use Rattle.std.proofs.lemmas.Bool.{true≢false, eq-eqb}
-use Rattle.std.proofs.lemmas.List.{get_or-set_same, get_or-set_other, get_or_append_left}
-use Rattle.std.proofs.lemmas.List.{get_or_read}
-use Rattle.std.proofs.lemmas.List.{take_all}
-use Rattle.generational_containers.specs.Pools.{chain, last_of}
-use Rattle.generational_containers.proofs.Common.{IsPool}
-use Rattle.generational_containers.proofs.lists.Lists.{holds, members, members-holds, pool_take}
-use Rattle.generational_containers.proofs.lists.Lists.{head_absent, pool_length, pool_put}
 
 -- the first of them has a link, which leads to the others
 pub first_within : (links : List ℕ) (first n : ℕ) → 0 < n

@@ -1,24 +1,15 @@
 -- Lists after a write or a push, key counts, and lists of free slots.
-use Rattle.std.proofs.Common.{◌≡◌, ◌≢◌, ℕ, zero, suc, ◌+◌, ◌-◌, ◌<◌, Bool, true, false, cond, List}
-use Rattle.std.proofs.Common.{[], ◌∷◌, ◌++◌, length, Option, None, Some, refl, sym, ap, ◌∙◌, arith}
-use Rattle.std.proofs.Common.{⊎_elim, slice_get, slice_set, ◌≤◌, nat_eq, ◌||◌, ◌&&◌, not, reverse}
-use Rattle.std.proofs.Common.{inl, inr, is_some}
-use Rattle.std.proofs.Math.Dec.{eqb-suc-zero, eqb-zero-suc, eqb-suc-suc}
-use Rattle.std.specs.Ordering.{nat_cmp, eq_by_cmp}
-use Rattle.std.specs.Cmp.{nat_cmp_total, nat_eq_equiv}
-use Rattle.std.proofs.lemmas.Bool.{true≢false, cases_eq, cases_lt, eq-eqb, ne_eqb, cases_Bool}
-use Rattle.std.proofs.lemmas.Bool.{eqb-true, false≢true}
-use Rattle.std.proofs.lemmas.Option.{none-some}
-use Rattle.std.proofs.lemmas.List.{reverse-append}
-use Rattle.std.proofs.lemmas.Map.Steps.{length-le_from_distinct_below}
-use Rattle.std.proofs.lemmas.Map.Keys.{IsDistinct-push}
-use Rattle.std.proofs.lemmas.List.Folds.{list_any-append}
-use Rattle.std.specs.List.{list_any, IsDistinct, AllByRecursion}
-use Rattle.std.specs.FinMap.{nat_cmp-IsAntisymmetric}
+use Rattle.generational_containers.proofs.Common
+use Common.{AllByRecursion, ap, arith, Bool, by_number, cases_Bool, cases_eq, cases_lt, cond}
+use Common.{eq-eqb, eq_by_cmp, eqb-suc-suc, eqb-suc-zero, eqb-true, eqb-zero-suc, false, false≢true}
+use Common.{get-remove_apart, get-remove_here, how_many, inl, inr, is_some, IsDistinct}
+use Common.{IsDistinct-push, IsPool, key_apart, key_here, length, length-le_from_distinct_below}
+use Common.{List, list_any, list_any-append, nat_cmp, nat_cmp-IsAntisymmetric, nat_cmp_total}
+use Common.{nat_eq, nat_eq_equiv, ne_eqb, None, none-some, not, Option, refl, reverse}
+use Common.{reverse-append, slice_get, slice_set, Some, suc, sym, true, true≢false, zero, ℕ, []}
+use Common.{⊎_elim, ◌&&◌, ◌++◌, ◌+◌, ◌-◌, ◌<◌, ◌||◌, ◌∙◌, ◌∷◌, ◌≡◌, ◌≢◌, ◌≤◌}
 use Rattle.std.specs.FinMap as map
 use Rattle.std.specs.FinSet as set
-use Rattle.generational_containers.proofs.Common.{by_number, key_here, key_apart, get-remove_here}
-use Rattle.generational_containers.proofs.Common.{get-remove_apart, how_many, IsPool}
 
 pub number_test : (a b : ℕ) → eq_by_cmp nat_cmp a b ≡ nat_eq a b
 number_test a b =

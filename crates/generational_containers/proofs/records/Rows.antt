@@ -1,32 +1,17 @@
 -- The rows of owners' records: the place of each record by its key, and that the records in the
 -- order of these are the map's.
-use Rattle.std.proofs.Common.{◌≡◌, ◌≢◌, ℕ, suc, ◌+◌, ◌<◌, ◌≤◌, Bool, true, false, cond, T, ◌&&◌, List}
-use Rattle.std.proofs.Common.{[], ◌∷◌, ◌++◌, Option, None, Some, refl, sym, ap, ◌∙◌, arith, subst}
-use Rattle.std.proofs.Common.{⊎_elim, is_eq, is_lt, option_map, slice_get}
-use Rattle.std.proofs.Common.{Less, All, map as list_map, nat_cmp, append-nil}
-use Rattle.std.proofs.lemmas.Bool.{cases_lt}
-use Rattle.std.proofs.lemmas.List.Elements.{recursion_from_All}
-use Rattle.std.proofs.lemmas.Option.{slice_get_past}
-use Rattle.std.proofs.Math.Seq.{take-nil}
-use Rattle.std.specs.BTreeMap.{is_at}
-use Rattle.std.specs.Cmp.{nat_cmp_total}
-use Rattle.std.specs.List.{AllByRecursion}
-use Rattle.std.specs.List.Sorted.{IsStrictlySortedBy}
-use Rattle.std.specs.Map.{lookup, keys_of}
-use Rattle.std.proofs.Common.{length, true≢false, zero, take}
+use Rattle.generational_containers.proofs.Common
+use Rattle.generational_containers.proofs.{Common.◌≢◌, Common.◌≤◌, records.Places.standing}
+use Common.{All, AllByRecursion, ap, append-nil, arith, BaseRow, Bool, by_number, cases_lt}
+use Common.{CellName, cond, false, HasDistinctKeys, HasRecord, is_at, is_eq, is_lt, IsPlaceOf}
+use Common.{IsStrictlySortedBy, key_here, key_same, keys_of, length, Less, List, lookup, Name}
+use Common.{name_of_cell, nat_cmp, nat_cmp_total, None, Option, option_map, owner_rows, owners_of}
+use Common.{Ownership, Place, place_rows, record_at, record_in, record_rows, Records}
+use Common.{recursion_from_All, refl, slice_get, slice_get_past, Some, subst, suc, sym, T, take}
+use Common.{take-nil, true, true≢false, zero, ℕ, [], ⊎_elim, ◌&&◌, ◌++◌, ◌+◌, ◌<◌, ◌∙◌, ◌∷◌, ◌≡◌}
+use Rattle.generational_containers.proofs.records.Places.{get_none, get_one, other_key, own_key}
+use Rattle.std.proofs.Common.{map as list_map}
 use Rattle.std.specs.FinMap as map
-use Rattle.generational_core.specs.Names.{Name}
-use Rattle.generational_core.proofs.maps.Maps.{key_here}
-use Rattle.generational_containers.specs.CellNames.{name_of_cell}
-use Rattle.generational_containers.specs.declared.names.CellName.{CellName}
-use Rattle.generational_containers.proofs.records.Places.{own_key}
-use Rattle.generational_core.proofs.maps.Maps.{by_number, key_same}
-use Rattle.generational_core.specs.declared.rows.BaseRow.{BaseRow}
-use Rattle.generational_core.specs.Rows.{owner_rows, record_rows}
-use Rattle.generational_containers.proofs.Common.{Ownership, Place, HasRecord}
-use Rattle.generational_containers.proofs.Common.{HasDistinctKeys, record_at, record_in, owners_of}
-use Rattle.generational_containers.proofs.records.Places.{get_one, get_none, standing, other_key}
-use Rattle.generational_containers.specs.OwnerPlaces.{IsPlaceOf, Records, place_rows}
 
 -- ---- the place of each record, of those below a place
 

@@ -1,10 +1,8 @@
 -- Slots of which one or two change, and the others.
-use Rattle.std.proofs.Common.{◌≡◌, ℕ, Bool, true, false, List, Option, None, Some, refl, sym, ap}
-use Rattle.std.proofs.Common.{◌∙◌, slice_get, nat_eq, slice_set, IfSome, cond, subst}
-use Rattle.std.proofs.lemmas.Bool.{eqb-true, eq-eqb, false≢true}
-use Rattle.generational_entries.specs.Entry.{Entry, change_entry, change_entry_if}
-use Rattle.generational_containers.proofs.lists.Lists.{get_other, set_apart, set_twice, set_written}
-use Rattle.generational_containers.proofs.lists.Lists.{set-own}
+use Rattle.generational_entries.proofs.Common
+use Common.{ap, Bool, change_entry, change_entry_if, cond, Entry, eq-eqb, eqb-true, false}
+use Common.{false≢true, get_other, IfSome, List, nat_eq, None, Option, refl, set-own, set_apart}
+use Common.{set_twice, set_written, slice_get, slice_set, Some, subst, sym, true, ℕ, ◌∙◌, ◌≡◌}
 
 module _ {T : Type 0} where
   pub change_own : (slots : List (Entry T)) (i : ℕ) (f : Entry T → Entry T) {e : Entry T}

@@ -1,38 +1,21 @@
 -- The counts of references where a cell comes or goes.
-use Rattle.std.proofs.Common.{◌≡◌, ◌≢◌, ℕ, ◌+◌, ◌-◌, ◌<◌, Bool, true, false, cond, List, []}
-use Rattle.std.proofs.Common.{length, Option, None, Some, IfSome, refl, sym, ap, ◌∙◌, arith}
-use Rattle.std.proofs.Common.{is_some}
-use Rattle.std.proofs.Common.{◌&&◌, slice_get, nat_eq, nat_lt, option_map, subst, zero}
-use Rattle.std.proofs.Common.{suc}
-use Rattle.std.proofs.lemmas.Bool.{true≢false, false≢true, eq-eqb, lt-ltb, ne_eqb}
-use Rattle.std.proofs.lemmas.List.{length-set}
-use Rattle.std.proofs.lemmas.Option.{slice_get_within}
+use Rattle.generational_slots.proofs.Common
+use Common.{ap, AreReferred, arith, bit, Bool, Cell, cell_at, cell_in, cell_of, CellName, cells_of}
+use Common.{change_entry, change_entry_if, cond, count_less, count_more, Empty, Entry, eq-eqb, Err}
+use Common.{false, false≢true, fewer_within, free, HasTargets, how_many, IfSome, is_err, is_live}
+use Common.{is_name, is_named, is_shared, is_some, IsReferred, IsSlotTable, IsUnborrowed, IsWritten}
+use Common.{Kept, kept_data, Kind, length, length-set, List, Live, Location, lt-ltb, many_some}
+use Common.{Name, name_of_cell, name_same, name_test, named_gives, nat_eq, nat_lt, ne_eqb, None, Ok}
+use Common.{OnErr, Option, option_map, passes, Ref, Refers, refers, refers_to, refl, Result}
+use Common.{set_written, Shared, shared_target, slice_get, slice_get_within, SlotTable, Some}
+use Common.{state_of, StorageEntryData, subst, suc, sym, target_in, target_of, true, true≢false}
+use Common.{Value, zero, ℕ, [], ◌&&◌, ◌+◌, ◌-◌, ◌<◌, ◌∙◌, ◌≡◌, ◌≢◌}
+use Rattle.generational_slots.proofs.states.{References.named_count, States.get_cells}
+use Rattle.generational_slots.proofs.states.Changes.{emptied, ended, found, IsFound, referred}
+use Rattle.generational_slots.proofs.states.Changes.{slotted_still, state_same}
 use Rattle.std.specs.FinMap as map
-use Rattle.generational_core.proofs.maps.Maps.{named_gives}
 use Rattle.generational_entries.specs.declared.entry.Kind.TheVariants as kind
-use Rattle.generational_entries.specs.declared.entry.StorageEntryData.{StorageEntryData}
 use Rattle.generational_entries.specs.declared.entry.StorageEntryData.TheVariants as slot
-use Rattle.generational_entries.specs.Entries.{IsUnborrowed, kept_data, target_of}
-use Rattle.generational_entries.specs.Entry.{change_entry_if}
-use Rattle.generational_slots.proofs.Common.{AreReferred, Cell, CellName, Empty, Entry, HasTargets}
-use Rattle.generational_slots.proofs.Common.{SlotTable, IsReferred, IsSlotTable, Kept, Live, Location}
-use Rattle.generational_slots.proofs.Common.{Name, Ref}
-use Rattle.generational_slots.proofs.Common.{Kind, Shared}
-use Rattle.generational_slots.proofs.Common.{Value, cell_in, free}
-use Rattle.generational_entries.specs.Entry.{target_in}
-use Rattle.std.proofs.Common.{Err, Ok, OnErr, Result}
-use Rattle.std.specs.Result.{is_err}
-use Rattle.generational_slots.proofs.Common.{Refers, cell_at, cell_of, cells_of, change_entry}
-use Rattle.generational_slots.proofs.Common.{count_less, count_more, how_many, is_live, is_name}
-use Rattle.generational_slots.proofs.Common.{is_named, is_shared, name_of_cell, name_same}
-use Rattle.generational_slots.proofs.Common.{refers, refers_to, shared_target, state_of, name_test}
-use Rattle.generational_containers.proofs.lists.Lists.{IsWritten, bit, many_some, passes}
-use Rattle.generational_containers.proofs.lists.Lists.{set_written}
-use Rattle.generational_slots.proofs.states.Changes.{IsFound, emptied, ended}
-use Rattle.generational_slots.proofs.states.Changes.{found, referred, slotted_still, state_same}
-use Rattle.generational_containers.proofs.lists.Lists.{fewer_within}
-use Rattle.generational_slots.proofs.states.References.{named_count}
-use Rattle.generational_slots.proofs.states.States.{get_cells}
 
 -- what a name of the store is, is a name
 pub if_named : (o : Option CellName) (P : Name → Type 0) → IfSome (option_map name_of_cell o) P
@@ -106,11 +89,14 @@ module _ {T : Type 0} where
     less_slotted None = s
     less_slotted (Some m) = recounted_slotted m.slot (λ e. e.references - 1)
 
+  -- the slot of a live cell that passes a test
+  abbrev pub SlotOf : List (Entry T) → Name → (Option (Cell T) → Bool) → Type 0
+  SlotOf slots n test = (e : Entry T) × (slice_get slots n.slot ≡ Some e)
+      × (e.generation ≡ n.generation) × (test (cell_of e.kept) ≡ true)
+
   -- the slot of a live cell, told by the machine's map
   pub slot_of : (slots : List (Entry T)) (n : Name) (test : Option (Cell T) → Bool)
-      → test None ≡ false → test (map.get (cells_of slots) n) ≡ true
-      → (e : Entry T) × (slice_get slots n.slot ≡ Some e) × (e.generation ≡ n.generation)
-      × (test (cell_of e.kept) ≡ true)
+      → test None ≡ false → test (map.get (cells_of slots) n) ≡ true → SlotOf slots n test
   slot_of slots n test none h =
       let f = found slots n (some (map.get (cells_of slots) n) h) in (
         record { generation = n.generation; kept = f.kept; references = f.references },
@@ -183,8 +169,7 @@ module _ {T : Type 0} where
 
     -- the slot of a target
     module _ (m : Name) (shared : is_shared (map.get (cells_of slots) m) ≡ true) where
-      target_slot : (e : Entry T) × (slice_get slots m.slot ≡ Some e)
-          × (e.generation ≡ m.generation) × (is_shared (cell_of e.kept) ≡ true)
+      target_slot : SlotOf slots m is_shared
       target_slot = slot_of slots m is_shared refl shared
 
       target_apart : m.slot ≢ i
@@ -359,8 +344,7 @@ module _ {T : Type 0} (slots : List (Entry T)) where
       (there : cell_at slots n ≡ Some (Ref m l)) where
     -- a live target counts one reference at least
     module _ (shared : is_shared (cell_at slots m) ≡ true) where
-      target_entry : (e : Entry T) × (slice_get slots m.slot ≡ Some e)
-          × (e.generation ≡ m.generation) × (is_shared (cell_of e.kept) ≡ true)
+      target_entry : SlotOf slots m is_shared
       target_entry = slot_of slots m is_shared refl (ap is_shared (get_cells slots m) ∙ shared)
 
       target_counts : 0 < target_entry.0.references

@@ -1,21 +1,12 @@
 -- The end of one name, by the value that goes with it.
-use Rattle.std.proofs.Common.{◌≡◌, Bool, true, false, cond, [], ◌∷◌, Option, None, Some, refl, sym}
-use Rattle.std.proofs.Common.{List, ap, ◌∙◌, is_some}
-use Rattle.std.proofs.lemmas.Bool.{false≢true, true≢false}
+use Rattle.generational_slots.proofs.Common
+use Common.{ap, Bool, BorrowRefusal, by_name, Cell, cells_after, close, close_one, cond, Content}
+use Common.{content_at, content_of, doomed_by, false, false≢true, first_hindrance, get-remove_apart}
+use Common.{has_no_borrow, hindrance_to, is_named, is_none, is_shared, is_some, is_unborrowed_value}
+use Common.{IsLinked, List, Location, Name, None, one_hindered, Option, Ref, refl, refusal_of}
+use Common.{Shared, Some, State, sym, target_in, true, true≢false, unrefused, Value, write_refusal}
+use Common.{[], ◌∙◌, ◌∷◌, ◌≡◌}
 use Rattle.std.specs.FinMap as map
-use Rattle.generational_core.proofs.machine.Closing.{close_one, one_hindered}
-use Rattle.generational_core.proofs.maps.Maps.{get-remove_apart}
-use Rattle.generational_entries.specs.Entry.{is_unborrowed_value, target_in}
-use Rattle.generational_slots.specs.SlotsState.{refusal_of}
-use Rattle.generational_slots.proofs.Common.{Cell, IsLinked, Name, Ref, Shared, State, Value}
-use Rattle.generational_slots.proofs.Common.{by_name}
-use Rattle.generational_slots.proofs.Common.{cells_after, close, content_of, doomed_by}
-use Rattle.generational_slots.proofs.Common.{first_hindrance}
-unfoldable use Rattle.generational_slots.proofs.Common.{hindrance_to}
-use Rattle.generational_slots.proofs.Common.{is_named, is_shared, write_refusal, Location}
-use Rattle.generational_slots.proofs.Common.{Content, BorrowRefusal, content_at, has_no_borrow}
-use Rattle.generational_entries.proofs.states.Latest.{unrefused}
-use Rattle.std.proofs.Common.{is_none}
 
 module _ {T : Type 0} where
   -- what names another cell is there

@@ -1,37 +1,21 @@
 -- What hinders the end of names, as the counts of references tell it.
-use Rattle.std.proofs.Common.{◌≡◌, ℕ, ◌+◌, ◌<◌, Bool, true, false, cond, not, ◌&&◌, List, []}
-use Rattle.std.proofs.Common.{◌∷◌, Option, None, Some, refl, sym, ap, ◌∙◌, arith, nat_eq}
-use Rattle.std.proofs.Common.{nat_lt, is_none, is_some, slice_index_or, drop, length}
+use Rattle.generational_slots.proofs.Common
+use Rattle.generational_slots.proofs.states
+use Common.{and_parts, ap, AreReferred, arith, at_drop_more, bit, Bool, borrowed_at, borrowed_end}
+use Common.{BorrowRefusal, Cell, cell_at, cell_of, CellName, cells_after, cells_of, cond}
+use Common.{content_in, content_of, doomed_by, drop, Empty, Entry, false, false≢true}
+use Common.{first_borrowed_end, first_hindered, first_hindrance, get_or-map, has_more, has_more_in}
+use Common.{HasTargets, how_many, if_borrowed, is_name, is_named, is_none, is_shared, is_some}
+use Common.{is_unborrowed_value, IsDistinct, IsLinked, Kept, leads_to, length, length-map, List}
+use Common.{list_all, Live, Name, name_here, name_of_cell, NameMap, nat_eq, nat_lt, nat_tests, None}
+use Common.{none-some, not, Option, option_or, Ref, Refers, refers, refers_among, refers_to, refl}
+use Common.{refusal_of, Shared, slice_index_or, Some, sym, take_away, target_in, true, true≢false}
+use Common.{Value, write_refusal, ℕ, [], ◌&&◌, ◌+◌, ◌<◌, ◌∙◌, ◌∷◌, ◌≡◌}
+use states.{References.named_without, References.some_same, States.get_cells}
+use states.References.{among_within, count_of, found_target, HasSlot, live_slot, named_after}
 use Rattle.std.proofs.Common.{map as list_map}
-use Rattle.std.specs.List.{IsDistinct, list_all}
-use Rattle.std.proofs.lemmas.Bool.{and_parts, false≢true, true≢false}
-use Rattle.std.proofs.lemmas.List.{at_drop_more, length-map}
-use Rattle.std.proofs.Math.ListN.{get_or-map}
-use Rattle.std.specs.Option.{option_or}
 use Rattle.std.specs.FinMap as map
-use Rattle.std.proofs.lemmas.Bool.Decides.{nat_tests}
-use Rattle.std.proofs.lemmas.Option.{none-some}
-use Rattle.generational_core.proofs.machine.Closing.{borrowed_end, first_borrowed_end}
-use Rattle.generational_core.proofs.machine.Closing.{first_hindered}
-use Rattle.generational_slots.proofs.Common.{AreReferred, Cell, CellName, Entry, HasTargets}
-use Rattle.generational_slots.proofs.Common.{IsLinked}
-use Rattle.generational_slots.proofs.Common.{Name, BorrowRefusal, leads_to, name_of_cell, take_away}
-use Rattle.generational_slots.proofs.Common.{NameMap, Ref, Shared, Value, cell_at, cell_of}
-use Rattle.generational_slots.proofs.Common.{cells_after, cells_of, content_in, content_of}
-use Rattle.generational_slots.proofs.Common.{doomed_by}
-use Rattle.generational_slots.proofs.Common.{first_hindrance, has_more, how_many, is_name, is_named}
-use Rattle.generational_slots.proofs.Common.{is_shared, name_here, refers, refers_to}
-use Rattle.generational_slots.proofs.Common.{write_refusal, Kept, Empty, Live, Refers}
 use Rattle.generational_entries.specs.declared.entry.Kind.TheVariants as kind
-use Rattle.generational_entries.specs.Entry.{is_unborrowed_value, target_in}
-use Rattle.generational_slots.specs.SlotsState.{has_more_in, refers_among, refusal_of}
-use Rattle.generational_slots.specs.SlotsState.{borrowed_at, if_borrowed}
-use Rattle.generational_containers.proofs.lists.Lists.{bit}
-use Rattle.generational_slots.proofs.states.References.{HasSlot, among_within, count_of}
-use Rattle.generational_slots.proofs.states.References.{found_target}
-use Rattle.generational_slots.proofs.states.References.{live_slot, named_after, named_without}
-use Rattle.generational_slots.proofs.states.References.{some_same}
-use Rattle.generational_slots.proofs.states.States.{get_cells}
 
 -- one name differs from no other
 one_apart : (n : Name) → IsDistinct is_name (n ∷ [])

@@ -1,28 +1,18 @@
 -- A cell more: in a free slot, or in a new one.
-use Rattle.std.proofs.Common.{◌≡◌, ℕ, ◌+◌, ◌-◌, ◌<◌, ◌≤◌, true, false, ◌&&◌, ◌||◌, List, []}
-use Rattle.std.proofs.Common.{◌∷◌, ◌++◌, length, Option, None, Some, IfSome, refl, sym, ap, ◌∙◌}
-use Rattle.std.proofs.Common.{arith, slice_get, slice_set, leb, length-append, not, nat_eq, nat_lt}
-use Rattle.std.proofs.Common.{max, is_some}
-use Rattle.std.specs.Ordering.{nat_cmp}
-use Rattle.std.specs.Cmp.{nat_cmp_total}
-use Rattle.std.proofs.lemmas.Bool.{false≢true, ltb-true, and_parts}
-use Rattle.std.proofs.lemmas.Bool.Decides.{nat_tests}
-use Rattle.std.proofs.lemmas.List.{length-set}
-use Rattle.std.proofs.lemmas.Option.{slice_get_past, slice_get_within}
+use Rattle.generational_slots.proofs.Common
+use Common.{add_cell, and_parts, ap, arith, Cell, cell_in, cell_of, cells_of, cond_same}
+use Common.{contains-remove_at, Count, count_of, Empty, Entry, false, false≢true, free, given_in}
+use Common.{how_many, IfSome, is_live, is_reusable, is_some, is_spent, IsNew, IsSlotTable}
+use Common.{IsWritten, Kept, last_generation, leb, length, length-append, length-set, List, Live}
+use Common.{ltb-true, max, nat_cmp, nat_cmp_total, nat_eq, nat_lt, nat_tests, None, not, not_left}
+use Common.{Option, passes, push_written, put_back, Refers, refl, Retirements, set_written}
+use Common.{slice_get, slice_get_past, slice_get_within, slice_set, SlotTable, Some, State}
+use Common.{state_of, sym, true, ℕ, [], ◌&&◌, ◌++◌, ◌+◌, ◌-◌, ◌<◌, ◌||◌, ◌∙◌, ◌∷◌, ◌≡◌, ◌≤◌}
+use Rattle.generational_slots.proofs.states.Changes.{cells_put, given_put, slotted}
+use Rattle.generational_slots.proofs.states.States.{free_are, len_cells, live_cell, new_first}
+use Rattle.generational_slots.proofs.states.States.{new_next}
 use Rattle.std.specs.FinMap as map
 use Rattle.std.specs.FinSet as set
-use Rattle.generational_core.specs.Machine.{add_cell}
-use Rattle.generational_slots.proofs.Common.{Cell, IsNew, free, last_generation, Empty}
-use Rattle.generational_slots.proofs.Common.{Live, Refers, Kept, Entry, cell_of, cell_in, cells_of}
-use Rattle.generational_slots.proofs.Common.{given_in, how_many, is_live, is_spent, is_reusable}
-use Rattle.generational_slots.proofs.Common.{Count, SlotTable, IsSlotTable, Retirements, State}
-use Rattle.generational_slots.proofs.Common.{count_of, state_of}
-use Rattle.generational_containers.proofs.lists.Lists.{IsWritten, set_written, push_written, passes}
-use Rattle.generational_containers.proofs.lists.Lists.{cond_same, contains-remove_at, not_left}
-use Rattle.generational_containers.proofs.lists.Lists.{put_back}
-use Rattle.generational_slots.proofs.states.States.{len_cells, live_cell, free_are, new_first}
-use Rattle.generational_slots.proofs.states.States.{new_next}
-use Rattle.generational_slots.proofs.states.Changes.{cells_put, given_put, slotted}
 
 -- one slot more is made
 pub one_made : (r : Retirements) (made : ℕ) → r.retired ≤ made → count_of r (made + 1)

@@ -1,24 +1,13 @@
 -- What becomes of a reference's old target where it names another, as the machine says it.
-use Rattle.std.proofs.Common.{◌≡◌, Bool, true, false, cond, Err, Ok, Option, None, Some, refl}
-use Rattle.std.proofs.Common.{sym, ap, ◌∙◌, is_some, subst}
-use Rattle.std.proofs.lemmas.Bool.{false≢true, true≢false}
+use Rattle.generational_slots.proofs.Common
+use Rattle.generational_slots.proofs.{Common.◌∙◌, Common.◌≡◌, states.Endings.without}
+use Common.{ap, Bool, BorrowMutError, BorrowRefusal, by_name, Cell, cond, content_of, doomed_by}
+use Common.{Err, false, false≢true, FoundBorrowed, get-insert_apart, hindrance_at, is_name}
+use Common.{is_named, is_shared, is_some, IsLinked, IsTurned, Location, Name, NameMap, None, Ok}
+use Common.{Option, OutOfMemory, Ref, refl, refusal_of, Refused, Shared, Some, State, subst, sweep}
+use Common.{sym, target_in, true, true≢false, turn, turn_hindered, turn_sweep, Value, write_refusal}
 use Rattle.std.specs.FinMap as map
-use Rattle.generational_core.proofs.machine.Closing.{turn_hindered, turn_sweep}
-use Rattle.generational_core.specs.Ending.{hindrance_at}
-use Rattle.generational_core.specs.Machine.{turn}
-use Rattle.generational_errors.specs.declared.error.Refused.{Refused}
 use Rattle.generational_errors.specs.declared.error.Refused.TheVariants as refused
-use Rattle.generational_entries.specs.Entry.{FoundBorrowed, target_in}
-use Rattle.generational_slots.specs.SlotsState.{IsTurned, refusal_of}
-use Rattle.generational_slots.proofs.Common.{BorrowMutError, Cell, IsLinked, Location, Name}
-use Rattle.generational_slots.proofs.Common.{NameMap}
-use Rattle.generational_slots.proofs.Common.{OutOfMemory, Ref, State, BorrowRefusal, Value, Shared}
-use Rattle.generational_slots.proofs.Common.{content_of}
-use Rattle.generational_slots.proofs.Common.{by_name, doomed_by, get-insert_apart, is_name}
-use Rattle.generational_slots.proofs.Common.{is_named}
-use Rattle.generational_slots.proofs.Common.{is_shared, write_refusal}
-unfoldable use Rattle.generational_slots.proofs.Common.{sweep}
-use Rattle.generational_slots.proofs.states.Endings.{without}
 
 -- the refusal that a refusal tells is there
 troubled : (t : Option BorrowRefusal) (e : Refused BorrowMutError) → FoundBorrowed t (Err e)

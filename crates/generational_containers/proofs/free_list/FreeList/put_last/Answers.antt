@@ -1,9 +1,6 @@
-use Rattle.std.proofs.Common.{arith, ◌<◌}
-use Rattle.std.specs.Cmp.{nat_cmp_total}
+use Rattle.generational_containers.proofs.{arith, chain_put_last, chain_room, last_within}
+use Rattle.generational_containers.proofs.{length-set, nat_cmp_total, pool_push, ◌<◌}
 use Rattle.std.specs.FinSet as set
-use Rattle.std.proofs.lemmas.List.{length-set}
-use Rattle.generational_containers.proofs.lists.Chains.{chain_put_last, chain_room, last_within}
-use Rattle.generational_containers.proofs.lists.Lists.{pool_push}
 use Rattle.generational_containers.proofs.free_list.FreeList.put_last.Goals as goal
 
 pub index_mut-requires : goal.index_mut-requires

@@ -1,11 +1,9 @@
-use Rattle.std.proofs.Common.{arith, refl, length, ◌<◌, ◌≤◌, ◌≡◌, ◌-◌, ◌∷◌, ◌∙◌}
-use Rattle.std.proofs.lemmas.Bool.{eq-eqb}
-use Rattle.generational_containers.specs.Pools.{IsPool, chain}
-use Rattle.generational_containers.proofs.lists.Chains.{chain_read, first_within}
-use Rattle.generational_containers.proofs.lists.Lists.{contains-insert_at, pool_take, members_take}
+use Rattle.generational_containers.proofs.{arith, chain, chain_read, contains-insert_at, eq-eqb}
+use Rattle.generational_containers.proofs.{first_within, IsPool, length, members_take, pool_take}
+use Rattle.generational_containers.proofs.{refl, ◌-◌, ◌<◌, ◌∙◌, ◌∷◌, ◌≡◌, ◌≤◌}
 use Rattle.generational_containers.proofs.free_list.FreeList.take.Goals as goal
-use Rattle.generational_containers.proofs.free_list.FreeList.take.Goals.{then-self-gt1}
 use Rattle.generational_containers.proofs.free_list.FreeList.take.Goals.{else-self-gt1}
+use Rattle.generational_containers.proofs.free_list.FreeList.take.Goals.{then-self-gt1}
 
 pub index-requires : goal.index-requires
 index-requires c =

@@ -1,11 +1,8 @@
 -- The borrows that stand in the way of a write or an end.
-use Rattle.std.proofs.Common.{sym, ◌∙◌}
-use Rattle.std.proofs.lemmas.Bool.{false≢true}
-use Rattle.generational_entries.proofs.states.EntryChanges.{change_here}
-use Rattle.generational_entries.proofs.states.Latest.{joining, noted_away}
+use Rattle.generational_entries.proofs.{change_here, false≢true, joining, noted_away, sym, ◌∙◌}
 use Rattle.generational_entries.proofs.entries.Entries.borrow_mut_error.Goals as goal
-use Rattle.generational_entries.proofs.entries.Entries.borrow_mut_error.Goals.{else-is_noted-via-then-is_noted+else-self-slot}
 use Rattle.generational_entries.proofs.entries.Entries.borrow_mut_error.Goals.{else-is_noted-via-else-is_noted}
+use Rattle.generational_entries.proofs.entries.Entries.borrow_mut_error.Goals.{else-is_noted-via-then-is_noted+else-self-slot}
 
 pub returns-then-self-slot : goal.returns-then-self-slot
 returns-then-self-slot g c =

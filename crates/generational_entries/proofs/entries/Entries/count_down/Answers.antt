@@ -1,7 +1,6 @@
 -- One reference less names a slot's cell.
-use Rattle.std.proofs.Common.{arith, ap, refl, ◌<◌, ◌-◌}
-use Rattle.generational_entries.proofs.states.Entries.{hears_of}
-use Rattle.generational_entries.proofs.states.Latest.{details_noted, seen, seen_details, seen_hears}
+use Rattle.generational_entries.proofs.{ap, arith, details_noted, hears_of, refl, seen}
+use Rattle.generational_entries.proofs.{seen_details, seen_hears, ◌-◌, ◌<◌}
 use Rattle.generational_entries.proofs.entries.Entries.count_down.Goals as goal
 
 pub overflow_sub-index_mut : goal.overflow_sub-index_mut

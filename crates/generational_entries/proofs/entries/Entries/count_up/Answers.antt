@@ -1,8 +1,6 @@
 -- One reference more names a slot's cell.
-use Rattle.std.proofs.Common.{arith, ap, refl, length, ◌<◌, ◌+◌}
-use Rattle.generational_entries.proofs.states.Entries.{hears_of}
-use Rattle.generational_entries.proofs.states.Latest.{details_noted, seen, seen_details, seen_hears}
-use Rattle.generational_entries.proofs.states.Latest.{seen_many}
+use Rattle.generational_entries.proofs.{ap, arith, details_noted, hears_of, length, refl, seen}
+use Rattle.generational_entries.proofs.{seen_details, seen_hears, seen_many, ◌+◌, ◌<◌}
 use Rattle.generational_entries.proofs.entries.Entries.count_up.Goals as goal
 
 pub overflow_add-index_mut : goal.overflow_add-index_mut

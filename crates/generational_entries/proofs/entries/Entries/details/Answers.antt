@@ -1,12 +1,7 @@
 -- Where a slot's cell was made, and how many references name it.
-use Rattle.std.proofs.Common.{ap, refl, ◌≡◌, IfSome}
-use Rattle.generational_core.specs.Cells.{location_of}
-use Rattle.generational_entries.specs.Entries.{index_of}
-use Rattle.generational_entries.specs.Entry.{cell_of}
-use Rattle.generational_entries.specs.Latest.{joined}
-use Rattle.generational_containers.specs.Table.{list_at}
-use Rattle.generational_entries.proofs.states.Entries.{created_there, says_of}
-use Rattle.generational_entries.proofs.states.Latest.{located, seen, seen_details, seen_says}
+use Rattle.generational_entries.proofs.{ap, cell_of, created_there, IfSome, index_of, joined}
+use Rattle.generational_entries.proofs.{list_at, located, location_of, refl, says_of, seen}
+use Rattle.generational_entries.proofs.{seen_details, seen_says, ◌≡◌}
 use Rattle.generational_entries.proofs.entries.Entries.details.Goals as goal
 
 pub returns-clause-references : goal.returns-clause-references

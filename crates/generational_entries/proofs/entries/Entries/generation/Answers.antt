@@ -1,7 +1,5 @@
 -- The generation of a slot's last cell.
-use Rattle.std.proofs.Common.{ap, refl, ◌≡◌}
-use Rattle.generational_entries.proofs.states.Entries.{says}
-use Rattle.generational_entries.proofs.states.Latest.{seen, seen_says, seen_slot}
+use Rattle.generational_entries.proofs.{ap, refl, says, seen, seen_says, seen_slot, ◌≡◌}
 use Rattle.generational_entries.proofs.entries.Entries.generation.Goals as goal
 
 pub returns : goal.returns

@@ -1,7 +1,4 @@
-use Rattle.std.proofs.Common.{ap, ◌∙◌, is_some}
-use Rattle.generational_containers.specs.CellNames.{name_of_cell}
-use Rattle.generational_entries.specs.Entry.{cell_at}
-use Rattle.generational_entries.proofs.states.Latest.{kinds_hold}
+use Rattle.generational_entries.proofs.{ap, cell_at, is_some, kinds_hold, name_of_cell, ◌∙◌}
 use Rattle.generational_entries.proofs.entries.Entries.holds.Goals as goal
 
 pub returns : goal.returns

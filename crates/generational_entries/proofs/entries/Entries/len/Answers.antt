@@ -1,6 +1,5 @@
 -- How many slots were made.
-use Rattle.std.proofs.Common.{arith, ap}
-use Rattle.generational_entries.proofs.states.Latest.{seen, seen_many}
+use Rattle.generational_entries.proofs.{ap, arith, seen, seen_many}
 use Rattle.generational_entries.proofs.entries.Entries.len.Goals as goal
 
 pub returns : goal.returns

@@ -1,7 +1,5 @@
-use Rattle.std.proofs.Common.{◌≡◌, ◌∙◌, option_copied}
-use Rattle.generational_core.specs.Answers.{value_of}
-use Rattle.generational_entries.specs.Entry.{content_in}
-use Rattle.generational_entries.proofs.states.Latest.{joined_says, peeks_same}
+use Rattle.generational_entries.proofs.{content_in, joined_says, option_copied, peeks_same}
+use Rattle.generational_entries.proofs.{value_of, ◌∙◌, ◌≡◌}
 use Rattle.generational_entries.proofs.entries.Entries.peek.Goals as goal
 
 pub returns : goal.returns

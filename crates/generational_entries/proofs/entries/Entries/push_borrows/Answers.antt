@@ -1,12 +1,9 @@
 -- The rows of the borrows of a slot's value.
-use Rattle.std.proofs.Common.{sym, ◌∙◌}
-use Rattle.std.proofs.lemmas.Bool.{false≢true}
-use Rattle.std.proofs.lemmas.Result.{on_ok_weaker}
-use Rattle.generational_entries.proofs.states.EntryChanges.{change_here}
-use Rattle.generational_entries.proofs.states.Latest.{joining, noted_away}
+use Rattle.generational_entries.proofs.{change_here, false≢true, joining, noted_away, on_ok_weaker}
+use Rattle.generational_entries.proofs.{sym, ◌∙◌}
 use Rattle.generational_entries.proofs.entries.Entries.push_borrows.Goals as goal
-use Rattle.generational_entries.proofs.entries.Entries.push_borrows.Goals.{else-is_noted-via-then-is_noted+else-self-slot}
 use Rattle.generational_entries.proofs.entries.Entries.push_borrows.Goals.{else-is_noted-via-else-is_noted}
+use Rattle.generational_entries.proofs.entries.Entries.push_borrows.Goals.{else-is_noted-via-then-is_noted+else-self-slot}
 
 pub returns-then-self-slot : goal.returns-then-self-slot
 returns-then-self-slot g c =

@@ -1,7 +1,5 @@
 -- A reference to a slot's cell.
-use Rattle.std.proofs.Common.{ap, refl, ◌≡◌}
-use Rattle.generational_entries.proofs.states.Entries.{says}
-use Rattle.generational_entries.proofs.states.Latest.{seen, seen_says, seen_slot}
+use Rattle.generational_entries.proofs.{ap, refl, says, seen, seen_says, seen_slot, ◌≡◌}
 use Rattle.generational_entries.specs.declared.entry.StorageEntryData.TheVariants as content
 use Rattle.generational_entries.proofs.entries.Entries.reference_to.Goals as goal
 

@@ -1,15 +1,9 @@
-use Rattle.std.proofs.Common.{arith, refl, subst, ap, []}
-use Rattle.std.proofs.lemmas.List.{get_or-set_same}
-use Rattle.generational_entries.specs.Entry.{content_in, readers_of, with_reader}
-use Rattle.generational_entries.proofs.states.Entries.{says, has_place, used_at, hears, location}
-use Rattle.generational_entries.proofs.states.Entries.{ok_then, err_then, read_beside, cell_changed}
-use Rattle.generational_entries.proofs.states.Entries.{reader_kept, still, found, view_changed}
-use Rattle.generational_entries.proofs.states.SlotWrites.{room_left, small_left, open_lists}
-use Rattle.generational_entries.proofs.states.SlotWrites.{open_indexed, list_lists}
-use Rattle.generational_entries.proofs.lists.TableChanges.{not_empty, opened_list, opens_one}
-use Rattle.generational_entries.specs.Entries.{kept_data, index_of, EntryList}
-use Rattle.generational_containers.specs.Table.{list_at}
-use Rattle.generational_containers.specs.Borrows.{AreBelow}
+use Rattle.generational_entries.proofs
+use proofs.{ap, AreBelow, arith, cell_changed, content_in, EntryList, err_then, found}
+use proofs.{get_or-set_same, has_place, hears, index_of, kept_data, list_at, list_lists, location}
+use proofs.{not_empty, ok_then, open_indexed, open_lists, opened_list, opens_one, read_beside}
+use proofs.{reader_kept, readers_of, refl, room_left, says, small_left, still, subst, used_at}
+use proofs.{view_changed, with_reader, []}
 use Rattle.generational_entries.proofs.settled.SettledEntries.begin_read.Goals as goal
 
 pub open-requires-clause-room : goal.open-requires-clause-room

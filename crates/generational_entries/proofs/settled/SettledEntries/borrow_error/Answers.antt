@@ -1,9 +1,6 @@
 -- The writer that stands in the way of a read.
-use Rattle.std.proofs.Common.{refl}
-use Rattle.generational_entries.proofs.states.Entries.{kept, not_lent, says, lent_used, list_none}
-use Rattle.generational_entries.proofs.states.Entries.{says_of, read_details, found}
-use Rattle.generational_entries.specs.Entries.{index_of}
-use Rattle.generational_containers.specs.Table.{list_at}
+use Rattle.generational_entries.proofs.{found, index_of, kept, lent_used, list_at, list_none}
+use Rattle.generational_entries.proofs.{not_lent, read_details, refl, says, says_of}
 use Rattle.generational_entries.proofs.settled.SettledEntries.borrow_error.Goals as goal
 
 pub writer_at-writer-requires-clause-within : goal.writer_at-writer-requires-clause-within

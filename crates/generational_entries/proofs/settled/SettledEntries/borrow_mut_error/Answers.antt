@@ -1,17 +1,9 @@
 -- The borrows that stand in the way of a write or an end.
-use Rattle.std.proofs.Common.{refl, ◌≡◌, ◌≢◌, ℕ, List, [], Err, arith}
-use Rattle.generational_core.specs.Borrowing.{write_refusal}
-use Rattle.generational_core.specs.declared.borrow.Borrow.{Borrow}
-use Rattle.generational_errors.specs.declared.error.BorrowMutError.{BorrowMutError}
-use Rattle.generational_errors.specs.declared.error.Refused.{Refused}
-use Rattle.generational_errors.specs.declared.error.Location.{Location}
-use Rattle.generational_entries.specs.declared.entry.Kind.{Kind}
-use Rattle.generational_entries.specs.declared.entry.StorageEntryData.{StorageEntryData}
-use Rattle.generational_entries.specs.Entries.{index_of, kept_data, writer_in}
-use Rattle.generational_entries.specs.Entry.{FoundBorrowed, FoundReaders, content_in}
-use Rattle.generational_containers.specs.Table.{list_at}
-use Rattle.generational_entries.proofs.states.Entries.{kept, says, lent_used, used_at, no_refusal}
-use Rattle.generational_entries.proofs.states.Entries.{list_none, says_of, read_details, found}
+use Rattle.generational_entries.proofs
+use proofs.{arith, Borrow, BorrowMutError, content_in, Err, found, FoundBorrowed, FoundReaders}
+use proofs.{index_of, kept, kept_data, Kind, lent_used, List, list_at, list_none, Location}
+use proofs.{no_refusal, read_details, refl, Refused, says, says_of, StorageEntryData, used_at}
+use proofs.{write_refusal, writer_in, ℕ, [], ◌≡◌, ◌≢◌}
 use Rattle.generational_errors.specs.declared.error.BorrowMutError.TheVariants as writes
 use Rattle.generational_errors.specs.declared.error.Refused.TheVariants as refused
 use Rattle.generational_entries.specs.declared.entry.StorageEntryData.TheVariants as slot

@@ -1,8 +1,6 @@
 -- A cell's end, with the borrows that stand there.
-use Rattle.std.proofs.Common.{refl, sym}
-use Rattle.generational_entries.proofs.states.Entries.{found, still, view_changed}
-use Rattle.generational_entries.proofs.states.SlotWrites.{given_indexed, given_lists, given_rooms}
-use Rattle.generational_entries.proofs.states.SlotWrites.{used_x}
+use Rattle.generational_entries.proofs.{found, given_indexed, given_lists, given_rooms, refl, still}
+use Rattle.generational_entries.proofs.{sym, used_x, view_changed}
 use Rattle.generational_entries.proofs.settled.SettledEntries.end.Goals as goal
 
 pub give_back-requires : goal.give_back-requires

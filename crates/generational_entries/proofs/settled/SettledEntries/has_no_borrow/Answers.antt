@@ -1,6 +1,5 @@
-use Rattle.std.proofs.Common.{refl, sym, ◌≡◌, true, false}
-use Rattle.generational_entries.specs.Entry.{content_in, has_no_borrow}
-use Rattle.generational_entries.proofs.states.Entries.{not_alone, says, found}
+use Rattle.generational_entries.proofs.{content_in, false, found, has_no_borrow, not_alone, refl}
+use Rattle.generational_entries.proofs.{says, sym, true, ◌≡◌}
 use Rattle.generational_entries.proofs.settled.SettledEntries.has_no_borrow.Goals as goal
 
 pub returns-in-Data : goal.returns-in-Data

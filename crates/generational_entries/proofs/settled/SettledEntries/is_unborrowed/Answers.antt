@@ -1,9 +1,5 @@
-use Rattle.std.proofs.Common.{refl, ◌≡◌, is_none, true, false}
-use Rattle.generational_core.specs.Borrowing.{write_refusal}
-use Rattle.generational_entries.specs.Entry.{content_in}
-use Rattle.generational_entries.proofs.states.Entries.{no_refusal, says, read_test, found}
-use Rattle.generational_entries.specs.Entries.{index_of}
-use Rattle.generational_containers.specs.Table.{list_at}
+use Rattle.generational_entries.proofs.{content_in, false, found, index_of, is_none, list_at}
+use Rattle.generational_entries.proofs.{no_refusal, read_test, refl, says, true, write_refusal, ◌≡◌}
 use Rattle.generational_entries.proofs.settled.SettledEntries.is_unborrowed.Goals as goal
 
 pub returns-in-Read : goal.returns-in-Read

@@ -1,11 +1,8 @@
 -- A lent value gets a writer.
-use Rattle.std.proofs.Common.{arith, refl, ap, [], ◌∷◌}
-use Rattle.std.proofs.lemmas.List.{get_or-set_same}
-use Rattle.generational_entries.proofs.lists.TableChanges.{none_some, opened_list, opens_one}
-use Rattle.generational_entries.proofs.states.Entries.{not_lent_there, lent_used, still, found}
-use Rattle.generational_entries.proofs.states.Entries.{view_changed}
-use Rattle.generational_entries.proofs.states.SlotWrites.{list_indexed, list_lists, open_indexed}
-use Rattle.generational_entries.proofs.states.SlotWrites.{open_lists, room_left, small_left}
+use Rattle.generational_entries.proofs.{ap, arith, found, get_or-set_same, lent_used, list_indexed}
+use Rattle.generational_entries.proofs.{list_lists, none_some, not_lent_there, open_indexed}
+use Rattle.generational_entries.proofs.{open_lists, opened_list, opens_one, refl, room_left}
+use Rattle.generational_entries.proofs.{small_left, still, view_changed, [], ◌∷◌}
 use Rattle.generational_entries.proofs.settled.SettledEntries.list_writer.Goals as goal
 
 pub open-requires-clause-room : goal.open-requires-clause-room

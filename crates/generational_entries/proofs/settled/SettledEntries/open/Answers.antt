@@ -1,8 +1,5 @@
 -- The value, where the reader stands.
-use Rattle.std.proofs.Common.{refl}
-use Rattle.generational_entries.specs.Entries.{index_of}
-use Rattle.generational_entries.proofs.states.Entries.{says, used_at, found, unopened}
-use Rattle.generational_containers.specs.Table.{list_at}
+use Rattle.generational_entries.proofs.{found, index_of, list_at, refl, says, unopened, used_at}
 use Rattle.generational_entries.proofs.settled.SettledEntries.open.Goals as goal
 
 pub contains-requires : goal.contains-requires

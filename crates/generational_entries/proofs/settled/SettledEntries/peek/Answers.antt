@@ -1,10 +1,6 @@
 -- The value of a cell, unless it is lent.
-use Rattle.std.proofs.Common.{refl, sym, ◌≡◌, Some, None, option_copied}
-use Rattle.generational_core.specs.Answers.{value_of}
-use Rattle.generational_entries.specs.Entry.{content_in}
-use Rattle.generational_entries.proofs.states.Entries.{no_value, says, found}
-use Rattle.generational_entries.specs.Entries.{index_of}
-use Rattle.generational_containers.specs.Table.{list_at}
+use Rattle.generational_entries.proofs.{content_in, found, index_of, list_at, no_value, None}
+use Rattle.generational_entries.proofs.{option_copied, refl, says, Some, sym, value_of, ◌≡◌}
 use Rattle.generational_entries.proofs.settled.SettledEntries.peek.Goals as goal
 
 pub returns-in-Data : goal.returns-in-Data

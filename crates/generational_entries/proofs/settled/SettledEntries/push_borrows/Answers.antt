@@ -1,21 +1,12 @@
 -- The rows of the borrows of a slot's value.
-use Rattle.std.proofs.Common.{refl, ◌≡◌, ◌∷◌, ◌++◌, ℕ, List, [], sym, ap, ◌∙◌, append-nil}
+use Rattle.generational_entries.proofs
+use proofs.{ap, append-nil, BaseRow, Borrow, content_in, content_rows, found, GenerationalBoxId}
+use proofs.{index_of, kept, kept_data, Kind, lent_used, List, list_at, list_none, Location}
+use proofs.{on_ok_weaker, read_details, reader_row, refl, says, says_of, StorageEntryData, sym}
+use proofs.{used_at, writer_in, ℕ, [], ◌++◌, ◌∙◌, ◌∷◌, ◌≡◌}
 use Rattle.std.proofs.Common.{map as list_map}
-use Rattle.std.proofs.lemmas.Result.{on_ok_weaker}
-use Rattle.generational_core.specs.declared.borrow.Borrow.{Borrow}
-use Rattle.generational_core.specs.declared.boxes.GenerationalBoxId.{GenerationalBoxId}
-use Rattle.generational_errors.specs.declared.error.Location.{Location}
-use Rattle.generational_core.specs.declared.rows.BaseRow.{BaseRow}
 use Rattle.generational_core.specs.declared.rows.BaseRow.TheVariants as row
-use Rattle.generational_core.specs.Rows.{content_rows, reader_row}
-use Rattle.generational_entries.specs.declared.entry.Kind.{Kind}
-use Rattle.generational_entries.specs.declared.entry.StorageEntryData.{StorageEntryData}
 use Rattle.generational_entries.specs.declared.entry.StorageEntryData.TheVariants as slot
-use Rattle.generational_entries.specs.Entries.{index_of, kept_data, writer_in}
-use Rattle.generational_entries.specs.Entry.{content_in}
-use Rattle.generational_containers.specs.Table.{list_at}
-use Rattle.generational_entries.proofs.states.Entries.{kept, says, lent_used, used_at, list_none}
-use Rattle.generational_entries.proofs.states.Entries.{says_of, read_details, found}
 use Rattle.generational_entries.proofs.settled.SettledEntries.push_borrows.Goals as goal
 
 module _ {T : Type 0} (lists : List (List Borrow)) (d : StorageEntryData T) (l : Location)

@@ -1,8 +1,6 @@
 -- A value that is put back.
-use Rattle.std.proofs.Common.{refl}
-use Rattle.generational_entries.proofs.states.Entries.{found, not_lent_there, lent_used, still}
-use Rattle.generational_entries.proofs.states.Entries.{view_changed}
-use Rattle.generational_entries.proofs.states.SlotWrites.{given_indexed, given_lists, given_rooms}
+use Rattle.generational_entries.proofs.{found, given_indexed, given_lists, given_rooms, lent_used}
+use Rattle.generational_entries.proofs.{not_lent_there, refl, still, view_changed}
 use Rattle.generational_entries.proofs.settled.SettledEntries.put_back.Goals as goal
 
 pub give_back-requires : goal.give_back-requires

@@ -1,11 +1,7 @@
 -- The value of a cell that isn't lent.
-use Rattle.std.proofs.Common.{refl, sym, ap, ◌≡◌, ◌∙◌, true, Some, is_some}
-use Rattle.std.proofs.lemmas.Bool.{false≢true}
-use Rattle.generational_core.specs.Answers.{value_of}
-use Rattle.generational_entries.specs.Entry.{content_in}
-use Rattle.generational_entries.proofs.states.Entries.{hears, no_value, says, location, found}
-use Rattle.generational_entries.specs.Entries.{index_of}
-use Rattle.generational_containers.specs.Table.{list_at}
+use Rattle.generational_entries.proofs.{ap, content_in, false≢true, found, hears, index_of, is_some}
+use Rattle.generational_entries.proofs.{list_at, location, no_value, refl, says, Some, sym, true}
+use Rattle.generational_entries.proofs.{value_of, ◌∙◌, ◌≡◌}
 use Rattle.generational_entries.proofs.settled.SettledEntries.read_value.Goals as goal
 
 pub unreachable-requires : goal.unreachable-requires

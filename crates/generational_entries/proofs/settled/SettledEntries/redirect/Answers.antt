@@ -1,8 +1,6 @@
 -- A reference that names another cell.
-use Rattle.std.proofs.Common.{refl}
-use Rattle.generational_entries.proofs.states.Entries.{refers_none, slot_seen, still, found}
-use Rattle.generational_entries.proofs.states.Entries.{cell_changed, referred}
-use Rattle.generational_entries.proofs.states.SlotWrites.{free_indexed}
+use Rattle.generational_entries.proofs.{cell_changed, found, free_indexed, referred, refers_none}
+use Rattle.generational_entries.proofs.{refl, slot_seen, still}
 use Rattle.generational_entries.proofs.settled.SettledEntries.redirect.Goals as goal
 
 pub invariant_of-self : goal.invariant_of-self

@@ -1,11 +1,8 @@
 -- A cell without borrows in a slot that has none, under the next generation.
-use Rattle.std.proofs.Common.{arith, refl, ap, ◌≡◌, ◌∙◌, ◌<◌, ◌+◌, slice_set}
-use Rattle.std.proofs.lemmas.List.{length-set}
-use Rattle.generational_core.specs.Slots.{last_generation}
-use Rattle.generational_entries.proofs.states.Entries.{kept, many, says, hears, empty_slot}
-use Rattle.generational_entries.proofs.states.Entries.{slots_set, free_entry, found, still}
-use Rattle.generational_entries.proofs.states.Indexes.{unborrowed_listed, unborrowed_none}
-use Rattle.generational_entries.proofs.states.SlotWrites.{free_indexed}
+use Rattle.generational_entries.proofs.{ap, arith, empty_slot, found, free_entry, free_indexed}
+use Rattle.generational_entries.proofs.{hears, kept, last_generation, length-set, many, refl, says}
+use Rattle.generational_entries.proofs.{slice_set, slots_set, still, unborrowed_listed}
+use Rattle.generational_entries.proofs.{unborrowed_none, ◌+◌, ◌<◌, ◌∙◌, ◌≡◌}
 use Rattle.generational_entries.proofs.settled.SettledEntries.refill.Goals as goal
 
 pub index_mut-requires : goal.index_mut-requires

@@ -1,12 +1,7 @@
-use Rattle.std.proofs.Common.{refl, ap}
-use Rattle.generational_entries.proofs.states.Entries.{says, used_at, release_rooms, reader_left}
-use Rattle.generational_entries.proofs.states.Entries.{no_reader, still, found, cell_changed}
-use Rattle.generational_entries.proofs.states.Entries.{view_changed}
-use Rattle.generational_entries.proofs.states.SlotWrites.{release_lists, release_indexed}
-use Rattle.generational_entries.proofs.states.SlotWrites.{release_kept}
-use Rattle.generational_entries.specs.Entries.{EntryList, index_of}
-use Rattle.generational_entries.specs.Entry.{without_reader_in}
-use Rattle.generational_containers.specs.Table.{list_at}
+use Rattle.generational_entries.proofs.{ap, cell_changed, EntryList, found, index_of, list_at}
+use Rattle.generational_entries.proofs.{no_reader, reader_left, refl, release_indexed, release_kept}
+use Rattle.generational_entries.proofs.{release_lists, release_rooms, says, still, used_at}
+use Rattle.generational_entries.proofs.{view_changed, without_reader_in}
 use Rattle.generational_entries.proofs.settled.SettledEntries.release_read.Goals as goal
 
 pub release-known-requires : goal.release-known-requires

@@ -1,11 +1,7 @@
 -- A writer's end.
-use Rattle.std.proofs.Common.{refl, sym, ◌≡◌, ◌∙◌, true}
-use Rattle.std.proofs.lemmas.Bool.{false≢true, eq-eqb, eqb-true}
-use Rattle.generational_entries.specs.Entry.{content_in, is_lent}
-use Rattle.generational_entries.proofs.states.Entries.{kept, lent_used, list_none, no_writer}
-use Rattle.generational_entries.proofs.states.Entries.{read_details, says, says_of, found}
-use Rattle.generational_entries.specs.Entries.{index_of}
-use Rattle.generational_containers.specs.Table.{list_at}
+use Rattle.generational_entries.proofs.{content_in, eq-eqb, eqb-true, false≢true, found, index_of}
+use Rattle.generational_entries.proofs.{is_lent, kept, lent_used, list_at, list_none, no_writer}
+use Rattle.generational_entries.proofs.{read_details, refl, says, says_of, sym, true, ◌∙◌, ◌≡◌}
 use Rattle.generational_entries.proofs.settled.SettledEntries.release_write.Goals as goal
 
 pub writer_at-writer-requires-clause-within : goal.writer_at-writer-requires-clause-within

@@ -1,7 +1,5 @@
 -- Another value in the place of one without borrows: its index and the table stay.
-use Rattle.std.proofs.Common.{refl}
-use Rattle.generational_entries.proofs.states.Entries.{alone, says, still, found, view_changed}
-use Rattle.generational_entries.proofs.states.SlotWrites.{free_indexed}
+use Rattle.generational_entries.proofs.{alone, found, free_indexed, refl, says, still, view_changed}
 use Rattle.generational_entries.proofs.settled.SettledEntries.replace.Goals as goal
 
 pub unreachable-requires : goal.unreachable-requires

@@ -1,11 +1,7 @@
 -- A value that is taken out.
-use Rattle.std.proofs.Common.{refl, sym, ap, ◌≡◌, ◌∙◌, [], Some}
-use Rattle.generational_core.specs.Cells.Content.{Here}
-use Rattle.generational_entries.specs.Entry.{content_in}
-use Rattle.generational_entries.specs.Entries.{unread_in}
-use Rattle.generational_entries.proofs.states.Entries.{alone, list_none, says, still, found}
-use Rattle.generational_entries.proofs.states.Entries.{view_changed}
-use Rattle.generational_entries.proofs.states.SlotWrites.{free_indexed}
+use Rattle.generational_entries.proofs.{alone, ap, content_in, found, free_indexed, Here, list_none}
+use Rattle.generational_entries.proofs.{refl, says, Some, still, sym, unread_in, view_changed, []}
+use Rattle.generational_entries.proofs.{◌∙◌, ◌≡◌}
 use Rattle.generational_entries.proofs.settled.SettledEntries.take.Goals as goal
 
 pub lend-requires : goal.lend-requires

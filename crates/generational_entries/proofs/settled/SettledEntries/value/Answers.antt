@@ -1,8 +1,5 @@
 -- The value of a cell that isn't lent.
-use Rattle.std.proofs.Common.{refl, ◌≡◌, Some}
-use Rattle.generational_core.specs.Answers.{value_of}
-use Rattle.generational_entries.specs.Entry.{content_in}
-use Rattle.generational_entries.proofs.states.Entries.{says, found}
+use Rattle.generational_entries.proofs.{content_in, found, refl, says, Some, value_of, ◌≡◌}
 use Rattle.generational_entries.proofs.settled.SettledEntries.value.Goals as goal
 
 pub returns-in-Data : goal.returns-in-Data

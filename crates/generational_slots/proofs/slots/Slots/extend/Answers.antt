@@ -1,20 +1,12 @@
 -- A cell in a new slot.
-use Rattle.std.proofs.Common.{arith, ap, sym, ◌≡◌, ◌∙◌, ◌<◌, [], IfSome, length}
-use Rattle.std.proofs.Common.{true}
-use Rattle.std.proofs.Common.{subst, slice_get, length-append}
+use Rattle.generational_slots.proofs.{ap, arith, free_seen, HasTargets, if_named, IfSome, is_shared}
+use Rattle.generational_slots.proofs.{kept_data, length, length-append, made_few, made_referred}
+use Rattle.generational_slots.proofs.{made_within, more_length, more_slotted, more_state, new_fresh}
+use Rattle.generational_slots.proofs.{new_pushed, none_after, one_made, pushed, slice_get}
+use Rattle.generational_slots.proofs.{slotted_pushed, state_is, state_pushed, subst, sym, target_of}
+use Rattle.generational_slots.proofs.{true, unborrowed_cell, [], ◌<◌, ◌∙◌, ◌≡◌}
 use Rattle.std.specs.FinMap as map
 use Rattle.std.specs.FinSet as set
-use Rattle.generational_entries.specs.Entries.{kept_data, target_of}
-use Rattle.generational_slots.proofs.Common.{HasTargets, is_shared}
-use Rattle.generational_slots.proofs.states.Changes.{state_is}
-use Rattle.generational_slots.proofs.states.Counting.{if_named, made_few, made_referred}
-use Rattle.generational_slots.proofs.states.Counting.{made_within}
-use Rattle.generational_slots.proofs.states.Counting.{more_length, more_slotted, more_state}
-use Rattle.generational_slots.proofs.states.Counting.{new_fresh}
-use Rattle.generational_slots.proofs.states.Counting.{unborrowed_cell}
-use Rattle.generational_slots.proofs.states.Makings.{new_pushed, none_after, one_made, pushed}
-use Rattle.generational_slots.proofs.states.Makings.{slotted_pushed, state_pushed}
-use Rattle.generational_slots.proofs.states.States.{free_seen}
 use Rattle.generational_slots.proofs.slots.Slots.extend.Goals as goal
 
 pub push-requires-clause-room : goal.push-requires-clause-room

@@ -1,23 +1,13 @@
 -- A cell in a slot that is free, or in a new one.
-use Rattle.std.proofs.Common.{arith, ap, sym, ◌≡◌, ◌∙◌, ◌+◌, ◌<◌, [], IfSome, length, true, subst}
-use Rattle.std.proofs.Common.{slice_get}
-use Rattle.std.proofs.lemmas.List.{length-set}
+use Rattle.generational_slots.proofs
+use proofs.{ap, arith, err_holds, free, free_are, free_seen, HasTargets, if_named, IfSome}
+use proofs.{is_shared, kept_data, length, length-set, made_few, made_referred, made_within}
+use proofs.{more_length, more_slotted, more_state, nat_cmp, new_fresh, new_reused, next_told}
+use proofs.{none_before, reused, same_generation, slice_get, slotted_reused, state_is, state_reused}
+use proofs.{subst, sym, taken_less, taken_within, target_of, true, unborrowed_cell, [], ◌+◌, ◌<◌}
+use proofs.{◌∙◌, ◌≡◌}
 use Rattle.std.specs.FinMap as map
 use Rattle.std.specs.FinSet as set
-use Rattle.std.specs.Ordering.{nat_cmp}
-use Rattle.generational_entries.specs.Entries.{kept_data, target_of}
-use Rattle.generational_slots.proofs.Common.{HasTargets, free, is_shared}
-use Rattle.generational_slots.proofs.states.Changes.{next_told, state_is}
-use Rattle.generational_slots.proofs.states.Counting.{err_holds, if_named}
-use Rattle.generational_slots.proofs.states.Counting.{made_few}
-use Rattle.generational_slots.proofs.states.Counting.{made_referred, made_within, more_length}
-use Rattle.generational_slots.proofs.states.Counting.{more_slotted, more_state, new_fresh}
-use Rattle.generational_slots.proofs.states.Counting.{unborrowed_cell}
-use Rattle.generational_slots.proofs.states.Makings.{new_reused, none_before, reused}
-use Rattle.generational_slots.proofs.states.Makings.{slotted_reused, state_reused, taken_below}
-use Rattle.generational_slots.proofs.states.Makings.{taken_empty, taken_less, taken_within}
-use Rattle.generational_slots.proofs.states.Makings.{same_generation}
-use Rattle.generational_slots.proofs.states.States.{free_are, free_seen}
 use Rattle.generational_slots.proofs.slots.Slots.make.Goals as goal
 
 pub returns-then-is_err-clause-needed : goal.returns-then-is_err-clause-needed
@@ -47,12 +37,6 @@ generation-requires g c = taken_within c.self.invariant.0 _ c.in-Some.ensures.me
 
 pub refill-requires-clause-within : goal.refill-requires-clause-within
 refill-requires-clause-within g c = taken_within c.self.invariant.0 _ c.in-Some.ensures.member
-
-pub refill-requires-clause-below : goal.refill-requires-clause-below
-refill-requires-clause-below g c = taken_below c.self.invariant.0 _ c.in-Some.ensures.member
-
-pub refill-requires-clause-empty : goal.refill-requires-clause-empty
-refill-requires-clause-empty g c = taken_empty c.self.invariant.0 _ c.in-Some.ensures.member
 
 pub refer-requires-clause-within : goal.refer-requires-clause-within
 refer-requires-clause-within g c =

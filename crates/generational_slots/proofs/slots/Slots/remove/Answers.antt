@@ -1,21 +1,12 @@
 -- A cell that goes.
-use Rattle.std.proofs.Common.{arith, ap, sym, ◌≡◌, ◌∙◌, is_some, length, subst, true}
+use Rattle.generational_slots.proofs
+use proofs.{ap, AreReferred, arith, bit, cell_at, cell_seen, count_less, count_of, ended_length}
+use proofs.{found, found_within, get_cells, has_no_borrow, heard_in, held_in, is_some, length}
+use proofs.{less_length, less_slotted, less_state, name_of_cell, not_pooled, one_retired}
+use proofs.{referred_ended, referred_forgotten, refers_to, shared_target, slotted_freed}
+use proofs.{slotted_retired, some_live, State, state_ended, state_is, subst, sym, target_in}
+use proofs.{target_some, true, unborrowed_there, ◌∙◌, ◌≡◌}
 use Rattle.std.specs.FinMap as map
-use Rattle.generational_entries.specs.Entry.{has_no_borrow, target_in}
-use Rattle.generational_slots.proofs.Common.{AreReferred, cell_at, count_less, count_of}
-use Rattle.generational_slots.proofs.Common.{name_of_cell}
-use Rattle.generational_slots.proofs.Common.{refers_to}
-use Rattle.generational_slots.proofs.Common.{State, shared_target}
-use Rattle.generational_containers.proofs.lists.Lists.{bit}
-use Rattle.generational_slots.proofs.states.Changes.{cell_seen, found, found_within, heard_in}
-use Rattle.generational_slots.proofs.states.Changes.{held_in, unborrowed_there}
-use Rattle.generational_slots.proofs.states.Changes.{not_pooled, slotted_freed, slotted_retired}
-use Rattle.generational_slots.proofs.states.Changes.{ended_length, one_retired, some_live}
-use Rattle.generational_slots.proofs.states.Changes.{state_ended, state_is}
-use Rattle.generational_slots.proofs.states.Counting.{less_length, less_slotted, less_state}
-use Rattle.generational_slots.proofs.states.Counting.{referred_ended, referred_forgotten}
-use Rattle.generational_slots.proofs.states.Counting.{target_some}
-use Rattle.generational_slots.proofs.states.States.{get_cells}
 use Rattle.generational_slots.proofs.slots.Slots.remove.Goals as goal
 
 pub forget-requires : goal.forget-requires

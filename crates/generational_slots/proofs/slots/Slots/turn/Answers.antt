@@ -1,14 +1,9 @@
 -- A reference that names another shared value, and its old target.
-use Rattle.std.proofs.Common.{ap, sym, ◌≡◌, ◌∙◌, None, Some, refl, Err, Ok}
-use Rattle.std.proofs.Common.{true, false}
-use Rattle.std.proofs.lemmas.Bool.{false≢true}
+use Rattle.generational_slots.proofs.{ap, doomed_held, doomed_left, doomed_told, Err, false}
+use Rattle.generational_slots.proofs.{false≢true, held_within, is_name, name_of_cell, name_test}
+use Rattle.generational_slots.proofs.{None, Ok, Ref, reference_cell, refl, Some, State, state_is}
+use Rattle.generational_slots.proofs.{sym, true, turns_done, turns_refused, turns_same, ◌∙◌, ◌≡◌}
 use Rattle.std.specs.FinMap as map
-use Rattle.generational_slots.proofs.Common.{Ref, State, is_name}
-use Rattle.generational_slots.proofs.Common.{name_of_cell, name_test}
-use Rattle.generational_slots.proofs.states.Turns.{doomed_left, reference_cell, turns_done}
-use Rattle.generational_slots.proofs.states.Turns.{turns_refused, turns_same}
-use Rattle.generational_slots.proofs.states.Changes.{held_within, state_is}
-use Rattle.generational_slots.proofs.states.Reaching.{doomed_held, doomed_told}
 use Rattle.generational_slots.proofs.slots.Slots.turn.Goals as goal
 
 pub returns-then-eq : goal.returns-then-eq
