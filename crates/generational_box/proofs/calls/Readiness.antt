@@ -88,10 +88,6 @@ module _ {T : Type 0} where
   -- ---- the release of an owner value
 
   module _ (S : State T) (o : OwnerName) where
-    -- of a record that the store hasn't
-    pub unknown_free : None ≡ ownership S o → true ≡ is_free S (ReleaseOwner o)
-    unknown_free none = rw (← none) refl
-
     -- of a record with others
     pub several_free : (h : Ownership) → Some h ≡ ownership S o → 1 < h.count
         → true ≡ is_free S (ReleaseOwner o)

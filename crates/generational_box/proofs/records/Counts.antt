@@ -25,14 +25,6 @@ module _ {next : ℕ} {owners : Owners} (counted : AreCounted next owners) where
       more k None c = tt
       more k (Some h) c = (c.0, omega (arith, c.1), omega (arith, c.2), c.3)
 
-  -- the next key has no record
-  pub counted_absent : map.get owners next ≡ None
-  counted_absent = at (map.get owners next) (counted.each next)
-    where
-      at : (o : Option Ownership) → IsCounted next next o → o ≡ None
-      at None c = refl
-      at (Some h) c = absurd (omega (arith, c.2))
-
   counted_update : (after : Owners) (k : ℕ) (v : Option Ownership)
       → ((q : ℕ) → map.get after q ≡ cond (eq_by_cmp nat_cmp q k) v (map.get owners q))
       → IsCounted next k v → AreCounted next after

@@ -3,8 +3,8 @@
 use Rattle.generational_containers.proofs.Common
 use Common.{all_pairs_push, answers_always, ap, AreBelow, arith, Ascend, Bool, Bor, Borrow, Called}
 use Common.{cases_eq, cases_lt, ComputesKey, eq-eqb, Equal, Err, false, false≢true, filter, get_or}
-use Common.{Greater, HoldsAt, IsBinarySearchResult, IsNonDecreasingBy, IsOnly, IsPartitionPoint}
-use Common.{IsSome, length, Less, List, list_any, list_any_at, list_any_none, Mut, nat_cmp, nat_eq}
+use Common.{Greater, HoldsAt, IsBinarySearchResult, IsNonDecreasingBy, IsPartitionPoint, IsSome}
+use Common.{length, Less, List, list_any, list_any_at, list_any_none, Mut, nat_cmp, nat_eq}
 use Common.{nat_tests, ne_eqb, None, not, Ok, OnSome, Option, or_parts, ordering_index, ranked}
 use Common.{refl, remove, Some, suc, sym, true, zero, ℕ, [], ⊎_elim, ◌++◌, ◌<◌, ◌∙◌, ◌∷◌, ◌≡◌, ◌≢◌}
 use Common.{◌≤◌}
@@ -133,12 +133,6 @@ without_first t b bs own up =
 
 pub none_some : (b : Borrow) (bs : List Borrow) → b ∷ bs ≡ [] → ⊥
 none_some b bs z = cc
-
--- nothing is left of a list with the ticket's own borrow alone
-pub without_only : (t : ℕ) (bs : List Borrow) → IsOnly t bs → without t bs ≡ []
-without_only t [] only = absurd only
-without_only t (b ∷ []) only = rw only refl
-without_only t (b ∷ c ∷ bs) only = absurd only
 
 -- two borrows in order
 pub two_ascend : (a b : Borrow) → AreBelow b.ticket (a ∷ []) → Ascend (a ∷ b ∷ [])

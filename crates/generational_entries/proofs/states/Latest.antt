@@ -129,11 +129,6 @@ module _ {T : Type 0} where
       → with_content (joined standing.Reader b) k ≡ k
   listed_there b k beside = grind arith
 
-  -- alone it is the first
-  pub first_there : (b : Borrow) (k : Kept T) → has_no_borrow (content_in k) ≡ true
-      → with_content (joined standing.Reader b) k ≡ with_reader b k
-  first_there b k free = grind arith
-
   -- a reader that is listed changes nothing
   pub listed_same : (r : LastBorrow) (slots : List (Entry T)) → is_noted r.standing ≡ true
       → is_writer r.standing ≡ false

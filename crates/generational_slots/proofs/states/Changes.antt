@@ -522,11 +522,6 @@ pub returned : {T U : Type 0} (v : T) (r : Result U T) {P Q X : Type 0} → OnOk
 returned v (Ok a) ok err f h = f ok
 returned v (Err back) ok err f h = h err.1
 
-pub back_then : {T U : Type 0} (v : T) (r : Result U T) {Q R : Type 0} → (Q → R)
-    → IfErr r (λ back. (back ≡ v) × Q) → IfErr r (λ back. (back ≡ v) × R)
-back_then v (Ok a) f err = tt
-back_then v (Err back) f err = (err.0, f err.1)
-
 -- a content without borrows is there
 pub unborrowed_there : {T : Type 0} (o : Option (Content T)) → has_no_borrow o ≡ true
     → is_some o ≡ true

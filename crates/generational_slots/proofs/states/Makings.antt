@@ -65,12 +65,6 @@ module _ {T : Type 0} {p : SlotTable T} (s : IsSlotTable p) where
     pub taken_within : i < length p.slots
     taken_within = slice_get_within p.slots i free_entry.0 free_entry.1
 
-    pub taken_empty : IfSome (slice_get p.slots i) (λ e. e.kept ≡ Empty)
-    taken_empty = rw free_entry.1 free_entry.3
-
-    pub taken_below : IfSome (slice_get p.slots i) (λ e. e.generation < last_generation)
-    taken_below = rw free_entry.1 free_entry.4
-
     -- one free slot less
     pub taken_less : set.len (set.remove p.free i) + 1 ≡ set.len p.free
     taken_less =

@@ -1,7 +1,7 @@
 -- What the box of a name reaches, as the slots tell it and as the state sees it.
 use Rattle.generational_slots.proofs.Common
-use Common.{ap, Bool, BorrowMutError, BorrowRefusal, Cell, cell_at, cond, Content, content_at}
-use Common.{content_in, content_of, content_reached, doomed_by, Dropped, Entry, false, false≢true}
+use Common.{ap, Bool, BorrowMutError, Cell, cell_at, cond, Content, content_at, content_in}
+use Common.{content_of, content_reached, doomed_by, Dropped, Entry, false, false≢true}
 use Common.{FoundBorrowed, has_no_borrow, Here, IfSome, is_named, is_none, is_shared, is_some}
 use Common.{is_unborrowed_value, IsLinked, leads_to, Lent, List, Location, Name, None, not, Option}
 use Common.{option_map, reached, read_refusal, Ref, refl, refusal_at, refusal_to_read_at}
@@ -54,11 +54,6 @@ module _ {T : Type 0} where
 
         pub write_to : refusal_to_write_at S n l ≡ write_refusal (content_at S m)
         write_to = ap (λ o. refusal_at o l (λ m. write_refusal (content_at S m))) (sym to)
-
-      -- so is a reference, and also where what is reached isn't shared
-      pub refer_lent : (t : BorrowRefusal) → refusal_to_read_at S n l ≡ Some t
-          → refusal_to_refer_at S n l ≡ Some t
-      refer_lent t is = rw is refl
 
       pub refer_plain : {m : Name} → reached S n ≡ Some m → read_refusal (content_at S m) ≡ None
           → false ≡ is_shared (map.get S.cells m) → refusal_to_refer_at S n l ≡ Some (Dropped l)

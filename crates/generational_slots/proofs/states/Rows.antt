@@ -8,8 +8,8 @@ use Common.{get_bare_cell, give_up_to, given_from, given_of, IfSome, IsSlotTable
 use Common.{list_any, live_from, lt-ltb, Name, name_cmp, name_exact, name_total, Names, nat_cmp}
 use Common.{nat_cmp_total, ne_eqb, None, none-some, number_test, Option, option_map, or-false}
 use Common.{Plain, put, put_new, read_append, read_rows, refl, rows_from, slice_get, slot_rows}
-use Common.{slots_of, SlotTable, Some, State, state_of, suc, sym, T, take, take_all, true}
-use Common.{unwrap_or, with_cell, zero, ℕ, [], ◌&&◌, ◌++◌, ◌+◌, ◌<◌, ◌||◌, ◌∙◌, ◌∷◌, ◌≡◌, ◌≤◌}
+use Common.{slots_of, SlotTable, Some, State, state_of, suc, sym, T, take, true, unwrap_or}
+use Common.{with_cell, zero, ℕ, [], ◌&&◌, ◌++◌, ◌+◌, ◌<◌, ◌||◌, ◌∙◌, ◌∷◌, ◌≡◌}
 use Rattle.generational_slots.proofs.states.States.{any_of, find_below, get_cells, get_last}
 use Rattle.std.proofs.Common.{map as list_map}
 use Rattle.std.specs.FinMap as map
@@ -63,24 +63,11 @@ module _ {A : Type 0} where
           ∙ ap (λ n. rows_from number 0 (take n es))
           (let more : suc k ≡ k + 1 = omega arith in more))
 
-  pub rows_all : (number n : ℕ) (es : List (Entry A)) → length es ≤ n
-      → rows_from number 0 (take n es) ≡ rows_from number 0 es
-  rows_all number n es all = ap (rows_from number 0) (take_all n es all)
-
   -- ---- the machine's slots
 
   numbered : ℕ → List (Entry A) → List (ℕ × ℕ)
   numbered i [] = []
   numbered i (e ∷ es) = (i, e.generation) ∷ numbered (i + 1) es
-
-  find_before : (i : ℕ) (es : List (Entry A)) (q : ℕ) → q < i
-      → map.find nat_cmp q (numbered i es) ≡ None
-  unfolding numbered
-  find_before i [] q before = refl
-  find_before i (e ∷ es) q before =
-      ap (λ b. cond b (Some e.generation) (map.find nat_cmp q (numbered (i + 1) es)))
-      (number_test q i ∙ ne_eqb q i (λ same. omega arith))
-      ∙ find_before (i + 1) es q (omega arith)
 
   find_numbered : (i : ℕ) (es : List (Entry A)) (q k : ℕ) → q ≡ i + k
       → map.find nat_cmp q (numbered i es) ≡ option_map (λ e. e.generation) (slice_get es k)

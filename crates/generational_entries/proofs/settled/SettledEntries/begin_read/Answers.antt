@@ -2,8 +2,8 @@ use Rattle.generational_entries.proofs
 use proofs.{ap, AreBelow, arith, cell_changed, content_in, EntryList, err_then, found}
 use proofs.{get_or-set_same, has_place, hears, index_of, kept_data, list_at, list_lists, location}
 use proofs.{not_empty, ok_then, open_indexed, open_lists, opened_list, opens_one, read_beside}
-use proofs.{reader_kept, readers_of, refl, room_left, says, small_left, still, subst, used_at}
-use proofs.{view_changed, with_reader, []}
+use proofs.{reader_kept, readers_of, refl, room_left, says, still, subst, used_at, view_changed}
+use proofs.{with_reader, []}
 use Rattle.generational_entries.proofs.settled.SettledEntries.begin_read.Goals as goal
 
 pub open-requires-clause-room : goal.open-requires-clause-room
@@ -12,12 +12,6 @@ open-requires-clause-room g c =
     c.index_mut.ensures.value in
     room_left a (rw c.in-Data.is refl)
     (let r = c.self.invariant.2 in let a = r.filled in let b = r.borrows in omega arith)
-
-pub open-requires-clause-small : goal.open-requires-clause-small
-open-requires-clause-small g c =
-    let a = found c.self.view_is c.self.invariant c.requires.within c.self.inside.entries.ok.0
-    c.index_mut.ensures.value in
-    small_left a (rw c.in-Data.is refl)
 
 pub invariant_of-self : goal.invariant_of-self
 invariant_of-self g c =

@@ -1,6 +1,6 @@
 -- The writer that stands in the way of a read.
-use Rattle.generational_entries.proofs.{found, index_of, kept, lent_used, list_at, list_none}
-use Rattle.generational_entries.proofs.{not_lent, read_details, refl, says, says_of}
+use Rattle.generational_entries.proofs.{found, index_of, lent_used, list_at, not_lent, read_details}
+use Rattle.generational_entries.proofs.{refl, says, says_of}
 use Rattle.generational_entries.proofs.settled.SettledEntries.borrow_error.Goals as goal
 
 pub writer_at-writer-requires-clause-within : goal.writer_at-writer-requires-clause-within
@@ -8,9 +8,6 @@ writer_at-writer-requires-clause-within g c =
     let a = found c.self.view_is c.self.invariant c.requires c.self.inside.entries.ok.0
     c.index.ensures in
     λ some. (lent_used a c.in-Lent.is some).within
-
-pub writer_at-writer-requires-clause-none : goal.writer_at-writer-requires-clause-none
-writer_at-writer-requires-clause-none g c = list_none (kept c.self.view_is c.self.invariant)
 
 pub returns-in-Lent : goal.returns-in-Lent
 returns-in-Lent g c =

@@ -1,9 +1,9 @@
 -- The borrows that stand in the way of a write or an end.
 use Rattle.generational_entries.proofs
 use proofs.{arith, Borrow, BorrowMutError, content_in, Err, found, FoundBorrowed, FoundReaders}
-use proofs.{index_of, kept, kept_data, Kind, lent_used, List, list_at, list_none, Location}
-use proofs.{no_refusal, read_details, refl, Refused, says, says_of, StorageEntryData, used_at}
-use proofs.{write_refusal, writer_in, ℕ, [], ◌≡◌, ◌≢◌}
+use proofs.{index_of, kept_data, Kind, lent_used, List, list_at, Location, no_refusal, read_details}
+use proofs.{refl, Refused, says, says_of, StorageEntryData, used_at, write_refusal, writer_in, ℕ}
+use proofs.{[], ◌≡◌, ◌≢◌}
 use Rattle.generational_errors.specs.declared.error.BorrowMutError.TheVariants as writes
 use Rattle.generational_errors.specs.declared.error.Refused.TheVariants as refused
 use Rattle.generational_entries.specs.declared.entry.StorageEntryData.TheVariants as slot
@@ -37,9 +37,6 @@ writer_at-writer-requires-clause-within g c =
     let a = found c.self.view_is c.self.invariant c.requires c.self.inside.entries.ok.0
     c.index.ensures in
     λ some. (lent_used a c.in-Lent.is some).within
-
-pub writer_at-writer-requires-clause-none : goal.writer_at-writer-requires-clause-none
-writer_at-writer-requires-clause-none g c = list_none (kept c.self.view_is c.self.invariant)
 
 pub returns-in-Read : goal.returns-in-Read
 returns-in-Read g c =

@@ -1,8 +1,8 @@
 -- A lent value gets a writer.
-use Rattle.generational_entries.proofs.{ap, arith, found, get_or-set_same, lent_used, list_indexed}
-use Rattle.generational_entries.proofs.{list_lists, none_some, not_lent_there, open_indexed}
-use Rattle.generational_entries.proofs.{open_lists, opened_list, opens_one, refl, room_left}
-use Rattle.generational_entries.proofs.{small_left, still, view_changed, [], ◌∷◌}
+use Rattle.generational_entries.proofs.{arith, found, get_or-set_same, lent_used, list_lists}
+use Rattle.generational_entries.proofs.{none_some, not_lent_there, open_indexed, open_lists}
+use Rattle.generational_entries.proofs.{opened_list, opens_one, refl, room_left, still}
+use Rattle.generational_entries.proofs.{view_changed, [], ◌∷◌}
 use Rattle.generational_entries.proofs.settled.SettledEntries.list_writer.Goals as goal
 
 pub open-requires-clause-room : goal.open-requires-clause-room
@@ -11,12 +11,6 @@ open-requires-clause-room g c =
     c.index_mut.ensures.value in
     room_left a (rw c.in-Lent.is c.if-index.true)
     (let r = c.self.invariant.2 in let x = r.filled in let y = r.borrows in omega arith)
-
-pub open-requires-clause-small : goal.open-requires-clause-small
-open-requires-clause-small g c =
-    let a = found c.self.view_is c.self.invariant c.requires.within c.self.inside.entries.ok.0
-    c.index_mut.ensures.value in
-    small_left a (rw c.in-Lent.is c.if-index.true)
 
 pub invariant_of-self : goal.invariant_of-self
 invariant_of-self g c =
@@ -32,14 +26,6 @@ set_only-requires g c =
     let a = found c.self.view_is c.self.invariant c.requires.within c.self.inside.entries.ok.0
     c.index_mut.ensures.value in
     (lent_used a c.in-Lent.is c.if-index.false).within
-
-pub invariant_of-self-else-index : goal.invariant_of-self-else-index
-invariant_of-self-else-index g c =
-    let a = found c.self.view_is c.self.invariant c.requires.within c.self.inside.entries.ok.0
-    c.index_mut.ensures.value in
-    still a c.self.invariant _ (list_indexed a _ (rw c.in-Lent.is refl) c.if-index.false
-    (c.args.writer ∷ []) (none_some _ []) c.set_only.ensures _ refl)
-    (ap (λ t. t.rooms) c.set_only.ensures)
 
 pub unreachable-requires : goal.unreachable-requires
 unreachable-requires g c =

@@ -5,16 +5,6 @@ use Rattle.generational_entries.proofs.{slice_get_past, slots_pushed, unborrowed
 use Rattle.generational_entries.proofs.{unborrowed_none, [], ◌++◌, ◌∙◌, ◌∷◌}
 use Rattle.generational_entries.proofs.settled.SettledEntries.push.Goals as goal
 
-pub push_reserved-requires : goal.push_reserved-requires
-push_reserved-requires g c =
-    let left = room_for_one _ c.self.view_is c.self.invariant c.requires.room in
-    omega (arith, c.self.inside.entries.ok.0, c.self.invariant.2.entries)
-
-pub push_reserved-requires-2 : goal.push_reserved-requires-2
-push_reserved-requires-2 g c =
-    let left = room_for_one _ c.self.view_is c.self.invariant c.requires.room in
-    omega (arith, c.self.invariant.1, c.self.inside.details.ok.0, c.self.invariant.2.details)
-
 pub invariant_of-self : goal.invariant_of-self
 invariant_of-self g c =
     let es = c.self.inside.entries.items in

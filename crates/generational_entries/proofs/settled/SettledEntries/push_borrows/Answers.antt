@@ -1,9 +1,9 @@
 -- The rows of the borrows of a slot's value.
 use Rattle.generational_entries.proofs
 use proofs.{ap, append-nil, BaseRow, Borrow, content_in, content_rows, found, GenerationalBoxId}
-use proofs.{index_of, kept, kept_data, Kind, lent_used, List, list_at, list_none, Location}
-use proofs.{on_ok_weaker, read_details, reader_row, refl, says, says_of, StorageEntryData, sym}
-use proofs.{used_at, writer_in, ℕ, [], ◌++◌, ◌∙◌, ◌∷◌, ◌≡◌}
+use proofs.{index_of, kept_data, Kind, lent_used, List, list_at, Location, on_ok_weaker}
+use proofs.{read_details, reader_row, refl, says, says_of, StorageEntryData, sym, used_at}
+use proofs.{writer_in, ℕ, [], ◌++◌, ◌∙◌, ◌∷◌, ◌≡◌}
 use Rattle.std.proofs.Common.{map as list_map}
 use Rattle.generational_core.specs.declared.rows.BaseRow.TheVariants as row
 use Rattle.generational_entries.specs.declared.entry.StorageEntryData.TheVariants as slot
@@ -49,9 +49,6 @@ writer_at-writer-requires-clause-within g c =
     let a = found c.self.view_is c.self.invariant c.requires c.self.inside.entries.ok.0
     c.index.ensures in
     λ some. (lent_used a c.in-Lent.is some).within
-
-pub writer_at-writer-requires-clause-none : goal.writer_at-writer-requires-clause-none
-writer_at-writer-requires-clause-none g c = list_none (kept c.self.view_is c.self.invariant)
 
 pub returns-in-Read : goal.returns-in-Read
 returns-in-Read g c =

@@ -1,14 +1,9 @@
 -- A cell without borrows in a slot that has none, under the next generation.
-use Rattle.generational_entries.proofs.{ap, arith, empty_slot, found, free_entry, free_indexed}
-use Rattle.generational_entries.proofs.{hears, kept, last_generation, length-set, many, refl, says}
-use Rattle.generational_entries.proofs.{slice_set, slots_set, still, unborrowed_listed}
-use Rattle.generational_entries.proofs.{unborrowed_none, ◌+◌, ◌<◌, ◌∙◌, ◌≡◌}
+use Rattle.generational_entries.proofs.{ap, empty_slot, found, free_entry, free_indexed, hears}
+use Rattle.generational_entries.proofs.{kept, last_generation, length-set, refl, says, slice_set}
+use Rattle.generational_entries.proofs.{slots_set, still, unborrowed_listed, unborrowed_none, ◌+◌}
+use Rattle.generational_entries.proofs.{◌<◌, ◌∙◌, ◌≡◌}
 use Rattle.generational_entries.proofs.settled.SettledEntries.refill.Goals as goal
-
-pub index_mut-requires : goal.index_mut-requires
-index_mut-requires g c =
-    let same = many (kept c.self.view_is c.self.invariant) in
-    omega (arith, c.requires.within, c.self.invariant.1, c.self.inside.details.ok.0)
 
 pub refill-requires : goal.refill-requires
 refill-requires g c =

@@ -10,9 +10,6 @@ writer_at-writer-requires-clause-within g c =
     c.index.ensures in
     λ some. (lent_used a c.in-Lent.is some).within
 
-pub writer_at-writer-requires-clause-none : goal.writer_at-writer-requires-clause-none
-writer_at-writer-requires-clause-none g c = list_none (kept c.self.view_is c.self.invariant)
-
 pub put_back-requires-clause-lent : goal.put_back-requires-clause-lent
 put_back-requires-clause-lent g c =
     let a = found c.self.view_is c.self.invariant c.requires c.self.inside.entries.ok.0
