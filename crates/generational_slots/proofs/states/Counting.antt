@@ -216,6 +216,23 @@ module _ {T : Type 0} where
           let before = rw target_after at (referred_added.each m.slot) in
           let count = before target_slot.3 in omega arith)
 
+-- an entry that isn't live, and one past the last, are no cell of a name
+pub new_fresh : {T : Type 0} (slots : List (Entry T)) (i g : ℕ)
+    → passes (λ e. is_live e.kept) (slice_get slots i) ≡ false
+    → map.get (cells_of slots) (record { slot = i; generation = g }) ≡ None
+new_fresh {T} slots i g dead = get_cells slots (record { slot = i; generation = g })
+    ∙ at (slice_get slots i) dead
+  where
+    lives : (b : Bool) (k : Kept T) → is_live k ≡ false → cond b (cell_of k) None ≡ None
+    lives true Empty h = refl
+    lives true (Live kd c l) h = absurd (true≢false h)
+    lives true (Refers m l) h = absurd (true≢false h)
+    lives false k h = refl
+
+    at : (o : Option (Entry T)) → passes (λ e. is_live e.kept) o ≡ false → cell_in o g ≡ None
+    at None dead = refl
+    at (Some e) dead = lives (nat_eq g e.generation) e.kept dead
+
 -- ---- a content without borrows
 
 module _ {T : Type 0} where
@@ -228,17 +245,25 @@ module _ {T : Type 0} where
   unborrowed_cell slot.Empty l free = absurd free
   unborrowed_cell (slot.Lent kd x) l free = absurd free
 
-  module _ {slots after : List (Entry T)} {i g : ℕ} (d : StorageEntryData T) (l : Location)
-      (w : IsWritten slots after i
-      (record { generation = g; kept = kept_data [] l d; references = 0 }))
-      (dead : passes (λ e. is_live e.kept) (slice_get slots i) ≡ false)
-      (r : AreReferred (λ m. 0) slots) (targets : HasTargets (cells_of slots))
-      (fresh : map.get (cells_of slots) (record { slot = i; generation = g }) ≡ None) where
+  -- a content without borrows, written where no cell was, and what it names, if it's a reference
+  pub record IsMaking (slots after : List (Entry T)) (i g : ℕ) (d : StorageEntryData T)
+      (l : Location) : Type 0 where
+    pub written : IsWritten slots after i
+        (record { generation = g; kept = kept_data [] l d; references = 0 })
+    pub dead : passes (λ e. is_live e.kept) (slice_get slots i) ≡ false
+    pub counted : AreReferred (λ m. 0) slots
+    pub linked : HasTargets (cells_of slots)
+    pub free : IsUnborrowed d
+    pub target : IfSome (target_of d) (λ m. is_shared (map.get (cells_of slots) m) ≡ true)
+
+  module _ {slots after : List (Entry T)} {i g : ℕ} {d : StorageEntryData T} {l : Location}
+      (m : IsMaking slots after i g d l) where
+    fresh : map.get (cells_of slots) (record { slot = i; generation = g }) ≡ None
+    fresh = new_fresh slots i g m.dead
+
     -- what it names, if it's a reference, counts it, and then all counts are right
-    pub made_referred : IsUnborrowed d
-        → IfSome (target_of d) (λ m. is_shared (map.get (cells_of slots) m) ≡ true)
-        → AreReferred (λ q. 0) (count_more after (target_of d))
-    made_referred free there = at d refl free there
+    pub made_referred : AreReferred (λ q. 0) (count_more after (target_of d))
+    made_referred = at d refl m.free m.target
       where
         none : (kd : Kind) (v : T) (q : Name)
             → refers_to q (cell_of (kept_data [] l (slot.Data kd v))) ≡ false
@@ -250,34 +275,33 @@ module _ {T : Type 0} where
             → AreReferred (λ q. 0) (count_more after (target_of e))
         at (slot.Read kd x v) is free there = absurd free
         at (slot.Data kd v) is free there =
-            let added = referred_added w dead r targets fresh refl in
+            let added = referred_added m.written m.dead m.counted m.linked fresh refl in
             subst (λ less. AreReferred less after)
             (λ j q. bit ((ap (λ e. refers_to q (cell_of (kept_data [] l e))) is ∙ none kd v q) j))
             added
-        at (slot.Reference m n) is free there =
-            referred_more w dead r targets fresh refl (record { slot = m; generation = n }) there
+        at (slot.Reference k n) is free there =
+            referred_more m.written m.dead m.counted m.linked fresh refl
+            (record { slot = k; generation = n }) there
             (λ q. ap (λ e. refers_to q (cell_of (kept_data [] l e))) is)
         at slot.Empty is free there = absurd free
         at (slot.Lent kd x) is free there = absurd free
 
-    pub made_within : IfSome (target_of d) (λ m. is_shared (map.get (cells_of slots) m) ≡ true)
-        → IfSome (target_of d) (λ m. m.slot < length after)
-    made_within there = at (target_of d) there
+    pub made_within : IfSome (target_of d) (λ q. q.slot < length after)
+    made_within = at (target_of d) m.target
       where
-        at : (o : Option Name) → IfSome o (λ m. is_shared (map.get (cells_of slots) m) ≡ true)
-            → IfSome o (λ m. m.slot < length after)
+        at : (o : Option Name) → IfSome o (λ q. is_shared (map.get (cells_of slots) q) ≡ true)
+            → IfSome o (λ q. q.slot < length after)
         at None there = tt
-        at (Some m) there = target_within w dead r targets fresh refl m there
+        at (Some q) there = target_within m.written m.dead m.counted m.linked fresh refl q there
 
-    pub made_few : IfSome (target_of d) (λ m. is_shared (map.get (cells_of slots) m) ≡ true)
-        → IfSome (target_of d)
-        (λ m. IfSome (slice_get after m.slot) (λ e. e.references < length after))
-    made_few there = at (target_of d) there
+    pub made_few : IfSome (target_of d)
+        (λ q. IfSome (slice_get after q.slot) (λ e. e.references < length after))
+    made_few = at (target_of d) m.target
       where
-        at : (o : Option Name) → IfSome o (λ m. is_shared (map.get (cells_of slots) m) ≡ true)
-            → IfSome o (λ m. IfSome (slice_get after m.slot) (λ e. e.references < length after))
+        at : (o : Option Name) → IfSome o (λ q. is_shared (map.get (cells_of slots) q) ≡ true)
+            → IfSome o (λ q. IfSome (slice_get after q.slot) (λ e. e.references < length after))
         at None there = tt
-        at (Some m) there = target_few w dead r targets fresh refl m there
+        at (Some q) there = target_few m.written m.dead m.counted m.linked fresh refl q there
 
   -- what counts a reference more stands for the same state
   module _ (slots : List (Entry T)) (o : Option Name) where
@@ -296,23 +320,6 @@ module _ {T : Type 0} where
             → state_of start peak (count_more slots o) ≡ state_of start peak slots
         at None = refl
         at (Some m) = recounted_state slots m.slot (λ e. e.references + 1) start peak
-
--- an entry that isn't live, and one past the last, are no cell of a name
-pub new_fresh : {T : Type 0} (slots : List (Entry T)) (i g : ℕ)
-    → passes (λ e. is_live e.kept) (slice_get slots i) ≡ false
-    → map.get (cells_of slots) (record { slot = i; generation = g }) ≡ None
-new_fresh {T} slots i g dead = get_cells slots (record { slot = i; generation = g })
-    ∙ at (slice_get slots i) dead
-  where
-    lives : (b : Bool) (k : Kept T) → is_live k ≡ false → cond b (cell_of k) None ≡ None
-    lives true Empty h = refl
-    lives true (Live kd c l) h = absurd (true≢false h)
-    lives true (Refers m l) h = absurd (true≢false h)
-    lives false k h = refl
-
-    at : (o : Option (Entry T)) → passes (λ e. is_live e.kept) o ≡ false → cell_in o g ≡ None
-    at None dead = refl
-    at (Some e) dead = lives (nat_eq g e.generation) e.kept dead
 
 -- what a refusal says holds where there is one
 pub err_holds : {A E P : Type 0} (r : Result A E) → is_err r ≡ true → OnErr r P → P
