@@ -51,11 +51,9 @@ guard_at id t = record { store = id.store; cell = name_in id; ticket = t }
 module _ {T : Type 0} where
   -- a call that gives a ticket, where one is left
   pub within : (S : State T) (out : Outcome T) → S.next < last_ticket → limit_tickets S out ≡ out
-  within S out below = rw (ne_eqb S.next last_ticket (λ e. omega arith)) (at (takes_ticket out.0))
-    where
-      at : (b : Bool) → cond (b && false) (refuses NumbersExhausted, S) out ≡ out
-      at true = refl
-      at false = refl
+  within S out below = rw (ne_eqb S.next last_ticket (λ e. omega arith)) (elim (takes_ticket out.0)
+      as (λ b. cond (b && false) (refuses NumbersExhausted, S) out ≡ out)
+      [ true ↦ refl | false ↦ refl ])
 
   -- borrows that stand in the way, or no memory for the list of their locations
   pub hindered_step : (S : State T) (call : Action T) (e : Refused BorrowMutError)

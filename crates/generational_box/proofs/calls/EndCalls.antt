@@ -63,11 +63,9 @@ module _ {T : Type 0} where
   module _ (cells left : NameMap (Cell T)) where
     -- what hinders the end of a cell
     spot_tells : (n : Name) → Tells (hindrance_at cells left n)
-    spot_tells n = by (is_some (map.get left n))
-      where
-        by : (b : Bool) → Tells (cond (not b) (write_refusal (content_of (map.get cells n))) None)
-        by true = refl
-        by false = write_tells (content_of (map.get cells n))
+    spot_tells n = elim (is_some (map.get left n)) as (λ b. Tells (cond (not b) (write_refusal
+        (content_of (map.get cells n))) None))
+        [ true ↦ refl | false ↦ write_tells (content_of (map.get cells n)) ]
 
     first_tells : (names : List Name) → Tells (first_hindrance cells left names)
     first_tells [] = refl

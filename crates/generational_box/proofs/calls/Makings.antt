@@ -161,11 +161,7 @@ module _ {T : Type 0} where
 
     -- an owner is known to the machine if the records know it
     known : permits number owners o ≡ is_known V o
-    known = at o
-      where
-        at : (o : Option OwnerName) → permits number owners o ≡ is_known V o
-        at None = refl
-        at (Some o) = refl
+    known = elim o as (λ o. permits number owners o ≡ is_known V o) [ None ↦ refl | Some o ↦ refl ]
 
     -- what is reached in the state that contracts see is reached in the store's own
     shared_here : (b : GenerationalPointer) (m : Name) → ReachesShared S b m → ReachesShared V b m
@@ -182,13 +178,9 @@ module _ {T : Type 0} where
     boxed : (X : State T) (n : Name) (c : Cell T)
         → with_records (add_cell X n c) number (add_to_list_in owners o n) next
         ≡ add_to_list (add_cell (with_records X number owners next) n c) o n
-    boxed X n c = at o
-      where
-        at : (o : Option OwnerName)
-            → with_records (add_cell X n c) number (add_to_list_in owners o n) next
-            ≡ add_to_list (add_cell (with_records X number owners next) n c) o n
-        at None = refl
-        at (Some o) = refl
+    boxed X n c = elim o as (λ o. with_records (add_cell X n c) number (add_to_list_in owners o n)
+        next ≡ add_to_list (add_cell (with_records X number owners next) n c) o n)
+        [ None ↦ refl | Some o ↦ refl ]
 
     -- a value of a box's own
     pub value_made : (v : T) (l : Location) (r : SlotsState T) (after : Owners) (n : Name)

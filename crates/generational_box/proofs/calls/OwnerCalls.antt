@@ -43,11 +43,8 @@ module _ {T : Type 0} {V S : State T} (view : V ≡ S) where
   module _ (o : OwnerName) where
     -- no record stands for an owner that isn't known
     lost : knows V.number V.owners o ≡ false → ownership V o ≡ None
-    lost unknown = at (ownership V o) unknown
-      where
-        at : (r : Option Ownership) → is_some r ≡ false → r ≡ None
-        at None h = refl
-        at (Some h) e = absurd (true≢false e)
+    lost unknown = (elim (ownership V o) as (λ r. is_some r ≡ false → r ≡ None)
+        [ None ↦ λ h. refl | Some h ↦ λ e. absurd (true≢false e) ]) unknown
 
     -- so it has no other owner value
     pub clone_unknown : knows V.number V.owners o ≡ false

@@ -86,23 +86,19 @@ module _ {A : Type 0} where
   pub some_of_many : (p : A → Bool) (xs : List A) → 0 < how_many p xs
       → (k : ℕ) × (x : A) × (slice_get xs k ≡ Some x) × (p x ≡ true)
   some_of_many p [] many = absurd (omega arith)
-  some_of_many p (y ∷ ys) many = by (p y) refl (λ h. some_of_many p ys h) many
-    where
-      by : (b : Bool) → p y ≡ b → (0 < how_many p ys
-          → (k : ℕ) × (x : A) × (slice_get ys k ≡ Some x) × (p x ≡ true))
-          → 0 < bit b + how_many p ys
-          → (k : ℕ) × (x : A) × (slice_get (y ∷ ys) k ≡ Some x) × (p x ≡ true)
-      by true passed rest h = (0, y, refl, passed)
-      by false e rest h = let it = rest (omega arith) in (suc it.0, it.1, it.2, it.3)
+  some_of_many p (y ∷ ys) many = (elim (p y) as (λ b. p y ≡ b → (0 < how_many p ys
+      → (k : ℕ) × (x : A) × (slice_get ys k ≡ Some x) × (p x ≡ true)) → 0 < bit b + how_many p ys
+      → (k : ℕ) × (x : A) × (slice_get (y ∷ ys) k ≡ Some x) × (p x ≡ true)) [
+        | true ↦ λ passed rest h. (0, y, refl, passed)
+        | false ↦ λ e rest h. let it = rest (omega arith) in (suc it.0, it.1, it.2, it.3)
+      ]) refl (λ h. some_of_many p ys h) many
 
   -- no more pass than there are
   pub many_within : (p : A → Bool) (xs : List A) → how_many p xs ≤ length xs
   many_within p [] = omega arith
-  many_within p (x ∷ xs) = by (p x) (many_within p xs)
-    where
-      by : (b : Bool) → how_many p xs ≤ length xs → bit b + how_many p xs ≤ suc (length xs)
-      by true rest = omega arith
-      by false rest = omega arith
+  many_within p (x ∷ xs) =
+      (elim (p x) as (λ b. how_many p xs ≤ length xs → bit b + how_many p xs ≤ suc (length xs))
+      [ true ↦ λ rest. omega arith | false ↦ λ rest. omega arith ]) (many_within p xs)
 
   -- fewer pass than there are, where one doesn't
   pub fewer_within : (p : A → Bool) (xs : List A) (i : ℕ) (x : A)

@@ -386,17 +386,12 @@ owners_vacant xs vacant = map.same_map nat_cmp_total map.nat_cmp-IsAntisymmetric
 find_some : (xs : List Place) (q i : ℕ) → HasRecord q (slice_get xs i)
     → is_some (find_in q xs) ≡ true
 find_some [] q i has = absurd (false≢true has)
-find_some (x ∷ xs) q zero has = at (record_in q x) has
-  where
-    at : (o : Option Ownership) → is_some o ≡ true → is_some (option_or o (find_in q xs)) ≡ true
-    at None has = absurd (false≢true has)
-    at (Some h) has = refl
-find_some (x ∷ xs) q (suc i) has = at (record_in q x) (find_some xs q i has)
-  where
-    at : (o : Option Ownership) → is_some (find_in q xs) ≡ true
-        → is_some (option_or o (find_in q xs)) ≡ true
-    at None rest = rest
-    at (Some h) rest = refl
+find_some (x ∷ xs) q zero has =
+    (elim (record_in q x) as (λ o. is_some o ≡ true → is_some (option_or o (find_in q xs)) ≡ true)
+    [ None ↦ λ has. absurd (false≢true has) | Some h ↦ λ has. refl ]) has
+find_some (x ∷ xs) q (suc i) has = (elim (record_in q x) as (λ o. is_some (find_in q xs) ≡ true
+    → is_some (option_or o (find_in q xs)) ≡ true)
+    [ None ↦ λ rest. rest | Some h ↦ λ rest. refl ]) (find_some xs q i has)
 
 pub not_empty : (xs : List Place) (i : ℕ) (x : Place) → slice_get xs i ≡ Some x
     → is_some x ≡ true → owners_of xs ≡ map.empty → ⊥
@@ -435,11 +430,9 @@ vacant_stays xs i x P there vacant =
 
 -- a record with room is at its place, and has a key
 pub room_within : (xs : List Place) (i : ℕ) → HasRoom (slice_get xs i) → i < length xs
-room_within xs i room = at (slice_get xs i) refl room
-  where
-    at : (o : Option Place) → slice_get xs i ≡ o → HasRoom o → i < length xs
-    at None is room = absurd room
-    at (Some x) is room = slice_get_within xs i x is
+room_within xs i room =
+    (elim (slice_get xs i) as (λ o. slice_get xs i ≡ o → HasRoom o → i < length xs)
+    [ None ↦ λ is room. absurd room | Some x ↦ λ is room. slice_get_within xs i x is ]) refl room
 
 pub room_record : (o : Option Place) → HasRoom o → (k : ℕ) × HasRecord k o
 room_record None room = absurd room

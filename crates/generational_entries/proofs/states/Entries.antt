@@ -27,11 +27,8 @@ module _ {T : Type 0} where
       ≡ both lists (slice_get es k) (slice_get ls k)
   unfolding entries_of
   entries_get lists [] ls k = refl
-  entries_get lists (e ∷ es) [] k = none (slice_get (e ∷ es) k)
-    where
-      none : (o : Option (StorageEntry T)) → None ≡ both lists o None
-      none None = refl
-      none (Some e) = refl
+  entries_get lists (e ∷ es) [] k = elim (slice_get (e ∷ es) k) as (λ o. None ≡ both lists o None)
+      [ None ↦ refl | Some e ↦ refl ]
   entries_get lists (e ∷ es) (l ∷ ls) zero = refl
   entries_get lists (e ∷ es) (l ∷ ls) (suc k) = entries_get lists es ls k
 
@@ -240,20 +237,21 @@ module _ {T : Type 0} {t : Table} {es : List (StorageEntry T)} {ls : List EntryD
       get_or-eq_default t.lists [] (omega arith)
 
   -- the details that a read at an index finds
-  pub read_details : {i : ℕ} → i < length now.slots → {d : EntryDetails} (n : ℕ) → n ≡ length ls
-      → d ≡ get_or ls i d → slice_get ls i ≡ Some d
-  read_details {i} within {d} n len is =
+  pub read_details : {i : ℕ} → i < length now.slots → {d : EntryDetails} → d ≡ get_or ls i d
+      → slice_get ls i ≡ Some d
+  read_details {i} within {d} is =
       let same = many in let made = s.made in
-      slice_get_read ls n i d len (omega (arith, within)) is
+      slice_get_read ls (length ls) i d refl (omega (arith, within)) is
 
   pub here : {i : ℕ} {e : StorageEntry T} → slice_get es i ≡ Some e → IsAt t es ls now i e
   here there = record { store = s; there = there }
 
   -- the slot that a read at an index finds
-  pub read_slot : {i : ℕ} → i < length now.slots → {e : StorageEntry T} (n : ℕ) → n ≡ length es
-      → e ≡ get_or es i e → IsAt t es ls now i e
-  read_slot {i} within {e} n len is =
-      let same = many in here (slice_get_read es n i e len (omega (arith, within)) is)
+  pub read_slot : {i : ℕ} → i < length now.slots → {e : StorageEntry T} → e ≡ get_or es i e
+      → IsAt t es ls now i e
+  read_slot {i} within {e} is =
+      let same = many in
+      here (slice_get_read es (length es) i e refl (omega (arith, within)) is)
 
   -- ---- a slot whose details are read
 
@@ -265,12 +263,12 @@ module _ {T : Type 0} {t : Table} {es : List (StorageEntry T)} {ls : List EntryD
       (e.0, here e.1)
 
 pub found : {T : Type 0} {t : Table} {es : List (StorageEntry T)} {ls : List EntryDetails}
-    {now : EntryList T} {room entries created i n : ℕ}
+    {now : EntryList T} {room entries created i : ℕ}
     → record { slots = entries_of t.lists es ls; rooms = room } ≡ now
     → AreIndexed t es × (length ls ≡ length es)
     × AreRoomy room (length es) entries created t.rooms → i < length now.slots
-    → {e : StorageEntry T} → n ≡ length es → e ≡ get_or es i e → IsAt t es ls now i e
-found {n = n} view v within len is = read_slot (kept view v) within n len is
+    → {e : StorageEntry T} → e ≡ get_or es i e → IsAt t es ls now i e
+found view v within is = read_slot (kept view v) within is
 
 module _ {T : Type 0} {t : Table} {es : List (StorageEntry T)} {ls : List EntryDetails}
     {now : EntryList T} {i : ℕ} {e : StorageEntry T} (a : IsAt t es ls now i e) where

@@ -248,13 +248,10 @@ module _ {T : Type 0} where
   pub noted_order : (r : LastBorrow) (slots : List (Entry T)) (j : ℕ) (h : Entry T → Entry T)
       → ((e : Entry T) → joining r (h e) ≡ h (joining r e))
       → noted r (change_entry slots j h) ≡ change_entry (noted r slots) j h
-  noted_order r slots j h same = by (is_noted r.standing)
-    where
-      by : (b : Bool) → (if b then change_entry (change_entry slots j h) r.slot (joining r)
-          else change_entry slots j h)
-          ≡ change_entry (if b then change_entry slots r.slot (joining r) else slots) j h
-      by true = sym (change_order slots r.slot j (joining r) h same)
-      by false = refl
+  noted_order r slots j h same = elim (is_noted r.standing) as (λ b. (if b then change_entry
+      (change_entry slots j h) r.slot (joining r) else change_entry slots j h)
+      ≡ change_entry (if b then change_entry slots r.slot (joining r) else slots) j h)
+      [ true ↦ sym (change_order slots r.slot j (joining r) h same) | false ↦ refl ]
 
   pub alone_order : (r : LastBorrow) (slots : List (Entry T)) (j : ℕ) (h : Entry T → Entry T)
       → IsNoted r slots → ((e : Entry T) → HasApart r (Some e) → HasApart r (Some (h e)))
@@ -422,16 +419,15 @@ module _ {T : Type 0} {r : LastBorrow} {t : Table} {es : List (StorageEntry T)}
   pub seen_past : (i : ℕ) → length es ≤ i → slice_get now.slots i ≡ None
   seen_past i past = let long = seen_many in slice_get_past now.slots i (omega (arith, past))
 
-  pub seen_slot : {i : ℕ} → i < length now.slots → {e : StorageEntry T} (n : ℕ) → n ≡ length es
-      → e ≡ get_or es i e → IsAt t es ls settled i e
-  seen_slot within n len is = read_slot o.store (seen_within within) n len is
+  pub seen_slot : {i : ℕ} → i < length now.slots → {e : StorageEntry T} → e ≡ get_or es i e
+      → IsAt t es ls settled i e
+  seen_slot within is = read_slot o.store (seen_within within) is
 
-  pub seen_details : {i : ℕ} → i < length now.slots → {d : EntryDetails} (n : ℕ)
-      → n ≡ length ls → d ≡ get_or ls i d
+  pub seen_details : {i : ℕ} → i < length now.slots → {d : EntryDetails} → d ≡ get_or ls i d
       → (e : StorageEntry T) × IsAt t es ls settled i e × (slice_get ls i ≡ Some d)
-  seen_details within n len is =
+  seen_details within is =
       let a = details_at o.store (seen_within within) in
-      (a.0, a.1, read_details o.store (seen_within within) n len is)
+      (a.0, a.1, read_details o.store (seen_within within) is)
 
   -- what holds of a slot whatever borrows stand there
   pub seen_says : (k : ℕ) (P : Entry T → Type 0) → ((e : Entry T) → P e → P (joining r e))

@@ -151,23 +151,18 @@ module _ {T : Type 0} where
     released None is = same (ap names_in is)
     released (Some h) is = by_cond (λ (out : Outcome T). Becomes S h.names (names_of out.1 a))
         (nat_lt 1 h.count) (λ _. put (nat_eq a.store S.number) h.names (one_less h) refl)
-        (λ _. last (hindrance_to S h.names))
-      where
-        last : (t : Option BorrowRefusal) → Becomes S h.names (names_of (unless t S
-            (Answer.Done, record (close S h.names) { owners = map.remove S.owners a.key })).1 a)
-        last None = removed (nat_eq a.store S.number) h.names
-        last (Some t) = same (ap names_in is)
+        (λ _. (elim (hindrance_to S h.names) as (λ t. Becomes S h.names (names_of (unless t S
+        (Answer.Done, record (close S h.names) { owners = map.remove S.owners a.key })).1 a))
+        [ None ↦ removed (nat_eq a.store S.number) h.names | Some t ↦ same (ap names_in is) ]))
 
   -- ---- what each call leaves
 
   -- a name that was never given stands in no list
   unlisted_by : (S : State T) → IsSound S → (o : OwnerName) (n : Name)
       → set.contains S.given n ≡ false → among (names_of S o) n ≡ false
-  unlisted_by S s o n new = at (ownership S o) refl
-    where
-      at : (x : Option Ownership) → ownership S o ≡ x → among (names_in x) n ≡ false
-      at None is = refl
-      at (Some h) is = unlisted S o h n s is new
+  unlisted_by S s o n new =
+      (elim (ownership S o) as (λ x. ownership S o ≡ x → among (names_in x) n ≡ false)
+      [ None ↦ λ is. refl | Some h ↦ λ is. unlisted S o h n s is new ]) refl
 
   module _ (S R : State T) (s : IsSound S) (a : AreApart S) where
     module _ (o : OwnerName) where

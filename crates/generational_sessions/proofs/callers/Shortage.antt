@@ -201,11 +201,8 @@ module _ {T : Type 0} where
       let gives = refers S b s r can m.0 in
       let limit = limited S (act S (Refer None b) m.0) gives in
       absurd (true≢false (sym (ap (λ (out : Outcome T). is_box out.0) (m.2 ∙ limit) ∙ gives)
-      ∙ no_box e))
-    where
-      no_box : (e : error.Refused BorrowError) → is_box (read_refused e) ≡ false
-      no_box (refused.Borrow x) = refl
-      no_box (refused.Store x) = refl
+      ∙ (elim e as (λ e. is_box (read_refused e) ≡ false)
+      [ refused.Borrow x ↦ refl | refused.Store x ↦ refl ])))
 
   -- ---- borrows that nothing hinders
 

@@ -116,11 +116,9 @@ module _ {T : Type 0} where
   wants_none S out (troubled t) = refl
   wants_none S out unknown = refl
   wants_none S out (back v) = refl
-  wants_none S out (goes o on) = unwanted out.0 on
-    where
-      unwanted : (answer : Answer T) → is_refused answer ≡ false → wants answer ≡ None
-      unwanted (Refused e) on = absurd (true≢false on)
-      unwanted _ on = refl
+  wants_none S out (goes o on) =
+      (elim out.0 as (λ answer. is_refused answer ≡ false → wants answer ≡ None)
+      [ Refused e ↦ λ on. absurd (true≢false on) | _ ↦ λ on. refl ]) on
 
   -- ---- tickets
 

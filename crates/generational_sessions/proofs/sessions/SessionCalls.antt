@@ -203,11 +203,9 @@ module _ {T : Type 0} where
   box_in_kept : (s r : SessionState T) (c : Call T) (x : SessionReply T) → SessionStep s c x r
       → (a : BoxAt T) (b : GenerationalPointer) → box_in s a ≡ Some b → box_in r a ≡ Some b
   box_in_kept s r c x step (Place p) b is =
-      ap box_held (keep_boxes s r c x step p b (boxed (at_place s.table p) is))
-    where
-      boxed : (h : Held T) → box_held h ≡ Some b → h ≡ Boxed b
-      boxed (Boxed d) e = let same : d ≡ b = cc in ap Boxed same
-      boxed h e = cc
+      ap box_held (keep_boxes s r c x step p b ((elim (at_place s.table p) as (λ h. box_held h
+      ≡ Some b → h ≡ Boxed b)
+      [ Boxed d ↦ λ e. let same : d ≡ b = cc in ap Boxed same | h ↦ λ e. cc ]) is))
   box_in_kept s r c x step (Foreign d) b is = ap (λ n. cond (nat_eq (pointer_of d).id.store n)
       None (Some (pointer_of d))) (by_step s r c x (λ S. S.number ≡ s.state.number)
       (λ S R action answer e meets. meets_number S R action answer meets ∙ e) step refl) ∙ is

@@ -537,8 +537,6 @@ next_told g (Some e) is = ap (λ n. n + 1) is
 -- whether a name has a target, as the store tells it
 pub has_target : {A B : Type 0} (f : A → B) (o : Option A) {p : Option B} {b : Bool}
     → option_map f o ≡ p → is_some o ≡ b → is_some p ≡ b
-has_target {A} f o same h = ap is_some (sym same) ∙ (at o ∙ h)
-  where
-    at : (o : Option A) → is_some (option_map f o) ≡ is_some o
-    at None = refl
-    at (Some x) = refl
+has_target {A} f o same h = ap is_some (sym same) ∙ ((elim o as (λ o. is_some (option_map f o)
+    ≡ is_some o)
+    [ None ↦ refl | Some x ↦ refl ]) ∙ h)

@@ -42,12 +42,9 @@ module _ {T : Type 0} where
         rw there (set_written slots i (record e { references = f e }) e there)
 
     pub recounted_length : length recounted ≡ length slots
-    recounted_length = at (slice_get slots i)
-      where
-        at : (o : Option (Entry T))
-            → length (change_entry_if slots i (λ e. record e { references = f e }) o) ≡ length slots
-        at None = refl
-        at (Some e) = length-set slots i _
+    recounted_length = elim (slice_get slots i) as (λ o. length (change_entry_if slots i (λ e.
+        record e { references = f e }) o) ≡ length slots)
+        [ None ↦ refl | Some e ↦ length-set slots i _ ]
 
     pub recounted_state : (start peak : ℕ)
         → state_of start peak recounted ≡ state_of start peak slots
@@ -60,14 +57,12 @@ module _ {T : Type 0} where
 
     -- no slot refers to another cell than before
     pub recounted_many : (q : Name) → how_many (refers q) recounted ≡ how_many (refers q) slots
-    recounted_many q = at (slice_get slots i) refl
-      where
-        at : (o : Option (Entry T)) → slice_get slots i ≡ o
-            → how_many (refers q) recounted ≡ how_many (refers q) slots
-        at None there = rw there refl
-        at (Some e) there =
-            let c = (recounted_written e there).count (refers q) in
-            let p = ap (λ o. bit (passes (refers q) o)) there in omega (arith, c, p)
+    recounted_many q = (elim (slice_get slots i) as (λ o. slice_get slots i ≡ o
+        → how_many (refers q) recounted ≡ how_many (refers q) slots) [
+          | None ↦ λ there. rw there refl
+          | Some e ↦ λ there. let c = (recounted_written e there).count (refers q) in
+              let p = ap (λ o. bit (passes (refers q) o)) there in omega (arith, c, p)
+        ]) refl
 
   -- what holds of the slots holds with other counts
   module _ {p : SlotTable T} (s : IsSlotTable p) where
@@ -306,20 +301,14 @@ module _ {T : Type 0} where
   -- what counts a reference more stands for the same state
   module _ (slots : List (Entry T)) (o : Option Name) where
     pub more_length : length (count_more slots o) ≡ length slots
-    more_length = at o
-      where
-        at : (o : Option Name) → length (count_more slots o) ≡ length slots
-        at None = refl
-        at (Some m) = recounted_length slots m.slot (λ e. e.references + 1)
+    more_length = elim o as (λ o. length (count_more slots o) ≡ length slots)
+        [ None ↦ refl | Some m ↦ recounted_length slots m.slot (λ e. e.references + 1) ]
 
     pub more_state : (start peak : ℕ)
         → state_of start peak (count_more slots o) ≡ state_of start peak slots
-    more_state start peak = at o
-      where
-        at : (o : Option Name)
-            → state_of start peak (count_more slots o) ≡ state_of start peak slots
-        at None = refl
-        at (Some m) = recounted_state slots m.slot (λ e. e.references + 1) start peak
+    more_state start peak =
+        elim o as (λ o. state_of start peak (count_more slots o) ≡ state_of start peak slots)
+        [ None ↦ refl | Some m ↦ recounted_state slots m.slot (λ e. e.references + 1) start peak ]
 
 -- what a refusal says holds where there is one
 pub err_holds : {A E P : Type 0} (r : Result A E) → is_err r ≡ true → OnErr r P → P
@@ -332,20 +321,14 @@ module _ {T : Type 0} (slots : List (Entry T)) where
   -- what counts a reference less stands for the same state
   module _ (o : Option Name) where
     pub less_length : length (count_less slots o) ≡ length slots
-    less_length = at o
-      where
-        at : (o : Option Name) → length (count_less slots o) ≡ length slots
-        at None = refl
-        at (Some m) = recounted_length slots m.slot (λ e. e.references - 1)
+    less_length = elim o as (λ o. length (count_less slots o) ≡ length slots)
+        [ None ↦ refl | Some m ↦ recounted_length slots m.slot (λ e. e.references - 1) ]
 
     pub less_state : (start peak : ℕ)
         → state_of start peak (count_less slots o) ≡ state_of start peak slots
-    less_state start peak = at o
-      where
-        at : (o : Option Name)
-            → state_of start peak (count_less slots o) ≡ state_of start peak slots
-        at None = refl
-        at (Some m) = recounted_state slots m.slot (λ e. e.references - 1) start peak
+    less_state start peak =
+        elim o as (λ o. state_of start peak (count_less slots o) ≡ state_of start peak slots)
+        [ None ↦ refl | Some m ↦ recounted_state slots m.slot (λ e. e.references - 1) start peak ]
 
   module _ (r : AreReferred (λ m. 0) slots) (n m : Name) (l : Location)
       (there : cell_at slots n ≡ Some (Ref m l)) where
@@ -401,12 +384,9 @@ module _ {T : Type 0} (slots : List (Entry T)) where
             let own : is_shared (cell_at slots q) ≡ true =
             ap is_shared (rw (there, eq-eqb e.generation e.generation refl) refl) ∙ shared in
             true≢false (sym own ∙ (ap (λ x. is_shared (cell_at slots x)) is ∙ dead)) in
-            let zero : bit (is_name q m) ≡ 0 = none (is_name q m) no in
-            omega arith
-          where
-            none : (b : Bool) → (b ≡ true → ⊥) → bit b ≡ 0
-            none true h = absurd (h refl)
-            none false h = refl
+            let zero : bit (is_name q m) ≡ 0 =
+            (elim (is_name q m) as (λ b. (b ≡ true → ⊥) → bit b ≡ 0)
+            [ true ↦ λ h. absurd (h refl) | false ↦ λ h. refl ]) no in omega arith
 
   module _ (r : AreReferred (λ m. 0) slots) (n : Name) where
     -- what a name refers to counts it no more

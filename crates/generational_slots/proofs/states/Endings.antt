@@ -118,11 +118,14 @@ module _ {T : Type 0} where
       (free : is_unborrowed_value (map.get S.cells n) ≡ true) where
     own_value : (c : Option (Cell T)) → is_unborrowed_value c ≡ true
         → (k : Content T) × (l : Location) × (c ≡ Some (Value k l)) × (write_refusal (Some k) ≡ None)
-    own_value (Some (Value k l)) free = (k, l, refl, none (write_refusal (Some k)) free)
-      where
-        none : (t : Option BorrowRefusal) → is_none t ≡ true → t ≡ None
-        none None free = refl
-        none (Some t) free = absurd (false≢true free)
+    own_value (Some (Value k l)) free = (
+      k,
+      l,
+      refl,
+      (elim (write_refusal (Some k)) as (λ t.
+          is_none t ≡ true → t ≡ None)
+          [ None ↦ λ free. refl | Some t ↦ λ free. absurd (false≢true free) ]) free,
+    )
     own_value None free = absurd (false≢true free)
     own_value (Some (Shared k l)) free = absurd (false≢true free)
     own_value (Some (Ref m l)) free = absurd (false≢true free)

@@ -37,12 +37,9 @@ module _ {T : Type 0} (cells : NameMap (Cell T)) (named : Name → Bool) where
   one_refusal n None at = refl
   one_refusal n (Some (Shared c l)) at = refl
   one_refusal n (Some (Value c l)) at = ap (λ cell. write_refusal (content_of cell)) (sym at)
-  one_refusal n (Some (Ref m l)) at = by (named m)
-    where
-      by : (b : Bool) → cond b None (write_refusal (content_of (map.get cells m)))
-          ≡ refusal_of cells (cond b None (Some m))
-      by true = refl
-      by false = refl
+  one_refusal n (Some (Ref m l)) at = elim (named m) as (λ b. cond b None (write_refusal
+      (content_of (map.get cells m))) ≡ refusal_of cells (cond b None (Some m)))
+      [ true ↦ refl | false ↦ refl ]
 
   -- and so of a list of names
   list_refusal : (names : List Name)
@@ -90,11 +87,9 @@ module _ {T : Type 0} (slots : List (Entry T)) (named : Name → Bool) where
 
   free_none : (m : Name) → None ≡ if_borrowed (cells_of slots) (Some m)
       → refusal_of (cells_of slots) (Some m) ≡ None
-  free_none m = by (refusal_of (cells_of slots) (Some m))
-    where
-      by : (t : Option BorrowRefusal) → None ≡ cond (is_some t) (Some m) None → t ≡ None
-      by None e = refl
-      by (Some t) e = absurd (none-some m e)
+  free_none m = elim (refusal_of (cells_of slots) (Some m)) as (λ t. None
+      ≡ cond (is_some t) (Some m) None → t ≡ None)
+      [ None ↦ λ e. refl | Some t ↦ λ e. absurd (none-some m e) ]
 
   -- so a name that reaches no borrowed value is hindered by nothing
   pub free_own : (n : Name) → None ≡ borrowed_at slots n → own n ≡ None
@@ -105,11 +100,9 @@ module _ {T : Type 0} (slots : List (Entry T)) (named : Name → Bool) where
       by None e = refl
       by (Some (Shared c l)) e = refl
       by (Some (Value c l)) e = free_none n e
-      by (Some (Ref m l)) e = kept (named m)
-        where
-          kept : (b : Bool) → refusal_of (cells_of slots) (cond b None (Some m)) ≡ None
-          kept true = refl
-          kept false = free_none m e
+      by (Some (Ref m l)) e =
+          elim (named m) as (λ b. refusal_of (cells_of slots) (cond b None (Some m)) ≡ None)
+          [ true ↦ refl | false ↦ free_none m e ]
 
   -- nor is one that reaches a shared value which is named still
   pub spared_own : (n m : Name) → Some m ≡ leads_to (cell_at slots n) n
@@ -192,11 +185,9 @@ module _ {T : Type 0} where
       → nat_eq s.entry.references last ≡ not (nat_lt gone all)
       → has_more slots last m ≡ nat_lt gone all
   more_counted slots m s last gone all same =
-      ap (has_more_in last) s.there ∙ (ap not same ∙ twice (nat_lt gone all))
-    where
-      twice : (b : Bool) → not (not b) ≡ b
-      twice true = refl
-      twice false = refl
+      ap (has_more_in last) s.there ∙ (ap not same ∙ (elim (nat_lt gone all) as (λ b. not (not b)
+      ≡ b)
+      [ true ↦ refl | false ↦ refl ]))
 
   -- whether a value lives on where names end, is told by how many of them refer to it
   pub living : (slots : List (Entry T)) (names : List Name) → AreReferred (λ m. 0) slots

@@ -56,13 +56,11 @@ module _ {T : Type 0} where
       ∙ sym (hinders S n old new l linked there other d refl) in
       let cells = left S n old new l linked there in
       rw other (ap is_none same ∙ free_unless S a (hindrance_at S.cells cells old) _
-      (spot (is_some (map.get cells old))))
-    where
-      spot : (b : Bool) → is_none (cond (not b) (write_refusal (content_of (map.get S.cells old)))
-          None) ≡ not (tells_of_borrow (cond (not b)
-          (write_refusal (content_of (map.get S.cells old))) None))
-      spot true = refl
-      spot false = write_tells (content_of (map.get S.cells old))
+      (elim (is_some (map.get cells old)) as (λ b. is_none (cond (not b) (write_refusal (content_of
+      (map.get S.cells old))) None)
+      ≡ not (tells_of_borrow (cond (not b) (write_refusal (content_of (map.get S.cells old)))
+      None)))
+      [ true ↦ refl | false ↦ write_tells (content_of (map.get S.cells old)) ]))
 
   module _ (S : State T) (a b : GenerationalPointer) (m : Name) where
     abbrev IsFree : Option (Cell T) → Option (Cell T) → Bool → Type 0

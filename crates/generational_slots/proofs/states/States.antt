@@ -226,13 +226,11 @@ module _ {T : Type 0} {p : SlotTable T} (s : IsSlotTable p) where
   slots_are =
       len_passing (λ e. true) 0 p.slots _ (λ k h. absurd (omega arith))
       (λ k. ap (map.contains_key (slots_of here)) (omega arith)
-      ∙ (ap is_some (get_last k) ∙ at (slice_get p.slots k)))
+      ∙ (ap is_some (get_last k)
+      ∙ (elim (slice_get p.slots k) as (λ o. is_some (option_map (λ e. e.generation) o)
+      ≡ passes (λ e. true) o)
+      [ None ↦ refl | Some e ↦ refl ])))
       ∙ count_all p.slots
-    where
-      at : (o : Option (Entry T))
-          → is_some (option_map (λ e. e.generation) o) ≡ passes (λ e. true) o
-      at None = refl
-      at (Some e) = refl
 
   pub free_are : set.len p.free ≡ free here
   free_are = s.stocked ∙ sym (len_kept is_spent (is_free here) free_is)

@@ -43,13 +43,9 @@ module _ {T : Type 0} where
       pub hinders : hindrance_at S.cells left old ≡ refusal_of S.cells d
       hinders =
           turn_hindered S.cells n old new l linked there other
-          ∙ (at (is_named (map.remove S.cells n) old)
-          ∙ ap (refusal_of S.cells) (sym target_doomed))
-        where
-          at : (b : Bool) → cond b None (write_refusal (content_of (map.get S.cells old)))
-              ≡ refusal_of S.cells (cond b None (Some old))
-          at true = refl
-          at false = refl
+          ∙ ((elim (is_named (map.remove S.cells n) old) as (λ b. cond b None (write_refusal
+          (content_of (map.get S.cells old))) ≡ refusal_of S.cells (cond b None (Some old)))
+          [ true ↦ refl | false ↦ refl ]) ∙ ap (refusal_of S.cells) (sym target_doomed))
 
       -- it's there still when the reference has turned, and names nothing
       pub doomed_left : (x : Name) → d ≡ Some x

@@ -7,8 +7,7 @@ pub overflow_sub-index_mut : goal.overflow_sub-index_mut
 overflow_sub-index_mut g c =
     let o = seen c.self.inside.last c.self.inside.settled c.self.view_is c.self.invariant
     (ap (λ x. x.settled) c.self-inside.view_is) c.self-inside.invariant in
-    let a = seen_details o c.requires.within _ c.self-inside.inside.0.0.details.ok.0
-    c.index_mut.ensures.value in
+    let a = seen_details o c.requires.within c.index_mut.ensures.value in
     let few = hears_of a.1 a.2 (λ e. 0 < e.references)
     (seen_hears o c.args.slot (λ e. 0 < e.references) (λ e h. h) c.requires.some) in
     omega (arith, few)
@@ -17,8 +16,7 @@ pub invariant_of-self : goal.invariant_of-self
 invariant_of-self g c =
     let o = seen c.self.inside.last c.self.inside.settled c.self.view_is c.self.invariant
     (ap (λ x. x.settled) c.self-inside.view_is) c.self-inside.invariant in
-    let a = seen_details o c.requires.within _ c.self-inside.inside.0.0.details.ok.0
-    c.index_mut.ensures.value in
+    let a = seen_details o c.requires.within c.index_mut.ensures.value in
     (details_noted o (ap (λ x. x.last) c.self-inside.view_is) a.1 a.2 _
     (λ e. record e { references = e.references - 1 }) refl (λ e. refl) (λ e has. has)).0
 
@@ -26,7 +24,6 @@ pub returns-clause-slots : goal.returns-clause-slots
 returns-clause-slots g c =
     let o = seen c.self.inside.last c.self.inside.settled c.self.view_is c.self.invariant
     (ap (λ x. x.settled) c.self-inside.view_is) c.self-inside.invariant in
-    let a = seen_details o c.requires.within _ c.self-inside.inside.0.0.details.ok.0
-    c.index_mut.ensures.value in
+    let a = seen_details o c.requires.within c.index_mut.ensures.value in
     (details_noted o (ap (λ x. x.last) c.self-inside.view_is) a.1 a.2 _
     (λ e. record e { references = e.references - 1 }) refl (λ e. refl) (λ e has. has)).1

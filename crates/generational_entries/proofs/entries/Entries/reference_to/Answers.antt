@@ -7,6 +7,6 @@ pub returns : goal.returns
 returns g c =
     let o = seen c.self.inside.last c.self.inside.settled c.self.view_is c.self.invariant
     (ap (λ x. x.settled) c.self-inside.view_is) c.self-inside.invariant in
-    let a = seen_slot o c.requires _ c.self-inside.inside.0.0.entries.ok.0 c.index.ensures in
+    let a = seen_slot o c.requires c.index.ensures in
     seen_says o c.args.slot (λ e. content.Reference c.args.slot c.index.result.now.generation
     ≡ content.Reference c.args.slot e.generation) (λ e h. h) (says a _ (λ l. refl))

@@ -5,22 +5,19 @@ use Rattle.generational_entries.proofs.settled.SettledEntries.borrow_error.Goals
 
 pub writer_at-writer-requires-clause-within : goal.writer_at-writer-requires-clause-within
 writer_at-writer-requires-clause-within g c =
-    let a = found c.self.view_is c.self.invariant c.requires c.self.inside.entries.ok.0
-    c.index.ensures in
+    let a = found c.self.view_is c.self.invariant c.requires c.index.ensures in
     λ some. (lent_used a c.in-Lent.is some).within
 
 pub returns-in-Lent : goal.returns-in-Lent
 returns-in-Lent g c =
-    let a = found c.self.view_is c.self.invariant c.requires c.self.inside.entries.ok.0
-    c.index.ensures in
+    let a = found c.self.view_is c.self.invariant c.requires c.index.ensures in
     says_of a
-    (read_details a.store c.requires _ c.self.inside.details.ok.0 c.index-in-Lent.ensures) _
+    (read_details a.store c.requires c.index-in-Lent.ensures) _
     (rw (c.in-Lent.is, c.new.ensures, c.writer_at-writer.ensures) refl)
 
 pub returns-in_default : goal.returns-in_default
 returns-in_default g c =
-    let a = found c.self.view_is c.self.invariant c.requires c.self.inside.entries.ok.0
-    c.index.ensures in
+    let a = found c.self.view_is c.self.invariant c.requires c.index.ensures in
     says a _
     (λ l. not_lent (list_at c.self.inside.borrows.lists (index_of c.index.result.now.content))
     l.created_at c.index.result.now.content c.in_default.not-Lent)

@@ -28,37 +28,32 @@ module _ {T : Type 0} (lists : List (List Borrow)) (d : StorageEntryData T) (l :
 
 pub readers_error-requires : goal.readers_error-requires
 readers_error-requires g c =
-    let a = found c.self.view_is c.self.invariant c.requires c.self.inside.entries.ok.0
-    c.index.ensures in
+    let a = found c.self.view_is c.self.invariant c.requires c.index.ensures in
     (used_at a c.in-Read.is).within
 
 pub writer_at-writer-requires-clause-within : goal.writer_at-writer-requires-clause-within
 writer_at-writer-requires-clause-within g c =
-    let a = found c.self.view_is c.self.invariant c.requires c.self.inside.entries.ok.0
-    c.index.ensures in
+    let a = found c.self.view_is c.self.invariant c.requires c.index.ensures in
     λ some. (lent_used a c.in-Lent.is some).within
 
 pub returns-in-Read : goal.returns-in-Read
 returns-in-Read g c =
-    let a = found c.self.view_is c.self.invariant c.requires c.self.inside.entries.ok.0
-    c.index.ensures in
+    let a = found c.self.view_is c.self.invariant c.requires c.index.ensures in
     let u = used_at a c.in-Read.is in
     says a _ (λ l. found_readers c.self.inside.borrows.lists c.index.result.now.content l.created_at
     c.readers_error.result _ _ _ c.in-Read.is u.some c.readers_error.ensures)
 
 pub returns-in_default : goal.returns-in_default
 returns-in_default g c =
-    let a = found c.self.view_is c.self.invariant c.requires c.self.inside.entries.ok.0
-    c.index.ensures in
+    let a = found c.self.view_is c.self.invariant c.requires c.index.ensures in
     says a _ (λ l. rw (no_refusal (list_at c.self.inside.borrows.lists
     (index_of c.index.result.now.content)) l.created_at c.index.result.now.content
     c.in_default.not-Read c.in_default.not-Lent) refl)
 
 pub returns-in-Lent : goal.returns-in-Lent
 returns-in-Lent g c =
-    let a = found c.self.view_is c.self.invariant c.requires c.self.inside.entries.ok.0
-    c.index.ensures in
-    says_of a (read_details a.store c.requires _ c.self.inside.details.ok.0 c.index-in-Lent.ensures)
+    let a = found c.self.view_is c.self.invariant c.requires c.index.ensures in
+    says_of a (read_details a.store c.requires c.index-in-Lent.ensures)
     (λ e. FoundBorrowed (write_refusal (content_in e.kept)) (Err c.writer_error.result))
     (found_writer c.self.inside.borrows.lists c.index.result.now.content
     c.index-in-Lent.result.now.created_at c.writer_error.result _ _ c.in-Lent.is

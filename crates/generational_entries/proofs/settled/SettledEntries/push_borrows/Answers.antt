@@ -40,20 +40,17 @@ module _ {T : Type 0} (lists : List (List Borrow)) (d : StorageEntryData T) (l :
 
 pub borrows_at-requires : goal.borrows_at-requires
 borrows_at-requires g c =
-    let a = found c.self.view_is c.self.invariant c.requires c.self.inside.entries.ok.0
-    c.index.ensures in
+    let a = found c.self.view_is c.self.invariant c.requires c.index.ensures in
     (used_at a c.in-Read.is).within
 
 pub writer_at-writer-requires-clause-within : goal.writer_at-writer-requires-clause-within
 writer_at-writer-requires-clause-within g c =
-    let a = found c.self.view_is c.self.invariant c.requires c.self.inside.entries.ok.0
-    c.index.ensures in
+    let a = found c.self.view_is c.self.invariant c.requires c.index.ensures in
     λ some. (lent_used a c.in-Lent.is some).within
 
 pub returns-in-Read : goal.returns-in-Read
 returns-in-Read g c =
-    let a = found c.self.view_is c.self.invariant c.requires c.self.inside.entries.ok.0
-    c.index.ensures in
+    let a = found c.self.view_is c.self.invariant c.requires c.index.ensures in
     on_ok_weaker c.push_readers.result (λ pushed. says a _ (λ l. reader_rows
     c.self.inside.borrows.lists c.index.result.now.content l.created_at c.args.id
     c.args.rows.now.items c.push_readers.new.rows.items _ _ _ c.in-Read.is
@@ -62,10 +59,9 @@ returns-in-Read g c =
 
 pub returns-in-Lent : goal.returns-in-Lent
 returns-in-Lent g c =
-    let a = found c.self.view_is c.self.invariant c.requires c.self.inside.entries.ok.0
-    c.index.ensures in
+    let a = found c.self.view_is c.self.invariant c.requires c.index.ensures in
     on_ok_weaker c.push_writer.result (λ pushed. says_of a
-    (read_details a.store c.requires _ c.self.inside.details.ok.0 c.index-in-Lent.ensures) _
+    (read_details a.store c.requires c.index-in-Lent.ensures) _
     (writer_rows c.self.inside.borrows.lists c.index.result.now.content
     c.index-in-Lent.result.now.created_at c.args.id c.args.rows.now.items
     c.push_writer.new.rows.items _ _ c.writer_at-writer.result c.in-Lent.is
@@ -73,8 +69,7 @@ returns-in-Lent g c =
 
 pub returns-in_default : goal.returns-in_default
 returns-in_default g c =
-    let a = found c.self.view_is c.self.invariant c.requires c.self.inside.entries.ok.0
-    c.index.ensures in
+    let a = found c.self.view_is c.self.invariant c.requires c.index.ensures in
     says a _ (λ l. no_rows c.self.inside.borrows.lists c.index.result.now.content l.created_at
     c.args.id c.args.rows.now.items c.args.rows.now.items c.in_default.not-Read
     c.in_default.not-Lent)

@@ -6,8 +6,7 @@ use Rattle.generational_entries.proofs.settled.SettledEntries.read_value.Goals a
 
 pub unreachable-requires : goal.unreachable-requires
 unreachable-requires g c =
-    let a = found c.self.view_is c.self.invariant c.requires.within c.self.inside.entries.ok.0
-    c.index.ensures in
+    let a = found c.self.view_is c.self.invariant c.requires.within c.index.ensures in
     let some = hears a (λ e. is_some (value_of (content_in e.kept)) ≡ true)
     c.requires.there in
     false≢true (ap is_some (sym (no_value
@@ -18,14 +17,12 @@ unreachable-requires g c =
 
 pub returns-in-Data : goal.returns-in-Data
 returns-in-Data g c =
-    let a = found c.self.view_is c.self.invariant c.requires.within c.self.inside.entries.ok.0
-    c.index.ensures in
+    let a = found c.self.view_is c.self.invariant c.requires.within c.index.ensures in
     says a (λ e. value_of (content_in e.kept) ≡ Some c.in-Data.value)
     (λ l. rw c.in-Data.is refl)
 
 pub returns-in-Read : goal.returns-in-Read
 returns-in-Read g c =
-    let a = found c.self.view_is c.self.invariant c.requires.within c.self.inside.entries.ok.0
-    c.index.ensures in
+    let a = found c.self.view_is c.self.invariant c.requires.within c.index.ensures in
     says a (λ e. value_of (content_in e.kept) ≡ Some c.in-Read.value)
     (λ l. rw c.in-Read.is refl)

@@ -7,14 +7,12 @@ use Rattle.generational_entries.proofs.settled.SettledEntries.refill.Goals as go
 
 pub refill-requires : goal.refill-requires
 refill-requires g c =
-    let a = found c.self.view_is c.self.invariant c.requires.within c.self.inside.entries.ok.0
-    c.index_mut-2.ensures.value in
+    let a = found c.self.view_is c.self.invariant c.requires.within c.index_mut-2.ensures.value in
     hears a (λ e. e.generation < last_generation) c.requires.below
 
 pub invariant_of-self : goal.invariant_of-self
 invariant_of-self g c =
-    let a = found c.self.view_is c.self.invariant c.requires.within c.self.inside.entries.ok.0
-    c.index_mut-2.ensures.value in
+    let a = found c.self.view_is c.self.invariant c.requires.within c.index_mut-2.ensures.value in
     let v = still a c.self.invariant c.refill.new.self (free_indexed a
     (rw (empty_slot a c.requires.empty) refl) c.refill.new.self (rw c.refill.ensures.filled
     (unborrowed_listed c.args.content c.requires.unborrowed)) (rw c.refill.ensures.filled
@@ -27,8 +25,7 @@ invariant_of-self g c =
 
 pub returns-clause-generation : goal.returns-clause-generation
 returns-clause-generation g c =
-    let a = found c.self.view_is c.self.invariant c.requires.within c.self.inside.entries.ok.0
-    c.index_mut-2.ensures.value in
+    let a = found c.self.view_is c.self.invariant c.requires.within c.index_mut-2.ensures.value in
     says a (λ e. c.refill.result ≡ e.generation + 1)
     (λ l. c.refill.ensures.generation)
 

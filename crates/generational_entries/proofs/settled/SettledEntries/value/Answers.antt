@@ -4,7 +4,6 @@ use Rattle.generational_entries.proofs.settled.SettledEntries.value.Goals as goa
 
 pub returns-in-Data : goal.returns-in-Data
 returns-in-Data g c =
-    let a = found c.self.view_is c.self.invariant c.requires.within c.self.inside.entries.ok.0
-    c.index.ensures in
+    let a = found c.self.view_is c.self.invariant c.requires.within c.index.ensures in
     says a (λ e. value_of (content_in e.kept) ≡ Some c.in-Data.value)
     (λ l. rw c.in-Data.is refl)
