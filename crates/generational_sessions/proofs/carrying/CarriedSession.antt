@@ -117,10 +117,12 @@ module _ {T : Type 0} {f : Name → Name} {d : ℕ} {Knows : Name → Type 0} {s
       → ((b : GenerationalPointer) → KnowsBox Knows store b
       → Alike (x (rename_box f d store b)) (y b))
       → Alike (with_box (box_in s b) back x) (with_box (box_in a b) back y)
-  with_box_alike (Place p) back x y alike = place_alike (λ h. with_box (box_held h) back x) _ (elim
-      p as (λ h. KnowsHeld Knows store h
-      → Alike (with_box (box_held (rename_held f d store h)) back x) (with_box (box_held h) back y))
-      [ Boxed b ↦ λ k. alike b k | _ ↦ λ k. no_such back ])
+  with_box_alike (Place p) back x y alike = place_alike (λ h. with_box (box_held h) back x) _ at p
+    where
+      at : (h : Held T) → KnowsHeld Knows store h → Alike
+          (with_box (box_held (rename_held f d store h)) back x) (with_box (box_held h) back y)
+      at (Boxed b) k = alike b k
+      at _ k = no_such back
   with_box_alike (Foreign foreign) back x y alike =
       let b = pointer_of foreign in let own = nat_eq b.id.store store in
       rw c.state.number (cond_both own None

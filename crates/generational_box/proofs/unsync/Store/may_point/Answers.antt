@@ -2,8 +2,7 @@ use Rattle.generational_box.proofs.{ap, are_linked, free_to, gone_free, ne_eqb, 
 use Rattle.generational_box.proofs.{reach_own, reach_strange, read_own, read_told, same_free}
 use Rattle.generational_box.proofs.{state_is, strange_free, sym, ◌∙◌}
 use Rattle.generational_box.proofs.unsync.Store.may_point.Goals as goal
-use Rattle.generational_box.proofs.unsync.Store.may_point.Goals.{then-eq-via-else-eq+then-other-self}
-use Rattle.generational_box.proofs.unsync.Store.may_point.Goals.{then-eq-via-then-eq}
+use goal.{then-eq-via-else-eq+then-other-self, then-eq-via-then-eq}
 
 pub returns-then-eq : goal.returns-then-eq
 returns-then-eq g c = elim c.then-eq.branch [

@@ -3,8 +3,7 @@ use Rattle.generational_entries.proofs.{ap, change_entry, EntryList, first_apart
 use Rattle.generational_entries.proofs.{IsAlone, IsReadable, listed_apart, listed_noted, slice_get}
 use Rattle.generational_entries.proofs.{subst, sym, with_reader, ◌∙◌, ◌≡◌}
 use Rattle.generational_entries.proofs.entries.Entries.begin_read.Goals as goal
-use Rattle.generational_entries.proofs.entries.Entries.begin_read.Goals.{else-not-is_alone}
-use Rattle.generational_entries.proofs.entries.Entries.begin_read.Goals.{then-not-is_alone+in_ok-list_reader}
+use goal.{else-not-is_alone, then-not-is_alone+in_ok-list_reader}
 
 pub invariant_of-self-2 : goal.invariant_of-self-2
 invariant_of-self-2 g c =

@@ -1,7 +1,7 @@
 use Rattle.generational_entries.proofs.{alone_apart, ap, change_entry, Empty, ended, EntryList}
 use Rattle.generational_entries.proofs.{false≢true, noted, noted_order, refl, ◌∙◌}
 use Rattle.generational_entries.proofs.entries.Entries.end.Goals as goal
-use Rattle.generational_entries.proofs.entries.Entries.end.Goals.{else-self-slot, then-self-slot}
+use goal.{else-self-slot, then-self-slot}
 
 pub returns-then-is_alone-clause-slots : goal.returns-then-is_alone-clause-slots
 returns-then-is_alone-clause-slots g c =

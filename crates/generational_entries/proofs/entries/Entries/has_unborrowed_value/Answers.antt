@@ -3,8 +3,7 @@ use Rattle.generational_entries.proofs.{ap, arith, cell_at, cell_in, EntryList, 
 use Rattle.generational_entries.proofs.{is_noted, is_unborrowed_value, name_of_cell, noted_away}
 use Rattle.generational_entries.proofs.{refl, seen, seen_past, slice_get_read, sym, value_test, ◌∙◌}
 use Rattle.generational_entries.proofs.entries.Entries.has_unborrowed_value.Goals as goal
-use Rattle.generational_entries.proofs.entries.Entries.has_unborrowed_value.Goals.{else-is_noted-via-else-is_noted}
-use Rattle.generational_entries.proofs.entries.Entries.has_unborrowed_value.Goals.{else-is_noted-via-then-is_noted+else-self-name}
+use goal.{else-is_noted-via-else-is_noted, else-is_noted-via-then-is_noted+else-self-name}
 
 pub returns-in-Some : goal.returns-in-Some
 returns-in-Some g c =

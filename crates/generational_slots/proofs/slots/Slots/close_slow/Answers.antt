@@ -5,7 +5,7 @@ use Rattle.generational_slots.proofs.{SlotsState, State, state_is, sym, target_i
 use Rattle.generational_slots.proofs.{value_closes, without, ◌∙◌, ◌≡◌}
 use Rattle.std.specs.FinMap as map
 use Rattle.generational_slots.proofs.slots.Slots.close_slow.Goals as goal
-use Rattle.generational_slots.proofs.slots.Slots.close_slow.Goals.{in-Some, in_default}
+use goal.{in-Some, in_default}
 
 pub remove-requires-then-is_reference : goal.remove-requires-then-is_reference
 remove-requires-then-is_reference g c =

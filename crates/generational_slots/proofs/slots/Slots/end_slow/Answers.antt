@@ -2,7 +2,7 @@
 use Rattle.generational_slots.proofs.{doomed_held, doomed_hinders, doomed_told, Err, FoundBorrowed}
 use Rattle.generational_slots.proofs.{held_within, name_of_cell, Ok, state_is, subst, sym, ◌∙◌}
 use Rattle.generational_slots.proofs.slots.Slots.end_slow.Goals as goal
-use Rattle.generational_slots.proofs.slots.Slots.end_slow.Goals.{in-Some+in-Ok, in_default}
+use goal.{in-Some+in-Ok, in_default}
 
 pub borrow_mut_error-requires : goal.borrow_mut_error-requires
 borrow_mut_error-requires g c =

@@ -4,8 +4,7 @@ use Rattle.generational_slots.proofs.{same_free, Some, state_is, subst, sym, tar
 use Rattle.generational_slots.proofs.{unshared_free, [], ◌∙◌, ◌∷◌, ◌≡◌}
 use Rattle.std.specs.FinMap as map
 use Rattle.generational_slots.proofs.slots.Slots.may_point.Goals as goal
-use Rattle.generational_slots.proofs.slots.Slots.may_point.Goals.{then-eq-via-else-eq+then-not-is_shared}
-use Rattle.generational_slots.proofs.slots.Slots.may_point.Goals.{then-eq-via-then-eq}
+use goal.{then-eq-via-else-eq+then-not-is_shared, then-eq-via-then-eq}
 
 pub returns-in_default : goal.returns-in_default
 returns-in_default g c a b at =
