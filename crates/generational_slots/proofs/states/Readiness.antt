@@ -6,7 +6,8 @@ use Common.{hindrance_at, hindrance_to, is_hindered, is_name, is_named, is_none,
 use Common.{IsLinked, Lent, Location, may_set, Name, name_of, None, not, Option, point, Ref, refl}
 use Common.{Shared, Some, State, sym, target_in, tells_of_borrow, true, true≢false, turn, unless}
 use Common.{Value, write_refusal, [], ◌∙◌, ◌∷◌, ◌≡◌}
-use Rattle.generational_slots.proofs.states.{Endings.doomed_hinders, Turns.hinders, Turns.left}
+use Rattle.generational_slots.proofs.states.Endings.{doomed_hinders}
+use Rattle.generational_slots.proofs.states.Turns.{hinders, IsReference, left}
 use Rattle.std.specs.FinMap as map
 
 module _ {T : Type 0} where
@@ -51,10 +52,11 @@ module _ {T : Type 0} where
       → IsLinked S.cells → map.get S.cells n ≡ Some (Ref old l) → is_name old new ≡ false
       → is_none (hindrance_to S (n ∷ [])) ≡ not (is_hindered a (turn S n old new l).0)
   turn_free S n old new l a linked there other =
+      let r : IsReference S n old = record { created = l; there = there } in
       let d = doomed_by (is_named (map.remove S.cells n)) (map.get S.cells n) n in
       let same = doomed_hinders S n linked d refl
-      ∙ sym (hinders S n old new l linked there other d refl) in
-      let cells = left S n old new l linked there in
+      ∙ sym (hinders r new linked other d refl) in
+      let cells = left r new linked in
       rw other (ap is_none same ∙ free_unless S a (hindrance_at S.cells cells old) _
       (elim (is_some (map.get cells old)) as (λ b. is_none (cond (not b) (write_refusal (content_of
       (map.get S.cells old))) None)

@@ -19,15 +19,29 @@ troubled None (refused.Store _) found = absurd found
 
 module _ {T : Type 0} where
   -- the cell of a reference
-  pub reference_cell : (c : Option (Cell T)) (m : Name) → target_in c ≡ Some m
+  reference_cell : (c : Option (Cell T)) (m : Name) → target_in c ≡ Some m
       → (l : Location) × (c ≡ Some (Ref m l))
   reference_cell (Some (Ref k l)) m h = let same : k ≡ m = cc in (l, ap (λ x. Some (Ref x l)) same)
   reference_cell None m h = absurd cc
   reference_cell (Some (Value c l)) m h = absurd cc
   reference_cell (Some (Shared c l)) m h = absurd cc
 
-  module _ (S : State T) (n old new : Name) (l : Location) (linked : IsLinked S.cells)
-      (there : map.get S.cells n ≡ Some (Ref old l)) where
+  pub record IsReference (S : State T) (n m : Name) : Type 0 where
+    pub created : Location
+    pub there : map.get S.cells n ≡ Some (Ref m created)
+
+  pub reference_is : (S : State T) {n m : Name} → target_in (map.get S.cells n) ≡ Some m
+      → IsReference S n m
+  reference_is S h = let r = reference_cell _ _ h in record { created = r.0; there = r.1 }
+
+  module _ {S : State T} {n old : Name} (r : IsReference S n old) (new : Name)
+      (linked : IsLinked S.cells) where
+    abbrev l : Location
+    l = r.created
+
+    abbrev there : map.get S.cells n ≡ Some (Ref old l)
+    there = r.there
+
     abbrev pub left : NameMap (Cell T)
     left = sweep (map.insert S.cells n (Ref new l))
 
