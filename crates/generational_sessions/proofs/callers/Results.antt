@@ -1,10 +1,22 @@
 -- What clauses on results and options say of the value with which a caller goes on.
+use Rattle.std.{proofs.lemmas.Result.IfOk-at_ok, specs.Result.IsErrAnd, specs.Result.result_ok}
 use Rattle.std.specs.Prelude.{IfErr, IfNone, IfOk, IfSome, OnErr, OnSome}
-use Rattle.std.specs.Result.{IsErrAnd, result_ok}
-use Rattle.generational_sessions.proofs.{Err, None, none-some, Ok, OnOk, Option, Result, same_Some}
-use Rattle.generational_sessions.proofs.{Some, subst, sym, ◌∙◌, ◌≡◌}
+use Rattle.generational_sessions.proofs.{ap, Err, None, none-some, Ok, OnOk, Option, Result}
+use Rattle.generational_sessions.proofs.{same_Some, Some, subst, sym, ◌∙◌, ◌≡◌}
 
 module _ {X : Type 0} where
+  -- where `?` goes on, the value is that of the result
+  pub of_ok : {E : Type 0} (P : X → Type 0) (r : Result X E) (x : X)
+      → Some x ≡ result_ok r → IfOk r P → P x
+  of_ok {E = E} P (Ok y) x e p =
+      let same : ◌≡◌ {A = Result X E} (Ok y) (Ok x) = ap (λ z. Ok z) (sym (same_Some x y e)) in
+      IfOk-at_ok {T = X} {E = E} P {r = Ok y} {x = x} same p
+  of_ok P (Err z) x e p = absurd (none-some x (sym e))
+
+  pub on_ok : {E P : Type 0} (r : Result X E) (x : X) → Some x ≡ result_ok r → OnOk r P → P
+  on_ok (Ok y) x e p = p
+  on_ok (Err z) x e p = absurd (none-some x (sym e))
+
   -- what follows where a result is Ok
   pub on_ok_so : {E P Q : Type 0} (r : Result X E) → (P → Q) → OnOk r P → OnOk r Q
   on_ok_so (Ok y) so p = so p
