@@ -21,6 +21,12 @@ module _ {T : Type 0} where
   unless_lack S None out h = h
   unless_lack S (Some t) out h = refl
 
+  -- a refusal leaves the next ticket
+  pub next_stays : (S : State T) (t : Option BorrowRefusal) (out : Outcome T) → out.1.next ≡ S.next
+      → (unless t S out).1.next ≡ S.next
+  next_stays S None out h = h
+  next_stays S (Some t) out h = refl
+
   read_lack : (S : State T) (l : Location) (m : Option Name) (c : Option (Content T))
       → is_lack (read_at S l m c).0 ≡ false
   read_lack S l (Some m) (Some (Here v rs)) = refl
@@ -139,10 +145,5 @@ module _ {T : Type 0} where
         → Meets S (End b) answer R → R.next ≡ S.next
     ended_next b answer m = ⊎_elim (λ refused. ap (λ (X : State T). X.next) refused.1)
         (λ acts. ap (λ (out : Outcome T). out.1.next) acts.2
-        ∙ still (hindrance_to S (own_name S b)) (Done, close S (own_name S b)) refl)
+        ∙ next_stays S (hindrance_to S (own_name S b)) (Done, close S (own_name S b)) refl)
         (meets_cases S R (End b) answer m)
-      where
-        still : (t : Option BorrowRefusal) (out : Outcome T) → out.1.next ≡ S.next
-            → (unless t S out).1.next ≡ S.next
-        still None out h = h
-        still (Some t) out h = refl

@@ -7,8 +7,8 @@ use Rattle.generational_core.proofs.maps.Maps.{kept_key, len_within}
 use Rattle.generational_core.specs.{Answers.read_refused, Slots.last_generation}
 use Rattle.generational_errors.specs.declared.error.BorrowError.{BorrowError}
 use proofs.{act, Action, add_cell, and_parts, Answer, answer_to, ap, arith, Bool, BorrowMutError}
-use proofs.{BorrowRefusal, box_of, by_cond, by_name, by_number, can_read, can_write, Cell, cond}
-use proofs.{Content, content_at, end_refused, eqb-true, false, free, free_reads, GenerationalBox}
+use proofs.{box_of, by_cond, by_name, by_number, can_read, can_write, Cell, cond, Content}
+use proofs.{content_at, end_refused, eqb-true, false, free, free_reads, GenerationalBox}
 use proofs.{GenerationalPointer, get-insert_apart, get-insert_here, given_other, Here, inl, inr}
 use proofs.{is_free, is_none, is_shared, is_some, IsGiven, IsSound, keep_view, keeps_free}
 use proofs.{key_cases, last_name, last_ticket, lasts_insert, leaves, Lent, limit_tickets, Location}
@@ -17,9 +17,9 @@ use proofs.{nat_cmp, nat_cmp_total, nat_eq, nat_lt, needs_memory, new_fresh, New
 use proofs.{None, none≢some, not, NumbersExhausted, Ok, Option, Outcome, OutOfMemory, OwnerName}
 use proofs.{pointer_of, reach, Read, Reads, Ref, ref_reaches, Refer, refer, referred_together, refl}
 use proofs.{refusal_to_read, refusal_to_write, Refused, rests, rests_free, Shared, slots_of, Some}
-use proofs.{State, StoreError, subst, sym, takes_ticket, true, true≢false, unless, unwrap_or, Write}
+use proofs.{State, StoreError, subst, sym, takes_ticket, true, true≢false, unwrap_or, Write}
 use proofs.{write_refusal, Writes, ℕ, [], ⊎_elim, ◌&&◌, ◌+◌, ◌<◌, ◌∙◌, ◌∷◌, ◌≡◌, ◌≢◌, ◌≤◌}
-use proofs.callers.Lacking.{first_reader}
+use proofs.callers.Lacking.{first_reader, next_stays}
 use Rattle.generational_sessions.specs.Lacking.{IsReference, IsShort, IsShortage}
 use Rattle.std.specs.FinMap as map
 use Rattle.std.specs.FinSet as set
@@ -302,18 +302,13 @@ module _ {T : Type 0} where
       → Meets S (Refer None b) answer R → R.next ≡ S.next
   referred_next {S} {R} b answer m = ⊎_elim (λ refused. ap (λ (X : State T). X.next) refused.1)
       (λ acts. ap (λ (out : Outcome T). out.1.next) acts.2
-      ∙ refused_or (refusal_to_read S b) _ (gives (reach S b) _ acts.0.first))
+      ∙ next_stays S (refusal_to_read S b) _ (gives (reach S b) _ acts.0.first))
       (meets_cases S R (Refer None b) answer m)
     where
       gives : (to : Option Name) (target : Option (Cell T)) (n : Name)
           → (refer S None b to target n).1.next ≡ S.next
       gives (Some m) (Some (Shared c l)) n = refl
       gives to target n = refl
-
-      refused_or : (t : Option BorrowRefusal) (out : Outcome T) → out.1.next ≡ S.next
-          → (unless t S out).1.next ≡ S.next
-      refused_or None out h = h
-      refused_or (Some t) out h = refl
 
   -- and where the value may be written that it names, it may be written through the new box
   pub referred_free : {S R : State T} (o : Option OwnerName) (c : GenerationalPointer)

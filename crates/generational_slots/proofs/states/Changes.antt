@@ -236,17 +236,18 @@ module _ {T : Type 0} where
       at None there h = absurd (false≢true h)
       at (Some e) there h = own e there _ refl h
 
+  -- a cell with a content is live
+  pub some_cell : (o : Option (Cell T)) → is_some (content_of o) ≡ true → is_some o ≡ true
+  some_cell None h = h
+  some_cell (Some c) h = refl
+
   pub held : (slots : List (Entry T)) (n : Name)
       → is_some (content_of (map.get (cells_of slots) n)) ≡ true → IsHeld slots n
   held slots n h =
-      let f = found slots n (some (map.get (cells_of slots) n) h) in
+      let f = found slots n (some_cell (map.get (cells_of slots) n) h) in
       at f f.kept f.there (rw (get_cells slots n, f.there, eq-eqb n.generation n.generation refl)
       at h)
     where
-      some : (o : Option (Cell T)) → is_some (content_of o) ≡ true → is_some o ≡ true
-      some None h = h
-      some (Some c) h = refl
-
       at : IsFound slots n → (k : Kept T) {r : ℕ} → slice_get slots n.slot
           ≡ Some (record { generation = n.generation; kept = k; references = r })
           → is_some (content_of (cell_of k)) ≡ true → IsHeld slots n

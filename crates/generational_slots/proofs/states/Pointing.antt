@@ -12,11 +12,6 @@ abbrev pub dropped_answer : Location → Result (Unit {0}) (Refused BorrowMutErr
 dropped_answer l = Err (refused.Borrow (writes.Dropped (record { created_at = l })))
 
 module _ {T : Type 0} where
-  -- a cell with a content is live
-  pub some_cell : (o : Option (Cell T)) → is_some (content_of o) ≡ true → is_some o ≡ true
-  some_cell None h = h
-  some_cell (Some c) h = refl
-
   module _ (S : State T) (n m : Name) (k : Location) (b : GenerationalPointer) where
     -- nothing is there
     pub points_gone : (own target : Option (Cell T)) → None ≡ target_in own

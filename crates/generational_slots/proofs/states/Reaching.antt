@@ -27,7 +27,7 @@ none_there (Some x) h = absurd (false≢true h)
 
 module _ {T : Type 0} where
   -- a shared cell has a content
-  shared_content : (o : Option (Cell T)) → is_shared o ≡ true → is_some (content_of o) ≡ true
+  pub shared_content : (o : Option (Cell T)) → is_shared o ≡ true → is_some (content_of o) ≡ true
   shared_content (Some (Shared c l)) h = refl
   shared_content None h = absurd (false≢true h)
   shared_content (Some (Value c l)) h = absurd (false≢true h)
