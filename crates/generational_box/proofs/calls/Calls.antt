@@ -16,6 +16,7 @@ use Common.{refusal_to_write_at, Refused, ReleaseReader, ReleaseWriter, Result, 
 use Common.{SoundState, State, subst, sym, takes_ticket, tickets_of, true, true≢false, unless}
 use Common.{Value, value_in, value_reached, with_records, Write, write_at, write_refusal}
 use Common.{WriteGuard, Writes, ℕ, [], ◌&&◌, ◌+◌, ◌<◌, ◌||◌, ◌↔◌, ◌∙◌, ◌∷◌, ◌≡◌, ◌≢◌}
+use Rattle.generational_slots.proofs.states.Reaching.{shared_content}
 use Rattle.std.proofs.Common.{map as list_map}
 use Rattle.std.specs.FinMap as map
 use Rattle.generational_errors.specs.declared.error.Refused.TheVariants as refused
@@ -81,13 +82,6 @@ module _ {T : Type 0} where
       at (Some x) there is =
           changed_there by_name S.cells n (refill c) x there
           ∙ (ap (map.insert S.cells n) (same x is) ∙ insert_there by_name S.cells n x there)
-
-  -- a Shared cell has a content
-  shared_content : (o : Option (Cell T)) → is_shared o ≡ true → is_some (content_of o) ≡ true
-  shared_content (Some (Shared c l)) h = refl
-  shared_content None h = absurd (false≢true h)
-  shared_content (Some (Value c l)) h = absurd (false≢true h)
-  shared_content (Some (Ref m l)) h = absurd (false≢true h)
 
   -- a content that is there
   the_content : (o : Option (Content T)) → is_some o ≡ true → (c : Content T) × (o ≡ Some c)
