@@ -1,61 +1,70 @@
 -- The names of machine and store that most proofs here cite, passed on from one place.
-pub use Rattle.generational_entries.specs.Entry.{cell_of}
-pub use Rattle.generational_entries.specs.Entry.{has_no_borrow}
-pub use Rattle.generational_containers.specs.OwnerRecords.{AreCounted, IsCounted, IsRefusal}
-pub use Rattle.generational_containers.specs.OwnerRecords.{add_to_list_in, knows}
-pub use Rattle.generational_containers.specs.OwnerRecords.{IsListed, permits, record_of}
-pub use Rattle.generational_slots.specs.SlotsState.{IsMade}
-pub use Rattle.generational_slots.specs.SlotsState.{SlotsState}
-pub use Rattle.generational_slots.specs.SlotsState.{with_records}
-pub use Rattle.generational_core.proofs.machine.Bounding.{fresh_bounded}
-pub use Rattle.generational_core.proofs.machine.Bounding.{meets_kept}
-pub use Rattle.generational_core.proofs.maps.Maps.{by_name, by_number, changed_there}
-pub use Rattle.generational_core.proofs.maps.Maps.{contains-insert_name}
-pub use Rattle.generational_core.proofs.maps.Maps.{get-changed}
-pub use Rattle.generational_core.proofs.maps.Maps.{insert_there}
-pub use Rattle.generational_core.proofs.maps.Maps.{key_same}
-pub use Rattle.generational_core.proofs.maps.Maps.{get-insert_apart, get-insert_here, name_cases}
-pub use Rattle.generational_core.proofs.maps.Maps.{name_apart}
-pub use Rattle.generational_core.proofs.maps.Maps.{name_total}
-pub use Rattle.generational_core.proofs.machine.Soundness.{fresh_sound}
-pub use Rattle.generational_core.proofs.machine.Closing.{close_nothing}
-pub use Rattle.generational_core.proofs.machine.Linking.{sound_linked}
-pub use Rattle.generational_core.specs.Answers.{WriteGuard, back_answer, end_refused}
-pub use Rattle.generational_core.specs.Borrowing.{Guard, BorrowRefusal, fill, leads_to, read_refusal}
-pub use Rattle.generational_core.specs.Borrowing.{write_refusal}
-unfoldable pub use Rattle.generational_core.specs.Borrowing.{reach, refusal_to_read, refusal_to_write}
-pub use Rattle.generational_core.specs.Borrowing.BorrowRefusal.{BeingRead, Dropped}
-pub use Rattle.generational_core.specs.Boxes.{box_of, name_in, name_of}
-pub use Rattle.generational_core.specs.Cells.{Cell, Content, content_of, is_shared, location_of}
-pub use Rattle.generational_core.specs.Cells.{refill}
-pub use Rattle.generational_core.specs.Cells.Cell.{Value, Shared, Ref}
-pub use Rattle.generational_core.specs.Cells.Content.{Here, Lent}
-pub use Rattle.generational_core.specs.Conditions.{IsLinked}
-pub use Rattle.generational_core.specs.State.{HasTargets}
-pub use Rattle.generational_core.specs.Conditions.{IsBounded, IsFresh, count_in, count_under}
-pub use Rattle.generational_core.specs.Conditions.{names_in, names_under}
-pub use Rattle.generational_core.specs.State.{one_less, one_listed}
-pub use Rattle.generational_core.specs.State.{one_more}
-pub use Rattle.generational_core.specs.Ending.{cells_after, close, first_hindrance, hindrance_of}
-unfoldable pub use Rattle.generational_core.specs.Ending.{hindrance_to, sweep}
-pub use Rattle.generational_core.specs.Machine.Action.{CloneOwner, End, Make, NewOwner, Read}
-pub use Rattle.generational_core.specs.Machine.Action.{ReleaseOwner, ReleaseReader, ReleaseWriter}
-pub use Rattle.generational_core.specs.Machine.Action.{MakeShared, Point, Refer, Write}
-pub use Rattle.generational_core.specs.Names.{Name, NameMap, among, change_if}
+use Rattle.generational_core.specs
+use Rattle.generational_core.proofs
+use Rattle.generational_errors.specs.declared
+use Rattle.generational_slots.specs.SlotsState
+pub use Rattle.std.proofs.Common.{arith, Bool, cond, Err, false, IfErr, IfSome, inl, inr, is_none}
+pub use Rattle.std.proofs.Common.{is_ok, is_some, IsSome, IsTrue, List, nat_eq, None, not, Ok}
+pub use Rattle.std.proofs.Common.{OnErr, OnOk, Option, option_copied, refl, Result, Some, subst}
+pub use Rattle.std.proofs.Common.{sym, true, ℕ, [], ⊎_elim, ◌&&◌, ◌++◌, ◌+◌, ◌<◌, ◌||◌, ◌↔◌, ◌∙◌}
+pub use Rattle.std.proofs.Common.{ap, ◌∷◌, ◌≡◌, ◌≢◌, ◌≤◌, ◌⊎◌}
+pub use Rattle.std.proofs.lemmas.{Bool.lt-ltb, Bool.ne_eqb, Bool.true≢false, Cmp.eq_by_cmp_equiv}
+pub use Rattle.std.proofs.lemmas.{Map.Keys.IsDistinct-push, Option.none-some}
+pub use Rattle.std.proofs.lemmas.Bool.{eq-eqb, eqb-true, false_from_ne_true, false≢true, le-ltb}
+pub use Rattle.std.specs.{Cmp.IsEquivalence, Cmp.nat_cmp_total, Cmp.nat_eq_equiv, Option.option_or}
+pub use Rattle.std.specs.List.{AllByRecursion, filter, list_any}
+pub use Rattle.std.specs.Ordering.{eq_by_cmp, nat_cmp}
+pub use Rattle.generational_containers.{proofs.records.Places.reserved_room, specs.Borrows.AreBelow}
+pub use Rattle.generational_containers.specs.{CellNames.name_of_cell, OwnerRecords.record_of}
+pub use Rattle.generational_containers.specs.OwnerRecords.{add_to_list_in, AreCounted, IsCounted}
+pub use Rattle.generational_containers.specs.OwnerRecords.{IsListed, IsRefusal, knows, permits}
+pub use proofs.{machine.Linking.sound_linked, maps.Maps.name_total}
+pub use proofs.machine.{Bounding.fresh_bounded, Bounding.meets_kept, Closing.close_nothing}
+pub use proofs.machine.{Rows.all_owners_read, Rows.read_append, Soundness.fresh_sound}
+pub use proofs.maps.Maps.{by_name, by_number, changed_there, contains-insert_name, get-insert_apart}
+pub use proofs.maps.Maps.{get-insert_here, insert_there, key_same, name_apart, name_cases}
+pub use specs.{Borrowing.BorrowRefusal.BeingRead, Borrowing.BorrowRefusal.Dropped, Slots.free}
+pub use specs.{Conditions.names_under, State.Owners, State.Ownership, State.State, State.tickets_of}
+pub use specs.{Seeing.value_reached, Sound.IsBounded-prop, Sound.IsSound-prop, Sound.SoundState}
+pub use specs.Answers.{back_answer, end_answer, end_refused, refusal_of_error}
+pub use specs.Answers.{refusal_of_read_error, WriteGuard}
+pub use specs.Borrowing.{BorrowRefusal, can_read, can_write, fill, Guard, leads_to, read_refusal}
+pub use specs.Borrowing.{refusal_at, write_refusal}
+pub use specs.Boxes.{box_of, has_same_id, id_of, name_in, name_of}
+pub use specs.Cells.{Cell, Content, content_of, is_shared, location_of, refill}
+pub use specs.Cells.{Cell.Ref, Cell.Shared, Cell.Value, Content.Here, Content.Lent}
+pub use specs.Conditions.{count_in, count_under, fresh, IsBounded, IsFresh, IsLinked, names_in}
+pub use specs.Ending.{cells_after, close, first_hindrance, hindrance_at, hindrance_of}
+pub use specs.Machine.{act, Action, add_cell, add_to_list, cell_at, has_reader, has_writer}
+pub use specs.Machine.{is_known, make, NewNames, next_guard, own_cell, OwnerName, ownership, point}
+pub use specs.Machine.{Outcome, read_at, refer, unless, write_at}
+pub use specs.Machine.Action.{CloneOwner, End, Make, MakeShared, NewOwner, Point, Read, Refer}
+pub use specs.Machine.Action.{ReleaseOwner, ReleaseReader, ReleaseWriter, SetValue, Write}
+pub use specs.Machine.Answer.{Back, BorrowRefused, Done, Flag, Made, Old, Owned, Reads, Writes}
+pub use specs.Names.{among, change_if, Name, NameMap}
+pub use specs.Plain.{bare_cells, Plain, plain}
+pub use specs.Rows.{owner_rows, read_rows, ReadBack, rows_of, told_by}
+pub use specs.State.{content_at, HasTargets, IsBoxed, IsSound, one_less, one_listed, one_more}
+pub use specs.StepCalls.{is_free, is_hindered, is_ready, may_set, owner_of, tells_of_borrow}
+pub use specs.Steps.{IsNew, last_ticket, limit_tickets, Meets, needs_memory, no_names, takes_ticket}
+pub use specs.declared.{borrow.Borrow.Borrow, boxes.GenerationalPointer.GenerationalPointer}
+pub use specs.declared.{boxes.GenerationalBoxId.GenerationalBoxId, rows.BaseRow.BaseRow}
+pub use specs.declared.steps.StepCall.TheVariants.{ManuallyDrop}
+pub use Rattle.generational_entries.specs.Entries.{kept_data, target_of}
+pub use Rattle.generational_entries.specs.Entry.{cell_of, FoundBorrowed, has_no_borrow, less_read}
+pub use Rattle.generational_entries.specs.Entry.{one_read, readers_of}
+pub use Rattle.generational_entries.specs.declared.entry.StorageEntryData.{StorageEntryData}
+pub use Rattle.generational_errors.specs.Texts.{as_borrow_mut}
+pub use declared.error.{BorrowError.BorrowError, BorrowMutError.BorrowMutError, Location.Location}
+pub use declared.error.{Refused.Refused, StoreError.StoreError}
+pub use declared.error.StoreError.TheVariants.{NumbersExhausted, OutOfMemory, UnknownOwner}
+pub use Rattle.generational_slots.specs.SlotRows.{all_slot_rows, ReadSlots}
+pub use SlotsState.{change_content, change_content_if, content_reached, IsMade, IsTurned, reached}
+pub use SlotsState.{refusal_to_read_at, refusal_to_refer_at, refusal_to_write_at, shared_reached}
+pub use SlotsState.{SlotsState, with_records}
+unfoldable pub use Rattle.std.specs.List.{IsDistinct}
 unfoldable pub use Rattle.generational_core.specs.Names.{change, is_name}
-pub use Rattle.generational_core.specs.Slots.{free}
-pub use Rattle.generational_core.specs.State.{IsSound, Owners, Ownership, State, content_at}
-pub use Rattle.generational_core.specs.StepCalls.{is_ready, tells_of_borrow}
+unfoldable pub use Rattle.generational_core.specs.{Borrowing.refusal_to_write, Seeing.value_in}
+unfoldable pub use Rattle.generational_core.specs.Borrowing.{reach, refusal_to_read}
+unfoldable pub use Rattle.generational_core.specs.Ending.{hindrance_to, sweep}
 unfoldable pub use Rattle.generational_core.specs.Steps.{may_lack}
-pub use Rattle.generational_core.specs.Steps.{IsNew, Meets, last_ticket, limit_tickets}
-pub use Rattle.generational_core.specs.Steps.{needs_memory, no_names, takes_ticket}
-pub use Rattle.generational_core.specs.declared.borrow.Borrow.{Borrow}
-pub use Rattle.generational_core.specs.declared.boxes.GenerationalBoxId.{GenerationalBoxId}
-pub use Rattle.generational_core.specs.declared.boxes.GenerationalPointer.{GenerationalPointer}
-pub use Rattle.generational_errors.specs.declared.error.BorrowMutError.{BorrowMutError}
-pub use Rattle.generational_errors.specs.declared.error.Location.{Location}
-pub use Rattle.generational_errors.specs.declared.error.StoreError.{StoreError}
-pub use Rattle.generational_errors.specs.declared.error.StoreError.TheVariants.{NumbersExhausted}
-pub use Rattle.generational_errors.specs.declared.error.StoreError.TheVariants.{OutOfMemory}
-pub use Rattle.generational_errors.specs.declared.error.StoreError.TheVariants.{UnknownOwner}
-pub use Rattle.generational_core.specs.declared.steps.StepCall.TheVariants.{ManuallyDrop}

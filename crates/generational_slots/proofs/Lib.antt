@@ -1,2 +1,18 @@
 pub mod Common
 pub mod states
+unfoldable pub use Common.*
+unfoldable pub use states.Changes.*
+unfoldable pub use states.Counting.*
+unfoldable pub use states.Endings.*
+unfoldable pub use states.Hindrance.*
+unfoldable pub use states.Makings.*
+unfoldable pub use states.Pointing.*
+unfoldable pub use states.Reaching.*
+unfoldable pub use states.Readiness.*
+unfoldable pub use states.References.*
+unfoldable pub use states.Rows.*
+unfoldable pub use states.States.*
+unfoldable pub use states.Turning.*
+unfoldable pub use states.Turns.*
+pub use Common.{count_of}
+pub use states.Hindrance.{reached_free}

@@ -1,41 +1,26 @@
 -- The calls on the cells of a store, as steps of the machine.
-use Rattle.std.proofs.Common.{◌≡◌, ℕ, ◌+◌, ◌<◌, Bool, true, false, cond, ◌&&◌, ◌||◌, List, [], ◌∷◌}
-use Rattle.std.proofs.Common.{arith, Option, None, Some, Result, Ok, Err, IsTrue, refl, sym, ap}
-use Rattle.std.proofs.Common.{◌∙◌, inl, inr, is_some, is_ok, not, nat_eq, subst, IfSome, ◌↔◌, ◌≢◌}
-use Rattle.std.proofs.Common.{IfErr, OnOk, IsSome, map as list_map}
-use Rattle.std.specs.List.{list_any, filter}
-use Rattle.std.proofs.lemmas.Bool.{true≢false, false≢true, eq-eqb, ne_eqb, false_from_ne_true}
-use Rattle.std.specs.Cmp.{nat_eq_equiv}
+use Rattle.generational_box.proofs.Common
+use Common.{act, Action, ap, AreBelow, arith, Back, back_answer, BeingRead, Bool, Borrow}
+use Common.{BorrowMutError, BorrowRefusal, BorrowRefused, by_name, Cell, cell_at, change}
+use Common.{change_content, change_content_if, changed_there, cond, Content, content_at, content_of}
+use Common.{Dropped, end_refused, eq-eqb, Err, false, false_from_ne_true, false≢true, fill, filter}
+use Common.{Flag, FoundBorrowed, GenerationalBoxId, GenerationalPointer, Guard, has_no_borrow}
+use Common.{has_reader, has_writer, Here, id_of, IfErr, IfSome, inl, inr, insert_there, is_ok}
+use Common.{is_shared, is_some, IsBounded, IsBounded-prop, IsFresh, IsSome, IsSound, IsSound-prop}
+use Common.{IsTrue, last_ticket, leads_to, Lent, less_read, limit_tickets, List, list_any, Location}
+use Common.{may_lack, Meets, Name, name_in, name_of, nat_eq, nat_eq_equiv, ne_eqb, needs_memory}
+use Common.{next_guard, no_names, None, not, NumbersExhausted, Ok, one_read, OnOk, Option, Outcome}
+use Common.{OutOfMemory, Owners, reach, reached, Read, read_at, read_refusal, readers_of, Reads}
+use Common.{Ref, refill, refl, refusal_at, refusal_to_read, refusal_to_read_at, refusal_to_write}
+use Common.{refusal_to_write_at, Refused, ReleaseReader, ReleaseWriter, Result, Shared, Some}
+use Common.{SoundState, State, subst, sym, takes_ticket, tickets_of, true, true≢false, unless}
+use Common.{Value, value_in, value_reached, with_records, Write, write_at, write_refusal}
+use Common.{WriteGuard, Writes, ℕ, [], ◌&&◌, ◌+◌, ◌<◌, ◌||◌, ◌↔◌, ◌∙◌, ◌∷◌, ◌≡◌, ◌≢◌}
+use Rattle.generational_slots.proofs.states.Reaching.{shared_content}
+use Rattle.std.proofs.Common.{map as list_map}
 use Rattle.std.specs.FinMap as map
 use Rattle.generational_errors.specs.declared.error.Refused.TheVariants as refused
-use Rattle.generational_errors.specs.declared.error.Refused.{Refused}
-use Rattle.generational_core.specs.Machine.{Action, Outcome, act, read_at, write_at}
-use Rattle.generational_core.specs.Machine.{next_guard, has_reader, has_writer, cell_at, unless}
-use Rattle.generational_core.specs.Machine.Answer.{Reads, Writes, Flag, Back, BorrowRefused}
 use Rattle.generational_core.specs.Machine.Answer.{Refused as refuses}
-use Rattle.generational_core.specs.Boxes.{id_of}
-use Rattle.generational_core.specs.Seeing.{value_reached, value_in}
-use Rattle.generational_core.specs.Sound.{SoundState, IsSound-prop, IsBounded-prop}
-use Rattle.generational_core.specs.State.{tickets_of}
-use Rattle.generational_containers.specs.Borrows.{AreBelow}
-use Rattle.generational_entries.specs.Entry.{FoundBorrowed, less_read}
-use Rattle.generational_entries.specs.Entry.{one_read}
-use Rattle.generational_entries.specs.Entry.{readers_of}
-use Rattle.generational_box.proofs.Common.{Borrow, GenerationalBoxId, GenerationalPointer}
-use Rattle.generational_box.proofs.Common.{BorrowMutError, Location, OutOfMemory, NumbersExhausted}
-use Rattle.generational_box.proofs.Common.{end_refused, back_answer, WriteGuard, IsSound, Owners}
-use Rattle.generational_box.proofs.Common.{BorrowRefusal, Guard, reach, leads_to, refusal_to_read, fill}
-use Rattle.generational_box.proofs.Common.{refusal_to_write, read_refusal, write_refusal, Dropped}
-use Rattle.generational_box.proofs.Common.{BeingRead, name_of, name_in, Content, Cell, content_of}
-use Rattle.generational_box.proofs.Common.{refill, is_shared, Value, Shared, Ref, Here, Lent, Read}
-use Rattle.generational_box.proofs.Common.{Write, ReleaseReader, ReleaseWriter, Name, State}
-use Rattle.generational_box.proofs.Common.{content_at, Meets, limit_tickets, may_lack, no_names}
-use Rattle.generational_box.proofs.Common.{last_ticket, needs_memory, takes_ticket, by_name, change}
-use Rattle.generational_box.proofs.Common.{changed_there, insert_there, has_no_borrow, with_records}
-use Rattle.generational_box.proofs.Common.{IsBounded, IsFresh}
-use Rattle.generational_core.specs.Borrowing.{refusal_at}
-use Rattle.generational_slots.specs.SlotsState.{change_content, change_content_if, reached}
-use Rattle.generational_slots.specs.SlotsState.{refusal_to_read_at, refusal_to_write_at}
 
 -- a list without the ticket stays as it is
 nothing_left : (t : ℕ) (rs : List Borrow) → list_any (λ r. nat_eq r.ticket t) rs ≡ false
@@ -67,11 +52,9 @@ guard_at id t = record { store = id.store; cell = name_in id; ticket = t }
 module _ {T : Type 0} where
   -- a call that gives a ticket, where one is left
   pub within : (S : State T) (out : Outcome T) → S.next < last_ticket → limit_tickets S out ≡ out
-  within S out below = rw (ne_eqb S.next last_ticket (λ e. omega arith)) (at (takes_ticket out.0))
-    where
-      at : (b : Bool) → cond (b && false) (refuses NumbersExhausted, S) out ≡ out
-      at true = refl
-      at false = refl
+  within S out below = rw (ne_eqb S.next last_ticket (λ e. omega arith)) (elim (takes_ticket out.0)
+      as (λ b. cond (b && false) (refuses NumbersExhausted, S) out ≡ out)
+      [ true ↦ refl | false ↦ refl ])
 
   -- borrows that stand in the way, or no memory for the list of their locations
   pub hindered_step : (S : State T) (call : Action T) (e : Refused BorrowMutError)
@@ -99,13 +82,6 @@ module _ {T : Type 0} where
       at (Some x) there is =
           changed_there by_name S.cells n (refill c) x there
           ∙ (ap (map.insert S.cells n) (same x is) ∙ insert_there by_name S.cells n x there)
-
-  -- a Shared cell has a content
-  shared_content : (o : Option (Cell T)) → is_shared o ≡ true → is_some (content_of o) ≡ true
-  shared_content (Some (Shared c l)) h = refl
-  shared_content None h = absurd (false≢true h)
-  shared_content (Some (Value c l)) h = absurd (false≢true h)
-  shared_content (Some (Ref m l)) h = absurd (false≢true h)
 
   -- a content that is there
   the_content : (o : Option (Content T)) → is_some o ≡ true → (c : Content T) × (o ≡ Some c)

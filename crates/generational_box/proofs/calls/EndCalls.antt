@@ -1,24 +1,14 @@
 -- The ends of names, and which calls no borrow hinders, as steps of the machine.
-use Rattle.std.proofs.Common.{◌≡◌, ◌≢◌, ℕ, Bool, true, false, cond, List, [], ◌∷◌, not, Option}
-use Rattle.std.proofs.Common.{None, Some, Result, Ok, Err, refl, sym, ap, ◌∙◌, inl, subst, is_some}
-use Rattle.std.proofs.Common.{is_none, OnOk, OnErr}
-use Rattle.std.proofs.lemmas.Bool.{eq-eqb, ne_eqb}
-use Rattle.std.specs.FinMap as map
-use Rattle.std.specs.Option.{option_or}
-use Rattle.generational_errors.specs.declared.error.Refused.{Refused}
-use Rattle.generational_core.specs.Answers.{end_answer}
-use Rattle.generational_core.specs.Ending.{hindrance_at}
-use Rattle.generational_core.specs.Machine.Answer.{Done}
-use Rattle.generational_entries.specs.Entry.{FoundBorrowed}
-use Rattle.generational_box.proofs.Common.{BorrowMutError, Cell, Content, End, GenerationalPointer}
-use Rattle.generational_box.proofs.Common.{Here, IsLinked, IsSound, Lent, ManuallyDrop}
-use Rattle.generational_box.proofs.Common.{Meets, Name, NameMap, Owners, Ref, Shared, State}
-use Rattle.generational_box.proofs.Common.{BorrowRefusal, Value, cells_after, close, close_nothing}
-use Rattle.generational_box.proofs.Common.{content_of, first_hindrance, hindrance_of}
-use Rattle.generational_box.proofs.Common.{hindrance_to, is_ready, name_of, no_names}
-use Rattle.generational_box.proofs.Common.{sound_linked}
-use Rattle.generational_box.proofs.Common.{tells_of_borrow, with_records, write_refusal}
+use Rattle.generational_box.proofs.Common
+use Common.{ap, Bool, BorrowMutError, BorrowRefusal, Cell, cells_after, close, close_nothing, cond}
+use Common.{Content, content_of, Done, End, end_answer, eq-eqb, Err, false, first_hindrance}
+use Common.{FoundBorrowed, GenerationalPointer, Here, hindrance_at, hindrance_of, hindrance_to, inl}
+use Common.{is_none, is_ready, is_some, IsLinked, IsSound, Lent, List, ManuallyDrop, Meets, Name}
+use Common.{name_of, NameMap, ne_eqb, no_names, None, not, Ok, OnErr, OnOk, Option, option_or}
+use Common.{Owners, Ref, refl, Refused, Result, Shared, Some, sound_linked, State, subst, sym}
+use Common.{tells_of_borrow, true, Value, with_records, write_refusal, ℕ, [], ◌∙◌, ◌∷◌, ◌≡◌, ◌≢◌}
 use Rattle.generational_box.proofs.calls.Calls.{hindered_step}
+use Rattle.std.specs.FinMap as map
 
 -- a refusal that isn't a dropped value's tells of a borrow
 abbrev Tells : Option BorrowRefusal → Type 0
@@ -73,11 +63,9 @@ module _ {T : Type 0} where
   module _ (cells left : NameMap (Cell T)) where
     -- what hinders the end of a cell
     spot_tells : (n : Name) → Tells (hindrance_at cells left n)
-    spot_tells n = by (is_some (map.get left n))
-      where
-        by : (b : Bool) → Tells (cond (not b) (write_refusal (content_of (map.get cells n))) None)
-        by true = refl
-        by false = write_tells (content_of (map.get cells n))
+    spot_tells n = elim (is_some (map.get left n)) as (λ b. Tells (cond (not b) (write_refusal
+        (content_of (map.get cells n))) None))
+        [ true ↦ refl | false ↦ write_tells (content_of (map.get cells n)) ]
 
     first_tells : (names : List Name) → Tells (first_hindrance cells left names)
     first_tells [] = refl

@@ -1,17 +1,12 @@
 -- Whether a read and a write are free, and values that are set, as the machine has them.
-use Rattle.std.proofs.Common.{◌≡◌, ℕ, Bool, true, false, cond, [], Option, None, Some, refl, sym, ap}
-use Rattle.std.proofs.Common.{◌∙◌, inl, is_none, nat_eq, IfSome}
-use Rattle.std.proofs.lemmas.Bool.{eqb-true, false≢true}
-use Rattle.std.specs.FinMap as map
-use Rattle.generational_core.specs.Borrowing.{can_read, can_write, refusal_at}
-use Rattle.generational_core.specs.Machine.Action.{SetValue}
-use Rattle.generational_core.specs.Machine.Answer.{Old}
-use Rattle.generational_slots.specs.SlotsState.{content_reached, reached}
-use Rattle.generational_box.proofs.Common.{Content, GenerationalPointer, Here, IsSound, Lent, Meets}
-use Rattle.generational_box.proofs.Common.{Name, Owners, State, content_at, fill, has_no_borrow}
-use Rattle.generational_box.proofs.Common.{leads_to, name_of, no_names, reach, refusal_to_read}
-use Rattle.generational_box.proofs.Common.{with_records, write_refusal, refusal_to_write}
+use Rattle.generational_box.proofs.Common
+use Common.{ap, Bool, can_read, can_write, cond, Content, content_at, content_reached, eqb-true}
+use Common.{false, false≢true, fill, GenerationalPointer, has_no_borrow, Here, IfSome, inl, is_none}
+use Common.{IsSound, leads_to, Lent, Meets, Name, name_of, nat_eq, no_names, None, Old, Option}
+use Common.{Owners, reach, reached, refl, refusal_at, refusal_to_read, refusal_to_write, SetValue}
+use Common.{Some, State, sym, true, with_records, write_refusal, ℕ, [], ◌∙◌, ◌≡◌}
 use Rattle.generational_box.proofs.calls.Calls.{reach_here, reach_own, reaches, write_own}
+use Rattle.std.specs.FinMap as map
 
 module _ {T : Type 0} where
   -- a content that isn't read or lent has no borrow

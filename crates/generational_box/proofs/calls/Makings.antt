@@ -1,35 +1,24 @@
 -- The makings of cells, as steps of the machine.
-use Rattle.std.proofs.Common.{◌≡◌, ◌≢◌, IfSome, is_some, ⊎_elim, ℕ}
-use Rattle.std.proofs.Common.{◌<◌, ◌⊎◌, Bool, true, false, cond, ◌||◌, List, [], ◌∷◌, Option, None}
-use Rattle.std.proofs.Common.{Some, IsSome, refl, sym, ap, ◌∙◌, inl, inr, subst}
-use Rattle.std.proofs.lemmas.Bool.{eq-eqb, lt-ltb, false≢true, true≢false}
-use Rattle.std.specs.FinMap as map
-use Rattle.std.specs.FinSet as set
-use Rattle.std.specs.List.{AllByRecursion}
-use Rattle.generational_core.specs.Borrowing.{read_refusal, refusal_at}
-use Rattle.generational_slots.specs.SlotsState.{reached, refusal_to_refer_at, shared_reached}
-use Rattle.std.specs.Option.{option_or}
-use Rattle.generational_core.specs.Machine.{Action, OwnerName, act, add_cell, add_to_list, is_known}
-use Rattle.generational_core.specs.Machine.{cell_at, make, refer, unless, NewNames}
-use Rattle.generational_box.proofs.Common.{MakeShared, Refer, HasTargets, by_name}
-use Rattle.generational_box.proofs.Common.{contains-insert_name, get-insert_apart, get-insert_here}
-use Rattle.generational_box.proofs.Common.{name_cases, cell_of, content_at, location_of}
-use Rattle.generational_box.proofs.Common.{AreCounted, Cell, Dropped, GenerationalPointer, Here}
-use Rattle.generational_box.proofs.Common.{IsListed, IsMade, IsNew, IsRefusal, IsSound}
-use Rattle.generational_box.proofs.Common.{Location, Make, Meets, Name, NumbersExhausted}
-use Rattle.generational_box.proofs.Common.{OutOfMemory, Ownership, Owners, Ref, Shared, SlotsState}
-use Rattle.generational_box.proofs.Common.{State, StoreError, BorrowRefusal, UnknownOwner, Value}
-use Rattle.generational_box.proofs.Common.{add_to_list_in, among, box_of, free, is_shared}
-use Rattle.generational_box.proofs.Common.{permits, limit_tickets, may_lack, name_apart, name_of, names_in}
-use Rattle.generational_box.proofs.Common.{names_under, needs_memory, no_names, reach, refusal_to_read}
-use Rattle.generational_box.proofs.Common.{with_records}
-use Rattle.generational_core.specs.Machine.Answer.{Made, Refused, BorrowRefused}
-use Rattle.generational_core.specs.State.{IsBoxed}
-use Rattle.generational_entries.specs.declared.entry.StorageEntryData.{StorageEntryData}
-use Rattle.generational_entries.specs.declared.entry.StorageEntryData.TheVariants as slot
-use Rattle.generational_entries.specs.Entries.{kept_data, target_of}
+use Rattle.generational_box.proofs.Common
+use Common.{act, Action, add_cell, add_to_list, add_to_list_in, AllByRecursion, among, ap}
+use Common.{AreCounted, Bool, BorrowRefusal, BorrowRefused, box_of, by_name, Cell, cell_at, cell_of}
+use Common.{cond, contains-insert_name, content_at, Dropped, eq-eqb, false, false≢true, free}
+use Common.{GenerationalPointer, get-insert_apart, get-insert_here, HasTargets, Here, IfSome, inl}
+use Common.{inr, is_known, is_shared, is_some, IsBoxed, IsListed, IsMade, IsNew, IsRefusal, IsSome}
+use Common.{IsSound, kept_data, limit_tickets, List, Location, location_of, lt-ltb, Made, Make}
+use Common.{make, MakeShared, may_lack, Meets, Name, name_apart, name_cases, name_of, names_in}
+use Common.{names_under, needs_memory, NewNames, no_names, None, NumbersExhausted, Option}
+use Common.{option_or, OutOfMemory, OwnerName, Owners, Ownership, permits, reach, reached}
+use Common.{read_refusal, Ref, Refer, refer, refl, refusal_at, refusal_to_read, refusal_to_refer_at}
+use Common.{Shared, shared_reached, SlotsState, Some, State, StorageEntryData, StoreError, subst}
+use Common.{sym, target_of, true, true≢false, UnknownOwner, unless, Value, with_records, ℕ, []}
+use Common.{⊎_elim, ◌<◌, ◌||◌, ◌∙◌, ◌∷◌, ◌≡◌, ◌≢◌, ◌⊎◌}
 use Rattle.generational_box.proofs.calls.Calls.{reach_here, reach_own, read_own}
 use Rattle.generational_box.proofs.records.Counts.{counted_listed}
+use Rattle.generational_core.specs.Machine.Answer.{Refused}
+use Rattle.std.specs.FinMap as map
+use Rattle.std.specs.FinSet as set
+use Rattle.generational_entries.specs.declared.entry.StorageEntryData.TheVariants as slot
 
 -- none of two tests passes
 second_false : (a b : Bool) → (a || b) ≡ false → b ≡ false
@@ -172,11 +161,7 @@ module _ {T : Type 0} where
 
     -- an owner is known to the machine if the records know it
     known : permits number owners o ≡ is_known V o
-    known = at o
-      where
-        at : (o : Option OwnerName) → permits number owners o ≡ is_known V o
-        at None = refl
-        at (Some o) = refl
+    known = elim o as (λ o. permits number owners o ≡ is_known V o) [ None ↦ refl | Some o ↦ refl ]
 
     -- what is reached in the state that contracts see is reached in the store's own
     shared_here : (b : GenerationalPointer) (m : Name) → ReachesShared S b m → ReachesShared V b m
@@ -193,13 +178,9 @@ module _ {T : Type 0} where
     boxed : (X : State T) (n : Name) (c : Cell T)
         → with_records (add_cell X n c) number (add_to_list_in owners o n) next
         ≡ add_to_list (add_cell (with_records X number owners next) n c) o n
-    boxed X n c = at o
-      where
-        at : (o : Option OwnerName)
-            → with_records (add_cell X n c) number (add_to_list_in owners o n) next
-            ≡ add_to_list (add_cell (with_records X number owners next) n c) o n
-        at None = refl
-        at (Some o) = refl
+    boxed X n c = elim o as (λ o. with_records (add_cell X n c) number (add_to_list_in owners o n)
+        next ≡ add_to_list (add_cell (with_records X number owners next) n c) o n)
+        [ None ↦ refl | Some o ↦ refl ]
 
     -- a value of a box's own
     pub value_made : (v : T) (l : Location) (r : SlotsState T) (after : Owners) (n : Name)

@@ -1,21 +1,17 @@
 -- The calls of owners, as steps of the machine.
-use Rattle.std.proofs.Common.{◌≡◌, ℕ, ◌+◌, ◌<◌, ◌≤◌, Bool, true, false, cond, List, [], arith}
-use Rattle.std.proofs.Common.{Option, None, Some, Err, refl, sym, ap, ◌∙◌, inl, inr, is_some}
-use Rattle.std.proofs.Common.{nat_eq, subst}
-use Rattle.std.proofs.lemmas.Bool.{eq-eqb, eqb-true, ne_eqb, lt-ltb, le-ltb, false≢true, true≢false}
+use Rattle.generational_box.proofs.Common
+use Common.{act, ap, arith, Bool, BorrowMutError, by_number, change, changed_there, CloneOwner}
+use Common.{close, cond, Done, end_refused, eq-eqb, eqb-true, Err, false, false≢true, FoundBorrowed}
+use Common.{hindrance_to, inl, inr, is_some, knows, last_ticket, le-ltb, List, lt-ltb, may_lack}
+use Common.{Meets, Name, nat_eq, ne_eqb, needs_memory, NewOwner, no_names, None, NumbersExhausted}
+use Common.{one_less, one_more, Option, Outcome, OutOfMemory, Owned, OwnerName, Owners, Ownership}
+use Common.{ownership, record_of, refl, ReleaseOwner, Some, State, subst, sym, true, true≢false}
+use Common.{UnknownOwner, unless, with_records, ℕ, [], ◌+◌, ◌<◌, ◌∙◌, ◌≡◌, ◌≤◌}
+use Rattle.generational_box.proofs.calls.Calls.{hindered_step, within}
+use Rattle.generational_box.proofs.records.Counts.{record_held}
+use Rattle.generational_core.specs.Machine.Answer.{Refused}
 use Rattle.std.specs.FinMap as map
 use Rattle.generational_errors.specs.declared.error.Refused.{Refused as Refusing}
-use Rattle.generational_core.specs.Machine.{OwnerName, Outcome, act, ownership, unless}
-use Rattle.generational_core.specs.Machine.Answer.{Owned, Done, Refused}
-use Rattle.generational_entries.specs.Entry.{FoundBorrowed}
-use Rattle.generational_box.proofs.Common.{BorrowMutError, OutOfMemory, UnknownOwner}
-use Rattle.generational_box.proofs.Common.{NumbersExhausted, end_refused, close, NewOwner}
-use Rattle.generational_box.proofs.Common.{CloneOwner, ReleaseOwner, Name, Owners, change, one_more}
-use Rattle.generational_box.proofs.Common.{one_less, State, Ownership, Meets, may_lack, no_names}
-use Rattle.generational_box.proofs.Common.{last_ticket, needs_memory, by_number, changed_there}
-use Rattle.generational_box.proofs.Common.{knows, record_of, hindrance_to, with_records}
-use Rattle.generational_box.proofs.records.Counts.{record_held}
-use Rattle.generational_box.proofs.calls.Calls.{hindered_step, within}
 
 -- V is the state for which the store's parts stand, and S the state that contracts see
 module _ {T : Type 0} {V S : State T} (view : V ≡ S) where
@@ -47,11 +43,8 @@ module _ {T : Type 0} {V S : State T} (view : V ≡ S) where
   module _ (o : OwnerName) where
     -- no record stands for an owner that isn't known
     lost : knows V.number V.owners o ≡ false → ownership V o ≡ None
-    lost unknown = at (ownership V o) unknown
-      where
-        at : (r : Option Ownership) → is_some r ≡ false → r ≡ None
-        at None h = refl
-        at (Some h) e = absurd (true≢false e)
+    lost unknown = (elim (ownership V o) as (λ r. is_some r ≡ false → r ≡ None)
+        [ None ↦ λ h. refl | Some h ↦ λ e. absurd (true≢false e) ]) unknown
 
     -- so it has no other owner value
     pub clone_unknown : knows V.number V.owners o ≡ false

@@ -1,24 +1,15 @@
 -- The change of what a reference names, as a step of the machine.
-use Rattle.std.proofs.Common.{◌≡◌, ◌≢◌, ℕ, Bool, true, false, cond, Option, None, Some, Result, Ok}
-use Rattle.std.proofs.Common.{Err, refl, ap, ◌∙◌, inl}
-use Rattle.std.proofs.lemmas.Bool.{eq-eqb, false≢true, ne_eqb}
-use Rattle.std.specs.FinMap as map
-use Rattle.generational_errors.specs.declared.error.Refused.{Refused}
-use Rattle.generational_core.specs.Answers.{end_answer, refusal_of_read_error, refusal_of_error}
-use Rattle.generational_errors.specs.Texts.{as_borrow_mut}
-use Rattle.generational_errors.specs.declared.error.BorrowError.{BorrowError}
-use Rattle.generational_errors.specs.declared.error.BorrowError.TheVariants as reads
-use Rattle.generational_core.specs.Boxes.{has_same_id}
-use Rattle.generational_core.specs.Ending.{hindrance_at}
-use Rattle.generational_core.specs.Machine.{act, own_cell, point, unless}
-use Rattle.generational_core.specs.Machine.Answer.{Done, BorrowRefused}
-use Rattle.generational_entries.specs.Entry.{FoundBorrowed}
-use Rattle.generational_slots.specs.SlotsState.{IsTurned}
-use Rattle.generational_box.proofs.Common.{BorrowMutError, Cell, Dropped, GenerationalPointer}
-use Rattle.generational_box.proofs.Common.{Meets, Name, NameMap, Owners, Point, Ref, box_of}
-use Rattle.generational_box.proofs.Common.{Shared, State, BorrowRefusal, Value, is_name, name_of}
-use Rattle.generational_box.proofs.Common.{content_at, no_names, reach, read_refusal, refusal_to_read, sweep, with_records}
+use Rattle.generational_box.proofs.Common
+use Common.{act, ap, as_borrow_mut, Bool, BorrowError, BorrowMutError, BorrowRefusal, BorrowRefused}
+use Common.{box_of, Cell, cond, content_at, Done, Dropped, end_answer, eq-eqb, Err, false}
+use Common.{false≢true, FoundBorrowed, GenerationalPointer, has_same_id, hindrance_at, inl, is_name}
+use Common.{IsTurned, Meets, Name, name_of, NameMap, ne_eqb, no_names, None, Ok, Option, own_cell}
+use Common.{Owners, Point, point, reach, read_refusal, Ref, refl, refusal_of_error}
+use Common.{refusal_of_read_error, refusal_to_read, Refused, Result, Shared, Some, State, sweep}
+use Common.{true, unless, Value, with_records, ℕ, ◌∙◌, ◌≡◌, ◌≢◌}
 use Rattle.generational_box.proofs.calls.Calls.{hindered_step}
+use Rattle.std.specs.FinMap as map
+use Rattle.generational_errors.specs.declared.error.BorrowError.TheVariants as reads
 
 -- an error of a read tells the same as one of a write
 pub refusal_mut : (e : BorrowError) → refusal_of_error (as_borrow_mut e) ≡ refusal_of_read_error e

@@ -1,23 +1,13 @@
 -- Which calls of a store no borrow hinders, as its slots tell it.
-use Rattle.std.proofs.Common.{◌≡◌, ◌≢◌, ◌≤◌, ◌<◌, ℕ, Bool, true, false, cond, not, Option, None, Some}
-use Rattle.std.proofs.Common.{List, refl, sym, ap, ◌∙◌, is_none}
-use Rattle.std.proofs.lemmas.Bool.{eq-eqb, le-ltb, lt-ltb, ne_eqb}
+use Rattle.generational_box.proofs.Common
+use Rattle.generational_box.proofs.{Common.◌≤◌, calls.EndCalls.end_tells, calls.Points.points}
+use Common.{ap, Bool, BorrowRefusal, Cell, cell_at, close, cond, content_of, Done, eq-eqb, false}
+use Common.{GenerationalPointer, has_same_id, hindrance_at, hindrance_to, is_free, is_hindered}
+use Common.{is_name, is_none, le-ltb, List, lt-ltb, may_set, Name, name_of, NameMap, ne_eqb, None}
+use Common.{not, Option, Outcome, own_cell, OwnerName, Owners, Ownership, ownership, Point, point}
+use Common.{reach, Ref, refl, refusal_to_read, refusal_to_write, ReleaseOwner, Shared, Some, State}
+use Common.{sweep, sym, tells_of_borrow, true, unless, Value, with_records, ℕ, ◌<◌, ◌∙◌, ◌≡◌, ◌≢◌}
 use Rattle.std.specs.FinMap as map
-use Rattle.generational_core.specs.Borrowing.{refusal_to_write}
-use Rattle.generational_core.specs.Boxes.{has_same_id}
-use Rattle.generational_core.specs.Ending.{hindrance_at}
-use Rattle.generational_core.specs.Machine.{Outcome, cell_at, own_cell, ownership, point}
-use Rattle.generational_core.specs.Machine.{unless}
-use Rattle.generational_core.specs.Machine.Answer.{Done}
-use Rattle.generational_core.specs.StepCalls.{is_free, is_hindered, may_set, tells_of_borrow}
-use Rattle.generational_box.proofs.Common.{Cell, GenerationalPointer, Name, NameMap, Owners}
-use Rattle.generational_core.specs.Machine.{OwnerName}
-use Rattle.generational_box.proofs.Common.{Ownership, Point, Ref, ReleaseOwner, Shared}
-use Rattle.generational_box.proofs.Common.{State, BorrowRefusal, Value, close, content_of, hindrance_to}
-use Rattle.generational_box.proofs.Common.{is_name, name_of, reach, refusal_to_read}
-use Rattle.generational_box.proofs.Common.{sweep, with_records}
-use Rattle.generational_box.proofs.calls.EndCalls.{end_tells}
-use Rattle.generational_box.proofs.calls.Points.{points}
 
 module _ {T : Type 0} where
   module _ (S : State T) (b : GenerationalPointer) (gone : None ≡ reach S b) where
@@ -98,10 +88,6 @@ module _ {T : Type 0} where
   -- ---- the release of an owner value
 
   module _ (S : State T) (o : OwnerName) where
-    -- of a record that the store hasn't
-    pub unknown_free : None ≡ ownership S o → true ≡ is_free S (ReleaseOwner o)
-    unknown_free none = rw (← none) refl
-
     -- of a record with others
     pub several_free : (h : Ownership) → Some h ≡ ownership S o → 1 < h.count
         → true ≡ is_free S (ReleaseOwner o)

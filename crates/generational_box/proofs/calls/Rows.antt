@@ -1,13 +1,9 @@
 -- The rows of a store, of which the slots' come first, are read back.
-use Rattle.std.proofs.Common.{◌≡◌, List, refl, sym, ap, subst, ◌∙◌}
+use Rattle.generational_box.proofs.Common.{all_owners_read, all_slot_rows, ap, bare_cells, BaseRow}
+use Rattle.generational_box.proofs.Common.{fresh, List, owner_rows, Plain, plain, read_append}
+use Rattle.generational_box.proofs.Common.{read_rows, ReadBack, ReadSlots, refl, rows_of, State}
+use Rattle.generational_box.proofs.Common.{subst, sym, told_by, ◌∙◌, ◌≡◌}
 use Rattle.std.specs.FinMap as map
-use Rattle.generational_core.proofs.machine.Rows.{all_owners_read, read_append}
-use Rattle.generational_core.specs.Conditions.{fresh}
-use Rattle.generational_core.specs.Plain.{Plain, bare_cells, plain}
-use Rattle.generational_core.specs.Rows.{ReadBack, owner_rows, read_rows, rows_of, told_by}
-use Rattle.generational_core.specs.declared.rows.BaseRow.{BaseRow}
-use Rattle.generational_core.specs.State.{State}
-use Rattle.generational_slots.specs.SlotRows.{ReadSlots, all_slot_rows}
 
 module _ {T : Type 0} (S : State T) where
   -- before any row is read

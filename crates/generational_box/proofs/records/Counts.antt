@@ -1,20 +1,13 @@
 -- How many owner values the records stand for, below which key they stand, and what is put on their
 -- lists.
-use Rattle.std.proofs.Common.{◌≡◌, ℕ, ◌+◌, ◌<◌, Bool, true, false, cond, Option, None, Some, refl}
-use Rattle.std.proofs.Common.{sym, arith, subst, nat_eq, []}
-use Rattle.std.specs.List.{IsDistinct}
-use Rattle.std.proofs.lemmas.Map.Keys.{IsDistinct-push}
-use Rattle.std.proofs.lemmas.Option.{none-some}
-use Rattle.generational_box.proofs.Common.{record_of, by_number, key_same, AreCounted, IsCounted}
-use Rattle.generational_box.proofs.Common.{change, change_if, Ownership, Owners, one_more, one_less}
-use Rattle.generational_box.proofs.Common.{Name, one_listed, count_in, count_under, add_to_list_in}
-use Rattle.generational_box.proofs.Common.{among, is_name, name_total, names_in}
-use Rattle.generational_box.proofs.Common.{names_under}
-use Rattle.std.specs.Ordering.{nat_cmp, eq_by_cmp}
-use Rattle.std.specs.Cmp.{nat_cmp_total, IsEquivalence}
-use Rattle.std.proofs.lemmas.Cmp.{eq_by_cmp_equiv}
+use Rattle.generational_box.proofs.Common
+use Common.{add_to_list_in, among, AreCounted, arith, Bool, by_number, change, change_if, cond}
+use Common.{count_in, count_under, eq_by_cmp, eq_by_cmp_equiv, false, is_name, IsCounted}
+use Common.{IsDistinct, IsDistinct-push, IsEquivalence, key_same, Name, name_total, names_in}
+use Common.{names_under, nat_cmp, nat_cmp_total, nat_eq, None, none-some, one_less, one_listed}
+use Common.{one_more, Option, OwnerName, Owners, Ownership, record_of, refl, Some, subst, sym, true}
+use Common.{ℕ, [], ◌+◌, ◌<◌, ◌≡◌}
 use Rattle.std.specs.FinMap as map
-use Rattle.generational_core.specs.Machine.{OwnerName}
 
 -- names are compared for equality
 name_equal : IsEquivalence is_name
@@ -31,14 +24,6 @@ module _ {next : ℕ} {owners : Owners} (counted : AreCounted next owners) where
       more : (k : ℕ) (o : Option Ownership) → IsCounted next k o → IsCounted (next + 1) k o
       more k None c = tt
       more k (Some h) c = (c.0, omega (arith, c.1), omega (arith, c.2), c.3)
-
-  -- the next key has no record
-  pub counted_absent : map.get owners next ≡ None
-  counted_absent = at (map.get owners next) (counted.each next)
-    where
-      at : (o : Option Ownership) → IsCounted next next o → o ≡ None
-      at None c = refl
-      at (Some h) c = absurd (omega (arith, c.2))
 
   counted_update : (after : Owners) (k : ℕ) (v : Option Ownership)
       → ((q : ℕ) → map.get after q ≡ cond (eq_by_cmp nat_cmp q k) v (map.get owners q))

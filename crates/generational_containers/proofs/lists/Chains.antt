@@ -1,17 +1,13 @@
 -- Slots to which links lead, one after the other.
-use Rattle.std.proofs.Common.{◌≡◌, ◌≢◌, ℕ, zero, suc, ◌<◌, Bool, true, false, List, [], ◌∷◌}
-use Rattle.std.proofs.Common.{◌++◌, length, refl, sym, ap, ◌∙◌, arith, slice_set, nat_eq, ◌||◌}
-use Rattle.std.proofs.Common.{drop, get_or, ◌-◌, ◌+◌, ◌≤◌, length-append, take}
-use Rattle.std.proofs.Common.{if◌then◌else◌}
+use Rattle.generational_containers.proofs.Common
+use Rattle.std.proofs.lemmas.Bool.{or_right}
+use Common.{ap, arith, Bool, chain, drop, eq-eqb, false, get_or, get_or-set_other, get_or-set_same}
+use Common.{get_or_append_left, get_or_read, if◌then◌else◌, IsPool, last_of, length, length-append}
+use Common.{List, nat_eq, refl, slice_set, suc, sym, take, take_all, true, true≢false, zero, ℕ, []}
+use Common.{◌++◌, ◌+◌, ◌-◌, ◌<◌, ◌∙◌, ◌∷◌, ◌≡◌, ◌≢◌, ◌≤◌}
+use Rattle.generational_containers.proofs.lists.Lists.{head_absent, holds, members, members-holds}
+use Rattle.generational_containers.proofs.lists.Lists.{pool_length, pool_put, pool_take}
 use Rattle.std.specs.FinSet as set
-use Rattle.std.proofs.lemmas.Bool.{true≢false, eq-eqb}
-use Rattle.std.proofs.lemmas.List.{get_or-set_same, get_or-set_other, get_or_append_left}
-use Rattle.std.proofs.lemmas.List.{get_or_read}
-use Rattle.std.proofs.lemmas.List.{take_all}
-use Rattle.generational_containers.specs.Pools.{chain, last_of}
-use Rattle.generational_containers.proofs.Common.{IsPool}
-use Rattle.generational_containers.proofs.lists.Lists.{holds, members, members-holds, pool_take}
-use Rattle.generational_containers.proofs.lists.Lists.{head_absent, pool_length, pool_put}
 
 -- the first of them has a link, which leads to the others
 pub first_within : (links : List ℕ) (first n : ℕ) → 0 < n
@@ -43,11 +39,7 @@ chain_same links others first (suc n) same =
   where
     behind : (q : ℕ) → holds (chain links (get_or links first 0) n) q ≡ true
         → holds (chain links first (suc n)) q ≡ true
-    behind q there = either (nat_eq q first) there
-      where
-        either : {b : Bool} (a : Bool) → b ≡ true → (a || b) ≡ true
-        either true h = refl
-        either false h = h
+    behind q there = or_right (nat_eq q first) _ there
 
 -- more links at the end
 pub chain_grown : (links more : List ℕ) (first n : ℕ) → IsPool (chain links first n) (length links)
@@ -66,11 +58,7 @@ chain_apart links slot x first n absent = chain_same links _ first n (λ q there
 
 last_there : (x : ℕ) (xs : List ℕ) → holds (x ∷ xs) (last_of x xs) ≡ true
 last_there x [] = rw (eq-eqb x x refl) refl
-last_there x (y ∷ ys) = either (nat_eq (last_of y ys) x) (last_there y ys)
-  where
-    either : {b : Bool} (a : Bool) → b ≡ true → (a || b) ≡ true
-    either true h = refl
-    either false h = h
+last_there x (y ∷ ys) = or_right (nat_eq (last_of y ys) x) _ (last_there y ys)
 
 pub last_pushed : (x : ℕ) (xs : List ℕ) (y : ℕ) → last_of x (xs ++ y ∷ []) ≡ y
 last_pushed x [] y = refl

@@ -1,24 +1,15 @@
 -- Lists after a write or a push, key counts, and lists of free slots.
-use Rattle.std.proofs.Common.{◌≡◌, ◌≢◌, ℕ, zero, suc, ◌+◌, ◌-◌, ◌<◌, Bool, true, false, cond, List}
-use Rattle.std.proofs.Common.{[], ◌∷◌, ◌++◌, length, Option, None, Some, refl, sym, ap, ◌∙◌, arith}
-use Rattle.std.proofs.Common.{⊎_elim, slice_get, slice_set, ◌≤◌, nat_eq, ◌||◌, ◌&&◌, not, reverse}
-use Rattle.std.proofs.Common.{inl, inr, is_some}
-use Rattle.std.proofs.Math.Dec.{eqb-suc-zero, eqb-zero-suc, eqb-suc-suc}
-use Rattle.std.specs.Ordering.{nat_cmp, eq_by_cmp}
-use Rattle.std.specs.Cmp.{nat_cmp_total, nat_eq_equiv}
-use Rattle.std.proofs.lemmas.Bool.{true≢false, cases_eq, cases_lt, eq-eqb, ne_eqb, cases_Bool}
-use Rattle.std.proofs.lemmas.Bool.{eqb-true, false≢true}
-use Rattle.std.proofs.lemmas.Option.{none-some}
-use Rattle.std.proofs.lemmas.List.{reverse-append}
-use Rattle.std.proofs.lemmas.Map.Steps.{length-le_from_distinct_below}
-use Rattle.std.proofs.lemmas.Map.Keys.{IsDistinct-push}
-use Rattle.std.proofs.lemmas.List.Folds.{list_any-append}
-use Rattle.std.specs.List.{list_any, IsDistinct, AllByRecursion}
-use Rattle.std.specs.FinMap.{nat_cmp-IsAntisymmetric}
+use Rattle.generational_containers.proofs.Common
+use Common.{AllByRecursion, ap, arith, Bool, by_number, cases_Bool, cases_eq, cases_lt, cond}
+use Common.{eq-eqb, eq_by_cmp, eqb-suc-suc, eqb-suc-zero, eqb-true, eqb-zero-suc, false, false≢true}
+use Common.{get-remove_apart, get-remove_here, how_many, inl, inr, is_some, IsDistinct}
+use Common.{IsDistinct-push, IsPool, key_apart, key_here, length, length-le_from_distinct_below}
+use Common.{List, list_any, list_any-append, nat_cmp, nat_cmp-IsAntisymmetric, nat_cmp_total}
+use Common.{nat_eq, nat_eq_equiv, ne_eqb, None, none-some, not, Option, refl, reverse}
+use Common.{reverse-append, slice_get, slice_set, Some, suc, sym, true, true≢false, zero, ℕ, []}
+use Common.{⊎_elim, ◌&&◌, ◌++◌, ◌+◌, ◌-◌, ◌<◌, ◌||◌, ◌∙◌, ◌∷◌, ◌≡◌, ◌≢◌, ◌≤◌}
 use Rattle.std.specs.FinMap as map
 use Rattle.std.specs.FinSet as set
-use Rattle.generational_containers.proofs.Common.{by_number, key_here, key_apart, get-remove_here}
-use Rattle.generational_containers.proofs.Common.{get-remove_apart, how_many, IsPool}
 
 pub number_test : (a b : ℕ) → eq_by_cmp nat_cmp a b ≡ nat_eq a b
 number_test a b =
@@ -95,23 +86,19 @@ module _ {A : Type 0} where
   pub some_of_many : (p : A → Bool) (xs : List A) → 0 < how_many p xs
       → (k : ℕ) × (x : A) × (slice_get xs k ≡ Some x) × (p x ≡ true)
   some_of_many p [] many = absurd (omega arith)
-  some_of_many p (y ∷ ys) many = by (p y) refl (λ h. some_of_many p ys h) many
-    where
-      by : (b : Bool) → p y ≡ b → (0 < how_many p ys
-          → (k : ℕ) × (x : A) × (slice_get ys k ≡ Some x) × (p x ≡ true))
-          → 0 < bit b + how_many p ys
-          → (k : ℕ) × (x : A) × (slice_get (y ∷ ys) k ≡ Some x) × (p x ≡ true)
-      by true passed rest h = (0, y, refl, passed)
-      by false e rest h = let it = rest (omega arith) in (suc it.0, it.1, it.2, it.3)
+  some_of_many p (y ∷ ys) many = (elim (p y) as (λ b. p y ≡ b → (0 < how_many p ys
+      → (k : ℕ) × (x : A) × (slice_get ys k ≡ Some x) × (p x ≡ true)) → 0 < bit b + how_many p ys
+      → (k : ℕ) × (x : A) × (slice_get (y ∷ ys) k ≡ Some x) × (p x ≡ true)) [
+        | true ↦ λ passed rest h. (0, y, refl, passed)
+        | false ↦ λ e rest h. let it = rest (omega arith) in (suc it.0, it.1, it.2, it.3)
+      ]) refl (λ h. some_of_many p ys h) many
 
   -- no more pass than there are
   pub many_within : (p : A → Bool) (xs : List A) → how_many p xs ≤ length xs
   many_within p [] = omega arith
-  many_within p (x ∷ xs) = by (p x) (many_within p xs)
-    where
-      by : (b : Bool) → how_many p xs ≤ length xs → bit b + how_many p xs ≤ suc (length xs)
-      by true rest = omega arith
-      by false rest = omega arith
+  many_within p (x ∷ xs) =
+      (elim (p x) as (λ b. how_many p xs ≤ length xs → bit b + how_many p xs ≤ suc (length xs))
+      [ true ↦ λ rest. omega arith | false ↦ λ rest. omega arith ]) (many_within p xs)
 
   -- fewer pass than there are, where one doesn't
   pub fewer_within : (p : A → Bool) (xs : List A) (i : ℕ) (x : A)

@@ -1,16 +1,11 @@
 -- The table of standing borrows: its free indexes, and what a call leaves of its invariant.
-use Rattle.std.proofs.Common.{◌≡◌, ℕ, ◌<◌, Bool, true, false, cond, List, []}
-use Rattle.std.proofs.Common.{length, slice_set, sym, ap, ◌∙◌, arith, nat_eq}
-use Rattle.std.proofs.Common.{inl, inr}
-use Rattle.std.specs.Ordering.{nat_cmp}
-use Rattle.std.specs.Cmp.{nat_cmp_total}
-use Rattle.std.specs.FinSet as set
-use Rattle.std.proofs.lemmas.Bool.{cases_eq, false≢true, ne_eqb}
-use Rattle.std.proofs.lemmas.List.{length-set}
-use Rattle.generational_core.specs.declared.borrow.Borrow.{Borrow}
-use Rattle.generational_containers.specs.Table.{IsTable}
+use Rattle.generational_containers.proofs.Common.{ap, arith, Bool, Borrow, cases_eq, cond, false}
+use Rattle.generational_containers.proofs.Common.{false≢true, inl, inr, IsTable, length, length-set}
+use Rattle.generational_containers.proofs.Common.{List, nat_cmp, nat_cmp_total, nat_eq, ne_eqb}
+use Rattle.generational_containers.proofs.Common.{slice_set, sym, true, ℕ, [], ◌<◌, ◌∙◌, ◌≡◌}
 use Rattle.generational_containers.proofs.lists.Lists.{contains-insert_at, contains-remove_at}
 use Rattle.generational_containers.proofs.lists.Lists.{contains_own}
+use Rattle.std.specs.FinSet as set
 
 -- an empty set has nothing to take out
 pub remove_none : (s : set.FinSet nat_cmp) (i : ℕ) → s ≡ set.empty → set.remove s i ≡ s

@@ -1,22 +1,13 @@
 -- Lists of borrows whose tickets ascend: what a binary search finds in them, and what a push or a
 -- removal leaves.
-use Rattle.std.proofs.Common.{◌≡◌, ◌≢◌, ℕ, zero, suc, ◌<◌, ◌≤◌, true, false, not, nat_eq}
-use Rattle.std.proofs.Common.{List, [], ◌∷◌, ◌++◌, length, get_or, refl, sym, ap, arith, ◌∙◌}
-use Rattle.std.proofs.Common.{⊎_elim, Ok, Err, Bool, Bor, Option, None, Some, IsSome, OnSome}
-use denote.Param.Members.{Mut}
-use Rattle.std.specs.declared.cmp.Ordering.TheVariants.{Less, Equal, Greater}
-use Rattle.std.specs.Fn.{Called, ComputesKey}
-use Rattle.std.specs.Ordering.{nat_cmp, ordering_index}
-use Rattle.std.specs.List.{list_any, filter, remove, HoldsAt}
-use Rattle.std.specs.List.Sorted.{IsBinarySearchResult, IsNonDecreasingBy, IsPartitionPoint}
-use Rattle.std.proofs.lemmas.Bool.{eq-eqb, ne_eqb, cases_lt, cases_eq, or_parts, false≢true}
-use Rattle.std.proofs.lemmas.Bool.Decides.{nat_tests}
-use Rattle.std.proofs.lemmas.Cmp.{ranked}
-use Rattle.std.proofs.lemmas.List.Folds.{list_any_at, list_any_none}
-use Rattle.std.proofs.lemmas.List.Sorted.{answers_always}
-use Rattle.std.proofs.lemmas.List.Quantifiers.{all_pairs_push}
-use Rattle.generational_core.specs.declared.borrow.Borrow.{Borrow}
-use Rattle.generational_containers.specs.Borrows.{AreBelow, Ascend, IsOnly}
+use Rattle.generational_containers.proofs.Common
+use Common.{all_pairs_push, answers_always, ap, AreBelow, arith, Ascend, Bool, Bor, Borrow, Called}
+use Common.{cases_eq, cases_lt, ComputesKey, eq-eqb, Equal, Err, false, false≢true, filter, get_or}
+use Common.{Greater, HoldsAt, IsBinarySearchResult, IsNonDecreasingBy, IsPartitionPoint, IsSome}
+use Common.{length, Less, List, list_any, list_any_at, list_any_none, Mut, nat_cmp, nat_eq}
+use Common.{nat_tests, ne_eqb, None, not, Ok, OnSome, Option, or_parts, ordering_index, ranked}
+use Common.{refl, remove, Some, suc, sym, true, zero, ℕ, [], ⊎_elim, ◌++◌, ◌<◌, ◌∙◌, ◌∷◌, ◌≡◌, ◌≢◌}
+use Common.{◌≤◌}
 
 abbrev has : ℕ → Borrow → Bool
 has t b = nat_eq b.ticket t
@@ -142,12 +133,6 @@ without_first t b bs own up =
 
 pub none_some : (b : Borrow) (bs : List Borrow) → b ∷ bs ≡ [] → ⊥
 none_some b bs z = cc
-
--- nothing is left of a list with the ticket's own borrow alone
-pub without_only : (t : ℕ) (bs : List Borrow) → IsOnly t bs → without t bs ≡ []
-without_only t [] only = absurd only
-without_only t (b ∷ []) only = rw only refl
-without_only t (b ∷ c ∷ bs) only = absurd only
 
 -- two borrows in order
 pub two_ascend : (a b : Borrow) → AreBelow b.ticket (a ∷ []) → Ascend (a ∷ b ∷ [])

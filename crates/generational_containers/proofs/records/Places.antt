@@ -1,40 +1,21 @@
 -- The map for which places of records stand, and what is written to them.
-use Rattle.std.proofs.Common.{IsSome, ◌≡◌, ◌≢◌, ℕ, zero, suc, ◌+◌, ◌<◌, ◌≤◌, Bool, true, false, cond, List}
-use Rattle.std.proofs.Common.{[], ◌∷◌, ◌++◌, length, Option, None, Some, refl, sym, ap, ◌∙◌, arith}
-use Rattle.std.proofs.Common.{⊎_elim, slice_get, slice_set, nat_eq, is_some, subst, IfSome}
-use Rattle.std.proofs.Common.{option_map}
-use Rattle.std.proofs.lemmas.Bool.{true≢false, false≢true, cases_eq, cases_lt, eq-eqb, ne_eqb}
-use Rattle.std.proofs.lemmas.Bool.{eqb-true}
-use Rattle.std.proofs.lemmas.Option.{none-some, slice_get_past, slice_get_within}
-use Rattle.std.proofs.lemmas.List.{length-set, length-append}
-use Rattle.std.specs.Ordering.{nat_cmp, eq_by_cmp}
-use Rattle.std.specs.Cmp.{nat_cmp_total}
-use Rattle.std.specs.Option.{option_or}
+use Rattle.generational_containers.proofs.Common
+use Common.{add_to_list_in, ap, ArePlaced, arith, Bool, by_number, cases_eq, cases_lt, change}
+use Common.{change_place, change_record, change_record_if, changed_there, cond, eq-eqb, eq_by_cmp}
+use Common.{eqb-true, false, false≢true, get-changed_none, get-remove_apart, get-remove_here}
+use Common.{HasDistinctKeys, HasRecord, HasRoom, IfSome, insert_there, is_some, is_vacant}
+use Common.{IsReserved, IsSome, key_apart, key_here, keyed_ownerships, KeyedOwnership, knows}
+use Common.{length, length-append, length-set, List, Name, names_in, names_under, nat_cmp}
+use Common.{nat_cmp_total, nat_eq, ne_eqb, None, none-some, one_listed, Option, option_map}
+use Common.{option_or, OwnerName, Owners, owners_of, Ownership, Place, record_at, record_in}
+use Common.{record_of, Records, refl, slice_get, slice_get_past, slice_get_within, slice_set, Some}
+use Common.{subst, suc, sym, true, true≢false, with_ownership, with_rooms, zero, ℕ, [], ⊎_elim}
+use Common.{◌++◌, ◌+◌, ◌<◌, ◌∙◌, ◌∷◌, ◌≡◌, ◌≢◌, ◌≤◌}
+use Rattle.generational_containers.proofs.lists.Lists.{contains-insert_at, contains-remove_at}
+use Rattle.generational_containers.proofs.lists.Lists.{contains_own, IsWritten, number_test}
+use Rattle.generational_containers.proofs.lists.Lists.{push_written, set-own, set_written}
 use Rattle.std.specs.FinMap as map
 use Rattle.std.specs.FinSet as set
-use Rattle.generational_containers.proofs.Common.{by_number, key_here, key_apart, changed_there}
-use Rattle.generational_containers.proofs.Common.{change}
-use Rattle.generational_containers.proofs.Common.{Ownership, Owners, KeyedOwnership, Place, keyed_ownerships}
-use Rattle.generational_containers.proofs.Common.{owners_of}
-use Rattle.generational_containers.proofs.Common.{record_in, record_at, HasRecord, HasDistinctKeys}
-use Rattle.generational_containers.proofs.Common.{is_vacant}
-use Rattle.generational_core.specs.Machine.{OwnerName}
-use Rattle.generational_containers.proofs.Common.{get-changed_none, get-remove_here}
-use Rattle.generational_containers.proofs.Common.{get-remove_apart}
-use Rattle.generational_containers.proofs.Common.{names_under, names_in, knows}
-use Rattle.generational_containers.proofs.Common.{record_of, ArePlaced, change_place}
-use Rattle.generational_core.proofs.maps.Maps.{insert_there}
-use Rattle.generational_containers.specs.OwnerPlaces.{Records, change_record, change_record_if}
-use Rattle.generational_containers.specs.OwnerPlaces.{HasRoom, IsReserved, with_rooms}
-use Rattle.generational_containers.specs.OwnerRecords.{add_to_list_in}
-use Rattle.generational_containers.proofs.Common.{one_listed}
-use Rattle.generational_core.specs.Names.{Name}
-use Rattle.generational_containers.proofs.Common.{with_ownership}
-use Rattle.generational_containers.proofs.lists.Lists.{IsWritten, set_written, push_written}
-use Rattle.generational_containers.proofs.lists.Lists.{number_test}
-use Rattle.generational_containers.proofs.lists.Lists.{set-own}
-use Rattle.generational_containers.proofs.lists.Lists.{contains-insert_at, contains-remove_at}
-use Rattle.generational_containers.proofs.lists.Lists.{contains_own}
 
 -- ---- what stands under a key
 
@@ -405,17 +386,12 @@ owners_vacant xs vacant = map.same_map nat_cmp_total map.nat_cmp-IsAntisymmetric
 find_some : (xs : List Place) (q i : ℕ) → HasRecord q (slice_get xs i)
     → is_some (find_in q xs) ≡ true
 find_some [] q i has = absurd (false≢true has)
-find_some (x ∷ xs) q zero has = at (record_in q x) has
-  where
-    at : (o : Option Ownership) → is_some o ≡ true → is_some (option_or o (find_in q xs)) ≡ true
-    at None has = absurd (false≢true has)
-    at (Some h) has = refl
-find_some (x ∷ xs) q (suc i) has = at (record_in q x) (find_some xs q i has)
-  where
-    at : (o : Option Ownership) → is_some (find_in q xs) ≡ true
-        → is_some (option_or o (find_in q xs)) ≡ true
-    at None rest = rest
-    at (Some h) rest = refl
+find_some (x ∷ xs) q zero has =
+    (elim (record_in q x) as (λ o. is_some o ≡ true → is_some (option_or o (find_in q xs)) ≡ true)
+    [ None ↦ λ has. absurd (false≢true has) | Some h ↦ λ has. refl ]) has
+find_some (x ∷ xs) q (suc i) has = (elim (record_in q x) as (λ o. is_some (find_in q xs) ≡ true
+    → is_some (option_or o (find_in q xs)) ≡ true)
+    [ None ↦ λ rest. rest | Some h ↦ λ rest. refl ]) (find_some xs q i has)
 
 pub not_empty : (xs : List Place) (i : ℕ) (x : Place) → slice_get xs i ≡ Some x
     → is_some x ≡ true → owners_of xs ≡ map.empty → ⊥
@@ -454,11 +430,9 @@ vacant_stays xs i x P there vacant =
 
 -- a record with room is at its place, and has a key
 pub room_within : (xs : List Place) (i : ℕ) → HasRoom (slice_get xs i) → i < length xs
-room_within xs i room = at (slice_get xs i) refl room
-  where
-    at : (o : Option Place) → slice_get xs i ≡ o → HasRoom o → i < length xs
-    at None is room = absurd room
-    at (Some x) is room = slice_get_within xs i x is
+room_within xs i room =
+    (elim (slice_get xs i) as (λ o. slice_get xs i ≡ o → HasRoom o → i < length xs)
+    [ None ↦ λ is room. absurd room | Some x ↦ λ is room. slice_get_within xs i x is ]) refl room
 
 pub room_record : (o : Option Place) → HasRoom o → (k : ℕ) × HasRecord k o
 room_record None room = absurd room

@@ -1,32 +1,15 @@
 -- The rows of owners' records: the place of each record by its key, and that the records in the
 -- order of these are the map's.
-use Rattle.std.proofs.Common.{◌≡◌, ◌≢◌, ℕ, suc, ◌+◌, ◌<◌, ◌≤◌, Bool, true, false, cond, T, ◌&&◌, List}
-use Rattle.std.proofs.Common.{[], ◌∷◌, ◌++◌, Option, None, Some, refl, sym, ap, ◌∙◌, arith, subst}
-use Rattle.std.proofs.Common.{⊎_elim, is_eq, is_lt, option_map, slice_get}
-use Rattle.std.proofs.Common.{Less, All, map as list_map, nat_cmp, append-nil}
-use Rattle.std.proofs.lemmas.Bool.{cases_lt}
-use Rattle.std.proofs.lemmas.List.Elements.{recursion_from_All}
-use Rattle.std.proofs.lemmas.Option.{slice_get_past}
-use Rattle.std.proofs.Math.Seq.{take-nil}
-use Rattle.std.specs.BTreeMap.{is_at}
-use Rattle.std.specs.Cmp.{nat_cmp_total}
-use Rattle.std.specs.List.{AllByRecursion}
-use Rattle.std.specs.List.Sorted.{IsStrictlySortedBy}
-use Rattle.std.specs.Map.{lookup, keys_of}
-use Rattle.std.proofs.Common.{length, true≢false, zero, take}
+use Rattle.generational_containers.proofs.Common
+use Common.{All, AllByRecursion, ap, append-nil, arith, BaseRow, Bool, CellName, cond, false}
+use Common.{HasDistinctKeys, HasRecord, is_at, is_eq, is_lt, IsPlaceOf, IsStrictlySortedBy, keys_of}
+use Common.{length, Less, List, lookup, Name, name_of_cell, nat_cmp, nat_cmp_total, None}
+use Common.{Option, option_map, owner_rows, owners_of, Ownership, Place, place_rows, record_at}
+use Common.{record_in, record_rows, Records, recursion_from_All, refl, slice_get, Some, subst, suc}
+use Common.{sym, T, take, take-nil, true, zero, ℕ, [], ◌&&◌, ◌++◌, ◌+◌, ◌<◌, ◌∙◌, ◌∷◌, ◌≡◌, ◌≤◌}
+use Rattle.generational_containers.proofs.records.Places.{get_none, get_one, own_key, standing}
+use Rattle.std.proofs.Common.{map as list_map}
 use Rattle.std.specs.FinMap as map
-use Rattle.generational_core.specs.Names.{Name}
-use Rattle.generational_core.proofs.maps.Maps.{key_here}
-use Rattle.generational_containers.specs.CellNames.{name_of_cell}
-use Rattle.generational_containers.specs.declared.names.CellName.{CellName}
-use Rattle.generational_containers.proofs.records.Places.{own_key}
-use Rattle.generational_core.proofs.maps.Maps.{by_number, key_same}
-use Rattle.generational_core.specs.declared.rows.BaseRow.{BaseRow}
-use Rattle.generational_core.specs.Rows.{owner_rows, record_rows}
-use Rattle.generational_containers.proofs.Common.{Ownership, Place, HasRecord}
-use Rattle.generational_containers.proofs.Common.{HasDistinctKeys, record_at, record_in, owners_of}
-use Rattle.generational_containers.proofs.records.Places.{get_one, get_none, standing, other_key}
-use Rattle.generational_containers.specs.OwnerPlaces.{IsPlaceOf, Records, place_rows}
 
 -- ---- the place of each record, of those below a place
 
@@ -34,53 +17,6 @@ abbrev pub IsPlaceBelow : List Place → ℕ → ℕ → Option ℕ → Type 0
 IsPlaceBelow places n key None =
     (i : ℕ) → i < n → record_at key (slice_get places i) ≡ None
 IsPlaceBelow places n key (Some i) = HasRecord key (slice_get places i)
-
-below_more : (places : List Place) (n key : ℕ) → ((i : ℕ) → i < n → record_at key
-    (slice_get places i) ≡ None) → record_at key (slice_get places n) ≡ None
-    → (i : ℕ) → i < n + 1 → record_at key (slice_get places i) ≡ None
-below_more places n key before here i within =
-    ⊎_elim (before i)
-    (λ le. let same : i ≡ n = omega arith in ap (λ j. record_at key (slice_get places j)) same ∙ here)
-    (cases_lt i n)
-
--- a place without a record
-pub passed_over : (places : List Place) (n key : ℕ) (found : Option ℕ)
-    → record_at key (slice_get places n) ≡ None → IsPlaceBelow places n key found
-    → IsPlaceBelow places (n + 1) key found
-passed_over places n key None here before = below_more places n key before here
-passed_over places n key (Some i) here before = before
-
--- a place with a record, which is found by its key from then on
-module _ (places : List Place) (n key : ℕ) (has : HasRecord key (slice_get places n)) where
-  others : (q : ℕ) → q ≢ key → record_at q (slice_get places n) ≡ None
-  others q ne =
-      let there = standing key (slice_get places n) has in
-      ap (record_at q) there.1 ∙ other_key q there.0 (λ e. ne (e ∙ sym there.2))
-
-  pub found_one : (before after : ℕ → Option ℕ)
-      → ((q : ℕ) → after q ≡ cond (is_eq (nat_cmp key q)) (Some n) (before q))
-      → ((q : ℕ) → IsPlaceBelow places n q (before q))
-      → (q : ℕ) → IsPlaceBelow places (n + 1) q (after q)
-  found_one before after updated below q =
-      subst (IsPlaceBelow places (n + 1) q) (sym (updated q))
-      (at (is_eq (nat_cmp key q)) refl)
-    where
-      at : (b : Bool) → is_eq (nat_cmp key q) ≡ b
-          → IsPlaceBelow places (n + 1) q (cond b (Some n) (before q))
-      at true same =
-          subst (λ k. HasRecord k (slice_get places n)) (key_same by_number key q same) has
-      at false other =
-          passed_over places n q (before q)
-          (others q (λ e. true≢false (sym (ap (λ k. is_eq (nat_cmp key k)) e
-          ∙ key_here by_number key) ∙ other)))
-          (below q)
-
--- where all places were asked
-pub found_all : (places : List Place) (n key : ℕ) (found : Option ℕ) → length places ≤ n
-    → IsPlaceBelow places n key found → IsPlaceOf places key found
-found_all places n key None all below = λ i. ⊎_elim (below i)
-    (λ le. ap (record_at key) (slice_get_past places i (omega arith))) (cases_lt i n)
-found_all places n key (Some i) all has = has
 
 -- ---- the records in the order of their keys
 

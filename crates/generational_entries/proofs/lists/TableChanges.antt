@@ -1,17 +1,11 @@
 -- A table of borrows that changes at one index, and what that leaves of the others.
-use Rattle.std.proofs.Common.{◌≡◌, ◌≢◌, ℕ, ◌+◌, ◌-◌, ◌<◌, ◌≤◌, Bool, true, false, cond, List, []}
-use Rattle.std.proofs.Common.{◌∷◌, ◌++◌, length, refl, sym, ap, ◌∙◌, arith, inl, inr, ◌⊎◌}
-use Rattle.std.proofs.Common.{slice_set, nat_eq, length-append}
-use Rattle.std.specs.Ordering.{nat_cmp}
-use Rattle.std.specs.Cmp.{nat_cmp_total}
-use Rattle.std.proofs.Math.ListN.{get_or-append, get_or-eq_default}
-use Rattle.std.proofs.Math.Seq.{get_or-append_seam}
-use Rattle.std.proofs.lemmas.Bool.{true≢false, cases_lt, eq-eqb, ne_eqb, eqb-true}
-use Rattle.std.proofs.lemmas.List.{get_or-set_same, get_or-set_other, length-set}
-use Rattle.generational_core.specs.declared.borrow.Borrow.{Borrow}
-use Rattle.generational_containers.specs.Table.{IsClosed, IsUsed, IsVacant, Table, list_at}
-use Rattle.generational_containers.specs.Table.{put_list}
-use Rattle.generational_containers.proofs.lists.Lists.{contains-insert_at, contains-remove_at}
+use Rattle.generational_entries.proofs.Common
+use Common.{ap, arith, Bool, Borrow, cases_lt, cond, contains-insert_at, contains-remove_at, eq-eqb}
+use Common.{eqb-true, false, get_or-append, get_or-append_seam, get_or-eq_default, get_or-set_other}
+use Common.{get_or-set_same, inl, inr, IsClosed, IsUsed, IsVacant, length, length-append}
+use Common.{length-set, List, list_at, nat_cmp, nat_cmp_total, nat_eq, ne_eqb, put_list, refl}
+use Common.{slice_set, sym, Table, true, true≢false, ℕ, [], ◌++◌, ◌+◌, ◌-◌, ◌<◌, ◌∙◌, ◌∷◌, ◌≡◌, ◌≢◌}
+use Common.{◌≤◌, ◌⊎◌}
 use Rattle.std.specs.FinSet as set
 
 pub none_some : (b : Borrow) (bs : List Borrow) → b ∷ bs ≡ [] → ⊥

@@ -1,37 +1,16 @@
 -- The slots of a store with the table of their borrows, as their methods find them.
-use Rattle.std.proofs.Common.{◌≡◌, ◌≢◌, ℕ, zero, suc, ◌<◌, ◌≤◌, true, false, cond, List, [], ◌∷◌}
-use Rattle.std.proofs.Common.{◌++◌, length, Option, None, Some, refl, sym, ap, ◌∙◌, arith, IfSome}
-use Rattle.std.proofs.Common.{OnOk, OnErr, Result, is_none, is_some, subst, inl, inr, ◌⊎◌}
-use Rattle.std.proofs.Common.{slice_get, slice_set, nat_eq}
-use Rattle.std.proofs.Math.ListN.{get_or, get_or-eq_default}
-use Rattle.std.proofs.lemmas.Bool.{false≢true}
-use Rattle.std.proofs.lemmas.List.{length-set}
-use Rattle.std.proofs.lemmas.Option.{slice_get_cases, slice_get_read, slice_get_within}
-use Rattle.std.proofs.lemmas.Bool.Decides.{nat_tests}
-use Rattle.generational_core.specs.declared.borrow.Borrow.{Borrow}
-use Rattle.generational_core.specs.Borrowing.{leads_to, read_refusal, write_refusal}
-use Rattle.generational_core.specs.Cells.Content.{Here}
-use Rattle.generational_core.specs.Answers.{value_of}
-use Rattle.generational_core.specs.Machine.{has_reader, has_writer}
-use Rattle.generational_core.specs.Names.{Name}
-use Rattle.generational_errors.specs.declared.error.Location.{Location}
-use Rattle.generational_core.specs.Cells.{location_of}
-use Rattle.generational_entries.specs.declared.entry.EntryDetails.{EntryDetails}
-use Rattle.generational_entries.specs.declared.entry.StorageEntry.{StorageEntry}
-use Rattle.generational_entries.specs.declared.entry.StorageEntryData.{StorageEntryData}
-use Rattle.generational_entries.specs.Entry.{Entry, Kept, with_reader, without_reader_in}
-use Rattle.generational_entries.specs.Entry.{content_in}
-use Rattle.generational_entries.specs.Entry.{has_no_borrow, is_lent, cell_of, kind_in, target_in}
-use Rattle.generational_entries.specs.Entry.{is_unborrowed_value, cell_in, change_entry}
-use Rattle.generational_entries.specs.Entry.{change_entry_if, referring, value_for}
-use Rattle.generational_entries.specs.Entries.{EntryList, AreRoomy, IsUnborrowed, kept_data}
-use Rattle.generational_entries.specs.Entries.{is_unborrowed_data, kind_of, lead_of, target_of}
-use Rattle.generational_entries.specs.Entries.{index_in, index_of, entry_of, AreIndexed, HasListIndex}
-use Rattle.generational_containers.specs.Table.{Releases, no_index, IsUsed, Table, list_at}
-use Rattle.generational_entries.specs.Entry.Kept.{Empty, Refers}
-use Rattle.generational_entries.specs.declared.entry.Kind.{Kind}
-use Rattle.generational_containers.proofs.lists.Lists.{set-own}
-unfoldable use Rattle.generational_entries.specs.Entries.{entries_of}
+use Rattle.generational_entries.proofs.Common
+use Common.{ap, AreIndexed, AreRoomy, arith, Borrow, cell_in, cell_of, change_entry}
+use Common.{change_entry_if, cond, content_in, Empty, entries_of, Entry, entry_of, EntryDetails}
+use Common.{EntryList, false, false≢true, get_or, get_or-eq_default, has_no_borrow, has_reader}
+use Common.{has_writer, HasListIndex, Here, IfSome, index_in, index_of, inl, inr, is_lent, is_none}
+use Common.{is_some, is_unborrowed_data, is_unborrowed_value, IsUnborrowed, IsUsed, Kept, kept_data}
+use Common.{Kind, kind_in, kind_of, lead_of, leads_to, length, length-set, List, list_at, Location}
+use Common.{location_of, Name, nat_eq, nat_tests, no_index, None, OnErr, OnOk, Option, read_refusal}
+use Common.{referring, Refers, refl, Releases, Result, set-own, slice_get, slice_get_cases}
+use Common.{slice_get_read, slice_get_within, slice_set, Some, StorageEntry, StorageEntryData}
+use Common.{subst, suc, sym, Table, target_in, target_of, true, value_for, value_of, with_reader}
+use Common.{without_reader_in, write_refusal, zero, ℕ, [], ◌++◌, ◌<◌, ◌∙◌, ◌∷◌, ◌≡◌, ◌≢◌, ◌≤◌, ◌⊎◌}
 use Rattle.generational_entries.specs.declared.entry.StorageEntryData.TheVariants as slot
 
 module _ {T : Type 0} where
@@ -48,11 +27,8 @@ module _ {T : Type 0} where
       ≡ both lists (slice_get es k) (slice_get ls k)
   unfolding entries_of
   entries_get lists [] ls k = refl
-  entries_get lists (e ∷ es) [] k = none (slice_get (e ∷ es) k)
-    where
-      none : (o : Option (StorageEntry T)) → None ≡ both lists o None
-      none None = refl
-      none (Some e) = refl
+  entries_get lists (e ∷ es) [] k = elim (slice_get (e ∷ es) k) as (λ o. None ≡ both lists o None)
+      [ None ↦ refl | Some e ↦ refl ]
   entries_get lists (e ∷ es) (l ∷ ls) zero = refl
   entries_get lists (e ∷ es) (l ∷ ls) (suc k) = entries_get lists es ls k
 
@@ -261,20 +237,21 @@ module _ {T : Type 0} {t : Table} {es : List (StorageEntry T)} {ls : List EntryD
       get_or-eq_default t.lists [] (omega arith)
 
   -- the details that a read at an index finds
-  pub read_details : {i : ℕ} → i < length now.slots → {d : EntryDetails} (n : ℕ) → n ≡ length ls
-      → d ≡ get_or ls i d → slice_get ls i ≡ Some d
-  read_details {i} within {d} n len is =
+  pub read_details : {i : ℕ} → i < length now.slots → {d : EntryDetails} → d ≡ get_or ls i d
+      → slice_get ls i ≡ Some d
+  read_details {i} within {d} is =
       let same = many in let made = s.made in
-      slice_get_read ls n i d len (omega (arith, within)) is
+      slice_get_read ls (length ls) i d refl (omega (arith, within)) is
 
   pub here : {i : ℕ} {e : StorageEntry T} → slice_get es i ≡ Some e → IsAt t es ls now i e
   here there = record { store = s; there = there }
 
   -- the slot that a read at an index finds
-  pub read_slot : {i : ℕ} → i < length now.slots → {e : StorageEntry T} (n : ℕ) → n ≡ length es
-      → e ≡ get_or es i e → IsAt t es ls now i e
-  read_slot {i} within {e} n len is =
-      let same = many in here (slice_get_read es n i e len (omega (arith, within)) is)
+  pub read_slot : {i : ℕ} → i < length now.slots → {e : StorageEntry T} → e ≡ get_or es i e
+      → IsAt t es ls now i e
+  read_slot {i} within {e} is =
+      let same = many in
+      here (slice_get_read es (length es) i e refl (omega (arith, within)) is)
 
   -- ---- a slot whose details are read
 
@@ -286,12 +263,12 @@ module _ {T : Type 0} {t : Table} {es : List (StorageEntry T)} {ls : List EntryD
       (e.0, here e.1)
 
 pub found : {T : Type 0} {t : Table} {es : List (StorageEntry T)} {ls : List EntryDetails}
-    {now : EntryList T} {room entries created i n : ℕ}
+    {now : EntryList T} {room entries created i : ℕ}
     → record { slots = entries_of t.lists es ls; rooms = room } ≡ now
     → AreIndexed t es × (length ls ≡ length es)
     × AreRoomy room (length es) entries created t.rooms → i < length now.slots
-    → {e : StorageEntry T} → n ≡ length es → e ≡ get_or es i e → IsAt t es ls now i e
-found {n = n} view v within len is = read_slot (kept view v) within n len is
+    → {e : StorageEntry T} → e ≡ get_or es i e → IsAt t es ls now i e
+found view v within is = read_slot (kept view v) within is
 
 module _ {T : Type 0} {t : Table} {es : List (StorageEntry T)} {ls : List EntryDetails}
     {now : EntryList T} {i : ℕ} {e : StorageEntry T} (a : IsAt t es ls now i e) where

@@ -1,10 +1,8 @@
 -- Slots of which one or two change, and the others.
-use Rattle.std.proofs.Common.{◌≡◌, ℕ, Bool, true, false, List, Option, None, Some, refl, sym, ap}
-use Rattle.std.proofs.Common.{◌∙◌, slice_get, nat_eq, slice_set, IfSome, cond, subst}
-use Rattle.std.proofs.lemmas.Bool.{eqb-true, eq-eqb, false≢true}
-use Rattle.generational_entries.specs.Entry.{Entry, change_entry, change_entry_if}
-use Rattle.generational_containers.proofs.lists.Lists.{get_other, set_apart, set_twice, set_written}
-use Rattle.generational_containers.proofs.lists.Lists.{set-own}
+use Rattle.generational_entries.proofs.Common
+use Common.{ap, Bool, change_entry, change_entry_if, cond, Entry, eq-eqb, eqb-true, false}
+use Common.{false≢true, get_other, IfSome, List, nat_eq, None, Option, refl, set-own, set_apart}
+use Common.{set_twice, set_written, slice_get, slice_set, Some, subst, sym, true, ℕ, ◌∙◌, ◌≡◌}
 
 module _ {T : Type 0} where
   pub change_own : (slots : List (Entry T)) (i : ℕ) (f : Entry T → Entry T) {e : Entry T}
@@ -42,28 +40,22 @@ module _ {T : Type 0} where
   -- two changes are one
   pub change_twice : (slots : List (Entry T)) (i : ℕ) (f h : Entry T → Entry T)
       → change_entry (change_entry slots i f) i h ≡ change_entry slots i (λ e. h (f e))
-  change_twice slots i f h = at (slice_get slots i) refl
-    where
-      at : (o : Option (Entry T)) → slice_get slots i ≡ o
-          → change_entry (change_entry_if slots i f o) i h
-          ≡ change_entry_if slots i (λ e. h (f e)) o
-      at None empty = ap (change_entry_if slots i h) empty
-      at (Some e) there =
-          ap (change_entry_if (slice_set slots i (f e)) i h)
-          ((set_written slots i (f e) e there).at i
-          ∙ ap (λ b. cond b (Some (f e)) (slice_get slots i)) (eq-eqb i i refl))
-          ∙ set_twice slots i (f e) (h (f e))
+  change_twice slots i f h = (elim (slice_get slots i) as (λ o. slice_get slots i ≡ o
+      → change_entry (change_entry_if slots i f o) i h ≡ change_entry_if slots i (λ e. h (f e)) o) [
+        | None ↦ λ empty. ap (change_entry_if slots i h) empty
+        | Some e ↦ λ there. ap (change_entry_if (slice_set slots i (f e)) i h)
+            ((set_written slots i (f e) e there).at i
+            ∙ ap (λ b. cond b (Some (f e)) (slice_get slots i)) (eq-eqb i i refl))
+            ∙ set_twice slots i (f e) (h (f e))
+      ]) refl
 
   -- changes that do the same there
   pub change_alike : (slots : List (Entry T)) (i : ℕ) (f h : Entry T → Entry T)
       → IfSome (slice_get slots i) (λ e. f e ≡ h e)
       → change_entry slots i f ≡ change_entry slots i h
-  change_alike slots i f h same = at (slice_get slots i) same
-    where
-      at : (o : Option (Entry T)) → IfSome o (λ e. f e ≡ h e)
-          → change_entry_if slots i f o ≡ change_entry_if slots i h o
-      at None same = refl
-      at (Some e) same = ap (slice_set slots i) same
+  change_alike slots i f h same = (elim (slice_get slots i) as (λ o. IfSome o (λ e. f e ≡ h e)
+      → change_entry_if slots i f o ≡ change_entry_if slots i h o)
+      [ None ↦ λ same. refl | Some e ↦ λ same. ap (slice_set slots i) same ]) same
 
   -- a change that does nothing there
   pub change_none : (slots : List (Entry T)) (i : ℕ) (f : Entry T → Entry T)

@@ -1,18 +1,12 @@
 -- At which indexes of the table the borrows of a store's slots stand, and what is left of that
 -- where a slot is written.
-use Rattle.std.proofs.Common.{◌≡◌, ◌≢◌, ℕ, ◌+◌, ◌≤◌, Bool, true, false, cond, List, [], length}
-use Rattle.std.proofs.Common.{Option, None, Some, refl, sym, ◌∙◌, arith, subst, slice_get, nat_eq}
-use Rattle.std.specs.Ordering.{nat_cmp}
-use Rattle.std.proofs.lemmas.Bool.{false≢true, eq-eqb, eqb-true}
-use Rattle.generational_entries.specs.declared.entry.StorageEntry.{StorageEntry}
-use Rattle.generational_entries.specs.declared.entry.StorageEntryData.{StorageEntryData}
-use Rattle.generational_entries.specs.Entries.{IsUnborrowed, index_in, index_of, has_index}
-use Rattle.generational_entries.specs.Entries.{AreIndexed, HasListIndex, HasListIndexIn}
-use Rattle.generational_containers.specs.Table.{no_index, IsUsed, Table}
-use Rattle.generational_containers.specs.Lists.{how_many}
-use Rattle.generational_containers.proofs.lists.Lists.{IsWritten, passes}
+use Rattle.generational_entries.proofs.Common
+use Common.{AreIndexed, arith, Bool, cond, entries_of, eq-eqb, eqb-true, false, false≢true}
+use Common.{has_index, HasListIndex, HasListIndexIn, how_many, index_in, index_of, IsUnborrowed}
+use Common.{IsUsed, IsWritten, length, List, nat_cmp, nat_eq, no_index, None, Option, passes, refl}
+use Common.{slice_get, Some, StorageEntry, StorageEntryData, subst, sym, Table, true, ℕ, [], ◌+◌}
+use Common.{◌∙◌, ◌≡◌, ◌≢◌, ◌≤◌}
 use Rattle.std.specs.FinSet as set
-unfoldable use Rattle.generational_entries.specs.Entries.{entries_of}
 
 module _ {T : Type 0} where
   module _ {es es' : List (StorageEntry T)} {i : ℕ} {e : StorageEntry T}

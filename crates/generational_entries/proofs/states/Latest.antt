@@ -1,43 +1,21 @@
 -- The slots with the borrow that began last.
-use Rattle.std.proofs.Common.{◌≡◌, ℕ, Bool, true, false, List, [], ◌∷◌, Option, None, Some, refl}
-use Rattle.std.proofs.Common.{sym, ap, ◌∙◌, slice_get, nat_eq, slice_set, IfSome, if◌then◌else◌}
-use Rattle.std.proofs.Common.{is_some, ◌++◌, ◌<◌, ◌≤◌, length, subst, arith}
-use Rattle.std.proofs.lemmas.List.{length-set}
-use Rattle.std.proofs.lemmas.Bool.{eqb-true, eq-eqb, false≢true}
-use Rattle.std.specs.List.{list_any}
-use Rattle.std.proofs.lemmas.Option.{none-some, slice_get_past, slice_get_within}
-use Rattle.std.proofs.Math.ListN.{get_or}
-use Rattle.std.proofs.lemmas.Bool.Decides.{nat_tests}
-use Rattle.std.proofs.lemmas.Grind.{common_steps}
-use Rattle.generational_core.specs.Answers.{value_of}
-use Rattle.generational_core.specs.Cells.{content_of, location_of, Content, Cell}
-use Rattle.generational_errors.specs.declared.error.Location.{Location}
-use Rattle.generational_core.specs.declared.borrow.Borrow.{Borrow}
-use Rattle.generational_core.specs.Borrowing.{leads_to, read_refusal, write_refusal}
-use Rattle.generational_core.specs.Cells.Content.{Here, Lent}
-use Rattle.generational_core.specs.Names.{Name}
-use Rattle.generational_entries.specs.Entry.{value_for, Entry, Kept, cell_of, content_in}
-use Rattle.generational_entries.specs.Entry.{has_no_borrow, with_reader, without_reader_in, kind_in}
-use Rattle.generational_entries.specs.Entry.{target_in, lend_to, referring, with_content}
-use Rattle.generational_entries.specs.Entry.{with_value, cell_at, cell_in, change_entry}
-use Rattle.generational_entries.specs.Entry.{change_entry_if}
-use Rattle.generational_entries.specs.declared.latest.LastBorrow.{LastBorrow}
-use Rattle.generational_entries.specs.Entry.Kept.{Empty}
-use Rattle.generational_entries.specs.Latest.{noted, HasApart, IsAlone, IsNoted, IsReadable}
-use Rattle.generational_entries.specs.Latest.{is_noted, is_reader, is_writer, joined, may_join}
-use Rattle.generational_entries.specs.declared.latest.Standing.{Standing}
-use Rattle.generational_entries.specs.Entries.{entry_of, taken, AreIndexed, AreRoomy, EntryList}
-use Rattle.generational_entries.specs.declared.entry.EntryDetails.{EntryDetails}
-use Rattle.generational_entries.specs.declared.entry.StorageEntry.{StorageEntry}
-use Rattle.generational_containers.specs.Table.{Table}
-use Rattle.generational_entries.proofs.states.Entries.{IsAt, IsKept, details_at, details_changed}
-use Rattle.generational_entries.proofs.states.Entries.{kept, location, many, read_details}
-use Rattle.generational_entries.proofs.states.Entries.{entries_len, read_slot, slot_seen}
-use Rattle.generational_containers.proofs.lists.Lists.{get_left, get_other, set_apart, set_left}
+use Rattle.generational_entries.proofs.Common
+use Rattle.generational_entries.proofs.states
+use Common.{ap, AreIndexed, AreRoomy, arith, Bool, Borrow, Cell, cell_at, cell_in, cell_of}
+use Common.{change_entry, change_entry_if, common_steps, Content, content_in, content_of, Empty}
+use Common.{entries_of, Entry, entry_of, EntryDetails, EntryList, eq-eqb, eqb-true, false}
+use Common.{false≢true, get_left, get_or, get_other, has_no_borrow, HasApart, Here, IfSome}
+use Common.{if◌then◌else◌, is_noted, is_reader, is_some, is_writer, IsAlone, IsNoted, IsReadable}
+use Common.{joined, Kept, kind_in, LastBorrow, leads_to, lend_to, length, length-set, Lent, List}
+use Common.{list_any, Location, location_of, may_join, Name, nat_eq, nat_tests, None, none-some}
+use Common.{noted, Option, read_refusal, referring, refl, set_apart, set_left, slice_get}
+use Common.{slice_get_past, slice_get_within, slice_set, Some, Standing, StorageEntry, subst, sym}
+use Common.{Table, taken, target_in, true, value_for, value_of, with_content, with_reader}
+use Common.{with_value, without_reader_in, write_refusal, ℕ, [], ◌++◌, ◌<◌, ◌∙◌, ◌∷◌, ◌≡◌, ◌≤◌}
 use Rattle.generational_entries.proofs.lists.TableChanges.{not_empty}
-use Rattle.generational_entries.proofs.states.EntryChanges.{change_own, change_away, change_twice}
-use Rattle.generational_entries.proofs.states.EntryChanges.{change_alike, change_none, change_order}
-unfoldable use Rattle.generational_entries.specs.Entries.{entries_of}
+use states.{Entries.read_details, Entries.read_slot, Entries.slot_seen, EntryChanges.change_twice}
+use states.Entries.{details_at, details_changed, entries_len, IsAt, IsKept, kept, location, many}
+use states.EntryChanges.{change_alike, change_away, change_none, change_order, change_own}
 use Rattle.generational_entries.specs.declared.latest.Standing.TheVariants as standing
 
 any_last : (t : ℕ) (rs : List Borrow) (b : Borrow) → b.ticket ≡ t
@@ -150,11 +128,6 @@ module _ {T : Type 0} where
   pub listed_there : (b : Borrow) (k : Kept T) → has_no_borrow (content_in k) ≡ false
       → with_content (joined standing.Reader b) k ≡ k
   listed_there b k beside = grind arith
-
-  -- alone it is the first
-  pub first_there : (b : Borrow) (k : Kept T) → has_no_borrow (content_in k) ≡ true
-      → with_content (joined standing.Reader b) k ≡ with_reader b k
-  first_there b k free = grind arith
 
   -- a reader that is listed changes nothing
   pub listed_same : (r : LastBorrow) (slots : List (Entry T)) → is_noted r.standing ≡ true
@@ -275,13 +248,10 @@ module _ {T : Type 0} where
   pub noted_order : (r : LastBorrow) (slots : List (Entry T)) (j : ℕ) (h : Entry T → Entry T)
       → ((e : Entry T) → joining r (h e) ≡ h (joining r e))
       → noted r (change_entry slots j h) ≡ change_entry (noted r slots) j h
-  noted_order r slots j h same = by (is_noted r.standing)
-    where
-      by : (b : Bool) → (if b then change_entry (change_entry slots j h) r.slot (joining r)
-          else change_entry slots j h)
-          ≡ change_entry (if b then change_entry slots r.slot (joining r) else slots) j h
-      by true = sym (change_order slots r.slot j (joining r) h same)
-      by false = refl
+  noted_order r slots j h same = elim (is_noted r.standing) as (λ b. (if b then change_entry
+      (change_entry slots j h) r.slot (joining r) else change_entry slots j h)
+      ≡ change_entry (if b then change_entry slots r.slot (joining r) else slots) j h)
+      [ true ↦ sym (change_order slots r.slot j (joining r) h same) | false ↦ refl ]
 
   pub alone_order : (r : LastBorrow) (slots : List (Entry T)) (j : ℕ) (h : Entry T → Entry T)
       → IsNoted r slots → ((e : Entry T) → HasApart r (Some e) → HasApart r (Some (h e)))
@@ -449,16 +419,15 @@ module _ {T : Type 0} {r : LastBorrow} {t : Table} {es : List (StorageEntry T)}
   pub seen_past : (i : ℕ) → length es ≤ i → slice_get now.slots i ≡ None
   seen_past i past = let long = seen_many in slice_get_past now.slots i (omega (arith, past))
 
-  pub seen_slot : {i : ℕ} → i < length now.slots → {e : StorageEntry T} (n : ℕ) → n ≡ length es
-      → e ≡ get_or es i e → IsAt t es ls settled i e
-  seen_slot within n len is = read_slot o.store (seen_within within) n len is
+  pub seen_slot : {i : ℕ} → i < length now.slots → {e : StorageEntry T} → e ≡ get_or es i e
+      → IsAt t es ls settled i e
+  seen_slot within is = read_slot o.store (seen_within within) is
 
-  pub seen_details : {i : ℕ} → i < length now.slots → {d : EntryDetails} (n : ℕ)
-      → n ≡ length ls → d ≡ get_or ls i d
+  pub seen_details : {i : ℕ} → i < length now.slots → {d : EntryDetails} → d ≡ get_or ls i d
       → (e : StorageEntry T) × IsAt t es ls settled i e × (slice_get ls i ≡ Some d)
-  seen_details within n len is =
+  seen_details within is =
       let a = details_at o.store (seen_within within) in
-      (a.0, a.1, read_details o.store (seen_within within) n len is)
+      (a.0, a.1, read_details o.store (seen_within within) is)
 
   -- what holds of a slot whatever borrows stand there
   pub seen_says : (k : ℕ) (P : Entry T → Type 0) → ((e : Entry T) → P e → P (joining r e))

@@ -1,31 +1,17 @@
 -- A slot that changes with the table of borrows, and what is left of the other slots.
-use Rattle.std.proofs.Common.{◌≡◌, ◌≢◌, ℕ, ◌+◌, ◌<◌, ◌≤◌, Bool, true, false, List, [], ◌∷◌, length}
-use Rattle.std.proofs.Common.{refl, sym, ap, ◌∙◌, arith, subst, inl, inr, slice_get, slice_set}
-use Rattle.std.proofs.Common.{nat_eq}
-use Rattle.std.specs.Ordering.{nat_cmp}
-use Rattle.std.proofs.lemmas.Bool.{true≢false, eq-eqb, eqb-true, ne_eqb}
-use Rattle.std.proofs.lemmas.List.{get_or-set_same, length-set}
-use Rattle.generational_core.specs.declared.borrow.Borrow.{Borrow}
-use Rattle.generational_core.specs.Cells.Content.{Here}
-use Rattle.generational_errors.specs.declared.error.Location.{Location}
-use Rattle.generational_entries.specs.declared.entry.EntryDetails.{EntryDetails}
-use Rattle.generational_entries.specs.declared.entry.StorageEntry.{StorageEntry}
-use Rattle.generational_entries.specs.Entries.{EntryList, kept_data, index_in, index_of, has_index}
-use Rattle.generational_entries.specs.Entries.{AreIndexed, HasListIndex, unread_data}
-use Rattle.generational_containers.specs.Table.{Releases, no_index, IsUsed, Table, list_at}
-use Rattle.generational_containers.specs.Table.{IsVacant, IsClosed}
-use Rattle.generational_entries.specs.Entry.Kept.{Live}
-use Rattle.generational_entries.specs.declared.entry.Kind.{Kind}
-use Rattle.generational_containers.specs.Lists.{how_many}
-use Rattle.generational_containers.proofs.lists.Lists.{set_written, bit, fewer_within}
-use Rattle.generational_entries.proofs.lists.TableChanges.{Changes, Opens, closed, closed_count}
-use Rattle.generational_entries.proofs.lists.TableChanges.{list_changed, none_some, opened}
-use Rattle.generational_entries.proofs.lists.TableChanges.{opened_count, opened_few, opened_used}
-use Rattle.generational_entries.proofs.lists.TableChanges.{used_still}
+use Rattle.generational_entries.proofs.Common
+use Rattle.generational_entries.proofs.lists
+use Common.{ap, AreIndexed, arith, bit, Bool, Borrow, entries_of, EntryDetails, EntryList, eq-eqb}
+use Common.{eqb-true, false, fewer_within, get_or-set_same, has_index, HasListIndex, Here, how_many}
+use Common.{index_in, index_of, inl, inr, IsClosed, IsUsed, IsVacant, kept_data, Kind, length}
+use Common.{length-set, List, list_at, Live, Location, nat_cmp, nat_eq, ne_eqb, no_index, refl}
+use Common.{Releases, set_written, slice_get, slice_set, StorageEntry, subst, sym, Table, true}
+use Common.{true≢false, unread_data, ℕ, [], ◌+◌, ◌<◌, ◌∙◌, ◌∷◌, ◌≡◌, ◌≢◌, ◌≤◌}
+use lists.TableChanges.{Changes, closed, closed_count, list_changed, none_some, opened}
+use lists.TableChanges.{opened_count, opened_few, opened_used, Opens, used_still}
+use Rattle.generational_entries.proofs.states.Entries.{has_place, IsAt, SameLists, used_here}
 use Rattle.generational_entries.proofs.states.Indexes.{has_listed, indexed, indexed_free}
-use Rattle.generational_entries.proofs.states.Entries.{IsAt, SameLists, has_place, used_here}
 use Rattle.std.specs.FinSet as set
-unfoldable use Rattle.generational_entries.specs.Entries.{entries_of}
 use Rattle.generational_entries.specs.declared.entry.StorageEntryData.TheVariants as slot
 
 module _ {T : Type 0} {t : Table} {es : List (StorageEntry T)} {ls : List EntryDetails}

@@ -1,27 +1,13 @@
 -- What a store lacks where it refuses a call by itself, and what such a call leaves.
-use Rattle.std.proofs.Common.{◌≡◌, Bool, true, false, cond, Option, None, Some, refl, sym, ap, subst}
-use Rattle.std.proofs.Common.{◌∙◌, inl, inr, ⊎_elim}
-use Rattle.std.specs.Prelude.{is_some, is_none, nat_eq, ◌&&◌, ◌⊎◌}
-use Rattle.std.proofs.lemmas.Bool.{true≢false, and_parts, eqb-true, cond_both}
-use Rattle.generational_core.specs.Borrowing.{BorrowRefusal, Guard, reach, can_write, write_refusal}
-use Rattle.generational_core.specs.Borrowing.{refusal_to_read, refusal_to_write}
-use Rattle.generational_core.specs.Cells.{Content, content_of}
-use Rattle.generational_core.specs.Cells.Content.{Here}
-use Rattle.generational_core.specs.Ending.{close, hindrance_to}
-use Rattle.generational_core.specs.Machine.{Action, Answer, NewNames, Outcome, OwnerName, act, unless}
-use Rattle.generational_core.specs.Machine.{cell_at, is_known, own_name, read_at, write_at}
-use Rattle.generational_core.specs.Machine.Action.{Make, NewOwner, Read, Write, End}
-use Rattle.generational_core.specs.Machine.Answer.{Reads, Done, Refused}
-use Rattle.generational_core.specs.Names.{Name}
-use Rattle.generational_core.specs.State.{State}
-use Rattle.generational_core.specs.Steps.{Meets, limit_tickets, takes_ticket, last_ticket, may_lack}
-use Rattle.generational_core.specs.Steps.{needs_memory, no_names}
-use Rattle.generational_core.specs.declared.boxes.GenerationalPointer.{GenerationalPointer}
-use Rattle.generational_errors.specs.declared.error.Location.{Location}
-use Rattle.generational_errors.specs.declared.error.StoreError.{StoreError}
-use Rattle.generational_errors.specs.declared.error.StoreError.TheVariants.{OutOfMemory, NumbersExhausted}
-use Rattle.generational_core.proofs.machine.Resting.{free_reads, rests}
-use Rattle.generational_core.proofs.machine.Stepping.{meets_cases}
+use Rattle.generational_sessions.proofs
+use proofs.{act, Action, and_parts, Answer, ap, Bool, BorrowRefusal, can_write, cell_at, close}
+use proofs.{cond, cond_both, Content, content_of, Done, End, eqb-true, false, free_reads}
+use proofs.{GenerationalPointer, Guard, Here, hindrance_to, inl, inr, is_known, is_none, is_some}
+use proofs.{last_ticket, limit_tickets, Location, Make, may_lack, Meets, meets_cases, Name, nat_eq}
+use proofs.{needs_memory, NewNames, NewOwner, no_names, None, NumbersExhausted, Option, Outcome}
+use proofs.{OutOfMemory, own_name, OwnerName, reach, Read, read_at, Reads, refl, refusal_to_read}
+use proofs.{refusal_to_write, Refused, rests, Some, State, StoreError, subst, sym, takes_ticket}
+use proofs.{true, true≢false, unless, Write, write_at, write_refusal, ⊎_elim, ◌&&◌, ◌∙◌, ◌≡◌, ◌⊎◌}
 use Rattle.generational_sessions.specs.Lacking.{Lacks}
 
 module _ {T : Type 0} where
@@ -34,6 +20,12 @@ module _ {T : Type 0} where
       → is_lack out.0 ≡ false → is_lack (unless t S out).0 ≡ false
   unless_lack S None out h = h
   unless_lack S (Some t) out h = refl
+
+  -- a refusal leaves the next ticket
+  pub next_stays : (S : State T) (t : Option BorrowRefusal) (out : Outcome T) → out.1.next ≡ S.next
+      → (unless t S out).1.next ≡ S.next
+  next_stays S None out h = h
+  next_stays S (Some t) out h = refl
 
   read_lack : (S : State T) (l : Location) (m : Option Name) (c : Option (Content T))
       → is_lack (read_at S l m c).0 ≡ false
@@ -153,10 +145,5 @@ module _ {T : Type 0} where
         → Meets S (End b) answer R → R.next ≡ S.next
     ended_next b answer m = ⊎_elim (λ refused. ap (λ (X : State T). X.next) refused.1)
         (λ acts. ap (λ (out : Outcome T). out.1.next) acts.2
-        ∙ still (hindrance_to S (own_name S b)) (Done, close S (own_name S b)) refl)
+        ∙ next_stays S (hindrance_to S (own_name S b)) (Done, close S (own_name S b)) refl)
         (meets_cases S R (End b) answer m)
-      where
-        still : (t : Option BorrowRefusal) (out : Outcome T) → out.1.next ≡ S.next
-            → (unless t S out).1.next ≡ S.next
-        still None out h = h
-        still (Some t) out h = refl

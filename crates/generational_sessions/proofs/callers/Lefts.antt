@@ -1,25 +1,13 @@
 -- What calls leave: one that changed nothing, one after another, and a write that was released.
-use Rattle.std.proofs.Common.{◌≡◌, [], true, refl, sym, ap, subst, ◌∙◌}
-use Rattle.std.specs.Prelude.{Result, IsOk}
-use Rattle.generational_core.specs.Answers.{WriteGuard, back_answer}
-use Rattle.generational_core.specs.Borrowing.{can_write, fill, reach, take_ticket, write_refusal}
-use Rattle.generational_core.specs.Cells.Content.{Here}
-use Rattle.generational_core.specs.Leaving.{IsLeft, IsSet, LeavesContent}
-use Rattle.generational_core.specs.Boxes.{name_of}
-use Rattle.generational_core.specs.Machine.{Action, Answer}
-use Rattle.generational_core.specs.Machine.Action.{Write, ReleaseWriter}
-use Rattle.generational_core.specs.Machine.Answer.{Writes}
-use Rattle.generational_core.specs.Seeing.{value_in}
-use Rattle.generational_core.specs.State.{State, IsGiven, IsSound}
-use Rattle.generational_core.specs.Steps.{Meets}
-use Rattle.generational_core.specs.declared.boxes.GenerationalPointer.{GenerationalPointer}
-use Rattle.generational_errors.specs.declared.error.Location.{Location}
-use Rattle.generational_core.proofs.machine.Changes.{filled_content}
-use Rattle.generational_core.proofs.machine.Guarding.{writes_back}
-use Rattle.generational_core.proofs.machine.Leaving.{given_other, leaves}
-use Rattle.generational_core.proofs.machine.Resting.{rests_free}
-use Rattle.generational_core.proofs.machine.Telling.{filled_reach}
-use Rattle.generational_sessions.proofs.callers.Rows.{ticket_keeps}
+use Rattle.generational_sessions.proofs
+use Rattle.std.specs.Prelude.{IsOk}
+use Rattle.generational_core.proofs.machine.{Changes.filled_content, Telling.filled_reach}
+use Rattle.generational_core.specs.{Answers.WriteGuard, Leaving.IsSet, Leaving.LeavesContent}
+use proofs.{Action, Answer, ap, back_answer, can_write, fill, GenerationalPointer, given_other}
+use proofs.{Here, IsGiven, IsLeft, IsSound, leaves, Location, Meets, name_of, reach, refl}
+use proofs.{ReleaseWriter, rests_free, Result, State, subst, sym, take_ticket, true, value_in}
+use proofs.{Write, write_refusal, Writes, writes_back, [], ◌∙◌, ◌≡◌}
+use proofs.callers.Rows.{ticket_keeps}
 
 module _ {T : Type 0} where
   -- a box is left where nothing changed

@@ -1,47 +1,24 @@
 -- Owners' lists: no name stands twice in one, nor in two of them, and each call leaves them so.
+use Rattle.generational_sessions.proofs
+use Rattle.std.proofs.lemmas.{Cmp.eq_by_cmp_equiv, Map.Keys.IsDistinct-push}
+use Rattle.std.specs.Cmp.{IsEquivalence}
+use Rattle.generational_core.proofs.maps.Maps.{get-changed_here, get-changed_none, get-remove_here}
+use Rattle.generational_core.proofs.maps.Maps.{name_same}
+use Rattle.generational_core.specs.{Conditions.names_in, Leaving.IsOtherOwner}
+use Rattle.generational_sessions.{proofs.callers.Lefts.left_still, specs.ListedOnce.AreListedOnce}
+use proofs.{act, Action, among, Answer, ap, AreNew, Bool, BorrowRefusal, by_cond, by_number, by_run}
+use proofs.{by_step, Call, Cell, cell_at, change, clone_owner, CloneOwner, close, cond, false}
+use proofs.{fresh, GenerationalPointer, get-insert_here, hindrance_to, inl, inr, is_known, is_name}
+use proofs.{IsDistinct, IsLeft, IsSound, IsSoundSession, keeps_record, key_cases, List}
+use proofs.{list_any-append, Make, MakeShared, Meets, meets_cases, meets_sound, Name, name_apart}
+use proofs.{name_of, name_total, nat_cmp, nat_eq, nat_lt, new_fresh, NewNames, NewOwner, None}
+use proofs.{none≢some, one_less, one_listed, one_more, Option, or_cases, Outcome, OwnerName, Owners}
+use proofs.{Ownership, ownership, reach, Refer, refer, refl, refusal_to_read, release_leaves}
+use proofs.{release_owner, ReleaseOwner, Run, session_kept, SessionReply, SessionState, SessionStep}
+use proofs.{Shared, Some, State, subst, sym, true, true≢false, unless, unlisted, ℕ, [], ⊎_elim}
+use proofs.{◌++◌, ◌∙◌, ◌∷◌, ◌≡◌, ◌≢◌, ◌⊎◌}
 use Rattle.std.specs.FinMap as map
 use Rattle.std.specs.FinSet as set
-use Rattle.std.proofs.Common.{◌≡◌, ◌≢◌, ◌++◌, ◌∷◌, ◌⊎◌, ℕ, Bool, true, false, cond, List, []}
-use Rattle.std.proofs.Common.{Option, None, Some, refl, sym, ap, subst, ◌∙◌, inl, inr, ⊎_elim}
-use Rattle.std.specs.Cmp.{IsEquivalence}
-use Rattle.std.specs.List.{IsDistinct}
-use Rattle.std.specs.Ordering.{nat_cmp}
-use Rattle.std.specs.Prelude.{nat_eq, nat_lt}
-use Rattle.std.proofs.lemmas.Bool.{true≢false, or_cases}
-use Rattle.std.proofs.lemmas.Cmp.{eq_by_cmp_equiv}
-use Rattle.std.proofs.lemmas.Map.Keys.{IsDistinct-push}
-use Rattle.generational_core.specs.Borrowing.{BorrowRefusal, reach, refusal_to_read}
-use Rattle.generational_core.specs.Boxes.{name_of}
-use Rattle.generational_core.specs.Cells.{Cell}
-use Rattle.generational_core.specs.Cells.Cell.{Shared}
-use Rattle.generational_core.specs.Conditions.{fresh, names_in}
-use Rattle.generational_core.specs.Ending.{close, hindrance_to}
-use Rattle.generational_core.specs.Leaving.{IsLeft, IsOtherOwner}
-use Rattle.generational_core.specs.Machine.{Action, Answer, NewNames, Outcome, OwnerName, act, unless}
-use Rattle.generational_core.specs.Machine.{cell_at, clone_owner, is_known, ownership, refer}
-use Rattle.generational_core.specs.Machine.{release_owner}
-use Rattle.generational_core.specs.Machine.Action.{Make, MakeShared, Refer, NewOwner, CloneOwner}
-use Rattle.generational_core.specs.Machine.Action.{ReleaseOwner}
-use Rattle.generational_core.specs.Names.{Name, among, change, is_name}
-use Rattle.generational_core.specs.State.{State, IsSound, Ownership, Owners, one_less, one_listed}
-use Rattle.generational_core.specs.State.{one_more}
-use Rattle.generational_core.specs.Steps.{AreNew, Meets}
-use Rattle.generational_core.specs.declared.boxes.GenerationalPointer.{GenerationalPointer}
-use Rattle.generational_core.proofs.maps.Maps.{by_number, get-changed_here, get-changed_none}
-use Rattle.generational_core.proofs.maps.Maps.{get-insert_here, get-remove_here, key_cases}
-use Rattle.generational_core.proofs.maps.Maps.{name_apart, name_same, name_total}
-use Rattle.generational_core.proofs.machine.Changes.{new_fresh}
-use Rattle.generational_core.proofs.machine.Common.{list_any-append}
-use Rattle.generational_core.proofs.machine.Ends.{by_cond, none≢some}
-use Rattle.generational_core.proofs.machine.Leaving.{release_leaves}
-use Rattle.generational_core.proofs.machine.Owning.{keeps_record, unlisted}
-use Rattle.generational_core.proofs.machine.Stepping.{meets_cases, meets_sound}
-use Rattle.generational_sessions.proofs.callers.Lefts.{left_still}
-use Rattle.generational_sessions.proofs.sessions.Sessions.{by_run, by_step, session_kept}
-use Rattle.generational_sessions.specs.ListedOnce.{AreListedOnce}
-use Rattle.generational_sessions.specs.Session.{Run, SessionReply, SessionState, SessionStep}
-use Rattle.generational_sessions.specs.SoundSession.{IsSoundSession}
-use Rattle.generational_sessions.specs.declared.calls.Call.{Call}
 
 -- names are compared for equality
 name_equal : IsEquivalence is_name
@@ -174,23 +151,18 @@ module _ {T : Type 0} where
     released None is = same (ap names_in is)
     released (Some h) is = by_cond (λ (out : Outcome T). Becomes S h.names (names_of out.1 a))
         (nat_lt 1 h.count) (λ _. put (nat_eq a.store S.number) h.names (one_less h) refl)
-        (λ _. last (hindrance_to S h.names))
-      where
-        last : (t : Option BorrowRefusal) → Becomes S h.names (names_of (unless t S
-            (Answer.Done, record (close S h.names) { owners = map.remove S.owners a.key })).1 a)
-        last None = removed (nat_eq a.store S.number) h.names
-        last (Some t) = same (ap names_in is)
+        (λ _. (elim (hindrance_to S h.names) as (λ t. Becomes S h.names (names_of (unless t S
+        (Answer.Done, record (close S h.names) { owners = map.remove S.owners a.key })).1 a))
+        [ None ↦ removed (nat_eq a.store S.number) h.names | Some t ↦ same (ap names_in is) ]))
 
   -- ---- what each call leaves
 
   -- a name that was never given stands in no list
   unlisted_by : (S : State T) → IsSound S → (o : OwnerName) (n : Name)
       → set.contains S.given n ≡ false → among (names_of S o) n ≡ false
-  unlisted_by S s o n new = at (ownership S o) refl
-    where
-      at : (x : Option Ownership) → ownership S o ≡ x → among (names_in x) n ≡ false
-      at None is = refl
-      at (Some h) is = unlisted S o h n s is new
+  unlisted_by S s o n new =
+      (elim (ownership S o) as (λ x. ownership S o ≡ x → among (names_in x) n ≡ false)
+      [ None ↦ λ is. refl | Some h ↦ λ is. unlisted S o h n s is new ]) refl
 
   module _ (S R : State T) (s : IsSound S) (a : AreApart S) where
     module _ (o : OwnerName) where

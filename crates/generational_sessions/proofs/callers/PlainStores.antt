@@ -1,31 +1,16 @@
 -- Stores without references: a box reaches its own cell, and which calls leave a store so.
+use Rattle.generational_sessions.proofs
+use Rattle.generational_core.proofs.machine.{Changes.new_content, Stepping.meets_follows}
+use Rattle.generational_core.proofs.machine.{Seeing.reaches, Soundness.keep_each}
+use proofs.{act_start, Action, add_cell, add_to_list, Answer, ap, by_cond, by_name, Cell, Content}
+use proofs.{false, fresh, GenerationalPointer, get-insert_apart, get-insert_here, Here, is_known}
+use proofs.{is_making, leads_to, Location, Make, MakeShared, Meets, meets_cases, Name, name_cases}
+use proofs.{name_cmp, name_of, NameMap, None, none≢some, Option, Outcome, OwnerName, reach, Ref}
+use proofs.{Refer, refill, refl, same_Some, Shared, Some, State, subst, sym, true≢false, Value, ℕ}
+use proofs.{[], ⊎_elim, ◌∙◌, ◌≡◌}
+use Rattle.generational_sessions.specs.PlainStores.{IsPlain, MakesNoReference}
 use Rattle.std.specs.FinMap as map
 use Rattle.std.specs.FinSet as set
-use Rattle.std.proofs.Common.{◌≡◌, false, Option, None, Some, refl, sym, ap, subst}
-use Rattle.std.proofs.Common.{◌∙◌, ⊎_elim, ℕ, []}
-use Rattle.std.proofs.lemmas.Bool.{true≢false}
-use Rattle.std.proofs.lemmas.Option.{same_Some}
-use Rattle.generational_core.specs.Borrowing.{reach, leads_to}
-use Rattle.generational_core.specs.Boxes.{name_of}
-use Rattle.generational_core.specs.Cells.{Cell, Content, refill}
-use Rattle.generational_core.specs.Cells.Cell.{Value, Shared, Ref}
-use Rattle.generational_core.specs.Cells.Content.{Here}
-use Rattle.generational_core.specs.Conditions.{fresh}
-use Rattle.generational_core.specs.Machine.{Action, Answer, Outcome, OwnerName}
-use Rattle.generational_core.specs.Machine.{add_cell, add_to_list, is_known}
-use Rattle.generational_core.specs.Machine.Action.{Make, MakeShared, Refer}
-use Rattle.generational_core.specs.Names.{Name, NameMap, name_cmp}
-use Rattle.generational_core.specs.State.{State}
-use Rattle.generational_core.specs.Steps.{Meets}
-use Rattle.generational_core.specs.declared.boxes.GenerationalPointer.{GenerationalPointer}
-use Rattle.generational_errors.specs.declared.error.Location.{Location}
-use Rattle.generational_core.proofs.maps.Maps.{by_name, get-insert_apart, get-insert_here, name_cases}
-use Rattle.generational_core.proofs.machine.Changes.{is_making, new_content}
-use Rattle.generational_core.proofs.machine.Ends.{by_cond, none≢some}
-use Rattle.generational_core.proofs.machine.Seeing.{reaches}
-use Rattle.generational_core.proofs.machine.Soundness.{keep_each}
-use Rattle.generational_core.proofs.machine.Stepping.{act_start, meets_cases, meets_follows}
-use Rattle.generational_sessions.specs.PlainStores.{IsPlain, MakesNoReference}
 
 module _ {T : Type 0} where
   -- ---- what a box reaches

@@ -1,9 +1,8 @@
 -- What clauses on results and options say of the value with which a caller goes on.
-use Rattle.std.proofs.Common.{◌≡◌, Option, None, Some, sym, ap, subst, ◌∙◌}
-use Rattle.std.specs.Prelude.{Result, Ok, Err, IfOk, IfErr, OnOk, OnErr, IfSome, IfNone, OnSome}
-use Rattle.std.specs.Result.{IsErrAnd, result_ok}
-use Rattle.std.proofs.lemmas.Option.{none-some, same_Some}
-use Rattle.std.proofs.lemmas.Result.{IfOk-at_ok}
+use Rattle.std.{proofs.lemmas.Result.IfOk-at_ok, specs.Result.IsErrAnd, specs.Result.result_ok}
+use Rattle.std.specs.Prelude.{IfErr, IfNone, IfOk, IfSome, OnErr, OnSome}
+use Rattle.generational_sessions.proofs.{ap, Err, None, none-some, Ok, OnOk, Option, Result}
+use Rattle.generational_sessions.proofs.{same_Some, Some, subst, sym, ◌∙◌, ◌≡◌}
 
 module _ {X : Type 0} where
   -- where `?` goes on, the value is that of the result

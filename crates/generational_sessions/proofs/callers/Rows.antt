@@ -1,24 +1,13 @@
 -- Rows of boxes: one more, one emptied, and a state in which they show what they showed.
-use Rattle.std.proofs.Common.{◌≡◌, ℕ, zero, suc, true, [], ◌∷◌, ◌++◌, Option, None}
-use Rattle.std.proofs.Common.{Some, refl, sym, ap, subst, ◌∙◌, ◌<◌, length, arith}
-use Rattle.std.specs.Prelude.{slice_index_or, slice_set, ◌+◌, Ok}
-use Rattle.std.proofs.lemmas.List.{map-append, map-set}
-use Rattle.std.proofs.lemmas.Option.{none-some, same_Some}
-use Rattle.generational_core.specs.Answers.{pointer_of}
-use Rattle.generational_core.specs.Borrowing.{reach, can_write, refusal_to_write}
-use Rattle.generational_core.specs.Machine.{Answer, OwnerName}
-use Rattle.generational_core.specs.Machine.Action.{Make, End}
-use Rattle.generational_core.specs.Machine.Answer.{Made, Done}
-use Rattle.generational_core.specs.Seeing.{value_in}
-use Rattle.generational_core.specs.State.{State, IsSound}
-use Rattle.generational_core.specs.Steps.{Meets}
-use Rattle.generational_core.specs.declared.boxes.GenerationalBox.{GenerationalBox}
-use Rattle.generational_core.specs.declared.boxes.GenerationalPointer.{GenerationalPointer}
-use Rattle.generational_errors.specs.declared.error.Location.{Location}
-use Rattle.generational_core.proofs.machine.Calling.{made, made_apart, made_free, keeps, keeps_free}
-use Rattle.generational_core.proofs.machine.Resting.{free_sees}
-use Rattle.generational_sessions.specs.BoxRows.{Rows, IsFree, shown_in, values_in, EachBox, HasOtherName}
-use Rattle.generational_sessions.specs.BoxRows.{AreApart, AreKept}
+use Rattle.generational_sessions.proofs
+use Rattle.std.specs.Prelude.{slice_index_or}
+use proofs.{Answer, ap, arith, can_write, Done, End, free_sees, GenerationalBox}
+use proofs.{GenerationalPointer, IsSound, keeps, keeps_free, length, Location, Made, made}
+use proofs.{made_apart, made_free, Make, map-append, map-set, Meets, None, none-some, Ok, Option}
+use proofs.{OwnerName, pointer_of, reach, refl, refusal_to_write, same_Some, slice_set, Some, State}
+use proofs.{subst, suc, sym, true, value_in, zero, ℕ, [], ◌++◌, ◌+◌, ◌<◌, ◌∙◌, ◌∷◌, ◌≡◌}
+use Rattle.generational_sessions.specs.BoxRows.{AreApart, AreKept, EachBox, HasOtherName, IsFree}
+use Rattle.generational_sessions.specs.BoxRows.{Rows, shown_in, values_in}
 
 module _ {T : Type 0} where
   -- ---- what holds of each box

@@ -1,51 +1,30 @@
 -- For what the calls of new boxes are refused: how many slots a making takes, and that a borrow which
 -- nothing hinders takes a ticket and no memory.
+use Rattle.generational_sessions.proofs
+use Rattle.std.proofs.lemmas.Bool.{ltb-true}
+use Rattle.generational_core.proofs.machine.{Resting.reached_content, Seeing.reached_live}
+use Rattle.generational_core.proofs.maps.Maps.{kept_key, len_within}
+use Rattle.generational_core.specs.{Answers.read_refused, Slots.last_generation}
+use Rattle.generational_errors.specs.declared.error.BorrowError.{BorrowError}
+use proofs.{act, Action, add_cell, and_parts, Answer, answer_to, ap, arith, Bool, BorrowMutError}
+use proofs.{box_of, by_cond, by_name, by_number, can_read, can_write, Cell, cond, Content}
+use proofs.{content_at, end_refused, eqb-true, false, free, free_reads, GenerationalBox}
+use proofs.{GenerationalPointer, get-insert_apart, get-insert_here, given_other, Here, inl, inr}
+use proofs.{is_free, is_none, is_shared, is_some, IsGiven, IsSound, keep_view, keeps_free}
+use proofs.{key_cases, last_name, last_ticket, lasts_insert, leaves, Lent, limit_tickets, Location}
+use proofs.{Made, Make, MakeShared, may_lack, Meets, meets_cases, meets_sound, Name, name_of}
+use proofs.{nat_cmp, nat_cmp_total, nat_eq, nat_lt, needs_memory, new_fresh, NewNames, no_names}
+use proofs.{None, none≢some, not, NumbersExhausted, Ok, Option, Outcome, OutOfMemory, OwnerName}
+use proofs.{pointer_of, reach, Read, Reads, Ref, ref_reaches, Refer, refer, referred_together, refl}
+use proofs.{refusal_to_read, refusal_to_write, Refused, rests, rests_free, Shared, slots_of, Some}
+use proofs.{State, StoreError, subst, sym, takes_ticket, true, true≢false, unwrap_or, Write}
+use proofs.{write_refusal, Writes, ℕ, [], ⊎_elim, ◌&&◌, ◌+◌, ◌<◌, ◌∙◌, ◌∷◌, ◌≡◌, ◌≢◌, ◌≤◌}
+use proofs.callers.Lacking.{first_reader, next_stays}
+use Rattle.generational_sessions.specs.Lacking.{IsReference, IsShort, IsShortage}
 use Rattle.std.specs.FinMap as map
 use Rattle.std.specs.FinSet as set
-use Rattle.std.proofs.Common.{◌≡◌, ◌≢◌, ℕ, ◌+◌, ◌≤◌, ◌<◌, ◌&&◌, Bool, true, false, cond, Option, None}
-use Rattle.std.proofs.Common.{Some, refl, sym, ap, subst, ◌∙◌, inl, inr, ⊎_elim, arith, [], ◌∷◌}
-use Rattle.std.specs.Cmp.{nat_cmp_total}
-use Rattle.std.specs.Ordering.{nat_cmp}
-use Rattle.std.specs.Prelude.{Ok, is_none, is_some, nat_eq, nat_lt, not, unwrap_or}
-use Rattle.std.proofs.lemmas.Bool.{true≢false, eqb-true, ltb-true, and_parts}
-use Rattle.generational_core.specs.Answers.{end_refused, pointer_of, read_refused}
-use Rattle.generational_core.specs.Borrowing.{BorrowRefusal, reach, can_read, can_write, write_refusal}
-use Rattle.generational_core.specs.Borrowing.{refusal_to_read, refusal_to_write}
-use Rattle.generational_core.specs.Boxes.{box_of, name_of}
-use Rattle.generational_core.specs.Cells.{Cell, Content, is_shared}
-use Rattle.generational_core.specs.Cells.Cell.{Ref, Shared}
-use Rattle.generational_core.specs.Cells.Content.{Here, Lent}
-use Rattle.generational_core.specs.Machine.{Action, Answer, NewNames, Outcome, OwnerName, act, add_cell}
-use Rattle.generational_core.specs.Machine.{refer, unless}
-use Rattle.generational_core.specs.Machine.Action.{Make, MakeShared, Refer, Read, Write}
-use Rattle.generational_core.specs.Machine.Answer.{Made, Reads, Writes, Refused}
-use Rattle.generational_core.specs.Names.{Name}
-use Rattle.generational_core.specs.Slots.{free, is_free, last_generation, last_name, slots_of}
-use Rattle.generational_core.specs.State.{State, IsGiven, IsSound, content_at}
-use Rattle.generational_core.specs.Steps.{Meets, answer_to, last_ticket, limit_tickets, may_lack}
-use Rattle.generational_core.specs.Steps.{needs_memory, no_names, takes_ticket}
-use Rattle.generational_core.specs.declared.boxes.GenerationalBox.{GenerationalBox}
-use Rattle.generational_core.specs.declared.boxes.GenerationalPointer.{GenerationalPointer}
-use Rattle.generational_errors.specs.declared.error.BorrowError.{BorrowError}
-use Rattle.generational_errors.specs.declared.error.BorrowMutError.{BorrowMutError}
-use Rattle.generational_errors.specs.declared.error.Location.{Location}
 use Rattle.generational_errors.specs.declared.error.Refused as error
 use Rattle.generational_errors.specs.declared.error.Refused.TheVariants as refused
-use Rattle.generational_errors.specs.declared.error.StoreError.{StoreError}
-use Rattle.generational_errors.specs.declared.error.StoreError.TheVariants.{NumbersExhausted, OutOfMemory}
-use Rattle.generational_core.proofs.maps.Maps.{by_name, by_number, get-insert_apart, get-insert_here}
-use Rattle.generational_core.proofs.maps.Maps.{keep_view, kept_key, key_cases, len_within}
-use Rattle.generational_core.proofs.machine.Bounding.{lasts_insert}
-use Rattle.generational_core.proofs.machine.Calling.{keeps_free, referred_together}
-use Rattle.generational_core.proofs.machine.Changes.{new_fresh}
-use Rattle.generational_core.proofs.machine.Ends.{by_cond, none≢some}
-use Rattle.generational_core.proofs.machine.Leaving.{given_other, leaves}
-use Rattle.generational_core.proofs.machine.Resting.{free_reads, reached_content, rests, rests_free}
-use Rattle.generational_core.proofs.machine.Seeing.{reached_live}
-use Rattle.generational_core.proofs.machine.Soundness.{ref_reaches}
-use Rattle.generational_core.proofs.machine.Stepping.{meets_cases, meets_sound}
-use Rattle.generational_sessions.proofs.callers.Lacking.{first_reader}
-use Rattle.generational_sessions.specs.Lacking.{IsReference, IsShort, IsShortage}
 
 none_there : {A : Type 0} (o : Option A) → is_none o ≡ true → o ≡ None
 none_there None h = refl
@@ -222,11 +201,8 @@ module _ {T : Type 0} where
       let gives = refers S b s r can m.0 in
       let limit = limited S (act S (Refer None b) m.0) gives in
       absurd (true≢false (sym (ap (λ (out : Outcome T). is_box out.0) (m.2 ∙ limit) ∙ gives)
-      ∙ no_box e))
-    where
-      no_box : (e : error.Refused BorrowError) → is_box (read_refused e) ≡ false
-      no_box (refused.Borrow x) = refl
-      no_box (refused.Store x) = refl
+      ∙ (elim e as (λ e. is_box (read_refused e) ≡ false)
+      [ refused.Borrow x ↦ refl | refused.Store x ↦ refl ])))
 
   -- ---- borrows that nothing hinders
 
@@ -326,18 +302,13 @@ module _ {T : Type 0} where
       → Meets S (Refer None b) answer R → R.next ≡ S.next
   referred_next {S} {R} b answer m = ⊎_elim (λ refused. ap (λ (X : State T). X.next) refused.1)
       (λ acts. ap (λ (out : Outcome T). out.1.next) acts.2
-      ∙ refused_or (refusal_to_read S b) _ (gives (reach S b) _ acts.0.first))
+      ∙ next_stays S (refusal_to_read S b) _ (gives (reach S b) _ acts.0.first))
       (meets_cases S R (Refer None b) answer m)
     where
       gives : (to : Option Name) (target : Option (Cell T)) (n : Name)
           → (refer S None b to target n).1.next ≡ S.next
       gives (Some m) (Some (Shared c l)) n = refl
       gives to target n = refl
-
-      refused_or : (t : Option BorrowRefusal) (out : Outcome T) → out.1.next ≡ S.next
-          → (unless t S out).1.next ≡ S.next
-      refused_or None out h = h
-      refused_or (Some t) out h = refl
 
   -- and where the value may be written that it names, it may be written through the new box
   pub referred_free : {S R : State T} (o : Option OwnerName) (c : GenerationalPointer)

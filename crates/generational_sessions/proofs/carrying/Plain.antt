@@ -1,25 +1,22 @@
 -- A call does the same to a state without its values, and is answered the same without values.
-use Rattle.generational_sessions.proofs.sessions
-use sessions.{◌≡◌, list_map, eqb-true, name_cmp, add_cell, BorrowRefused, may_lack, KnowsCall, act_start}
-use sessions.{ℕ, content_at, KnowsNewNames, map_action, map_answer, rename_box, bare_cells, plain_call}
-use sessions.{◌+◌, ◌∷◌, Some, refl, sym, ap, ◌∙◌, inl, inr, Name, Cell, act, Made, Done, bare}
-use sessions.{cond, ◌&&◌, List, None, reach, fresh, NewNames, Owned, Reads, IsNew, Takes, Meets, plain}
-use sessions.{[], is_some, NameMap, Content, BorrowRefusal, Outcome, cell_at, Refused, no_names, renaming}
-use sessions.{Option, content_of, last_ticket, rename_cell, rename_guard, shift_owner, plain_answer}
-use sessions.{subst, arith, nat_eq, nat_lt, map-id, State, Guard, Action, Answer, AreNew, Carries}
-use sessions.{⊎_elim, cond_both, Ownership, OwnerName, answer_to, name_exact, name_total}
-use sessions.{option_map, nat_cmp_total, write_refusal, limit_tickets, needs_memory, without_values}
-use sessions.{AllByRecursion, NumbersExhausted, GenerationalPointer, takes_ticket, rename_ownership}
-use Rattle.generational_sessions.proofs.carrying.{cond_map, some_map, refusals_moved, Matched}
-use Rattle.generational_sessions.proofs.carrying.{act_matched, with_born, reach_cases}
-use Rattle.generational_sessions.proofs.carrying.{content_there}
+use Rattle.generational_sessions.proofs.sessions.Common
 use Rattle.generational_core.proofs.machine.Rows.{get_bare_cell}
-use Rattle.generational_core.specs.Cells.Cell.{Value, Shared, Ref}
-use Rattle.generational_core.specs.Cells.Content.{Here, Lent}
-use Rattle.generational_core.specs.Plain.{bare_cell, bare_content}
-use Rattle.generational_core.specs.declared.borrow.Borrow.{Borrow}
-use Rattle.generational_sessions.specs.Carrying.{rename_content, shift_borrow}
-use Rattle.generational_core.specs.Slots.{Fits, free, is_free, slots_of, last_name}
+use Rattle.generational_core.specs.{Plain.bare_cell, Plain.bare_content, Slots.Fits}
+use Rattle.generational_sessions.proofs.carrying.CarriedCalls.{act_matched, content_there, Matched}
+use Rattle.generational_sessions.proofs.carrying.CarriedCalls.{reach_cases, with_born}
+use Rattle.generational_sessions.proofs.carrying.CarriedCells.{cond_map, refusals_moved, some_map}
+use Common.{act, act_start, Action, add_cell, AllByRecursion, Answer, answer_to, ap, AreNew, arith}
+use Common.{bare, bare_cells, Borrow, BorrowRefusal, BorrowRefused, Carries, Cell, cell_at, cond}
+use Common.{cond_both, Content, content_at, content_of, Done, eqb-true, free, fresh}
+use Common.{GenerationalPointer, Guard, Here, inl, inr, is_free, is_some, IsNew, KnowsCall}
+use Common.{KnowsNewNames, last_name, last_ticket, Lent, limit_tickets, List, list_map, Made}
+use Common.{map-id, map_action, map_answer, may_lack, Meets, Name, name_cmp, name_exact, name_total}
+use Common.{NameMap, nat_cmp_total, nat_eq, nat_lt, needs_memory, NewNames, no_names, None}
+use Common.{NumbersExhausted, Option, option_map, Outcome, Owned, OwnerName, Ownership, plain}
+use Common.{plain_answer, plain_call, reach, Reads, Ref, refl, Refused, rename_box, rename_cell}
+use Common.{rename_content, rename_guard, rename_ownership, renaming, Shared, shift_borrow}
+use Common.{shift_owner, slots_of, Some, State, subst, sym, Takes, takes_ticket, Value}
+use Common.{without_values, write_refusal, ℕ, [], ⊎_elim, ◌&&◌, ◌+◌, ◌∙◌, ◌∷◌, ◌≡◌}
 use Rattle.std.specs.FinMap as map
 use Rattle.std.specs.FinSet as set
 

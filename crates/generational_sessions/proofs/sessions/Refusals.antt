@@ -1,24 +1,21 @@
 -- What a reply tells of refusals: where memory or a ticket may lack, and that nothing has changed.
 use Rattle.generational_sessions.proofs.sessions.Common
-use Common.{◌≡◌, knows_reader, knows_writer, SessionReply, SessionState}
-use Common.{Bool, true, cond, None, Some, refl, ◌&&◌, Call, Name, Cell, Make, wants}
-use Common.{false, nat_eq, eq-eqb, Shared, Action, Answer, unless, settle, Nothing}
-use Common.{Option, cell_at, Refused, refuses, Request, Settles, refusal, release}
-use Common.{sym, subst, reach, NewNames, refer, Refer, gives, spend, State, Meets}
-use Common.{ap, true≢false, StoreError, MakeShared, refusal_in, last_ticket}
-use Common.{◌∙◌, inl, inr, act, Done, Flag, Back, want, Held, ask, Asks}
-use Common.{cond_both, and_parts, none-some, OwnerName, is_release, with_owner, is_refusal}
-use Common.{eqb-true, LeakOwner, TellsLack, add_place, answer_to, is_making}
-use Common.{NumbersExhausted, GenerationalPointer, TellsExhaustion, RefusalLeavesAll}
-use Common.{OutOfMemory, SessionStep, needs_memory, takes_ticket}
-use Common.{UnknownOwner, refusal_to_read, limit_tickets}
-use Common.{BorrowRefusal, is_known}
-use Common.{Outcome, BorrowRefused, at_place, owner_in, reply_of, may_lack, no_names}
-use Rattle.generational_core.proofs.machine.Refusing.{IsAnswered, act_answered, answered_still}
-use Rattle.generational_core.proofs.machine.Refusing.IsAnswered.{troubled, unknown, back, goes}
+use Rattle.generational_core.proofs.machine.Refusing.{act_answered, answered_still, IsAnswered}
+use Rattle.generational_core.proofs.machine.Refusing.IsAnswered.{back, goes, troubled, unknown}
+use Common.{act, Action, add_place, and_parts, Answer, answer_to, ap, ask, Asks, at_place, Back}
+use Common.{Bool, BorrowRefusal, BorrowRefused, Call, Cell, cell_at, cond, cond_both, Done, eq-eqb}
+use Common.{eqb-true, false, Flag, GenerationalPointer, gives, Held, inl, inr, is_known, is_making}
+use Common.{is_refusal, is_release, knows_reader, knows_writer, last_ticket, LeakOwner}
+use Common.{limit_tickets, Make, MakeShared, may_lack, Meets, Name, nat_eq, needs_memory, NewNames}
+use Common.{no_names, None, none-some, Nothing, NumbersExhausted, Option, Outcome, OutOfMemory}
+use Common.{owner_in, OwnerName, reach, Refer, refer, refl, refusal, refusal_in, refusal_to_read}
+use Common.{RefusalLeavesAll, Refused, refuses, release, reply_of, Request, SessionReply}
+use Common.{SessionState, SessionStep, settle, Settles, Shared, Some, spend, State, StoreError}
+use Common.{subst, sym, takes_ticket, TellsExhaustion, TellsLack, true, true≢false, UnknownOwner}
+use Common.{unless, want, wants, with_owner, ◌&&◌, ◌∙◌, ◌≡◌}
+use Rattle.generational_sessions.proofs.sessions.Sessions.{comes_to, ComesTo, is_own}
+use Rattle.generational_sessions.proofs.sessions.Sessions.ComesTo.{asks, swaps, tells}
 use Rattle.generational_core.specs.Leaving.{refuses as is_refused}
-use Rattle.generational_sessions.proofs.sessions.Sessions.{ComesTo, comes_to, is_own}
-use Rattle.generational_sessions.proofs.sessions.Sessions.ComesTo.{tells, swaps, asks}
 use Rattle.generational_sessions.specs.declared.calls.Call.TheVariants as call
 
 module _ {T : Type 0} where
@@ -119,11 +116,9 @@ module _ {T : Type 0} where
   wants_none S out (troubled t) = refl
   wants_none S out unknown = refl
   wants_none S out (back v) = refl
-  wants_none S out (goes o on) = unwanted out.0 on
-    where
-      unwanted : (answer : Answer T) → is_refused answer ≡ false → wants answer ≡ None
-      unwanted (Refused e) on = absurd (true≢false on)
-      unwanted _ on = refl
+  wants_none S out (goes o on) =
+      (elim out.0 as (λ answer. is_refused answer ≡ false → wants answer ≡ None)
+      [ Refused e ↦ λ on. absurd (true≢false on) | _ ↦ λ on. refl ]) on
 
   -- ---- tickets
 

@@ -1,25 +1,29 @@
 -- What each call of a session leaves and promises, in the code and in the machine.
-use Rattle.generational_sessions.proofs.sessions
-use sessions.{◌≡◌, ◌≢◌, suc, ◌∷◌, sym, ap, ◌∙◌, inl, inr, Ok, Err, act, Run, ask, ABox, asks}
-use sessions.{ℕ, fresh_kept, map-append, append-nil, set-get_or, as_replies, session_in, as_refusal}
-use sessions.{zero, name_in, BorrowRefusal, Outcome, IsFresh, Request, Settles, replace, Writing, Nothing}
-use sessions.{Bool, true, cond, List, ◌++◌, None, Some, refl, OnOk, Call, Made, Flag, Done, Held}
-use sessions.{false, may_lack, no_names, at_place, box_held, with_box, reply_of, if_ready, NeedsBox}
-use sessions.{[], back_answer, SessionReply, meets_number, held_changed, session_kept, takes_no_box}
-use sessions.{slice_get, slice_set, is_none, Ownership, can_write, OwnerName, ownership, GivesAsked}
-use sessions.{Option, release_owner, IsSoundSession, GiveBoxesApart, reverse-append, BorrowMutError}
-use sessions.{subst, BoxAt, Place, Action, Answer, unless, box_in, Owning, IsDone, by_run, is_own}
-use sessions.{⊎_elim, Result, is_err, nat_eq, nat_lt, Unready, ComesTo, by_step, map-set, as_held}
-use sessions.{reverse, end_refused, SessionStep, GivesNewBox, AllTellEnds, ended_reply, ended_write}
-use sessions.{append_assoc, hindrance_to, limit_tickets, needs_memory, SessionState, session_ended}
-use sessions.{list_map, can_read, BorrowRefused, add_place, TellsEnds, EndsOwned, KeepBoxes, none-some}
-use sessions.{true≢false, GenerationalPointer, Refused as refuses, AllKeepPromises, reverse-reverse}
-use sessions.{Foreign, IsSound, IsGiven, name_of, comes_to, refusals, IsNewBox, as_reply, exchange}
-use sessions.{State, NewNames, Meets, gives, spend, Boxed, Error, tells, swaps, Reply, Thing, Gives}
-use sessions.{pointer_of, IsReleased, owner_held, with_owner, ended_read, meets_says, meets_given}
-use Rattle.generational_core.proofs.machine.Releasing.{box_ends, box_stays, shared_ends}
-use Rattle.generational_core.proofs.machine.Releasing.{shared_stays, listed_boxed, last_cells}
+use Rattle.generational_sessions.proofs.sessions.Common
 use Rattle.generational_errors.specs.declared.error.Refused.{Refused}
+use Rattle.generational_sessions.proofs.sessions.{asks, swaps, tells}
+use Rattle.generational_sessions.proofs.sessions.{Refusals.refusals, Sessions.takes_no_box}
+use Common.{ABox, act, Action, add_place, AllKeepPromises, AllTellEnds, Answer, ap, append-nil}
+use Common.{append_assoc, as_held, as_refusal, as_replies, as_reply, ask, at_place, back_answer}
+use Common.{Bool, BorrowMutError, BorrowRefusal, BorrowRefused, box_ends, box_held, box_in}
+use Common.{box_stays, BoxAt, Boxed, Call, can_read, can_write, cond, Done, end_refused, ended_read}
+use Common.{ended_reply, ended_write, EndsOwned, Err, Error, exchange, false, Flag, Foreign}
+use Common.{GenerationalPointer, GiveBoxesApart, Gives, gives, GivesAsked, GivesNewBox, Held}
+use Common.{hindrance_to, if_ready, inl, inr, is_err, is_none, IsDone, IsFresh, IsGiven, IsNewBox}
+use Common.{IsReleased, IsSound, IsSoundSession, KeepBoxes, last_cells, limit_tickets, List}
+use Common.{list_map, listed_boxed, Made, map-append, map-set, may_lack, Meets, meets_given}
+use Common.{meets_number, meets_says, name_in, name_of, nat_eq, nat_lt, needs_memory, NeedsBox}
+use Common.{NewNames, no_names, None, none-some, Nothing, Ok, OnOk, Option, Outcome, owner_held}
+use Common.{OwnerName, Ownership, ownership, Owning, Place, pointer_of, refl, release_owner}
+use Common.{replace, Reply, reply_of, Request, Result, reverse, reverse-append, reverse-reverse}
+use Common.{Run, session_in, SessionReply, SessionState, SessionStep, set-get_or, Settles}
+use Common.{shared_ends, shared_stays, slice_get, slice_set, Some, spend, State, subst, suc, sym}
+use Common.{TellsEnds, Thing, true, true≢false, unless, Unready, with_box, with_owner, Writing}
+use Common.{zero, ℕ, [], ⊎_elim, ◌++◌, ◌∙◌, ◌∷◌, ◌≡◌, ◌≢◌}
+use Rattle.generational_sessions.proofs.sessions.Sessions.{by_run, by_step, comes_to, ComesTo}
+use Rattle.generational_sessions.proofs.sessions.Sessions.{fresh_kept, held_changed, is_own}
+use Rattle.generational_sessions.proofs.sessions.Sessions.{session_ended, session_kept}
+use Rattle.generational_sessions.proofs.sessions.{Refused as refuses}
 use Rattle.generational_sessions.specs.declared.calls.Call.TheVariants as call
 use Rattle.generational_errors.specs.declared.error.Refused.TheVariants as refused
 
@@ -199,11 +203,9 @@ module _ {T : Type 0} where
   box_in_kept : (s r : SessionState T) (c : Call T) (x : SessionReply T) → SessionStep s c x r
       → (a : BoxAt T) (b : GenerationalPointer) → box_in s a ≡ Some b → box_in r a ≡ Some b
   box_in_kept s r c x step (Place p) b is =
-      ap box_held (keep_boxes s r c x step p b (boxed (at_place s.table p) is))
-    where
-      boxed : (h : Held T) → box_held h ≡ Some b → h ≡ Boxed b
-      boxed (Boxed d) e = let same : d ≡ b = cc in ap Boxed same
-      boxed h e = cc
+      ap box_held (keep_boxes s r c x step p b ((elim (at_place s.table p) as (λ h. box_held h
+      ≡ Some b → h ≡ Boxed b)
+      [ Boxed d ↦ λ e. let same : d ≡ b = cc in ap Boxed same | h ↦ λ e. cc ]) is))
   box_in_kept s r c x step (Foreign d) b is = ap (λ n. cond (nat_eq (pointer_of d).id.store n)
       None (Some (pointer_of d))) (by_step s r c x (λ S. S.number ≡ s.state.number)
       (λ S R action answer e meets. meets_number S R action answer meets ∙ e) step refl) ∙ is

@@ -1,25 +1,24 @@
 -- Each call of a session keeps what holds of every session, and so does a whole run.
 use Rattle.generational_sessions.proofs.sessions.Common
-use Common.{◌≡◌, subst, arith, State, fresh, Guard, reach, Owned, Reads, Meets, gives, spend, Boxed}
-use Common.{◌≢◌, suc, ◌+◌, ◌≤◌, ◌<◌, ◌∷◌, sym, ◌∙◌, inl, inr, ◌⊎◌, Made, Done, Held, Run, ask, swap}
-use Common.{ℕ, zero, Bool, true, cond, List, ◌++◌, None, Some, refl, Call, Name, Cell, IsOwn}
-use Common.{false, sum_by-cons, sum_by_push, meets_number, writes_known, reader_stays, writer_stays}
-use Common.{[], nat_eq_equiv, knows_reader, knows_writer, SessionState, SessionReply, fresh_bounded}
-use Common.{ap, true≢false, content_at, owner_held, meets_value}
-use Common.{length, IsSound, IsEnded, Request, Settles, release, replace, Reading, Writing, Nothing}
-use Common.{slice_set, count_under, SessionStep, holds_owner, Undisturbed, fresh_sound, ref_reaches}
-use Common.{Option, ⊎_elim, eq-eqb, Action, Answer, Writes, box_in, Owning, AreOne}
-use Common.{is_some, count_by, eqb-true, Location, count_in, can_read, is_known}
-use Common.{and_parts, meets_sound, meets_ended, reads_known, ends_reader, ends_writer}
-use Common.{name_of, at_place, owner_in, with_box, if_ready, value_at, made_new}
-use Common.{false_from_ne_true, GenerationalPointer, IsSoundSession, IsUndisturbed, meets_bounded}
-use Common.{is_shared, Ownership, IsBounded, can_write, OwnerName, add_place, with_owner, AskedSets}
-use Rattle.generational_sessions.proofs.sessions.OwnerValues.{owners_in, takes, meets_counts}
+use Rattle.generational_core.proofs.machine.Guarding.{reader_stands, writer_stands}
+use Common.{Action, add_place, and_parts, Answer, ap, AreOne, arith, ask, AskedSets, at_place, Bool}
+use Common.{box_in, Boxed, boxed_stays, Call, can_read, can_write, Cell, cond, content_at, count_by}
+use Common.{count_in, count_under, Done, ends_reader, ends_writer, eq-eqb, eqb-true, false}
+use Common.{false_from_ne_true, fresh, fresh_bounded, fresh_sound, GenerationalPointer, gives}
+use Common.{Guard, Held, holds_owner, if_ready, inl, inr, is_known, is_shared, is_some, IsBounded}
+use Common.{IsEnded, IsOwn, IsSound, IsSoundSession, IsUndisturbed, knows_reader, knows_writer}
+use Common.{length, List, Location, Made, made_boxed, made_new, Meets, meets_bounded, meets_ended}
+use Common.{meets_number, meets_sound, meets_value, Name, name_of, nat_eq_equiv, None, Nothing}
+use Common.{Option, Owned, owner_held, owner_in, OwnerName, Ownership, Owning, reach, reader_stays}
+use Common.{Reading, Reads, reads_known, ref_reaches, refl, release, replace, Request, Run}
+use Common.{SessionReply, SessionState, SessionStep, Settles, slice_set, Some, spend, State, subst}
+use Common.{suc, sum_by-cons, sum_by_push, swap, sym, true, true≢false, Undisturbed, value_at}
+use Common.{with_box, with_owner, writer_stays, Writes, writes_known, Writing, zero, ℕ, [], ⊎_elim}
+use Common.{◌++◌, ◌+◌, ◌<◌, ◌∙◌, ◌∷◌, ◌≡◌, ◌≢◌, ◌≤◌, ◌⊎◌}
+use Rattle.generational_sessions.proofs.sessions.OwnerValues.{meets_counts, owners_in, takes}
 use Rattle.std.specs.FinMap as map
 use Rattle.std.specs.FinSet as set
 use Rattle.generational_sessions.specs.declared.calls.Call.TheVariants as call
-use Rattle.generational_core.proofs.machine.Boxing.{boxed_stays, made_boxed}
-use Rattle.generational_core.proofs.machine.Guarding.{reader_stands, writer_stands}
 
 module _ {T : Type 0} where
   -- ---- places of a table

@@ -1,35 +1,21 @@
 -- What a write to a slot, or a new slot, is in the state for which the slots stand.
-use Rattle.std.proofs.Common.{◌≡◌, ◌≢◌, ℕ, ◌+◌, ◌-◌, ◌<◌, ◌≤◌, Bool, true, false, cond, ◌&&◌, ◌||◌}
-use Rattle.std.proofs.Common.{List}
-use Rattle.std.proofs.Common.{length, Option, None, Some, Result, Ok, Err, IfSome}
-use Rattle.std.proofs.Common.{refl, sym, ap, ◌∙◌, arith, slice_get}
-use Rattle.std.proofs.Common.{is_some, option_map, not, nat_eq, nat_lt, subst, OnOk, OnErr, IfErr}
-use Rattle.std.specs.Ordering.{nat_cmp}
-use Rattle.std.specs.Cmp.{nat_cmp_total}
-use Rattle.std.proofs.lemmas.Bool.{false≢true, eqb-true, eq-eqb, lt-ltb, le-ltb}
-use Rattle.std.proofs.lemmas.List.{length-set}
-use Rattle.std.proofs.lemmas.Option.{slice_get_within}
+use Rattle.generational_slots.proofs.Common
+use Common.{ap, AreReferred, arith, bit, Bool, by_name, Cell, cell_at, cell_in, cell_of, cells_of}
+use Common.{change_content, change_entry, changed_there, cond, contains-insert_at}
+use Common.{contains-insert_name, contains_own, Content, content_at, content_in, content_of, Count}
+use Common.{count_of, Empty, Entry, eq-eqb, eqb-true, Err, false, false≢true, fill, get-insert_name}
+use Common.{given_in, given_of, has_no_borrow, HasBegun, how_many, IfErr, IfSome, is_live, is_name}
+use Common.{is_reusable, is_shared, is_some, is_spent, IsReferred, IsSlotTable, IsWritten, Kept}
+use Common.{Kind, last_generation, le-ltb, length, length-set, List, Live, Location, location_of}
+use Common.{lt-ltb, Name, name_exact, name_test, name_total, nat_cmp, nat_cmp_total, nat_eq, nat_lt}
+use Common.{None, not, Ok, OnErr, OnOk, Option, option_map, passes, Refers, refers, refers_to}
+use Common.{refill, refl, Result, Retirements, set_written, Shared, slice_get, slice_get_within}
+use Common.{SlotsState, SlotTable, Some, State, state_of, subst, sym, true, Value, with_content, ℕ}
+use Common.{◌&&◌, ◌+◌, ◌-◌, ◌<◌, ◌||◌, ◌∙◌, ◌≡◌, ◌≢◌, ◌≤◌}
+use Rattle.generational_slots.proofs.states.States.{get_cells, get_given, live_cell}
 use Rattle.std.specs.FinMap as map
 use Rattle.std.specs.FinSet as set
-use Rattle.generational_slots.proofs.Common.{Location, location_of, fill, Content, content_of, Cell}
-use Rattle.generational_slots.proofs.Common.{refill}
-use Rattle.generational_slots.proofs.Common.{Value, Shared, Name, is_name, is_shared, refers_to}
-use Rattle.generational_slots.proofs.Common.{last_generation, by_name, name_total, name_exact}
-use Rattle.generational_slots.proofs.Common.{get-insert_name, contains-insert_name, changed_there}
-use Rattle.generational_slots.proofs.Common.{name_test, Empty, Live, Refers, Kind, Kept, Entry}
-use Rattle.generational_slots.proofs.Common.{cell_of, cells_of, given_of, state_of, cell_in}
-use Rattle.generational_slots.proofs.Common.{cell_at}
-use Rattle.generational_slots.proofs.Common.{given_in, is_spent, is_reusable, HasBegun, IsSlotTable}
-use Rattle.generational_slots.proofs.Common.{IsReferred, AreReferred, refers, how_many}
-use Rattle.generational_slots.proofs.Common.{change_entry}
-use Rattle.generational_slots.proofs.Common.{is_live, with_content, content_in, content_at, State}
-use Rattle.generational_slots.proofs.Common.{has_no_borrow}
-use Rattle.generational_slots.specs.SlotsState.{change_content}
-use Rattle.generational_slots.proofs.Common.{Count, SlotTable, Retirements, SlotsState, count_of}
 use Rattle.generational_entries.specs.declared.entry.Kind.TheVariants as kind
-use Rattle.generational_containers.proofs.lists.Lists.{IsWritten, set_written, bit, passes}
-use Rattle.generational_containers.proofs.lists.Lists.{contains_own, contains-insert_at}
-use Rattle.generational_slots.proofs.states.States.{get_cells, get_given, live_cell}
 
 module _ {T : Type 0} {slots after : List (Entry T)} {i : ℕ} {t : Entry T}
     (w : IsWritten slots after i t) where
@@ -250,17 +236,18 @@ module _ {T : Type 0} where
       at None there h = absurd (false≢true h)
       at (Some e) there h = own e there _ refl h
 
+  -- a cell with a content is live
+  pub some_cell : (o : Option (Cell T)) → is_some (content_of o) ≡ true → is_some o ≡ true
+  some_cell None h = h
+  some_cell (Some c) h = refl
+
   pub held : (slots : List (Entry T)) (n : Name)
       → is_some (content_of (map.get (cells_of slots) n)) ≡ true → IsHeld slots n
   held slots n h =
-      let f = found slots n (some (map.get (cells_of slots) n) h) in
+      let f = found slots n (some_cell (map.get (cells_of slots) n) h) in
       at f f.kept f.there (rw (get_cells slots n, f.there, eq-eqb n.generation n.generation refl)
       at h)
     where
-      some : (o : Option (Cell T)) → is_some (content_of o) ≡ true → is_some o ≡ true
-      some None h = h
-      some (Some c) h = refl
-
       at : IsFound slots n → (k : Kept T) {r : ℕ} → slice_get slots n.slot
           ≡ Some (record { generation = n.generation; kept = k; references = r })
           → is_some (content_of (cell_of k)) ≡ true → IsHeld slots n
@@ -536,11 +523,6 @@ pub returned : {T U : Type 0} (v : T) (r : Result U T) {P Q X : Type 0} → OnOk
 returned v (Ok a) ok err f h = f ok
 returned v (Err back) ok err f h = h err.1
 
-pub back_then : {T U : Type 0} (v : T) (r : Result U T) {Q R : Type 0} → (Q → R)
-    → IfErr r (λ back. (back ≡ v) × Q) → IfErr r (λ back. (back ≡ v) × R)
-back_then v (Ok a) f err = tt
-back_then v (Err back) f err = (err.0, f err.1)
-
 -- a content without borrows is there
 pub unborrowed_there : {T : Type 0} (o : Option (Content T)) → has_no_borrow o ≡ true
     → is_some o ≡ true
@@ -556,8 +538,6 @@ next_told g (Some e) is = ap (λ n. n + 1) is
 -- whether a name has a target, as the store tells it
 pub has_target : {A B : Type 0} (f : A → B) (o : Option A) {p : Option B} {b : Bool}
     → option_map f o ≡ p → is_some o ≡ b → is_some p ≡ b
-has_target {A} f o same h = ap is_some (sym same) ∙ (at o ∙ h)
-  where
-    at : (o : Option A) → is_some (option_map f o) ≡ is_some o
-    at None = refl
-    at (Some x) = refl
+has_target {A} f o same h = ap is_some (sym same) ∙ ((elim o as (λ o. is_some (option_map f o)
+    ≡ is_some o)
+    [ None ↦ refl | Some x ↦ refl ]) ∙ h)

@@ -1,38 +1,21 @@
 -- The counts of references where a cell comes or goes.
-use Rattle.std.proofs.Common.{◌≡◌, ◌≢◌, ℕ, ◌+◌, ◌-◌, ◌<◌, Bool, true, false, cond, List, []}
-use Rattle.std.proofs.Common.{length, Option, None, Some, IfSome, refl, sym, ap, ◌∙◌, arith}
-use Rattle.std.proofs.Common.{is_some}
-use Rattle.std.proofs.Common.{◌&&◌, slice_get, nat_eq, nat_lt, option_map, subst, zero}
-use Rattle.std.proofs.Common.{suc}
-use Rattle.std.proofs.lemmas.Bool.{true≢false, false≢true, eq-eqb, lt-ltb, ne_eqb}
-use Rattle.std.proofs.lemmas.List.{length-set}
-use Rattle.std.proofs.lemmas.Option.{slice_get_within}
+use Rattle.generational_slots.proofs.Common
+use Common.{ap, AreReferred, arith, bit, Bool, Cell, cell_at, cell_in, cell_of, CellName, cells_of}
+use Common.{change_entry, change_entry_if, cond, count_less, count_more, Empty, Entry, eq-eqb, Err}
+use Common.{false, false≢true, fewer_within, free, HasTargets, how_many, IfSome, is_err, is_live}
+use Common.{is_name, is_named, is_shared, is_some, IsReferred, IsSlotTable, IsUnborrowed, IsWritten}
+use Common.{Kept, kept_data, Kind, length, length-set, List, Live, Location, lt-ltb, many_some}
+use Common.{Name, name_of_cell, name_same, name_test, named_gives, nat_eq, nat_lt, ne_eqb, None, Ok}
+use Common.{OnErr, Option, option_map, passes, Ref, Refers, refers, refers_to, refl, Result}
+use Common.{set_written, Shared, shared_target, slice_get, slice_get_within, SlotTable, Some}
+use Common.{state_of, StorageEntryData, subst, suc, sym, target_in, target_of, true, true≢false}
+use Common.{Value, zero, ℕ, [], ◌&&◌, ◌+◌, ◌-◌, ◌<◌, ◌∙◌, ◌≡◌, ◌≢◌}
+use Rattle.generational_slots.proofs.states.{References.named_count, States.get_cells}
+use Rattle.generational_slots.proofs.states.Changes.{emptied, ended, found, IsFound, referred}
+use Rattle.generational_slots.proofs.states.Changes.{slotted_still, state_same}
 use Rattle.std.specs.FinMap as map
-use Rattle.generational_core.proofs.maps.Maps.{named_gives}
 use Rattle.generational_entries.specs.declared.entry.Kind.TheVariants as kind
-use Rattle.generational_entries.specs.declared.entry.StorageEntryData.{StorageEntryData}
 use Rattle.generational_entries.specs.declared.entry.StorageEntryData.TheVariants as slot
-use Rattle.generational_entries.specs.Entries.{IsUnborrowed, kept_data, target_of}
-use Rattle.generational_entries.specs.Entry.{change_entry_if}
-use Rattle.generational_slots.proofs.Common.{AreReferred, Cell, CellName, Empty, Entry, HasTargets}
-use Rattle.generational_slots.proofs.Common.{SlotTable, IsReferred, IsSlotTable, Kept, Live, Location}
-use Rattle.generational_slots.proofs.Common.{Name, Ref}
-use Rattle.generational_slots.proofs.Common.{Kind, Shared}
-use Rattle.generational_slots.proofs.Common.{Value, cell_in, free}
-use Rattle.generational_entries.specs.Entry.{target_in}
-use Rattle.std.proofs.Common.{Err, Ok, OnErr, Result}
-use Rattle.std.specs.Result.{is_err}
-use Rattle.generational_slots.proofs.Common.{Refers, cell_at, cell_of, cells_of, change_entry}
-use Rattle.generational_slots.proofs.Common.{count_less, count_more, how_many, is_live, is_name}
-use Rattle.generational_slots.proofs.Common.{is_named, is_shared, name_of_cell, name_same}
-use Rattle.generational_slots.proofs.Common.{refers, refers_to, shared_target, state_of, name_test}
-use Rattle.generational_containers.proofs.lists.Lists.{IsWritten, bit, many_some, passes}
-use Rattle.generational_containers.proofs.lists.Lists.{set_written}
-use Rattle.generational_slots.proofs.states.Changes.{IsFound, emptied, ended}
-use Rattle.generational_slots.proofs.states.Changes.{found, referred, slotted_still, state_same}
-use Rattle.generational_containers.proofs.lists.Lists.{fewer_within}
-use Rattle.generational_slots.proofs.states.References.{named_count}
-use Rattle.generational_slots.proofs.states.States.{get_cells}
 
 -- what a name of the store is, is a name
 pub if_named : (o : Option CellName) (P : Name → Type 0) → IfSome (option_map name_of_cell o) P
@@ -59,12 +42,9 @@ module _ {T : Type 0} where
         rw there (set_written slots i (record e { references = f e }) e there)
 
     pub recounted_length : length recounted ≡ length slots
-    recounted_length = at (slice_get slots i)
-      where
-        at : (o : Option (Entry T))
-            → length (change_entry_if slots i (λ e. record e { references = f e }) o) ≡ length slots
-        at None = refl
-        at (Some e) = length-set slots i _
+    recounted_length = elim (slice_get slots i) as (λ o. length (change_entry_if slots i (λ e.
+        record e { references = f e }) o) ≡ length slots)
+        [ None ↦ refl | Some e ↦ length-set slots i _ ]
 
     pub recounted_state : (start peak : ℕ)
         → state_of start peak recounted ≡ state_of start peak slots
@@ -77,14 +57,12 @@ module _ {T : Type 0} where
 
     -- no slot refers to another cell than before
     pub recounted_many : (q : Name) → how_many (refers q) recounted ≡ how_many (refers q) slots
-    recounted_many q = at (slice_get slots i) refl
-      where
-        at : (o : Option (Entry T)) → slice_get slots i ≡ o
-            → how_many (refers q) recounted ≡ how_many (refers q) slots
-        at None there = rw there refl
-        at (Some e) there =
-            let c = (recounted_written e there).count (refers q) in
-            let p = ap (λ o. bit (passes (refers q) o)) there in omega (arith, c, p)
+    recounted_many q = (elim (slice_get slots i) as (λ o. slice_get slots i ≡ o
+        → how_many (refers q) recounted ≡ how_many (refers q) slots) [
+          | None ↦ λ there. rw there refl
+          | Some e ↦ λ there. let c = (recounted_written e there).count (refers q) in
+              let p = ap (λ o. bit (passes (refers q) o)) there in omega (arith, c, p)
+        ]) refl
 
   -- what holds of the slots holds with other counts
   module _ {p : SlotTable T} (s : IsSlotTable p) where
@@ -106,11 +84,14 @@ module _ {T : Type 0} where
     less_slotted None = s
     less_slotted (Some m) = recounted_slotted m.slot (λ e. e.references - 1)
 
+  -- the slot of a live cell that passes a test
+  abbrev pub SlotOf : List (Entry T) → Name → (Option (Cell T) → Bool) → Type 0
+  SlotOf slots n test = (e : Entry T) × (slice_get slots n.slot ≡ Some e)
+      × (e.generation ≡ n.generation) × (test (cell_of e.kept) ≡ true)
+
   -- the slot of a live cell, told by the machine's map
   pub slot_of : (slots : List (Entry T)) (n : Name) (test : Option (Cell T) → Bool)
-      → test None ≡ false → test (map.get (cells_of slots) n) ≡ true
-      → (e : Entry T) × (slice_get slots n.slot ≡ Some e) × (e.generation ≡ n.generation)
-      × (test (cell_of e.kept) ≡ true)
+      → test None ≡ false → test (map.get (cells_of slots) n) ≡ true → SlotOf slots n test
   slot_of slots n test none h =
       let f = found slots n (some (map.get (cells_of slots) n) h) in (
         record { generation = n.generation; kept = f.kept; references = f.references },
@@ -183,8 +164,7 @@ module _ {T : Type 0} where
 
     -- the slot of a target
     module _ (m : Name) (shared : is_shared (map.get (cells_of slots) m) ≡ true) where
-      target_slot : (e : Entry T) × (slice_get slots m.slot ≡ Some e)
-          × (e.generation ≡ m.generation) × (is_shared (cell_of e.kept) ≡ true)
+      target_slot : SlotOf slots m is_shared
       target_slot = slot_of slots m is_shared refl shared
 
       target_apart : m.slot ≢ i
@@ -231,87 +211,6 @@ module _ {T : Type 0} where
           let before = rw target_after at (referred_added.each m.slot) in
           let count = before target_slot.3 in omega arith)
 
--- ---- a content without borrows
-
-module _ {T : Type 0} where
-  pub unborrowed_cell : (d : StorageEntryData T) (l : Location) → IsUnborrowed d
-      → (c : Cell T) × (cell_of (kept_data [] l d) ≡ Some c)
-  unborrowed_cell (slot.Data kind.Value v) l free = (_, refl)
-  unborrowed_cell (slot.Data kind.Shared v) l free = (_, refl)
-  unborrowed_cell (slot.Read kd x v) l free = absurd free
-  unborrowed_cell (slot.Reference m g) l free = (_, refl)
-  unborrowed_cell slot.Empty l free = absurd free
-  unborrowed_cell (slot.Lent kd x) l free = absurd free
-
-  module _ {slots after : List (Entry T)} {i g : ℕ} (d : StorageEntryData T) (l : Location)
-      (w : IsWritten slots after i
-      (record { generation = g; kept = kept_data [] l d; references = 0 }))
-      (dead : passes (λ e. is_live e.kept) (slice_get slots i) ≡ false)
-      (r : AreReferred (λ m. 0) slots) (targets : HasTargets (cells_of slots))
-      (fresh : map.get (cells_of slots) (record { slot = i; generation = g }) ≡ None) where
-    -- what it names, if it's a reference, counts it, and then all counts are right
-    pub made_referred : IsUnborrowed d
-        → IfSome (target_of d) (λ m. is_shared (map.get (cells_of slots) m) ≡ true)
-        → AreReferred (λ q. 0) (count_more after (target_of d))
-    made_referred free there = at d refl free there
-      where
-        none : (kd : Kind) (v : T) (q : Name)
-            → refers_to q (cell_of (kept_data [] l (slot.Data kd v))) ≡ false
-        none kind.Value v q = refl
-        none kind.Shared v q = refl
-
-        at : (e : StorageEntryData T) → d ≡ e → IsUnborrowed e
-            → IfSome (target_of e) (λ m. is_shared (map.get (cells_of slots) m) ≡ true)
-            → AreReferred (λ q. 0) (count_more after (target_of e))
-        at (slot.Read kd x v) is free there = absurd free
-        at (slot.Data kd v) is free there =
-            let added = referred_added w dead r targets fresh refl in
-            subst (λ less. AreReferred less after)
-            (λ j q. bit ((ap (λ e. refers_to q (cell_of (kept_data [] l e))) is ∙ none kd v q) j))
-            added
-        at (slot.Reference m n) is free there =
-            referred_more w dead r targets fresh refl (record { slot = m; generation = n }) there
-            (λ q. ap (λ e. refers_to q (cell_of (kept_data [] l e))) is)
-        at slot.Empty is free there = absurd free
-        at (slot.Lent kd x) is free there = absurd free
-
-    pub made_within : IfSome (target_of d) (λ m. is_shared (map.get (cells_of slots) m) ≡ true)
-        → IfSome (target_of d) (λ m. m.slot < length after)
-    made_within there = at (target_of d) there
-      where
-        at : (o : Option Name) → IfSome o (λ m. is_shared (map.get (cells_of slots) m) ≡ true)
-            → IfSome o (λ m. m.slot < length after)
-        at None there = tt
-        at (Some m) there = target_within w dead r targets fresh refl m there
-
-    pub made_few : IfSome (target_of d) (λ m. is_shared (map.get (cells_of slots) m) ≡ true)
-        → IfSome (target_of d)
-        (λ m. IfSome (slice_get after m.slot) (λ e. e.references < length after))
-    made_few there = at (target_of d) there
-      where
-        at : (o : Option Name) → IfSome o (λ m. is_shared (map.get (cells_of slots) m) ≡ true)
-            → IfSome o (λ m. IfSome (slice_get after m.slot) (λ e. e.references < length after))
-        at None there = tt
-        at (Some m) there = target_few w dead r targets fresh refl m there
-
-  -- what counts a reference more stands for the same state
-  module _ (slots : List (Entry T)) (o : Option Name) where
-    pub more_length : length (count_more slots o) ≡ length slots
-    more_length = at o
-      where
-        at : (o : Option Name) → length (count_more slots o) ≡ length slots
-        at None = refl
-        at (Some m) = recounted_length slots m.slot (λ e. e.references + 1)
-
-    pub more_state : (start peak : ℕ)
-        → state_of start peak (count_more slots o) ≡ state_of start peak slots
-    more_state start peak = at o
-      where
-        at : (o : Option Name)
-            → state_of start peak (count_more slots o) ≡ state_of start peak slots
-        at None = refl
-        at (Some m) = recounted_state slots m.slot (λ e. e.references + 1) start peak
-
 -- an entry that isn't live, and one past the last, are no cell of a name
 pub new_fresh : {T : Type 0} (slots : List (Entry T)) (i g : ℕ)
     → passes (λ e. is_live e.kept) (slice_get slots i) ≡ false
@@ -329,6 +228,88 @@ new_fresh {T} slots i g dead = get_cells slots (record { slot = i; generation = 
     at None dead = refl
     at (Some e) dead = lives (nat_eq g e.generation) e.kept dead
 
+-- ---- a content without borrows
+
+module _ {T : Type 0} where
+  pub unborrowed_cell : (d : StorageEntryData T) (l : Location) → IsUnborrowed d
+      → (c : Cell T) × (cell_of (kept_data [] l d) ≡ Some c)
+  unborrowed_cell (slot.Data kind.Value v) l free = (_, refl)
+  unborrowed_cell (slot.Data kind.Shared v) l free = (_, refl)
+  unborrowed_cell (slot.Read kd x v) l free = absurd free
+  unborrowed_cell (slot.Reference m g) l free = (_, refl)
+  unborrowed_cell slot.Empty l free = absurd free
+  unborrowed_cell (slot.Lent kd x) l free = absurd free
+
+  -- a content without borrows, written where no cell was, and what it names, if it's a reference
+  pub record IsMaking (slots after : List (Entry T)) (i g : ℕ) (d : StorageEntryData T)
+      (l : Location) : Type 0 where
+    pub written : IsWritten slots after i
+        (record { generation = g; kept = kept_data [] l d; references = 0 })
+    pub dead : passes (λ e. is_live e.kept) (slice_get slots i) ≡ false
+    pub counted : AreReferred (λ m. 0) slots
+    pub linked : HasTargets (cells_of slots)
+    pub free : IsUnborrowed d
+    pub target : IfSome (target_of d) (λ m. is_shared (map.get (cells_of slots) m) ≡ true)
+
+  module _ {slots after : List (Entry T)} {i g : ℕ} {d : StorageEntryData T} {l : Location}
+      (m : IsMaking slots after i g d l) where
+    fresh : map.get (cells_of slots) (record { slot = i; generation = g }) ≡ None
+    fresh = new_fresh slots i g m.dead
+
+    -- what it names, if it's a reference, counts it, and then all counts are right
+    pub made_referred : AreReferred (λ q. 0) (count_more after (target_of d))
+    made_referred = at d refl m.free m.target
+      where
+        none : (kd : Kind) (v : T) (q : Name)
+            → refers_to q (cell_of (kept_data [] l (slot.Data kd v))) ≡ false
+        none kind.Value v q = refl
+        none kind.Shared v q = refl
+
+        at : (e : StorageEntryData T) → d ≡ e → IsUnborrowed e
+            → IfSome (target_of e) (λ m. is_shared (map.get (cells_of slots) m) ≡ true)
+            → AreReferred (λ q. 0) (count_more after (target_of e))
+        at (slot.Read kd x v) is free there = absurd free
+        at (slot.Data kd v) is free there =
+            let added = referred_added m.written m.dead m.counted m.linked fresh refl in
+            subst (λ less. AreReferred less after)
+            (λ j q. bit ((ap (λ e. refers_to q (cell_of (kept_data [] l e))) is ∙ none kd v q) j))
+            added
+        at (slot.Reference k n) is free there =
+            referred_more m.written m.dead m.counted m.linked fresh refl
+            (record { slot = k; generation = n }) there
+            (λ q. ap (λ e. refers_to q (cell_of (kept_data [] l e))) is)
+        at slot.Empty is free there = absurd free
+        at (slot.Lent kd x) is free there = absurd free
+
+    pub made_within : IfSome (target_of d) (λ q. q.slot < length after)
+    made_within = at (target_of d) m.target
+      where
+        at : (o : Option Name) → IfSome o (λ q. is_shared (map.get (cells_of slots) q) ≡ true)
+            → IfSome o (λ q. q.slot < length after)
+        at None there = tt
+        at (Some q) there = target_within m.written m.dead m.counted m.linked fresh refl q there
+
+    pub made_few : IfSome (target_of d)
+        (λ q. IfSome (slice_get after q.slot) (λ e. e.references < length after))
+    made_few = at (target_of d) m.target
+      where
+        at : (o : Option Name) → IfSome o (λ q. is_shared (map.get (cells_of slots) q) ≡ true)
+            → IfSome o (λ q. IfSome (slice_get after q.slot) (λ e. e.references < length after))
+        at None there = tt
+        at (Some q) there = target_few m.written m.dead m.counted m.linked fresh refl q there
+
+  -- what counts a reference more stands for the same state
+  module _ (slots : List (Entry T)) (o : Option Name) where
+    pub more_length : length (count_more slots o) ≡ length slots
+    more_length = elim o as (λ o. length (count_more slots o) ≡ length slots)
+        [ None ↦ refl | Some m ↦ recounted_length slots m.slot (λ e. e.references + 1) ]
+
+    pub more_state : (start peak : ℕ)
+        → state_of start peak (count_more slots o) ≡ state_of start peak slots
+    more_state start peak =
+        elim o as (λ o. state_of start peak (count_more slots o) ≡ state_of start peak slots)
+        [ None ↦ refl | Some m ↦ recounted_state slots m.slot (λ e. e.references + 1) start peak ]
+
 -- what a refusal says holds where there is one
 pub err_holds : {A E P : Type 0} (r : Result A E) → is_err r ≡ true → OnErr r P → P
 err_holds (Ok a) h p = absurd (false≢true h)
@@ -340,27 +321,20 @@ module _ {T : Type 0} (slots : List (Entry T)) where
   -- what counts a reference less stands for the same state
   module _ (o : Option Name) where
     pub less_length : length (count_less slots o) ≡ length slots
-    less_length = at o
-      where
-        at : (o : Option Name) → length (count_less slots o) ≡ length slots
-        at None = refl
-        at (Some m) = recounted_length slots m.slot (λ e. e.references - 1)
+    less_length = elim o as (λ o. length (count_less slots o) ≡ length slots)
+        [ None ↦ refl | Some m ↦ recounted_length slots m.slot (λ e. e.references - 1) ]
 
     pub less_state : (start peak : ℕ)
         → state_of start peak (count_less slots o) ≡ state_of start peak slots
-    less_state start peak = at o
-      where
-        at : (o : Option Name)
-            → state_of start peak (count_less slots o) ≡ state_of start peak slots
-        at None = refl
-        at (Some m) = recounted_state slots m.slot (λ e. e.references - 1) start peak
+    less_state start peak =
+        elim o as (λ o. state_of start peak (count_less slots o) ≡ state_of start peak slots)
+        [ None ↦ refl | Some m ↦ recounted_state slots m.slot (λ e. e.references - 1) start peak ]
 
   module _ (r : AreReferred (λ m. 0) slots) (n m : Name) (l : Location)
       (there : cell_at slots n ≡ Some (Ref m l)) where
     -- a live target counts one reference at least
     module _ (shared : is_shared (cell_at slots m) ≡ true) where
-      target_entry : (e : Entry T) × (slice_get slots m.slot ≡ Some e)
-          × (e.generation ≡ m.generation) × (is_shared (cell_of e.kept) ≡ true)
+      target_entry : SlotOf slots m is_shared
       target_entry = slot_of slots m is_shared refl (ap is_shared (get_cells slots m) ∙ shared)
 
       target_counts : 0 < target_entry.0.references
@@ -410,12 +384,9 @@ module _ {T : Type 0} (slots : List (Entry T)) where
             let own : is_shared (cell_at slots q) ≡ true =
             ap is_shared (rw (there, eq-eqb e.generation e.generation refl) refl) ∙ shared in
             true≢false (sym own ∙ (ap (λ x. is_shared (cell_at slots x)) is ∙ dead)) in
-            let zero : bit (is_name q m) ≡ 0 = none (is_name q m) no in
-            omega arith
-          where
-            none : (b : Bool) → (b ≡ true → ⊥) → bit b ≡ 0
-            none true h = absurd (h refl)
-            none false h = refl
+            let zero : bit (is_name q m) ≡ 0 =
+            (elim (is_name q m) as (λ b. (b ≡ true → ⊥) → bit b ≡ 0)
+            [ true ↦ λ h. absurd (h refl) | false ↦ λ h. refl ]) no in omega arith
 
   module _ (r : AreReferred (λ m. 0) slots) (n : Name) where
     -- what a name refers to counts it no more

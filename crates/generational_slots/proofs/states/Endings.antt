@@ -1,21 +1,12 @@
 -- The end of one name, by the value that goes with it.
-use Rattle.std.proofs.Common.{◌≡◌, Bool, true, false, cond, [], ◌∷◌, Option, None, Some, refl, sym}
-use Rattle.std.proofs.Common.{List, ap, ◌∙◌, is_some}
-use Rattle.std.proofs.lemmas.Bool.{false≢true, true≢false}
+use Rattle.generational_slots.proofs.Common
+use Common.{ap, Bool, BorrowRefusal, by_name, Cell, cells_after, close, close_one, cond, Content}
+use Common.{content_at, content_of, doomed_by, false, false≢true, first_hindrance, get-remove_apart}
+use Common.{has_no_borrow, hindrance_to, is_named, is_none, is_shared, is_some, is_unborrowed_value}
+use Common.{IsLinked, List, Location, Name, None, one_hindered, Option, Ref, refl, refusal_of}
+use Common.{Shared, Some, State, sym, target_in, true, true≢false, unrefused, Value, write_refusal}
+use Common.{[], ◌∙◌, ◌∷◌, ◌≡◌}
 use Rattle.std.specs.FinMap as map
-use Rattle.generational_core.proofs.machine.Closing.{close_one, one_hindered}
-use Rattle.generational_core.proofs.maps.Maps.{get-remove_apart}
-use Rattle.generational_entries.specs.Entry.{is_unborrowed_value, target_in}
-use Rattle.generational_slots.specs.SlotsState.{refusal_of}
-use Rattle.generational_slots.proofs.Common.{Cell, IsLinked, Name, Ref, Shared, State, Value}
-use Rattle.generational_slots.proofs.Common.{by_name}
-use Rattle.generational_slots.proofs.Common.{cells_after, close, content_of, doomed_by}
-use Rattle.generational_slots.proofs.Common.{first_hindrance}
-unfoldable use Rattle.generational_slots.proofs.Common.{hindrance_to}
-use Rattle.generational_slots.proofs.Common.{is_named, is_shared, write_refusal, Location}
-use Rattle.generational_slots.proofs.Common.{Content, BorrowRefusal, content_at, has_no_borrow}
-use Rattle.generational_entries.proofs.states.Latest.{unrefused}
-use Rattle.std.proofs.Common.{is_none}
 
 module _ {T : Type 0} where
   -- what names another cell is there
@@ -127,11 +118,14 @@ module _ {T : Type 0} where
       (free : is_unborrowed_value (map.get S.cells n) ≡ true) where
     own_value : (c : Option (Cell T)) → is_unborrowed_value c ≡ true
         → (k : Content T) × (l : Location) × (c ≡ Some (Value k l)) × (write_refusal (Some k) ≡ None)
-    own_value (Some (Value k l)) free = (k, l, refl, none (write_refusal (Some k)) free)
-      where
-        none : (t : Option BorrowRefusal) → is_none t ≡ true → t ≡ None
-        none None free = refl
-        none (Some t) free = absurd (false≢true free)
+    own_value (Some (Value k l)) free = (
+      k,
+      l,
+      refl,
+      (elim (write_refusal (Some k)) as (λ t.
+          is_none t ≡ true → t ≡ None)
+          [ None ↦ λ free. refl | Some t ↦ λ free. absurd (false≢true free) ]) free,
+    )
     own_value None free = absurd (false≢true free)
     own_value (Some (Shared k l)) free = absurd (false≢true free)
     own_value (Some (Ref m l)) free = absurd (false≢true free)

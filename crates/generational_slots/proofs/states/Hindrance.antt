@@ -1,37 +1,21 @@
 -- What hinders the end of names, as the counts of references tell it.
-use Rattle.std.proofs.Common.{◌≡◌, ℕ, ◌+◌, ◌<◌, Bool, true, false, cond, not, ◌&&◌, List, []}
-use Rattle.std.proofs.Common.{◌∷◌, Option, None, Some, refl, sym, ap, ◌∙◌, arith, nat_eq}
-use Rattle.std.proofs.Common.{nat_lt, is_none, is_some, slice_index_or, drop, length}
+use Rattle.generational_slots.proofs.Common
+use Rattle.generational_slots.proofs.states
+use Common.{and_parts, ap, AreReferred, arith, at_drop_more, bit, Bool, borrowed_at, borrowed_end}
+use Common.{BorrowRefusal, Cell, cell_at, cell_of, CellName, cells_after, cells_of, cond}
+use Common.{content_in, content_of, doomed_by, drop, Empty, Entry, false, false≢true}
+use Common.{first_borrowed_end, first_hindered, first_hindrance, get_or-map, has_more, has_more_in}
+use Common.{HasTargets, how_many, if_borrowed, is_name, is_named, is_none, is_shared, is_some}
+use Common.{is_unborrowed_value, IsDistinct, IsLinked, Kept, leads_to, length, length-map, List}
+use Common.{list_all, Live, Name, name_here, name_of_cell, NameMap, nat_eq, nat_lt, nat_tests, None}
+use Common.{none-some, not, Option, option_or, Ref, Refers, refers, refers_among, refers_to, refl}
+use Common.{refusal_of, Shared, slice_index_or, Some, sym, take_away, target_in, true, true≢false}
+use Common.{Value, write_refusal, ℕ, [], ◌&&◌, ◌+◌, ◌<◌, ◌∙◌, ◌∷◌, ◌≡◌}
+use states.{References.named_without, References.some_same, States.get_cells}
+use states.References.{among_within, count_of, found_target, HasSlot, live_slot, named_after}
 use Rattle.std.proofs.Common.{map as list_map}
-use Rattle.std.specs.List.{IsDistinct, list_all}
-use Rattle.std.proofs.lemmas.Bool.{and_parts, false≢true, true≢false}
-use Rattle.std.proofs.lemmas.List.{at_drop_more, length-map}
-use Rattle.std.proofs.Math.ListN.{get_or-map}
-use Rattle.std.specs.Option.{option_or}
 use Rattle.std.specs.FinMap as map
-use Rattle.std.proofs.lemmas.Bool.Decides.{nat_tests}
-use Rattle.std.proofs.lemmas.Option.{none-some}
-use Rattle.generational_core.proofs.machine.Closing.{borrowed_end, first_borrowed_end}
-use Rattle.generational_core.proofs.machine.Closing.{first_hindered}
-use Rattle.generational_slots.proofs.Common.{AreReferred, Cell, CellName, Entry, HasTargets}
-use Rattle.generational_slots.proofs.Common.{IsLinked}
-use Rattle.generational_slots.proofs.Common.{Name, BorrowRefusal, leads_to, name_of_cell, take_away}
-use Rattle.generational_slots.proofs.Common.{NameMap, Ref, Shared, Value, cell_at, cell_of}
-use Rattle.generational_slots.proofs.Common.{cells_after, cells_of, content_in, content_of}
-use Rattle.generational_slots.proofs.Common.{doomed_by}
-use Rattle.generational_slots.proofs.Common.{first_hindrance, has_more, how_many, is_name, is_named}
-use Rattle.generational_slots.proofs.Common.{is_shared, name_here, refers, refers_to}
-use Rattle.generational_slots.proofs.Common.{write_refusal, Kept, Empty, Live, Refers}
 use Rattle.generational_entries.specs.declared.entry.Kind.TheVariants as kind
-use Rattle.generational_entries.specs.Entry.{is_unborrowed_value, target_in}
-use Rattle.generational_slots.specs.SlotsState.{has_more_in, refers_among, refusal_of}
-use Rattle.generational_slots.specs.SlotsState.{borrowed_at, if_borrowed}
-use Rattle.generational_containers.proofs.lists.Lists.{bit}
-use Rattle.generational_slots.proofs.states.References.{HasSlot, among_within, count_of}
-use Rattle.generational_slots.proofs.states.References.{found_target}
-use Rattle.generational_slots.proofs.states.References.{live_slot, named_after, named_without}
-use Rattle.generational_slots.proofs.states.References.{some_same}
-use Rattle.generational_slots.proofs.states.States.{get_cells}
 
 -- one name differs from no other
 one_apart : (n : Name) → IsDistinct is_name (n ∷ [])
@@ -53,12 +37,9 @@ module _ {T : Type 0} (cells : NameMap (Cell T)) (named : Name → Bool) where
   one_refusal n None at = refl
   one_refusal n (Some (Shared c l)) at = refl
   one_refusal n (Some (Value c l)) at = ap (λ cell. write_refusal (content_of cell)) (sym at)
-  one_refusal n (Some (Ref m l)) at = by (named m)
-    where
-      by : (b : Bool) → cond b None (write_refusal (content_of (map.get cells m)))
-          ≡ refusal_of cells (cond b None (Some m))
-      by true = refl
-      by false = refl
+  one_refusal n (Some (Ref m l)) at = elim (named m) as (λ b. cond b None (write_refusal
+      (content_of (map.get cells m))) ≡ refusal_of cells (cond b None (Some m)))
+      [ true ↦ refl | false ↦ refl ]
 
   -- and so of a list of names
   list_refusal : (names : List Name)
@@ -106,11 +87,9 @@ module _ {T : Type 0} (slots : List (Entry T)) (named : Name → Bool) where
 
   free_none : (m : Name) → None ≡ if_borrowed (cells_of slots) (Some m)
       → refusal_of (cells_of slots) (Some m) ≡ None
-  free_none m = by (refusal_of (cells_of slots) (Some m))
-    where
-      by : (t : Option BorrowRefusal) → None ≡ cond (is_some t) (Some m) None → t ≡ None
-      by None e = refl
-      by (Some t) e = absurd (none-some m e)
+  free_none m = elim (refusal_of (cells_of slots) (Some m)) as (λ t. None
+      ≡ cond (is_some t) (Some m) None → t ≡ None)
+      [ None ↦ λ e. refl | Some t ↦ λ e. absurd (none-some m e) ]
 
   -- so a name that reaches no borrowed value is hindered by nothing
   pub free_own : (n : Name) → None ≡ borrowed_at slots n → own n ≡ None
@@ -121,11 +100,9 @@ module _ {T : Type 0} (slots : List (Entry T)) (named : Name → Bool) where
       by None e = refl
       by (Some (Shared c l)) e = refl
       by (Some (Value c l)) e = free_none n e
-      by (Some (Ref m l)) e = kept (named m)
-        where
-          kept : (b : Bool) → refusal_of (cells_of slots) (cond b None (Some m)) ≡ None
-          kept true = refl
-          kept false = free_none m e
+      by (Some (Ref m l)) e =
+          elim (named m) as (λ b. refusal_of (cells_of slots) (cond b None (Some m)) ≡ None)
+          [ true ↦ refl | false ↦ free_none m e ]
 
   -- nor is one that reaches a shared value which is named still
   pub spared_own : (n m : Name) → Some m ≡ leads_to (cell_at slots n) n
@@ -208,11 +185,9 @@ module _ {T : Type 0} where
       → nat_eq s.entry.references last ≡ not (nat_lt gone all)
       → has_more slots last m ≡ nat_lt gone all
   more_counted slots m s last gone all same =
-      ap (has_more_in last) s.there ∙ (ap not same ∙ twice (nat_lt gone all))
-    where
-      twice : (b : Bool) → not (not b) ≡ b
-      twice true = refl
-      twice false = refl
+      ap (has_more_in last) s.there ∙ (ap not same ∙ (elim (nat_lt gone all) as (λ b. not (not b)
+      ≡ b)
+      [ true ↦ refl | false ↦ refl ]))
 
   -- whether a value lives on where names end, is told by how many of them refer to it
   pub living : (slots : List (Entry T)) (names : List Name) → AreReferred (λ m. 0) slots

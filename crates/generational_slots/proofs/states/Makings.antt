@@ -1,28 +1,21 @@
 -- A cell more: in a free slot, or in a new one.
-use Rattle.std.proofs.Common.{◌≡◌, ℕ, ◌+◌, ◌-◌, ◌<◌, ◌≤◌, true, false, ◌&&◌, ◌||◌, List, []}
-use Rattle.std.proofs.Common.{◌∷◌, ◌++◌, length, Option, None, Some, IfSome, refl, sym, ap, ◌∙◌}
-use Rattle.std.proofs.Common.{arith, slice_get, slice_set, leb, length-append, not, nat_eq, nat_lt}
-use Rattle.std.proofs.Common.{max, is_some}
-use Rattle.std.specs.Ordering.{nat_cmp}
-use Rattle.std.specs.Cmp.{nat_cmp_total}
-use Rattle.std.proofs.lemmas.Bool.{false≢true, ltb-true, and_parts}
-use Rattle.std.proofs.lemmas.Bool.Decides.{nat_tests}
-use Rattle.std.proofs.lemmas.List.{length-set}
-use Rattle.std.proofs.lemmas.Option.{slice_get_past, slice_get_within}
+use Rattle.generational_slots.proofs.Common
+use Common.{add_cell, and_parts, ap, AreReferred, arith, Cell, cell_in, cell_of, cells_of}
+use Common.{cond_same, contains-remove_at, Count, count_of, Empty, Entry, false, false≢true, free}
+use Common.{given_in, HasTargets, how_many, IfSome, is_live, is_reusable, is_shared, is_some}
+use Common.{is_spent, IsNew, IsSlotTable, IsUnborrowed, IsWritten, Kept, kept_data, last_generation}
+use Common.{leb, length, length-append, length-set, List, Live, Location, ltb-true, max, nat_cmp}
+use Common.{nat_cmp_total, nat_eq, nat_lt, nat_tests, None, not, not_left, Option, passes}
+use Common.{push_written, put_back, Refers, refl, Retirements, set_written, slice_get}
+use Common.{slice_get_past, slice_get_within, slice_set, SlotTable, Some, State, state_of}
+use Common.{StorageEntryData, subst, sym, target_of, true, ℕ, [], ◌&&◌, ◌++◌, ◌+◌, ◌-◌, ◌<◌, ◌||◌}
+use Common.{◌∙◌, ◌∷◌, ◌≡◌, ◌≤◌}
+use Rattle.generational_slots.proofs.states.Changes.{cells_put, given_put, slotted}
+use Rattle.generational_slots.proofs.states.Counting.{IsMaking, unborrowed_cell}
+use Rattle.generational_slots.proofs.states.States.{free_are, len_cells, live_cell, new_first}
+use Rattle.generational_slots.proofs.states.States.{new_next}
 use Rattle.std.specs.FinMap as map
 use Rattle.std.specs.FinSet as set
-use Rattle.generational_core.specs.Machine.{add_cell}
-use Rattle.generational_slots.proofs.Common.{Cell, IsNew, free, last_generation, Empty}
-use Rattle.generational_slots.proofs.Common.{Live, Refers, Kept, Entry, cell_of, cell_in, cells_of}
-use Rattle.generational_slots.proofs.Common.{given_in, how_many, is_live, is_spent, is_reusable}
-use Rattle.generational_slots.proofs.Common.{Count, SlotTable, IsSlotTable, Retirements, State}
-use Rattle.generational_slots.proofs.Common.{count_of, state_of}
-use Rattle.generational_containers.proofs.lists.Lists.{IsWritten, set_written, push_written, passes}
-use Rattle.generational_containers.proofs.lists.Lists.{cond_same, contains-remove_at, not_left}
-use Rattle.generational_containers.proofs.lists.Lists.{put_back}
-use Rattle.generational_slots.proofs.states.States.{len_cells, live_cell, free_are, new_first}
-use Rattle.generational_slots.proofs.states.States.{new_next}
-use Rattle.generational_slots.proofs.states.Changes.{cells_put, given_put, slotted}
 
 -- one slot more is made
 pub one_made : (r : Retirements) (made : ℕ) → r.retired ≤ made → count_of r (made + 1)
@@ -74,12 +67,6 @@ module _ {T : Type 0} {p : SlotTable T} (s : IsSlotTable p) where
 
     pub taken_within : i < length p.slots
     taken_within = slice_get_within p.slots i free_entry.0 free_entry.1
-
-    pub taken_empty : IfSome (slice_get p.slots i) (λ e. e.kept ≡ Empty)
-    taken_empty = rw free_entry.1 free_entry.3
-
-    pub taken_below : IfSome (slice_get p.slots i) (λ e. e.generation < last_generation)
-    taken_below = rw free_entry.1 free_entry.4
 
     -- one free slot less
     pub taken_less : set.len (set.remove p.free i) + 1 ≡ set.len p.free
@@ -231,3 +218,39 @@ module _ {T : Type 0} {p : SlotTable T} (s : IsSlotTable p) where
 
       pub none_after : passes (λ e. is_live e.kept) (slice_get p.slots (length p.slots)) ≡ false
       none_after = rw past refl
+
+  -- ---- a content more, without borrows, of which the target is shared
+
+  module _ {S : State T} {peak : ℕ} (view : state_of p.start peak p.slots ≡ S)
+      (r : AreReferred (λ m. 0) p.slots) (linked : HasTargets S.cells) (d : StorageEntryData T)
+      (l : Location) (free : IsUnborrowed d)
+      (target : IfSome (target_of d) (λ m. is_shared (map.get S.cells m) ≡ true)) where
+    making : {after : List (Entry T)} {i g : ℕ} → IsWritten p.slots after i
+        (record { generation = g; kept = kept_data [] l d; references = 0 })
+        → passes (λ e. is_live e.kept) (slice_get p.slots i) ≡ false
+        → IsMaking p.slots after i g d l
+    making w dead = record {
+      written = w;
+      dead = dead;
+      counted = r;
+      linked = subst (λ S. HasTargets S.cells) (sym view) linked;
+      free = free;
+      target = subst (λ S. IfSome (target_of d) (λ m. is_shared (map.get S.cells m) ≡ true))
+          (sym view) target;
+    }
+
+    abbrev cell : (c : Cell T) × (cell_of (kept_data [] l d) ≡ Some c)
+    cell = unborrowed_cell d l free
+
+    pub made_reused : (i : ℕ) → set.contains p.free i ≡ true → (g : ℕ)
+        → IfSome (slice_get p.slots i) (λ e. g ≡ e.generation + 1) → IsMaking p.slots
+        (slice_set p.slots i (record { generation = g; kept = kept_data [] l d; references = 0 }))
+        i g d l
+    made_reused i member g is = making (reused _ cell.0 cell.1 i member g is)
+        (none_before (kept_data [] l d) cell.0 cell.1 i member g is)
+
+    pub made_pushed : p.free ≡ set.empty → IsMaking p.slots (p.slots
+        ++ record { generation = p.start; kept = kept_data [] l d; references = 0 } ∷ [])
+        (length p.slots) p.start d l
+    made_pushed none =
+        making (pushed _ cell.0 cell.1 none) (none_after (kept_data [] l d) cell.0 cell.1 none)

@@ -1,28 +1,17 @@
 -- What is answered where a name should name another value, as the machine says it.
-use Rattle.std.proofs.Common.{◌≡◌, true, false, Option, None, Some, Result, Err, IfSome, refl}
-use Rattle.std.proofs.Common.{is_some}
-use Rattle.std.proofs.lemmas.Bool.{false≢true, true≢false}
-use Rattle.generational_core.specs.Boxes.{box_of}
-use Rattle.generational_core.specs.Machine.{point, turn}
-use Rattle.generational_core.specs.declared.boxes.GenerationalPointer.{GenerationalPointer}
+use Rattle.generational_slots.proofs.Common
+use Common.{BorrowMutError, box_of, Cell, content_of, Err, false, false≢true, GenerationalPointer}
+use Common.{IfSome, is_shared, is_some, IsTurned, Location, location_of, Name, None, Option, point}
+use Common.{Ref, refl, Refused, Result, Shared, Some, State, target_in, true, true≢false, turn}
+use Common.{Value, ◌≡◌}
 use Rattle.generational_errors.specs.declared.error.BorrowMutError.TheVariants as writes
-use Rattle.generational_errors.specs.declared.error.Refused.{Refused}
 use Rattle.generational_errors.specs.declared.error.Refused.TheVariants as refused
-use Rattle.generational_entries.specs.Entry.{target_in}
-use Rattle.generational_slots.specs.SlotsState.{IsTurned}
-use Rattle.generational_slots.proofs.Common.{BorrowMutError, Cell, Location, Name, Ref, Shared}
-use Rattle.generational_slots.proofs.Common.{State, Value, content_of, is_shared, location_of}
 
 -- what is answered of a value that was made at a location
 abbrev pub dropped_answer : Location → Result (Unit {0}) (Refused BorrowMutError)
 dropped_answer l = Err (refused.Borrow (writes.Dropped (record { created_at = l })))
 
 module _ {T : Type 0} where
-  -- a cell with a content is live
-  pub some_cell : (o : Option (Cell T)) → is_some (content_of o) ≡ true → is_some o ≡ true
-  some_cell None h = h
-  some_cell (Some c) h = refl
-
   module _ (S : State T) (n m : Name) (k : Location) (b : GenerationalPointer) where
     -- nothing is there
     pub points_gone : (own target : Option (Cell T)) → None ≡ target_in own

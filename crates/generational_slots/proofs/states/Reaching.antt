@@ -1,25 +1,14 @@
 -- What the box of a name reaches, as the slots tell it and as the state sees it.
-use Rattle.std.proofs.Common.{◌≡◌, ℕ, Bool, true, false, cond, Option, None, Some, refl, sym, ap, ◌∙◌}
-use Rattle.std.proofs.Common.{is_none, is_some, not, option_map, IfSome, List, [], ◌∷◌, Result}
-use Rattle.std.proofs.Common.{slice_get}
-use Rattle.std.proofs.lemmas.Bool.{false≢true}
+use Rattle.generational_slots.proofs.Common
+use Common.{ap, Bool, BorrowMutError, Cell, cell_at, cond, Content, content_at, content_in}
+use Common.{content_of, content_reached, doomed_by, Dropped, Entry, false, false≢true}
+use Common.{FoundBorrowed, has_no_borrow, Here, IfSome, is_named, is_none, is_shared, is_some}
+use Common.{is_unborrowed_value, IsLinked, leads_to, Lent, List, Location, Name, None, not, Option}
+use Common.{option_map, reached, read_refusal, Ref, refl, refusal_at, refusal_to_read_at}
+use Common.{refusal_to_refer_at, refusal_to_write_at, Refused, Result, Shared, slice_get, Some}
+use Common.{State, state_of, sym, tells_of_borrow, true, Value, write_refusal, ℕ, [], ◌∙◌, ◌∷◌, ◌≡◌}
+use Rattle.generational_slots.proofs.states.Changes.{cell_seen, held_in, IsHeld, seen_in}
 use Rattle.std.specs.FinMap as map
-use Rattle.generational_core.specs.Borrowing.{refusal_at}
-use Rattle.generational_core.specs.Borrowing.BorrowRefusal.{Dropped}
-use Rattle.generational_entries.specs.Entry.{is_unborrowed_value}
-use Rattle.generational_slots.specs.SlotsState.{content_reached, refusal_to_read_at, reached}
-use Rattle.generational_slots.specs.SlotsState.{refusal_to_refer_at, refusal_to_write_at}
-use Rattle.generational_slots.proofs.Common.{Cell, Content, Entry, IsLinked, Location, Name, Ref}
-use Rattle.generational_slots.proofs.Common.{Shared, State, BorrowRefusal, Value, cell_at, content_at}
-use Rattle.generational_slots.proofs.Common.{Here, Lent, content_of, doomed_by, has_no_borrow}
-use Rattle.generational_slots.proofs.Common.{is_named}
-use Rattle.generational_slots.proofs.Common.{is_shared, leads_to, read_refusal, state_of}
-use Rattle.generational_slots.proofs.Common.{write_refusal}
-use Rattle.generational_core.specs.StepCalls.{tells_of_borrow}
-use Rattle.generational_errors.specs.declared.error.Refused.{Refused}
-use Rattle.generational_entries.specs.Entry.{FoundBorrowed}
-use Rattle.generational_slots.proofs.Common.{BorrowMutError, content_in}
-use Rattle.generational_slots.proofs.states.Changes.{IsHeld, cell_seen, held_in, seen_in}
 
 -- nothing is found of what isn't there
 pub none_map : {A B : Type 0} (f : A → B) (o : Option A) (none : Bool)
@@ -38,7 +27,7 @@ none_there (Some x) h = absurd (false≢true h)
 
 module _ {T : Type 0} where
   -- a shared cell has a content
-  shared_content : (o : Option (Cell T)) → is_shared o ≡ true → is_some (content_of o) ≡ true
+  pub shared_content : (o : Option (Cell T)) → is_shared o ≡ true → is_some (content_of o) ≡ true
   shared_content (Some (Shared c l)) h = refl
   shared_content None h = absurd (false≢true h)
   shared_content (Some (Value c l)) h = absurd (false≢true h)
@@ -65,11 +54,6 @@ module _ {T : Type 0} where
 
         pub write_to : refusal_to_write_at S n l ≡ write_refusal (content_at S m)
         write_to = ap (λ o. refusal_at o l (λ m. write_refusal (content_at S m))) (sym to)
-
-      -- so is a reference, and also where what is reached isn't shared
-      pub refer_lent : (t : BorrowRefusal) → refusal_to_read_at S n l ≡ Some t
-          → refusal_to_refer_at S n l ≡ Some t
-      refer_lent t is = rw is refl
 
       pub refer_plain : {m : Name} → reached S n ≡ Some m → read_refusal (content_at S m) ≡ None
           → false ≡ is_shared (map.get S.cells m) → refusal_to_refer_at S n l ≡ Some (Dropped l)

@@ -1,23 +1,14 @@
 -- Which calls no borrow hinders, as the machine answers them.
-use Rattle.std.proofs.Common.{◌≡◌, Bool, true, false, cond, not, Option, None, Some, [], ◌∷◌, refl}
-use Rattle.std.proofs.Common.{sym, ap, ◌∙◌, is_none, is_some}
-use Rattle.std.proofs.lemmas.Bool.{false≢true, true≢false}
-use Rattle.std.specs.FinMap as map
-use Rattle.generational_core.specs.Boxes.{name_of}
-use Rattle.generational_core.specs.Ending.{hindrance_at}
-use Rattle.generational_core.specs.Machine.{Action, point, turn, unless}
-use Rattle.generational_core.specs.Machine.Answer.{Done}
-use Rattle.generational_core.specs.StepCalls.{is_hindered, may_set, tells_of_borrow}
-use Rattle.generational_core.specs.declared.boxes.GenerationalPointer.{GenerationalPointer}
-use Rattle.generational_entries.specs.Entry.{target_in}
-use Rattle.generational_slots.specs.SlotsState.{content_reached}
-use Rattle.generational_slots.proofs.Common.{Cell, Content, Here, IsLinked, Lent, Location, Name}
-use Rattle.generational_slots.proofs.Common.{BorrowRefusal, Ref, Shared, State, Value, content_at}
-use Rattle.generational_slots.proofs.Common.{content_of, doomed_by, is_name, is_named, is_shared}
-use Rattle.generational_slots.proofs.Common.{write_refusal}
-unfoldable use Rattle.generational_slots.proofs.Common.{hindrance_to}
+use Rattle.generational_slots.proofs.Common
+use Common.{Action, ap, Bool, BorrowRefusal, Cell, cond, Content, content_at, content_of}
+use Common.{content_reached, Done, doomed_by, false, false≢true, GenerationalPointer, Here}
+use Common.{hindrance_at, hindrance_to, is_hindered, is_name, is_named, is_none, is_shared, is_some}
+use Common.{IsLinked, Lent, Location, may_set, Name, name_of, None, not, Option, point, Ref, refl}
+use Common.{Shared, Some, State, sym, target_in, tells_of_borrow, true, true≢false, turn, unless}
+use Common.{Value, write_refusal, [], ◌∙◌, ◌∷◌, ◌≡◌}
 use Rattle.generational_slots.proofs.states.Endings.{doomed_hinders}
-use Rattle.generational_slots.proofs.states.Turns.{hinders, left}
+use Rattle.generational_slots.proofs.states.Turns.{hinders, IsReference, left}
+use Rattle.std.specs.FinMap as map
 
 module _ {T : Type 0} where
   -- what stands in the way of a write tells of a borrow
@@ -61,18 +52,17 @@ module _ {T : Type 0} where
       → IsLinked S.cells → map.get S.cells n ≡ Some (Ref old l) → is_name old new ≡ false
       → is_none (hindrance_to S (n ∷ [])) ≡ not (is_hindered a (turn S n old new l).0)
   turn_free S n old new l a linked there other =
+      let r : IsReference S n old = record { created = l; there = there } in
       let d = doomed_by (is_named (map.remove S.cells n)) (map.get S.cells n) n in
       let same = doomed_hinders S n linked d refl
-      ∙ sym (hinders S n old new l linked there other d refl) in
-      let cells = left S n old new l linked there in
+      ∙ sym (hinders r new linked other d refl) in
+      let cells = left r new linked in
       rw other (ap is_none same ∙ free_unless S a (hindrance_at S.cells cells old) _
-      (spot (is_some (map.get cells old))))
-    where
-      spot : (b : Bool) → is_none (cond (not b) (write_refusal (content_of (map.get S.cells old)))
-          None) ≡ not (tells_of_borrow (cond (not b)
-          (write_refusal (content_of (map.get S.cells old))) None))
-      spot true = refl
-      spot false = write_tells (content_of (map.get S.cells old))
+      (elim (is_some (map.get cells old)) as (λ b. is_none (cond (not b) (write_refusal (content_of
+      (map.get S.cells old))) None)
+      ≡ not (tells_of_borrow (cond (not b) (write_refusal (content_of (map.get S.cells old)))
+      None)))
+      [ true ↦ refl | false ↦ write_tells (content_of (map.get S.cells old)) ]))
 
   module _ (S : State T) (a b : GenerationalPointer) (m : Name) where
     abbrev IsFree : Option (Cell T) → Option (Cell T) → Bool → Type 0

@@ -1,31 +1,17 @@
 -- How many references name a cell, also where some names end.
-use Rattle.std.proofs.Common.{◌≡◌, ℕ, ◌+◌, ◌<◌, ◌≤◌, Bool, true, false, cond, ◌||◌, List, [], ◌∷◌}
-use Rattle.std.proofs.Common.{Option, None, Some, refl, sym, ap, subst, ◌∙◌, ⊎_elim, arith}
-use Rattle.std.proofs.Common.{slice_get, slice_set, nat_eq, nat_lt, is_some, length}
-use Rattle.std.specs.Cmp.{both_ways}
-use Rattle.std.specs.List.{AllByRecursion, IsDistinct}
+use Rattle.generational_slots.proofs.Common
+use Common.{AllByRecursion, among, ap, AreReferred, arith, away_absent, away_each, away_nothing}
+use Common.{away_one, away_shared, bit, Bool, both_ways, Cell, cell_at, cell_in, cell_of, cells_of}
+use Common.{cond, Empty, Entry, eq-eqb, eq_by_cmp_equiv, eqb-true, false, false≢true, HasTargets}
+use Common.{how_many, is_name, is_named, is_ref, is_shared, is_some, IsDistinct, IsDistinct-head}
+use Common.{IsDistinct-tail, IsReferred, length, List, Location, lt-ltb, ltb-true, many_some, Name}
+use Common.{name_here, name_total, named_from, named_gives, nat_eq, nat_lt, nat_tests, None}
+use Common.{none-some, Option, Ref, refers, refers_among, refers_to, refl, set_written, Shared}
+use Common.{slice_get, slice_get_within, slice_set, Some, some_of_many, subst, sum_by-cons, sym}
+use Common.{take_away, target_in, true, true≢false, Value, without_view, ℕ, [], ⊎_elim, ◌+◌, ◌<◌}
+use Common.{◌||◌, ◌∙◌, ◌∷◌, ◌≡◌, ◌≤◌}
+use Rattle.generational_slots.proofs.states.{Changes.cells_taken, States.get_cells}
 use Rattle.std.specs.FinMap as map
-use Rattle.std.proofs.lemmas.Bool.{true≢false, false≢true, eqb-true, eq-eqb, lt-ltb, ltb-true}
-use Rattle.std.proofs.lemmas.Bool.Decides.{nat_tests}
-use Rattle.std.proofs.lemmas.Cmp.{eq_by_cmp_equiv}
-use Rattle.std.proofs.lemmas.List.Sums.{sum_by-cons}
-use Rattle.std.proofs.lemmas.Map.Keys.{IsDistinct-head, IsDistinct-tail}
-use Rattle.std.proofs.lemmas.Option.{none-some, slice_get_within}
-use Rattle.generational_core.proofs.machine.Closing.{away_absent, away_each, away_nothing, away_one}
-use Rattle.generational_core.proofs.machine.Closing.{away_shared}
-use Rattle.generational_core.proofs.machine.Ends.{without_view}
-use Rattle.generational_core.proofs.maps.Maps.{is_ref, named_from, named_gives}
-use Rattle.generational_slots.proofs.Common.{Cell, Value, Shared, Ref, Location, Name, is_name}
-use Rattle.generational_slots.proofs.Common.{among}
-use Rattle.generational_slots.proofs.Common.{is_named, is_shared, refers_to, take_away, name_here}
-use Rattle.generational_slots.proofs.Common.{name_total, Entry, Empty, cell_of, cells_of, cell_at}
-use Rattle.generational_slots.proofs.Common.{cell_in, refers, how_many, HasTargets, AreReferred}
-use Rattle.generational_slots.proofs.Common.{IsReferred}
-use Rattle.generational_entries.specs.Entry.{target_in}
-use Rattle.generational_slots.specs.SlotsState.{refers_among}
-use Rattle.generational_containers.proofs.lists.Lists.{bit, many_some, set_written, some_of_many}
-use Rattle.generational_slots.proofs.states.Changes.{cells_taken}
-use Rattle.generational_slots.proofs.states.States.{get_cells}
 
 -- the slot of a live cell
 pub record HasSlot {T : Type 0} (slots : List (Entry T)) (n : Name) : Type 0 where

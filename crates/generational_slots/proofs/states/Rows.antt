@@ -1,32 +1,20 @@
 -- The rows of the slots: that they stand in the order of the machine's slots, and what reads them
 -- back.
-use Rattle.std.proofs.Common.{◌≡◌, ℕ, zero, suc, ◌+◌, ◌<◌, ◌≤◌, Bool, true, false, cond, T, ◌&&◌, ◌||◌}
-use Rattle.std.proofs.Common.{List, [], ◌∷◌, ◌++◌, length, take, Option, None, Some, option_map, refl}
-use Rattle.std.proofs.Common.{sym, ap, ◌∙◌, arith, slice_get, IfSome, nat_cmp}
-use Rattle.std.proofs.Common.{unwrap_or, append-nil, append_assoc, map as list_map}
-use Rattle.std.proofs.lemmas.Bool.{eq-eqb, ne_eqb, lt-ltb}
-use Rattle.std.proofs.lemmas.List.{take_all}
-use Rattle.std.proofs.lemmas.Option.{none-some}
-use Rattle.std.proofs.Math.Bool.{or-false}
-use Rattle.std.specs.Cmp.{nat_cmp_total}
-use Rattle.std.specs.List.{list_any}
-use Rattle.std.specs.Ordering.{eq_by_cmp}
+use Rattle.generational_slots.proofs.Common
+use Common.{all_slot_rows, ap, append-nil, append_assoc, AreApart, arith, bare_cell, bare_cells}
+use Common.{bare_entry, BaseRow, Bool, by_name, Cell, cell_in, cell_of, cell_read, cell_rows}
+use Common.{cells_of, cond, contains_up_to, Entry, entry_rows, eq-eqb, eq_by_cmp, false, find_bare}
+use Common.{get_bare_cell, give_up_to, given_from, given_of, IfSome, IsSlotTable, length, List}
+use Common.{list_any, live_from, lt-ltb, Name, name_cmp, name_exact, name_total, Names, nat_cmp}
+use Common.{nat_cmp_total, ne_eqb, None, none-some, number_test, Option, option_map, or-false}
+use Common.{Plain, put, put_new, read_append, read_rows, refl, rows_from, slice_get, slot_rows}
+use Common.{slots_of, SlotTable, Some, State, state_of, suc, sym, T, take, true, unwrap_or}
+use Common.{with_cell, zero, ℕ, [], ◌&&◌, ◌++◌, ◌+◌, ◌<◌, ◌||◌, ◌∙◌, ◌∷◌, ◌≡◌}
+use Rattle.generational_slots.proofs.states.States.{any_of, find_below, get_cells, get_last}
+use Rattle.std.proofs.Common.{map as list_map}
 use Rattle.std.specs.FinMap as map
 use Rattle.std.specs.FinSet as set
-use Rattle.generational_containers.proofs.lists.Lists.{number_test}
-use Rattle.generational_core.proofs.machine.Rows.{AreApart, put, put_new, read_append, cell_read}
-use Rattle.generational_core.proofs.machine.Rows.{contains_up_to, find_bare, get_bare_cell}
-use Rattle.generational_core.specs.Plain.{Plain, bare_cell, bare_cells, bare_entry}
-use Rattle.generational_core.specs.Rows.{cell_rows, slot_rows, read_rows, give_up_to}
-use Rattle.generational_core.specs.declared.rows.BaseRow.{BaseRow}
 use Rattle.generational_core.specs.declared.rows.BaseRow.TheVariants as row
-use Rattle.generational_core.specs.Names.{Names}
-use Rattle.generational_slots.proofs.Common.{Cell, Entry, IsSlotTable, Name, SlotTable, State, by_name}
-use Rattle.generational_slots.proofs.Common.{cell_in, cell_of, cells_of, given_from, given_of}
-use Rattle.generational_slots.proofs.Common.{live_from, name_cmp, name_exact, name_total, slots_of}
-use Rattle.generational_slots.proofs.Common.{state_of, with_cell}
-use Rattle.generational_slots.proofs.states.States.{any_of, find_below, get_cells, get_last}
-use Rattle.generational_slots.specs.SlotRows.{all_slot_rows, entry_rows, rows_from}
 
 within_some : {A : Type 0} (xs : List A) (k : ℕ) → k < length xs → slice_get xs k ≡ None → ⊥
 within_some [] k within none = absurd (omega arith)
@@ -75,24 +63,11 @@ module _ {A : Type 0} where
           ∙ ap (λ n. rows_from number 0 (take n es))
           (let more : suc k ≡ k + 1 = omega arith in more))
 
-  pub rows_all : (number n : ℕ) (es : List (Entry A)) → length es ≤ n
-      → rows_from number 0 (take n es) ≡ rows_from number 0 es
-  rows_all number n es all = ap (rows_from number 0) (take_all n es all)
-
   -- ---- the machine's slots
 
   numbered : ℕ → List (Entry A) → List (ℕ × ℕ)
   numbered i [] = []
   numbered i (e ∷ es) = (i, e.generation) ∷ numbered (i + 1) es
-
-  find_before : (i : ℕ) (es : List (Entry A)) (q : ℕ) → q < i
-      → map.find nat_cmp q (numbered i es) ≡ None
-  unfolding numbered
-  find_before i [] q before = refl
-  find_before i (e ∷ es) q before =
-      ap (λ b. cond b (Some e.generation) (map.find nat_cmp q (numbered (i + 1) es)))
-      (number_test q i ∙ ne_eqb q i (λ same. omega arith))
-      ∙ find_before (i + 1) es q (omega arith)
 
   find_numbered : (i : ℕ) (es : List (Entry A)) (q k : ℕ) → q ≡ i + k
       → map.find nat_cmp q (numbered i es) ≡ option_map (λ e. e.generation) (slice_get es k)

@@ -1,35 +1,20 @@
 -- The state for which a store's slots stand: what is at a name, which names were given, and how
 -- many slots are live, free and retired.
-use Rattle.std.proofs.Common.{◌≡◌, ℕ, zero, suc, ◌+◌, ◌-◌, ◌<◌, ◌≤◌, Bool, true, false, cond, ◌&&◌}
-use Rattle.std.proofs.Common.{◌||◌, leb, ltb, List, [], ◌∷◌, length, Option, None, Some, refl, sym}
-use Rattle.std.proofs.Common.{ap, ◌∙◌, arith, inl, inr, slice_get, is_some}
-use Rattle.std.proofs.Common.{not, nat_eq, nat_lt, option_map}
-use Rattle.std.proofs.Math.Bool.{or-false}
-use Rattle.std.specs.Prelude.{unwrap_or}
-use Rattle.std.specs.Ordering.{nat_cmp, eq_by_cmp}
-use Rattle.std.specs.List.{list_any}
-use Rattle.std.proofs.lemmas.Bool.{true≢false, eq-eqb, ne_eqb, leb-true, le-leb}
-use Rattle.std.proofs.lemmas.Bool.{and_from}
-use Rattle.std.proofs.lemmas.Bool.{and_parts}
-use Rattle.std.proofs.lemmas.Bool.Decides.{nat_tests}
-use Rattle.std.proofs.lemmas.List.Folds.{list_any-append}
-use Rattle.std.proofs.lemmas.List.{nil_from_length}
-use Rattle.std.proofs.lemmas.Option.{slice_get_past}
+use Rattle.generational_slots.proofs.Common
+use Common.{and_from, and_parts, ap, arith, bit, Bool, by_number, Cell, cell_at, cell_in, cell_of}
+use Common.{cells_of, cond, cond_same, count_all, Empty, Entry, eq-eqb, eq_by_cmp, false, free}
+use Common.{fresh, get-keep, get_lasts, given_from, given_in, given_of, HasBegun, how_many, inl}
+use Common.{inr, is_free, is_live, is_name, is_retired, is_some, is_spent, IsFresh, IsLast, IsNew}
+use Common.{IsSlotTable, Kept, last_generation, last_name, le-leb, leb, leb-true, len_passing}
+use Common.{length, List, list_any, list_any-append, Live, live_from, ltb, Name, name_cmp}
+use Common.{name_test, name_total, names_up, nat_cmp, nat_eq, nat_lt, nat_tests, ne_eqb}
+use Common.{nil_from_length, None, not, one_last, Option, option_map, or-false, passes, Refers}
+use Common.{refl, retired, slice_get, slice_get_past, slots, slots_of, SlotTable, Some, State}
+use Common.{state_of, suc, sym, true, true≢false, unwrap_or, with_cell, zero, ℕ, [], ◌&&◌, ◌+◌, ◌-◌}
+use Common.{◌<◌, ◌||◌, ◌∙◌, ◌∷◌, ◌≡◌, ◌≤◌}
 use Rattle.std.specs.FinMap as map
 use Rattle.std.specs.FinSet as set
-use Rattle.generational_slots.proofs.Common.{Cell}
-use Rattle.generational_slots.proofs.Common.{fresh, IsFresh, Name, name_cmp, is_name}
-use Rattle.generational_slots.proofs.Common.{slots_of, is_free, is_retired, slots, free, retired}
-use Rattle.generational_slots.proofs.Common.{last_name, last_generation, State, IsNew, IsLast}
-use Rattle.generational_slots.proofs.Common.{get_lasts, one_last, by_number, name_total, get-keep}
-use Rattle.generational_slots.proofs.Common.{name_test, Empty, Live, Refers, names_up, how_many}
-use Rattle.generational_slots.proofs.Common.{cell_of, with_cell, live_from, cells_of, given_from}
-use Rattle.generational_slots.proofs.Common.{given_of, state_of, cell_in, cell_at, given_in}
-use Rattle.generational_slots.proofs.Common.{is_spent}
-use Rattle.generational_slots.proofs.Common.{HasBegun, SlotTable, IsSlotTable, Entry, Kept, is_live}
 use Rattle.generational_entries.specs.declared.entry.Kind.TheVariants as kind
-use Rattle.generational_containers.proofs.lists.Lists.{cond_same, bit, passes, count_all}
-use Rattle.generational_containers.proofs.lists.Lists.{len_passing}
 
 module _ {T : Type 0} where
   -- the list of live cells at a name that isn't, and that may be, its first one's
@@ -241,13 +226,11 @@ module _ {T : Type 0} {p : SlotTable T} (s : IsSlotTable p) where
   slots_are =
       len_passing (λ e. true) 0 p.slots _ (λ k h. absurd (omega arith))
       (λ k. ap (map.contains_key (slots_of here)) (omega arith)
-      ∙ (ap is_some (get_last k) ∙ at (slice_get p.slots k)))
+      ∙ (ap is_some (get_last k)
+      ∙ (elim (slice_get p.slots k) as (λ o. is_some (option_map (λ e. e.generation) o)
+      ≡ passes (λ e. true) o)
+      [ None ↦ refl | Some e ↦ refl ])))
       ∙ count_all p.slots
-    where
-      at : (o : Option (Entry T))
-          → is_some (option_map (λ e. e.generation) o) ≡ passes (λ e. true) o
-      at None = refl
-      at (Some e) = refl
 
   pub free_are : set.len p.free ≡ free here
   free_are = s.stocked ∙ sym (len_kept is_spent (is_free here) free_is)

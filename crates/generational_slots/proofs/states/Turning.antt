@@ -1,24 +1,17 @@
 -- A reference that names another shared value, and the counts of both.
-use Rattle.std.proofs.Common.{◌≡◌, ℕ, ◌+◌, ◌<◌, ◌&&◌, true, List, length, Option, None}
-use Rattle.std.proofs.Common.{Some, IfSome, refl, sym, ap, ◌∙◌, arith, is_some, slice_get, nat_eq}
-use Rattle.std.proofs.lemmas.Bool.{eq-eqb, false≢true, ne_eqb, true≢false}
-use Rattle.std.specs.FinMap as map
-use Rattle.generational_entries.specs.Entry.{referring, target_in}
-use Rattle.generational_entries.specs.declared.entry.Kind.TheVariants as kind
-use Rattle.generational_slots.proofs.Common.{AreReferred, Cell, Empty, Entry, SlotTable, IsSlotTable}
-use Rattle.generational_slots.proofs.Common.{Kept, Live}
-use Rattle.generational_slots.proofs.Common.{Location, Name, Ref, Refers, cell_at, cell_of}
-use Rattle.generational_slots.proofs.Common.{cells_of}
-use Rattle.generational_slots.proofs.Common.{change_entry, count_more, how_many, is_name, is_shared}
-use Rattle.generational_slots.proofs.Common.{Content, Kind, by_name, get-insert_apart, name_test}
-use Rattle.generational_slots.proofs.Common.{refers, refers_to, state_of}
-use Rattle.generational_slots.proofs.states.States.{get_cells}
-use Rattle.generational_containers.proofs.lists.Lists.{IsWritten, bit, many_within, passes}
-use Rattle.generational_containers.proofs.lists.Lists.{set_written}
+use Rattle.generational_slots.proofs.Common
+use Rattle.generational_slots.proofs.{Common.◌≡◌, states.Counting.SlotOf}
+use Common.{ap, AreReferred, arith, bit, by_name, Cell, cell_at, cell_of, cells_of, change_entry}
+use Common.{Content, count_more, Empty, Entry, eq-eqb, false≢true, get-insert_apart, how_many}
+use Common.{IfSome, is_name, is_shared, is_some, IsSlotTable, IsWritten, Kept, Kind, length}
+use Common.{length-set, List, Live, Location, many_within, Name, name_test, nat_eq, ne_eqb, None}
+use Common.{Option, passes, Ref, referring, Refers, refers, refers_to, refl, set_written, slice_get}
+use Common.{SlotTable, Some, state_of, sym, target_in, true, true≢false, ℕ, ◌&&◌, ◌+◌, ◌<◌, ◌∙◌}
+use Rattle.generational_slots.proofs.states.{Changes.slotted_still, States.get_cells}
 use Rattle.generational_slots.proofs.states.Changes.{cells_put, found, given_kept, referred}
-use Rattle.generational_slots.proofs.states.Changes.{slotted_still}
 use Rattle.generational_slots.proofs.states.Counting.{is_own, recounted_many, recounted_written}
-use Rattle.std.proofs.lemmas.List.{length-set}
+use Rattle.std.specs.FinMap as map
+use Rattle.generational_entries.specs.declared.entry.Kind.TheVariants as kind
 
 -- the slot of a reference
 pub record HasReference {T : Type 0} (slots : List (Entry T)) (n m : Name) : Type 0 where
@@ -66,26 +59,25 @@ module _ {T : Type 0} where
 
   -- a target that counts one reference less than there are counts one more
   module _ {slots : List (Entry T)} (m : Name) (r : AreReferred (λ q. bit (is_name q m)) slots)
-      (e : Entry T) (there : slice_get slots m.slot ≡ Some e) (same : e.generation ≡ m.generation)
-      (shared : is_shared (cell_of e.kept) ≡ true) where
+      (t : SlotOf slots m is_shared) where
     abbrev own : Name
-    own = record { slot = m.slot; generation = e.generation }
+    own = record { slot = m.slot; generation = t.0.generation }
 
     own_is : own ≡ m
-    own_is = λ j. record { slot = m.slot; generation = same j }
+    own_is = λ j. record { slot = m.slot; generation = t.2 j }
 
-    counted : e.references + 1 ≡ how_many (refers own) slots
+    counted : t.0.references + 1 ≡ how_many (refers own) slots
     counted =
         let yes : bit (is_name own m) ≡ 1 = ap bit (ap (λ x. is_name x m) own_is ∙ is_own m) in
-        let before = rw there at (r.each m.slot) in let count = before shared in omega arith
+        let before = rw t.1 at (r.each m.slot) in let count = before t.3 in omega arith
 
     pub turn_few : IfSome (slice_get slots m.slot) (λ e. e.references < length slots)
     turn_few =
-        rw there (let most = many_within (refers own) slots in let c = counted in omega arith)
+        rw t.1 (let most = many_within (refers own) slots in let c = counted in omega arith)
 
     pub turn_counted : AreReferred (λ q. 0) (count_more slots (Some m))
     turn_counted =
-        let w = recounted_written slots m.slot (λ e. e.references + 1) e there in
+        let w = recounted_written slots m.slot (λ e. e.references + 1) t.0 t.1 in
         referred w r
         (λ q other. let same = recounted_many slots m.slot (λ e. e.references + 1) q in
         let none : bit (is_name q m) ≡ 0 = ap bit (name_test q m

@@ -1,24 +1,13 @@
 -- What becomes of a reference's old target where it names another, as the machine says it.
-use Rattle.std.proofs.Common.{◌≡◌, Bool, true, false, cond, Err, Ok, Option, None, Some, refl}
-use Rattle.std.proofs.Common.{sym, ap, ◌∙◌, is_some, subst}
-use Rattle.std.proofs.lemmas.Bool.{false≢true, true≢false}
+use Rattle.generational_slots.proofs.Common
+use Rattle.generational_slots.proofs.{Common.◌∙◌, Common.◌≡◌, states.Endings.without}
+use Common.{ap, Bool, BorrowMutError, BorrowRefusal, by_name, Cell, cond, content_of, doomed_by}
+use Common.{Err, false, false≢true, FoundBorrowed, get-insert_apart, hindrance_at, is_name}
+use Common.{is_named, is_shared, is_some, IsLinked, IsTurned, Location, Name, NameMap, None, Ok}
+use Common.{Option, OutOfMemory, Ref, refl, refusal_of, Refused, Shared, Some, State, subst, sweep}
+use Common.{sym, target_in, true, true≢false, turn, turn_hindered, turn_sweep, Value, write_refusal}
 use Rattle.std.specs.FinMap as map
-use Rattle.generational_core.proofs.machine.Closing.{turn_hindered, turn_sweep}
-use Rattle.generational_core.specs.Ending.{hindrance_at}
-use Rattle.generational_core.specs.Machine.{turn}
-use Rattle.generational_errors.specs.declared.error.Refused.{Refused}
 use Rattle.generational_errors.specs.declared.error.Refused.TheVariants as refused
-use Rattle.generational_entries.specs.Entry.{FoundBorrowed, target_in}
-use Rattle.generational_slots.specs.SlotsState.{IsTurned, refusal_of}
-use Rattle.generational_slots.proofs.Common.{BorrowMutError, Cell, IsLinked, Location, Name}
-use Rattle.generational_slots.proofs.Common.{NameMap}
-use Rattle.generational_slots.proofs.Common.{OutOfMemory, Ref, State, BorrowRefusal, Value, Shared}
-use Rattle.generational_slots.proofs.Common.{content_of}
-use Rattle.generational_slots.proofs.Common.{by_name, doomed_by, get-insert_apart, is_name}
-use Rattle.generational_slots.proofs.Common.{is_named}
-use Rattle.generational_slots.proofs.Common.{is_shared, write_refusal}
-unfoldable use Rattle.generational_slots.proofs.Common.{sweep}
-use Rattle.generational_slots.proofs.states.Endings.{without}
 
 -- the refusal that a refusal tells is there
 troubled : (t : Option BorrowRefusal) (e : Refused BorrowMutError) → FoundBorrowed t (Err e)
@@ -30,15 +19,29 @@ troubled None (refused.Store _) found = absurd found
 
 module _ {T : Type 0} where
   -- the cell of a reference
-  pub reference_cell : (c : Option (Cell T)) (m : Name) → target_in c ≡ Some m
+  reference_cell : (c : Option (Cell T)) (m : Name) → target_in c ≡ Some m
       → (l : Location) × (c ≡ Some (Ref m l))
   reference_cell (Some (Ref k l)) m h = let same : k ≡ m = cc in (l, ap (λ x. Some (Ref x l)) same)
   reference_cell None m h = absurd cc
   reference_cell (Some (Value c l)) m h = absurd cc
   reference_cell (Some (Shared c l)) m h = absurd cc
 
-  module _ (S : State T) (n old new : Name) (l : Location) (linked : IsLinked S.cells)
-      (there : map.get S.cells n ≡ Some (Ref old l)) where
+  pub record IsReference (S : State T) (n m : Name) : Type 0 where
+    pub created : Location
+    pub there : map.get S.cells n ≡ Some (Ref m created)
+
+  pub reference_is : (S : State T) {n m : Name} → target_in (map.get S.cells n) ≡ Some m
+      → IsReference S n m
+  reference_is S h = let r = reference_cell _ _ h in record { created = r.0; there = r.1 }
+
+  module _ {S : State T} {n old : Name} (r : IsReference S n old) (new : Name)
+      (linked : IsLinked S.cells) where
+    abbrev l : Location
+    l = r.created
+
+    abbrev there : map.get S.cells n ≡ Some (Ref old l)
+    there = r.there
+
     abbrev pub left : NameMap (Cell T)
     left = sweep (map.insert S.cells n (Ref new l))
 
@@ -54,13 +57,9 @@ module _ {T : Type 0} where
       pub hinders : hindrance_at S.cells left old ≡ refusal_of S.cells d
       hinders =
           turn_hindered S.cells n old new l linked there other
-          ∙ (at (is_named (map.remove S.cells n) old)
-          ∙ ap (refusal_of S.cells) (sym target_doomed))
-        where
-          at : (b : Bool) → cond b None (write_refusal (content_of (map.get S.cells old)))
-              ≡ refusal_of S.cells (cond b None (Some old))
-          at true = refl
-          at false = refl
+          ∙ ((elim (is_named (map.remove S.cells n) old) as (λ b. cond b None (write_refusal
+          (content_of (map.get S.cells old))) ≡ refusal_of S.cells (cond b None (Some old)))
+          [ true ↦ refl | false ↦ refl ]) ∙ ap (refusal_of S.cells) (sym target_doomed))
 
       -- it's there still when the reference has turned, and names nothing
       pub doomed_left : (x : Name) → d ≡ Some x

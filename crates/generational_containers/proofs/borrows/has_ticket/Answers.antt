@@ -1,5 +1,4 @@
-use Rattle.std.proofs.Common.{rules, sym}
-use Rattle.generational_containers.proofs.lists.Tickets.{search_finds, search_misses}
+use Rattle.generational_containers.proofs.{rules, search_finds, search_misses, sym}
 use Rattle.generational_containers.proofs.borrows.has_ticket.Goals as goal
 
 pub returns-in-Ok : goal.returns-in-Ok

@@ -1,6 +1,4 @@
-use Rattle.std.proofs.Common.{◌≡◌, ◌++◌, map}
-use Rattle.std.specs.VecDeque.Iter.{deque_iter_rest}
-use Rattle.generational_core.specs.Rows.{reader_row}
+use Rattle.generational_containers.proofs.{deque_iter_rest, map, reader_row, ◌++◌, ◌≡◌}
 use Rattle.generational_containers.proofs.borrows.push_all.Given as goal
 
 -- the rows so far and those of the readers that are left are all

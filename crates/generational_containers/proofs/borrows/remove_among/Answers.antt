@@ -1,5 +1,4 @@
-use Rattle.std.proofs.Common.{rules, ◌∙◌, sym}
-use Rattle.generational_containers.proofs.lists.Tickets.{search_finds, search_misses, on_some}
+use Rattle.generational_containers.proofs.{on_some, rules, search_finds, search_misses, sym, ◌∙◌}
 use Rattle.generational_containers.proofs.borrows.remove_among.Goals as goal
 
 pub returns-in-Ok-clause-known : goal.returns-in-Ok-clause-known

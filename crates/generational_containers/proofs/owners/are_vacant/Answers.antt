@@ -1,7 +1,5 @@
-use Rattle.std.proofs.Common.{arith, length, refl, sym, ◌∙◌}
-use Rattle.std.proofs.lemmas.Bool.{false≢true}
-use Rattle.std.proofs.lemmas.Option.{slice_get_read}
-use Rattle.generational_containers.proofs.records.Places.{owners_vacant, not_empty, vacant_through}
+use Rattle.generational_containers.proofs.{arith, false≢true, length, not_empty, owners_vacant}
+use Rattle.generational_containers.proofs.{refl, slice_get_read, sym, vacant_through, ◌∙◌}
 use Rattle.generational_containers.proofs.owners.are_vacant.Goals as goal
 
 pub loop-place-preserved : goal.loop-place-preserved

@@ -1,6 +1,4 @@
-use Rattle.std.proofs.Common.{arith, length, refl}
-use Rattle.std.proofs.lemmas.Option.{slice_get_read}
-use Rattle.generational_containers.proofs.records.Places.{change_vacant}
+use Rattle.generational_containers.proofs.{arith, change_vacant, length, refl, slice_get_read}
 use Rattle.generational_containers.proofs.owners.count_up_at.Goals as goal
 
 pub returns-in-None : goal.returns-in-None

@@ -1,6 +1,5 @@
-use Rattle.std.proofs.Common.{arith, length, refl}
-use Rattle.std.proofs.lemmas.Option.{slice_get_read}
-use Rattle.generational_containers.proofs.records.Places.{change_vacant, vacant_stays}
+use Rattle.generational_containers.proofs.{arith, change_vacant, length, refl, slice_get_read}
+use Rattle.generational_containers.proofs.{vacant_stays}
 use Rattle.generational_containers.proofs.owners.reserve_at.Goals as goal
 
 pub returns-in-None-clause-same : goal.returns-in-None-clause-same

@@ -1,5 +1,4 @@
-use Rattle.std.proofs.Common.{arith, sym, ◌∙◌}
-use Rattle.generational_containers.proofs.records.Places.{none_through, none_of_all}
+use Rattle.generational_containers.proofs.{arith, none_of_all, none_through, sym, ◌∙◌}
 use Rattle.generational_containers.proofs.owners.search_place.Goals as goal
 
 pub loop-place-preserved : goal.loop-place-preserved

@@ -1,5 +1,4 @@
-use Rattle.std.proofs.Common.{◌≡◌, ℕ, ◌<◌, None, slice_get}
-use Rattle.generational_containers.specs.OwnerPlaces.{record_at}
+use Rattle.generational_containers.proofs.{None, record_at, slice_get, ℕ, ◌<◌, ◌≡◌}
 use Rattle.generational_containers.proofs.owners.search_place.Given as goal
 
 -- no place so far has a record of the key

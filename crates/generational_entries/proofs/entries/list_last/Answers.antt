@@ -1,6 +1,5 @@
 -- The borrow that stands apart goes to the table.
-use Rattle.std.proofs.Common.{sym, slice_get, ◌∙◌}
-use Rattle.generational_entries.proofs.states.Latest.{apart_within, each_some, listed_same}
+use Rattle.generational_entries.proofs.{apart_within, each_some, listed_same, slice_get, sym, ◌∙◌}
 use Rattle.generational_entries.proofs.entries.list_last.Goals as goal
 
 pub returns-then-not-has_no_borrow-clause-slots : goal.returns-then-not-has_no_borrow-clause-slots

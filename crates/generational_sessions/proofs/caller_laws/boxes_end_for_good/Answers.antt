@@ -1,6 +1,5 @@
-use Rattle.generational_core.proofs.machine.Boxing.{made_boxed, boxed_stays, reached_boxed, ended}
-use Rattle.generational_core.proofs.machine.Boxing.{ended_owned}
-use Rattle.generational_sessions.proofs.sessions.Sessions.{held_boxed}
+use Rattle.generational_core.proofs.machine.Boxing.{ended, ended_owned, reached_boxed}
+use Rattle.generational_sessions.proofs.{boxed_stays, held_boxed, made_boxed}
 use Rattle.generational_sessions.proofs.caller_laws.boxes_end_for_good.Goals as goal
 
 pub returns : goal.returns

@@ -1,8 +1,5 @@
-use Rattle.std.proofs.Common.{sym, ap, cond, ◌∙◌, None, Some}
-use Rattle.std.proofs.lemmas.Option.{slice_get_within}
-use Rattle.generational_slots.proofs.Common.{name_of_cell}
-use Rattle.generational_slots.specs.SlotsState.{if_borrowed}
-use Rattle.generational_slots.proofs.states.Hindrance.{reached_borrow, reached_free, reached_live}
+use Rattle.generational_slots.proofs.{ap, cond, name_of_cell, None, reached_borrow, reached_free}
+use Rattle.generational_slots.proofs.{reached_live, slice_get_within, Some, sym, ◌∙◌}
 use Rattle.generational_slots.proofs.hindrance.borrowed_value.Goals as goal
 
 pub returns-then-has_unborrowed_value : goal.returns-then-has_unborrowed_value
@@ -24,9 +21,6 @@ returns-then-is_unborrowed g c =
     let s = reached_live slots c.requires.targets (name_of_cell c.args.name) m leads in
     ap (λ b. cond b None (Some m)) (sym c.if-is_unborrowed.true ∙ (rw s.there at c.is_unborrowed.ensures))
     ∙ reached_borrow slots (name_of_cell c.args.name) m leads s
-
-pub returns-in_default : goal.returns-in_default
-returns-in_default g c = ap (if_borrowed _) (rw c.in_default.is at c.reach.ensures)
 
 pub returns : goal.returns
 returns g c =

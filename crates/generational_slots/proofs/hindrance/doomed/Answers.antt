@@ -1,8 +1,6 @@
-use Rattle.std.proofs.Common.{◌≡◌, ◌≢◌, ◌∙◌, ℕ, false, nat_eq, IfSome, List, Some, refl, subst}
-use Rattle.std.proofs.Common.{slice_get}
-use Rattle.std.proofs.lemmas.Bool.{ne_eqb}
-use Rattle.generational_slots.proofs.Common.{name_of_cell, Entry}
-use Rattle.generational_slots.proofs.states.References.{found_target}
+use Rattle.generational_slots.proofs.{Entry, false, found_target, IfSome, List, name_of_cell}
+use Rattle.generational_slots.proofs.{nat_eq, ne_eqb, refl, slice_get, Some, subst, ℕ, ◌∙◌, ◌≡◌}
+use Rattle.generational_slots.proofs.{◌≢◌}
 use Rattle.generational_slots.proofs.hindrance.doomed.Goals as goal
 
 pub details-requires : goal.details-requires

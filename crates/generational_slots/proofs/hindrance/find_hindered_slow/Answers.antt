@@ -1,13 +1,9 @@
-use Rattle.std.proofs.Common.{◌≡◌, ◌≤◌, ◌&&◌, Bool, true, None, Some, Option, sym, ap}
-use Rattle.std.proofs.Common.{◌∙◌, arith, length, IfSome, map as list_map}
-use Rattle.std.proofs.Common.{slice_index_or}
-use Rattle.std.specs.Option.{option_eq}
-use Rattle.std.proofs.lemmas.Bool.{and_parts, eqb-true, false≢true}
-use Rattle.std.proofs.lemmas.List.{at_drop_all, length-map}
-use Rattle.generational_slots.proofs.Common.{CellName, Name, cell_at, cells_of, is_named, is_shared}
-use Rattle.generational_slots.proofs.Common.{name_of_cell, take_away}
-use Rattle.generational_slots.proofs.states.Hindrance.{all, as_listed, borrowed_leads, doomed_own}
-use Rattle.generational_slots.proofs.states.Hindrance.{free_own, passed, spared_own, stopped}
+use Rattle.generational_slots.proofs
+use proofs.{all, and_parts, ap, arith, as_listed, at_drop_all, Bool, borrowed_leads, cell_at}
+use proofs.{CellName, cells_of, doomed_own, eqb-true, false≢true, free_own, IfSome, is_named}
+use proofs.{is_shared, length, length-map, Name, name_of_cell, None, Option, option_eq, passed}
+use proofs.{slice_index_or, Some, spared_own, stopped, sym, take_away, true, ◌&&◌, ◌∙◌, ◌≡◌, ◌≤◌}
+use Rattle.std.proofs.Common.{map as list_map}
 use Rattle.generational_slots.proofs.hindrance.find_hindered_slow.Goals as goal
 
 abbrev none : CellName

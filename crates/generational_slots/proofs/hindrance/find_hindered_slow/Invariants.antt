@@ -1,7 +1,6 @@
-use Rattle.std.proofs.Common.{◌≡◌, ◌&&◌, true, drop, IfSome, map as list_map}
-use Rattle.generational_containers.specs.CellNames.{name_of_cell}
-use Rattle.generational_slots.proofs.Common.{cell_at, cells_of, is_named, is_shared, take_away}
-use Rattle.generational_slots.proofs.states.Hindrance.{all}
+use Rattle.generational_slots.proofs.{all, cell_at, cells_of, drop, IfSome, is_named, is_shared}
+use Rattle.generational_slots.proofs.{name_of_cell, take_away, true, ◌&&◌, ◌≡◌}
+use Rattle.std.proofs.Common.{map as list_map}
 use Rattle.generational_slots.proofs.hindrance.find_hindered_slow.Given as goal
 
 -- what hinders the rest is what hinders all, and what was spared lives on

@@ -1,8 +1,5 @@
-use Rattle.std.proofs.Common.{sym, subst, ◌∙◌}
-use Rattle.std.proofs.lemmas.Option.{slice_get_within}
-use Rattle.generational_entries.specs.Entry.{FoundBorrowed}
-use Rattle.generational_slots.proofs.Common.{name_of_cell}
-use Rattle.generational_slots.proofs.states.Hindrance.{refused_live, refusal_there}
+use Rattle.generational_slots.proofs.{FoundBorrowed, name_of_cell, refusal_there, refused_live}
+use Rattle.generational_slots.proofs.{slice_get_within, subst, sym, ◌∙◌}
 use Rattle.generational_slots.proofs.hindrance.find_hindrance.Goals as goal
 
 pub borrow_mut_error-requires : goal.borrow_mut_error-requires
@@ -19,6 +16,3 @@ returns-in-Some g c =
     subst (λ t. FoundBorrowed t c.borrow_mut_error.result)
     (sym ((rw c.in-Some.is at c.find_hindered.ensures.hindrance) ∙ refusal_there slots m s))
     (rw s.there at c.borrow_mut_error.ensures)
-
-pub returns-in-None : goal.returns-in-None
-returns-in-None g c = rw c.in-None.is at c.find_hindered.ensures.hindrance

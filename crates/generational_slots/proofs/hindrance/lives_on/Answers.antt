@@ -1,15 +1,10 @@
-use Rattle.std.proofs.Common.{◌≡◌, ◌+◌, true, Option, None, Some, List, [], ◌∷◌, refl, sym}
-use Rattle.std.proofs.Common.{ap, ◌∙◌, count_by, nat_lt, map as list_map}
-use Rattle.std.proofs.lemmas.List.Sums.{sum_by-cons}
-use Rattle.std.proofs.lemmas.Option.{none-some, slice_get_within}
+use Rattle.generational_slots.proofs.{ap, bit, Cell, cell_at, CellName, count_by, Entry, HasSlot}
+use Rattle.generational_slots.proofs.{is_shared, kind_in, List, live_slot, living, Name}
+use Rattle.generational_slots.proofs.{name_of_cell, nat_lt, None, none-some, Option, Ref}
+use Rattle.generational_slots.proofs.{refers_among, refers_to, refl, Shared, shared_live, Some}
+use Rattle.generational_slots.proofs.{sum_by-cons, sym, true, Value, [], ◌+◌, ◌∙◌, ◌∷◌, ◌≡◌}
+use Rattle.std.proofs.Common.{map as list_map}
 use Rattle.generational_entries.specs.declared.entry.Kind.TheVariants as kind
-use Rattle.generational_entries.specs.Entry.{kind_in}
-use Rattle.generational_containers.proofs.lists.Lists.{bit}
-use Rattle.generational_slots.proofs.Common.{Cell, CellName, Entry, Name, Ref, Shared, Value, cell_at}
-use Rattle.generational_slots.proofs.Common.{is_shared, name_of_cell, refers_to}
-use Rattle.generational_slots.specs.SlotsState.{refers_among}
-use Rattle.generational_slots.proofs.states.Hindrance.{living}
-use Rattle.generational_slots.proofs.states.References.{HasSlot, live_slot, shared_live}
 use Rattle.generational_slots.proofs.hindrance.lives_on.Goals as goal
 
 -- what is of this kind is a shared cell
@@ -36,12 +31,6 @@ module _ {T : Type 0} (slots : List (Entry T)) (n : Name)
     (own : Some kind.Shared ≡ kind_in (cell_at slots n)) where
   there : HasSlot slots n
   there = live_slot slots n (shared_live (cell_at slots n) (kind_shared (cell_at slots n) own))
-
-pub details-requires : goal.details-requires
-details-requires g c =
-    let s = there c.args.entries.now.slots (name_of_cell c.args.value)
-    (rw (c.in-Some-Shared.is, c.in-Some-Shared.field-0-is) at c.kind.ensures) in
-    slice_get_within _ _ s.entry s.there
 
 pub returns-in-Some-Shared : goal.returns-in-Some-Shared
 returns-in-Some-Shared g c =

@@ -1,10 +1,7 @@
-use Rattle.std.proofs.Common.{◌≡◌, Bool, Option, None, Some, sym, ap, ◌∙◌}
-use Rattle.std.proofs.lemmas.Cmp.{eq_by_cmp_equiv}
-use Rattle.std.proofs.lemmas.Option.{none-some}
-use Rattle.generational_slots.proofs.Common.{Cell, Name, Ref, Shared, Value, is_name, name_of_cell}
-use Rattle.generational_slots.proofs.Common.{name_test, name_total, refers_to}
-use Rattle.generational_entries.specs.Entry.{target_in}
-use Rattle.generational_slots.proofs.states.References.{some_same}
+use Rattle.generational_slots.proofs.{ap, Bool, Cell, eq_by_cmp_equiv, is_name, Name, name_of_cell}
+use Rattle.generational_slots.proofs.{name_test, name_total, None, none-some, Option, Ref}
+use Rattle.generational_slots.proofs.{refers_to, Shared, Some, some_same, sym, target_in, Value}
+use Rattle.generational_slots.proofs.{◌∙◌, ◌≡◌}
 use Rattle.generational_slots.proofs.hindrance.refers_to.Goals as goal
 
 -- a cell that names something refers to what has that name

@@ -1,5 +1,4 @@
-use Rattle.std.proofs.Common.{arith}
-use Rattle.generational_slots.proofs.states.Rows.{rows_step}
+use Rattle.generational_slots.proofs.{arith, rows_step}
 use Rattle.generational_slots.proofs.rows.push_slots.Goals as goal
 
 pub loop-slot-preserved : goal.loop-slot-preserved

@@ -1,5 +1,4 @@
-use Rattle.std.proofs.Common.{◌≡◌, ◌++◌, take}
-use Rattle.generational_slots.specs.SlotRows.{rows_from}
+use Rattle.generational_slots.proofs.{rows_from, take, ◌++◌, ◌≡◌}
 use Rattle.generational_slots.proofs.rows.push_slots.Given as goal
 
 -- the rows of the slots so far

@@ -1,11 +1,6 @@
-use Rattle.std.proofs.Common.{arith, refl, sym, subst, None, ◌≡◌}
-use Rattle.generational_core.specs.Borrowing.{read_refusal}
-use Rattle.generational_core.specs.State.{content_at}
-use Rattle.generational_box.proofs.calls.Calls.{reaches, has_content, read_exhausted}
-use Rattle.generational_box.proofs.calls.Calls.{readers_below, read_begins, read_lacks}
-use Rattle.generational_containers.specs.CellNames.{name_of_cell}
-use Rattle.generational_box.proofs.calls.Calls.{state_is}
-use Rattle.generational_box.proofs.Common.{Read, meets_kept}
+use Rattle.generational_box.proofs.{arith, content_at, has_content, meets_kept, name_of_cell, None}
+use Rattle.generational_box.proofs.{reaches, Read, read_begins, read_exhausted, read_lacks}
+use Rattle.generational_box.proofs.{read_refusal, readers_below, refl, state_is, subst, sym, ◌≡◌}
 use Rattle.generational_box.proofs.unsync.Store.begin_read.Goals as goal
 
 pub returns-then-ticket : goal.returns-then-ticket

@@ -1,11 +1,6 @@
-use Rattle.std.proofs.Common.{arith, refl, sym, subst, None, ◌≡◌}
-use Rattle.generational_core.specs.Borrowing.{write_refusal}
-use Rattle.generational_core.specs.State.{content_at}
-use Rattle.generational_box.proofs.calls.Calls.{reaches, write_exhausted, unborrowed, write_begins}
-use Rattle.generational_containers.specs.CellNames.{name_of_cell}
-use Rattle.generational_box.proofs.calls.Calls.{guard_at, state_is}
-use Rattle.generational_core.specs.Boxes.{id_of}
-use Rattle.generational_box.proofs.Common.{Write, meets_kept}
+use Rattle.generational_box.proofs.{arith, content_at, guard_at, id_of, meets_kept, name_of_cell}
+use Rattle.generational_box.proofs.{None, reaches, refl, state_is, subst, sym, unborrowed, Write}
+use Rattle.generational_box.proofs.{write_begins, write_exhausted, write_refusal, ◌≡◌}
 use Rattle.generational_box.proofs.unsync.Store.begin_write.Goals as goal
 
 pub returns-then-ticket : goal.returns-then-ticket

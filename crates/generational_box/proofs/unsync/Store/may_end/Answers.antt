@@ -1,7 +1,5 @@
-use Rattle.std.proofs.Common.{ap, ◌∙◌, not}
-use Rattle.std.proofs.lemmas.Bool.{ne_eqb}
-use Rattle.generational_box.proofs.calls.Calls.{state_is}
-use Rattle.generational_box.proofs.calls.EndCalls.{are_linked, end_ready, end_ready_strange}
+use Rattle.generational_box.proofs.{ap, are_linked, end_ready, end_ready_strange, ne_eqb, not}
+use Rattle.generational_box.proofs.{state_is, ◌∙◌}
 use Rattle.generational_box.proofs.unsync.Store.may_end.Goals as goal
 
 pub may_end-requires : goal.may_end-requires

@@ -1,7 +1,4 @@
-use Rattle.std.proofs.Common.{arith}
-use Rattle.generational_box.proofs.calls.Calls.{state_is}
-use Rattle.generational_box.proofs.calls.EndCalls.{are_linked}
-use Rattle.generational_box.proofs.calls.Readiness.{last_free, several_free}
+use Rattle.generational_box.proofs.{are_linked, arith, last_free, several_free, state_is}
 use Rattle.generational_box.proofs.unsync.Store.may_end_record.Goals as goal
 
 pub may_end_all-requires-clause-linked : goal.may_end_all-requires-clause-linked

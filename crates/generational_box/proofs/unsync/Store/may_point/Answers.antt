@@ -1,13 +1,8 @@
-use Rattle.std.proofs.Common.{sym, ap, ◌∙◌, not}
-use Rattle.std.proofs.lemmas.Bool.{ne_eqb}
-use Rattle.generational_box.proofs.calls.Calls.{reach_own, reach_strange, read_own, state_is}
-use Rattle.generational_box.proofs.calls.EndCalls.{are_linked}
-use Rattle.generational_box.proofs.calls.Points.{free_to}
-use Rattle.generational_box.proofs.calls.Readiness.{gone_free, own_free, read_told, same_free}
-use Rattle.generational_box.proofs.calls.Readiness.{strange_free}
+use Rattle.generational_box.proofs.{ap, are_linked, free_to, gone_free, ne_eqb, not, own_free}
+use Rattle.generational_box.proofs.{reach_own, reach_strange, read_own, read_told, same_free}
+use Rattle.generational_box.proofs.{state_is, strange_free, sym, ◌∙◌}
 use Rattle.generational_box.proofs.unsync.Store.may_point.Goals as goal
-use Rattle.generational_box.proofs.unsync.Store.may_point.Goals.{then-eq-via-then-eq}
-use Rattle.generational_box.proofs.unsync.Store.may_point.Goals.{then-eq-via-else-eq+then-other-self}
+use goal.{then-eq-via-else-eq+then-other-self, then-eq-via-then-eq}
 
 pub returns-then-eq : goal.returns-then-eq
 returns-then-eq g c = elim c.then-eq.branch [

@@ -1,9 +1,5 @@
-use Rattle.std.proofs.Common.{sym, ap, ◌∙◌, not}
-use Rattle.std.proofs.lemmas.Bool.{ne_eqb}
-use Rattle.generational_box.proofs.Common.{tells_of_borrow}
-use Rattle.generational_box.proofs.calls.Calls.{reach_strange, read_own, state_is}
-use Rattle.generational_box.proofs.calls.EndCalls.{are_linked}
-use Rattle.generational_box.proofs.calls.Readiness.{gone_read}
+use Rattle.generational_box.proofs.{ap, are_linked, gone_read, ne_eqb, not, reach_strange, read_own}
+use Rattle.generational_box.proofs.{state_is, sym, tells_of_borrow, ◌∙◌}
 use Rattle.generational_box.proofs.unsync.Store.may_read.Goals as goal
 
 pub may_read-requires : goal.may_read-requires

@@ -1,12 +1,7 @@
-use Rattle.std.proofs.Common.{◌≡◌, None, Some, Option, sym, ap, ◌∙◌, not}
-use Rattle.std.proofs.lemmas.Bool.{ne_eqb}
-use Rattle.generational_core.specs.Machine.{cell_at}
-use Rattle.generational_core.specs.StepCalls.{may_set}
-use Rattle.generational_slots.specs.SlotsState.{content_reached}
-use Rattle.generational_box.proofs.Common.{Name, State, content_of, tells_of_borrow}
-use Rattle.generational_box.proofs.calls.Calls.{reach_own, reach_strange, state_is, write_own}
-use Rattle.generational_box.proofs.calls.EndCalls.{are_linked}
-use Rattle.generational_box.proofs.calls.Readiness.{gone_set, gone_write}
+use Rattle.generational_box.proofs.{ap, are_linked, cell_at, content_of, content_reached, gone_set}
+use Rattle.generational_box.proofs.{gone_write, may_set, Name, ne_eqb, None, not, Option, reach_own}
+use Rattle.generational_box.proofs.{reach_strange, Some, State, state_is, sym, tells_of_borrow}
+use Rattle.generational_box.proofs.{write_own, ◌∙◌, ◌≡◌}
 use Rattle.generational_box.proofs.unsync.Store.may_write.Goals as goal
 
 -- the content that is reached

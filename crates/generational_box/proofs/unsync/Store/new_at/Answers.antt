@@ -1,5 +1,4 @@
-use Rattle.generational_box.proofs.Common.{fresh_sound, fresh_bounded}
-use Rattle.generational_box.proofs.records.Counts.{counted_empty}
+use Rattle.generational_box.proofs.{counted_empty, fresh_bounded, fresh_sound}
 use Rattle.generational_box.proofs.unsync.Store.new_at.Goals as goal
 
 pub invariant_of-result : goal.invariant_of-result

@@ -1,8 +1,5 @@
-use Rattle.std.proofs.Common.{ap, sym, ◌∙◌, is_none}
-use Rattle.std.proofs.lemmas.Bool.{ne_eqb}
-use Rattle.generational_box.proofs.calls.Calls.{reach_strange, read_own, state_is}
-use Rattle.generational_box.proofs.calls.EndCalls.{are_linked}
-use Rattle.generational_box.proofs.calls.Frees.{read_unreached}
+use Rattle.generational_box.proofs.{ap, are_linked, is_none, ne_eqb, reach_strange, read_own}
+use Rattle.generational_box.proofs.{read_unreached, state_is, sym, ◌∙◌}
 use Rattle.generational_box.proofs.unsync.StoreAnyStorage.can_read.Goals as goal
 
 pub can_read-requires : goal.can_read-requires

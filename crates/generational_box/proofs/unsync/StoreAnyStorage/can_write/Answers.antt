@@ -1,8 +1,5 @@
-use Rattle.std.proofs.Common.{ap, sym, ◌∙◌, is_none}
-use Rattle.std.proofs.lemmas.Bool.{ne_eqb}
-use Rattle.generational_box.proofs.calls.Calls.{reach_strange, state_is, write_own}
-use Rattle.generational_box.proofs.calls.EndCalls.{are_linked}
-use Rattle.generational_box.proofs.calls.Frees.{write_unreached}
+use Rattle.generational_box.proofs.{ap, are_linked, is_none, ne_eqb, reach_strange, state_is, sym}
+use Rattle.generational_box.proofs.{write_own, write_unreached, ◌∙◌}
 use Rattle.generational_box.proofs.unsync.StoreAnyStorage.can_write.Goals as goal
 
 pub can_write-requires : goal.can_write-requires

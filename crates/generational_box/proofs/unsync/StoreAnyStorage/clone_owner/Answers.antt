@@ -1,8 +1,5 @@
-use Rattle.std.proofs.Common.{ap, arith, refl, sym, ◌∙◌}
-use Rattle.generational_box.proofs.records.Counts.{counted_up}
-use Rattle.generational_box.proofs.calls.OwnerCalls.{clone_unknown, clone_exhausted, clone_made}
-use Rattle.generational_box.proofs.calls.Calls.{both, state_is}
-use Rattle.generational_box.proofs.Common.{CloneOwner, meets_kept}
+use Rattle.generational_box.proofs.{ap, arith, both, clone_exhausted, clone_made, clone_unknown}
+use Rattle.generational_box.proofs.{CloneOwner, counted_up, meets_kept, refl, state_is, sym, ◌∙◌}
 use Rattle.generational_box.proofs.unsync.StoreAnyStorage.clone_owner.Goals as goal
 
 pub returns-then-not-knows : goal.returns-then-not-knows

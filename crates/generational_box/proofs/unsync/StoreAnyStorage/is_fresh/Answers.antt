@@ -1,7 +1,4 @@
-use Rattle.std.proofs.Common.{refl}
-use Rattle.std.proofs.lemmas.Bool.{false≢true}
-use Rattle.generational_box.proofs.calls.Calls.{fresh_with}
-use Rattle.generational_box.proofs.calls.Calls.{state_is}
+use Rattle.generational_box.proofs.{false≢true, fresh_with, refl, state_is}
 use Rattle.generational_box.proofs.unsync.StoreAnyStorage.is_fresh.Goals as goal
 
 pub returns-then-is_fresh : goal.returns-then-is_fresh

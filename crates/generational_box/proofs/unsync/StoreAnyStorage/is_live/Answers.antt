@@ -1,6 +1,5 @@
-use Rattle.std.proofs.Common.{ap, sym, ◌∙◌, is_some}
-use Rattle.std.proofs.lemmas.Bool.{ne_eqb}
-use Rattle.generational_box.proofs.calls.Calls.{reach_own, reach_strange, state_is}
+use Rattle.generational_box.proofs.{ap, is_some, ne_eqb, reach_own, reach_strange, state_is, sym}
+use Rattle.generational_box.proofs.{◌∙◌}
 use Rattle.generational_box.proofs.unsync.StoreAnyStorage.is_live.Goals as goal
 
 pub returns-then-pointer-self : goal.returns-then-pointer-self

@@ -1,8 +1,5 @@
-use Rattle.std.proofs.Common.{arith, refl}
-use Rattle.generational_box.proofs.records.Counts.{counted_new}
-use Rattle.generational_box.proofs.calls.OwnerCalls.{new_exhausted, new_lacks, new_made}
-use Rattle.generational_box.proofs.calls.Calls.{state_is}
-use Rattle.generational_box.proofs.Common.{NewOwner, meets_kept}
+use Rattle.generational_box.proofs.{arith, counted_new, meets_kept, new_exhausted, new_lacks}
+use Rattle.generational_box.proofs.{new_made, NewOwner, refl, state_is}
 use Rattle.generational_box.proofs.unsync.StoreAnyStorage.owner.Goals as goal
 
 pub returns-then-key : goal.returns-then-key

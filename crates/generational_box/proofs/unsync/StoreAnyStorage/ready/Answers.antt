@@ -1,8 +1,4 @@
-use Rattle.std.proofs.Common.{sym, ap, ◌∙◌}
-use Rattle.generational_core.specs.Machine.{ownership}
-use Rattle.generational_core.specs.StepCalls.{owner_of}
-use Rattle.generational_box.proofs.Common.{is_ready}
-use Rattle.generational_box.proofs.calls.Calls.{state_is}
+use Rattle.generational_box.proofs.{ap, is_ready, owner_of, ownership, state_is, sym, ◌∙◌}
 use Rattle.generational_box.proofs.unsync.StoreAnyStorage.ready.Goals as goal
 
 pub returns-in-ReleaseOwner : goal.returns-in-ReleaseOwner

@@ -1,6 +1,4 @@
-use Rattle.generational_box.proofs.calls.EndCalls.{are_linked, end_strange, end_own}
-use Rattle.generational_box.proofs.calls.Calls.{state_is}
-use Rattle.generational_box.proofs.Common.{End, meets_kept}
+use Rattle.generational_box.proofs.{are_linked, End, end_own, end_strange, meets_kept, state_is}
 use Rattle.generational_box.proofs.unsync.StoreAnyStorage.recycle.Goals as goal
 
 pub returns-then-pointer-self : goal.returns-then-pointer-self

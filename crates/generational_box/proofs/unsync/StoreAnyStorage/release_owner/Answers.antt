@@ -1,10 +1,6 @@
-use Rattle.std.proofs.Common.{ap, arith, refl, sym, is_some}
-use Rattle.generational_box.proofs.records.Counts.{counted_down, counted_remove, record_held}
-use Rattle.generational_box.proofs.calls.EndCalls.{are_linked}
-use Rattle.generational_box.proofs.calls.OwnerCalls.{release_unknown, release_one, last_refused}
-use Rattle.generational_box.proofs.calls.OwnerCalls.{last_done}
-use Rattle.generational_box.proofs.calls.Calls.{both, state_is}
-use Rattle.generational_box.proofs.Common.{ReleaseOwner, meets_kept}
+use Rattle.generational_box.proofs.{ap, are_linked, arith, both, counted_down, counted_remove}
+use Rattle.generational_box.proofs.{is_some, last_done, last_refused, meets_kept, record_held, refl}
+use Rattle.generational_box.proofs.{release_one, release_unknown, ReleaseOwner, state_is, sym}
 use Rattle.generational_box.proofs.unsync.StoreAnyStorage.release_owner.Goals as goal
 
 pub returns-in-None-clause-step : goal.returns-in-None-clause-step

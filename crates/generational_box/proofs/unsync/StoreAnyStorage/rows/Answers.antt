@@ -1,10 +1,7 @@
 -- The rows of a store are read back.
-use Rattle.std.proofs.Common.{ap, ◌∙◌, ◌++◌}
+use Rattle.generational_box.proofs.{all_slot_rows, ap, made_read_back, owner_rows, with_records}
+use Rattle.generational_box.proofs.{◌++◌, ◌∙◌}
 use Rattle.std.specs.FinMap as map
-use Rattle.generational_core.specs.Rows.{owner_rows}
-use Rattle.generational_slots.specs.SlotRows.{all_slot_rows}
-use Rattle.generational_slots.specs.SlotsState.{with_records}
-use Rattle.generational_box.proofs.calls.Rows.{made_read_back}
 use Rattle.generational_box.proofs.unsync.StoreAnyStorage.rows.Goals as goal
 
 pub returns-clause-back : goal.returns-clause-back

@@ -1,10 +1,7 @@
-use Rattle.std.proofs.Common.{sym, ◌∙◌}
-use Rattle.generational_box.proofs.calls.Calls.{reach_own, reach_strange, reaches, has_content}
-use Rattle.generational_box.proofs.calls.Calls.{read_own, state_is}
-use Rattle.generational_box.proofs.calls.EndCalls.{are_linked}
-use Rattle.generational_box.proofs.calls.Points.{free_to, point_gone, point_hindered, point_same}
-use Rattle.generational_box.proofs.calls.Points.{point_strange, pointed, refusal_mut}
-use Rattle.generational_box.proofs.Common.{Point, meets_kept}
+use Rattle.generational_box.proofs.{are_linked, free_to, has_content, meets_kept, Point, point_gone}
+use Rattle.generational_box.proofs.{point_hindered, point_same, point_strange, pointed, reach_own}
+use Rattle.generational_box.proofs.{reach_strange, reaches, read_own, refusal_mut, state_is, sym}
+use Rattle.generational_box.proofs.{◌∙◌}
 use Rattle.generational_box.proofs.unsync.StoreStorage.change_reference.Goals as goal
 
 pub returns-then-eq : goal.returns-then-eq

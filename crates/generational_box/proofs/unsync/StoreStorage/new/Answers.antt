@@ -1,10 +1,6 @@
-use Rattle.std.proofs.Common.{ap, option_copied, refl, ◌∙◌}
-use Rattle.generational_containers.specs.CellNames.{name_of_cell}
-use Rattle.generational_containers.proofs.records.Places.{reserved_room}
-use Rattle.generational_box.proofs.Common.{Make, add_to_list_in, meets_kept}
-use Rattle.generational_box.proofs.calls.Calls.{state_is}
-use Rattle.generational_box.proofs.calls.Makings.{made_counted, value_full, value_made}
-use Rattle.generational_box.proofs.calls.Makings.{value_refused}
+use Rattle.generational_box.proofs.{add_to_list_in, ap, made_counted, Make, meets_kept}
+use Rattle.generational_box.proofs.{name_of_cell, option_copied, refl, reserved_room, state_is}
+use Rattle.generational_box.proofs.{value_full, value_made, value_refused, ◌∙◌}
 use Rattle.generational_box.proofs.unsync.StoreStorage.new.Goals as goal
 
 pub returns-in-Err-clause-step : goal.returns-in-Err-clause-step

@@ -1,11 +1,7 @@
-use Rattle.std.proofs.Common.{ap, option_copied, refl, ◌∙◌}
-use Rattle.generational_containers.specs.CellNames.{name_of_cell}
-use Rattle.generational_containers.proofs.records.Places.{reserved_room}
-use Rattle.generational_box.proofs.calls.Makings.{pair_some, pair_target, pair_targets}
-use Rattle.generational_box.proofs.calls.Makings.{pair_counted, shared_full, shared_made}
-use Rattle.generational_box.proofs.calls.Makings.{shared_refused}
-use Rattle.generational_box.proofs.calls.Calls.{state_is}
-use Rattle.generational_box.proofs.Common.{MakeShared, add_to_list_in, meets_kept}
+use Rattle.generational_box.proofs.{add_to_list_in, ap, MakeShared, meets_kept, name_of_cell}
+use Rattle.generational_box.proofs.{option_copied, pair_counted, pair_some, pair_target}
+use Rattle.generational_box.proofs.{pair_targets, refl, reserved_room, shared_full, shared_made}
+use Rattle.generational_box.proofs.{shared_refused, state_is, ◌∙◌}
 use Rattle.generational_box.proofs.unsync.StoreStorage.new_rc.Goals as goal
 
 pub returns-in-Err-clause-step : goal.returns-in-Err-clause-step

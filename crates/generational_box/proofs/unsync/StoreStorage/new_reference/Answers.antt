@@ -1,12 +1,8 @@
-use Rattle.std.proofs.Common.{ap, option_copied, refl, sym, ◌∙◌}
-use Rattle.generational_containers.specs.CellNames.{name_of_cell}
-use Rattle.generational_containers.proofs.records.Places.{reserved_room}
-use Rattle.generational_box.proofs.calls.Calls.{reach_strange, state_is}
-use Rattle.generational_box.proofs.calls.EndCalls.{are_linked}
-use Rattle.generational_box.proofs.calls.Makings.{made_counted, reaches_shared, reference_full}
-use Rattle.generational_box.proofs.calls.Makings.{refer_gone, refer_hindered, refer_strange}
-use Rattle.generational_box.proofs.calls.Makings.{reference_made, reference_refused}
-use Rattle.generational_box.proofs.Common.{Refer, add_to_list_in, meets_kept}
+use Rattle.generational_box.proofs.{add_to_list_in, ap, are_linked, made_counted, meets_kept}
+use Rattle.generational_box.proofs.{name_of_cell, option_copied, reach_strange, reaches_shared}
+use Rattle.generational_box.proofs.{Refer, refer_gone, refer_hindered, refer_strange}
+use Rattle.generational_box.proofs.{reference_full, reference_made, reference_refused, refl}
+use Rattle.generational_box.proofs.{reserved_room, state_is, sym, ◌∙◌}
 use Rattle.generational_box.proofs.unsync.StoreStorage.new_reference.Goals as goal
 
 pub returns-then-not-knows : goal.returns-then-not-knows

@@ -1,6 +1,4 @@
-use Rattle.std.proofs.Common.{sym, ◌∙◌}
-use Rattle.generational_box.proofs.calls.Calls.{sees_own, state_is, unseen_strange}
-use Rattle.generational_box.proofs.calls.EndCalls.{are_linked}
+use Rattle.generational_box.proofs.{are_linked, sees_own, state_is, sym, unseen_strange, ◌∙◌}
 use Rattle.generational_box.proofs.unsync.StoreStorage.peek.Goals as goal
 
 pub peek-requires : goal.peek-requires

@@ -1,7 +1,5 @@
-use Rattle.std.proofs.lemmas.Bool.{ne_eqb}
-use Rattle.generational_box.proofs.calls.Calls.{released, release_strange}
-use Rattle.generational_box.proofs.calls.Calls.{state_is}
-use Rattle.generational_box.proofs.Common.{ReleaseReader, meets_kept}
+use Rattle.generational_box.proofs.{meets_kept, ne_eqb, release_strange, released, ReleaseReader}
+use Rattle.generational_box.proofs.{state_is}
 use Rattle.generational_box.proofs.unsync.StoreStorage.release_read.Goals as goal
 
 pub returns-then-id-self : goal.returns-then-id-self

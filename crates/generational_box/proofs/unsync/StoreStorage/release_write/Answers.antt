@@ -1,6 +1,4 @@
-use Rattle.generational_box.proofs.calls.Calls.{put_back, back_strange}
-use Rattle.generational_box.proofs.calls.Calls.{state_is}
-use Rattle.generational_box.proofs.Common.{ReleaseWriter, meets_kept}
+use Rattle.generational_box.proofs.{back_strange, meets_kept, put_back, ReleaseWriter, state_is}
 use Rattle.generational_box.proofs.unsync.StoreStorage.release_write.Goals as goal
 
 pub returns-then-id-self : goal.returns-then-id-self

@@ -1,7 +1,4 @@
-use Rattle.generational_box.proofs.calls.Calls.{state_is}
-use Rattle.generational_box.proofs.calls.Frees.{free_there, value_set}
-use Rattle.generational_box.proofs.Common.{meets_kept}
-use Rattle.generational_core.specs.Machine.Action.{SetValue}
+use Rattle.generational_box.proofs.{free_there, meets_kept, SetValue, state_is, value_set}
 use Rattle.generational_box.proofs.unsync.StoreStorage.replace_value.Goals as goal
 
 pub replace-requires : goal.replace-requires

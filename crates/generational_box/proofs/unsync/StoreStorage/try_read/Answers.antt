@@ -1,9 +1,6 @@
-use Rattle.std.proofs.Common.{ap, refl, subst, sym, ◌∙◌}
-use Rattle.generational_slots.specs.SlotsState.{SlotsState}
-use Rattle.generational_box.proofs.Common.{Meets, Read, with_records}
-use Rattle.generational_box.proofs.calls.Calls.{reach_own, reach_strange, read_gone, read_hindered}
-use Rattle.generational_box.proofs.calls.Calls.{read_own, state_is}
-use Rattle.generational_box.proofs.calls.EndCalls.{are_linked}
+use Rattle.generational_box.proofs.{ap, are_linked, Meets, reach_own, reach_strange, Read}
+use Rattle.generational_box.proofs.{read_gone, read_hindered, read_own, refl, SlotsState, state_is}
+use Rattle.generational_box.proofs.{subst, sym, with_records, ◌∙◌}
 use Rattle.generational_box.proofs.unsync.StoreStorage.try_read.Goals as goal
 
 pub returns-then-pointer-self : goal.returns-then-pointer-self

@@ -1,10 +1,6 @@
-use Rattle.std.proofs.Common.{subst, sym, ◌∙◌, Err}
-use Rattle.generational_entries.specs.Entry.{FoundBorrowed}
-use Rattle.generational_core.specs.Machine.Answer.{BorrowRefused}
-use Rattle.generational_box.proofs.Common.{Dropped, Meets, Write, end_refused}
-use Rattle.generational_box.proofs.calls.Calls.{reach_own, reach_strange, write_gone, write_hindered}
-use Rattle.generational_box.proofs.calls.Calls.{write_own, state_is}
-use Rattle.generational_box.proofs.calls.EndCalls.{are_linked}
+use Rattle.generational_box.proofs.{are_linked, BorrowRefused, Dropped, end_refused, Err}
+use Rattle.generational_box.proofs.{FoundBorrowed, Meets, reach_own, reach_strange, state_is, subst}
+use Rattle.generational_box.proofs.{sym, Write, write_gone, write_hindered, write_own, ◌∙◌}
 use Rattle.generational_box.proofs.unsync.StoreStorage.try_write.Goals as goal
 
 pub returns-then-pointer-self : goal.returns-then-pointer-self

@@ -1,6 +1,5 @@
 -- A borrow more at the end.
-use Rattle.std.proofs.Common.{arith, length-append}
-use Rattle.generational_containers.proofs.lists.Tickets.{push_ascends, two_ascend}
+use Rattle.generational_containers.proofs.{arith, length-append, push_ascends, two_ascend}
 use Rattle.generational_containers.proofs.borrows.Borrows.push.Goals as goal
 
 pub invariant_of-self-in_ok-queue-in-One-2 : goal.invariant_of-self-in_ok-queue-in-One-2

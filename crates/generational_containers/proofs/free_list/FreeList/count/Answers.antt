@@ -1,6 +1,4 @@
-use Rattle.std.proofs.Common.{sym, ◌∙◌}
-use Rattle.generational_containers.proofs.lists.Chains.{chain_length}
-use Rattle.generational_containers.proofs.lists.Lists.{pool_count}
+use Rattle.generational_containers.proofs.{chain_length, pool_count, sym, ◌∙◌}
 use Rattle.generational_containers.proofs.free_list.FreeList.count.Goals as goal
 
 pub returns : goal.returns

@@ -1,6 +1,4 @@
-use Rattle.std.proofs.Common.{arith, ap, ◌≤◌, ◌∙◌}
-use Rattle.std.specs.Vec.{vec_len}
-use Rattle.generational_containers.proofs.lists.Chains.{resized, resized_few}
+use Rattle.generational_containers.proofs.{ap, arith, resized, resized_few, vec_len, ◌∙◌, ◌≤◌}
 use Rattle.generational_containers.proofs.free_list.FreeList.grow.Goals as goal
 
 pub invariant_of-self : goal.invariant_of-self

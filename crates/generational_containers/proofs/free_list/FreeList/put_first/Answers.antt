@@ -1,7 +1,5 @@
-use Rattle.std.proofs.Common.{arith, refl, slice_set}
-use Rattle.std.proofs.lemmas.List.{length-set}
-use Rattle.generational_containers.proofs.lists.Chains.{chain_put, chain_room, first_within}
-use Rattle.generational_containers.proofs.lists.Lists.{pool_put}
+use Rattle.generational_containers.proofs.{arith, chain_put, chain_room, first_within, length-set}
+use Rattle.generational_containers.proofs.{pool_put, refl, slice_set}
 use Rattle.generational_containers.proofs.free_list.FreeList.put_first.Goals as goal
 
 pub overflow_add-self : goal.overflow_add-self

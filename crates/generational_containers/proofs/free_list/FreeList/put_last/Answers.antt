@@ -1,9 +1,6 @@
-use Rattle.std.proofs.Common.{arith, ◌<◌}
-use Rattle.std.specs.Cmp.{nat_cmp_total}
+use Rattle.generational_containers.proofs.{arith, chain_put_last, chain_room, last_within}
+use Rattle.generational_containers.proofs.{length-set, nat_cmp_total, pool_push, refl, rules, ◌<◌}
 use Rattle.std.specs.FinSet as set
-use Rattle.std.proofs.lemmas.List.{length-set}
-use Rattle.generational_containers.proofs.lists.Chains.{chain_put_last, chain_room, last_within}
-use Rattle.generational_containers.proofs.lists.Lists.{pool_push}
 use Rattle.generational_containers.proofs.free_list.FreeList.put_last.Goals as goal
 
 pub index_mut-requires : goal.index_mut-requires
@@ -34,20 +31,16 @@ invariant_of-self c =
       length-set l.links.items c.args.last c.args.slot,
     ) (pool_push c.self.invariant.0 room absent, c.self.invariant.1)
 
-pub returns-clause-slots : goal.returns-clause-slots
-returns-clause-slots c =
-    let l = c.self.inside in
-    let some : 0 < l.count = omega (arith, c.if-self-eq0.false) in
-    let ends = rw (← c.self.view_is) at c.requires.last in
-    rw (← c.self.view_is)
-    (chain_put_last l.links.items l.first l.count _ c.args.slot some c.self.invariant.0 ends)
-
-pub returns-clause-added : goal.returns-clause-added
-returns-clause-added c =
+pub returns : goal.returns
+returns c =
     let l = c.self.inside in
     let some : 0 < l.count = omega (arith, c.if-self-eq0.false) in
     let ends = rw (← c.self.view_is) at c.requires.last in
     rw (
       ← c.self.view_is,
       chain_put_last l.links.items l.first l.count _ c.args.slot some c.self.invariant.0 ends,
-    ) (set.from_list_push nat_cmp_total set.nat_cmp-IsAntisymmetric _ c.args.slot)
+    ) (record {
+      slots = refl;
+      added = set.from_list_push nat_cmp_total set.nat_cmp-IsAntisymmetric _ c.args.slot;
+      rooms = search rules;
+    })

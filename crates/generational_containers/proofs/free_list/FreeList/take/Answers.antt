@@ -1,11 +1,9 @@
-use Rattle.std.proofs.Common.{arith, refl, length, ◌<◌, ◌≤◌, ◌≡◌, ◌-◌, ◌∷◌, ◌∙◌}
-use Rattle.std.proofs.lemmas.Bool.{eq-eqb}
-use Rattle.generational_containers.specs.Pools.{IsPool, chain}
-use Rattle.generational_containers.proofs.lists.Chains.{chain_read, first_within}
-use Rattle.generational_containers.proofs.lists.Lists.{contains-insert_at, pool_take, members_take}
+use Rattle.generational_containers.proofs.{arith, chain, chain_read, contains-insert_at, eq-eqb}
+use Rattle.generational_containers.proofs.{first_within, IsPool, length, members_take, pool_take}
+use Rattle.generational_containers.proofs.{refl, ◌-◌, ◌<◌, ◌∙◌, ◌∷◌, ◌≡◌, ◌≤◌}
 use Rattle.generational_containers.proofs.free_list.FreeList.take.Goals as goal
-use Rattle.generational_containers.proofs.free_list.FreeList.take.Goals.{then-self-gt1}
 use Rattle.generational_containers.proofs.free_list.FreeList.take.Goals.{else-self-gt1}
+use Rattle.generational_containers.proofs.free_list.FreeList.take.Goals.{then-self-gt1}
 
 pub index-requires : goal.index-requires
 index-requires c =
@@ -33,51 +31,26 @@ invariant_of-self c =
       )
     ] in (pool_take pool.0, pool.1)
 
-pub returns-clause-rest : goal.returns-clause-rest
-returns-clause-rest c =
+pub returns : goal.returns
+returns c =
     let l = c.self.inside in
     let rest = c.if-self-gt1.self-inside in
     let some : 0 < l.count = omega (arith, c.if-self-eq0.false) in
-    let begins : chain l.links.items l.first l.count
-    ≡ l.first ∷ chain rest.links.items rest.first (rest.count - 1) =
+    let begins : (chain l.links.items l.first l.count
+    ≡ l.first ∷ chain rest.links.items rest.first (rest.count - 1)) × (rest.links ≡ l.links) =
     elim c.if-self-gt1.branch [
       | then-self-gt1 w ↦ rw w.self-inside-is
-          (chain_read l.links.items _ _ _ some c.self.invariant.0 (λ more. w.index.ensures))
-      | else-self-gt1 w ↦ rw w.self-inside-is
-          (chain_read l.links.items _ _ l.first some c.self.invariant.0
-          (λ more. absurd (omega (arith, more, w.if-self-gt1.false))))
+          (chain_read l.links.items _ _ _ some c.self.invariant.0 (λ more. w.index.ensures), refl)
+      | else-self-gt1 w ↦ rw w.self-inside-is (
+        chain_read l.links.items _ _ l.first some c.self.invariant.0
+            (λ more. absurd (omega (arith, more, w.if-self-gt1.false))),
+        refl,
+      )
     ] in
-    rw (← c.self.view_is, begins) refl
-
-pub returns-clause-member : goal.returns-clause-member
-returns-clause-member c =
-    let l = c.self.inside in
-    let rest = c.if-self-gt1.self-inside in
-    let some : 0 < l.count = omega (arith, c.if-self-eq0.false) in
-    let begins : chain l.links.items l.first l.count
-    ≡ l.first ∷ chain rest.links.items rest.first (rest.count - 1) =
-    elim c.if-self-gt1.branch [
-      | then-self-gt1 w ↦ rw w.self-inside-is
-          (chain_read l.links.items _ _ _ some c.self.invariant.0 (λ more. w.index.ensures))
-      | else-self-gt1 w ↦ rw w.self-inside-is
-          (chain_read l.links.items _ _ l.first some c.self.invariant.0
-          (λ more. absurd (omega (arith, more, w.if-self-gt1.false))))
-    ] in
-    rw (← c.self.view_is, begins)
-    (contains-insert_at _ _ _ ∙ rw (eq-eqb l.first l.first refl) refl)
-
-pub returns-clause-taken : goal.returns-clause-taken
-returns-clause-taken c =
-    let l = c.self.inside in
-    let rest = c.if-self-gt1.self-inside in
-    let some : 0 < l.count = omega (arith, c.if-self-eq0.false) in
-    let begins : chain l.links.items l.first l.count
-    ≡ l.first ∷ chain rest.links.items rest.first (rest.count - 1) =
-    elim c.if-self-gt1.branch [
-      | then-self-gt1 w ↦ rw w.self-inside-is
-          (chain_read l.links.items _ _ _ some c.self.invariant.0 (λ more. w.index.ensures))
-      | else-self-gt1 w ↦ rw w.self-inside-is
-          (chain_read l.links.items _ _ l.first some c.self.invariant.0
-          (λ more. absurd (omega (arith, more, w.if-self-gt1.false))))
-    ] in
-    rw (← c.self.view_is, begins) (members_take (rw begins at c.self.invariant.0))
+    rw (← c.self.view_is, begins.0) (record {
+      first = refl;
+      rest = refl;
+      rooms = rw begins.1 refl;
+      member = contains-insert_at _ _ _ ∙ rw (eq-eqb l.first l.first refl) refl;
+      taken = members_take (rw begins.0 at c.self.invariant.0);
+    })

@@ -1,5 +1,4 @@
-use Rattle.std.proofs.Common.{arith}
-use Rattle.generational_containers.proofs.lists.Lists.{pool_empty}
+use Rattle.generational_containers.proofs.{arith, pool_empty}
 use Rattle.generational_containers.proofs.indexes.FreeIndexes.new.Goals as goal
 
 pub invariant_of-result : goal.invariant_of-result

@@ -1,6 +1,5 @@
-use Rattle.std.proofs.Common.{arith}
-use Rattle.std.proofs.lemmas.List.{length-reverse}
-use Rattle.generational_containers.proofs.lists.Lists.{pool_put, pool_length, reverse_pushed}
+use Rattle.generational_containers.proofs.{arith, length-reverse, pool_length, pool_put}
+use Rattle.generational_containers.proofs.{reverse_pushed}
 use Rattle.generational_containers.proofs.indexes.FreeIndexes.put.Goals as goal
 
 pub push_reserved-requires : goal.push_reserved-requires

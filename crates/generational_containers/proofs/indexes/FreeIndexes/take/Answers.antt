@@ -1,7 +1,5 @@
-use Rattle.std.proofs.Common.{refl, ◌∙◌}
-use Rattle.std.proofs.lemmas.Bool.{eq-eqb}
-use Rattle.generational_containers.proofs.lists.Lists.{contains-insert_at, pool_take, members_take}
-use Rattle.generational_containers.proofs.lists.Lists.{reverse_pushed}
+use Rattle.generational_containers.proofs.{contains-insert_at, eq-eqb, members_take, pool_take}
+use Rattle.generational_containers.proofs.{refl, reverse_pushed, ◌∙◌}
 use Rattle.generational_containers.proofs.indexes.FreeIndexes.take.Goals as goal
 
 pub invariant_of-self-2 : goal.invariant_of-self-2

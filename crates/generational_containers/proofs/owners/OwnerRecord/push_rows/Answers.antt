@@ -1,9 +1,7 @@
-use Rattle.std.proofs.Common.{arith, ap, ◌∙◌, ◌++◌, ◌∷◌, map as list_map}
-use Rattle.generational_core.specs.Boxes.{id_of}
+use Rattle.generational_containers.proofs.{ap, arith, id_of, KeyedOwnership, Name, owned_all, ◌++◌}
+use Rattle.generational_containers.proofs.{◌∙◌, ◌∷◌}
+use Rattle.std.proofs.Common.{map as list_map}
 use Rattle.generational_core.specs.declared.rows.BaseRow.TheVariants as row
-use Rattle.generational_core.specs.Names.{Name}
-use Rattle.generational_containers.specs.OwnerPlaces.{KeyedOwnership}
-use Rattle.generational_containers.proofs.records.Rows.{owned_all}
 use Rattle.generational_containers.proofs.owners.OwnerRecord.push_rows.Goals as goal
 
 pub returns : goal.returns

@@ -1,7 +1,6 @@
-use Rattle.std.proofs.Common.{◌≡◌, ◌∷◌, ◌++◌, map as list_map, take}
-use Rattle.generational_core.specs.Boxes.{id_of}
+use Rattle.generational_containers.proofs.{id_of, name_of_cell, take, ◌++◌, ◌∷◌, ◌≡◌}
+use Rattle.std.proofs.Common.{map as list_map}
 use Rattle.generational_core.specs.declared.rows.BaseRow.TheVariants as row
-use Rattle.generational_containers.specs.CellNames.{name_of_cell}
 use Rattle.generational_containers.proofs.owners.OwnerRecord.push_rows.Given as goal
 
 -- the rows of the record and of its boxes so far

@@ -1,10 +1,7 @@
-use Rattle.std.proofs.Common.{◌≡◌, ℕ, arith, ap, length, None, refl, ◌∙◌}
+use Rattle.generational_containers.proofs.{ap, arith, filled_owners, filled_placed, length, None}
+use Rattle.generational_containers.proofs.{Owners, owners_is, Ownership, pushed_owners}
+use Rattle.generational_containers.proofs.{pushed_placed, refl, ℕ, ◌∙◌, ◌≡◌}
 use Rattle.std.specs.FinMap as map
-use Rattle.generational_containers.proofs.Common.{Owners, Ownership}
-use Rattle.generational_containers.proofs.records.Places.{owners_is}
-use Rattle.generational_containers.proofs.records.Places.{filled_placed, filled_owners}
-use Rattle.generational_containers.proofs.records.Places.{pushed_placed}
-use Rattle.generational_containers.proofs.records.Places.{pushed_owners}
 use Rattle.generational_containers.proofs.owners.OwnerRecords.add.Goals as goal
 
 -- the record's own key and content in place of those that were asked for

@@ -1,9 +1,5 @@
-use Rattle.std.proofs.Common.{arith}
-use Rattle.generational_containers.proofs.Common.{one_less}
-use Rattle.generational_containers.proofs.records.Places.{owners_is}
-use Rattle.generational_containers.proofs.records.Places.{holds_there, record_within}
-use Rattle.generational_containers.proofs.records.Places.{changed_owners}
-use Rattle.generational_containers.proofs.records.Places.{changed_placed, missing_kept}
+use Rattle.generational_containers.proofs.{arith, changed_owners, changed_placed, holds_there}
+use Rattle.generational_containers.proofs.{missing_kept, one_less, owners_is, record_within}
 use Rattle.generational_containers.proofs.owners.OwnerRecords.count_down.Goals as goal
 
 pub count_down_at-requires-clause-within : goal.count_down_at-requires-clause-within

@@ -1,9 +1,6 @@
-use Rattle.std.proofs.Common.{arith}
-use Rattle.generational_containers.proofs.Common.{one_more}
-use Rattle.generational_containers.proofs.records.Places.{owners_is}
-use Rattle.generational_containers.proofs.records.Places.{holds_there, record_within}
-use Rattle.generational_containers.proofs.records.Places.{changed_owners}
-use Rattle.generational_containers.proofs.records.Places.{changed_placed, missing_kept, missing_none}
+use Rattle.generational_containers.proofs.{arith, changed_owners, changed_placed, holds_there}
+use Rattle.generational_containers.proofs.{missing_kept, missing_none, one_more, owners_is}
+use Rattle.generational_containers.proofs.{record_within}
 use Rattle.generational_containers.proofs.owners.OwnerRecords.count_up.Goals as goal
 
 pub count_up_at-requires-clause-within : goal.count_up_at-requires-clause-within

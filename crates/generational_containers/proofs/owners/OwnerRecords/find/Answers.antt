@@ -1,9 +1,6 @@
-use Rattle.std.proofs.Common.{arith, ap, length, option_map, refl, sym, ◌∙◌}
-use Rattle.std.proofs.lemmas.Option.{slice_get_read}
-use Rattle.generational_containers.proofs.Common.{KeyedOwnership}
-use Rattle.generational_containers.proofs.records.Places.{owners_is}
-use Rattle.generational_containers.proofs.records.Places.{record_within, record_missing}
-use Rattle.generational_containers.proofs.records.Places.{record_found}
+use Rattle.generational_containers.proofs.{ap, arith, KeyedOwnership, length, option_map, owners_is}
+use Rattle.generational_containers.proofs.{record_found, record_missing, record_within, refl}
+use Rattle.generational_containers.proofs.{slice_get_read, sym, ◌∙◌}
 use Rattle.generational_containers.proofs.owners.OwnerRecords.find.Goals as goal
 
 pub index-requires : goal.index-requires

@@ -1,10 +1,6 @@
-use Rattle.std.proofs.Common.{arith, ap, length, option_map, refl, sym, ◌∙◌}
-use Rattle.generational_core.specs.StepCalls.{owner_of}
-use Rattle.std.proofs.lemmas.Option.{slice_get_read}
-use Rattle.generational_containers.proofs.Common.{KeyedOwnership}
-use Rattle.generational_containers.proofs.records.Places.{owners_is}
-use Rattle.generational_containers.proofs.records.Places.{record_within, record_missing}
-use Rattle.generational_containers.proofs.records.Places.{record_found}
+use Rattle.generational_containers.proofs.{ap, arith, KeyedOwnership, length, option_map, owner_of}
+use Rattle.generational_containers.proofs.{owners_is, record_found, record_missing, record_within}
+use Rattle.generational_containers.proofs.{refl, slice_get_read, sym, ◌∙◌}
 use Rattle.generational_containers.proofs.owners.OwnerRecords.find_id.Goals as goal
 
 pub index-requires : goal.index-requires

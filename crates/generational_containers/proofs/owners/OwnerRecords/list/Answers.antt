@@ -1,8 +1,6 @@
-use Rattle.std.proofs.Common.{arith, slice_get, subst, sym}
-use Rattle.generational_containers.specs.OwnerPlaces.{HasRoom, IsReserved}
-use Rattle.generational_containers.proofs.Common.{name_of_cell, one_listed}
-use Rattle.generational_containers.proofs.records.Places.{changed_placed, listed_owners, places_is}
-use Rattle.generational_containers.proofs.records.Places.{room_record, room_within}
+use Rattle.generational_containers.proofs.{arith, changed_placed, HasRoom, IsReserved}
+use Rattle.generational_containers.proofs.{listed_owners, name_of_cell, one_listed, places_is}
+use Rattle.generational_containers.proofs.{room_record, room_within, slice_get, subst, sym}
 use Rattle.generational_containers.proofs.owners.OwnerRecords.list.Goals as goal
 
 pub list_at-requires-clause-within : goal.list_at-requires-clause-within

@@ -1,5 +1,4 @@
-use Rattle.std.proofs.Common.{ap, ◌∙◌, ◌++◌}
-use Rattle.generational_containers.proofs.records.Rows.{rows_at, seen_in_order}
+use Rattle.generational_containers.proofs.{ap, rows_at, seen_in_order, ◌++◌, ◌∙◌}
 use Rattle.generational_containers.proofs.owners.OwnerRecords.push_rows.Goals as goal
 
 pub loop-place-init : goal.loop-place-init

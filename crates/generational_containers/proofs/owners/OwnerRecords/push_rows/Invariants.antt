@@ -1,7 +1,5 @@
-use Rattle.std.proofs.Common.{◌≡◌, ◌++◌}
+use Rattle.generational_containers.proofs.{owner_rows, rows_at, ◌++◌, ◌≡◌}
 use Rattle.std.specs.FinMap as map
-use Rattle.generational_core.specs.Rows.{owner_rows}
-use Rattle.generational_containers.proofs.records.Rows.{rows_at}
 use Rattle.generational_containers.proofs.owners.OwnerRecords.push_rows.Given as goal
 
 -- the rows so far and those of the records that are left are all

@@ -1,9 +1,7 @@
-use Rattle.std.proofs.Common.{ap, arith, refl, slice_get, subst, sym, ◌∙◌}
-use Rattle.generational_containers.specs.OwnerPlaces.{HasRecord, owners_of}
-use Rattle.generational_containers.proofs.Common.{ArePlaced}
-use Rattle.generational_containers.proofs.records.Places.{has_room, known_found, known_missing}
-use Rattle.generational_containers.proofs.records.Places.{owners_is, record_within, roomed_owners}
-use Rattle.generational_containers.proofs.records.Places.{roomed_placed, roomed_there}
+use Rattle.generational_containers.proofs.{ap, ArePlaced, arith, has_room, HasRecord, known_found}
+use Rattle.generational_containers.proofs.{known_missing, owners_is, owners_of, record_within, refl}
+use Rattle.generational_containers.proofs.{roomed_owners, roomed_placed, roomed_there, slice_get}
+use Rattle.generational_containers.proofs.{subst, sym, ◌∙◌}
 use Rattle.generational_containers.proofs.owners.OwnerRecords.reserve_for.Goals as goal
 
 pub reserve_at-requires : goal.reserve_at-requires

@@ -1,9 +1,7 @@
-use Rattle.std.proofs.Common.{arith, ap, sym, ◌∙◌, map as list_map}
-use Rattle.generational_containers.proofs.Common.{name_of_cell}
-use Rattle.generational_containers.proofs.records.Places.{owners_is}
-use Rattle.generational_containers.proofs.records.Places.{record_within, taken_owners, taken_placed}
-use Rattle.generational_containers.proofs.records.Places.{taken_absent, taken_names, missing_names}
-use Rattle.generational_containers.proofs.records.Places.{missing_removed}
+use Rattle.generational_containers.proofs.{ap, arith, missing_names, missing_removed, name_of_cell}
+use Rattle.generational_containers.proofs.{owners_is, record_within, sym, taken_absent, taken_names}
+use Rattle.generational_containers.proofs.{taken_owners, taken_placed, ◌∙◌}
+use Rattle.std.proofs.Common.{map as list_map}
 use Rattle.generational_containers.proofs.owners.OwnerRecords.take.Goals as goal
 
 pub take_at-boxes-requires : goal.take_at-boxes-requires

@@ -1,6 +1,4 @@
-use Rattle.std.proofs.Common.{ℕ, nat_cmp}
-use Rattle.std.specs.BTreeMap.{get}
-use Rattle.generational_containers.proofs.records.Rows.{IsPlaceBelow}
+use Rattle.generational_containers.proofs.{get, IsPlaceBelow, nat_cmp, ℕ}
 use Rattle.generational_containers.proofs.owners.rows.places_by_key.Given as goal
 
 -- the places so far are found by their keys

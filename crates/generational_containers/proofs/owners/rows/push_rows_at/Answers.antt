@@ -1,6 +1,5 @@
-use Rattle.std.proofs.Common.{arith, ap, refl, Some, ◌∙◌}
-use Rattle.std.proofs.lemmas.Option.{slice_get_past, slice_get_read}
-use Rattle.generational_containers.proofs.records.Rows.{no_rows, no_rows_vacant}
+use Rattle.generational_containers.proofs.{ap, arith, no_rows, no_rows_vacant, refl, slice_get_past}
+use Rattle.generational_containers.proofs.{slice_get_read, Some, ◌∙◌}
 use Rattle.generational_containers.proofs.owners.rows.push_rows_at.Goals as goal
 
 pub returns-in_default : goal.returns-in_default

@@ -1,6 +1,5 @@
 -- A list begins at an index.
-use Rattle.std.proofs.Common.{sym, ◌∙◌}
-use Rattle.generational_containers.proofs.lists.Tables.{remove_none, table_opened}
+use Rattle.generational_containers.proofs.{remove_none, sym, table_opened, ◌∙◌}
 use Rattle.generational_containers.proofs.table.BorrowTable.open.Goals as goal
 
 pub invariant_of-self : goal.invariant_of-self

@@ -1,5 +1,4 @@
-use Rattle.std.proofs.Common.{[], arith}
-use Rattle.std.proofs.lemmas.List.{get_or_read_under}
+use Rattle.generational_containers.proofs.{arith, get_or_read_under, []}
 use Rattle.generational_containers.proofs.table.BorrowTable.push.Goals as goal
 
 pub push-requires : goal.push-requires

@@ -1,6 +1,5 @@
 -- An index where no borrow is left is free again.
-use Rattle.std.proofs.lemmas.List.{length-set}
-use Rattle.generational_containers.proofs.lists.Tables.{table_closed, table_same}
+use Rattle.generational_containers.proofs.{length-set, table_closed, table_same}
 use Rattle.generational_containers.proofs.table.BorrowTable.release.Goals as goal
 
 pub invariant_of-self-in-Last : goal.invariant_of-self-in-Last

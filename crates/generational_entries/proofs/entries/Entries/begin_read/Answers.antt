@@ -1,13 +1,9 @@
 -- A reader that begins is noted, and listed first where it isn't alone.
-use Rattle.std.proofs.Common.{ap, sym, subst, ◌≡◌, ◌∙◌, slice_get}
-use Rattle.generational_entries.specs.Entry.{with_reader, change_entry}
-use Rattle.generational_entries.specs.Entries.{EntryList}
-use Rattle.generational_entries.specs.Latest.{IsAlone, IsReadable}
-use Rattle.generational_entries.proofs.states.Latest.{first_apart, first_noted, listed_apart}
-use Rattle.generational_entries.proofs.states.Latest.{listed_noted}
+use Rattle.generational_entries.proofs.{ap, change_entry, EntryList, first_apart, first_noted}
+use Rattle.generational_entries.proofs.{IsAlone, IsReadable, listed_apart, listed_noted, slice_get}
+use Rattle.generational_entries.proofs.{subst, sym, with_reader, ◌∙◌, ◌≡◌}
 use Rattle.generational_entries.proofs.entries.Entries.begin_read.Goals as goal
-use Rattle.generational_entries.proofs.entries.Entries.begin_read.Goals.{then-not-is_alone+in_ok-list_reader}
-use Rattle.generational_entries.proofs.entries.Entries.begin_read.Goals.{else-not-is_alone}
+use goal.{else-not-is_alone, then-not-is_alone+in_ok-list_reader}
 
 pub invariant_of-self-2 : goal.invariant_of-self-2
 invariant_of-self-2 g c =

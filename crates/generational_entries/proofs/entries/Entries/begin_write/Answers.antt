@@ -1,7 +1,4 @@
-use Rattle.std.proofs.Common.{ap, ◌∙◌}
-use Rattle.generational_entries.specs.Entry.{lend_to, change_entry}
-use Rattle.generational_entries.specs.Entries.{EntryList}
-use Rattle.generational_entries.proofs.states.Latest.{writer_noted}
+use Rattle.generational_entries.proofs.{ap, change_entry, EntryList, lend_to, writer_noted, ◌∙◌}
 use Rattle.generational_entries.proofs.entries.Entries.begin_write.Goals as goal
 
 pub returns-clause-after : goal.returns-clause-after

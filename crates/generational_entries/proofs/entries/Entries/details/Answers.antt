@@ -1,19 +1,14 @@
 -- Where a slot's cell was made, and how many references name it.
-use Rattle.std.proofs.Common.{ap, refl, ◌≡◌, IfSome}
-use Rattle.generational_core.specs.Cells.{location_of}
-use Rattle.generational_entries.specs.Entries.{index_of}
-use Rattle.generational_entries.specs.Entry.{cell_of}
-use Rattle.generational_entries.specs.Latest.{joined}
-use Rattle.generational_containers.specs.Table.{list_at}
-use Rattle.generational_entries.proofs.states.Entries.{created_there, says_of}
-use Rattle.generational_entries.proofs.states.Latest.{located, seen, seen_details, seen_says}
+use Rattle.generational_entries.proofs.{ap, cell_of, created_there, IfSome, index_of, joined}
+use Rattle.generational_entries.proofs.{list_at, located, location_of, refl, says_of, seen}
+use Rattle.generational_entries.proofs.{seen_details, seen_says, ◌≡◌}
 use Rattle.generational_entries.proofs.entries.Entries.details.Goals as goal
 
 pub returns-clause-references : goal.returns-clause-references
 returns-clause-references g c =
     let o = seen c.self.inside.last c.self.inside.settled c.self.view_is c.self.invariant
     (ap (λ x. x.settled) c.self-inside.view_is) c.self-inside.invariant in
-    let a = seen_details o c.requires _ c.self-inside.inside.0.0.details.ok.0 c.index.ensures in
+    let a = seen_details o c.requires c.index.ensures in
     seen_says o c.args.slot (λ e. c.index.result.now.references ≡ e.references) (λ e h. h)
     (says_of a.1 a.2 _ refl)
 
@@ -21,7 +16,7 @@ pub returns-clause-created : goal.returns-clause-created
 returns-clause-created g c =
     let o = seen c.self.inside.last c.self.inside.settled c.self.view_is c.self.invariant
     (ap (λ x. x.settled) c.self-inside.view_is) c.self-inside.invariant in
-    let a = seen_details o c.requires _ c.self-inside.inside.0.0.details.ok.0 c.index.ensures in
+    let a = seen_details o c.requires c.index.ensures in
     seen_says o c.args.slot
     (λ e. IfSome (location_of (cell_of e.kept)) (λ l. c.index.result.now.created_at ≡ l))
     (λ e. located (joined c.self.inside.last.standing c.self.inside.last.borrow) e.kept _)

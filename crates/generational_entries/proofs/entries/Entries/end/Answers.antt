@@ -1,12 +1,7 @@
-use Rattle.std.proofs.Common.{refl, ap, ◌∙◌}
-use Rattle.std.proofs.lemmas.Bool.{false≢true}
-use Rattle.generational_entries.specs.Entry.Kept.{Empty}
-use Rattle.generational_entries.specs.Entries.{EntryList}
-use Rattle.generational_entries.specs.Latest.{noted}
-use Rattle.generational_entries.specs.Entry.{change_entry}
-use Rattle.generational_entries.proofs.states.Latest.{alone_apart, ended, noted_order}
+use Rattle.generational_entries.proofs.{alone_apart, ap, change_entry, Empty, ended, EntryList}
+use Rattle.generational_entries.proofs.{false≢true, noted, noted_order, refl, ◌∙◌}
 use Rattle.generational_entries.proofs.entries.Entries.end.Goals as goal
-use Rattle.generational_entries.proofs.entries.Entries.end.Goals.{then-self-slot, else-self-slot}
+use goal.{else-self-slot, then-self-slot}
 
 pub returns-then-is_alone-clause-slots : goal.returns-then-is_alone-clause-slots
 returns-then-is_alone-clause-slots g c =

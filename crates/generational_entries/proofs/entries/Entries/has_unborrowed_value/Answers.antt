@@ -1,16 +1,9 @@
 -- Whether the value of a name is its own and has no borrow.
-use Rattle.std.proofs.Common.{arith, ap, refl, sym, ◌∙◌}
-use Rattle.std.proofs.lemmas.Bool.{false≢true}
-use Rattle.std.proofs.lemmas.Option.{slice_get_read}
-use Rattle.generational_containers.specs.CellNames.{name_of_cell}
-use Rattle.generational_entries.specs.Entries.{EntryList}
-use Rattle.generational_entries.specs.Entry.{cell_at, cell_in, is_unborrowed_value}
-use Rattle.generational_entries.specs.Latest.{is_noted}
-use Rattle.generational_entries.proofs.states.Entries.{here, value_test}
-use Rattle.generational_entries.proofs.states.Latest.{noted_away, seen, seen_past}
+use Rattle.generational_entries.proofs.{ap, arith, cell_at, cell_in, EntryList, false≢true, here}
+use Rattle.generational_entries.proofs.{is_noted, is_unborrowed_value, name_of_cell, noted_away}
+use Rattle.generational_entries.proofs.{refl, seen, seen_past, slice_get_read, sym, value_test, ◌∙◌}
 use Rattle.generational_entries.proofs.entries.Entries.has_unborrowed_value.Goals as goal
-use Rattle.generational_entries.proofs.entries.Entries.has_unborrowed_value.Goals.{else-is_noted-via-then-is_noted+else-self-name}
-use Rattle.generational_entries.proofs.entries.Entries.has_unborrowed_value.Goals.{else-is_noted-via-else-is_noted}
+use goal.{else-is_noted-via-else-is_noted, else-is_noted-via-then-is_noted+else-self-name}
 
 pub returns-in-Some : goal.returns-in-Some
 returns-in-Some g c =

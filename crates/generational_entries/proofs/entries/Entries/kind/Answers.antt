@@ -1,10 +1,7 @@
 -- Whose the value of a name is.
-use Rattle.std.proofs.Common.{arith, ap, refl, ◌∙◌}
-use Rattle.std.proofs.lemmas.Option.{slice_get_read}
-use Rattle.generational_entries.specs.Entry.{kind_in}
-use Rattle.generational_containers.specs.CellNames.{name_of_cell}
-use Rattle.generational_entries.proofs.states.Entries.{here, kind_seen}
-use Rattle.generational_entries.proofs.states.Latest.{kind_same, seen, seen_name, seen_past}
+use Rattle.generational_entries.proofs.{ap, arith, here, kind_in, kind_same, kind_seen}
+use Rattle.generational_entries.proofs.{name_of_cell, refl, seen, seen_name, seen_past}
+use Rattle.generational_entries.proofs.{slice_get_read, ◌∙◌}
 use Rattle.generational_entries.proofs.entries.Entries.kind.Goals as goal
 
 pub returns-in-Some : goal.returns-in-Some

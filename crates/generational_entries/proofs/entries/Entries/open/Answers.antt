@@ -1,12 +1,8 @@
-use Rattle.std.proofs.Common.{sym, ◌≡◌, ◌∙◌, option_copied, true}
-use Rattle.std.proofs.lemmas.Bool.{false≢true}
-use Rattle.generational_entries.specs.Entry.{content_in, value_for}
-use Rattle.generational_entries.specs.Latest.{is_reader}
-use Rattle.generational_entries.proofs.states.Latest.{joined_says, opens_same}
+use Rattle.generational_entries.proofs.{content_in, false≢true, is_reader, joined_says, opens_same}
+use Rattle.generational_entries.proofs.{option_copied, sym, true, value_for, ◌∙◌, ◌≡◌}
 use Rattle.generational_entries.proofs.entries.Entries.open.Goals as goal
-use Rattle.generational_entries.proofs.entries.Entries.open.Goals.{else-is_reader-via-then-is_reader+then-self-slot+else-self-ticket}
-use Rattle.generational_entries.proofs.entries.Entries.open.Goals.{else-is_reader-via-then-is_reader+else-self-slot}
-use Rattle.generational_entries.proofs.entries.Entries.open.Goals.{else-is_reader-via-else-is_reader}
+use goal.{else-is_reader-via-else-is_reader, else-is_reader-via-then-is_reader+else-self-slot}
+use goal.{else-is_reader-via-then-is_reader+then-self-slot+else-self-ticket}
 
 pub returns : goal.returns
 returns g c =

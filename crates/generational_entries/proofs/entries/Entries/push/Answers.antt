@@ -1,6 +1,4 @@
-use Rattle.std.proofs.Common.{ap, ◌∙◌, ◌++◌, [], ◌∷◌}
-use Rattle.generational_entries.specs.Entries.{EntryList, kept_data}
-use Rattle.generational_entries.proofs.states.Latest.{noted_pushed}
+use Rattle.generational_entries.proofs.{ap, EntryList, kept_data, noted_pushed, [], ◌++◌, ◌∙◌, ◌∷◌}
 use Rattle.generational_entries.proofs.entries.Entries.push.Goals as goal
 
 pub returns-clause-pushed : goal.returns-clause-pushed

@@ -1,10 +1,7 @@
 -- What a box of a name reaches.
-use Rattle.std.proofs.Common.{arith, ap, refl, ◌∙◌}
-use Rattle.std.proofs.lemmas.Option.{slice_get_read}
-use Rattle.generational_core.specs.Borrowing.{leads_to}
-use Rattle.generational_containers.specs.CellNames.{name_of_cell}
-use Rattle.generational_entries.proofs.states.Entries.{here, lead_seen}
-use Rattle.generational_entries.proofs.states.Latest.{lead_same, seen, seen_name, seen_past}
+use Rattle.generational_entries.proofs.{ap, arith, here, lead_same, lead_seen, leads_to}
+use Rattle.generational_entries.proofs.{name_of_cell, refl, seen, seen_name, seen_past}
+use Rattle.generational_entries.proofs.{slice_get_read, ◌∙◌}
 use Rattle.generational_entries.proofs.entries.Entries.reach.Goals as goal
 
 pub returns-in-Some : goal.returns-in-Some

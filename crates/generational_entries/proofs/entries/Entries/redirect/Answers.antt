@@ -1,8 +1,5 @@
-use Rattle.std.proofs.Common.{ap, ◌∙◌, ◌≡◌, slice_get}
-use Rattle.generational_entries.specs.Entry.{referring, change_entry}
-use Rattle.generational_entries.specs.Latest.{noted, joined}
-use Rattle.generational_entries.proofs.states.Latest.{each_some, joined_says, noted_order}
-use Rattle.generational_entries.proofs.states.Latest.{refer_order}
+use Rattle.generational_entries.proofs.{ap, change_entry, each_some, joined, joined_says, noted}
+use Rattle.generational_entries.proofs.{noted_order, refer_order, referring, slice_get, ◌∙◌, ◌≡◌}
 use Rattle.generational_entries.proofs.entries.Entries.redirect.Goals as goal
 
 pub returns-clause-slots : goal.returns-clause-slots

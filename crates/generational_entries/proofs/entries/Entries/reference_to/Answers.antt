@@ -1,7 +1,5 @@
 -- A reference to a slot's cell.
-use Rattle.std.proofs.Common.{ap, refl, ◌≡◌}
-use Rattle.generational_entries.proofs.states.Entries.{says}
-use Rattle.generational_entries.proofs.states.Latest.{seen, seen_says, seen_slot}
+use Rattle.generational_entries.proofs.{ap, refl, says, seen, seen_says, seen_slot, ◌≡◌}
 use Rattle.generational_entries.specs.declared.entry.StorageEntryData.TheVariants as content
 use Rattle.generational_entries.proofs.entries.Entries.reference_to.Goals as goal
 
@@ -9,6 +7,6 @@ pub returns : goal.returns
 returns g c =
     let o = seen c.self.inside.last c.self.inside.settled c.self.view_is c.self.invariant
     (ap (λ x. x.settled) c.self-inside.view_is) c.self-inside.invariant in
-    let a = seen_slot o c.requires _ c.self-inside.inside.0.0.entries.ok.0 c.index.ensures in
+    let a = seen_slot o c.requires c.index.ensures in
     seen_says o c.args.slot (λ e. content.Reference c.args.slot c.index.result.now.generation
     ≡ content.Reference c.args.slot e.generation) (λ e h. h) (says a _ (λ l. refl))

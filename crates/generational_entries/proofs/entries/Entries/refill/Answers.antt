@@ -1,7 +1,5 @@
-use Rattle.std.proofs.Common.{ap, sym, ◌∙◌, ◌≡◌, [], slice_set, slice_get, subst, IfSome}
-use Rattle.generational_entries.specs.Entry.Kept.{Empty}
-use Rattle.generational_entries.specs.Entries.{EntryList, kept_data}
-use Rattle.generational_entries.proofs.states.Latest.{away_from_empty, noted_set}
+use Rattle.generational_entries.proofs.{ap, away_from_empty, Empty, EntryList, IfSome, kept_data}
+use Rattle.generational_entries.proofs.{noted_set, slice_get, slice_set, subst, sym, [], ◌∙◌, ◌≡◌}
 use Rattle.generational_entries.proofs.entries.Entries.refill.Goals as goal
 
 pub returns-clause-filled : goal.returns-clause-filled

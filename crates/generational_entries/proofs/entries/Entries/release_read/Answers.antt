@@ -1,8 +1,6 @@
-use Rattle.std.proofs.Common.{sym, ap, ◌≡◌, ◌∙◌, IfSome, refl, slice_get, subst}
-use Rattle.generational_entries.specs.Entry.{content_in, has_no_borrow, without_reader_in}
-use Rattle.generational_entries.specs.Entry.{change_entry}
-use Rattle.generational_entries.specs.Entries.{EntryList}
-use Rattle.generational_entries.proofs.states.Latest.{each_some, unread}
+use Rattle.generational_entries.proofs.{ap, change_entry, content_in, each_some, EntryList}
+use Rattle.generational_entries.proofs.{has_no_borrow, IfSome, refl, slice_get, subst, sym, unread}
+use Rattle.generational_entries.proofs.{without_reader_in, ◌∙◌, ◌≡◌}
 use Rattle.generational_entries.proofs.entries.Entries.release_read.Goals as goal
 
 pub returns-then-has_no_borrow-clause-after : goal.returns-then-has_no_borrow-clause-after

@@ -1,8 +1,5 @@
-use Rattle.std.proofs.Common.{sym, ap, ◌∙◌}
-use Rattle.generational_entries.specs.Entry.{with_value, change_entry}
-use Rattle.generational_entries.specs.Entries.{EntryList}
-use Rattle.generational_entries.specs.Latest.{noted}
-use Rattle.generational_entries.proofs.states.Latest.{unwritten}
+use Rattle.generational_entries.proofs.{ap, change_entry, EntryList, noted, sym, unwritten}
+use Rattle.generational_entries.proofs.{with_value, ◌∙◌}
 use Rattle.generational_entries.proofs.entries.Entries.release_write.Goals as goal
 
 pub returns-then-self-ticket-clause-ok : goal.returns-then-self-ticket-clause-ok

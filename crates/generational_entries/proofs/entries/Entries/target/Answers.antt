@@ -1,10 +1,7 @@
 -- What the reference of a name names.
-use Rattle.std.proofs.Common.{arith, ap, refl, ◌∙◌}
-use Rattle.std.proofs.lemmas.Option.{slice_get_read}
-use Rattle.generational_entries.specs.Entry.{target_in}
-use Rattle.generational_containers.specs.CellNames.{name_of_cell}
-use Rattle.generational_entries.proofs.states.Entries.{here, target_seen}
-use Rattle.generational_entries.proofs.states.Latest.{target_same, seen, seen_name, seen_past}
+use Rattle.generational_entries.proofs.{ap, arith, here, name_of_cell, refl, seen, seen_name}
+use Rattle.generational_entries.proofs.{seen_past, slice_get_read, target_in, target_same}
+use Rattle.generational_entries.proofs.{target_seen, ◌∙◌}
 use Rattle.generational_entries.proofs.entries.Entries.target.Goals as goal
 
 pub returns-in-Some : goal.returns-in-Some

@@ -1,34 +1,20 @@
-use Rattle.std.proofs.Common.{arith, refl, subst, ap, []}
-use Rattle.std.proofs.lemmas.List.{get_or-set_same}
-use Rattle.generational_entries.specs.Entry.{content_in, readers_of, with_reader}
-use Rattle.generational_entries.proofs.states.Entries.{says, has_place, used_at, hears, location}
-use Rattle.generational_entries.proofs.states.Entries.{ok_then, err_then, read_beside, cell_changed}
-use Rattle.generational_entries.proofs.states.Entries.{reader_kept, still, found, view_changed}
-use Rattle.generational_entries.proofs.states.SlotWrites.{room_left, small_left, open_lists}
-use Rattle.generational_entries.proofs.states.SlotWrites.{open_indexed, list_lists}
-use Rattle.generational_entries.proofs.lists.TableChanges.{not_empty, opened_list, opens_one}
-use Rattle.generational_entries.specs.Entries.{kept_data, index_of, EntryList}
-use Rattle.generational_containers.specs.Table.{list_at}
-use Rattle.generational_containers.specs.Borrows.{AreBelow}
+use Rattle.generational_entries.proofs
+use proofs.{ap, AreBelow, arith, cell_changed, content_in, EntryList, err_then, found}
+use proofs.{get_or-set_same, has_place, hears, index_of, kept_data, list_at, list_lists, location}
+use proofs.{not_empty, ok_then, open_indexed, open_lists, opened_list, opens_one, read_beside}
+use proofs.{reader_kept, readers_of, refl, room_left, says, still, subst, used_at, view_changed}
+use proofs.{with_reader, []}
 use Rattle.generational_entries.proofs.settled.SettledEntries.begin_read.Goals as goal
 
 pub open-requires-clause-room : goal.open-requires-clause-room
 open-requires-clause-room g c =
-    let a = found c.self.view_is c.self.invariant c.requires.within c.self.inside.entries.ok.0
-    c.index_mut.ensures.value in
+    let a = found c.self.view_is c.self.invariant c.requires.within c.index_mut.ensures.value in
     room_left a (rw c.in-Data.is refl)
     (let r = c.self.invariant.2 in let a = r.filled in let b = r.borrows in omega arith)
 
-pub open-requires-clause-small : goal.open-requires-clause-small
-open-requires-clause-small g c =
-    let a = found c.self.view_is c.self.invariant c.requires.within c.self.inside.entries.ok.0
-    c.index_mut.ensures.value in
-    small_left a (rw c.in-Data.is refl)
-
 pub invariant_of-self : goal.invariant_of-self
 invariant_of-self g c =
-    let a = found c.self.view_is c.self.invariant c.requires.within c.self.inside.entries.ok.0
-    c.index_mut.ensures.value in
+    let a = found c.self.view_is c.self.invariant c.requires.within c.index_mut.ensures.value in
     let o = opens_one c.self.inside.borrows c.open.new.self c.open.ensures.vacant
     c.open.ensures.lists c.open.ensures.free in
     still a c.self.invariant _ (open_indexed a (rw c.in-Data.is refl) o _
@@ -36,8 +22,7 @@ invariant_of-self g c =
 
 pub returns-in-Data-clause-ok : goal.returns-in-Data-clause-ok
 returns-in-Data-clause-ok g c =
-    let a = found c.self.view_is c.self.invariant c.requires.within c.self.inside.entries.ok.0
-    c.index_mut.ensures.value in
+    let a = found c.self.view_is c.self.invariant c.requires.within c.index_mut.ensures.value in
     let o = opens_one c.self.inside.borrows c.open.new.self c.open.ensures.vacant
     c.open.ensures.lists c.open.ensures.free in
     view_changed a _ _ _ (open_lists a
@@ -46,14 +31,12 @@ returns-in-Data-clause-ok g c =
 
 pub push-requires-clause-within : goal.push-requires-clause-within
 push-requires-clause-within g c =
-    let a = found c.self.view_is c.self.invariant c.requires.within c.self.inside.entries.ok.0
-    c.index_mut.ensures.value in
+    let a = found c.self.view_is c.self.invariant c.requires.within c.index_mut.ensures.value in
     (used_at a c.in-Read.is).within
 
 pub push-requires-clause-ascends : goal.push-requires-clause-ascends
 push-requires-clause-ascends g c =
-    let a = found c.self.view_is c.self.invariant c.requires.within c.self.inside.entries.ok.0
-    c.index_mut.ensures.value in
+    let a = found c.self.view_is c.self.invariant c.requires.within c.index_mut.ensures.value in
     subst (λ d. AreBelow c.args.borrow.ticket (readers_of (content_in (kept_data
     (list_at c.self.inside.borrows.lists (index_of d))
     (location a).0.created_at d))))
@@ -63,8 +46,7 @@ push-requires-clause-ascends g c =
 
 pub returns-in-Read-clause-ok : goal.returns-in-Read-clause-ok
 returns-in-Read-clause-ok g c =
-    let a = found c.self.view_is c.self.invariant c.requires.within c.self.inside.entries.ok.0
-    c.index_mut.ensures.value in
+    let a = found c.self.view_is c.self.invariant c.requires.within c.index_mut.ensures.value in
     let u = used_at a c.in-Read.is in
     ok_then c.push.result (λ now. view_changed a _ _ _
     (list_lists a _ (rw c.in-Read.is refl) (has_place a c.in-Read.is) _ (not_empty _ _)
@@ -79,15 +61,13 @@ returns-in-Read-clause-ok g c =
 
 pub returns-in-Read-clause-beside : goal.returns-in-Read-clause-beside
 returns-in-Read-clause-beside g c =
-    let a = found c.self.view_is c.self.invariant c.requires.within c.self.inside.entries.ok.0
-    c.index_mut.ensures.value in
+    let a = found c.self.view_is c.self.invariant c.requires.within c.index_mut.ensures.value in
     err_then c.push.result (says a _ (λ l. rw c.in-Read.is
     (read_beside a c.in-Read.is)))
 
 pub returns-in_default : goal.returns-in_default
 returns-in_default g c =
-    let a = found c.self.view_is c.self.invariant c.requires.within c.self.inside.entries.ok.0
-    c.index_mut.ensures.value in
+    let a = found c.self.view_is c.self.invariant c.requires.within c.index_mut.ensures.value in
     record {
       ok = cell_changed a _ _ (with_reader c.args.borrow) (λ k other. refl) (λ l. reader_kept
           (list_at c.self.inside.borrows.lists (index_of c.index_mut.result.now.content)) l

@@ -1,32 +1,23 @@
 -- The writer that stands in the way of a read.
-use Rattle.std.proofs.Common.{refl}
-use Rattle.generational_entries.proofs.states.Entries.{kept, not_lent, says, lent_used, list_none}
-use Rattle.generational_entries.proofs.states.Entries.{says_of, read_details, found}
-use Rattle.generational_entries.specs.Entries.{index_of}
-use Rattle.generational_containers.specs.Table.{list_at}
+use Rattle.generational_entries.proofs.{found, index_of, lent_used, list_at, not_lent, read_details}
+use Rattle.generational_entries.proofs.{refl, says, says_of}
 use Rattle.generational_entries.proofs.settled.SettledEntries.borrow_error.Goals as goal
 
 pub writer_at-writer-requires-clause-within : goal.writer_at-writer-requires-clause-within
 writer_at-writer-requires-clause-within g c =
-    let a = found c.self.view_is c.self.invariant c.requires c.self.inside.entries.ok.0
-    c.index.ensures in
+    let a = found c.self.view_is c.self.invariant c.requires c.index.ensures in
     λ some. (lent_used a c.in-Lent.is some).within
-
-pub writer_at-writer-requires-clause-none : goal.writer_at-writer-requires-clause-none
-writer_at-writer-requires-clause-none g c = list_none (kept c.self.view_is c.self.invariant)
 
 pub returns-in-Lent : goal.returns-in-Lent
 returns-in-Lent g c =
-    let a = found c.self.view_is c.self.invariant c.requires c.self.inside.entries.ok.0
-    c.index.ensures in
+    let a = found c.self.view_is c.self.invariant c.requires c.index.ensures in
     says_of a
-    (read_details a.store c.requires _ c.self.inside.details.ok.0 c.index-in-Lent.ensures) _
+    (read_details a.store c.requires c.index-in-Lent.ensures) _
     (rw (c.in-Lent.is, c.new.ensures, c.writer_at-writer.ensures) refl)
 
 pub returns-in_default : goal.returns-in_default
 returns-in_default g c =
-    let a = found c.self.view_is c.self.invariant c.requires c.self.inside.entries.ok.0
-    c.index.ensures in
+    let a = found c.self.view_is c.self.invariant c.requires c.index.ensures in
     says a _
     (λ l. not_lent (list_at c.self.inside.borrows.lists (index_of c.index.result.now.content))
     l.created_at c.index.result.now.content c.in_default.not-Lent)

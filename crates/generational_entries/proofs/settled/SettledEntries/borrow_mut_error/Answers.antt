@@ -1,17 +1,9 @@
 -- The borrows that stand in the way of a write or an end.
-use Rattle.std.proofs.Common.{refl, ◌≡◌, ◌≢◌, ℕ, List, [], Err, arith}
-use Rattle.generational_core.specs.Borrowing.{write_refusal}
-use Rattle.generational_core.specs.declared.borrow.Borrow.{Borrow}
-use Rattle.generational_errors.specs.declared.error.BorrowMutError.{BorrowMutError}
-use Rattle.generational_errors.specs.declared.error.Refused.{Refused}
-use Rattle.generational_errors.specs.declared.error.Location.{Location}
-use Rattle.generational_entries.specs.declared.entry.Kind.{Kind}
-use Rattle.generational_entries.specs.declared.entry.StorageEntryData.{StorageEntryData}
-use Rattle.generational_entries.specs.Entries.{index_of, kept_data, writer_in}
-use Rattle.generational_entries.specs.Entry.{FoundBorrowed, FoundReaders, content_in}
-use Rattle.generational_containers.specs.Table.{list_at}
-use Rattle.generational_entries.proofs.states.Entries.{kept, says, lent_used, used_at, no_refusal}
-use Rattle.generational_entries.proofs.states.Entries.{list_none, says_of, read_details, found}
+use Rattle.generational_entries.proofs
+use proofs.{arith, Borrow, BorrowMutError, content_in, Err, found, FoundBorrowed, FoundReaders}
+use proofs.{index_of, kept_data, Kind, lent_used, List, list_at, Location, no_refusal, read_details}
+use proofs.{refl, Refused, says, says_of, StorageEntryData, used_at, write_refusal, writer_in, ℕ}
+use proofs.{[], ◌≡◌, ◌≢◌}
 use Rattle.generational_errors.specs.declared.error.BorrowMutError.TheVariants as writes
 use Rattle.generational_errors.specs.declared.error.Refused.TheVariants as refused
 use Rattle.generational_entries.specs.declared.entry.StorageEntryData.TheVariants as slot
@@ -36,40 +28,32 @@ module _ {T : Type 0} (lists : List (List Borrow)) (d : StorageEntryData T) (l :
 
 pub readers_error-requires : goal.readers_error-requires
 readers_error-requires g c =
-    let a = found c.self.view_is c.self.invariant c.requires c.self.inside.entries.ok.0
-    c.index.ensures in
+    let a = found c.self.view_is c.self.invariant c.requires c.index.ensures in
     (used_at a c.in-Read.is).within
 
 pub writer_at-writer-requires-clause-within : goal.writer_at-writer-requires-clause-within
 writer_at-writer-requires-clause-within g c =
-    let a = found c.self.view_is c.self.invariant c.requires c.self.inside.entries.ok.0
-    c.index.ensures in
+    let a = found c.self.view_is c.self.invariant c.requires c.index.ensures in
     λ some. (lent_used a c.in-Lent.is some).within
-
-pub writer_at-writer-requires-clause-none : goal.writer_at-writer-requires-clause-none
-writer_at-writer-requires-clause-none g c = list_none (kept c.self.view_is c.self.invariant)
 
 pub returns-in-Read : goal.returns-in-Read
 returns-in-Read g c =
-    let a = found c.self.view_is c.self.invariant c.requires c.self.inside.entries.ok.0
-    c.index.ensures in
+    let a = found c.self.view_is c.self.invariant c.requires c.index.ensures in
     let u = used_at a c.in-Read.is in
     says a _ (λ l. found_readers c.self.inside.borrows.lists c.index.result.now.content l.created_at
     c.readers_error.result _ _ _ c.in-Read.is u.some c.readers_error.ensures)
 
 pub returns-in_default : goal.returns-in_default
 returns-in_default g c =
-    let a = found c.self.view_is c.self.invariant c.requires c.self.inside.entries.ok.0
-    c.index.ensures in
+    let a = found c.self.view_is c.self.invariant c.requires c.index.ensures in
     says a _ (λ l. rw (no_refusal (list_at c.self.inside.borrows.lists
     (index_of c.index.result.now.content)) l.created_at c.index.result.now.content
     c.in_default.not-Read c.in_default.not-Lent) refl)
 
 pub returns-in-Lent : goal.returns-in-Lent
 returns-in-Lent g c =
-    let a = found c.self.view_is c.self.invariant c.requires c.self.inside.entries.ok.0
-    c.index.ensures in
-    says_of a (read_details a.store c.requires _ c.self.inside.details.ok.0 c.index-in-Lent.ensures)
+    let a = found c.self.view_is c.self.invariant c.requires c.index.ensures in
+    says_of a (read_details a.store c.requires c.index-in-Lent.ensures)
     (λ e. FoundBorrowed (write_refusal (content_in e.kept)) (Err c.writer_error.result))
     (found_writer c.self.inside.borrows.lists c.index.result.now.content
     c.index-in-Lent.result.now.created_at c.writer_error.result _ _ c.in-Lent.is

@@ -1,30 +1,19 @@
 -- A lent value gets a writer.
-use Rattle.std.proofs.Common.{arith, refl, ap, [], ◌∷◌}
-use Rattle.std.proofs.lemmas.List.{get_or-set_same}
-use Rattle.generational_entries.proofs.lists.TableChanges.{none_some, opened_list, opens_one}
-use Rattle.generational_entries.proofs.states.Entries.{not_lent_there, lent_used, still, found}
-use Rattle.generational_entries.proofs.states.Entries.{view_changed}
-use Rattle.generational_entries.proofs.states.SlotWrites.{list_indexed, list_lists, open_indexed}
-use Rattle.generational_entries.proofs.states.SlotWrites.{open_lists, room_left, small_left}
+use Rattle.generational_entries.proofs.{arith, found, get_or-set_same, lent_used, list_lists}
+use Rattle.generational_entries.proofs.{none_some, not_lent_there, open_indexed, open_lists}
+use Rattle.generational_entries.proofs.{opened_list, opens_one, refl, room_left, still}
+use Rattle.generational_entries.proofs.{view_changed, [], ◌∷◌}
 use Rattle.generational_entries.proofs.settled.SettledEntries.list_writer.Goals as goal
 
 pub open-requires-clause-room : goal.open-requires-clause-room
 open-requires-clause-room g c =
-    let a = found c.self.view_is c.self.invariant c.requires.within c.self.inside.entries.ok.0
-    c.index_mut.ensures.value in
+    let a = found c.self.view_is c.self.invariant c.requires.within c.index_mut.ensures.value in
     room_left a (rw c.in-Lent.is c.if-index.true)
     (let r = c.self.invariant.2 in let x = r.filled in let y = r.borrows in omega arith)
 
-pub open-requires-clause-small : goal.open-requires-clause-small
-open-requires-clause-small g c =
-    let a = found c.self.view_is c.self.invariant c.requires.within c.self.inside.entries.ok.0
-    c.index_mut.ensures.value in
-    small_left a (rw c.in-Lent.is c.if-index.true)
-
 pub invariant_of-self : goal.invariant_of-self
 invariant_of-self g c =
-    let a = found c.self.view_is c.self.invariant c.requires.within c.self.inside.entries.ok.0
-    c.index_mut.ensures.value in
+    let a = found c.self.view_is c.self.invariant c.requires.within c.index_mut.ensures.value in
     let o = opens_one c.self.inside.borrows c.open.new.self c.open.ensures.vacant
     c.open.ensures.lists c.open.ensures.free in
     still a c.self.invariant _ (open_indexed a (rw c.in-Lent.is c.if-index.true) o _ refl)
@@ -32,28 +21,17 @@ invariant_of-self g c =
 
 pub set_only-requires : goal.set_only-requires
 set_only-requires g c =
-    let a = found c.self.view_is c.self.invariant c.requires.within c.self.inside.entries.ok.0
-    c.index_mut.ensures.value in
+    let a = found c.self.view_is c.self.invariant c.requires.within c.index_mut.ensures.value in
     (lent_used a c.in-Lent.is c.if-index.false).within
-
-pub invariant_of-self-else-index : goal.invariant_of-self-else-index
-invariant_of-self-else-index g c =
-    let a = found c.self.view_is c.self.invariant c.requires.within c.self.inside.entries.ok.0
-    c.index_mut.ensures.value in
-    still a c.self.invariant _ (list_indexed a _ (rw c.in-Lent.is refl) c.if-index.false
-    (c.args.writer ∷ []) (none_some _ []) c.set_only.ensures _ refl)
-    (ap (λ t. t.rooms) c.set_only.ensures)
 
 pub unreachable-requires : goal.unreachable-requires
 unreachable-requires g c =
-    let a = found c.self.view_is c.self.invariant c.requires.within c.self.inside.entries.ok.0
-    c.index_mut.ensures.value in
+    let a = found c.self.view_is c.self.invariant c.requires.within c.index_mut.ensures.value in
     not_lent_there a c.in_default.not-Lent c.requires.lent
 
 pub returns-then-index-clause-slots : goal.returns-then-index-clause-slots
 returns-then-index-clause-slots g c =
-    let a = found c.self.view_is c.self.invariant c.requires.within c.self.inside.entries.ok.0
-    c.index_mut.ensures.value in
+    let a = found c.self.view_is c.self.invariant c.requires.within c.index_mut.ensures.value in
     let o = opens_one c.self.inside.borrows c.open.new.self c.open.ensures.vacant
     c.open.ensures.lists c.open.ensures.free in
     view_changed a _ _ _
@@ -62,8 +40,7 @@ returns-then-index-clause-slots g c =
 
 pub returns-else-index-clause-slots : goal.returns-else-index-clause-slots
 returns-else-index-clause-slots g c =
-    let a = found c.self.view_is c.self.invariant c.requires.within c.self.inside.entries.ok.0
-    c.index_mut.ensures.value in
+    let a = found c.self.view_is c.self.invariant c.requires.within c.index_mut.ensures.value in
     let used = lent_used a c.in-Lent.is c.if-index.false in
     view_changed a _ _ _
     (list_lists a _ (rw c.in-Lent.is refl) c.if-index.false

@@ -1,7 +1,5 @@
 -- A store's first slots: there are none.
-use Rattle.std.proofs.Common.{arith, refl, ap, length}
-use Rattle.generational_entries.proofs.states.Indexes.{indexed_none}
-unfoldable use Rattle.generational_entries.specs.Entries.{entries_of}
+use Rattle.generational_entries.proofs.{ap, arith, entries_of, indexed_none, length, refl}
 use Rattle.generational_entries.proofs.settled.SettledEntries.new.Goals as goal
 
 pub invariant_of-result : goal.invariant_of-result

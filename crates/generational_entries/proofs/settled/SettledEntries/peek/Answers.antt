@@ -1,30 +1,23 @@
 -- The value of a cell, unless it is lent.
-use Rattle.std.proofs.Common.{refl, sym, ◌≡◌, Some, None, option_copied}
-use Rattle.generational_core.specs.Answers.{value_of}
-use Rattle.generational_entries.specs.Entry.{content_in}
-use Rattle.generational_entries.proofs.states.Entries.{no_value, says, found}
-use Rattle.generational_entries.specs.Entries.{index_of}
-use Rattle.generational_containers.specs.Table.{list_at}
+use Rattle.generational_entries.proofs.{content_in, found, index_of, list_at, no_value, None}
+use Rattle.generational_entries.proofs.{option_copied, refl, says, Some, sym, value_of, ◌≡◌}
 use Rattle.generational_entries.proofs.settled.SettledEntries.peek.Goals as goal
 
 pub returns-in-Data : goal.returns-in-Data
 returns-in-Data g c =
-    let a = found c.self.view_is c.self.invariant c.requires c.self.inside.entries.ok.0
-    c.index.ensures in
+    let a = found c.self.view_is c.self.invariant c.requires c.index.ensures in
     says a (λ e. Some c.in-Data.value ≡ value_of (content_in e.kept))
     (λ l. rw c.in-Data.is refl)
 
 pub returns-in-Read : goal.returns-in-Read
 returns-in-Read g c =
-    let a = found c.self.view_is c.self.invariant c.requires c.self.inside.entries.ok.0
-    c.index.ensures in
+    let a = found c.self.view_is c.self.invariant c.requires c.index.ensures in
     says a (λ e. Some c.in-Read.value ≡ value_of (content_in e.kept))
     (λ l. rw c.in-Read.is refl)
 
 pub returns-in_default : goal.returns-in_default
 returns-in_default g c =
-    let a = found c.self.view_is c.self.invariant c.requires c.self.inside.entries.ok.0
-    c.index.ensures in
+    let a = found c.self.view_is c.self.invariant c.requires c.index.ensures in
     says a (λ e. None ≡ value_of (content_in e.kept))
     (λ l. sym (no_value
     (list_at c.self.inside.borrows.lists (index_of c.index.result.now.content))

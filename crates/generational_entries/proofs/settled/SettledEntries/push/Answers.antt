@@ -1,21 +1,9 @@
 -- A slot more, with a cell without borrows.
-use Rattle.std.proofs.Common.{arith, refl, ap, ◌∙◌, ◌++◌, ◌∷◌, [], length, length-append}
-use Rattle.std.proofs.lemmas.Option.{slice_get_past}
-use Rattle.generational_containers.proofs.lists.Lists.{push_written}
-use Rattle.generational_entries.proofs.states.Entries.{kept, room_for_one, slots_pushed, free_entry}
-use Rattle.generational_entries.proofs.states.Indexes.{indexed_free, unborrowed_listed}
-use Rattle.generational_entries.proofs.states.Indexes.{unborrowed_none}
+use Rattle.generational_entries.proofs.{ap, arith, free_entry, indexed_free, kept, length}
+use Rattle.generational_entries.proofs.{length-append, push_written, refl, room_for_one}
+use Rattle.generational_entries.proofs.{slice_get_past, slots_pushed, unborrowed_listed}
+use Rattle.generational_entries.proofs.{unborrowed_none, [], ◌++◌, ◌∙◌, ◌∷◌}
 use Rattle.generational_entries.proofs.settled.SettledEntries.push.Goals as goal
-
-pub push_reserved-requires : goal.push_reserved-requires
-push_reserved-requires g c =
-    let left = room_for_one _ c.self.view_is c.self.invariant c.requires.room in
-    omega (arith, c.self.inside.entries.ok.0, c.self.invariant.2.entries)
-
-pub push_reserved-requires-2 : goal.push_reserved-requires-2
-push_reserved-requires-2 g c =
-    let left = room_for_one _ c.self.view_is c.self.invariant c.requires.room in
-    omega (arith, c.self.invariant.1, c.self.inside.details.ok.0, c.self.invariant.2.details)
 
 pub invariant_of-self : goal.invariant_of-self
 invariant_of-self g c =

@@ -1,21 +1,12 @@
 -- The rows of the borrows of a slot's value.
-use Rattle.std.proofs.Common.{refl, ◌≡◌, ◌∷◌, ◌++◌, ℕ, List, [], sym, ap, ◌∙◌, append-nil}
+use Rattle.generational_entries.proofs
+use proofs.{ap, append-nil, BaseRow, Borrow, content_in, content_rows, found, GenerationalBoxId}
+use proofs.{index_of, kept_data, Kind, lent_used, List, list_at, Location, on_ok_weaker}
+use proofs.{read_details, reader_row, refl, says, says_of, StorageEntryData, sym, used_at}
+use proofs.{writer_in, ℕ, [], ◌++◌, ◌∙◌, ◌∷◌, ◌≡◌}
 use Rattle.std.proofs.Common.{map as list_map}
-use Rattle.std.proofs.lemmas.Result.{on_ok_weaker}
-use Rattle.generational_core.specs.declared.borrow.Borrow.{Borrow}
-use Rattle.generational_core.specs.declared.boxes.GenerationalBoxId.{GenerationalBoxId}
-use Rattle.generational_errors.specs.declared.error.Location.{Location}
-use Rattle.generational_core.specs.declared.rows.BaseRow.{BaseRow}
 use Rattle.generational_core.specs.declared.rows.BaseRow.TheVariants as row
-use Rattle.generational_core.specs.Rows.{content_rows, reader_row}
-use Rattle.generational_entries.specs.declared.entry.Kind.{Kind}
-use Rattle.generational_entries.specs.declared.entry.StorageEntryData.{StorageEntryData}
 use Rattle.generational_entries.specs.declared.entry.StorageEntryData.TheVariants as slot
-use Rattle.generational_entries.specs.Entries.{index_of, kept_data, writer_in}
-use Rattle.generational_entries.specs.Entry.{content_in}
-use Rattle.generational_containers.specs.Table.{list_at}
-use Rattle.generational_entries.proofs.states.Entries.{kept, says, lent_used, used_at, list_none}
-use Rattle.generational_entries.proofs.states.Entries.{says_of, read_details, found}
 use Rattle.generational_entries.proofs.settled.SettledEntries.push_borrows.Goals as goal
 
 module _ {T : Type 0} (lists : List (List Borrow)) (d : StorageEntryData T) (l : Location)
@@ -49,23 +40,17 @@ module _ {T : Type 0} (lists : List (List Borrow)) (d : StorageEntryData T) (l :
 
 pub borrows_at-requires : goal.borrows_at-requires
 borrows_at-requires g c =
-    let a = found c.self.view_is c.self.invariant c.requires c.self.inside.entries.ok.0
-    c.index.ensures in
+    let a = found c.self.view_is c.self.invariant c.requires c.index.ensures in
     (used_at a c.in-Read.is).within
 
 pub writer_at-writer-requires-clause-within : goal.writer_at-writer-requires-clause-within
 writer_at-writer-requires-clause-within g c =
-    let a = found c.self.view_is c.self.invariant c.requires c.self.inside.entries.ok.0
-    c.index.ensures in
+    let a = found c.self.view_is c.self.invariant c.requires c.index.ensures in
     λ some. (lent_used a c.in-Lent.is some).within
-
-pub writer_at-writer-requires-clause-none : goal.writer_at-writer-requires-clause-none
-writer_at-writer-requires-clause-none g c = list_none (kept c.self.view_is c.self.invariant)
 
 pub returns-in-Read : goal.returns-in-Read
 returns-in-Read g c =
-    let a = found c.self.view_is c.self.invariant c.requires c.self.inside.entries.ok.0
-    c.index.ensures in
+    let a = found c.self.view_is c.self.invariant c.requires c.index.ensures in
     on_ok_weaker c.push_readers.result (λ pushed. says a _ (λ l. reader_rows
     c.self.inside.borrows.lists c.index.result.now.content l.created_at c.args.id
     c.args.rows.now.items c.push_readers.new.rows.items _ _ _ c.in-Read.is
@@ -74,10 +59,9 @@ returns-in-Read g c =
 
 pub returns-in-Lent : goal.returns-in-Lent
 returns-in-Lent g c =
-    let a = found c.self.view_is c.self.invariant c.requires c.self.inside.entries.ok.0
-    c.index.ensures in
+    let a = found c.self.view_is c.self.invariant c.requires c.index.ensures in
     on_ok_weaker c.push_writer.result (λ pushed. says_of a
-    (read_details a.store c.requires _ c.self.inside.details.ok.0 c.index-in-Lent.ensures) _
+    (read_details a.store c.requires c.index-in-Lent.ensures) _
     (writer_rows c.self.inside.borrows.lists c.index.result.now.content
     c.index-in-Lent.result.now.created_at c.args.id c.args.rows.now.items
     c.push_writer.new.rows.items _ _ c.writer_at-writer.result c.in-Lent.is
@@ -85,8 +69,7 @@ returns-in-Lent g c =
 
 pub returns-in_default : goal.returns-in_default
 returns-in_default g c =
-    let a = found c.self.view_is c.self.invariant c.requires c.self.inside.entries.ok.0
-    c.index.ensures in
+    let a = found c.self.view_is c.self.invariant c.requires c.index.ensures in
     says a _ (λ l. no_rows c.self.inside.borrows.lists c.index.result.now.content l.created_at
     c.args.id c.args.rows.now.items c.args.rows.now.items c.in_default.not-Read
     c.in_default.not-Lent)

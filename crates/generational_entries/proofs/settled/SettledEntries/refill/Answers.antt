@@ -1,28 +1,18 @@
 -- A cell without borrows in a slot that has none, under the next generation.
-use Rattle.std.proofs.Common.{arith, refl, ap, ◌≡◌, ◌∙◌, ◌<◌, ◌+◌, slice_set}
-use Rattle.std.proofs.lemmas.List.{length-set}
-use Rattle.generational_core.specs.Slots.{last_generation}
-use Rattle.generational_entries.proofs.states.Entries.{kept, many, says, hears, empty_slot}
-use Rattle.generational_entries.proofs.states.Entries.{slots_set, free_entry, found, still}
-use Rattle.generational_entries.proofs.states.Indexes.{unborrowed_listed, unborrowed_none}
-use Rattle.generational_entries.proofs.states.SlotWrites.{free_indexed}
+use Rattle.generational_entries.proofs.{ap, empty_slot, found, free_entry, free_indexed, hears}
+use Rattle.generational_entries.proofs.{kept, last_generation, length-set, refl, says, slice_set}
+use Rattle.generational_entries.proofs.{slots_set, still, unborrowed_listed, unborrowed_none, ◌+◌}
+use Rattle.generational_entries.proofs.{◌<◌, ◌∙◌, ◌≡◌}
 use Rattle.generational_entries.proofs.settled.SettledEntries.refill.Goals as goal
-
-pub index_mut-requires : goal.index_mut-requires
-index_mut-requires g c =
-    let same = many (kept c.self.view_is c.self.invariant) in
-    omega (arith, c.requires.within, c.self.invariant.1, c.self.inside.details.ok.0)
 
 pub refill-requires : goal.refill-requires
 refill-requires g c =
-    let a = found c.self.view_is c.self.invariant c.requires.within c.self.inside.entries.ok.0
-    c.index_mut-2.ensures.value in
+    let a = found c.self.view_is c.self.invariant c.requires.within c.index_mut-2.ensures.value in
     hears a (λ e. e.generation < last_generation) c.requires.below
 
 pub invariant_of-self : goal.invariant_of-self
 invariant_of-self g c =
-    let a = found c.self.view_is c.self.invariant c.requires.within c.self.inside.entries.ok.0
-    c.index_mut-2.ensures.value in
+    let a = found c.self.view_is c.self.invariant c.requires.within c.index_mut-2.ensures.value in
     let v = still a c.self.invariant c.refill.new.self (free_indexed a
     (rw (empty_slot a c.requires.empty) refl) c.refill.new.self (rw c.refill.ensures.filled
     (unborrowed_listed c.args.content c.requires.unborrowed)) (rw c.refill.ensures.filled
@@ -35,8 +25,7 @@ invariant_of-self g c =
 
 pub returns-clause-generation : goal.returns-clause-generation
 returns-clause-generation g c =
-    let a = found c.self.view_is c.self.invariant c.requires.within c.self.inside.entries.ok.0
-    c.index_mut-2.ensures.value in
+    let a = found c.self.view_is c.self.invariant c.requires.within c.index_mut-2.ensures.value in
     says a (λ e. c.refill.result ≡ e.generation + 1)
     (λ l. c.refill.ensures.generation)
 

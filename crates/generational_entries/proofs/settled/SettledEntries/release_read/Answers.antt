@@ -1,37 +1,28 @@
-use Rattle.std.proofs.Common.{refl, ap}
-use Rattle.generational_entries.proofs.states.Entries.{says, used_at, release_rooms, reader_left}
-use Rattle.generational_entries.proofs.states.Entries.{no_reader, still, found, cell_changed}
-use Rattle.generational_entries.proofs.states.Entries.{view_changed}
-use Rattle.generational_entries.proofs.states.SlotWrites.{release_lists, release_indexed}
-use Rattle.generational_entries.proofs.states.SlotWrites.{release_kept}
-use Rattle.generational_entries.specs.Entries.{EntryList, index_of}
-use Rattle.generational_entries.specs.Entry.{without_reader_in}
-use Rattle.generational_containers.specs.Table.{list_at}
+use Rattle.generational_entries.proofs.{ap, cell_changed, EntryList, found, index_of, list_at}
+use Rattle.generational_entries.proofs.{no_reader, reader_left, refl, release_indexed, release_kept}
+use Rattle.generational_entries.proofs.{release_lists, release_rooms, says, still, used_at}
+use Rattle.generational_entries.proofs.{view_changed, without_reader_in}
 use Rattle.generational_entries.proofs.settled.SettledEntries.release_read.Goals as goal
 
 pub release-known-requires : goal.release-known-requires
 release-known-requires g c =
-    let a = found c.self.view_is c.self.invariant c.requires c.self.inside.entries.ok.0
-    c.index_mut.ensures.value in
+    let a = found c.self.view_is c.self.invariant c.requires c.index_mut.ensures.value in
     used_at a c.in-Read.is
 
 pub invariant_of-self : goal.invariant_of-self
 invariant_of-self g c =
-    let a = found c.self.view_is c.self.invariant c.requires c.self.inside.entries.ok.0
-    c.index_mut.ensures.value in
+    let a = found c.self.view_is c.self.invariant c.requires c.index_mut.ensures.value in
     still a c.self.invariant _ (rw c.unlist.ensures (release_indexed a c.in-Read.is _ _ _
     c.release-known.ensures.after _)) (release_rooms _ _ _ _ _ c.release-known.ensures.after)
 
 pub returns-in-Read-clause-known : goal.returns-in-Read-clause-known
 returns-in-Read-clause-known g c =
-    let a = found c.self.view_is c.self.invariant c.requires c.self.inside.entries.ok.0
-    c.index_mut.ensures.value in
+    let a = found c.self.view_is c.self.invariant c.requires c.index_mut.ensures.value in
     says a _ (λ l. rw c.in-Read.is c.release-known.ensures.known)
 
 pub returns-in-Read-clause-after : goal.returns-in-Read-clause-after
 returns-in-Read-clause-after g c =
-    let a = found c.self.view_is c.self.invariant c.requires c.self.inside.entries.ok.0
-    c.index_mut.ensures.value in
+    let a = found c.self.view_is c.self.invariant c.requires c.index_mut.ensures.value in
     let r = c.release-known.ensures.after in
     view_changed a _ _ _
     (release_lists a c.in-Read.is _ _ _ r)
@@ -43,8 +34,7 @@ returns-in-Read-clause-after g c =
 
 pub returns-in_default : goal.returns-in_default
 returns-in_default g c =
-    let a = found c.self.view_is c.self.invariant c.requires c.self.inside.entries.ok.0
-    c.index_mut.ensures.value in
+    let a = found c.self.view_is c.self.invariant c.requires c.index_mut.ensures.value in
     record {
       known = says a _ (λ l. no_reader
           (list_at c.self.inside.borrows.lists (index_of c.index_mut.result.now.content))

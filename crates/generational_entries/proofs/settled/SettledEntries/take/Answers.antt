@@ -1,32 +1,25 @@
 -- A value that is taken out.
-use Rattle.std.proofs.Common.{refl, sym, ap, ◌≡◌, ◌∙◌, [], Some}
-use Rattle.generational_core.specs.Cells.Content.{Here}
-use Rattle.generational_entries.specs.Entry.{content_in}
-use Rattle.generational_entries.specs.Entries.{unread_in}
-use Rattle.generational_entries.proofs.states.Entries.{alone, list_none, says, still, found}
-use Rattle.generational_entries.proofs.states.Entries.{view_changed}
-use Rattle.generational_entries.proofs.states.SlotWrites.{free_indexed}
+use Rattle.generational_entries.proofs.{alone, ap, content_in, found, free_indexed, Here, list_none}
+use Rattle.generational_entries.proofs.{refl, says, Some, still, sym, unread_in, view_changed, []}
+use Rattle.generational_entries.proofs.{◌∙◌, ◌≡◌}
 use Rattle.generational_entries.proofs.settled.SettledEntries.take.Goals as goal
 
 pub lend-requires : goal.lend-requires
 lend-requires g c =
-    let a = found c.self.view_is c.self.invariant c.requires.within c.self.inside.entries.ok.0
-    c.index_mut.ensures.value in
+    let a = found c.self.view_is c.self.invariant c.requires.within c.index_mut.ensures.value in
     let own = alone a c.requires.free in
     rw own.2 refl
 
 pub invariant_of-self : goal.invariant_of-self
 invariant_of-self g c =
-    let a = found c.self.view_is c.self.invariant c.requires.within c.self.inside.entries.ok.0
-    c.index_mut.ensures.value in
+    let a = found c.self.view_is c.self.invariant c.requires.within c.index_mut.ensures.value in
     let own = alone a c.requires.free in
     still a c.self.invariant _ (free_indexed a (rw own.2 refl) _
     (rw (c.lend.ensures.lent, own.2) tt) (rw (c.lend.ensures.lent, own.2) refl)) refl
 
 pub returns-clause-value : goal.returns-clause-value
 returns-clause-value g c =
-    let a = found c.self.view_is c.self.invariant c.requires.within c.self.inside.entries.ok.0
-    c.index_mut.ensures.value in
+    let a = found c.self.view_is c.self.invariant c.requires.within c.index_mut.ensures.value in
     let own = alone a c.requires.free in
     let same : Some own.1 ≡ Some c.lend.result = sym (ap unread_in own.2) ∙ c.lend.ensures.value in
     let value : c.lend.result ≡ own.1 = cc in
@@ -35,8 +28,7 @@ returns-clause-value g c =
 
 pub returns-clause-after : goal.returns-clause-after
 returns-clause-after g c =
-    let a = found c.self.view_is c.self.invariant c.requires.within c.self.inside.entries.ok.0
-    c.index_mut.ensures.value in
+    let a = found c.self.view_is c.self.invariant c.requires.within c.index_mut.ensures.value in
     let own = alone a c.requires.free in
     view_changed a _ _ _ (λ k other. refl)
     (λ l. rw (c.lend.ensures.lent, own.2, list_none a.store) refl)

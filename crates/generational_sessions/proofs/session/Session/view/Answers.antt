@@ -1,5 +1,4 @@
-use Rattle.std.proofs.Common.{arith}
-use Rattle.std.proofs.lemmas.Grind.{common_steps}
+use Rattle.generational_sessions.proofs.{arith, common_steps}
 use Rattle.generational_sessions.proofs.session.Session.view.Goals as goal
 
 pub returns-in-Some-Writer : goal.returns-in-Some-Writer

@@ -1,14 +1,8 @@
-use Rattle.std.proofs.Common.{◌≡◌, ◌∙◌, ap, is_some, length, true, None, refl}
-use Rattle.generational_containers.specs.Borrows.{AreBelow}
-use Rattle.generational_entries.specs.Entry.{one_read, readers_of}
-use Rattle.generational_slots.proofs.Common.{count_of, name_of_cell, state_of, write_refusal}
-use Rattle.generational_entries.proofs.states.Entries.{ok_then, err_from}
-use Rattle.generational_entries.proofs.states.Latest.{readable, unrefused}
-use Rattle.generational_slots.proofs.states.Changes.{changed, changed_length, either}
-use Rattle.generational_slots.proofs.states.Changes.{filled_in, heard_in, held_in}
-use Rattle.generational_slots.proofs.states.Changes.{referred_changed, seen_in}
-use Rattle.generational_slots.proofs.states.Changes.{slotted_changed, state_is}
-use Rattle.generational_core.specs.Borrowing.{read_refusal}
+use Rattle.generational_slots.proofs.{ap, AreBelow, changed, changed_length, either, err_from}
+use Rattle.generational_slots.proofs.{filled_in, heard_in, held_in, is_some, name_of_cell, None}
+use Rattle.generational_slots.proofs.{ok_then, one_read, read_refusal, readable, readers_of}
+use Rattle.generational_slots.proofs.{referred_changed, refl, seen_in, slotted_changed, state_is}
+use Rattle.generational_slots.proofs.{true, unrefused, write_refusal, ◌≡◌}
 use Rattle.generational_slots.proofs.slots.Slots.begin_read.Goals as goal
 
 pub begin_read-requires-clause-there : goal.begin_read-requires-clause-there
@@ -54,13 +48,6 @@ returns-clause-ok g c =
     rw (e, changed_length f (one_read c.args.borrow))
     (filled_in view n f (one_read c.args.borrow)))
     c.begin_read.ensures.ok
-
-pub returns-clause-err : goal.returns-clause-err
-returns-clause-err g c =
-    err_from c.begin_read.result
-    (λ e. ap (λ x. state_of c.self.inside.start
-    (count_of c.self.inside.counts (length x.slots)).peak x.slots) e
-    ∙ state_is c.self.view_is) c.begin_read.ensures.err
 
 pub returns-clause-beside : goal.returns-clause-beside
 returns-clause-beside g c =

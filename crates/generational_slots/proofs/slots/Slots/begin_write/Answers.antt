@@ -1,9 +1,7 @@
-use Rattle.std.proofs.Common.{◌≡◌, true, Some, [], refl}
-use Rattle.generational_entries.specs.Entry.{has_no_borrow}
-use Rattle.generational_slots.proofs.Common.{name_of_cell, Here, Lent}
-use Rattle.generational_slots.proofs.states.Changes.{changed_length, heard_in, held_in}
-use Rattle.generational_slots.proofs.states.Changes.{referred_changed, seen_in, slotted_changed}
-use Rattle.generational_slots.proofs.states.Changes.{state_changed, state_is, unborrowed_there}
+use Rattle.generational_slots.proofs.{changed_length, has_no_borrow, heard_in, held_in, Here, Lent}
+use Rattle.generational_slots.proofs.{name_of_cell, referred_changed, refl, seen_in}
+use Rattle.generational_slots.proofs.{slotted_changed, Some, state_changed, state_is, true}
+use Rattle.generational_slots.proofs.{unborrowed_there, [], ◌≡◌}
 use Rattle.generational_slots.proofs.slots.Slots.begin_write.Goals as goal
 
 pub begin_write-requires : goal.begin_write-requires

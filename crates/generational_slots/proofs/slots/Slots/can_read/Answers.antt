@@ -1,9 +1,6 @@
-use Rattle.std.proofs.Common.{◌≡◌, ◌∙◌, ap, is_none, option_map, sym}
-use Rattle.generational_core.specs.Borrowing.BorrowRefusal.{BeingWritten}
-use Rattle.generational_slots.proofs.Common.{name_of_cell, read_refusal}
-use Rattle.generational_slots.proofs.states.Changes.{held_within, seen_in, state_is}
-use Rattle.generational_slots.proofs.states.Reaching.{none_map, reached_held, reached_seen, read_none}
-use Rattle.generational_slots.proofs.states.Reaching.{read_to}
+use Rattle.generational_slots.proofs.{ap, BeingWritten, held_within, is_none, name_of_cell}
+use Rattle.generational_slots.proofs.{none_map, option_map, reached_held, reached_seen, read_none}
+use Rattle.generational_slots.proofs.{read_refusal, read_to, seen_in, state_is, sym, ◌∙◌, ◌≡◌}
 use Rattle.generational_slots.proofs.slots.Slots.can_read.Goals as goal
 
 pub borrow_error-requires : goal.borrow_error-requires

@@ -1,8 +1,6 @@
-use Rattle.std.proofs.Common.{◌≡◌, ◌∙◌, ap, is_none, sym}
-use Rattle.generational_slots.proofs.Common.{name_of_cell, write_refusal}
-use Rattle.generational_slots.proofs.states.Changes.{held_within, seen_in, state_is}
-use Rattle.generational_slots.proofs.states.Reaching.{reached_held, reached_seen, write_none}
-use Rattle.generational_slots.proofs.states.Reaching.{write_to}
+use Rattle.generational_slots.proofs.{ap, held_within, is_none, name_of_cell, reached_held}
+use Rattle.generational_slots.proofs.{reached_seen, seen_in, state_is, sym, write_none}
+use Rattle.generational_slots.proofs.{write_refusal, write_to, ◌∙◌, ◌≡◌}
 use Rattle.generational_slots.proofs.slots.Slots.can_write.Goals as goal
 
 pub is_unborrowed-requires : goal.is_unborrowed-requires

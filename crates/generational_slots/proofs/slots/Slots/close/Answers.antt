@@ -1,10 +1,6 @@
 -- The end of a name.
-use Rattle.std.proofs.Common.{◌∙◌}
-use Rattle.generational_slots.proofs.Common.{name_of_cell}
-use Rattle.generational_slots.proofs.states.Endings.{free_alone, free_closes, free_names_none}
-use Rattle.generational_slots.proofs.states.Endings.{free_there}
-use Rattle.generational_slots.proofs.states.Changes.{state_is}
-use Rattle.generational_slots.proofs.states.Reaching.{unborrowed_told}
+use Rattle.generational_slots.proofs.{free_alone, free_closes, free_names_none, free_there}
+use Rattle.generational_slots.proofs.{name_of_cell, state_is, unborrowed_told, ◌∙◌}
 use Rattle.generational_slots.proofs.slots.Slots.close.Goals as goal
 
 pub remove-requires : goal.remove-requires

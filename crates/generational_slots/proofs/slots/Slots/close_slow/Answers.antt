@@ -1,17 +1,11 @@
 -- The end of a name.
-use Rattle.std.proofs.Common.{is_some}
-use Rattle.generational_entries.specs.Entry.{target_in}
-use Rattle.generational_slots.proofs.states.Endings.{target_there}
-use Rattle.std.proofs.Common.{ap, sym, ◌≡◌, ◌∙◌, option_map, refl}
-use Rattle.std.proofs.lemmas.Bool.{false≢true}
+use Rattle.generational_slots.proofs.{ap, cell_seen, false≢true, has_target, is_some, name_of_cell}
+use Rattle.generational_slots.proofs.{option_map, reference_closes, reference_left, refl}
+use Rattle.generational_slots.proofs.{SlotsState, State, state_is, sym, target_in, target_there}
+use Rattle.generational_slots.proofs.{value_closes, without, ◌∙◌, ◌≡◌}
 use Rattle.std.specs.FinMap as map
-use Rattle.generational_slots.specs.SlotsState.{SlotsState}
-use Rattle.generational_slots.proofs.Common.{State, name_of_cell}
-use Rattle.generational_slots.proofs.states.Endings.{reference_closes, reference_left, value_closes}
-use Rattle.generational_slots.proofs.states.Endings.{without}
-use Rattle.generational_slots.proofs.states.Changes.{cell_seen, has_target, state_is}
 use Rattle.generational_slots.proofs.slots.Slots.close_slow.Goals as goal
-use Rattle.generational_slots.proofs.slots.Slots.close_slow.Goals.{in-Some, in_default}
+use goal.{in-Some, in_default}
 
 pub remove-requires-then-is_reference : goal.remove-requires-then-is_reference
 remove-requires-then-is_reference g c =

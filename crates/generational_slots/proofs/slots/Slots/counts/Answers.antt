@@ -1,6 +1,5 @@
-use Rattle.std.proofs.Common.{arith, ◌∙◌}
-use Rattle.generational_slots.proofs.states.Changes.{state_is}
-use Rattle.generational_slots.proofs.states.States.{all_seen, bound_seen, free_seen, slots_seen}
+use Rattle.generational_slots.proofs.{all_seen, arith, bound_seen, free_seen, slots_seen, state_is}
+use Rattle.generational_slots.proofs.{◌∙◌}
 use Rattle.generational_slots.proofs.slots.Slots.counts.Goals as goal
 
 pub returns-clause-slots : goal.returns-clause-slots

@@ -1,5 +1,4 @@
-use Rattle.generational_slots.proofs.Common.{name_of_cell}
-use Rattle.generational_slots.proofs.states.Changes.{created_in, found_in, found_within, state_is}
+use Rattle.generational_slots.proofs.{created_in, found_in, found_within, name_of_cell, state_is}
 use Rattle.generational_slots.proofs.slots.Slots.created_at.Goals as goal
 
 pub details-requires : goal.details-requires

@@ -1,9 +1,6 @@
-use Rattle.std.proofs.Common.{◌≡◌, sym, ap, subst, ◌∙◌}
+use Rattle.generational_slots.proofs.{ap, cells_of, doomed_alone, doomed_by, HasTargets, is_named}
+use Rattle.generational_slots.proofs.{name_of_cell, SlotsState, subst, sym, ◌∙◌, ◌≡◌}
 use Rattle.std.specs.FinMap as map
-use Rattle.generational_slots.proofs.Common.{HasTargets, cells_of, doomed_by, is_named}
-use Rattle.generational_slots.proofs.Common.{name_of_cell}
-use Rattle.generational_slots.specs.SlotsState.{SlotsState}
-use Rattle.generational_slots.proofs.states.Hindrance.{doomed_alone}
 use Rattle.generational_slots.proofs.slots.Slots.doomed.Goals as goal
 
 pub returns : goal.returns

@@ -1,10 +1,6 @@
 -- The end of a name, unless a borrow stands in the way.
-use Rattle.std.proofs.Common.{◌∙◌}
-use Rattle.generational_slots.proofs.Common.{name_of_cell}
-use Rattle.generational_slots.proofs.states.Endings.{free_alone, free_closes, free_hindrance}
-use Rattle.generational_slots.proofs.states.Endings.{free_names_none, free_there}
-use Rattle.generational_slots.proofs.states.Changes.{state_is}
-use Rattle.generational_slots.proofs.states.Reaching.{unborrowed_told}
+use Rattle.generational_slots.proofs.{free_alone, free_closes, free_hindrance, free_names_none}
+use Rattle.generational_slots.proofs.{free_there, name_of_cell, state_is, unborrowed_told, ◌∙◌}
 use Rattle.generational_slots.proofs.slots.Slots.end.Goals as goal
 
 pub remove-requires : goal.remove-requires

@@ -1,15 +1,10 @@
 -- The end of a list of names.
-use Rattle.std.proofs.Common.{◌≡◌, List, ap, sym, subst, ◌∙◌, ◌+◌, ◌∷◌, [], drop}
-use Rattle.std.proofs.Common.{slice_index_or, map as list_map}
-use Rattle.std.proofs.lemmas.List.{at_drop_more, at_drop_all}
-use Rattle.generational_core.proofs.machine.Closing.{close_each, close_nothing}
-use Rattle.generational_core.proofs.machine.Linking.{closing_linked}
-use Rattle.generational_slots.proofs.Common.{CellName, IsLinked, NameMap, Cell, close, name_of_cell}
-use Rattle.generational_slots.proofs.Common.{cells_after, first_hindrance}
-use Rattle.generational_entries.specs.Entry.{FoundBorrowed}
-use Rattle.generational_slots.proofs.states.Endings.{hindrance_is}
-use Rattle.std.proofs.Common.{Err, refl}
-use Rattle.generational_slots.proofs.states.Changes.{state_is}
+use Rattle.generational_slots.proofs.{ap, at_drop_all, at_drop_more, Cell, CellName, cells_after}
+use Rattle.generational_slots.proofs.{close, close_each, close_nothing, closing_linked, drop, Err}
+use Rattle.generational_slots.proofs.{first_hindrance, FoundBorrowed, hindrance_is, IsLinked, List}
+use Rattle.generational_slots.proofs.{name_of_cell, NameMap, slice_index_or, state_is, subst, sym}
+use Rattle.generational_slots.proofs.{[], ◌+◌, ◌∙◌, ◌∷◌, ◌≡◌}
+use Rattle.std.proofs.Common.{map as list_map}
 use Rattle.generational_slots.proofs.slots.Slots.end_all.Goals as goal
 
 pub returns-in-Err-clause-found : goal.returns-in-Err-clause-found
@@ -19,12 +14,6 @@ returns-in-Err-clause-found g c =
     subst (λ t. FoundBorrowed t (Err c.in-Err.refused))
     (ap (λ X. first_hindrance X.cells (cells_after X.cells names) names) (state_is c.self.view_is)
     ∙ sym (hindrance_is S names)) c.in-Err.ensures
-
-pub loop-name-init : goal.loop-name-init
-loop-name-init g c = (c.requires.linked, refl)
-
-pub close-requires : goal.close-requires
-close-requires g c = c.loop-name.invariant.0
 
 pub loop-name-preserved : goal.loop-name-preserved
 loop-name-preserved g c =

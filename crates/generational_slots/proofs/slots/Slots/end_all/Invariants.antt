@@ -1,8 +1,5 @@
-use Rattle.std.proofs.Common.{◌≡◌, drop}
+use Rattle.generational_slots.proofs.{close, drop, IsLinked, name_of_cell, ◌≡◌}
 use Rattle.std.specs.Prelude.{map as list_map}
-use Rattle.generational_core.specs.Conditions.{IsLinked}
-use Rattle.generational_core.specs.Ending.{close}
-use Rattle.generational_containers.specs.CellNames.{name_of_cell}
 use Rattle.generational_slots.proofs.slots.Slots.end_all.Given as goal
 
 -- the end of what is left leads to the end of all

@@ -1,12 +1,8 @@
 -- The end of a name, unless a borrow stands in the way.
-use Rattle.std.proofs.Common.{sym, ◌∙◌, Err, Ok, subst}
-use Rattle.generational_entries.specs.Entry.{FoundBorrowed}
-use Rattle.generational_slots.proofs.Common.{name_of_cell}
-use Rattle.generational_slots.proofs.states.Endings.{doomed_hinders}
-use Rattle.generational_slots.proofs.states.Changes.{held_within, state_is}
-use Rattle.generational_slots.proofs.states.Reaching.{doomed_held, doomed_told}
+use Rattle.generational_slots.proofs.{doomed_held, doomed_hinders, doomed_told, Err, FoundBorrowed}
+use Rattle.generational_slots.proofs.{held_within, name_of_cell, Ok, state_is, subst, sym, ◌∙◌}
 use Rattle.generational_slots.proofs.slots.Slots.end_slow.Goals as goal
-use Rattle.generational_slots.proofs.slots.Slots.end_slow.Goals.{in-Some+in-Ok, in_default}
+use goal.{in-Some+in-Ok, in_default}
 
 pub borrow_mut_error-requires : goal.borrow_mut_error-requires
 borrow_mut_error-requires g c =

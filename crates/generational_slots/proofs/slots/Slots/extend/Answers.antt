@@ -1,20 +1,10 @@
 -- A cell in a new slot.
-use Rattle.std.proofs.Common.{arith, ap, sym, ◌≡◌, ◌∙◌, ◌<◌, [], IfSome, length}
-use Rattle.std.proofs.Common.{true}
-use Rattle.std.proofs.Common.{subst, slice_get, length-append}
-use Rattle.std.specs.FinMap as map
+use Rattle.generational_slots.proofs.{ap, arith, free_seen, if_named, IfSome, kept_data, length}
+use Rattle.generational_slots.proofs.{length-append, made_few, made_pushed, made_referred}
+use Rattle.generational_slots.proofs.{made_within, more_length, more_slotted, more_state}
+use Rattle.generational_slots.proofs.{new_pushed, one_made, slice_get, slotted_pushed, state_is}
+use Rattle.generational_slots.proofs.{state_pushed, target_of, unborrowed_cell, [], ◌<◌, ◌∙◌}
 use Rattle.std.specs.FinSet as set
-use Rattle.generational_entries.specs.Entries.{kept_data, target_of}
-use Rattle.generational_slots.proofs.Common.{HasTargets, is_shared}
-use Rattle.generational_slots.proofs.states.Changes.{state_is}
-use Rattle.generational_slots.proofs.states.Counting.{if_named, made_few, made_referred}
-use Rattle.generational_slots.proofs.states.Counting.{made_within}
-use Rattle.generational_slots.proofs.states.Counting.{more_length, more_slotted, more_state}
-use Rattle.generational_slots.proofs.states.Counting.{new_fresh}
-use Rattle.generational_slots.proofs.states.Counting.{unborrowed_cell}
-use Rattle.generational_slots.proofs.states.Makings.{new_pushed, none_after, one_made, pushed}
-use Rattle.generational_slots.proofs.states.Makings.{slotted_pushed, state_pushed}
-use Rattle.generational_slots.proofs.states.States.{free_seen}
 use Rattle.generational_slots.proofs.slots.Slots.extend.Goals as goal
 
 pub push-requires-clause-room : goal.push-requires-clause-room
@@ -25,61 +15,32 @@ push-requires-clause-room g c =
     let spare = ap (λ x. x.spare) c.self.view_is in
     omega (arith, c.requires.room, c.requires.none, inv.1)
 
-pub refer-requires-clause-within : goal.refer-requires-clause-within
-refer-requires-clause-within g c =
+pub refer-requires : goal.refer-requires
+refer-requires g c =
     let inv = c.self.invariant in
     let view = state_is c.self.view_is in
-    let none = set.empty_of_len _ (free_seen inv.0 view ∙ c.requires.none) in
-    let d = c.args.content in
-    let l = c.args.created_at in
-    let slots = c.self.inside.entries.slots in
-    let cell = unborrowed_cell d l c.requires.unborrowed in
-    let w = pushed inv.0 (kept_data [] l d) cell.0 cell.1 none in
-    let dead = none_after inv.0 (kept_data [] l d) cell.0 cell.1 none in
-    let targets = subst (λ S. HasTargets S.cells) (sym view) c.requires.linked in
-    let there = subst (λ S. IfSome (target_of d) (λ m. is_shared (map.get S.cells m) ≡ true))
-    (sym view) c.requires.target in
-    let fresh = new_fresh slots (length slots) c.self.inside.start dead in
-    if_named c.target-target.result (λ m. m.slot < length c.push.new.self.slots)
-    (rw (c.target-target.ensures, c.push.ensures.pushed)
-    (made_within d l w dead inv.2 targets fresh there))
-
-pub refer-requires-clause-few : goal.refer-requires-clause-few
-refer-requires-clause-few g c =
-    let inv = c.self.invariant in
-    let view = state_is c.self.view_is in
-    let none = set.empty_of_len _ (free_seen inv.0 view ∙ c.requires.none) in
-    let d = c.args.content in
-    let l = c.args.created_at in
-    let slots = c.self.inside.entries.slots in
-    let cell = unborrowed_cell d l c.requires.unborrowed in
-    let w = pushed inv.0 (kept_data [] l d) cell.0 cell.1 none in
-    let dead = none_after inv.0 (kept_data [] l d) cell.0 cell.1 none in
-    let targets = subst (λ S. HasTargets S.cells) (sym view) c.requires.linked in
-    let there = subst (λ S. IfSome (target_of d) (λ m. is_shared (map.get S.cells m) ≡ true))
-    (sym view) c.requires.target in
-    let fresh = new_fresh slots (length slots) c.self.inside.start dead in
-    if_named c.target-target.result (λ m. IfSome (slice_get c.push.new.self.slots m.slot)
-    (λ e. e.references < length c.push.new.self.slots))
-    (rw (c.target-target.ensures, c.push.ensures.pushed)
-    (made_few d l w dead inv.2 targets fresh there))
+    let made = made_pushed inv.0 view inv.2 c.requires.linked c.args.content c.args.created_at
+    c.requires.unborrowed c.requires.target
+    (set.empty_of_len _ (free_seen inv.0 view ∙ c.requires.none)) in
+    let slots = c.push.new.self.slots in
+    record {
+      within = if_named c.target-target.result (λ m. m.slot < length slots)
+          (rw (c.target-target.ensures, c.push.ensures.pushed) (made_within made));
+      few = if_named c.target-target.result
+          (λ m. IfSome (slice_get slots m.slot) (λ e. e.references < length slots))
+          (rw (c.target-target.ensures, c.push.ensures.pushed) (made_few made));
+    }
 
 pub invariant_of-self : goal.invariant_of-self
 invariant_of-self g c =
     let inv = c.self.invariant in
     let view = state_is c.self.view_is in
-    let none = set.empty_of_len _ (free_seen inv.0 view ∙ c.requires.none) in
+    let empty = free_seen inv.0 view in
+    let none = set.empty_of_len _ (empty ∙ c.requires.none) in
     let d = c.args.content in
     let l = c.args.created_at in
     let slots = c.self.inside.entries.slots in
     let cell = unborrowed_cell d l c.requires.unborrowed in
-    let w = pushed inv.0 (kept_data [] l d) cell.0 cell.1 none in
-    let dead = none_after inv.0 (kept_data [] l d) cell.0 cell.1 none in
-    let targets = subst (λ S. HasTargets S.cells) (sym view) c.requires.linked in
-    let there = subst (λ S. IfSome (target_of d) (λ m. is_shared (map.get S.cells m) ≡ true))
-    (sym view) c.requires.target in
-    let fresh = new_fresh slots (length slots) c.self.inside.start dead in
-    let empty = free_seen inv.0 view in
     let spare = ap (λ x. x.spare) c.self.view_is in
     let room = inv.0.roomy in
     let long = ap length c.refer.ensures.slots ∙ (more_length c.push.new.self.slots _
@@ -89,7 +50,8 @@ invariant_of-self g c =
       more_slotted (slotted_pushed inv.0 (kept_data [] l d) cell.0 cell.1 none _
           (omega (arith, c.requires.room, c.requires.none))) (target_of d),
       rw (c.refer.ensures.rooms, c.push.ensures.rooms) inv.1,
-      made_referred d l w dead inv.2 targets fresh c.requires.unborrowed there,
+      made_referred (made_pushed inv.0 view inv.2 c.requires.linked d l c.requires.unborrowed
+          c.requires.target none),
       omega (arith, inv.3),
     )
 

@@ -1,9 +1,6 @@
-use Rattle.std.proofs.Common.{ap, sym, ◌∙◌}
-use Rattle.std.proofs.lemmas.Bool.{eq-eqb, eqb-true}
+use Rattle.generational_slots.proofs.{ap, eq-eqb, eqb-true, fresh_of, none_of_fresh, state_is, sym}
+use Rattle.generational_slots.proofs.{with_records, ◌∙◌}
 use Rattle.std.specs.FinMap as map
-use Rattle.generational_slots.proofs.Common.{with_records}
-use Rattle.generational_slots.proofs.states.Changes.{state_is}
-use Rattle.generational_slots.proofs.states.States.{fresh_of, none_of_fresh}
 use Rattle.generational_slots.proofs.slots.Slots.is_fresh.Goals as goal
 
 pub returns : goal.returns

@@ -1,7 +1,5 @@
-use Rattle.std.proofs.Common.{◌∙◌, ap, is_some}
-use Rattle.generational_slots.proofs.Common.{name_of_cell}
-use Rattle.generational_slots.proofs.states.Changes.{state_is}
-use Rattle.generational_slots.proofs.states.Reaching.{reached_seen, some_map}
+use Rattle.generational_slots.proofs.{ap, is_some, name_of_cell, reached_seen, some_map, state_is}
+use Rattle.generational_slots.proofs.{◌∙◌}
 use Rattle.generational_slots.proofs.slots.Slots.is_live.Goals as goal
 
 pub returns : goal.returns

@@ -1,23 +1,11 @@
 -- A cell in a slot that is free, or in a new one.
-use Rattle.std.proofs.Common.{arith, ap, sym, ◌≡◌, ◌∙◌, ◌+◌, ◌<◌, [], IfSome, length, true, subst}
-use Rattle.std.proofs.Common.{slice_get}
-use Rattle.std.proofs.lemmas.List.{length-set}
-use Rattle.std.specs.FinMap as map
+use Rattle.generational_slots.proofs
+use proofs.{ap, arith, err_holds, free, free_are, free_seen, HasTargets, if_named, IfSome}
+use proofs.{kept_data, length, length-set, made_few, made_referred, made_reused, made_within}
+use proofs.{more_length, more_slotted, more_state, nat_cmp, new_reused, next_told, same_generation}
+use proofs.{slice_get, slotted_reused, state_is, state_reused, subst, sym, taken_less, taken_within}
+use proofs.{target_of, unborrowed_cell, [], ◌+◌, ◌<◌, ◌∙◌}
 use Rattle.std.specs.FinSet as set
-use Rattle.std.specs.Ordering.{nat_cmp}
-use Rattle.generational_entries.specs.Entries.{kept_data, target_of}
-use Rattle.generational_slots.proofs.Common.{HasTargets, free, is_shared}
-use Rattle.generational_slots.proofs.states.Changes.{next_told, state_is}
-use Rattle.generational_slots.proofs.states.Counting.{err_holds, if_named}
-use Rattle.generational_slots.proofs.states.Counting.{made_few}
-use Rattle.generational_slots.proofs.states.Counting.{made_referred, made_within, more_length}
-use Rattle.generational_slots.proofs.states.Counting.{more_slotted, more_state, new_fresh}
-use Rattle.generational_slots.proofs.states.Counting.{unborrowed_cell}
-use Rattle.generational_slots.proofs.states.Makings.{new_reused, none_before, reused}
-use Rattle.generational_slots.proofs.states.Makings.{slotted_reused, state_reused, taken_below}
-use Rattle.generational_slots.proofs.states.Makings.{taken_empty, taken_less, taken_within}
-use Rattle.generational_slots.proofs.states.Makings.{same_generation}
-use Rattle.generational_slots.proofs.states.States.{free_are, free_seen}
 use Rattle.generational_slots.proofs.slots.Slots.make.Goals as goal
 
 pub returns-then-is_err-clause-needed : goal.returns-then-is_err-clause-needed
@@ -48,71 +36,31 @@ generation-requires g c = taken_within c.self.invariant.0 _ c.in-Some.ensures.me
 pub refill-requires-clause-within : goal.refill-requires-clause-within
 refill-requires-clause-within g c = taken_within c.self.invariant.0 _ c.in-Some.ensures.member
 
-pub refill-requires-clause-below : goal.refill-requires-clause-below
-refill-requires-clause-below g c = taken_below c.self.invariant.0 _ c.in-Some.ensures.member
-
-pub refill-requires-clause-empty : goal.refill-requires-clause-empty
-refill-requires-clause-empty g c = taken_empty c.self.invariant.0 _ c.in-Some.ensures.member
-
-pub refer-requires-clause-within : goal.refer-requires-clause-within
-refer-requires-clause-within g c =
+pub refer-requires : goal.refer-requires
+refer-requires g c =
     let inv = c.self.invariant in
-    let view = state_is c.self.view_is in
-    let d = c.args.content in
-    let l = c.args.created_at in
-    let slots = c.self.inside.entries.slots in
-    let cell = unborrowed_cell d l c.requires.unborrowed in
-    let m = c.in-Some.ensures.member in
-    let w = reused inv.0 (kept_data [] l d) cell.0 cell.1 _ m _ c.refill.ensures.generation in
-    let dead = none_before inv.0 (kept_data [] l d) cell.0 cell.1 _ m _
+    let made = made_reused inv.0 (state_is c.self.view_is) inv.2 c.requires.linked c.args.content
+    c.args.created_at c.requires.unborrowed c.requires.target _ c.in-Some.ensures.member _
     c.refill.ensures.generation in
-    let targets = subst (λ S. HasTargets S.cells) (sym view) c.requires.linked in
-    let there = subst (λ S. IfSome (target_of d) (λ m. is_shared (map.get S.cells m) ≡ true))
-    (sym view) c.requires.target in
-    let fresh = new_fresh slots c.in-Some.slot c.refill.result dead in
-    if_named c.target-target.result (λ m. m.slot < length c.refill.new.self.slots)
-    (rw (c.target-target.ensures, c.refill.ensures.filled)
-    (made_within d l w dead inv.2 targets fresh there))
-
-pub refer-requires-clause-few : goal.refer-requires-clause-few
-refer-requires-clause-few g c =
-    let inv = c.self.invariant in
-    let view = state_is c.self.view_is in
-    let d = c.args.content in
-    let l = c.args.created_at in
-    let slots = c.self.inside.entries.slots in
-    let cell = unborrowed_cell d l c.requires.unborrowed in
-    let m = c.in-Some.ensures.member in
-    let w = reused inv.0 (kept_data [] l d) cell.0 cell.1 _ m _ c.refill.ensures.generation in
-    let dead = none_before inv.0 (kept_data [] l d) cell.0 cell.1 _ m _
-    c.refill.ensures.generation in
-    let targets = subst (λ S. HasTargets S.cells) (sym view) c.requires.linked in
-    let there = subst (λ S. IfSome (target_of d) (λ m. is_shared (map.get S.cells m) ≡ true))
-    (sym view) c.requires.target in
-    let fresh = new_fresh slots c.in-Some.slot c.refill.result dead in
-    if_named c.target-target.result (λ m. IfSome (slice_get c.refill.new.self.slots m.slot)
-    (λ e. e.references < length c.refill.new.self.slots))
-    (rw (c.target-target.ensures, c.refill.ensures.filled)
-    (made_few d l w dead inv.2 targets fresh there))
+    let slots = c.refill.new.self.slots in
+    record {
+      within = if_named c.target-target.result (λ m. m.slot < length slots)
+          (rw (c.target-target.ensures, c.refill.ensures.filled) (made_within made));
+      few = if_named c.target-target.result
+          (λ m. IfSome (slice_get slots m.slot) (λ e. e.references < length slots))
+          (rw (c.target-target.ensures, c.refill.ensures.filled) (made_few made));
+    }
 
 pub invariant_of-self-2 : goal.invariant_of-self-2
 invariant_of-self-2 g c =
     let inv = c.self.invariant in
-    let view = state_is c.self.view_is in
     let d = c.args.content in
     let l = c.args.created_at in
-    let slots = c.self.inside.entries.slots in
     let cell = unborrowed_cell d l c.requires.unborrowed in
     let m = c.in-Some.ensures.member in
-    let w = reused inv.0 (kept_data [] l d) cell.0 cell.1 _ m _ c.refill.ensures.generation in
-    let dead = none_before inv.0 (kept_data [] l d) cell.0 cell.1 _ m _
-    c.refill.ensures.generation in
-    let targets = subst (λ S. HasTargets S.cells) (sym view) c.requires.linked in
-    let there = subst (λ S. IfSome (target_of d) (λ m. is_shared (map.get S.cells m) ≡ true))
-    (sym view) c.requires.target in
-    let fresh = new_fresh slots c.in-Some.slot c.refill.result dead in
     let long = ap length c.refer.ensures.slots ∙ (more_length c.refill.new.self.slots _
-    ∙ (ap length c.refill.ensures.filled ∙ length-set slots c.in-Some.slot _)) in
+    ∙ (ap length c.refill.ensures.filled ∙ length-set c.self.inside.entries.slots c.in-Some.slot _))
+    in
     rw (
       long,
       c.refer.ensures.slots,
@@ -124,7 +72,8 @@ invariant_of-self-2 g c =
       more_slotted (slotted_reused inv.0 (kept_data [] l d) cell.0 cell.1 _ m _
           c.refill.ensures.generation) (target_of d),
       rw (c.refer.ensures.rooms, c.refill.ensures.rooms) inv.1,
-      made_referred d l w dead inv.2 targets fresh c.requires.unborrowed there,
+      made_referred (made_reused inv.0 (state_is c.self.view_is) inv.2 c.requires.linked d l
+          c.requires.unborrowed c.requires.target _ m _ c.refill.ensures.generation),
       inv.3,
     )
 

@@ -1,9 +1,6 @@
 -- Whether a borrow stands in the way of an end.
-use Rattle.std.proofs.Common.{◌≡◌, ap, sym, ◌∙◌, is_none}
-use Rattle.generational_slots.proofs.Common.{name_of_cell, write_refusal}
-use Rattle.generational_slots.proofs.states.Changes.{held_within, seen_in, state_is}
-use Rattle.generational_slots.proofs.states.Endings.{doomed_hinders}
-use Rattle.generational_slots.proofs.states.Reaching.{doomed_held}
+use Rattle.generational_slots.proofs.{ap, doomed_held, doomed_hinders, held_within, is_none}
+use Rattle.generational_slots.proofs.{name_of_cell, seen_in, state_is, sym, write_refusal, ◌∙◌, ◌≡◌}
 use Rattle.generational_slots.proofs.slots.Slots.may_end.Goals as goal
 
 pub is_unborrowed-requires : goal.is_unborrowed-requires

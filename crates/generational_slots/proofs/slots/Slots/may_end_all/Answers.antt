@@ -1,12 +1,9 @@
 -- Whether a borrow stands in the way of the end of a list of names.
-use Rattle.std.proofs.Common.{◌≡◌, Bool, true, false, not, Option, None, Some, IfSome, refl, sym, ap, ◌∙◌, is_none}
-use Rattle.std.proofs.Common.{is_some, option_map, map as list_map}
-use Rattle.std.proofs.lemmas.Bool.{false≢true}
-use Rattle.generational_slots.proofs.Common.{CellName, NameMap, Cell, cells_after, cells_of}
-use Rattle.generational_slots.proofs.Common.{first_hindrance, name_of_cell}
-use Rattle.generational_slots.specs.SlotsState.{refusal_of}
-use Rattle.generational_slots.proofs.states.Changes.{state_is}
-use Rattle.generational_slots.proofs.states.Endings.{hindrance_is}
+use Rattle.generational_slots.proofs.{ap, Bool, Cell, CellName, cells_after, cells_of, false}
+use Rattle.generational_slots.proofs.{false≢true, first_hindrance, hindrance_is, IfSome, is_none}
+use Rattle.generational_slots.proofs.{is_some, name_of_cell, NameMap, None, not, Option, option_map}
+use Rattle.generational_slots.proofs.{refl, refusal_of, Some, state_is, sym, true, ◌∙◌, ◌≡◌}
+use Rattle.std.proofs.Common.{map as list_map}
 use Rattle.generational_slots.proofs.slots.Slots.may_end_all.Goals as goal
 
 -- a value is found where it is refused

@@ -1,17 +1,10 @@
-use Rattle.std.proofs.Common.{◌≡◌, ap, sym, subst, ◌∙◌, refl, not, is_none, Some, [], ◌∷◌}
+use Rattle.generational_slots.proofs.{ap, cell_seen, hindrance_to, is_hindered, is_none, is_shared}
+use Rattle.generational_slots.proofs.{name_of_cell, name_test, not, plain_free, Point, point, refl}
+use Rattle.generational_slots.proofs.{same_free, Some, state_is, subst, sym, target_in, turned_free}
+use Rattle.generational_slots.proofs.{unshared_free, [], ◌∙◌, ◌∷◌, ◌≡◌}
 use Rattle.std.specs.FinMap as map
-use Rattle.generational_core.specs.Machine.{point}
-use Rattle.generational_core.specs.Machine.Action.{Point}
-use Rattle.generational_core.specs.StepCalls.{is_hindered}
-unfoldable use Rattle.generational_slots.proofs.Common.{hindrance_to}
-use Rattle.generational_entries.specs.Entry.{target_in}
-use Rattle.generational_slots.proofs.Common.{is_shared, name_of_cell, name_test}
-use Rattle.generational_slots.proofs.states.Changes.{cell_seen, state_is}
-use Rattle.generational_slots.proofs.states.Readiness.{plain_free, same_free, turned_free}
-use Rattle.generational_slots.proofs.states.Readiness.{unshared_free}
 use Rattle.generational_slots.proofs.slots.Slots.may_point.Goals as goal
-use Rattle.generational_slots.proofs.slots.Slots.may_point.Goals.{then-eq-via-then-eq}
-use Rattle.generational_slots.proofs.slots.Slots.may_point.Goals.{then-eq-via-else-eq+then-not-is_shared}
+use goal.{then-eq-via-else-eq+then-not-is_shared, then-eq-via-then-eq}
 
 pub returns-in_default : goal.returns-in_default
 returns-in_default g c a b at =

@@ -1,10 +1,7 @@
-use Rattle.std.proofs.Common.{◌≡◌, ◌∙◌, ap, is_none, not, option_map, sym}
-use Rattle.generational_core.specs.Borrowing.BorrowRefusal.{BeingWritten}
-use Rattle.generational_core.specs.StepCalls.{tells_of_borrow}
-use Rattle.generational_slots.proofs.Common.{name_of_cell, read_refusal}
-use Rattle.generational_slots.proofs.states.Changes.{held_within, seen_in, state_is}
-use Rattle.generational_slots.proofs.states.Reaching.{none_map, reached_held, reached_seen, read_none}
-use Rattle.generational_slots.proofs.states.Reaching.{read_tells, read_to}
+use Rattle.generational_slots.proofs.{ap, BeingWritten, held_within, is_none, name_of_cell}
+use Rattle.generational_slots.proofs.{none_map, not, option_map, reached_held, reached_seen}
+use Rattle.generational_slots.proofs.{read_none, read_refusal, read_tells, read_to, seen_in}
+use Rattle.generational_slots.proofs.{state_is, sym, tells_of_borrow, ◌∙◌, ◌≡◌}
 use Rattle.generational_slots.proofs.slots.Slots.may_read.Goals as goal
 
 pub borrow_error-requires : goal.borrow_error-requires

@@ -1,10 +1,7 @@
-use Rattle.std.proofs.Common.{◌≡◌, ◌∙◌, ap, is_none, not, sym}
-use Rattle.generational_core.specs.StepCalls.{tells_of_borrow}
-use Rattle.generational_slots.proofs.Common.{name_of_cell, write_refusal}
-use Rattle.generational_slots.proofs.states.Changes.{held_within, seen_in, state_is}
-use Rattle.generational_slots.proofs.states.Reaching.{reached_held, reached_seen, reached_there}
-use Rattle.generational_slots.proofs.states.Reaching.{write_none, write_to}
-use Rattle.generational_slots.proofs.states.Readiness.{set_nothing, set_reached, write_tells}
+use Rattle.generational_slots.proofs.{ap, held_within, is_none, name_of_cell, not, reached_held}
+use Rattle.generational_slots.proofs.{reached_seen, reached_there, seen_in, set_nothing}
+use Rattle.generational_slots.proofs.{set_reached, state_is, sym, tells_of_borrow, write_none}
+use Rattle.generational_slots.proofs.{write_refusal, write_tells, write_to, ◌∙◌, ◌≡◌}
 use Rattle.generational_slots.proofs.slots.Slots.may_write.Goals as goal
 
 pub is_unborrowed-requires : goal.is_unborrowed-requires

@@ -1,8 +1,6 @@
-use Rattle.std.proofs.Common.{arith, ap, ◌∙◌, ◌≡◌, length, refl}
+use Rattle.generational_slots.proofs.{ap, arith, count_of, length, nat_cmp, new_state, refl}
+use Rattle.generational_slots.proofs.{slotted_new, ◌∙◌, ◌≡◌}
 use Rattle.std.specs.FinSet as set
-use Rattle.std.specs.Ordering.{nat_cmp}
-use Rattle.generational_slots.proofs.Common.{count_of}
-use Rattle.generational_slots.proofs.states.States.{new_state, slotted_new}
 use Rattle.generational_slots.proofs.slots.Slots.new.Goals as goal
 
 pub invariant_of-result : goal.invariant_of-result

@@ -1,9 +1,6 @@
-use Rattle.std.proofs.Common.{◌≡◌, ◌∙◌, ap, option_copied}
-use Rattle.generational_core.specs.Answers.{value_of}
-use Rattle.generational_core.specs.Seeing.{value_reached}
-use Rattle.generational_slots.proofs.Common.{name_of_cell}
-use Rattle.generational_slots.proofs.states.Changes.{held_within, seen_in, state_is}
-use Rattle.generational_slots.proofs.states.Reaching.{reached_held, reached_seen}
+use Rattle.generational_slots.proofs.{ap, held_within, name_of_cell, option_copied, reached_held}
+use Rattle.generational_slots.proofs.{reached_seen, seen_in, state_is, value_of, value_reached, ◌∙◌}
+use Rattle.generational_slots.proofs.{◌≡◌}
 use Rattle.generational_slots.proofs.slots.Slots.peek.Goals as goal
 
 pub peek-requires : goal.peek-requires

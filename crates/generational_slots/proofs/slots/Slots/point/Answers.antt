@@ -1,13 +1,9 @@
 -- A name that is to name another value.
-use Rattle.std.proofs.Common.{ap, sym, ◌∙◌, is_some}
+use Rattle.generational_slots.proofs.{ap, cell_seen, content_of, created_in, found_in, held_in}
+use Rattle.generational_slots.proofs.{held_within, is_shared, is_some, name_of_cell, points_gone}
+use Rattle.generational_slots.proofs.{points_plain, points_turn, points_value, some_cell, state_is}
+use Rattle.generational_slots.proofs.{sym, target_in, ◌∙◌}
 use Rattle.std.specs.FinMap as map
-use Rattle.generational_core.specs.Cells.{content_of}
-use Rattle.generational_entries.specs.Entry.{target_in}
-use Rattle.generational_slots.proofs.Common.{is_shared, name_of_cell}
-use Rattle.generational_slots.proofs.states.Changes.{cell_seen, created_in, found_in, held_in}
-use Rattle.generational_slots.proofs.states.Changes.{held_within, state_is}
-use Rattle.generational_slots.proofs.states.Pointing.{points_gone, points_plain, points_turn}
-use Rattle.generational_slots.proofs.states.Pointing.{points_value, some_cell}
 use Rattle.generational_slots.proofs.slots.Slots.point.Goals as goal
 
 pub returns-then-not-holds : goal.returns-then-not-holds

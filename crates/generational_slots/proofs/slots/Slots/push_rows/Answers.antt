@@ -1,7 +1,5 @@
 -- The rows of the slots, and what reads them back.
-use Rattle.std.proofs.Common.{ap, ◌∙◌, ◌++◌}
-use Rattle.std.proofs.lemmas.Result.{on_ok_weaker}
-use Rattle.generational_slots.proofs.states.Rows.{rows_back, rows_seen}
+use Rattle.generational_slots.proofs.{ap, on_ok_weaker, rows_back, rows_seen, ◌++◌, ◌∙◌}
 use Rattle.generational_slots.proofs.slots.Slots.push_rows.Goals as goal
 
 pub returns-clause-ok : goal.returns-clause-ok

@@ -1,9 +1,7 @@
-use Rattle.std.proofs.Common.{◌≡◌, ◌∙◌, is_none, sym, None, Some}
-use Rattle.generational_core.specs.Borrowing.BorrowRefusal.{BeingWritten}
-use Rattle.generational_slots.proofs.Common.{name_of_cell, read_refusal, write_refusal}
-use Rattle.generational_slots.proofs.states.Changes.{held_within, seen_in, state_is}
-use Rattle.generational_slots.proofs.states.Reaching.{none_there, reached_held, reached_seen}
-use Rattle.generational_slots.proofs.states.Reaching.{read_none, read_to}
+use Rattle.generational_slots.proofs.{BeingWritten, held_within, is_none, name_of_cell, None}
+use Rattle.generational_slots.proofs.{none_there, reached_held, reached_seen, read_none}
+use Rattle.generational_slots.proofs.{read_refusal, read_to, seen_in, Some, state_is, sym}
+use Rattle.generational_slots.proofs.{write_refusal, ◌∙◌, ◌≡◌}
 use Rattle.generational_slots.proofs.slots.Slots.readable_slow.Goals as goal
 
 pub returns-in_default-clause-err : goal.returns-in_default-clause-err

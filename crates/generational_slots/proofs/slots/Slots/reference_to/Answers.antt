@@ -1,5 +1,4 @@
-use Rattle.generational_slots.proofs.Common.{name_of_cell}
-use Rattle.generational_slots.proofs.states.Changes.{found_in, found_within, state_is}
+use Rattle.generational_slots.proofs.{found_in, found_within, name_of_cell, state_is}
 use Rattle.generational_slots.proofs.slots.Slots.reference_to.Goals as goal
 
 pub reference_to-requires : goal.reference_to-requires

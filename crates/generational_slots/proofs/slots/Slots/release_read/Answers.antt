@@ -1,17 +1,7 @@
-use Rattle.std.proofs.Common.{◌≡◌, refl}
-use Rattle.generational_core.specs.Machine.{has_reader}
-use Rattle.generational_entries.specs.Entry.{less_read}
-use Rattle.generational_slots.proofs.Common.{name_of_cell}
-use Rattle.generational_slots.proofs.states.Changes.{changed_in, changed_length, held_told}
-use Rattle.generational_slots.proofs.states.Changes.{held_within, not_told}
-use Rattle.generational_slots.proofs.states.Changes.{referred_changed, seen_in, slotted_changed}
-use Rattle.generational_slots.proofs.states.Changes.{state_is}
+use Rattle.generational_slots.proofs.{changed_in, changed_length, has_reader, held_told, less_read}
+use Rattle.generational_slots.proofs.{name_of_cell, not_told, referred_changed, refl, seen_in}
+use Rattle.generational_slots.proofs.{slotted_changed, state_is, ◌≡◌}
 use Rattle.generational_slots.proofs.slots.Slots.release_read.Goals as goal
-
-pub release_read-requires : goal.release_read-requires
-release_read-requires g c =
-    held_within (held_told (state_is c.self.view_is) (name_of_cell c.args.name)
-    c.if-holds.ensures)
 
 pub invariant_of-self : goal.invariant_of-self
 invariant_of-self g c =

@@ -1,16 +1,8 @@
-use Rattle.std.proofs.Common.{◌≡◌, ◌∙◌, ◌↔◌, ap, length, true, [], IsTrue, is_ok}
-use Rattle.generational_core.specs.Machine.{has_writer}
-use Rattle.generational_slots.proofs.Common.{count_of, fill, name_of_cell, state_of, Here}
-use Rattle.generational_entries.proofs.states.Entries.{ok_then}
-use Rattle.generational_slots.proofs.states.Changes.{back_then, changed}
-use Rattle.generational_slots.proofs.states.Changes.{changed_length, held_told, held_within, not_told}
-use Rattle.generational_slots.proofs.states.Changes.{referred_changed, returned, seen_in}
-use Rattle.generational_slots.proofs.states.Changes.{slotted_changed, state_changed, state_is}
+use Rattle.generational_slots.proofs.{ap, changed, changed_length, fill, has_writer, held_told}
+use Rattle.generational_slots.proofs.{Here, is_ok, IsTrue, name_of_cell, not_told, ok_then}
+use Rattle.generational_slots.proofs.{referred_changed, returned, seen_in, slotted_changed}
+use Rattle.generational_slots.proofs.{state_changed, state_is, true, [], ◌↔◌, ◌∙◌, ◌≡◌}
 use Rattle.generational_slots.proofs.slots.Slots.release_write.Goals as goal
-
-pub release_write-requires : goal.release_write-requires
-release_write-requires g c =
-    held_within (held_told (state_is c.self.view_is) (name_of_cell c.args.name) c.if-holds.ensures)
 
 pub invariant_of-self : goal.invariant_of-self
 invariant_of-self g c =
@@ -48,13 +40,6 @@ returns-then-holds-clause-ok g c =
     (state_changed f (λ d. Here c.args.value []) _ _
     ∙ ap (λ S. fill S n (Here c.args.value [])) view))
     c.release_write.ensures.ok
-
-pub returns-then-holds-clause-err : goal.returns-then-holds-clause-err
-returns-then-holds-clause-err g c =
-    back_then c.args.value c.release_write.result
-    (λ e. ap (λ x. state_of c.self.inside.start
-    (count_of c.self.inside.counts (length x.slots)).peak x.slots) e
-    ∙ state_is c.self.view_is) c.release_write.ensures.err
 
 pub returns-clause-known : goal.returns-clause-known
 returns-clause-known g c = rw (not_told c.self.inside.entries.slots (state_is c.self.view_is) (name_of_cell c.args.name) c.if-holds.ensures) (λ h. h, λ h. h)

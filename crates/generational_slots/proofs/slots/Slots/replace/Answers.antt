@@ -1,11 +1,8 @@
-use Rattle.std.proofs.Common.{◌≡◌, ◌∙◌, ap, true, Some, []}
-use Rattle.std.proofs.lemmas.Bool.{false≢true}
-use Rattle.generational_slots.specs.SlotsState.{content_reached}
-use Rattle.generational_slots.proofs.Common.{has_no_borrow, name_of_cell, Here}
-use Rattle.generational_slots.proofs.states.Changes.{changed_length, heard_in, held_in, held_within}
-use Rattle.generational_slots.proofs.states.Changes.{referred_changed, seen_in, slotted_changed}
-use Rattle.generational_slots.proofs.states.Changes.{state_changed, state_is, unborrowed_there}
-use Rattle.generational_slots.proofs.states.Reaching.{reached_free, reached_seen}
+use Rattle.generational_slots.proofs
+use proofs.{ap, changed_length, content_reached, false≢true, has_no_borrow, heard_in, held_in}
+use proofs.{held_within, Here, name_of_cell, reached_seen, referred_changed, seen_in}
+use proofs.{slotted_changed, Some, state_changed, state_is, true, unborrowed_there, [], ◌∙◌, ◌≡◌}
+use proofs.states.Reaching.{reached_free}
 use Rattle.generational_slots.proofs.slots.Slots.replace.Goals as goal
 
 pub replace-requires-clause-within : goal.replace-requires-clause-within

@@ -1,12 +1,6 @@
-use Rattle.std.proofs.Common.{ap, sym, ◌∙◌}
-use Rattle.generational_slots.proofs.Common.{is_shared, name_of_cell}
-use Rattle.generational_slots.proofs.states.Changes.{cell_seen, state_is}
-use Rattle.generational_slots.proofs.states.Reaching.{refer_lent, refer_plain}
+use Rattle.generational_slots.proofs.{ap, cell_seen, is_shared, name_of_cell, refer_plain, state_is}
+use Rattle.generational_slots.proofs.{sym, ◌∙◌}
 use Rattle.generational_slots.proofs.slots.Slots.shared.Goals as goal
-
-pub returns-in-Err-clause-err : goal.returns-in-Err-clause-err
-returns-in-Err-clause-err g c =
-    refer_lent c.args.self.now.state (name_of_cell c.args.name) _ _ c.in-Err.ensures.err
 
 pub returns-then-is_shared-clause-ok : goal.returns-then-is_shared-clause-ok
 returns-then-is_shared-clause-ok g c =

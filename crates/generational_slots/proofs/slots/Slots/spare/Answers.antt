@@ -1,6 +1,4 @@
-use Rattle.std.proofs.Common.{arith}
-use Rattle.generational_slots.proofs.states.Changes.{state_is}
-use Rattle.generational_slots.proofs.states.States.{free_seen}
+use Rattle.generational_slots.proofs.{arith, free_seen, state_is}
 use Rattle.generational_slots.proofs.slots.Slots.spare.Goals as goal
 
 pub returns-clause-free : goal.returns-clause-free

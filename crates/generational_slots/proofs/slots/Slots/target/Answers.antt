@@ -1,7 +1,4 @@
-use Rattle.std.proofs.Common.{ap, ◌∙◌}
-use Rattle.generational_entries.specs.Entry.{target_in}
-use Rattle.generational_slots.proofs.Common.{name_of_cell}
-use Rattle.generational_slots.proofs.states.Changes.{cell_seen, state_is}
+use Rattle.generational_slots.proofs.{ap, cell_seen, name_of_cell, state_is, target_in, ◌∙◌}
 use Rattle.generational_slots.proofs.slots.Slots.target.Goals as goal
 
 pub returns : goal.returns

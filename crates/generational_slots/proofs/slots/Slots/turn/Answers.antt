@@ -1,70 +1,50 @@
 -- A reference that names another shared value, and its old target.
-use Rattle.std.proofs.Common.{ap, sym, ◌≡◌, ◌∙◌, None, Some, refl, Err, Ok}
-use Rattle.std.proofs.Common.{true, false}
-use Rattle.std.proofs.lemmas.Bool.{false≢true}
+use Rattle.generational_slots.proofs.{ap, doomed_held, doomed_left, doomed_told, Err, false}
+use Rattle.generational_slots.proofs.{false≢true, held_within, name_of_cell, name_test, None, Ok}
+use Rattle.generational_slots.proofs.{reference_is, refl, Some, State, state_is, sym, true}
+use Rattle.generational_slots.proofs.{turns_done, turns_refused, turns_same, ◌∙◌}
 use Rattle.std.specs.FinMap as map
-use Rattle.generational_slots.proofs.Common.{Ref, State, is_name}
-use Rattle.generational_slots.proofs.Common.{name_of_cell, name_test}
-use Rattle.generational_slots.proofs.states.Turns.{doomed_left, reference_cell, turns_done}
-use Rattle.generational_slots.proofs.states.Turns.{turns_refused, turns_same}
-use Rattle.generational_slots.proofs.states.Changes.{held_within, state_is}
-use Rattle.generational_slots.proofs.states.Reaching.{doomed_held, doomed_told}
 use Rattle.generational_slots.proofs.slots.Slots.turn.Goals as goal
 
 pub returns-then-eq : goal.returns-then-eq
 returns-then-eq g c =
-    let S = c.args.self.now.state in
-    let n = name_of_cell c.args.name in
-    let o = name_of_cell c.args.old in
-    let m = name_of_cell c.args.new in
-    let r = reference_cell (map.get S.cells n) o c.requires.refers in
-    let same : is_name o m ≡ true = name_test o m ∙ sym c.if-eq.ensures in
-    rw r.1 (turns_same S n o m r.0 c.requires.linked r.1 same)
+    let r = reference_is c.args.self.now.state c.requires.refers in
+    let same =
+    name_test (name_of_cell c.args.old) (name_of_cell c.args.new) ∙ sym c.if-eq.ensures in
+    rw r.there (turns_same r (name_of_cell c.args.new) c.requires.linked same)
 
 pub borrow_mut_error-requires : goal.borrow_mut_error-requires
 borrow_mut_error-requires g c =
-    held_within (doomed_held c.self.inside.entries.slots (state_is c.self.view_is) c.requires.linked (name_of_cell c.args.name) _ c.in-Some.ensures)
+    held_within (doomed_held c.self.inside.entries.slots (state_is c.self.view_is) c.requires.linked
+    (name_of_cell c.args.name) _ c.in-Some.ensures)
 
 pub returns-in-Err : goal.returns-in-Err
 returns-in-Err g c =
-    let S = c.args.self.now.state in
-    let n = name_of_cell c.args.name in
-    let o = name_of_cell c.args.old in
+    let r = reference_is c.args.self.now.state c.requires.refers in
+    let other =
+    name_test (name_of_cell c.args.old) (name_of_cell c.args.new) ∙ sym c.if-eq.ensures in
     let m = name_of_cell c.args.new in
-    let r = reference_cell (map.get S.cells n) o c.requires.refers in
-    let other : is_name o m ≡ false = name_test o m ∙ sym c.if-eq.ensures in
-    rw r.1 (turns_refused S n o m r.0 c.requires.linked r.1 other _ c.in-Some.ensures
-    c.in-Err.refused
-    (doomed_told c.self.inside.entries.slots (state_is c.self.view_is) c.requires.linked (name_of_cell c.args.name) _ c.in-Some.ensures (Err c.in-Err.refused) c.in-Err.ensures))
+    rw r.there (turns_refused r m c.requires.linked other _ c.in-Some.ensures c.in-Err.refused
+    (doomed_told c.self.inside.entries.slots (state_is c.self.view_is)
+    c.requires.linked (name_of_cell c.args.name) _ c.in-Some.ensures (Err c.in-Err.refused)
+    c.in-Err.ensures))
 
 pub returns-in_default : goal.returns-in_default
 returns-in_default g c =
-    let S = c.args.self.now.state in
-    let n = name_of_cell c.args.name in
-    let o = name_of_cell c.args.old in
-    let m = name_of_cell c.args.new in
-    let r = reference_cell (map.get S.cells n) o c.requires.refers in
-    let other : is_name o m ≡ false = name_test o m ∙ sym c.if-eq.ensures in
-    let redirected : c.redirect.new.self.state ≡ record S {
-      cells = map.insert S.cells n (Ref m r.0);
-    } = rw r.1 at c.redirect.ensures in
-    rw r.1 (turns_done S n o m r.0 c.requires.linked r.1 other None c.in_default.ensures _ refl
-    redirected)
+    let r = reference_is c.args.self.now.state c.requires.refers in
+    let other =
+    name_test (name_of_cell c.args.old) (name_of_cell c.args.new) ∙ sym c.if-eq.ensures in
+    rw r.there (turns_done r (name_of_cell c.args.new) c.requires.linked other None
+    c.in_default.ensures _ refl (rw r.there at c.redirect.ensures))
 
 pub remove-requires : goal.remove-requires
 remove-requires g c =
-    let S = c.args.self.now.state in
-    let n = name_of_cell c.args.name in
-    let o = name_of_cell c.args.old in
-    let m = name_of_cell c.args.new in
-    let r = reference_cell (map.get S.cells n) o c.requires.refers in
-    let other : is_name o m ≡ false = name_test o m ∙ sym c.if-eq.ensures in
-    let redirected : c.redirect-2.new.self.state ≡ record S {
-      cells = map.insert S.cells n (Ref m r.0);
-    } = rw r.1 at c.redirect-2.ensures in
-    let left = doomed_left S n o m r.0 c.requires.linked r.1 other _ c.in-Some.ensures
+    let r = reference_is c.args.self.now.state c.requires.refers in
+    let other =
+    name_test (name_of_cell c.args.old) (name_of_cell c.args.new) ∙ sym c.if-eq.ensures in
+    let left = doomed_left r (name_of_cell c.args.new) c.requires.linked other _ c.in-Some.ensures
     (name_of_cell c.in-Some.doomed) refl in
-    rw redirected (record {
+    rw (rw r.there at c.redirect-2.ensures) (record {
       there = left.0;
       target = left.1;
       alone = λ is. absurd (false≢true is);
@@ -72,18 +52,12 @@ remove-requires g c =
 
 pub returns : goal.returns
 returns g c =
-    let S = c.args.self.now.state in
-    let n = name_of_cell c.args.name in
-    let o = name_of_cell c.args.old in
-    let m = name_of_cell c.args.new in
-    let r = reference_cell (map.get S.cells n) o c.requires.refers in
-    let other : is_name o m ≡ false = name_test o m ∙ sym c.if-eq.ensures in
-    let redirected : c.redirect-2.new.self.state ≡ record S {
-      cells = map.insert S.cells n (Ref m r.0);
-    } = rw r.1 at c.redirect-2.ensures in
-    rw r.1 (turns_done S n o m r.0 c.requires.linked r.1 other
-    (Some (name_of_cell c.in-Some.doomed)) c.in-Some.ensures _
-    (doomed_told c.self.inside.entries.slots (state_is c.self.view_is) c.requires.linked (name_of_cell c.args.name) _ c.in-Some.ensures (Ok tt) c.in-Ok.ensures)
-    (c.remove.ensures ∙ ap (λ (X : State _). record X {
-      cells = map.remove X.cells (name_of_cell c.in-Some.doomed);
-    }) redirected))
+    let r = reference_is c.args.self.now.state c.requires.refers in
+    let other =
+    name_test (name_of_cell c.args.old) (name_of_cell c.args.new) ∙ sym c.if-eq.ensures in
+    let d = name_of_cell c.in-Some.doomed in
+    rw r.there (turns_done r (name_of_cell c.args.new) c.requires.linked other (Some d)
+    c.in-Some.ensures _ (doomed_told c.self.inside.entries.slots (state_is c.self.view_is)
+    c.requires.linked (name_of_cell c.args.name) _ c.in-Some.ensures (Ok tt) c.in-Ok.ensures)
+    (c.remove.ensures ∙ ap (λ (X : State _). record X { cells = map.remove X.cells d })
+    (rw r.there at c.redirect-2.ensures)))

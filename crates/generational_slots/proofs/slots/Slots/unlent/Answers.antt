@@ -1,8 +1,6 @@
-use Rattle.std.proofs.Common.{◌≡◌, ◌∙◌, sym, None, Some}
-use Rattle.generational_core.specs.Borrowing.BorrowRefusal.{BeingWritten}
-use Rattle.generational_slots.proofs.Common.{name_of_cell, read_refusal}
-use Rattle.generational_slots.proofs.states.Changes.{held_within, seen_in, state_is}
-use Rattle.generational_slots.proofs.states.Reaching.{read_none, read_to, reached_held, reached_seen}
+use Rattle.generational_slots.proofs.{BeingWritten, held_within, name_of_cell, None, reached_held}
+use Rattle.generational_slots.proofs.{reached_seen, read_none, read_refusal, read_to, seen_in, Some}
+use Rattle.generational_slots.proofs.{state_is, sym, ◌∙◌, ◌≡◌}
 use Rattle.generational_slots.proofs.slots.Slots.unlent.Goals as goal
 
 pub returns-in_default-clause-err : goal.returns-in_default-clause-err

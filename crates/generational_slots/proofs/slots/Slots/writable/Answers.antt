@@ -1,6 +1,4 @@
-use Rattle.generational_slots.proofs.Common.{name_of_cell}
-use Rattle.generational_slots.proofs.states.Changes.{state_is}
-use Rattle.generational_slots.proofs.states.Reaching.{unborrowed_reached, unborrowed_told}
+use Rattle.generational_slots.proofs.{name_of_cell, state_is, unborrowed_reached, unborrowed_told}
 use Rattle.generational_slots.proofs.slots.Slots.writable.Goals as goal
 
 pub returns-then-has_unborrowed_value-clause-ok : goal.returns-then-has_unborrowed_value-clause-ok

@@ -1,9 +1,6 @@
-use Rattle.std.proofs.Common.{sym, subst, Err, Ok}
-use Rattle.generational_entries.specs.Entry.{FoundBorrowed}
-use Rattle.generational_slots.proofs.Common.{name_of_cell, write_refusal}
-use Rattle.generational_slots.proofs.states.Changes.{held_within, seen_in, state_is}
-use Rattle.generational_slots.proofs.states.Reaching.{reached_held, reached_seen, write_none}
-use Rattle.generational_slots.proofs.states.Reaching.{write_to}
+use Rattle.generational_slots.proofs.{Err, FoundBorrowed, held_within, name_of_cell, Ok}
+use Rattle.generational_slots.proofs.{reached_held, reached_seen, seen_in, state_is, subst, sym}
+use Rattle.generational_slots.proofs.{write_none, write_refusal, write_to}
 use Rattle.generational_slots.proofs.slots.Slots.writable_slow.Goals as goal
 
 pub returns-in_default-clause-err : goal.returns-in_default-clause-err
