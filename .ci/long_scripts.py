@@ -94,6 +94,16 @@ def readers_from_the_last():
     return many_readers(reversed)
 
 
+def shown_readers():
+    """So is each where its value is shown, also beside one that stands apart."""
+    script = Script()
+    box = script.call("leak a", "box 0@1")
+    readers = [script.call(f"try_read {box}", "reader") for _ in range(50_000)]
+    for reader in reversed(readers):
+        script.call(f"show {reader}", "value a")
+    return script
+
+
 def readers_from_the_middle():
     """Each moves at most half of the others."""
     return many_readers(from_the_middle)
@@ -115,9 +125,24 @@ def owners():
     return script
 
 
+def clones_of_owners():
+    """50,000 owners are cloned, and each clone makes a box: it knows the place of its owner's record."""
+    script, count = Script(), 50_000
+    made = [script.call("owner", "owner") for _ in range(count)]
+    clones = [script.call(f"clone {it}", "owner") for it in made]
+    for slot, clone in enumerate(clones):
+        script.call(f"insert {clone} a", f"box {slot}@1")
+    for clone in clones:
+        script.call(f"release {clone}", "ok")
+    for owner in made:
+        script.call(f"release {owner}", "ok")
+    script.stats(count, count, count)
+    return script
+
+
 def slots():
-    """140,000 slots, of which every third is free and is taken again, the last one that was freed first."""
-    script, count = Script(), 140_000
+    """160,000 slots, of which every third is free and is taken again, the last one that was freed first."""
+    script, count = Script(), 160_000
     boxes = [script.call("leak a", f"box {slot}@1") for slot in range(count)]
     freed = range(0, count, 3)
     for slot in freed:
@@ -135,8 +160,10 @@ SCRIPTS = [
     (readers_beside_each_other, 2),
     (tickets, 2),
     (readers_from_the_last, 2),
+    (shown_readers, 2),
     (readers_from_the_middle, 15),
     (owners, 2),
+    (clones_of_owners, 2),
     (slots, 2),
 ]
 

@@ -4,8 +4,9 @@
    is set, what is asked for next is refused too, as long as it is less each time and nothing is
    read. REFUSE_BEYOND is how many bytes may be allocated at once: what would be more is refused.
    Where it isn't set, a read of standard input gives one line at most. At the end, also by _exit,
-   the file REFUSE_REPORT is written: how many of each were asked for, whether one was refused, and
-   how many bytes weren't given back. Threads may ask beside each other. */
+   the file REFUSE_REPORT is written: how many of each were asked for, whether one was refused, how
+   many bytes weren't given back, and how many there were at once. Threads may ask beside each
+   other. */
 #define _GNU_SOURCE
 #include <errno.h>
 #include <fcntl.h>
@@ -42,9 +43,9 @@ static int refuses(struct counter *counter, int cause) {
   return 1;
 }
 
-/* How many bytes are allocated now, how many may be, and how many the last refusal was of, if
-   nothing was given since and what is less is refused too. */
-static size_t live = 0, most = 0, last = 0;
+/* How many bytes are allocated now, how many were at once, how many may be, and how many the last
+   refusal was of, if nothing was given since and what is less is refused too. */
+static size_t live = 0, peak = 0, most = 0, last = 0;
 static int goes_on = 0;
 
 /* Whether so many bytes are refused, where so many may be had beside those that are live. */
@@ -67,7 +68,10 @@ static int has_no_room(size_t size, size_t beside) {
 }
 
 static void *counted(void *made) {
-  __atomic_add_fetch(&live, malloc_usable_size(made), __ATOMIC_SEQ_CST);
+  size_t now = __atomic_add_fetch(&live, malloc_usable_size(made), __ATOMIC_SEQ_CST);
+  size_t before = __atomic_load_n(&peak, __ATOMIC_SEQ_CST);
+  while (before < now && !__atomic_compare_exchange_n(&peak, &before, now, 0, __ATOMIC_SEQ_CST, __ATOMIC_SEQ_CST)) {
+  }
   return made;
 }
 
@@ -125,9 +129,9 @@ ssize_t write(int file, const void *bytes, size_t count) {
 __attribute__((destructor)) static void report(void) {
   const char *path = getenv("REFUSE_REPORT");
   if (!path) return;
-  char text[96];
-  int length = snprintf(text, sizeof text, "%ld %ld %ld %d %zu\n", allocations.asked, reads.asked,
-                        writes.asked, refused, live);
+  char text[128];
+  int length = snprintf(text, sizeof text, "%ld %ld %ld %d %zu %zu\n", allocations.asked, reads.asked,
+                        writes.asked, refused, live, peak);
   int file = open(path, O_CREAT | O_WRONLY | O_TRUNC, 0600);
   if (file < 0) return;
   if (syscall(SYS_write, file, text, length) != length) syscall(SYS_exit_group, 99);

@@ -29,13 +29,17 @@ The tests in the modules `memory`, `scarcity` and `shortage`, and in `entity_mem
 what lacked memory, and pass.
 
 Whatever is refused, at its end a run has given back all memory. So has each of the tests where nothing is refused, but
-for what the C library keeps of each thread for the next one.
+for what the C library keeps of each thread for the next one. Those that show how something grows, and a
+short one, have such limits too.
 
 A script of 100,000 leaks is run with less memory than it takes, from 3 to 40 megabytes. It ends
 with status 0 or 3, and makes nearly as many values as fit.
 
+Long scripts of one kind of line ask for memory a limited number of times, and have so many bytes at once
+at most. Either limit is three times what they take: room grows by leaps, and by few at first.
+
 At the end a few wrong rows are made of one of these, and a program that is refused nothing, and one
-that keeps a byte, and more values are wanted than fit: all are found out.
+that keeps a byte, and more values are wanted than fit, and lower limits: all are found out.
 """
 
 import os
@@ -67,6 +71,26 @@ BESIDES = 30_000
 LEAK = 232
 # While a buffer grows there are the old one and the new one. So the largest, that of the places, counts twice.
 MOVED = 64
+# Scripts with how often they may ask for memory, and how many bytes they have at once.
+FRUGAL = {
+    "leaks": ("leak \n" * 20_000, 220, 22_000_000),
+    "owners": ("owner\n" * 20_000, 180, 13_800_000),
+    "boxes of one owner": ("owner\n" + "insert 1 \n" * 20_000, 270, 23_600_000),
+    "readers of one box": ("leak \n" + "try_read 1\n" * 20_000, 160, 11_800_000),
+    "questions": ("leak \n" + "can_read 1\n" * 20_000, 120, 8_700_000),
+    "one box": ("leak \n", 40, 50_000),
+    "owners of a box": ("".join(f"owner\ninsert {2 * i + 1} \n" for i in range(1000)), 3_200, 1_400_000),
+    "boxes of two readers": ("".join("leak \n" + f"try_read {3 * i + 1}\n" * 2 for i in range(1000)), 6_200, 1_900_000),
+}
+# Tests with the same. Those of `growth` read a file each time they look.
+FRUGAL_TESTS = {
+    "growth::slots": (3_200, 46_000_000),
+    "growth::references": (3_200, 46_000_000),
+    "growth::an_owners_list": (3_200, 52_000_000),
+    "growth::places": (3_200, 22_000_000),
+    "beside::a_crowd_of_workers": (4_200, 9_300_000),
+    "unshared::calls_without_threads": (33, 8_000),
+}
 MODULES = ("memory", "scarcity", "shortage")
 WRONG = "every_command.row"
 # The C library keeps a thread's stack for the next one, with the vector of its own variables; and how many threads.
@@ -90,6 +114,8 @@ class Run:
     output: list
     faults: str
     refused: bool
+    asked: int
+    peak: int
 
 
 class Program:
@@ -107,13 +133,14 @@ class Program:
         environment = {f"REFUSE_{what.upper()}": str(at) for what, at in refusals.items()}
         environment |= {"LD_PRELOAD": self.library, "REFUSE_REPORT": self.report}
         with open(self.report, "w", encoding="utf-8") as report:
-            report.write("0 0 0 1 0\n")  # what a program leaves that is ended by a signal
+            report.write("0 0 0 1 0 0\n")  # what a program leaves that is ended by a signal
         ended = subprocess.run([self.path, *words], input=script.encode(), capture_output=True,
                                env=environment, timeout=60, check=False)
         with open(self.report, encoding="utf-8") as report:
-            refused, left = report.read().split()[3:]
+            asked, _, _, refused, left, peak = report.read().split()
         wanted(self.may_keep(int(left)), f"{left} bytes aren't given back: {[*words]}, {refusals}, {script!r}")
-        return Run(ended.returncode, ended.stdout.decode().splitlines(), ended.stderr.decode(), refused == "1")
+        return Run(ended.returncode, ended.stdout.decode().splitlines(), ended.stderr.decode(), refused == "1",
+                   int(asked), int(peak))
 
 
 def wanted(ok, what):
@@ -267,12 +294,20 @@ def refuse_in_tests(tests):
 
 
 def refuse_nothing_in(tests):
-    """How many tests give back all memory, as `run` wants."""
+    """The runs of the tests, which give back all memory, as `run` wants."""
     names = names_of(tests)
     wanted(names, f"{tests.path} lists no test")
-    for name in names:
-        wanted(tests.run([name]).status == 0, name)
+    runs = {name: tests.run([name]) for name in names}
+    for name, run in runs.items():
+        wanted(run.status == 0, name)
     print(f"{os.path.basename(tests.path)}: {len(names)} tests give back all memory")
+    return runs
+
+
+def are_frugal_tests(runs, share=1):
+    for name, (times, size) in FRUGAL_TESTS.items():
+        wanted(name in runs, f"no test is listed as {name}")
+        print(is_frugal(name, runs[name], times, size, share))
 
 
 def refuse_beyond(program, size):
@@ -285,6 +320,18 @@ def refuse_beyond(program, size):
         wanted(made + run.output.count(REFUSED) == len(run.output), f"{megabytes} megabytes: other replies")
         fit = min(LEAKS, (megabytes * 1_000_000 - BESIDES) // size)
         wanted(made >= 0.8 * fit, f"{megabytes} megabytes: {made} values, where {fit} fit")
+
+
+def is_frugal(what, run, times, size, share=1):
+    """Whether a run asked for memory so often at most, and had so many bytes at once; or a share of both."""
+    wanted(run.asked <= times // share, f"{what}: memory was asked for {run.asked} times")
+    wanted(run.peak <= size // share, f"{what}: there were {run.peak} bytes at once")
+    return f"{what}: memory was asked for {run.asked} times, with {run.peak} bytes at once"
+
+
+def is_frugal_script(program, name, share=1):
+    script, times, size = FRUGAL[name]
+    return is_frugal(name, program.run(script=script), times, size, share)
 
 
 def wrong_rows(row):
@@ -362,16 +409,23 @@ def drive(path, *tests):
         refuse_in_drawn_lists(program)
         tests = [Program(os.path.abspath(it), library, room, of_a_thread(it)) for it in tests]
         refuse_in_tests(tests)
+        runs = {}
         for it in tests:
-            refuse_nothing_in(it)
+            runs |= refuse_nothing_in(it)
+        are_frugal_tests(runs)
         refuse_beyond(program, LEAK + MOVED)
         print(f"{LEAKS} leaks: nearly as many values as fit into {MEGABYTES[0]} to {MEGABYTES[-1]} megabytes")
+        for name in FRUGAL:
+            print(is_frugal_script(program, name))
         row = dict(rows())[WRONG]
         for at, wrong in wrong_rows(row):
             find_out(f"a row that is wrong at line {at}", refuse_memory, program, wrong)
         find_out("a program that is refused nothing", refuse_memory, Generous(program.path, library, room), row)
         find_out("a program that keeps a byte", Program(made_hoarder(room), library, room).run)
         find_out("a size at which more fit", refuse_beyond, program, LEAK // 2)
+        find_out("tests within lower limits", are_frugal_tests, runs, 4)
+        for name in FRUGAL:
+            find_out(f"{name} within lower limits", is_frugal_script, program, name, 4)
 
 
 def main():

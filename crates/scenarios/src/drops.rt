@@ -277,6 +277,29 @@ fn a_value_that_was_pointed_away_from(rt: HostRuntime) {
     play::<Counted, Turns>(&rt, rt.alloc());
 }
 
+struct Clones;
+
+impl Scenario<Counted> for Clones {
+    fn play<R: Abort, S: Storage<Counted>>(rt: &R, alloc: Global, store: &mut S) {
+        let value = counted(rt, alloc);
+        let only = leak(rt, store, another(rt, &value), made());
+        let guard = begin(rt, store, only, read());
+        let clone = guard.deref(store).map(|view| view.cloned());
+        assert_count(rt, &value, 3);
+        drop(clone);
+        assert_count(rt, &value, 2);
+        assert!(rt; guard.release(store));
+        end(rt, store, only);
+        assert_count(rt, &value, 1);
+    }
+}
+
+// A view's clone is one more, and whoever has it lets it go.
+#[test]
+fn a_value_that_was_cloned(rt: HostRuntime) {
+    play::<Counted, Clones>(&rt, rt.alloc());
+}
+
 /// Makes a box by nobody, one by an owner that is leaked, and a shared value with two references.
 fn fill<S: Storage<Counted>>(rt: &impl Abort, store: &mut S, value: &Counted) {
     leak(rt, store, another(rt, value), made());

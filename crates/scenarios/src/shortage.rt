@@ -230,3 +230,34 @@ impl Scenario<(u32, u32)> for Pairs {
 fn for_the_views_of_a_pair(rt: HostRuntime) {
     play::<(u32, u32), Pairs>(&rt, rt.alloc());
 }
+
+/// A clone of the text that a guard lends.
+fn clone_of<S: Storage<String>>(
+    rt: &impl Abort,
+    store: &S,
+    guard: &GenerationalRef<String>,
+) -> Result<String, StoreError> {
+    guard.deref(store).expect(rt, "a view").cloned()
+}
+
+struct Texts;
+
+impl Scenario<String> for Texts {
+    fn play<R: Abort, S: Storage<String>>(rt: &R, alloc: Global, store: &mut S) {
+        let only = leak_or_again(rt, store, text(rt, alloc, "hello world"));
+        let guard = begin(rt, store, only, read());
+        let clone = match clone_of(rt, store, &guard) {
+            Err(StoreError::OutOfMemory) => clone_of(rt, store, &guard),
+            answer => answer,
+        };
+        let is_same = clone.is_ok_and(|clone| clone.as_str() == "hello world");
+        assert_same(rt, &is_same, &true);
+        assert_released(rt, store, guard, true);
+    }
+}
+
+// A clone that lacks memory leaves nothing behind.
+#[test]
+fn for_a_clone_of_a_text(rt: HostRuntime) {
+    play::<String, Texts>(&rt, rt.alloc());
+}

@@ -182,3 +182,46 @@ impl TwoStoreScenario<u32> for OwnersOfTwo {
 fn an_owner_of_another_store_is_unknown(rt: HostRuntime) {
     play_in_two_stores::<u32, OwnersOfTwo>(&rt, rt.alloc());
 }
+
+/// Asserts that a making by an owner of another store is refused, and takes no free slot: the next
+/// value has the slot that was freed last.
+fn assert_first_free<S: Storage<u32>>(
+    rt: &impl Abort,
+    store: &mut S,
+    refused: bool,
+    slot: usize,
+) -> GenerationalBox<u32> {
+    assert!(rt; refused);
+    let next = leak(rt, store, 3, made());
+    assert_same(rt, &next.raw_ptr(), &slot);
+    next
+}
+
+struct FreeSlots;
+
+impl TwoStoreScenario<u32> for FreeSlots {
+    fn play<R: Abort, S: Storage<u32>>(rt: &R, _: Global, seven: &mut S, eight: &mut S) {
+        let stranger = new_owner(rt, eight);
+        let shared = leak_rc(rt, seven, 0, made());
+        let one = leak(rt, seven, 1, made());
+        let other = leak(rt, seven, 2, made());
+        end(rt, seven, one);
+        end(rt, seven, other);
+        let refused = stranger.insert(seven, 4, made()).is_err();
+        let next = assert_first_free(rt, seven, refused, other.raw_ptr());
+        end(rt, seven, next);
+        let refused = stranger.insert_rc(seven, 4, made()).is_err();
+        let next = assert_first_free(rt, seven, refused, other.raw_ptr());
+        end(rt, seven, next);
+        let refused = stranger.insert_reference(seven, shared).is_err();
+        assert_first_free(rt, seven, refused, other.raw_ptr());
+        assert_first_free(rt, seven, true, one.raw_ptr());
+        stranger.leak();
+    }
+}
+
+// A making that is refused leaves the free slots in their order.
+#[test]
+fn refused_makings_leave_the_free_slots(rt: HostRuntime) {
+    play_in_two_stores::<u32, FreeSlots>(&rt, rt.alloc());
+}
