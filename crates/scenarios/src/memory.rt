@@ -310,5 +310,9 @@ fn room_beyond_all(rt: HostRuntime) {
     }
     reserve_or_again(&rt, &mut store, 1);
     leak(&rt, &mut store, 1, made());
-    assert_same(&rt, &store.reserve(usize::MAX), &Err(StoreError::OutOfMemory));
+    assert_same(
+        &rt,
+        &store.reserve(usize::MAX),
+        &Err(StoreError::OutOfMemory),
+    );
 }

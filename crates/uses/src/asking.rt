@@ -88,7 +88,11 @@ pub fn slots_without_cells<S: Storage<u64>>(store: &S) -> usize
 }
 
 /// A new store with the memory for so many values. None of them is there yet.
-pub fn store_for(alloc: Global, number: u64, values: usize) -> Result<UnsyncStorage<u64>, StoreError>
+pub fn store_for(
+    alloc: Global,
+    number: u64,
+    values: usize,
+) -> Result<UnsyncStorage<u64>, StoreError>
     ensures { IfOk result (λ store. store.state ≡ fresh number 1 0) }
 {
     let mut store = UnsyncStorage::new(alloc, number);

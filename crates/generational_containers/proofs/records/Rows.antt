@@ -6,7 +6,7 @@ use Common.{HasDistinctKeys, HasRecord, is_at, is_eq, is_lt, IsPlaceOf, IsStrict
 use Common.{length, Less, List, lookup, Name, name_of_cell, nat_cmp, nat_cmp_total, None}
 use Common.{Option, option_map, owner_rows, owners_of, Ownership, Place, place_rows, record_at}
 use Common.{record_in, record_rows, Records, recursion_from_All, refl, slice_get, Some, subst, suc}
-use Common.{sym, T, take, take-nil, true, zero, ℕ, [], ◌&&◌, ◌++◌, ◌+◌, ◌<◌, ◌∙◌, ◌∷◌, ◌≡◌, ◌≤◌}
+use Common.{sym, T, take, take-nil, true, zero, ℕ, [], ◌&&◌, ◌++◌, ◌<◌, ◌∙◌, ◌∷◌, ◌≡◌, ◌≤◌}
 use Rattle.generational_containers.proofs.records.Places.{get_none, get_one, own_key, standing}
 use Rattle.std.proofs.Common.{map as list_map}
 use Rattle.std.specs.FinMap as map

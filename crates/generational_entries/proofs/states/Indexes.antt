@@ -1,7 +1,7 @@
 -- At which indexes of the table the borrows of a store's slots stand, and what is left of that
 -- where a slot is written.
 use Rattle.generational_entries.proofs.Common
-use Common.{AreIndexed, arith, Bool, cond, entries_of, eq-eqb, eqb-true, false, false≢true}
+use Common.{AreIndexed, arith, Bool, cond, eq-eqb, eqb-true, false, false≢true}
 use Common.{has_index, HasListIndex, HasListIndexIn, how_many, index_in, index_of, IsUnborrowed}
 use Common.{IsUsed, IsWritten, length, List, nat_cmp, nat_eq, no_index, None, Option, passes, refl}
 use Common.{slice_get, Some, StorageEntry, StorageEntryData, subst, sym, Table, true, ℕ, [], ◌+◌}

@@ -1,7 +1,7 @@
 -- A slot that changes with the table of borrows, and what is left of the other slots.
 use Rattle.generational_entries.proofs.Common
 use Rattle.generational_entries.proofs.lists
-use Common.{ap, AreIndexed, arith, bit, Bool, Borrow, entries_of, EntryDetails, EntryList, eq-eqb}
+use Common.{ap, AreIndexed, arith, bit, Bool, Borrow, EntryDetails, EntryList, eq-eqb}
 use Common.{eqb-true, false, fewer_within, get_or-set_same, has_index, HasListIndex, Here, how_many}
 use Common.{index_in, index_of, inl, inr, IsClosed, IsUsed, IsVacant, kept_data, Kind, length}
 use Common.{length-set, List, list_at, Live, Location, nat_cmp, nat_eq, ne_eqb, no_index, refl}

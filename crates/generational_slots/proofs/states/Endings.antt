@@ -1,6 +1,6 @@
 -- The end of one name, by the value that goes with it.
 use Rattle.generational_slots.proofs.Common
-use Common.{ap, Bool, BorrowRefusal, by_name, Cell, cells_after, close, close_one, cond, Content}
+use Common.{ap, Bool, by_name, Cell, cells_after, close, close_one, cond, Content}
 use Common.{content_at, content_of, doomed_by, false, false≢true, first_hindrance, get-remove_apart}
 use Common.{has_no_borrow, hindrance_to, is_named, is_none, is_shared, is_some, is_unborrowed_value}
 use Common.{IsLinked, List, Location, Name, None, one_hindered, Option, Ref, refl, refusal_of}

@@ -1,6 +1,6 @@
 -- The value of a cell, unless it is lent.
 use Rattle.generational_entries.proofs.{content_in, found, index_of, list_at, no_value, None}
-use Rattle.generational_entries.proofs.{option_copied, refl, says, Some, sym, value_of, ◌≡◌}
+use Rattle.generational_entries.proofs.{refl, says, Some, sym, value_of, ◌≡◌}
 use Rattle.generational_entries.proofs.settled.SettledEntries.peek.Goals as goal
 
 pub returns-in-Data : goal.returns-in-Data

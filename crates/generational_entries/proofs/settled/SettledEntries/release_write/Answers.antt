@@ -1,6 +1,6 @@
 -- A writer's end.
 use Rattle.generational_entries.proofs.{content_in, eq-eqb, eqb-true, false≢true, found, index_of}
-use Rattle.generational_entries.proofs.{is_lent, kept, lent_used, list_at, list_none, no_writer}
+use Rattle.generational_entries.proofs.{is_lent, lent_used, list_at, no_writer}
 use Rattle.generational_entries.proofs.{read_details, refl, says, says_of, sym, true, ◌∙◌, ◌≡◌}
 use Rattle.generational_entries.proofs.settled.SettledEntries.release_write.Goals as goal
 

@@ -1,7 +1,7 @@
 -- A reference that names another shared value, and its old target.
-use Rattle.generational_slots.proofs.{ap, doomed_held, doomed_left, doomed_told, Err, false}
+use Rattle.generational_slots.proofs.{ap, doomed_held, doomed_left, doomed_told, Err}
 use Rattle.generational_slots.proofs.{false≢true, held_within, name_of_cell, name_test, None, Ok}
-use Rattle.generational_slots.proofs.{reference_is, refl, Some, State, state_is, sym, true}
+use Rattle.generational_slots.proofs.{reference_is, refl, Some, State, state_is, sym}
 use Rattle.generational_slots.proofs.{turns_done, turns_refused, turns_same, ◌∙◌}
 use Rattle.std.specs.FinMap as map
 use Rattle.generational_slots.proofs.slots.Slots.turn.Goals as goal
