@@ -280,9 +280,8 @@ fn reserve_or_again<P: SlotPool>(rt: &impl Abort, store: &mut Store<u32, P>, mor
     assert!(rt; store.reserve(more).is_ok());
 }
 
-/// Values, shared values and references for which there is room.
-fn make_in_reserve<P: SlotPool>(rt: &impl Abort, store: &mut Store<u32, P>) {
-    reserve_or_again(rt, store, 40);
+/// Values, shared values and references that take forty cells.
+fn make_forty_cells<S: Storage<u32>>(rt: &impl Abort, store: &mut S) {
     for value in 0..10 {
         leak(rt, store, value, made());
         let shared = leak_rc(rt, store, value, made());
@@ -294,11 +293,13 @@ fn make_in_reserve<P: SlotPool>(rt: &impl Abort, store: &mut Store<u32, P>) {
 #[test]
 fn makings_in_reserved_room(rt: HostRuntime) {
     let mut last: Store<u32, LastFirst> = Store::new(rt.alloc(), 7);
-    make_in_reserve(&rt, &mut last);
-    make_in_reserve(&rt, &mut last);
     let mut oldest: Store<u32, OldestFirst> = Store::new(rt.alloc(), 7);
-    make_in_reserve(&rt, &mut oldest);
-    make_in_reserve(&rt, &mut oldest);
+    for _ in 0..2 {
+        reserve_or_again(&rt, &mut last, 40);
+        make_forty_cells(&rt, &mut last);
+        reserve_or_again(&rt, &mut oldest, 40);
+        make_forty_cells(&rt, &mut oldest);
+    }
 }
 
 // More room than there can be is refused, and takes none.
