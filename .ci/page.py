@@ -7,8 +7,9 @@
 Each block of Rattle on a page must stand in one file of the crates of callers or of tests, and each
 proof in one of callers: its pieces, which blank lines part, line for line and in order.
 Each public function of a block must be named in a crate of tests, which the gate runs. An example in
-the comment of a public item must stand in one of those files too, whatever its indent. What is wrong
-is printed, and the exit status is 1 then.
+the comment of a public item must stand in one of those files too, whatever its indent. Each link to a
+file or a heading must lead there, and a line of `crates.txt` on a page must be that of the file. What
+is wrong is printed, and the exit status is 1 then.
 """
 import pathlib
 import re
@@ -111,6 +112,49 @@ def example_faults(sources):
     return faults, count
 
 
+def headings_of(page):
+    """The names by which links lead to a page's headings."""
+    titles = [line.lstrip("#").strip().lower() for line in lines_of(page) if line.startswith("#")]
+    return {re.sub(r"[^\w\- ]", "", title).replace(" ", "-") for title in titles}
+
+
+def link_faults(page, text):
+    """The links of a page's text that lead nowhere."""
+    faults = []
+    for target in re.findall(r"\]\(([^)\s]+)\)", text):
+        path, _, heading = target.partition("#")
+        file = page.parent / path if path else page
+        if "://" in target:
+            continue
+        if not file.exists() or heading and heading not in headings_of(file):
+            faults.append(f"the link {target!r} leads nowhere")
+    return faults
+
+
+def crate_faults(text):
+    """The lines of `crates.txt` in a text that aren't those of the file."""
+    lines = lines_of(ROOT / "crates.txt")
+    known = {line.split(":")[0].split()[0]: line for line in lines if line and line[0] != "#"}
+    told = re.findall(r"(?:^    |`)([a-z_]+:(?: [a-z_]+)*)(?:$|`)", text, re.M)
+    return [
+        f"{line!r} isn't the line of crates.txt"
+        for line in told
+        if line.split(":")[0] in known and line != known[line.split(":")[0]]
+    ]
+
+
+def told_faults(page):
+    text = "\n".join(lines_of(page))
+    return link_faults(page, text) + crate_faults(text)
+
+
+def are_wrong_tellings_found():
+    """Whether a wrong link, a wrong heading and a wrong line of crates.txt are found out."""
+    page = ROOT / "README.md"
+    wrong = [link_faults(page, text) for text in ("[a](docs/none.md)", "[a](docs/map.md#none)")]
+    return all(wrong) and bool(crate_faults("    signals: generational_core"))
+
+
 def faults_in(blocks, sources):
     return [fault for fault in (fault_of(block, sources) for block in blocks) if fault]
 
@@ -132,7 +176,7 @@ def main(words):
         if not blocks and page.name in WITH_CODE:
             print(f"{page}: no code is on the page", file=sys.stderr)
             status = 1
-        for fault in faults_in(blocks, sources):
+        for fault in faults_in(blocks, sources) + told_faults(page):
             print(f"{page}: {fault}", file=sys.stderr)
             status = 1
         if words == ["--try"] and status == 0:
@@ -148,8 +192,11 @@ def main(words):
     if words == ["--try"] and not example_faults({path: [] for path in sources})[0]:
         print("examples that stand nowhere aren't refused", file=sys.stderr)
         status = 1
+    if words == ["--try"] and not are_wrong_tellings_found():
+        print("a wrong link or line of crates.txt isn't refused", file=sys.stderr)
+        status = 1
     if status == 0:
-        print(f"the pages' code, and {count} examples, are what the gate proves and runs")
+        print(f"the pages' code, links and lines of crates.txt, and {count} examples, are true")
     return status
 
 
