@@ -68,9 +68,6 @@ module _ {T : Type 0} (fs : List (Family T)) where
         (cases_eq (slot_in n) up)
 
     module _ (top : Node T) where
-      pub part_begun : IsPart top (top ∷ []) 0
-      part_begun = record { within = omega arith; level = refl }
-
       pub part_more : (list more : List (Node T)) (next : ℕ) (n d : Node T) → IsPart top list next
           → next < length list → n ≡ get_or list next d
           → more ≡ list ++ children_at fs (slot_in n) → IsPart top more (next + 1)

@@ -1,7 +1,6 @@
 -- A tree's store: its live nodes and its slots.
 use Rattle.std.specs.FinMap as map
-use Rattle.std.specs.FinSet as set
-use Rattle.std.proofs.Common.{◌≡◌, ◌≢◌, ◌<◌, ◌+◌, ℕ, true, false, cond, Option, None, Some, refl, sym, ap, subst}
+use Rattle.std.proofs.Common.{◌≡◌, ◌≢◌, ◌<◌, ◌+◌, true, false, cond, Option, None, Some, refl, sym, ap}
 use Rattle.std.proofs.Common.{◌∙◌, ⊎_elim, arith, inl, inr}
 use Rattle.std.specs.Cmp.{nat_cmp_total}
 use Rattle.std.specs.Prelude.{◌⊎◌, ◌-◌, is_some}
@@ -21,7 +20,7 @@ use Rattle.generational_core.specs.Machine.Answer.{Done, Made, Old}
 use Rattle.generational_core.specs.Names.{Name, NameMap, change, change_if, name_cmp}
 use Rattle.generational_core.specs.Seeing.{value_in}
 use Rattle.generational_core.specs.Slots.{last_name, slots, slots_of}
-use Rattle.generational_core.specs.State.{State, IsGiven, IsSound}
+use Rattle.generational_core.specs.State.{State, IsSound}
 use Rattle.generational_core.specs.Steps.{Meets}
 use Rattle.generational_core.specs.declared.boxes.GenerationalPointer.{GenerationalPointer}
 use Rattle.generational_errors.specs.declared.error.Location.{Location}
@@ -33,7 +32,7 @@ use Rattle.generational_core.proofs.machine.Linking.{sound_linked}
 use Rattle.generational_core.proofs.machine.Releasing.{done_only}
 use Rattle.generational_core.proofs.maps.Maps.{name_total}
 use Rattle.generational_core.proofs.machine.Ends.{some_live}
-use Rattle.generational_core.proofs.machine.Seeing.{led_box, reaches}
+use Rattle.generational_core.proofs.machine.Seeing.{reaches}
 use Rattle.generational_core.proofs.machine.Stepping.{act_start, made_new, meets_cases}
 use Rattle.generational_sessions.specs.PlainStores.{IsSimple}
 use Rattle.generational_sessions.proofs.callers.Ids.{seen_cell, seen_store}

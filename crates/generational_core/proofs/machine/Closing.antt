@@ -65,23 +65,7 @@ module _ {T : Type 0} where
   swept_refers m (Some (Value c l)) named = refl
   swept_refers m (Some (Ref k l)) named = refl
 
-  -- a sweep leaves Refs alone
-  pub sweep_names : (cells : NameMap (Cell T)) (m : Name)
-      → is_named (sweep cells) m ≡ is_named cells m
-  sweep_names cells m = named_same (sweep cells) cells m (λ k.
-      ap (refers_to m) (get-swept cells k) ∙ swept_refers m (map.get cells k) (is_named cells k))
-
-  -- so does another cell at a name, where neither it nor the old one is a Ref to m, or both are
-  pub insert_names : (cells : NameMap (Cell T)) (n : Name) (c : Cell T) (m : Name)
-      → refers_to m (map.get cells n) ≡ refers_to m (Some c)
-      → is_named (map.insert cells n c) m ≡ is_named cells m
-  insert_names cells n c m same = named_same (map.insert cells n c) cells m (λ k. ⊎_elim
-      (λ is. ap (λ x. refers_to m (map.get (map.insert cells n c) x)) is
-      ∙ (ap (refers_to m) (get-insert_here by_name cells n c)
-      ∙ (sym same ∙ ap (λ x. refers_to m (map.get cells x)) (sym is))))
-      (λ ne. ap (refers_to m) (get-insert_apart by_name cells n c k ne)) (name_cases k n))
-
-  -- and the end of a cell that is no Ref to m
+  -- the end of a cell that is no Ref to m leaves what names m
   pub remove_names : (cells : NameMap (Cell T)) (n m : Name)
       → refers_to m (map.get cells n) ≡ false → is_named (map.remove cells n) m ≡ is_named cells m
   remove_names cells n m other = named_same (map.remove cells n) cells m (λ k. ⊎_elim

@@ -64,18 +64,6 @@ module _ {T : Type 0} where
     named = λ m. named_plain cells n c none plain m (linked.named m);
   }
 
-  -- so a Value may come at any time
-  pub value_linked : (cells : NameMap (Cell T)) (n : Name) (c : Content T) (l : Location)
-      → IsLinked cells → map.get cells n ≡ None → IsLinked (map.insert cells n (Value c l))
-  value_linked cells n c l linked none =
-      born_linked cells n (Value c l) linked none refl (λ m k e. absurd cc)
-
-  -- and a Ref to a Shared cell
-  pub ref_linked : (cells : NameMap (Cell T)) (n m : Name) (l : Location) → IsLinked cells → map.get
-      cells n ≡ None → is_shared (map.get cells m) ≡ true → IsLinked (map.insert cells n (Ref m l))
-  ref_linked cells n m l linked none shared = born_linked cells n (Ref m l) linked none refl
-      (λ q k e. subst (λ x. is_shared (map.get cells x) ≡ true) (target_of m q l k e) shared)
-
   -- a Shared cell and a Ref to it
   pub pair_linked : (cells : NameMap (Cell T)) (m n : Name) (c : Content T) (l j : Location)
       → IsLinked cells → m ≢ n → map.get cells m ≡ None → map.get cells n ≡ None

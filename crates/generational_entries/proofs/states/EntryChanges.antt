@@ -2,7 +2,7 @@
 use Rattle.generational_entries.proofs.Common
 use Common.{ap, Bool, change_entry, change_entry_if, cond, Entry, eq-eqb, eqb-true, false}
 use Common.{false≢true, get_other, IfSome, List, nat_eq, None, Option, refl, set-own, set_apart}
-use Common.{set_twice, set_written, slice_get, slice_set, Some, subst, sym, true, ℕ, ◌∙◌, ◌≡◌}
+use Common.{set_twice, set_written, slice_get, slice_set, Some, sym, true, ℕ, ◌∙◌, ◌≡◌}
 
 module _ {T : Type 0} where
   pub change_own : (slots : List (Entry T)) (i : ℕ) (f : Entry T → Entry T) {e : Entry T}
@@ -10,17 +10,6 @@ module _ {T : Type 0} where
   change_own slots i f {e} there =
       rw there ((set_written slots i (f e) e there).at i
       ∙ ap (λ b. cond b (Some (f e)) (slice_get slots i)) (eq-eqb i i refl))
-
-  -- what holds of the slot that changed
-  pub change_here : (slots : List (Entry T)) (i : ℕ) (f : Entry T → Entry T)
-      (P : Entry T → Type 0) → IfSome (slice_get slots i) (λ e. P (f e))
-      → IfSome (slice_get (change_entry slots i f) i) P
-  change_here slots i f P h = at (slice_get slots i) refl h
-    where
-      at : (o : Option (Entry T)) → slice_get slots i ≡ o → IfSome o (λ e. P (f e))
-          → IfSome (slice_get (change_entry slots i f) i) P
-      at None empty h = rw (ap (change_entry_if slots i f) empty) (rw empty h)
-      at (Some e) there h = subst (λ o. IfSome o P) (sym (change_own slots i f there)) h
 
   -- the others are as they were
   pub change_away : (slots : List (Entry T)) (i k : ℕ) (f : Entry T → Entry T) → (i ≡ k → ⊥)

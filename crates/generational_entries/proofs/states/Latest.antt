@@ -2,7 +2,7 @@
 use Rattle.generational_entries.proofs.Common
 use Rattle.generational_entries.proofs.states
 use Common.{ap, AreIndexed, AreRoomy, arith, Bool, Borrow, Cell, cell_at, cell_in, cell_of}
-use Common.{change_entry, change_entry_if, common_steps, Content, content_in, content_of, Empty}
+use Common.{change_entry, change_entry_if, common_steps, Content, content_in, Empty}
 use Common.{entries_of, Entry, entry_of, EntryDetails, EntryList, eq-eqb, eqb-true, false}
 use Common.{false≢true, get_left, get_or, get_other, has_no_borrow, HasApart, Here, IfSome}
 use Common.{if◌then◌else◌, is_noted, is_reader, is_some, is_writer, IsAlone, IsNoted, IsReadable}
@@ -356,16 +356,6 @@ module _ {T : Type 0} where
       → (is_reader s ≡ true → b.ticket ≡ t → ⊥) → may_join s b.ticket (content_in k) ≡ true
       → value_for t (content_in k) ≡ value_for t (content_in (with_content (joined s b) k))
   opens_same s b t k apart other fits = grind (arith, nat_tests)
-
-  -- it leaves the value that is seen in passing
-  pub peeks_same : (s : Standing) (b : Borrow) (k : Kept T) → is_noted s ≡ true
-      → may_join s b.ticket (content_in k) ≡ true
-      → value_of (content_in k) ≡ value_of (content_in (with_content (joined s b) k))
-  peeks_same s b k apart fits = grind (arith, nat_tests)
-
-  -- whose a value is told of every content
-  pub kinds_hold : (c : Option (Cell T)) → is_some (kind_in c) ≡ is_some (content_of c)
-  kinds_hold c = grind arith
 
   -- other slots are as they were
   pub noted_away : (r : LastBorrow) (slots : List (Entry T)) → IsNoted r slots → (k : ℕ)
