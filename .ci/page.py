@@ -26,7 +26,7 @@ SOURCES = [
 
 
 # The crates whose calls have examples.
-CALLS = ["generational_core", "generational_box", "generational_sessions"]
+CALLS = ["generational_errors", "generational_core", "generational_box", "generational_sessions"]
 
 
 def lines_of(path):

@@ -79,7 +79,11 @@ impl ValueDroppedError {
         ValueDroppedError { created_at }
     }
 
-    /// Where the box was made.
+    /// Where the box was made. Takes no memory.
+    ///
+    /// ```rust
+    /// BorrowMutError::Dropped(gone) => Some(gone.created_at()),
+    /// ```
     pub fn created_at(&self) -> Location
         ensures { result ≡ self.now.created_at }
     {
@@ -116,6 +120,10 @@ impl AlreadyBorrowedMutError {
     }
 
     /// Where the writer began. Takes no memory.
+    ///
+    /// ```rust
+    /// BorrowMutError::AlreadyBorrowedMut(written) => Some(written.borrowed_mut_at()),
+    /// ```
     pub fn borrowed_mut_at(&self) -> Location
         ensures { result ≡ self.now.borrowed_mut_at }
     {
@@ -162,6 +170,10 @@ impl AlreadyBorrowedError {
     }
 
     /// Where the readers began, in this order. Takes no memory.
+    ///
+    /// ```rust
+    /// BorrowMutError::AlreadyBorrowed(read) => read.borrowed_at().first().copied(),
+    /// ```
     pub fn borrowed_at(&self) -> &[Location]
         ensures { result.now ≡ self.now }
     {

@@ -2,8 +2,8 @@
 
 use crate::expected::{assert_same, made, read, written};
 use generational_box::{
-    AnyStorage, BoxAt, Call, GenerationalBox, Numbers, Owner, Reply, Session, Storage, Store,
-    StoreError, UnsyncStorage,
+    AnyStorage, BorrowMutError, BoxAt, Call, GenerationalBox, Location, Numbers, Owner, Reply,
+    Session, Storage, Store, StoreError, UnsyncStorage, ValueDroppedError,
 };
 use std::alloc::Global;
 use std::test::Fail;
@@ -72,6 +72,15 @@ fn exchange<S: Storage<u64>>(
     let old = guard.replace(value);
     let _ = guard.release(store);
     Ok(Some(old))
+}
+
+/// What a refused write tells: where a reader or the writer began, or where the value was made.
+fn met_at(refused: &BorrowMutError) -> Option<Location> {
+    match refused {
+        BorrowMutError::AlreadyBorrowed(read) => read.borrowed_at().first().copied(),
+        BorrowMutError::AlreadyBorrowedMut(written) => Some(written.borrowed_mut_at()),
+        BorrowMutError::Dropped(gone) => Some(gone.created_at()),
+    }
 }
 
 /// Two owner values of one record.
@@ -154,6 +163,8 @@ fn examples_of_calls(rt: HostRuntime) -> Result<(), Fail> {
     assert_same(&rt, &set(&mut store, kept), &Some(8));
     assert_same(&rt, &exchange(&mut store, kept, 9), &Ok(Some(8)));
     assert_same(&rt, &read_free(&mut store, kept), &Ok(Some(9)));
+    let gone = BorrowMutError::Dropped(ValueDroppedError::new(made()));
+    assert_same(&rt, &met_at(&gone), &Some(made()));
     assert_same(&rt, &run(alloc, make_late(alloc)), &Some(7));
     assert_same(&rt, &call(alloc, make_late(alloc)), &Some(u64::MAX));
     Ok(())
