@@ -353,9 +353,12 @@ impl<T> GenerationalBox<T> {
         Ok(box_at(raw))
     }
 
-    /// The box of an id that was kept: exactly where a live box of this store has the id. It is the
-    /// box that was made, with the location where it was made. An id whose cell has ended is never
-    /// had by another. Takes no memory, and is O(1).
+    /// The box of an id that was kept, with the location where it was made: exactly where a live box of
+    /// this store has the id. None where that has ended, or is of another store; no other box ever gets
+    /// its id. A shared value has no box of its own, but its references have. Takes no memory, and is
+    /// O(1).
+    ///
+    /// Upstream has no such call.
     ///
     /// ```rust
     /// let found = GenerationalBox::find(store, kept.id());

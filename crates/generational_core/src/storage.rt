@@ -33,7 +33,7 @@ use generational_errors::{
 /// What a store of values of one type does, whatever it keeps.
 ///
 /// Every clause speaks of the abstract state alone, and says that the call is a step of the
-/// machine (`docs/machine.md`). The trait is implemented by this crate's sequential stores.
+/// machine (`docs/machine.md`). The sequential stores of `generational_box` implement it.
 pub trait AnyStorage<T> {
     /// The state of the abstract machine for which the store stands.
     ghost state: { Self → State T };
