@@ -6,15 +6,16 @@ use Rattle.generational_slots.specs.SlotsState
 pub use Rattle.std.proofs.Common.{arith, Bool, cond, Err, false, IfErr, IfSome, inl, inr, is_none}
 pub use Rattle.std.proofs.Common.{is_ok, is_some, IsSome, IsTrue, List, nat_eq, None, not, Ok}
 pub use Rattle.std.proofs.Common.{OnErr, OnOk, Option, option_copied, refl, Result, Some, subst}
-pub use Rattle.std.proofs.Common.{sym, true, ℕ, [], ⊎_elim, ◌&&◌, ◌++◌, ◌+◌, ◌<◌, ◌||◌, ◌↔◌, ◌∙◌}
+pub use Rattle.std.proofs.Common.{sym, true, ℕ, [], ⊎_elim, ◌+◌, ◌<◌, ◌||◌, ◌↔◌, ◌∙◌}
 pub use Rattle.std.proofs.Common.{ap, ◌∷◌, ◌≡◌, ◌≢◌, ◌≤◌, ◌⊎◌}
-pub use Rattle.std.proofs.lemmas.{Bool.lt-ltb, Bool.ne_eqb, Bool.true≢false, Cmp.eq_by_cmp_equiv}
-pub use Rattle.std.proofs.lemmas.{Map.Keys.IsDistinct-push, Option.none-some}
-pub use Rattle.std.proofs.lemmas.Bool.{eq-eqb, eqb-true, false_from_ne_true, false≢true, le-ltb}
+pub use Rattle.std.proofs.lemmas.{Bool.cond_both, Bool.Decides.nat_tests, Bool.lt-ltb, Bool.ne_eqb}
+pub use Rattle.std.proofs.lemmas.{Bool.or_parts, Cmp.eq_by_cmp_equiv, Map.Keys.IsDistinct-push}
+pub use Rattle.std.proofs.lemmas.Bool.{eq-eqb, false_from_ne_true, false≢true, le-ltb}
 pub use Rattle.std.specs.{Cmp.IsEquivalence, Cmp.nat_cmp_total, Cmp.nat_eq_equiv, Option.option_or}
-pub use Rattle.std.specs.List.{AllByRecursion, filter, list_any}
+pub use Rattle.std.specs.List.{AllByRecursion, list_any}
 pub use Rattle.std.specs.Ordering.{eq_by_cmp, nat_cmp}
-pub use Rattle.generational_containers.{proofs.records.Places.reserved_room, specs.Borrows.AreBelow}
+pub use Rattle.generational_containers.{proofs.lists.Tickets.none_left, specs.Borrows.AreBelow}
+pub use Rattle.generational_containers.proofs.records.Places.{reserved_room}
 pub use Rattle.generational_containers.specs.{CellNames.name_of_cell, OwnerRecords.record_of}
 pub use Rattle.generational_containers.specs.OwnerRecords.{add_to_list_in, AreCounted, IsCounted}
 pub use Rattle.generational_containers.specs.OwnerRecords.{IsListed, IsRefusal, knows, permits}
@@ -24,7 +25,7 @@ pub use proofs.machine.{Rows.all_owners_read, Rows.read_append, Soundness.fresh_
 pub use proofs.maps.Maps.{by_name, by_number, changed_there, contains-insert_name, get-insert_apart}
 pub use proofs.maps.Maps.{get-insert_here, insert_there, key_same, name_apart, name_cases}
 pub use specs.{Borrowing.BorrowRefusal.BeingRead, Borrowing.BorrowRefusal.Dropped, Slots.free}
-pub use specs.{Conditions.names_under, State.Owners, State.Ownership, State.State, State.tickets_of}
+pub use specs.{Conditions.names_under, State.Owners, State.Ownership, State.State}
 pub use specs.{Seeing.value_reached, Sound.IsBounded-prop, Sound.IsSound-prop, Sound.SoundState}
 pub use specs.Answers.{back_answer, end_answer, end_refused, refusal_of_error}
 pub use specs.Answers.{refusal_of_read_error, WriteGuard}
@@ -33,8 +34,8 @@ pub use specs.Borrowing.{refusal_at, write_refusal}
 pub use specs.Boxes.{box_of, has_same_id, id_of, name_in, name_of}
 pub use specs.Cells.{Cell, Content, content_of, is_shared, location_of, refill}
 pub use specs.Cells.{Cell.Ref, Cell.Shared, Cell.Value, Content.Here, Content.Lent}
-pub use specs.Conditions.{count_in, count_under, fresh, IsBounded, IsFresh, IsLinked, names_in}
-pub use specs.Ending.{cells_after, close, first_hindrance, hindrance_at, hindrance_of}
+pub use specs.Conditions.{count_under, fresh, IsBounded, IsFresh, IsLinked, names_in}
+pub use specs.Ending.{cells_after, close, first_hindrance, hindrance_at}
 pub use specs.Machine.{act, Action, add_cell, add_to_list, cell_at, has_reader, has_writer}
 pub use specs.Machine.{is_known, make, NewNames, next_guard, own_cell, OwnerName, ownership, point}
 pub use specs.Machine.{Outcome, read_at, refer, unless, write_at}
@@ -46,7 +47,7 @@ pub use specs.Plain.{bare_cells, Plain, plain}
 pub use specs.Rows.{owner_rows, read_rows, ReadBack, rows_of, told_by}
 pub use specs.State.{content_at, HasTargets, IsBoxed, IsSound, one_less, one_listed, one_more}
 pub use specs.StepCalls.{is_free, is_hindered, is_ready, may_set, owner_of, tells_of_borrow}
-pub use specs.Steps.{IsNew, last_ticket, limit_tickets, Meets, needs_memory, no_names, takes_ticket}
+pub use specs.Steps.{IsNew, last_ticket, limit_tickets, Meets, needs_memory, no_names}
 pub use specs.declared.{borrow.Borrow.Borrow, boxes.GenerationalPointer.GenerationalPointer}
 pub use specs.declared.{boxes.GenerationalBoxId.GenerationalBoxId, rows.BaseRow.BaseRow}
 pub use specs.declared.steps.StepCall.TheVariants.{ManuallyDrop}

@@ -2,12 +2,12 @@
 use Rattle.generational_containers.specs
 use Rattle.std.proofs
 pub use proofs.Common.{All, ap, append-nil, arith, Bool, Bor, cond, drop, Err, false, get_or}
-pub use proofs.Common.{IfSome, if◌then◌else◌, inl, inr, is_eq, is_lt, is_some, IsSome, length}
+pub use proofs.Common.{IfSome, if◌then◌else◌, inl, inr, is_some, IsSome, length}
 pub use proofs.Common.{length-append, Less, List, map, nat_cmp, nat_eq, None, not, Ok, OnSome}
 pub use proofs.Common.{Option, option_map, refl, reverse, rules, slice_get, slice_set, Some, subst}
 pub use proofs.Common.{suc, sym, T, take, true, true≢false, zero, ℕ, [], ⊎_elim, ◌&&◌, ◌++◌, ◌+◌}
 pub use proofs.Common.{◌-◌, ◌<◌, ◌||◌, ◌∙◌, ◌∷◌, ◌≡◌, ◌≢◌, ◌≤◌}
-pub use proofs.Math.{Dec.eqb-suc-suc, Dec.eqb-suc-zero, Dec.eqb-zero-suc, Seq.take-nil}
+pub use proofs.Math.{Seq.take-nil}
 pub use proofs.lemmas.{Bool.or_parts, Bool.Decides.nat_tests, List.Sorted.answers_always}
 pub use proofs.lemmas.Bool.{cases_Bool, cases_eq, cases_lt, eq-eqb, eqb-true, false≢true, ne_eqb}
 pub use proofs.lemmas.Cmp.{ranked}
@@ -33,8 +33,7 @@ pub use specs.OwnerPlaces.{record_in, Records, with_ownership, with_rooms}
 pub use specs.OwnerRecords.{add_to_list_in, knows, record_of}
 pub use specs.Table.{IsTable}
 pub use Rattle.generational_core.proofs.maps.Maps.{by_number, changed_there, get-changed_none}
-pub use Rattle.generational_core.proofs.maps.Maps.{get-remove_apart, get-remove_here, insert_there}
-pub use Rattle.generational_core.proofs.maps.Maps.{key_apart, key_here, key_same}
+pub use Rattle.generational_core.proofs.maps.Maps.{get-remove_apart, insert_there, key_same}
 pub use Rattle.generational_core.specs.{Boxes.id_of, Conditions.names_in, Conditions.names_under}
 pub use Rattle.generational_core.specs.{Machine.OwnerName, Names.Name, StepCalls.owner_of}
 pub use Rattle.generational_core.specs.Rows.{owner_rows, reader_row, record_rows}

@@ -2,20 +2,23 @@
 use Rattle.generational_entries.specs
 use Rattle.generational_containers.proofs.lists
 use Rattle.std.proofs
-pub use proofs.{Common.◌⊎◌, Math.Seq.get_or-append_seam, lemmas.Grind.common_steps}
+pub use proofs.{Math.Seq.get_or-append_seam, lemmas.Grind.common_steps}
 pub use proofs.Common.{ap, append-nil, arith, Bool, cond, Err, false, IfSome, if◌then◌else◌, inl}
 pub use proofs.Common.{inr, is_none, is_some, length, length-append, List, nat_eq, None, OnErr}
 pub use proofs.Common.{OnOk, Option, option_copied, refl, Result, slice_get, slice_set, Some, subst}
-pub use proofs.Common.{suc, sym, true, zero, ℕ, [], ◌++◌, ◌+◌, ◌-◌, ◌<◌, ◌∙◌, ◌∷◌, ◌≡◌, ◌≢◌, ◌≤◌}
+pub use proofs.Common.{suc, sym, true, zero, ℕ, [], ⊎_elim, ◌++◌, ◌+◌, ◌-◌, ◌<◌, ◌∙◌, ◌∷◌, ◌≡◌, ◌≢◌}
+pub use proofs.Common.{◌≤◌}
 pub use proofs.Math.ListN.{get_or, get_or-append, get_or-eq_default}
 pub use proofs.lemmas.{Bool.Decides.nat_tests, Option.slice_get_within, Result.on_ok_weaker}
-pub use proofs.lemmas.Bool.{cases_lt, eq-eqb, eqb-true, false≢true, ne_eqb, true≢false}
+pub use proofs.lemmas.Bool.{cases_Bool, cases_eq, eq-eqb, eqb-true, false≢true, ne_eqb, true≢false}
 pub use proofs.lemmas.List.{get_or-set_other, get_or-set_same, length-set}
-pub use proofs.lemmas.Option.{none-some, slice_get_cases, slice_get_past, slice_get_read}
+pub use proofs.lemmas.Option.{IfSome_then, none-some, slice_get_cases, slice_get_past}
+pub use proofs.lemmas.Option.{slice_get_read}
 pub use Rattle.std.specs.{Cmp.nat_cmp_total, List.list_any, Ordering.nat_cmp}
 pub use Rattle.generational_containers.{proofs.lists.Lists.set_written, specs.Lists.how_many}
 pub use lists.Lists.{bit, contains-insert_at, contains-remove_at, fewer_within, get_left, get_other}
-pub use lists.Lists.{IsWritten, passes, push_written, set-own, set_apart, set_left, set_twice}
+pub use lists.Lists.{get_own, IsWritten, passes, push_written, set-own, set_apart, set_left}
+pub use lists.Lists.{set_twice}
 pub use Rattle.generational_containers.specs.{Borrows.AreBelow, CellNames.name_of_cell}
 pub use Rattle.generational_containers.specs.Table.{IsClosed, IsUsed, IsVacant, list_at, no_index}
 pub use Rattle.generational_containers.specs.Table.{put_list, Releases, Table}

@@ -15,4 +15,3 @@ unfoldable pub use states.States.*
 unfoldable pub use states.Turning.*
 unfoldable pub use states.Turns.*
 pub use Common.{count_of}
-pub use states.Hindrance.{reached_free}

@@ -6,13 +6,7 @@
 #[cfg(test)]
 mod beside;
 #[cfg(test)]
-mod gates;
-#[cfg(test)]
 mod memory;
-#[cfg(test)]
-mod places;
-#[cfg(test)]
-mod recorder;
 #[cfg(test)]
 mod rows;
 #[cfg(test)]
@@ -23,5 +17,3 @@ mod stages;
 mod unshared;
 #[cfg(test)]
 mod waking;
-#[cfg(test)]
-mod workers;

@@ -1,7 +1,8 @@
 //! What finds no memory leaves no step. Each test passes whichever one allocation is refused: what
 //! lacks memory is called a second time.
 
-use crate::stages::{Scenario, plays_with_little_memory};
+use crate::stages::plays_with_little_memory;
+use shared_scenes::Scenario;
 use std::test::*;
 
 #[test]

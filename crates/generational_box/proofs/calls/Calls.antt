@@ -3,38 +3,24 @@ use Rattle.generational_box.proofs.Common
 use Common.{act, Action, ap, AreBelow, arith, Back, back_answer, BeingRead, Bool, Borrow}
 use Common.{BorrowMutError, BorrowRefusal, BorrowRefused, by_name, Cell, cell_at, change}
 use Common.{change_content, change_content_if, changed_there, cond, Content, content_at, content_of}
-use Common.{Dropped, end_refused, eq-eqb, Err, false, false_from_ne_true, false≢true, fill, filter}
+use Common.{Dropped, end_refused, eq-eqb, Err, false, false_from_ne_true, false≢true, fill}
 use Common.{Flag, FoundBorrowed, GenerationalBoxId, GenerationalPointer, Guard, has_no_borrow}
 use Common.{has_reader, has_writer, Here, id_of, IfErr, IfSome, inl, inr, insert_there, is_ok}
-use Common.{is_shared, is_some, IsBounded, IsBounded-prop, IsFresh, IsSome, IsSound, IsSound-prop}
+use Common.{is_some, IsBounded, IsBounded-prop, IsFresh, IsSome, IsSound, IsSound-prop}
 use Common.{IsTrue, last_ticket, leads_to, Lent, less_read, limit_tickets, List, list_any, Location}
 use Common.{may_lack, Meets, Name, name_in, name_of, nat_eq, nat_eq_equiv, ne_eqb, needs_memory}
-use Common.{next_guard, no_names, None, not, NumbersExhausted, Ok, one_read, OnOk, Option, Outcome}
-use Common.{OutOfMemory, Owners, reach, reached, Read, read_at, read_refusal, readers_of, Reads}
-use Common.{Ref, refill, refl, refusal_at, refusal_to_read, refusal_to_read_at, refusal_to_write}
-use Common.{refusal_to_write_at, Refused, ReleaseReader, ReleaseWriter, Result, Shared, Some}
-use Common.{SoundState, State, subst, sym, takes_ticket, tickets_of, true, true≢false, unless}
-use Common.{Value, value_in, value_reached, with_records, Write, write_at, write_refusal}
-use Common.{WriteGuard, Writes, ℕ, [], ◌&&◌, ◌+◌, ◌<◌, ◌||◌, ◌↔◌, ◌∙◌, ◌∷◌, ◌≡◌, ◌≢◌}
+use Common.{next_guard, no_names, None, none_left, NumbersExhausted, Ok, one_read, OnOk}
+use Common.{Option, Outcome, OutOfMemory, Owners, reach, reached, Read, read_at, read_refusal}
+use Common.{readers_of, Reads, Ref, refill, refl, refusal_to_read, refusal_to_read_at}
+use Common.{refusal_to_write, refusal_to_write_at, Refused, ReleaseReader, ReleaseWriter, Result}
+use Common.{Some, SoundState, State, subst, sym, true}
+use Common.{unless, Value, value_in, value_reached, with_records, Write, write_at, write_refusal}
+use Common.{WriteGuard, Writes, ℕ, [], ◌+◌, ◌<◌, ◌||◌, ◌↔◌, ◌∙◌, ◌∷◌, ◌≡◌, ◌≢◌}
 use Rattle.generational_slots.proofs.states.Reaching.{shared_content}
 use Rattle.std.proofs.Common.{map as list_map}
 use Rattle.std.specs.FinMap as map
 use Rattle.generational_errors.specs.declared.error.Refused.TheVariants as refused
 use Rattle.generational_core.specs.Machine.Answer.{Refused as refuses}
-
--- a list without the ticket stays as it is
-nothing_left : (t : ℕ) (rs : List Borrow) → list_any (λ r. nat_eq r.ticket t) rs ≡ false
-    → filter (λ r. not (nat_eq r.ticket t)) rs ≡ rs
-nothing_left t [] h = refl
-nothing_left t (r ∷ rs) h = at (nat_eq r.ticket t) h (nothing_left t rs)
-  where
-    at : (b : Bool) → (b || list_any (λ r. nat_eq r.ticket t) rs) ≡ false
-        → (list_any (λ r. nat_eq r.ticket t) rs ≡ false
-        → filter (λ r. not (nat_eq r.ticket t)) rs ≡ rs)
-        → cond (not b) (r ∷ filter (λ r. not (nat_eq r.ticket t)) rs)
-        (filter (λ r. not (nat_eq r.ticket t)) rs) ≡ r ∷ rs
-    at true h rest = absurd (true≢false h)
-    at false h rest = ap (λ xs. r ∷ xs) (rest h)
 
 -- the states of equal values of a store
 pub state_is : {T : Type 0} {s r : SoundState T} → s ≡ r → s.state ≡ r.state
@@ -52,9 +38,7 @@ guard_at id t = record { store = id.store; cell = name_in id; ticket = t }
 module _ {T : Type 0} where
   -- a call that gives a ticket, where one is left
   pub within : (S : State T) (out : Outcome T) → S.next < last_ticket → limit_tickets S out ≡ out
-  within S out below = rw (ne_eqb S.next last_ticket (λ e. omega arith)) (elim (takes_ticket out.0)
-      as (λ b. cond (b && false) (refuses NumbersExhausted, S) out ≡ out)
-      [ true ↦ refl | false ↦ refl ])
+  within S out below = rw (ne_eqb S.next last_ticket (λ e. omega arith)) (grind arith)
 
   -- borrows that stand in the way, or no memory for the list of their locations
   pub hindered_step : (S : State T) (call : Action T) (e : Refused BorrowMutError)
@@ -72,21 +56,18 @@ module _ {T : Type 0} where
   filled_own S n c is = λ i. record S { cells = at (map.get S.cells n) refl is i }
     where
       same : (x : Cell T) → content_of (Some x) ≡ Some c → refill c x ≡ x
-      same (Value d l) is = let one : c ≡ d = cc in rw one refl
-      same (Shared d l) is = let one : c ≡ d = cc in rw one refl
-      same (Ref m l) is = refl
+      same x is = grind arith
 
       at : (o : Option (Cell T)) → map.get S.cells n ≡ o → content_of o ≡ Some c
           → change S.cells n (refill c) ≡ S.cells
       at None there is = absurd cc
       at (Some x) there is =
-          changed_there by_name S.cells n (refill c) x there
-          ∙ (ap (map.insert S.cells n) (same x is) ∙ insert_there by_name S.cells n x there)
+          rw (changed_there by_name S.cells n (refill c) x there, same x is)
+          (insert_there by_name S.cells n x there)
 
   -- a content that is there
   the_content : (o : Option (Content T)) → is_some o ≡ true → (c : Content T) × (o ≡ Some c)
-  the_content None h = absurd (false≢true h)
-  the_content (Some c) h = (c, refl)
+  the_content o h = grind arith
 
   -- what stands in no slot and has no owner is a fresh state's
   pub fresh_with : (X : State T) {S : State T} {number next : ℕ} {owners : Owners}
@@ -118,15 +99,11 @@ module _ {T : Type 0} where
     where
       at : (own : Bool) (o : Option (Cell T)) → map.get S.cells (name_of b) ≡ o
           → Some m ≡ cond own (leads_to o (name_of b)) None → is_some (content_at S m) ≡ true
-      at true (Some (Value c l)) is to =
-          let same : m ≡ name_of b = cc in rw (same, is) refl
+      at true (Some (Value c l)) is to = let same : m ≡ name_of b = cc in rw (same, is)
       at true (Some (Ref n l)) is to =
           let same : n ≡ m = cc in
-          shared_content _ (subst (λ x. is_shared (map.get S.cells x) ≡ true) same
-          (sound.targets (name_of b) n l is))
-      at true None is to = absurd cc
-      at true (Some (Shared c l)) is to = absurd cc
-      at false o is to = absurd cc
+          shared_content _ (rw same at (sound.targets (name_of b) n l is))
+      at _ _ is to = absurd cc
 
   -- so something stands there
   pub has_content : {V : State T} {b : GenerationalPointer} {m : Name} → Reaches V b m
@@ -139,36 +116,34 @@ module _ {T : Type 0} where
       (at : n ≡ name_of b) (own : b.id.store ≡ number) where
     pub reach_here : reach (with_records X number owners next) b ≡ reached X n
     unfolding reach
-    reach_here = rw (at, eq-eqb b.id.store number own) refl
+    reach_here = rw (at, eq-eqb b.id.store number own)
 
     pub reach_own : reach S b ≡ reached X n
     reach_own = rw (← view) reach_here
 
     pub sees_own : value_in S b ≡ value_reached X (reached X n)
     unfolding value_in
-    sees_own = rw (← view) (ap (value_reached X) reach_here)
+    sees_own = rw (← view, reach_here)
 
     pub read_own : refusal_to_read S b ≡ refusal_to_read_at X n b.created_at
     unfolding refusal_to_read
-    read_own = rw (← view)
-        (ap (λ o. refusal_at o b.created_at (λ m. read_refusal (content_at X m))) reach_here)
+    read_own = rw (← view, reach_here)
 
     pub write_own : refusal_to_write S b ≡ refusal_to_write_at X n b.created_at
     unfolding refusal_to_write
-    write_own = rw (← view)
-        (ap (λ o. refusal_at o b.created_at (λ m. write_refusal (content_at X m))) reach_here)
+    write_own = rw (← view, reach_here)
 
   -- a box of another store reaches nothing
   pub reach_strange : {V S : State T} → V ≡ S → (b : GenerationalPointer)
       → b.id.store ≢ V.number → None ≡ reach S b
   unfolding reach
-  reach_strange {V} view b strange = rw (← view, ne_eqb b.id.store V.number strange) refl
+  reach_strange {V} view b strange = rw (← view, ne_eqb b.id.store V.number strange)
 
   -- and sees nothing
   pub unseen_strange : {V S : State T} → V ≡ S → (b : GenerationalPointer)
       → b.id.store ≢ V.number → None ≡ value_in S b
   unfolding value_in
-  unseen_strange view b strange = rw (← reach_strange view b strange) refl
+  unseen_strange view b strange = rw (← reach_strange view b strange)
 
   -- ---- calls of boxes
 
@@ -176,16 +151,16 @@ module _ {T : Type 0} where
     -- a box that reaches nothing
     pub read_gone : None ≡ reach S b → Meets S (Read b l) (BorrowRefused (Dropped b.created_at)) S
     unfolding refusal_to_read
-    read_gone none = inl (no_names, tt, rw (← none) refl)
+    read_gone none = inl (no_names, tt, rw (← none))
 
     -- the same
     pub write_gone : None ≡ reach S b → Meets S (Write b l) (BorrowRefused (Dropped b.created_at)) S
     unfolding refusal_to_write
-    write_gone none = inl (no_names, tt, rw (← none) refl)
+    write_gone none = inl (no_names, tt, rw (← none))
 
     -- what stands in the way of a read, and of a write
     pub read_hindered : (t : BorrowRefusal) → refusal_to_read S b ≡ Some t → Meets S (Read b l) (BorrowRefused t) S
-    read_hindered t is = inl (no_names, tt, rw is refl)
+    read_hindered t is = inl (no_names, tt, rw is)
 
     pub write_hindered : (e : Refused BorrowMutError) → FoundBorrowed (refusal_to_write S b) (Err e)
         → Meets S (Write b l) (end_refused e) S
@@ -193,28 +168,31 @@ module _ {T : Type 0} where
         (write_at S l (reach S b) (content_of (cell_at S (reach S b)))) refl found
 
     module _ (X : State T) {number next : ℕ} {owners : Owners} {m : Name}
-        (view : with_records X number owners next ≡ S)
-        (o : Reaches (with_records X number owners next) b m) where
+        (view : with_records X number owners next ≡ S) (sound : IsSound S)
+        (to : reach S b ≡ Some m) where
       abbrev V : State T
       V = with_records X number owners next
+
+      o : Reaches V b m
+      o = reaches view sound (sym to)
 
       -- what stands in the way of a read is the content's own refusal, and so of a write
       reading : refusal_to_read V b ≡ read_refusal (content_at V m)
       unfolding refusal_to_read
-      reading = rw o.to refl
+      reading = rw o.to
 
       writing : refusal_to_write V b ≡ write_refusal (content_at V m)
       unfolding refusal_to_write
-      writing = rw o.to refl
+      writing = rw o.to
 
       -- the guard of the next ticket
       next_is : (id : GenerationalBoxId) → id ≡ id_of number m
           → record { store = id.store; cell = name_in id; ticket = next } ≡ next_guard V m
-      next_is id is = ap (λ x. record { store = x.store; cell = name_in x; ticket = next }) is
+      next_is id is = rw is
 
       -- the readers' tickets are below the next one
-      pub readers_below : IsSound S → AreBelow next (readers_of (content_at V m))
-      readers_below sound = at (content_at V m) refl
+      pub readers_below : AreBelow next (readers_of (content_at V m))
+      readers_below = at (content_at V m) refl
         where
           any_ticket : (t : ℕ) (rs : List Borrow)
               → list_any (nat_eq t) (list_map (λ r. r.ticket) rs)
@@ -223,33 +201,26 @@ module _ {T : Type 0} where
           any_ticket t (r ∷ rs) = λ i. nat_eq_equiv.symm t r.ticket i || any_ticket t rs i
 
           at : (c : Option (Content T)) → content_at V m ≡ c → AreBelow next (readers_of c)
-          at None is t stands = absurd (false≢true stands)
-          at (Some (Lent w)) is t stands = absurd (false≢true stands)
           at (Some (Here v rs)) is t stands =
-              (subst IsSound (sym view) sound).below m t
-              (ap (λ c. list_any (nat_eq t) (tickets_of c)) is ∙ (any_ticket t rs ∙ stands))
+              (subst IsSound (sym view) sound).below m t (rw is (any_ticket t rs ∙ stands))
+          at _ is t stands = absurd cc
 
-      module _ (free : None ≡ read_refusal (content_at V m)) where
+      module _ (free : read_refusal (content_at S m) ≡ None) where
         -- the value is there, with its readers
         here : (v : T) × (rs : List Borrow) × (content_at V m ≡ Some (Here v rs))
-        here = at o.content o.has (free ∙ ap read_refusal o.has)
-          where
-            at : (c : Content T) → content_at V m ≡ Some c → None ≡ read_refusal (Some c)
-                → (v : T) × (rs : List Borrow) × (content_at V m ≡ Some (Here v rs))
-            at (Here v rs) is free = (v, rs, is)
-            at (Lent w) is free = absurd cc
+        here = let has = o.has in grind arith
 
         abbrev begun : Outcome T
         begun = read_at V l (Some m) (Some (Here here.0 here.1))
 
         -- so the read begins, if a ticket is left
         begins : act V (Read b l) no_names ≡ begun
-        begins = rw (reading, ← free, o.to, here.2) refl
+        begins = rw (reading, o.to, here.2)
 
         -- none is left
         pub read_exhausted : next ≡ last_ticket → Meets S (Read b l) (refuses NumbersExhausted) S
         read_exhausted last =
-            rw (← view) (inl (no_names, tt, rw (begins, eq-eqb next last_ticket last) refl))
+            rw (← view) (inl (no_names, tt, rw (begins, eq-eqb next last_ticket last)))
 
         -- one is, and the reader stands at the end of the list
         pub read_begins : (Y : State T) (id : GenerationalBoxId) (g : Guard) → next < last_ticket
@@ -267,20 +238,13 @@ module _ {T : Type 0} where
             → Meets S (Read b l) (refuses OutOfMemory) (with_records Y number owners next)
         unfolding may_lack
         read_lacks Y below same beside =
-            let lack = ap (λ x. needs_memory V (limit_tickets V x).0 (Read b l)) begins
-            ∙ ap (λ (x : Outcome T). needs_memory V x.0 (Read b l)) (within V begun below) in
-            rw (← view, same) (inr (lack ∙ rw o.to beside, refl, refl))
+            rw (← view, same)
+            (inr (rw (begins, within V begun below, needs_memory) (rw o.to beside), refl, refl))
 
-      module _ (free : write_refusal (content_at V m) ≡ None) where
+      module _ (free : write_refusal (content_at S m) ≡ None) where
         -- the value is there, without borrows
         alone : (v : T) × (content_at V m ≡ Some (Here v []))
-        alone = at o.content o.has (sym free ∙ ap write_refusal o.has)
-          where
-            at : (c : Content T) → content_at V m ≡ Some c → None ≡ write_refusal (Some c)
-                → (v : T) × (content_at V m ≡ Some (Here v []))
-            at (Here v []) is free = (v, is)
-            at (Here v (r ∷ rs)) is free = absurd cc
-            at (Lent w) is free = absurd cc
+        alone = let has = o.has in grind arith
 
         -- so no borrow stands there
         pub unborrowed : has_no_borrow (content_at V m) ≡ true
@@ -291,12 +255,12 @@ module _ {T : Type 0} where
 
         -- and the write begins, if a ticket is left
         writes : act V (Write b l) no_names ≡ written
-        writes = rw (writing, free, o.to, alone.1) refl
+        writes = rw (writing, o.to, alone.1)
 
         -- none is left
         pub write_exhausted : next ≡ last_ticket → Meets S (Write b l) (refuses NumbersExhausted) S
         write_exhausted last =
-            rw (← view) (inl (no_names, tt, rw (writes, eq-eqb next last_ticket last) refl))
+            rw (← view) (inl (no_names, tt, rw (writes, eq-eqb next last_ticket last)))
 
         -- one is, and the value is lent
         pub write_begins : (Y : State T) (id : GenerationalBoxId) (g : WriteGuard T) (v : T)
@@ -317,12 +281,12 @@ module _ {T : Type 0} where
     -- a reader's guard of another store
     pub release_strange : Meets S (ReleaseReader g) (Flag false) S
     release_strange =
-        rw (← view) (inl (no_names, tt, rw (same, ne_eqb id.store V.number strange) refl))
+        rw (← view) (inl (no_names, tt, rw (same, ne_eqb id.store V.number strange)))
 
     -- a writer's guard of another store
     pub back_strange : (w v : T) → w ≡ v → Meets S (ReleaseWriter g w) (Back v) S
     back_strange w v value =
-        rw (← view) (inl (no_names, tt, rw (same, value, ne_eqb id.store V.number strange) refl))
+        rw (← view) (inl (no_names, tt, rw (same, value, ne_eqb id.store V.number strange)))
 
   module _ (X : State T) {S : State T} {number next : ℕ} {owners : Owners}
       (view : with_records X number owners next ≡ S) (n : Name) (id : GenerationalBoxId) (t : ℕ)
@@ -349,18 +313,18 @@ module _ {T : Type 0} where
             (λ Z. Meets now (ReleaseReader (guard_at id t)) (Flag false)
             (with_records Z number owners next))
             (sym (ap (fill X (name_in id)) same ∙ filled_own X (name_in id) c there))
-            (inl (no_names, tt, rw (is_own, there, lost) refl))
+            (inl (no_names, tt, rw (is_own, there, lost)))
 
         by : (o : Option (Content T)) → content_at X (name_in id) ≡ o → (known : Bool)
             → known ≡ has_reader o t
             → Meets now (ReleaseReader (guard_at id t)) (Flag known)
             (with_records (change_content_if X (name_in id) (less_read t) o) number owners next)
-        by None there true is = absurd (true≢false is)
-        by None there false is = inl (no_names, tt, rw (is_own, there) refl)
-        by (Some (Here v rs)) there true is = inl (no_names, tt, rw (is_own, there, ← is) refl)
+        by None there true is = absurd cc
+        by None there false is = inl (no_names, tt, rw (is_own, there))
+        by (Some (Here v rs)) there true is = inl (no_names, tt, rw (is_own, there, ← is))
         by (Some (Here v rs)) there false is =
-            stays (Here v rs) there (sym is) (ap (Here v) (nothing_left t rs (sym is)))
-        by (Some (Lent w)) there true is = absurd (true≢false is)
+            stays (Here v rs) there (sym is) (ap (Here v) (none_left t rs (sym is)))
+        by (Some (Lent w)) there true is = absurd cc
         by (Some (Lent w)) there false is = stays (Lent w) there refl refl
 
     -- the value comes back where the writer didn't stand
@@ -371,8 +335,8 @@ module _ {T : Type 0} where
         → Meets S (ReleaseWriter g w) (back_answer r) (with_records Y number owners next)
     put_back Y w v (Ok u) value known ok err =
         let knew : has_writer (content_at now (name_in id)) t ≡ true = rw at at (known.0 refl) in
-        rw (← view, same, value, ok, at) (inl (no_names, tt, rw (is_own, knew) refl))
+        rw (← view, same, value, ok, at) (inl (no_names, tt, rw (is_own, knew)))
     put_back Y w v (Err back) value known ok err =
         let lost : has_writer (content_at now (name_in id)) t ≡ false =
         false_from_ne_true _ (λ h. false≢true (known.1 (rw at h))) in
-        rw (← view, same, value, err.0, err.1) (inl (no_names, tt, rw (is_own, lost) refl))
+        rw (← view, same, value, err.0, err.1) (inl (no_names, tt, rw (is_own, lost)))

@@ -1,12 +1,11 @@
 -- The ends of names, and which calls no borrow hinders, as steps of the machine.
 use Rattle.generational_box.proofs.Common
-use Common.{ap, Bool, BorrowMutError, BorrowRefusal, Cell, cells_after, close, close_nothing, cond}
-use Common.{Content, content_of, Done, End, end_answer, eq-eqb, Err, false, first_hindrance}
-use Common.{FoundBorrowed, GenerationalPointer, Here, hindrance_at, hindrance_of, hindrance_to, inl}
-use Common.{is_none, is_ready, is_some, IsLinked, IsSound, Lent, List, ManuallyDrop, Meets, Name}
-use Common.{name_of, NameMap, ne_eqb, no_names, None, not, Ok, OnErr, OnOk, Option, option_or}
-use Common.{Owners, Ref, refl, Refused, Result, Shared, Some, sound_linked, State, subst, sym}
-use Common.{tells_of_borrow, true, Value, with_records, write_refusal, ℕ, [], ◌∙◌, ◌∷◌, ◌≡◌, ◌≢◌}
+use Common.{arith, Bool, BorrowMutError, BorrowRefusal, Cell, cells_after, close, close_nothing}
+use Common.{Content, content_of, Done, End, end_answer, eq-eqb, Err, first_hindrance, FoundBorrowed}
+use Common.{GenerationalPointer, hindrance_at, hindrance_to, inl, is_none, is_ready, IsLinked}
+use Common.{IsSound, List, ManuallyDrop, Meets, Name, name_of, NameMap, ne_eqb, no_names, not, Ok}
+use Common.{OnErr, OnOk, Option, Owners, refl, Refused, Result, sound_linked, State, subst, sym}
+use Common.{tells_of_borrow, true, with_records, write_refusal, ℕ, [], ◌∙◌, ◌∷◌, ◌≡◌, ◌≢◌}
 use Rattle.generational_box.proofs.calls.Calls.{hindered_step}
 use Rattle.std.specs.FinMap as map
 
@@ -30,12 +29,10 @@ module _ {T : Type 0} where
       pub end_strange : b.id.store ≢ number → Meets S (End b) Done S
       unfolding hindrance_to
       end_strange strange =
-          let closed : close state [] ≡ state =
-          ap (λ cells. record state { cells = cells }) (close_nothing X.cells are_linked) in
           rw (← view) (inl (
             no_names,
             tt,
-            rw (ne_eqb b.id.store number strange) (ap (λ R. (Done, R)) (sym closed)),
+            rw (ne_eqb b.id.store number strange, close_nothing X.cells are_linked),
           ))
 
       -- where it is this store's, its name ends unless a borrow stands in the way
@@ -45,7 +42,7 @@ module _ {T : Type 0} where
           → Meets S (End b) (end_answer r) (with_records Y number owners next)
       unfolding hindrance_to
       end_own n Y (Ok u) at own found ok err = rw (← view, ok, at)
-          (inl (no_names, tt, rw (eq-eqb b.id.store number own, rw at at found) refl))
+          (inl (no_names, tt, rw (eq-eqb b.id.store number own, rw at at found)))
       end_own n Y (Err e) at own found ok err = rw (← view, err)
           (hindered_step state (End b) e (hindrance_to X (n ∷ [])) (Done, close state (n ∷ []))
           (rw (at, eq-eqb b.id.store number own) refl) found)
@@ -54,32 +51,17 @@ module _ {T : Type 0} where
 
   -- what stands in the way of a write
   write_tells : (c : Option (Content T)) → Tells (write_refusal c)
-  write_tells None = refl
-  write_tells (Some (Here v [])) = refl
-  write_tells (Some (Here v (r ∷ rs))) = refl
-  write_tells (Some (Lent w)) = refl
+  write_tells c = grind arith
 
   -- so does what hinders the end of names
   module _ (cells left : NameMap (Cell T)) where
     -- what hinders the end of a cell
     spot_tells : (n : Name) → Tells (hindrance_at cells left n)
-    spot_tells n = elim (is_some (map.get left n)) as (λ b. Tells (cond (not b) (write_refusal
-        (content_of (map.get cells n))) None))
-        [ true ↦ refl | false ↦ write_tells (content_of (map.get cells n)) ]
+    spot_tells n = let tells = write_tells (content_of (map.get cells n)) in grind arith
 
     first_tells : (names : List Name) → Tells (first_hindrance cells left names)
     first_tells [] = refl
-    first_tells (n ∷ rest) = either _ _ (one n (map.get cells n)) (first_tells rest)
-      where
-        one : (n : Name) (o : Option (Cell T)) → Tells (hindrance_of cells left o n)
-        one n None = refl
-        one n (Some (Value c l)) = spot_tells n
-        one n (Some (Shared c l)) = refl
-        one n (Some (Ref m l)) = spot_tells m
-
-        either : (a b : Option BorrowRefusal) → Tells a → Tells b → Tells (option_or a b)
-        either None b h k = k
-        either (Some t) b h k = h
+    first_tells (n ∷ rest) = grind (arith, spot_tells, first_tells rest)
 
   -- and of names of a store
   pub end_tells : (S : State T) (names : List Name) → Tells (hindrance_to S names)
@@ -90,7 +72,7 @@ module _ {T : Type 0} where
     -- an end of another store's box meets none
     pub end_ready_strange : b.id.store ≢ V.number → true ≡ is_ready S (ManuallyDrop b)
     unfolding hindrance_to
-    end_ready_strange strange = rw (← view, ne_eqb b.id.store V.number strange) refl
+    end_ready_strange strange = rw (← view, ne_eqb b.id.store V.number strange)
 
   -- an end meets none where nothing hinders it
   pub end_ready : (X : State T) {S : State T} {number next : ℕ} {owners : Owners}

@@ -1,29 +1,24 @@
 -- The makings of cells, as steps of the machine.
 use Rattle.generational_box.proofs.Common
 use Common.{act, Action, add_cell, add_to_list, add_to_list_in, AllByRecursion, among, ap}
-use Common.{AreCounted, Bool, BorrowRefusal, BorrowRefused, box_of, by_name, Cell, cell_at, cell_of}
-use Common.{cond, contains-insert_name, content_at, Dropped, eq-eqb, false, false≢true, free}
-use Common.{GenerationalPointer, get-insert_apart, get-insert_here, HasTargets, Here, IfSome, inl}
-use Common.{inr, is_known, is_shared, is_some, IsBoxed, IsListed, IsMade, IsNew, IsRefusal, IsSome}
-use Common.{IsSound, kept_data, limit_tickets, List, Location, location_of, lt-ltb, Made, Make}
-use Common.{make, MakeShared, may_lack, Meets, Name, name_apart, name_cases, name_of, names_in}
-use Common.{names_under, needs_memory, NewNames, no_names, None, NumbersExhausted, Option}
-use Common.{option_or, OutOfMemory, OwnerName, Owners, Ownership, permits, reach, reached}
-use Common.{read_refusal, Ref, Refer, refer, refl, refusal_at, refusal_to_read, refusal_to_refer_at}
-use Common.{Shared, shared_reached, SlotsState, Some, State, StorageEntryData, StoreError, subst}
-use Common.{sym, target_of, true, true≢false, UnknownOwner, unless, Value, with_records, ℕ, []}
-use Common.{⊎_elim, ◌<◌, ◌||◌, ◌∙◌, ◌∷◌, ◌≡◌, ◌≢◌, ◌⊎◌}
+use Common.{AreCounted, arith, Bool, BorrowRefusal, BorrowRefused, box_of, by_name, Cell, cell_at}
+use Common.{cell_of, cond, contains-insert_name, content_at, Dropped, false}
+use Common.{free, GenerationalPointer, get-insert_apart, get-insert_here, HasTargets, Here, IfSome}
+use Common.{inl, inr, is_known, is_shared, is_some, IsBoxed, IsListed, IsMade, IsNew, IsRefusal}
+use Common.{IsSome, IsSound, kept_data, limit_tickets, List, Location, location_of, Made}
+use Common.{Make, make, MakeShared, may_lack, Meets, Name, name_apart, name_cases, name_of}
+use Common.{names_in, names_under, nat_tests, needs_memory, NewNames, no_names, None}
+use Common.{NumbersExhausted, Option, option_or, or_parts, OutOfMemory, OwnerName, Owners}
+use Common.{Ownership, permits, reach, reached, read_refusal, Ref, refer, Refer, refl, refusal_at}
+use Common.{refusal_to_read, refusal_to_refer_at, Shared, shared_reached, SlotsState, Some, State}
+use Common.{StorageEntryData, StoreError, subst, sym, target_of, true, UnknownOwner}
+use Common.{unless, Value, with_records, ℕ, [], ⊎_elim, ◌<◌, ◌∙◌, ◌∷◌, ◌≡◌, ◌≢◌, ◌⊎◌}
 use Rattle.generational_box.proofs.calls.Calls.{reach_here, reach_own, read_own}
 use Rattle.generational_box.proofs.records.Counts.{counted_listed}
 use Rattle.generational_core.specs.Machine.Answer.{Refused}
 use Rattle.std.specs.FinMap as map
 use Rattle.std.specs.FinSet as set
 use Rattle.generational_entries.specs.declared.entry.StorageEntryData.TheVariants as slot
-
--- none of two tests passes
-second_false : (a b : Bool) → (a || b) ≡ false → b ≡ false
-second_false true b h = absurd (true≢false h)
-second_false false b h = h
 
 module _ {T : Type 0} where
   -- no owner's list has a name that was never given
@@ -33,11 +28,7 @@ module _ {T : Type 0} where
     where
       all : (ns : List Name) → AllByRecursion (IsBoxed V) ns → among ns n ≡ false
       all [] boxed = refl
-      all (m ∷ ns) boxed = rw (
-        name_apart n m (λ is. true≢false (sym boxed.0.0 ∙ (ap (set.contains V.given) (sym is)
-            ∙ fresh))),
-        all ns boxed.1,
-      ) refl
+      all (m ∷ ns) boxed = rw (name_apart n m (λ is. cc boxed.0.0), all ns boxed.1)
 
       at : (o : Option Ownership) → map.get V.owners k ≡ o → among (names_in o) n ≡ false
       at None is = refl
@@ -52,25 +43,19 @@ module _ {T : Type 0} where
   value_lacks : (V : State T) (b : GenerationalPointer) (v : T) (l : Location)
       (o : Option OwnerName) → IsSome o ⊎ (free V ≡ 0)
       → needs_memory V (Made b) (Make o v l) ≡ true
-  value_lacks V b v l None (inl some) = absurd (false≢true some)
-  value_lacks V b v l None (inr none) = eq-eqb (free V) 0 none
-  value_lacks V b v l (Some o) why = refl
+  value_lacks V b v l o why = grind (arith, nat_tests)
 
   -- the same of a reference
   reference_lacks : (V : State T) (b inner : GenerationalPointer)
       (o : Option OwnerName) → IsSome o ⊎ (free V ≡ 0)
       → needs_memory V (Made b) (Refer o inner) ≡ true
-  reference_lacks V b inner None (inl some) = absurd (false≢true some)
-  reference_lacks V b inner None (inr none) = eq-eqb (free V) 0 none
-  reference_lacks V b inner (Some o) why = refl
+  reference_lacks V b inner o why = grind (arith, nat_tests)
 
   -- and of a shared value with its reference
   pair_lacks : (V : State T) (b : GenerationalPointer) (v : T) (l : Location)
       (o : Option OwnerName) → IsSome o ⊎ (free V < 2)
       → needs_memory V (Made b) (MakeShared o v l) ≡ true
-  pair_lacks V b v l None (inl some) = absurd (false≢true some)
-  pair_lacks V b v l None (inr few) = lt-ltb (free V) 2 few
-  pair_lacks V b v l (Some o) why = refl
+  pair_lacks V b v l o why = grind (arith, nat_tests)
 
   -- ---- references that are refused
 
@@ -79,7 +64,7 @@ module _ {T : Type 0} where
     -- a box that reaches nothing
     pub refer_gone : None ≡ reach S b → Meets S (Refer o b) (BorrowRefused (Dropped b.created_at)) S
     unfolding refusal_to_read
-    refer_gone none = inl (no_names, tt, rw (known, ← none) refl)
+    refer_gone none = inl (no_names, tt, rw (known, ← none))
 
     -- what stands in the way of a reference to what the box's name reaches
     module _ (X : State T) {number next : ℕ} {owners : Owners}
@@ -97,27 +82,17 @@ module _ {T : Type 0} where
             (sym (ap (limit_tickets W) (by (reached X n) is))),
       ))
         where
-          past : (m : Name) (x : Option BorrowRefusal) (cell : Option (Cell T))
-              → option_or x (cond (is_shared cell) None (Some (Dropped b.created_at))) ≡ Some t
-              → unless x W (refer W o b (Some m) cell no_names.first) ≡ (BorrowRefused t, W)
-          past m (Some x) cell is = let same : x ≡ t = cc in rw same refl
-          past m None (Some (Shared c k)) is = absurd cc
-          past m None (Some (Value c k)) is = let same : Dropped b.created_at ≡ t = cc in rw same refl
-          past m None (Some (Ref q k)) is = let same : Dropped b.created_at ≡ t = cc in rw same refl
-          past m None None is = let same : Dropped b.created_at ≡ t = cc in rw same refl
-
           by : (r : Option Name)
               → option_or (refusal_at r b.created_at (λ m. read_refusal (content_at X m)))
               (cond (shared_reached X r) None (Some (Dropped b.created_at))) ≡ Some t
               → unless (refusal_at r b.created_at (λ m. read_refusal (content_at X m))) W
               (refer W o b r (cell_at W r) no_names.first) ≡ (BorrowRefused t, W)
-          by None is = let same : Dropped b.created_at ≡ t = cc in rw same refl
-          by (Some m) is = past m (read_refusal (content_at X m)) (map.get X.cells m) is
+          by r is = grind arith
 
   -- an owner that isn't known
   pub refer_strange : (S : State T) (o : Option OwnerName) (b : GenerationalPointer)
       → is_known S o ≡ false → Meets S (Refer o b) (Refused UnknownOwner) S
-  refer_strange S o b strange = inl (no_names, tt, rw strange refl)
+  refer_strange S o b strange = inl (no_names, tt, rw strange)
 
   -- a shared value that a box reaches, and that isn't lent
   abbrev ReachesShared : State T → GenerationalPointer → Name → Type 0
@@ -149,10 +124,7 @@ module _ {T : Type 0} where
     where
       by : (cell : Option (Cell T)) → is_shared cell ≡ true → location_of cell ≡ Some l
           → refer V o b (Some m) cell f.first ≡ make V o f.first (Ref m l) l
-      by (Some (Shared c k)) shared at = let same : k ≡ l = cc in rw same refl
-      by (Some (Value c k)) shared at = absurd (false≢true shared)
-      by (Some (Ref n k)) shared at = absurd (false≢true shared)
-      by None shared at = absurd (false≢true shared)
+      by cell shared at = grind arith
 
   module _ (s : SlotsState T) {S : State T} {number next : ℕ} {owners : Owners}
       (view : with_records s.state number owners next ≡ S) (o : Option OwnerName) where
@@ -161,7 +133,7 @@ module _ {T : Type 0} where
 
     -- an owner is known to the machine if the records know it
     known : permits number owners o ≡ is_known V o
-    known = elim o as (λ o. permits number owners o ≡ is_known V o) [ None ↦ refl | Some o ↦ refl ]
+    known = grind arith
 
     -- what is reached in the state that contracts see is reached in the store's own
     shared_here : (b : GenerationalPointer) (m : Name) → ReachesShared S b m → ReachesShared V b m
@@ -178,16 +150,14 @@ module _ {T : Type 0} where
     boxed : (X : State T) (n : Name) (c : Cell T)
         → with_records (add_cell X n c) number (add_to_list_in owners o n) next
         ≡ add_to_list (add_cell (with_records X number owners next) n c) o n
-    boxed X n c = elim o as (λ o. with_records (add_cell X n c) number (add_to_list_in owners o n)
-        next ≡ add_to_list (add_cell (with_records X number owners next) n c) o n)
-        [ None ↦ refl | Some o ↦ refl ]
+    boxed X n c = grind arith
 
     -- a value of a box's own
-    pub value_made : (v : T) (l : Location) (r : SlotsState T) (after : Owners) (n : Name)
-        (b : GenerationalPointer) → IsMade s r (Some (Value (Here v []) l)) n
+    pub value_made : {v : T} {l : Location} {r : SlotsState T} {after : Owners} {n : Name}
+        {b : GenerationalPointer} → IsMade s r (Some (Value (Here v []) l)) n
         → IsListed number owners after o n → b ≡ box_of number n l
         → Meets S (Make o v l) (Made b) (with_records r.state number after next)
-    value_made v l r after n b made listed is =
+    value_made {v} {l} {n = n} made listed is =
         rw (← view, is, made.added, listed.1) (inl (
           record { first = n; second = n },
           new_name s.state n made.fits,
@@ -196,15 +166,15 @@ module _ {T : Type 0} where
         ))
 
     -- a reference to a shared value
-    pub reference_made : (inner : GenerationalPointer) (l : Location) (r : SlotsState T)
-        (after : Owners) (m n : Name) (b : GenerationalPointer) (d : StorageEntryData T)
+    pub reference_made : (inner : GenerationalPointer) {l : Location} {r : SlotsState T}
+        {after : Owners} (m n : Name) {b : GenerationalPointer} {d : StorageEntryData T}
         → ReachesShared S inner m
         → location_of (map.get V.cells m) ≡ Some l → d ≡ slot.Reference m.slot m.generation
         → IsMade s r (cell_of (kept_data [] l d)) n
         → IsListed number owners after o n → b ≡ box_of number n l
         → Meets S (Refer o inner) (Made b) (with_records r.state number after next)
-    reference_made inner l r after m n b d reached at content made listed is =
-        let added = subst (λ x. IsMade s r (cell_of (kept_data [] l x)) n) content made in
+    reference_made inner {l} m n reached at content made listed is =
+        let added = rw content at made in
         rw (← view, is, added.added, listed.1) (inl (
           record { first = n; second = n },
           new_name s.state n added.fits,
@@ -218,19 +188,18 @@ module _ {T : Type 0} where
 
     -- ---- a shared value, and then a reference to it
 
-    module _ (q r : SlotsState T) (same : q.state ≡ s.state) (v : T) (l : Location) (m : Name)
+    module _ {q r : SlotsState T} (same : q.state ≡ s.state) {v : T} {l : Location} {m : Name}
         (first : IsMade q r (Some (Shared (Here v []) l)) m) where
       abbrev cell : Cell T
       cell = Shared (Here v []) l
 
       -- the shared value is added
       added : r.state ≡ add_cell s.state m cell
-      added = first.added ∙ ap (λ X. add_cell X m cell) same
+      added = rw same at first.added
 
       -- the shared value stands
       stands : map.get r.state.cells m ≡ Some cell
-      stands = ap (λ (X : State T). map.get X.cells m) added
-          ∙ get-insert_here by_name s.state.cells m cell
+      stands = rw added (get-insert_here by_name s.state.cells m cell)
 
       -- so its name is live
       pub pair_some : IsSome (map.get r.state.cells m)
@@ -239,37 +208,31 @@ module _ {T : Type 0} where
       -- and a reference to it names a shared value
       pub pair_target : (d : StorageEntryData T) → d ≡ slot.Reference m.slot m.generation
           → IfSome (target_of d) (λ k. is_shared (map.get r.state.cells k) ≡ true)
-      pair_target d is = rw is (ap is_shared stands)
+      pair_target d is = rw (is, stands)
 
       -- each Ref still names a Shared cell
       pub pair_targets : IsSound S → HasTargets r.state.cells
-      pair_targets sound n k j at = ⊎_elim
-          (λ e. absurd (refers_shared (sym stands ∙ (ap (map.get r.state.cells) (sym e) ∙ at))))
-          (λ ne. ⊎_elim (λ e. ap (λ x. is_shared (map.get r.state.cells x)) e ∙ ap is_shared stands)
-          (λ apart. ap is_shared (others k apart) ∙ old.targets n k j (sym (others n ne) ∙ at))
+      pair_targets sound n k j at = ⊎_elim (λ e. absurd (cc (stands, ap (map.get r.state.cells) e)))
+          (λ ne. ⊎_elim (λ (e : k ≡ m). rw (e, stands))
+          (λ apart. rw (others k apart) (old.targets n k j (sym (others n ne) ∙ at)))
           (name_cases k m)) (name_cases n m)
         where
           old : IsSound V
           old = subst IsSound (sym view) sound
 
-          refers_shared : Some cell ≡ Some (Ref k j) → ⊥
-          refers_shared e = cc
-
           others : (x : Name) → x ≢ m → map.get r.state.cells x ≡ map.get s.state.cells x
-          others x apart = ap (λ (X : State T). map.get X.cells x) added
-              ∙ get-insert_apart by_name s.state.cells m cell x apart
+          others x apart = rw added (get-insert_apart by_name s.state.cells m cell x apart)
 
       -- the reference is listed
-      module _ (t : SlotsState T) (d : StorageEntryData T) (n : Name) (after : Owners)
+      module _ {t : SlotsState T} {d : StorageEntryData T} {n : Name} {after : Owners}
           (refers_to : d ≡ slot.Reference m.slot m.generation)
           (second : IsMade r t (cell_of (kept_data [] l d)) n)
           (placed : after ≡ add_to_list_in owners o n) where
         -- the reference's name is new to the store as it was
         pub pair_counted : AreCounted next owners → IsSound S → AreCounted next after
         pair_counted counted sound = made_counted counted sound n after
-            (second_false _ _ (sym (contains-insert_name s.state.given m n)
-            ∙ (ap (λ (X : State T). set.contains X.given n) (sym added) ∙ second.fits.ungiven)))
-            placed
+            (or_parts _ _ (rw (added, contains-insert_name s.state.given m n)
+            at second.fits.ungiven)).1 placed
 
         -- a shared value with a reference to it
         pub shared_made : (b : GenerationalPointer) → permits number owners o ≡ true
@@ -277,12 +240,12 @@ module _ {T : Type 0} where
             → Meets S (MakeShared o v l) (Made b) (with_records t.state number after next)
         shared_made b knew is =
             let shared : State T = add_cell s.state m cell in
-            let new : IsNew shared n = subst (λ X. IsNew X n) added second.fits in
-            let made = subst (λ x. IsMade r t (cell_of (kept_data [] l x)) n) refers_to second in
+            let new : IsNew shared n = rw added at second.fits in
+            let made = rw refers_to at second in
             rw (← view, is, made.added, added, placed) (inl (
               record { first = m; second = n },
               (
-                new_name s.state m (subst (λ X. IsNew X m) same first.fits),
+                new_name s.state m (rw same at first.fits),
                 new_name shared n new,
               ),
               rw (sym known ∙ knew)
@@ -302,7 +265,7 @@ module _ {T : Type 0} where
         → act V call no_names ≡ cond (is_known V o) (Made b, R) (Refused UnknownOwner, V)
         → (e : StoreError) → Refuses (needs_memory V (Made b) call) e → Meets V call (Refused e) V
     unfolding may_lack
-    refused call b R acts UnknownOwner is = inl (no_names, tt, rw (acts, sym known ∙ is) refl)
+    refused call b R acts UnknownOwner is = inl (no_names, tt, rw (acts, sym known ∙ is))
     refused call b R acts OutOfMemory is =
         let made = ap (λ x. needs_memory V (limit_tickets V x).0 call)
         (acts ∙ ap (λ k. cond k (Made b, R) (Refused UnknownOwner, V)) (sym known ∙ is.0)) in
@@ -312,18 +275,16 @@ module _ {T : Type 0} where
     -- a making whose answer may lack memory
     module _ (call : Action T) (b : GenerationalPointer) (R : State T) {P : Type 0}
         (acts : act V call no_names ≡ cond (is_known V o) (Made b, R) (Refused UnknownOwner, V))
-        (lacks : IsSome o ⊎ P → needs_memory V (Made b) call ≡ true) (Y : State T) (after : Owners)
+        (lacks : IsSome o ⊎ P → needs_memory V (Made b) call ≡ true) {Y : State T} {after : Owners}
         (same : Y ≡ s.state) (unlisted : after ≡ owners) where
       -- an owner that isn't known, or no memory for its list
       making_refused : (e : StoreError) → IsRefusal number owners o e
           → Meets S call (Refused e) (with_records Y number after next)
-      making_refused e is = rw (← view, same, unlisted) (refused call b R acts e (by e is))
-        where
-          by : (e : StoreError) → IsRefusal number owners o e
-              → Refuses (needs_memory V (Made b) call) e
-          by UnknownOwner is = is
-          by OutOfMemory is = (is.1, lacks (inl is.0))
-          by NumbersExhausted is = is
+      making_refused UnknownOwner is =
+          rw (← view, same, unlisted) (refused call b R acts UnknownOwner is)
+      making_refused OutOfMemory is =
+          rw (← view, same, unlisted) (refused call b R acts OutOfMemory (is.1, lacks (inl is.0)))
+      making_refused NumbersExhausted is = absurd is
 
       -- no memory for its cells
       making_full : permits number owners o ≡ true → P
@@ -331,31 +292,31 @@ module _ {T : Type 0} where
       making_full knew few =
           rw (← view, same, unlisted) (refused call b R acts OutOfMemory (knew, lacks (inr few)))
 
-    module _ (v : T) (l : Location) (Y : State T) (after : Owners) (same : Y ≡ s.state)
+    module _ (v : T) (l : Location) {Y : State T} {after : Owners} (same : Y ≡ s.state)
         (unlisted : after ≡ owners) where
       -- the making of a value
       pub value_refused : (e : StoreError) → IsRefusal number owners o e
           → Meets S (Make o v l) (Refused e) (with_records Y number after next)
       value_refused = making_refused (Make o v l) _ _ refl
-          (value_lacks V (box_of number no_names.first l) v l o) Y after same unlisted
+          (value_lacks V (box_of number no_names.first l) v l o) same unlisted
 
       pub value_full : permits number owners o ≡ true → free s.state ≡ 0
           → Meets S (Make o v l) (Refused OutOfMemory) (with_records Y number after next)
       value_full = making_full (Make o v l) _ _ refl
-          (value_lacks V (box_of number no_names.first l) v l o) Y after same unlisted
+          (value_lacks V (box_of number no_names.first l) v l o) same unlisted
 
       -- and of a shared value
       pub shared_refused : (e : StoreError) → IsRefusal number owners o e
           → Meets S (MakeShared o v l) (Refused e) (with_records Y number after next)
       shared_refused = making_refused (MakeShared o v l) _ _ refl
-          (pair_lacks V (box_of number no_names.second l) v l o) Y after same unlisted
+          (pair_lacks V (box_of number no_names.second l) v l o) same unlisted
 
       pub shared_full : permits number owners o ≡ true → free s.state < 2
           → Meets S (MakeShared o v l) (Refused OutOfMemory) (with_records Y number after next)
       shared_full = making_full (MakeShared o v l) _ _ refl
-          (pair_lacks V (box_of number no_names.second l) v l o) Y after same unlisted
+          (pair_lacks V (box_of number no_names.second l) v l o) same unlisted
 
-    module _ (inner : GenerationalPointer) (m : Name) (Y : State T) (after : Owners)
+    module _ (inner : GenerationalPointer) (m : Name) {Y : State T} {after : Owners}
         (same : Y ≡ s.state) (unlisted : after ≡ owners) (reached : ReachesShared S inner m) where
       -- where the shared value was made
       made_at : (l : Location) × (location_of (map.get V.cells m) ≡ Some l)
@@ -364,19 +325,17 @@ module _ {T : Type 0} where
           at : (c : Option (Cell T)) → is_shared c ≡ true
               → (l : Location) × (location_of c ≡ Some l)
           at (Some (Shared c l)) shared = (l, refl)
-          at None shared = absurd (false≢true shared)
-          at (Some (Value c l)) shared = absurd (false≢true shared)
-          at (Some (Ref n l)) shared = absurd (false≢true shared)
+          at _ shared = absurd cc
 
       -- the making of a reference
       pub reference_refused : (e : StoreError) → IsRefusal number owners o e
           → Meets S (Refer o inner) (Refused e) (with_records Y number after next)
       reference_refused = making_refused (Refer o inner) _ _
           (refers V inner m made_at.0 o no_names (shared_here inner m reached) made_at.1)
-          (reference_lacks V (box_of number no_names.first made_at.0) inner o) Y after same unlisted
+          (reference_lacks V (box_of number no_names.first made_at.0) inner o) same unlisted
 
       pub reference_full : permits number owners o ≡ true → free s.state ≡ 0
           → Meets S (Refer o inner) (Refused OutOfMemory) (with_records Y number after next)
       reference_full = making_full (Refer o inner) _ _
           (refers V inner m made_at.0 o no_names (shared_here inner m reached) made_at.1)
-          (reference_lacks V (box_of number no_names.first made_at.0) inner o) Y after same unlisted
+          (reference_lacks V (box_of number no_names.first made_at.0) inner o) same unlisted

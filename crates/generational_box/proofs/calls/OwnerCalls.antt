@@ -1,12 +1,12 @@
 -- The calls of owners, as steps of the machine.
 use Rattle.generational_box.proofs.Common
-use Common.{act, ap, arith, Bool, BorrowMutError, by_number, change, changed_there, CloneOwner}
-use Common.{close, cond, Done, end_refused, eq-eqb, eqb-true, Err, false, false≢true, FoundBorrowed}
-use Common.{hindrance_to, inl, inr, is_some, knows, last_ticket, le-ltb, List, lt-ltb, may_lack}
-use Common.{Meets, Name, nat_eq, ne_eqb, needs_memory, NewOwner, no_names, None, NumbersExhausted}
-use Common.{one_less, one_more, Option, Outcome, OutOfMemory, Owned, OwnerName, Owners, Ownership}
-use Common.{ownership, record_of, refl, ReleaseOwner, Some, State, subst, sym, true, true≢false}
-use Common.{UnknownOwner, unless, with_records, ℕ, [], ◌+◌, ◌<◌, ◌∙◌, ◌≡◌, ◌≤◌}
+use Common.{act, arith, BorrowMutError, by_number, change, changed_there, CloneOwner}
+use Common.{close, Done, end_refused, eq-eqb, Err, false, FoundBorrowed}
+use Common.{hindrance_to, inl, inr, knows, last_ticket, le-ltb, List, lt-ltb, may_lack}
+use Common.{Meets, Name, nat_eq, nat_tests, ne_eqb, needs_memory, NewOwner, no_names, None}
+use Common.{NumbersExhausted, one_less, one_more, OutOfMemory, Owned, OwnerName}
+use Common.{Owners, Ownership, ownership, record_of, refl, ReleaseOwner, Some, State, subst, sym}
+use Common.{true, UnknownOwner, unless, with_records, ℕ, [], ◌+◌, ◌<◌, ◌∙◌, ◌≡◌, ◌≤◌}
 use Rattle.generational_box.proofs.calls.Calls.{hindered_step, within}
 use Rattle.generational_box.proofs.records.Counts.{record_held}
 use Rattle.generational_core.specs.Machine.Answer.{Refused}
@@ -17,16 +17,15 @@ use Rattle.generational_errors.specs.declared.error.Refused.{Refused as Refusing
 module _ {T : Type 0} {V S : State T} (view : V ≡ S) where
   -- no ticket is left for an owner
   pub new_exhausted : V.next ≡ last_ticket → Meets S NewOwner (Refused NumbersExhausted) S
-  new_exhausted last = rw (← view) (inl (no_names, tt, rw (eq-eqb V.next last_ticket last) refl))
+  new_exhausted last = rw (← view) (inl (no_names, tt, rw (eq-eqb V.next last_ticket last)))
 
   -- there is no memory for its record
   pub new_lacks : (R : State T) → V.next < last_ticket → R ≡ V
       → Meets S NewOwner (Refused OutOfMemory) R
   unfolding may_lack
   new_lacks R below same =
-      let lack = ap (λ (x : Outcome T). needs_memory V x.0 NewOwner)
-      (within V (act V NewOwner no_names) below) in
-      rw (same, ← view) (inr (lack, refl, refl))
+      rw (same, ← view)
+      (inr (rw (within V (act V NewOwner no_names) below, needs_memory), refl, refl))
 
   -- an owner of a new record
   pub new_made : (o : OwnerName) (R : State T) → V.next < last_ticket
@@ -38,36 +37,27 @@ module _ {T : Type 0} {V S : State T} (view : V ≡ S) where
       → Meets S NewOwner (Owned o) R
   new_made o R below is after =
       rw (← view, is, after)
-      (inl (no_names, tt, rw (ne_eqb V.next last_ticket (λ e. omega arith)) refl))
+      (inl (no_names, tt, rw (ne_eqb V.next last_ticket (λ e. omega arith))))
 
   module _ (o : OwnerName) where
     -- no record stands for an owner that isn't known
     lost : knows V.number V.owners o ≡ false → ownership V o ≡ None
-    lost unknown = (elim (ownership V o) as (λ r. is_some r ≡ false → r ≡ None)
-        [ None ↦ λ h. refl | Some h ↦ λ e. absurd (true≢false e) ]) unknown
+    lost unknown = grind arith
 
     -- so it has no other owner value
     pub clone_unknown : knows V.number V.owners o ≡ false
         → Meets S (CloneOwner o) (Refused UnknownOwner) S
-    clone_unknown unknown = rw (← view) (inl (no_names, tt, rw (lost unknown) refl))
+    clone_unknown unknown = rw (← view) (inl (no_names, tt, rw (lost unknown)))
 
     -- and can't be released
     pub release_unknown : knows V.number V.owners o ≡ false
         → Meets S (ReleaseOwner o) (Refused UnknownOwner) S
-    release_unknown unknown = rw (← view) (inl (no_names, tt, rw (lost unknown) refl))
+    release_unknown unknown = rw (← view) (inl (no_names, tt, rw (lost unknown)))
 
     module _ (known : knows V.number V.owners o ≡ true) where
       -- the record of an owner that is known
       held : (h : Ownership) × (o.store ≡ V.number) × (map.get V.owners o.key ≡ Some h)
-      held = at (nat_eq o.store V.number) refl (map.get V.owners o.key) refl known
-        where
-          at : (own : Bool) → nat_eq o.store V.number ≡ own
-              → (r : Option Ownership) → map.get V.owners o.key ≡ r
-              → is_some (cond own r None) ≡ true
-              → (h : Ownership) × (o.store ≡ V.number) × (map.get V.owners o.key ≡ Some h)
-          at true own (Some h) is k = (h, eqb-true o.store V.number own, is)
-          at true own None is k = absurd (false≢true k)
-          at false own r is k = absurd (false≢true k)
+      held = grind (arith, nat_tests)
 
       -- the owner is this store's
       own : nat_eq o.store V.number ≡ true
@@ -78,7 +68,7 @@ module _ {T : Type 0} {V S : State T} (view : V ≡ S) where
           → Meets S (CloneOwner o) (Refused NumbersExhausted) S
       clone_exhausted last =
           rw (← view)
-          (inl (no_names, tt, rw (own, held.2, eq-eqb V.next last_ticket last) refl))
+          (inl (no_names, tt, rw (own, held.2, eq-eqb V.next last_ticket last)))
 
       -- another owner value
       pub clone_made : (r : OwnerName) (R : State T) → V.next < last_ticket
@@ -92,7 +82,7 @@ module _ {T : Type 0} {V S : State T} (view : V ≡ S) where
             after,
             changed_there by_number V.owners o.key one_more held.0 held.2,
           )
-          (inl (no_names, tt, rw (own, held.2, ne_eqb V.next last_ticket (λ e. omega arith)) refl))
+          (inl (no_names, tt, rw (own, held.2, ne_eqb V.next last_ticket (λ e. omega arith))))
 
     -- the owner's record is h
     module _ (h : Ownership) (found : Some h ≡ record_of V.number V.owners o) where
@@ -106,7 +96,7 @@ module _ {T : Type 0} {V S : State T} (view : V ≡ S) where
           → Meets S (ReleaseOwner o) Done R
       release_one R several after =
           rw (← view, after, changed_there by_number V.owners o.key one_less h there)
-          (inl (no_names, tt, rw (← found, lt-ltb 1 h.count several) refl))
+          (inl (no_names, tt, rw (← found, lt-ltb 1 h.count several)))
 
 module _ {T : Type 0} (X : State T) {S : State T} {number next : ℕ} {owners : Owners}
     (view : with_records X number owners next ≡ S) (o : OwnerName) (h : Ownership)
@@ -118,7 +108,7 @@ module _ {T : Type 0} (X : State T) {S : State T} {number next : ℕ} {owners : 
   -- with the last owner value all boxes of the list end, or none
   last_is : act V (ReleaseOwner o) no_names ≡ unless (hindrance_to V h.names) V
       (Done, record (close V h.names) { owners = map.remove owners o.key })
-  last_is = rw (← found, le-ltb 1 h.count few) refl
+  last_is = rw (← found, le-ltb 1 h.count few)
 
   -- a borrow stands in the way
   pub last_refused : (Y : State T) (e : Refusing BorrowMutError) → Y ≡ X
@@ -135,4 +125,4 @@ module _ {T : Type 0} (X : State T) {S : State T} {number next : ℕ} {owners : 
       → Meets S (ReleaseOwner o) Done (with_records Y number after next)
   unfolding hindrance_to
   last_done Y after free closed taken =
-      rw (← view, closed, taken, are) (inl (no_names, tt, rw (last_is, rw are at free) refl))
+      rw (← view, closed, taken, are) (inl (no_names, tt, rw (last_is, rw are at free)))

@@ -1,12 +1,12 @@
 -- Which calls of a store no borrow hinders, as its slots tell it.
 use Rattle.generational_box.proofs.Common
 use Rattle.generational_box.proofs.{Common.◌≤◌, calls.EndCalls.end_tells, calls.Points.points}
-use Common.{ap, Bool, BorrowRefusal, Cell, cell_at, close, cond, content_of, Done, eq-eqb, false}
-use Common.{GenerationalPointer, has_same_id, hindrance_at, hindrance_to, is_free, is_hindered}
-use Common.{is_name, is_none, le-ltb, List, lt-ltb, may_set, Name, name_of, NameMap, ne_eqb, None}
-use Common.{not, Option, Outcome, own_cell, OwnerName, Owners, Ownership, ownership, Point, point}
-use Common.{reach, Ref, refl, refusal_to_read, refusal_to_write, ReleaseOwner, Shared, Some, State}
-use Common.{sweep, sym, tells_of_borrow, true, unless, Value, with_records, ℕ, ◌<◌, ◌∙◌, ◌≡◌, ◌≢◌}
+use Common.{ap, arith, Bool, BorrowRefusal, Cell, cell_at, close, cond, content_of, Done, eq-eqb}
+use Common.{false, GenerationalPointer, has_same_id, hindrance_at, hindrance_to, is_free}
+use Common.{is_hindered, is_name, is_none, le-ltb, List, lt-ltb, may_set, Name, name_of, NameMap}
+use Common.{ne_eqb, None, not, Option, Outcome, OwnerName, Owners, ownership, Ownership, point}
+use Common.{Point, reach, Ref, refl, refusal_to_read, refusal_to_write, ReleaseOwner, Shared, Some}
+use Common.{State, sweep, sym, tells_of_borrow, true, unless, with_records, ℕ, ◌<◌, ◌∙◌, ◌≡◌, ◌≢◌}
 use Rattle.std.specs.FinMap as map
 
 module _ {T : Type 0} where
@@ -14,30 +14,30 @@ module _ {T : Type 0} where
     -- a box that reaches nothing meets no borrow
     pub gone_read : true ≡ not (tells_of_borrow (refusal_to_read S b))
     unfolding refusal_to_read
-    gone_read = rw (← gone) refl
+    gone_read = rw (← gone)
 
     pub gone_write : true ≡ not (tells_of_borrow (refusal_to_write S b))
     unfolding refusal_to_write
-    gone_write = rw (← gone) refl
+    gone_write = rw (← gone)
 
     pub gone_set : true ≡ may_set (reach S b) (content_of (cell_at S (reach S b)))
-    gone_set = rw (← gone) refl
+    gone_set = rw (← gone)
 
   module _ (S : State T) (a b : GenerationalPointer) where
     -- a box that names itself changes nothing
     pub same_free : true ≡ has_same_id a b → true ≡ is_free S (Point a b)
-    same_free same = rw (← same) refl
+    same_free same = rw (← same)
 
     module _ (other : false ≡ has_same_id a b) where
       -- the other box reaches nothing
       pub gone_free : None ≡ reach S b → true ≡ is_free S (Point a b)
       unfolding refusal_to_read
-      gone_free none = rw (← other, ← none) refl
+      gone_free none = rw (← other, ← none)
 
       -- or is refused a read
       pub read_told : (t : BorrowRefusal) → refusal_to_read S b ≡ Some t
           → not (tells_of_borrow (Some t)) ≡ is_free S (Point a b)
-      read_told t is = rw (← other, is) refl
+      read_told t is = rw (← other, is)
 
       module _ (X : State T) {number next : ℕ} {owners : Owners} {m : Name}
           (view : with_records X number owners next ≡ S)
@@ -47,8 +47,8 @@ module _ {T : Type 0} where
 
         -- the box's own cell is another store's
         pub strange_free : a.id.store ≢ number → true ≡ is_free S (Point a b)
-        strange_free strange = rw (← view)
-            (rw (points a b other X view to free, ne_eqb a.id.store number strange) refl)
+        strange_free strange =
+            rw (← view, points a b other X view to free, ne_eqb a.id.store number strange)
 
         -- or this store's, which the slots are asked for
         pub own_free : (flag : Bool) (n : Name) → n ≡ name_of a → a.id.store ≡ number
@@ -56,12 +56,8 @@ module _ {T : Type 0} where
             (Some m) (map.get X.cells m)).0)
             → flag ≡ is_free S (Point a b)
         own_free flag n at own is =
-            let cell : own_cell V a.id ≡ map.get X.cells (name_of a) =
-            rw (eq-eqb a.id.store number own) refl in
-            rw (← view) ((rw at at is) ∙ (by (map.get X.cells (name_of a)) (map.get X.cells m)
-            ∙ ap (λ (out : Outcome T). not (is_hindered (Point a b) out.0))
-            (sym (points a b other X view to free
-            ∙ ap (λ x. point V a b x (Some m) (map.get X.cells m)) cell))))
+            rw (← view, points a b other X view to free, eq-eqb a.id.store number own)
+            ((rw at at is) ∙ by (map.get X.cells (name_of a)) (map.get X.cells m))
           where
             told : Outcome T → Bool
             told out = not (is_hindered (Point a b) out.0)
@@ -69,21 +65,14 @@ module _ {T : Type 0} where
             turned : (same : Bool) (t : Option BorrowRefusal) (left : NameMap (Cell T))
                 → told (cond same (Done, X) (unless t X (Done, record X { cells = left })))
                 ≡ told (cond same (Done, V) (unless t V (Done, record V { cells = left })))
-            turned true t left = refl
-            turned false None left = refl
-            turned false (Some t) left = refl
+            turned same t left = grind arith
 
             by : (own target : Option (Cell T)) → told (point X a b own (Some m) target)
                 ≡ told (point V a b own (Some m) target)
-            by None target = refl
-            by (Some (Value c k)) target = refl
-            by (Some (Shared c k)) target = refl
-            by (Some (Ref old k)) None = refl
-            by (Some (Ref old k)) (Some (Value c l)) = refl
-            by (Some (Ref old k)) (Some (Ref q l)) = refl
             by (Some (Ref old k)) (Some (Shared c l)) =
                 let left = sweep (map.insert X.cells (name_of a) (Ref m k)) in
                 turned (is_name old m) (hindrance_at X.cells left old) left
+            by _ _ = refl
 
   -- ---- the release of an owner value
 
@@ -91,7 +80,7 @@ module _ {T : Type 0} where
     -- of a record with others
     pub several_free : (h : Ownership) → Some h ≡ ownership S o → 1 < h.count
         → true ≡ is_free S (ReleaseOwner o)
-    several_free h found several = rw (← found, lt-ltb 1 h.count several) refl
+    several_free h found several = rw (← found, lt-ltb 1 h.count several)
 
     -- and the last one, whose boxes end
     pub last_free : (X : State T) {number next : ℕ} {owners : Owners}
@@ -109,9 +98,8 @@ module _ {T : Type 0} where
         last : (V : State T) → Some h ≡ ownership V o → is_free V (ReleaseOwner o)
             ≡ not (is_hindered (ReleaseOwner o) (unless (hindrance_to V h.names) V
             (Done, record (close V h.names) { owners = map.remove V.owners o.key })).0)
-        last V here = rw (← here, le-ltb 1 h.count few) refl
+        last V here = rw (← here, le-ltb 1 h.count few)
 
         told : (V : State T) (t : Option BorrowRefusal) → is_none t ≡ not (tells_of_borrow t)
             → (R : State T) → is_none t ≡ not (is_hindered (ReleaseOwner o) (unless t V (Done, R)).0)
-        told V None tells R = refl
-        told V (Some t) tells R = tells
+        told V t tells R = grind arith

@@ -1,12 +1,11 @@
 -- How many owner values the records stand for, below which key they stand, and what is put on their
 -- lists.
 use Rattle.generational_box.proofs.Common
-use Common.{add_to_list_in, among, AreCounted, arith, Bool, by_number, change, change_if, cond}
-use Common.{count_in, count_under, eq_by_cmp, eq_by_cmp_equiv, false, is_name, IsCounted}
-use Common.{IsDistinct, IsDistinct-push, IsEquivalence, key_same, Name, name_total, names_in}
-use Common.{names_under, nat_cmp, nat_cmp_total, nat_eq, None, none-some, one_less, one_listed}
-use Common.{one_more, Option, OwnerName, Owners, Ownership, record_of, refl, Some, subst, sym, true}
-use Common.{ℕ, [], ◌+◌, ◌<◌, ◌≡◌}
+use Common.{add_to_list_in, among, AreCounted, arith, by_number, change, change_if, cond, cond_both}
+use Common.{count_under, eq_by_cmp, eq_by_cmp_equiv, false, is_name, IsCounted, IsDistinct}
+use Common.{IsDistinct-push, IsEquivalence, key_same, Name, name_total, names_under, nat_cmp}
+use Common.{nat_cmp_total, None, one_less, one_listed, one_more, Option, OwnerName, Owners}
+use Common.{Ownership, record_of, refl, Some, ℕ, [], ◌+◌, ◌<◌, ◌≡◌}
 use Rattle.std.specs.FinMap as map
 
 -- names are compared for equality
@@ -19,24 +18,15 @@ counted_empty next = record { each = λ k. rw (map.get-empty nat_cmp k) tt }
 
 module _ {next : ℕ} {owners : Owners} (counted : AreCounted next owners) where
   pub counted_more : AreCounted (next + 1) owners
-  counted_more = record { each = λ k. more k (map.get owners k) (counted.each k) }
-    where
-      more : (k : ℕ) (o : Option Ownership) → IsCounted next k o → IsCounted (next + 1) k o
-      more k None c = tt
-      more k (Some h) c = (c.0, omega (arith, c.1), omega (arith, c.2), c.3)
+  counted_more = record { each = λ k. let c = counted.each k in grind arith }
 
   counted_update : (after : Owners) (k : ℕ) (v : Option Ownership)
       → ((q : ℕ) → map.get after q ≡ cond (eq_by_cmp nat_cmp q k) v (map.get owners q))
       → IsCounted next k v → AreCounted next after
   counted_update after k v updates one = record {
-    each = λ q.
-        subst (IsCounted next q) (sym (updates q)) (at q (eq_by_cmp nat_cmp q k) refl);
+    each = λ q. rw (updates q) (cond_both (eq_by_cmp nat_cmp q k) _ _ (IsCounted next q)
+        (λ same. rw (key_same by_number q k same) one) (λ other. counted.each q));
   }
-    where
-      at : (q : ℕ) (b : Bool) → eq_by_cmp nat_cmp q k ≡ b
-          → IsCounted next q (cond b v (map.get owners q))
-      at q true same = subst (λ j. IsCounted next j v) (sym (key_same by_number q k same)) one
-      at q false other = counted.each q
 
   pub counted_insert : (k : ℕ) (h : Ownership) → IsCounted next k (Some h)
       → AreCounted next (map.insert owners k h)
@@ -55,12 +45,11 @@ module _ {next : ℕ} {owners : Owners} (counted : AreCounted next owners) where
       at : (o : Option Ownership) → map.get owners k ≡ o → AreCounted next (change_if owners k f o)
       at None is = counted
       at (Some h) is =
-          counted_insert k (f h) (keeps h is (subst (IsCounted next k) is (counted.each k)))
+          counted_insert k (f h) (keeps h is (rw is at (counted.each k)))
 
   pub counted_down : (k : ℕ) → 1 < count_under owners k → AreCounted next (change owners k one_less)
   counted_down k several = counted_changed k one_less (λ h is c.
-      let more : 1 < h.count = subst (λ r. 1 < count_in r) is several in
-      (omega (arith, more), omega (arith, c.1), c.2, c.3))
+      let more = rw is at several in (omega (arith, more), omega (arith, c.1), c.2, c.3))
 
   -- the records after the listing of a new name are as counted
   pub counted_listed : (o : Option OwnerName) (n : Name)
@@ -68,9 +57,7 @@ module _ {next : ℕ} {owners : Owners} (counted : AreCounted next owners) where
       → AreCounted next (add_to_list_in owners o n)
   counted_listed None n apart = counted
   counted_listed (Some o) n apart = counted_changed o.key (one_listed n) (λ h is c.
-      let new : among h.names n ≡ false =
-      subst (λ r. among (names_in r) n ≡ false) is (apart o.key) in
-      (c.0, c.1, c.2, IsDistinct-push name_equal h.names n c.3 new))
+      (c.0, c.1, c.2, IsDistinct-push name_equal h.names n c.3 (rw is at (apart o.key))))
 
 module _ {next : ℕ} {owners : Owners} (counted : AreCounted next owners) where
   pub counted_new : (h : Ownership) → h.count ≡ 1 → h.names ≡ []
@@ -82,14 +69,10 @@ module _ {next : ℕ} {owners : Owners} (counted : AreCounted next owners) where
 
   pub counted_up : (k : ℕ) → AreCounted (next + 1) (change owners k one_more)
   counted_up k = counted_changed (counted_more counted) k one_more (λ h is c.
-      let old : IsCounted next k (Some h) = subst (IsCounted next k) is (counted.each k) in
+      let old = rw is at (counted.each k) in
       (omega arith, omega (arith, old.1), omega (arith, old.2), old.3))
 
 -- what is found of an owner is what stands under its key
 pub record_held : (number : ℕ) (owners : Owners) (o : OwnerName) (h : Ownership)
     → Some h ≡ record_of number owners o → map.get owners o.key ≡ Some h
-record_held number owners o h is = at (nat_eq o.store number) (sym is)
-  where
-    at : (b : Bool) → cond b (map.get owners o.key) None ≡ Some h → map.get owners o.key ≡ Some h
-    at true is = is
-    at false is = absurd (none-some h is)
+record_held number owners o h is = grind arith

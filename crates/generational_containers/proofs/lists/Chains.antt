@@ -3,8 +3,8 @@ use Rattle.generational_containers.proofs.Common
 use Rattle.std.proofs.lemmas.Bool.{or_right}
 use Common.{ap, arith, Bool, chain, drop, eq-eqb, false, get_or, get_or-set_other, get_or-set_same}
 use Common.{get_or_append_left, get_or_read, if◌then◌else◌, IsPool, last_of, length, length-append}
-use Common.{List, nat_eq, refl, slice_set, suc, sym, take, take_all, true, true≢false, zero, ℕ, []}
-use Common.{◌++◌, ◌+◌, ◌-◌, ◌<◌, ◌∙◌, ◌∷◌, ◌≡◌, ◌≢◌, ◌≤◌}
+use Common.{List, nat_eq, refl, slice_set, suc, sym, take, take_all, true, zero, ℕ, []}
+use Common.{◌++◌, ◌+◌, ◌-◌, ◌<◌, ◌∙◌, ◌∷◌, ◌≡◌, ◌≤◌}
 use Rattle.generational_containers.proofs.lists.Lists.{head_absent, holds, members, members-holds}
 use Rattle.generational_containers.proofs.lists.Lists.{pool_length, pool_put, pool_take}
 use Rattle.std.specs.FinSet as set
@@ -32,14 +32,11 @@ chain_same : (links others : List ℕ) (first n : ℕ)
     → chain others first n ≡ chain links first n
 chain_same links others first zero same = refl
 chain_same links others first (suc n) same =
-    let here : get_or others first 0 ≡ get_or links first 0 =
-    same first (rw (eq-eqb first first refl) refl) in
-    rw here (ap (λ rest. first ∷ rest)
-    (chain_same links others (get_or links first 0) n (λ q there. same q (behind q there))))
-  where
-    behind : (q : ℕ) → holds (chain links (get_or links first 0) n) q ≡ true
-        → holds (chain links first (suc n)) q ≡ true
-    behind q there = or_right (nat_eq q first) _ there
+    rw (
+      same first (rw (eq-eqb first first refl) refl),
+      chain_same links others (get_or links first 0) n
+          (λ q there. same q (or_right (nat_eq q first) _ there)),
+    )
 
 -- more links at the end
 pub chain_grown : (links more : List ℕ) (first n : ℕ) → IsPool (chain links first n) (length links)
@@ -52,9 +49,7 @@ pub chain_apart : (links : List ℕ) (slot x first n : ℕ)
     → set.contains (members (chain links first n)) slot ≡ false
     → chain (slice_set links slot x) first n ≡ chain links first n
 chain_apart links slot x first n absent = chain_same links _ first n (λ q there.
-    get_or-set_other links slot q x 0 (λ e. true≢false
-    (sym there ∙ (ap (holds (chain links first n)) e
-    ∙ (sym (members-holds (chain links first n) slot) ∙ absent)))))
+    get_or-set_other links slot q x 0 (λ e. cc (members-holds (chain links first n) slot)))
 
 last_there : (x : ℕ) (xs : List ℕ) → holds (x ∷ xs) (last_of x xs) ≡ true
 last_there x [] = rw (eq-eqb x x refl) refl
@@ -74,16 +69,15 @@ chain_extended links first zero last slot p ends =
     let within = first_within links first 1 (omega arith) p in
     rw (sym ends) (ap (λ x. first ∷ x ∷ []) (get_or-set_same links first slot 0 within))
 chain_extended links first (suc n) last slot p ends =
-    rw (get_or-set_other links last first slot 0 apart)
-    (ap (λ rest. first ∷ rest)
-    (chain_extended links (get_or links first 0) n last slot (pool_take p) ends))
-  where
-    apart : first ≢ last
-    apart e = true≢false
-        (sym (last_there (get_or links first 0) (chain links (get_or links (get_or links first 0) 0) n))
-        ∙ (ap (holds (chain links (get_or links first 0) (suc n))) (ends ∙ sym e)
-        ∙ (sym (members-holds (chain links (get_or links first 0) (suc n)) first)
-        ∙ head_absent p)))
+    let next = get_or links first 0 in
+    rw (
+      get_or-set_other links last first slot 0 (λ e. cc (
+        last_there next (chain links (get_or links next 0) n),
+        members-holds (chain links next (suc n)) first,
+        head_absent p,
+      )),
+      chain_extended links next n last slot (pool_take p) ends,
+    )
 
 -- a slot before the first one, to which its link leads, unless there was none
 pub chain_put : (links after : List ℕ) (first n slot : ℕ) → slot < length links
@@ -93,9 +87,12 @@ pub chain_put : (links after : List ℕ) (first n slot : ℕ) → slot < length 
 chain_put links after first zero slot within absent linked = refl
 chain_put links after first (suc n) slot within absent linked =
     let e : suc n + 1 ≡ suc (suc n) = omega arith in
-    ap (λ l. chain l slot (suc n + 1)) (linked (omega arith))
-    ∙ rw (e, get_or-set_same links slot first 0 within)
-    (ap (λ rest. slot ∷ rest) (chain_apart links slot first first (suc n) absent))
+    rw (
+      linked (omega arith),
+      e,
+      get_or-set_same links slot first 0 within,
+      chain_apart links slot first first (suc n) absent,
+    )
 
 -- so many slots as are there have a link each
 pub chain_length : (links : List ℕ) (first n : ℕ) → length (chain links first n) ≡ n
@@ -131,8 +128,7 @@ pub pool_grown : (links more : List ℕ) (first n : ℕ) → IsPool (chain links
     → IsPool (chain (links ++ more) first n) (length (links ++ more))
 pool_grown links more first n p = rw (chain_grown links more first n p) record {
   distinct = p.distinct;
-  below = λ slot there.
-      let low = p.below slot there in omega (arith, low, length-append links more);
+  below = λ slot there. omega (arith, p.below slot there, length-append links more);
 }
 
 -- links that were added, where memory was found, change no slot of the list
@@ -151,10 +147,8 @@ resized false n links more after first count is few p = rw is (p, refl)
 -- nor are there too many of them
 pub resized_few : (ok : Bool) (n links after most : ℕ) → after ≡ (if ok then n else links)
     → n ≤ most → links ≤ most → after ≤ most
-resized_few true n links after most is less few = omega arith
-resized_few false n links after most is less few = omega arith
+resized_few ok n links after most is less few = grind arith
 
 pub last_taken : (x : ℕ) (xs : List ℕ) → last_of x xs ≡ x → last_of x (drop 1 xs) ≡ x
-last_taken x [] ends = refl
-last_taken x (y ∷ []) ends = refl
 last_taken x (y ∷ z ∷ zs) ends = ends
+last_taken x xs ends = refl

@@ -1,21 +1,18 @@
 -- The table of standing borrows: its free indexes, and what a call leaves of its invariant.
-use Rattle.generational_containers.proofs.Common.{ap, arith, Bool, Borrow, cases_eq, cond, false}
-use Rattle.generational_containers.proofs.Common.{false≢true, inl, inr, IsTable, length, length-set}
-use Rattle.generational_containers.proofs.Common.{List, nat_cmp, nat_cmp_total, nat_eq, ne_eqb}
-use Rattle.generational_containers.proofs.Common.{slice_set, sym, true, ℕ, [], ◌<◌, ◌∙◌, ◌≡◌}
+use Rattle.generational_containers.proofs.Common.{arith, Borrow, IsTable, length, length-set, List}
+use Rattle.generational_containers.proofs.Common.{nat_cmp, nat_cmp_total, nat_tests, slice_set, ℕ}
+use Rattle.generational_containers.proofs.Common.{[], ◌<◌, ◌≡◌}
 use Rattle.generational_containers.proofs.lists.Lists.{contains-insert_at, contains-remove_at}
-use Rattle.generational_containers.proofs.lists.Lists.{contains_own}
 use Rattle.std.specs.FinSet as set
 
 -- an empty set has nothing to take out
 pub remove_none : (s : set.FinSet nat_cmp) (i : ℕ) → s ≡ set.empty → set.remove s i ≡ s
 remove_none s i none = set.same_set nat_cmp_total set.nat_cmp-IsAntisymmetric _ _ (λ k.
-    contains-remove_at s i k
-    ∙ sym (contains_own s i (ap (λ e. set.contains e i) none ∙ set.contains-empty nat_cmp i) k))
+    rw (none, contains-remove_at set.empty i k, set.contains-empty nat_cmp k) (grind arith))
 
 pub table_empty : (capacity : ℕ) → IsTable [] set.empty 0 capacity
 table_empty capacity = record {
-  within = λ i member. absurd (false≢true (sym (set.contains-empty nat_cmp i) ∙ member));
+  within = λ i member. absurd (cc (set.contains-empty nat_cmp i));
   roomy = omega arith;
   fits = omega arith;
 }
@@ -26,8 +23,8 @@ module _ {lists : List (List Borrow)} {free : set.FinSet nat_cmp} {rooms capacit
   pub table_same : {lists' : List (List Borrow)} → length lists' ≡ length lists
       → IsTable lists' free rooms capacity
   table_same same = record {
-    within = λ i member. let low = t.within i member in omega (arith, same);
-    roomy = let room = t.roomy in omega (arith, same);
+    within = λ i member. omega (arith, t.within i member);
+    roomy = omega arith;
     fits = t.fits;
   }
 
@@ -35,27 +32,18 @@ module _ {lists : List (List Borrow)} {free : set.FinSet nat_cmp} {rooms capacit
     -- an index that was given back is in use again
     pub table_opened : (list : List Borrow)
         → IsTable (slice_set lists i list) (set.remove free i) rooms capacity
-    table_opened list =
-        let long = length-set lists i list in
-        record {
-          within = λ k member. let low = t.within k (left (nat_eq k i) k
-              (sym (contains-remove_at free i k) ∙ member)) in omega arith;
-          roomy = let room = t.roomy in omega arith;
-          fits = t.fits;
-        }
-      where
-        left : (b : Bool) (k : ℕ) → cond b false (set.contains free k) ≡ true
-            → set.contains free k ≡ true
-        left true k h = absurd (false≢true h)
-        left false k h = h
+    table_opened list = let long = length-set lists i list in record {
+      within = λ k member.
+          let left = rw contains-remove_at at member in grind (arith, t.within k);
+      roomy = omega arith;
+      fits = t.fits;
+    }
 
     -- an index is given back
     pub table_closed : i < length lists → IsTable lists (set.insert free i) rooms capacity
-    table_closed low = record { within = within; roomy = t.roomy; fits = t.fits }
-      where
-        within : (k : ℕ) → set.contains (set.insert free i) k ≡ true → k < length lists
-        within k member = elim (cases_eq k i) [
-          | inl e ↦ rw e low
-          | inr ne ↦ t.within k
-              (rw (contains-insert_at free i k, ne_eqb k i ne) at member)
-        ]
+    table_closed low = record {
+      within = λ k member.
+          let there = rw contains-insert_at at member in grind (arith, nat_tests, t.within k);
+      roomy = t.roomy;
+      fits = t.fits;
+    }

@@ -1,13 +1,12 @@
 -- Lists of borrows whose tickets ascend: what a binary search finds in them, and what a push or a
 -- removal leaves.
 use Rattle.generational_containers.proofs.Common
-use Common.{all_pairs_push, answers_always, ap, AreBelow, arith, Ascend, Bool, Bor, Borrow, Called}
-use Common.{cases_eq, cases_lt, ComputesKey, eq-eqb, Equal, Err, false, false≢true, filter, get_or}
-use Common.{Greater, HoldsAt, IsBinarySearchResult, IsNonDecreasingBy, IsPartitionPoint, IsSome}
-use Common.{length, Less, List, list_any, list_any_at, list_any_none, Mut, nat_cmp, nat_eq}
-use Common.{nat_tests, ne_eqb, None, not, Ok, OnSome, Option, or_parts, ordering_index, ranked}
-use Common.{refl, remove, Some, suc, sym, true, zero, ℕ, [], ⊎_elim, ◌++◌, ◌<◌, ◌∙◌, ◌∷◌, ◌≡◌, ◌≢◌}
-use Common.{◌≤◌}
+use Common.{all_pairs_push, answers_always, AreBelow, arith, Ascend, Bool, Bor, Borrow, Called}
+use Common.{cases_eq, cases_lt, ComputesKey, eq-eqb, Equal, Err, false, filter, get_or, Greater}
+use Common.{HoldsAt, IsBinarySearchResult, IsNonDecreasingBy, IsPartitionPoint, IsSome, length}
+use Common.{Less, List, list_any, list_any_at, list_any_none, Mut, nat_cmp, nat_eq, nat_tests}
+use Common.{ne_eqb, not, Ok, OnSome, Option, or_parts, ordering_index, ranked, refl, remove, suc}
+use Common.{sym, true, zero, ℕ, [], ⊎_elim, ◌++◌, ◌<◌, ◌∙◌, ◌∷◌, ◌≡◌, ◌≢◌, ◌≤◌}
 
 abbrev has : ℕ → Borrow → Bool
 has t b = nat_eq b.ticket t
@@ -35,8 +34,10 @@ none_apart t bs apart = list_any_none (has t) bs (λ k d within. ne_eqb _ t (apa
 filter_apart : (t : ℕ) (bs : List Borrow) → IsApart t bs → without t bs ≡ bs
 filter_apart t [] apart = refl
 filter_apart t (b ∷ bs) apart =
-    rw (ne_eqb b.ticket t (apart 0 b (omega arith)))
-    (ap (λ l. b ∷ l) (filter_apart t bs (λ k d within. apart (suc k) d (omega arith))))
+    rw (
+      ne_eqb b.ticket t (apart 0 b (omega arith)),
+      filter_apart t bs (λ k d within. apart (suc k) d (omega arith)),
+    )
 
 any_at : (t : ℕ) (bs : List Borrow) (i : ℕ) → i < length bs
     → HoldsAt (λ b. b.ticket ≡ t) bs i → list_any (has t) bs ≡ true
@@ -54,8 +55,10 @@ remove_is_filter t (b ∷ bs) zero up within at =
 remove_is_filter t (b ∷ bs) (suc i) up within at =
     let before = first_below b bs up i b (omega arith) in
     let own = at b in
-    rw (ne_eqb b.ticket t (λ e. omega arith))
-    (ap (λ l. b ∷ l) (remove_is_filter t bs i (tail_ascends b bs up) (omega arith) at))
+    rw (
+      ne_eqb b.ticket t (λ e. omega arith),
+      remove_is_filter t bs i (tail_ascends b bs up) (omega arith) at,
+    )
 
 module _ (t : ℕ) (bs : List Borrow) (up : Ascend bs) where
   -- the comparisons with t rise along the list, as a binary search asks
@@ -111,8 +114,7 @@ below_at n bs below k d within =
 
 -- what is so where there is something
 pub on_some : {A P : Type 0} (o : Option A) → IsSome o → OnSome o P → P
-on_some None some holds = absurd (false≢true some)
-on_some (Some x) some holds = holds
+on_some o some holds = grind arith
 
 -- a later borrow at the end
 pub push_ascends : (bs : List Borrow) (b : Borrow) → Ascend bs → AreBelow b.ticket bs
@@ -143,7 +145,7 @@ pub none_left : (t : ℕ) (bs : List Borrow) → list_any (has t) bs ≡ false �
 none_left t [] none = refl
 none_left t (b ∷ bs) none =
     let parts = or_parts (has t b) (list_any (has t) bs) none in
-    rw parts.0 (ap (λ l. b ∷ l) (none_left t bs parts.1))
+    rw (parts.0, none_left t bs parts.1)
 
 -- of two borrows at least one is left
 pub left_some : (t : ℕ) (bs : List Borrow) → Ascend bs → 2 ≤ length bs → without t bs ≢ []

@@ -1,16 +1,14 @@
 -- The map for which places of records stand, and what is written to them.
 use Rattle.generational_containers.proofs.Common
-use Common.{add_to_list_in, ap, ArePlaced, arith, Bool, by_number, cases_eq, cases_lt, change}
-use Common.{change_place, change_record, change_record_if, changed_there, cond, eq-eqb, eq_by_cmp}
-use Common.{eqb-true, false, false≢true, get-changed_none, get-remove_apart, get-remove_here}
-use Common.{HasDistinctKeys, HasRecord, HasRoom, IfSome, insert_there, is_some, is_vacant}
-use Common.{IsReserved, IsSome, key_apart, key_here, keyed_ownerships, KeyedOwnership, knows}
-use Common.{length, length-append, length-set, List, Name, names_in, names_under, nat_cmp}
-use Common.{nat_cmp_total, nat_eq, ne_eqb, None, none-some, one_listed, Option, option_map}
-use Common.{option_or, OwnerName, Owners, owners_of, Ownership, Place, record_at, record_in}
-use Common.{record_of, Records, refl, slice_get, slice_get_past, slice_get_within, slice_set, Some}
-use Common.{subst, suc, sym, true, true≢false, with_ownership, with_rooms, zero, ℕ, [], ⊎_elim}
-use Common.{◌++◌, ◌+◌, ◌<◌, ◌∙◌, ◌∷◌, ◌≡◌, ◌≢◌, ◌≤◌}
+use Common.{add_to_list_in, ap, ArePlaced, arith, by_number, change, change_place, change_record}
+use Common.{change_record_if, changed_there, cond, eq-eqb, eq_by_cmp, false, false≢true}
+use Common.{get-changed_none, HasDistinctKeys, HasRecord, HasRoom, IfSome, insert_there, is_some}
+use Common.{is_vacant, IsReserved, IsSome, keyed_ownerships, KeyedOwnership, knows, length}
+use Common.{length-append, length-set, List, Name, names_in, names_under, nat_cmp, nat_cmp_total}
+use Common.{nat_eq, nat_tests, ne_eqb, None, one_listed, Option, option_map, option_or, OwnerName}
+use Common.{Owners, owners_of, Ownership, Place, record_at, record_in, record_of, Records, refl}
+use Common.{slice_get, slice_get_past, slice_get_within, slice_set, Some, suc, sym, true}
+use Common.{with_ownership, with_rooms, zero, ℕ, [], ◌++◌, ◌+◌, ◌<◌, ◌∙◌, ◌∷◌, ◌≡◌, ◌≢◌, ◌≤◌}
 use Rattle.generational_containers.proofs.lists.Lists.{contains-insert_at, contains-remove_at}
 use Rattle.generational_containers.proofs.lists.Lists.{contains_own, IsWritten, number_test}
 use Rattle.generational_containers.proofs.lists.Lists.{push_written, set-own, set_written}
@@ -27,15 +25,7 @@ find_in q (x ∷ xs) = option_or (record_in q x) (find_in q xs)
 find_is : (q : ℕ) (xs : List Place) → map.find nat_cmp q (keyed_ownerships xs) ≡ find_in q xs
 find_is q [] = refl
 find_is q (None ∷ xs) = find_is q xs
-find_is q (Some r ∷ xs) =
-    ap (λ b. cond b (Some r.ownership) (map.find nat_cmp q (keyed_ownerships xs))) (number_test q r.key)
-    ∙ at (nat_eq q r.key) (find_is q xs)
-  where
-    at : (b : Bool) → map.find nat_cmp q (keyed_ownerships xs) ≡ find_in q xs
-        → cond b (Some r.ownership) (map.find nat_cmp q (keyed_ownerships xs))
-        ≡ option_or (cond b (Some r.ownership) None) (find_in q xs)
-    at true rest = refl
-    at false rest = rest
+find_is q (Some r ∷ xs) = rw (number_test q r.key, find_is q xs) (grind arith)
 
 -- what the machine's map has under a key
 get_first : (xs : List Place) (q : ℕ) → map.get (owners_of xs) q ≡ find_in q xs
@@ -44,23 +34,15 @@ get_first xs q = map.get-from_entries nat_cmp_total (keyed_ownerships xs) q ∙ 
 
 apart_rest : {x : Place} {xs : List Place} → HasDistinctKeys (x ∷ xs) → HasDistinctKeys xs
 apart_rest apart = record {
-  one = λ key i j hi hj.
-      let same : suc i ≡ suc j = apart.one key (suc i) (suc j) hi hj in omega arith;
+  one = λ key i j hi hj. omega (arith, apart.one key (suc i) (suc j) hi hj);
 }
 
 find_one : (xs : List Place) → HasDistinctKeys xs → (q i : ℕ) (h : Ownership)
     → record_at q (slice_get xs i) ≡ Some h → find_in q xs ≡ Some h
-find_one [] apart q i h is = absurd (none-some h is)
+find_one [] apart q i h is = absurd cc
 find_one (x ∷ xs) apart q zero h is = rw is refl
 find_one (x ∷ xs) apart q (suc i) h is =
-    at (record_in q x) refl (find_one xs (apart_rest apart) q i h is)
-  where
-    at : (o : Option Ownership) → record_in q x ≡ o → find_in q xs ≡ Some h
-        → option_or o (find_in q xs) ≡ Some h
-    at None first rest = rest
-    at (Some g) first rest =
-        let same : 0 ≡ suc i = apart.one q 0 (suc i) (ap is_some first) (ap is_some is) in
-        absurd (omega arith)
+    grind (arith, find_one xs (apart_rest apart) q i h is, apart.one q 0 (suc i))
 
 find_none : (xs : List Place) (q : ℕ) → ((i : ℕ) → record_at q (slice_get xs i) ≡ None)
     → find_in q xs ≡ None
@@ -80,40 +62,37 @@ find_set : (xs : List Place) (i q : ℕ) (x : Place) → record_at q (slice_get 
     → record_in q x ≡ None → find_in q (slice_set xs i x) ≡ find_in q xs
 find_set [] i q x old new = refl
 find_set (z ∷ zs) zero q x old new = rw (old, new) refl
-find_set (z ∷ zs) (suc i) q x old new =
-    ap (option_or (record_in q z)) (find_set zs i q x old new)
+find_set (z ∷ zs) (suc i) q x old new = rw (find_set zs i q x old new)
 
 find_push : (xs : List Place) (q : ℕ) (x : Place) → record_in q x ≡ None
     → find_in q (xs ++ x ∷ []) ≡ find_in q xs
 find_push [] q x new = rw new refl
-find_push (z ∷ zs) q x new = ap (option_or (record_in q z)) (find_push zs q x new)
+find_push (z ∷ zs) q x new = rw (find_push zs q x new)
 
 -- ---- records and their keys
 
 pub own_key : (r : KeyedOwnership) → record_in r.key (Some r) ≡ Some r.ownership
-own_key r = ap (λ b. cond b (Some r.ownership) None) (eq-eqb r.key r.key refl)
+own_key r = rw (eq-eqb r.key r.key refl)
 
 pub other_key : (q : ℕ) (r : KeyedOwnership) → q ≢ r.key → record_in q (Some r) ≡ None
-other_key q r ne = ap (λ b. cond b (Some r.ownership) None) (ne_eqb q r.key ne)
+other_key q r ne = rw (ne_eqb q r.key ne)
 
 key_is : (q : ℕ) (r : KeyedOwnership) → is_some (record_in q (Some r)) ≡ true → q ≡ r.key
-key_is q r has = at (nat_eq q r.key) refl has
-  where
-    at : (b : Bool) → nat_eq q r.key ≡ b → is_some (cond b (Some r.ownership) None) ≡ true
-        → q ≡ r.key
-    at true same has = eqb-true q r.key same
-    at false other has = absurd (false≢true has)
+key_is q r has = grind (arith, nat_tests)
 
 pub standing : (q : ℕ) (o : Option Place) → HasRecord q o
     → (r : KeyedOwnership) × (o ≡ Some (Some r)) × (q ≡ r.key)
-standing q None has = absurd (false≢true has)
-standing q (Some None) has = absurd (false≢true has)
 standing q (Some (Some r)) has = (r, refl, key_is q r has)
+standing q _ has = absurd cc
+
+pub stands : (q : ℕ) (o : Option Place) (has : HasRecord q o)
+    → record_at q o ≡ Some (standing q o has).0.ownership
+unfolding standing
+stands q (Some (Some r)) has = rw (eq-eqb q r.key (key_is q r has))
+stands q _ has = absurd cc
 
 vacant_is : (o : Option Place) → is_vacant o ≡ true → o ≡ Some None
-vacant_is None is = absurd (false≢true is)
-vacant_is (Some None) is = refl
-vacant_is (Some (Some r)) is = absurd (false≢true is)
+vacant_is o is = grind arith
 
 -- ---- what is written
 
@@ -122,44 +101,23 @@ updated : (xs ys : List Place) (k : ℕ) (v : Option Ownership) → find_in k ys
     → ((q : ℕ) → q ≢ k → find_in q ys ≡ find_in q xs) → (q : ℕ)
     → map.get (owners_of ys) q ≡ cond (eq_by_cmp nat_cmp q k) v (map.get (owners_of xs) q)
 updated xs ys k v here others q =
-    get_first ys q
-    ∙ ⊎_elim
-    (λ e. ap (λ j. find_in j ys) e ∙ here
-    ∙ sym (ap (λ b. cond b v (map.get (owners_of xs) q))
-    (ap (λ j. eq_by_cmp nat_cmp j k) e ∙ key_here by_number k)))
-    (λ ne. others q ne ∙ sym (get_first xs q)
-    ∙ sym (ap (λ b. cond b v (map.get (owners_of xs) q)) (key_apart by_number q k ne)))
-    (cases_eq q k)
+    rw (get_first xs q, get_first ys q, number_test q k) (grind (arith, nat_tests, here, others q))
 
 apart_written : {xs ys : List Place} {i : ℕ} {x : Place} → IsWritten xs ys i x → HasDistinctKeys xs
     → ((q j : ℕ) → is_some (record_in q x) ≡ true → HasRecord q (slice_get xs j) → j ≡ i)
     → HasDistinctKeys ys
 apart_written {xs} {ys} {i} {x} w apart alone = record {
   one = λ q a b ha hb.
-      at q a b (nat_eq a i) refl (nat_eq b i) refl
-      (subst (HasRecord q) (w.at a) ha) (subst (HasRecord q) (w.at b) hb);
+      let at_a = w.at a in let at_b = w.at b in
+      grind (arith, nat_tests, apart.one q a b, alone q a, alone q b);
 }
-  where
-    at : (q a b : ℕ) (c : Bool) → nat_eq a i ≡ c → (d : Bool) → nat_eq b i ≡ d
-        → HasRecord q (cond c (Some x) (slice_get xs a))
-        → HasRecord q (cond d (Some x) (slice_get xs b)) → a ≡ b
-    at q a b true ea true eb ha hb = eqb-true a i ea ∙ sym (eqb-true b i eb)
-    at q a b true ea false eb ha hb = eqb-true a i ea ∙ sym (alone q b ha hb)
-    at q a b false ea true eb ha hb = alone q a hb ha ∙ sym (eqb-true b i eb)
-    at q a b false ea false eb ha hb = apart.one q a b ha hb
 
 -- the vacant places after a write
 pooled_written : {xs ys : List Place} {i : ℕ} {x : Place} (v w : set.FinSet nat_cmp)
     → IsWritten xs ys i x → ((k : ℕ) → set.contains v k ≡ is_vacant (slice_get xs k))
     → ((k : ℕ) → set.contains w k ≡ cond (nat_eq k i) (is_vacant (Some x)) (set.contains v k))
     → (k : ℕ) → set.contains w k ≡ is_vacant (slice_get ys k)
-pooled_written {xs} {ys} {i} {x} v w wr pooled new k =
-    new k ∙ at (nat_eq k i) ∙ sym (ap is_vacant (wr.at k))
-  where
-    at : (b : Bool) → cond b (is_vacant (Some x)) (set.contains v k)
-        ≡ is_vacant (cond b (Some x) (slice_get xs k))
-    at true = refl
-    at false = pooled k
+pooled_written v w wr pooled new k = rw (new k, wr.at k) (grind (arith, pooled k))
 
 -- a record is written where no other of its key stands
 module _ {xs ys : List Place} {i : ℕ} (r : KeyedOwnership) (w : IsWritten xs ys i (Some r))
@@ -167,26 +125,19 @@ module _ {xs ys : List Place} {i : ℕ} (r : KeyedOwnership) (w : IsWritten xs y
     (others : (q : ℕ) → q ≢ r.key → find_in q ys ≡ find_in q xs) where
   record_apart : HasDistinctKeys ys
   record_apart = apart_written w apart
-      (λ q j hq hj. alone j (subst (λ k. HasRecord k (slice_get xs j)) (key_is q r hq) hj))
+      (λ q j hq hj. alone j (rw (key_is q r hq) at hj))
 
   record_written : owners_of ys ≡ map.insert (owners_of xs) r.key r.ownership
   record_written =
-      let here : slice_get ys i ≡ Some (Some r) =
-      w.at i ∙ ap (λ b. cond b (Some (Some r)) (slice_get xs i)) (eq-eqb i i refl) in
       map.same_map nat_cmp_total map.nat_cmp-IsAntisymmetric _ _ (λ q.
-      updated xs ys r.key (Some r.ownership)
-      (find_one ys record_apart r.key i r.ownership (ap (record_at r.key) here ∙ own_key r))
-      others q
+      updated xs ys r.key (Some r.ownership) (find_one ys record_apart r.key i r.ownership
+      (rw (w.at i, eq-eqb i i refl) (own_key r))) others q
       ∙ sym (map.get-insert nat_cmp_total (owners_of xs) r.key r.ownership q))
 
 module _ {vacant : set.FinSet nat_cmp} {rooms : ℕ} {xs : List Place}
     (placed : ArePlaced vacant rooms xs) where
   pub none_apart : (q i : ℕ) → map.get (owners_of xs) q ≡ None → HasRecord q (slice_get xs i) → ⊥
-  none_apart q i absent has = at (record_at q (slice_get xs i)) refl has
-    where
-      at : (o : Option Ownership) → record_at q (slice_get xs i) ≡ o → is_some o ≡ true → ⊥
-      at None is has = false≢true has
-      at (Some h) is has = none-some h (sym absent ∙ get_one placed.apart q i h is)
+  none_apart q i absent has = let one = get_one placed.apart q i in grind arith
 
   -- a record under a key that has none, at a vacant place
   module _ (i : ℕ) (member : set.contains vacant i ≡ true) (r : KeyedOwnership)
@@ -201,7 +152,7 @@ module _ {vacant : set.FinSet nat_cmp} {rooms : ℕ} {xs : List Place}
     alone j has = absurd (none_apart r.key j absent has)
 
     others : (q : ℕ) → q ≢ r.key → find_in q (slice_set xs i (Some r)) ≡ find_in q xs
-    others q ne = find_set xs i q (Some r) (ap (record_at q) was) (other_key q r ne)
+    others q ne = find_set xs i q (Some r) (rw was) (other_key q r ne)
 
     pub filled_owners : owners_of (slice_set xs i (Some r))
         ≡ map.insert (owners_of xs) r.key r.ownership
@@ -246,20 +197,15 @@ module _ {vacant : set.FinSet nat_cmp} {rooms : ℕ} {xs : List Place}
     record_within = slice_get_within xs i (Some there.0) there.1
 
     pub get_there : map.get (owners_of xs) k ≡ Some there.0.ownership
-    get_there = get_one placed.apart k i there.0.ownership
-        (ap (record_at k) there.1 ∙ subst (λ q. record_in q (Some there.0) ≡ Some
-        there.0.ownership) (sym there.2)
-        (own_key there.0))
+    get_there = get_one placed.apart k i there.0.ownership (stands k (slice_get xs i) has)
 
     at_key : {q : ℕ} → q ≢ k → record_at q (slice_get xs i) ≡ None
-    at_key {q} ne = ap (record_at q) there.1
-        ∙ other_key q there.0 (λ e. ne (e ∙ sym there.2))
+    at_key {q} ne = rw there.1 (other_key q there.0 (λ e. ne (e ∙ sym there.2)))
 
     -- what holds of the machine's record holds of it
     pub holds_there : (P : Ownership → Type 0) → IfSome (map.get (owners_of xs) k) P
         → IfSome (slice_get xs i) (λ place. IfSome place (λ r. P r.ownership))
-    holds_there P holds =
-        rw there.1 (subst (λ o. IfSome o P) get_there holds)
+    holds_there P holds = rw there.1 (rw get_there at holds)
 
     module _ (g : KeyedOwnership → KeyedOwnership) (same : (g there.0).key ≡ there.0.key) where
       abbrev r : KeyedOwnership
@@ -276,17 +222,16 @@ module _ {vacant : set.FinSet nat_cmp} {rooms : ℕ} {xs : List Place}
 
       changed_alone : (j : ℕ) → HasRecord r.key (slice_get xs j) → j ≡ i
       changed_alone j hj =
-          placed.apart.one r.key j i hj (subst (λ q. HasRecord q (slice_get xs i)) key_kept has)
+          placed.apart.one r.key j i hj (rw key_kept at has)
 
       changed_others : (q : ℕ) → q ≢ r.key → find_in q (slice_set xs i (Some r)) ≡ find_in q xs
       changed_others q ne =
           find_set xs i q (Some r) (at_key (λ e. ne (e ∙ key_kept))) (other_key q r ne)
 
       written_owners : owners_of (change_record xs i g) ≡ map.insert (owners_of xs) k r.ownership
-      written_owners =
-          ap owners_of changed_is
-          ∙ record_written r changed_written placed.apart changed_alone changed_others
-          ∙ ap (λ q. map.insert (owners_of xs) q r.ownership) (sym key_kept)
+      written_owners = rw changed_is
+          (record_written r changed_written placed.apart changed_alone changed_others
+          ∙ ap (λ q. map.insert (owners_of xs) q r.ownership) (sym key_kept))
 
       written_placed : ArePlaced vacant rooms (change_record xs i g)
       written_placed = rw changed_is (record {
@@ -298,11 +243,7 @@ module _ {vacant : set.FinSet nat_cmp} {rooms : ℕ} {xs : List Place}
 
       written_there : HasRecord k (slice_get (change_record xs i g) i)
       written_there =
-          let at : slice_get (change_record xs i g) i ≡ Some (Some r) =
-          ap (λ ys. slice_get ys i) changed_is ∙ (changed_written.at i
-          ∙ ap (λ b. cond b (Some (Some r)) (slice_get xs i)) (eq-eqb i i refl)) in
-          ap (λ o. is_some (record_at k o)) at
-          ∙ (ap (λ q. is_some (record_in q (Some r))) key_kept ∙ ap is_some (own_key r))
+          rw (changed_is, changed_written.at i, eq-eqb i i refl, eq-eqb k r.key key_kept)
 
     module _ (f : Ownership → Ownership) where
       pub changed_owners : owners_of (change_place xs i f) ≡ change (owners_of xs) k f
@@ -330,17 +271,8 @@ module _ {vacant : set.FinSet nat_cmp} {rooms : ℕ} {xs : List Place}
     w_taken = set_written xs i None (Some there.0) there.1
 
     none_left : (j : ℕ) → record_at k (slice_get (slice_set xs i None) j) ≡ None
-    none_left j = ap (record_at k) (w_taken.at j) ∙ at (nat_eq j i) refl
-      where
-        none_of : (o : Option Ownership) → (is_some o ≡ true → ⊥) → o ≡ None
-        none_of None here = refl
-        none_of (Some h) here = absurd (here refl)
-
-        at : (b : Bool) → nat_eq j i ≡ b
-            → record_at k (cond b (Some None) (slice_get xs j)) ≡ None
-        at true same = refl
-        at false other = none_of (record_at k (slice_get xs j))
-            (λ hj. true≢false (sym (eq-eqb j i (placed.apart.one k j i hj has)) ∙ other))
+    none_left j = let one = placed.apart.one k j i in
+        rw (w_taken.at j) (grind (arith, nat_tests, has))
 
     pub taken_owners : owners_of (slice_set xs i None) ≡ map.remove (owners_of xs) k
     taken_owners = map.same_map nat_cmp_total map.nat_cmp-IsAntisymmetric _ _ (λ q.
@@ -349,7 +281,7 @@ module _ {vacant : set.FinSet nat_cmp} {rooms : ℕ} {xs : List Place}
         ∙ sym (map.get-remove nat_cmp_total (owners_of xs) k q))
 
     pub taken_absent : set.contains vacant i ≡ false
-    taken_absent = placed.pooled i ∙ ap is_vacant there.1
+    taken_absent = rw (placed.pooled i, there.1)
 
     pub taken_placed : ArePlaced (set.insert vacant i) rooms (slice_set xs i None)
     taken_placed = record {
@@ -366,7 +298,7 @@ pub placed_new : (v : set.FinSet nat_cmp) (rooms : ℕ) (xs : List Place) → v 
 placed_new v rooms xs empty none = rw (empty, none) (record {
   pooled = λ k. set.contains-empty nat_cmp k;
   roomy = omega arith;
-  apart = record { one = λ key i j hi hj. absurd (false≢true hi) };
+  apart = record { one = λ key i j hi hj. absurd cc };
 })
 
 pub owners_new : (xs : List Place) → xs ≡ [] → owners_of xs ≡ map.empty
@@ -380,59 +312,42 @@ owners_vacant xs vacant = map.same_map nat_cmp_total map.nat_cmp-IsAntisymmetric
     get_none xs q (none q) ∙ sym (map.get-empty nat_cmp q))
   where
     none : (q i : ℕ) → record_at q (slice_get xs i) ≡ None
-    none q i = ⊎_elim (λ h. ap (record_at q) (vacant i h))
-        (λ le. ap (record_at q) (slice_get_past xs i le)) (cases_lt i (length xs))
+    none q i = grind (arith, vacant i, slice_get_past)
 
 find_some : (xs : List Place) (q i : ℕ) → HasRecord q (slice_get xs i)
     → is_some (find_in q xs) ≡ true
-find_some [] q i has = absurd (false≢true has)
-find_some (x ∷ xs) q zero has =
-    (elim (record_in q x) as (λ o. is_some o ≡ true → is_some (option_or o (find_in q xs)) ≡ true)
-    [ None ↦ λ has. absurd (false≢true has) | Some h ↦ λ has. refl ]) has
-find_some (x ∷ xs) q (suc i) has = (elim (record_in q x) as (λ o. is_some (find_in q xs) ≡ true
-    → is_some (option_or o (find_in q xs)) ≡ true)
-    [ None ↦ λ rest. rest | Some h ↦ λ rest. refl ]) (find_some xs q i has)
+find_some [] q i has = absurd cc
+find_some (x ∷ xs) q zero has = grind arith
+find_some (x ∷ xs) q (suc i) has = let rest = find_some xs q i has in grind arith
 
 pub not_empty : (xs : List Place) (i : ℕ) (x : Place) → slice_get xs i ≡ Some x
     → is_some x ≡ true → owners_of xs ≡ map.empty → ⊥
-not_empty xs i None is some empty = false≢true some
-not_empty xs i (Some r) is some empty = false≢true
-    (sym (ap is_some (ap (λ m. map.get m r.key) empty ∙ map.get-empty nat_cmp r.key))
-    ∙ ap is_some (get_first xs r.key)
-    ∙ find_some xs r.key i (ap is_some (ap (record_at r.key) is ∙ own_key r)))
-
-none_of : {A : Type 0} (o : Option A) → is_some o ≡ false → o ≡ None
-none_of None here = refl
-none_of (Some h) here = absurd (true≢false here)
+not_empty xs i None is some empty = cc
+not_empty xs i (Some r) is some empty =
+    let found = find_some xs r.key i (rw is (ap is_some (own_key r))) in
+    cc (get_first xs r.key, ap (λ m. map.get m r.key) empty, map.get-empty nat_cmp r.key, found)
 
 -- vacant places that come first, and one more
 pub vacant_through : (xs : List Place) (n : ℕ) (x : Place)
     → ((i : ℕ) → i < n → slice_get xs i ≡ Some None) → slice_get xs n ≡ Some x
     → is_some x ≡ false → (i : ℕ) → i < n + 1 → slice_get xs i ≡ Some None
-vacant_through xs n x before there vacant i within =
-    ⊎_elim (before i)
-    (λ le. let same : i ≡ n = omega arith in
-    ap (slice_get xs) same ∙ there ∙ ap Some (none_of x vacant))
-    (cases_lt i n)
+vacant_through xs n x before there vacant i within = grind (arith, before i)
 
 -- a change where there is no record changes nothing
 pub change_vacant : (xs : List Place) (i : ℕ) (x : Place) (g : KeyedOwnership → KeyedOwnership)
     → slice_get xs i ≡ Some x → x ≡ None → slice_set xs i x ≡ change_record xs i g
-change_vacant xs i x g there vacant =
-    set-own xs i x there ∙ sym (ap (change_record_if xs i g) (there ∙ ap Some vacant))
+change_vacant xs i x g there vacant = grind (arith, set-own)
 
 -- a vacant place stays so
 pub vacant_stays : (xs : List Place) (i : ℕ) (x : Place) (P : KeyedOwnership → Type 0)
     → slice_get xs i ≡ Some x → x ≡ None
     → IfSome (slice_get (slice_set xs i x) i) (λ kept. IfSome kept P)
 vacant_stays xs i x P there vacant =
-    rw (ap (λ ys. slice_get ys i) (set-own xs i x there) ∙ (there ∙ ap Some vacant)) tt
+    rw (set-own xs i x there, there, vacant) tt
 
 -- a record with room is at its place, and has a key
 pub room_within : (xs : List Place) (i : ℕ) → HasRoom (slice_get xs i) → i < length xs
-room_within xs i room =
-    (elim (slice_get xs i) as (λ o. slice_get xs i ≡ o → HasRoom o → i < length xs)
-    [ None ↦ λ is room. absurd room | Some x ↦ λ is room. slice_get_within xs i x is ]) refl room
+room_within xs i room = grind (arith, slice_get_past)
 
 pub room_record : (o : Option Place) → HasRoom o → (k : ℕ) × HasRecord k o
 room_record None room = absurd room
@@ -441,9 +356,7 @@ room_record (Some (Some r)) room = (r.key, ap is_some (own_key r))
 
 pub has_room : (k : ℕ) (o : Option Place) → HasRecord k o
     → IfSome o (λ kept. IfSome kept (λ r. length r.ownership.names < r.rooms)) → HasRoom o
-has_room k None has room = absurd (false≢true has)
-has_room k (Some None) has room = absurd (false≢true has)
-has_room k (Some (Some r)) has room = room
+has_room k o has room = grind arith
 
 -- the map that contracts see
 pub owners_is : {o : Owners} {xs : List Place} {r : Records}
@@ -455,28 +368,23 @@ pub none_through : (xs : List Place) (q n : ℕ)
     → ((i : ℕ) → i < n → record_at q (slice_get xs i) ≡ None)
     → is_some (record_at q (slice_get xs n)) ≡ false
     → (i : ℕ) → i < n + 1 → record_at q (slice_get xs i) ≡ None
-none_through xs q n before here i within =
-    ⊎_elim (before i)
-    (λ le. let same : i ≡ n = omega arith in
-    ap (λ j. record_at q (slice_get xs j)) same ∙ none_of (record_at q (slice_get xs n)) here)
-    (cases_lt i n)
+none_through xs q n before here i within = grind (arith, before i)
 
 pub none_of_all : (xs : List Place) (q n : ℕ)
     → ((i : ℕ) → i < n → record_at q (slice_get xs i) ≡ None) → length xs ≤ n
     → (i : ℕ) → record_at q (slice_get xs i) ≡ None
-none_of_all xs q n none all i =
-    ⊎_elim (none i) (λ le. ap (record_at q) (slice_get_past xs i (omega arith))) (cases_lt i n)
+none_of_all xs q n none all i = grind (arith, none i, slice_get_past)
 
 -- ---- the record of an owner
 
 module _ (number : ℕ) (S : Owners) (o : OwnerName) where
   own : o.store ≡ number → record_of number S o ≡ map.get S o.key
-  own is = ap (λ b. cond b (map.get S o.key) None) (eq-eqb o.store number is)
+  own is = rw (eq-eqb o.store number is)
 
   -- S is the map that contracts see
   module _ (xs : List Place) (view : owners_of xs ≡ S) (is : o.store ≡ number) where
     seen : record_of number S o ≡ map.get (owners_of xs) o.key
-    seen = own is ∙ ap (λ m. map.get m o.key) (sym view)
+    seen = rw view (own is)
 
     module _ (none : (i : ℕ) → record_at o.key (slice_get xs i) ≡ None) where
       pub record_missing : record_of number S o ≡ None
@@ -492,30 +400,27 @@ module _ (number : ℕ) (S : Owners) (o : OwnerName) where
       record_found x there =
           let r = standing o.key (slice_get xs i) has in
           let same : x ≡ Some r.0 = cc (there, r.1) in
-          ap (option_map (λ (r : KeyedOwnership). r.ownership)) same
-          ∙ sym (seen ∙ get_there placed o.key i has)
+          rw (same, seen, get_there placed o.key i has)
 
       pub known_found : knows number S o ≡ true
       known_found = ap is_some (seen ∙ get_there placed o.key i has)
 
 remove_absent : (S : Owners) (k : ℕ) → map.get S k ≡ None → map.remove S k ≡ S
 remove_absent S k absent = map.same_map nat_cmp_total map.nat_cmp-IsAntisymmetric _ _ (λ q.
-    ⊎_elim (λ e. subst (λ j. map.get (map.remove S k) j ≡ map.get S j) (sym e)
-    (get-remove_here by_number S k ∙ sym absent)) (get-remove_apart by_number S k q)
-    (cases_eq q k))
+    rw (map.get-remove nat_cmp_total S k q, number_test q k) (grind (arith, nat_tests)))
 
 -- S is the map that contracts see
 module _ (xs : List Place) (S : Owners) (k : ℕ) (view : owners_of xs ≡ S) where
   -- where no place has a record of the key
   module _ (none : (i : ℕ) → record_at k (slice_get xs i) ≡ None) where
     missing : map.get S k ≡ None
-    missing = ap (λ m. map.get m k) (sym view) ∙ get_none xs k none
+    missing = rw (← view) (get_none xs k none)
 
     pub missing_kept : (f : Ownership → Ownership) → S ≡ change S k f
     missing_kept f = sym (get-changed_none by_number S k f missing)
 
     pub missing_none : {X : Type 0} → IsSome (map.get S k) → X
-    missing_none some = absurd (false≢true (sym (ap is_some missing) ∙ some))
+    missing_none some = absurd (cc missing)
 
     pub missing_removed : S ≡ map.remove S k
     missing_removed = sym (remove_absent S k missing)
@@ -527,10 +432,7 @@ module _ (xs : List Place) (S : Owners) (k : ℕ) (view : owners_of xs ≡ S) wh
       → (i : ℕ) → HasRecord k (slice_get xs i)
       → names_in (record_at k (slice_get xs i)) ≡ names_under S k
   taken_names placed i has =
-      let r = standing k (slice_get xs i) has in
-      ap names_in (ap (record_at k) r.1
-      ∙ subst (λ q. record_in q (Some r.0) ≡ Some r.0.ownership) (sym r.2) (own_key r.0)
-      ∙ sym (get_there placed k i has) ∙ ap (λ m. map.get m k) view)
+      rw (← view, stands k (slice_get xs i) has, get_there placed k i has)
 
 -- the places that contracts see
 pub places_is : {o : Owners} {xs : List Place} {r : Records}
@@ -546,7 +448,7 @@ pub listed_owners : {vacant : set.FinSet nat_cmp} {rooms : ℕ} {xs : List Place
 listed_owners placed S view None i n reserved = absurd cc
 listed_owners {xs = xs} placed S view (Some o) i n reserved =
     changed_owners placed o.key i
-    (subst (λ ys. HasRecord o.key (slice_get ys i)) (sym (places_is view)) reserved.0) (one_listed n)
+    (rw (places_is view) reserved.0) (one_listed n)
     ∙ ap (λ m. change m o.key (one_listed n)) (owners_is view)
 
 -- where room was made there is room

@@ -1,13 +1,13 @@
 -- The rows of owners' records: the place of each record by its key, and that the records in the
 -- order of these are the map's.
 use Rattle.generational_containers.proofs.Common
-use Common.{All, AllByRecursion, ap, append-nil, arith, BaseRow, Bool, CellName, cond, false}
-use Common.{HasDistinctKeys, HasRecord, is_at, is_eq, is_lt, IsPlaceOf, IsStrictlySortedBy, keys_of}
+use Common.{All, AllByRecursion, ap, append-nil, arith, BaseRow, CellName}
+use Common.{HasDistinctKeys, HasRecord, is_at, IsPlaceOf, IsStrictlySortedBy, keys_of}
 use Common.{length, Less, List, lookup, Name, name_of_cell, nat_cmp, nat_cmp_total, None}
 use Common.{Option, option_map, owner_rows, owners_of, Ownership, Place, place_rows, record_at}
-use Common.{record_in, record_rows, Records, recursion_from_All, refl, slice_get, Some, subst, suc}
-use Common.{sym, T, take, take-nil, true, zero, ℕ, [], ◌&&◌, ◌++◌, ◌<◌, ◌∙◌, ◌∷◌, ◌≡◌, ◌≤◌}
-use Rattle.generational_containers.proofs.records.Places.{get_none, get_one, own_key, standing}
+use Common.{record_rows, Records, recursion_from_All, refl, slice_get, Some, suc}
+use Common.{sym, T, take, take-nil, zero, ℕ, [], ◌++◌, ◌<◌, ◌∙◌, ◌∷◌, ◌≡◌, ◌≤◌}
+use Rattle.generational_containers.proofs.records.Places.{get_none, get_one, standing, stands}
 use Rattle.std.proofs.Common.{map as list_map}
 use Rattle.std.specs.FinMap as map
 
@@ -36,9 +36,8 @@ module _ (places : List Place) where
   found_record : (key i : ℕ) → HasRecord key (slice_get places i)
       → record_at key (slice_get places i) ≡ Some (ownership_in (slice_get places i))
   found_record key i has =
-      let there = standing key (slice_get places i) has in
-      ap (record_at key) there.1 ∙ subst (λ q. record_in q (Some there.0) ≡ Some there.0.ownership)
-      (sym there.2) (own_key there.0) ∙ ap (λ o. Some (ownership_in o)) (sym there.1)
+      stands key (slice_get places i) has
+      ∙ ap (λ o. Some (ownership_in o)) (sym (standing key (slice_get places i) has).1)
 
   rows_there : (number key i : ℕ) → HasRecord key (slice_get places i)
       → place_rows number (slice_get places i)
@@ -58,34 +57,21 @@ module _ (places : List Place) where
   find_entry : (q : ℕ) (es : List (ℕ × ℕ)) → map.find nat_cmp q (list_map record_of_entry es)
       ≡ option_map (λ i. ownership_in (slice_get places i)) (lookup (is_at (nat_cmp q)) es)
   find_entry q [] = refl
-  find_entry q (e ∷ es) =
-      ap (cond (is_eq (nat_cmp q e.0)) (Some (ownership_in (slice_get places e.1))))
-      (find_entry q es) ∙ at (is_eq (nat_cmp q e.0))
-    where
-      at : (b : Bool) → cond b (Some (ownership_in (slice_get places e.1)))
-          (option_map (λ i. ownership_in (slice_get places i)) (lookup (is_at (nat_cmp q)) es))
-          ≡ option_map (λ i. ownership_in (slice_get places i))
-          (cond b (Some e.1) (lookup (is_at (nat_cmp q)) es))
-      at true = refl
-      at false = refl
+  find_entry q (e ∷ es) = rw (find_entry q es) (grind arith)
 
 below_keys : (places : List Place) (x : ℕ) (es : List (ℕ × ℕ))
     → AllByRecursion (λ y. nat_cmp x y ≡ Less) (keys_of es)
     → T (map.Entries.below_all nat_cmp x (list_map (record_of_entry places) es))
 below_keys places x [] all = tt
-below_keys places x (e ∷ es) all =
-    subst (λ r. T (is_lt r && map.Entries.below_all nat_cmp x
-    (list_map (record_of_entry places) es))) (sym all.0) (below_keys places x es all.1)
+below_keys places x (e ∷ es) all = rw all.0 (below_keys places x es all.1)
 
 rising : (places : List Place) (es : List (ℕ × ℕ)) → IsStrictlySortedBy nat_cmp (keys_of es)
     → T (map.is_sorted nat_cmp (list_map (record_of_entry places) es))
 unfolding IsStrictlySortedBy
 rising places [] all = tt
-rising places (e ∷ es) all = both _ _ (below_keys places e.0 es all.0) (rising places es all.1)
-  where
-    both : (a b : Bool) → T a → T b → T (a && b)
-    both true b p q = q
-    both false b p q = p
+rising places (e ∷ es) all =
+    let below = below_keys places e.0 es all.0 in
+    let rest = rising places es all.1 in grind arith
 
 pub in_order : {places : List Place} → HasDistinctKeys places → (number : ℕ)
     → (es : List (ℕ × ℕ)) → IsStrictlySortedBy nat_cmp (keys_of es)
@@ -103,7 +89,7 @@ in_order {places} apart number es sorted found each =
         → AllByRecursion (λ (e : ℕ × ℕ). HasRecord e.0 (slice_get places e.1)) fs
     has_each [] all = tt
     has_each (f ∷ fs) all =
-        (subst (IsPlaceOf places f.0) all.0 (found f.0), has_each fs all.1)
+        (rw all.0 at (found f.0), has_each fs all.1)
 
     at : (q : ℕ) (o : Option ℕ) → IsPlaceOf places q o
         → option_map (λ i. ownership_in (slice_get places i)) o ≡ map.get (owners_of places) q
@@ -123,18 +109,16 @@ pub owned_all : (row_of : Name → BaseRow) (cells : List CellName) (n : ℕ) �
 owned_all row_of [] n all = rw (take-nil n) refl
 owned_all row_of (c ∷ cells) zero all = absurd (omega arith)
 owned_all row_of (c ∷ cells) (suc n) all =
-    ap (λ rows. row_of (name_of_cell c) ∷ rows) (owned_all row_of cells n (omega arith))
+    rw (owned_all row_of cells n (omega arith))
 
 -- no rows of a place without a record, or past the last one
 pub no_rows : (rows : List BaseRow) (places : List Place) (number i : ℕ)
     → slice_get places i ≡ None → rows ≡ rows ++ place_rows number (slice_get places i)
-no_rows rows places number i none =
-    sym (append-nil rows) ∙ ap (λ o. rows ++ place_rows number o) (sym none)
+no_rows rows places number i none = rw (none, append-nil rows)
 
 pub no_rows_vacant : (rows : List BaseRow) (places : List Place) (number i : ℕ)
     → slice_get places i ≡ Some None → rows ≡ rows ++ place_rows number (slice_get places i)
-no_rows_vacant rows places number i vacant =
-    sym (append-nil rows) ∙ ap (λ o. rows ++ place_rows number o) (sym vacant)
+no_rows_vacant rows places number i vacant = rw (vacant, append-nil rows)
 
 -- the same as contracts see the records, and the loop its entries
 pub seen_in_order : {ps qs : List Place} {r : Records} → ps ≡ qs
@@ -144,6 +128,4 @@ pub seen_in_order : {ps qs : List Place} {r : Records} → ps ≡ qs
     → All (λ (e : ℕ × ℕ). lookup (is_at (nat_cmp e.0)) es ≡ Some e.1) es
     → rows_at ps number es ≡ owner_rows number (map.entries r.owners)
 seen_in_order same view apart number es sorted found each =
-    in_order (subst HasDistinctKeys (sym same) apart) number es sorted found each
-    ∙ ap (λ places. owner_rows number (map.entries (owners_of places))) same
-    ∙ ap (λ (o : Records). owner_rows number (map.entries o.owners)) view
+    rw (← view, ← same) (in_order (rw same apart) number es sorted found each)

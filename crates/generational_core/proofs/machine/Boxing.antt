@@ -1,11 +1,10 @@
 -- Names of boxes: that they stay so, that they end for good, and what a box sees that was pointed
 -- elsewhere.
 use Rattle.std.specs.FinMap as map
-use Rattle.std.proofs.Common.{◌≡◌, ◌≤◌, true, false, cond, List, [], ◌∷◌, ◌||◌, Option, None, Some}
-use Rattle.std.proofs.Common.{refl, sym, ap, subst, ◌∙◌, ⊎_elim}
+use Rattle.std.proofs.Common.{◌≡◌, ◌≤◌, true, false, cond, [], ◌∷◌, ◌||◌, Some, sym, ap, ◌∙◌}
+use Rattle.std.proofs.Common.{⊎_elim}
 use Rattle.std.specs.Prelude.{Result, Ok, Err, OnOk}
-use Rattle.std.specs.List.{AllByRecursion}
-use Rattle.std.proofs.lemmas.Bool.{true≢false, eqb-true, eq-eqb, or_cases}
+use Rattle.std.proofs.lemmas.Bool.{eqb-true, eq-eqb}
 use Rattle.generational_core.specs.Answers.{end_answer, release_answer}
 use Rattle.generational_core.specs.Borrowing.{reach}
 use Rattle.generational_core.specs.Boxes.{name_of}
@@ -16,15 +15,16 @@ use Rattle.generational_core.specs.Machine.Action.{End, Point, ReleaseOwner}
 use Rattle.generational_core.specs.Machine.Answer.{Made, Done}
 use Rattle.generational_core.specs.Names.{Name, among}
 use Rattle.generational_core.specs.Seeing.{value_in}
-use Rattle.generational_core.specs.State.{State, IsSound, IsGiven, IsBoxed, Ownership}
+use Rattle.generational_core.specs.State.{State, IsSound, IsBoxed, Ownership}
 use Rattle.generational_core.specs.Steps.{Meets}
 use Rattle.generational_core.specs.declared.boxes.GenerationalPointer.{GenerationalPointer}
 use Rattle.generational_errors.specs.declared.error.BorrowMutError.{BorrowMutError}
 use Rattle.generational_errors.specs.declared.error.Refused.{Refused}
-use Rattle.generational_core.proofs.maps.Maps.{name_here, name_same}
+use Rattle.generational_core.proofs.maps.Maps.{name_here, by_option}
 use Rattle.generational_core.proofs.machine.Calling.{points, unseen}
 use Rattle.generational_core.proofs.machine.Changes.{held_record}
-use Rattle.generational_core.proofs.machine.Releasing.{box_ends, done_only, last_cells, listed_boxed}
+use Rattle.generational_core.proofs.machine.Releasing.{box_ends, boxed_among, done_only, last_cells}
+use Rattle.generational_core.proofs.machine.Releasing.{listed_boxed}
 use Rattle.generational_core.proofs.machine.Seeing.{kept_value, led_box, reached_live, reaches}
 use Rattle.generational_core.proofs.machine.Seeing.{value_in_reached}
 use Rattle.generational_core.proofs.machine.Soundness.{shared_still}
@@ -72,7 +72,7 @@ module _ {T : Type 0} where
     )
       where
         left : R ≡ close S (own_name S b)
-        left = ⊎_elim (λ refused. absurd (true≢false (sym refused.0)))
+        left = ⊎_elim (λ refused. cc)
             (λ acts. done_only (hindrance_to S (own_name S b)) S R _ acts.2)
             (meets_cases S R (End b) Done m)
     ended b (Err e) m = tt
@@ -84,17 +84,10 @@ module _ {T : Type 0} where
         → among h.names n ≡ true → IsEnded R n)
     ended_owned o (Ok u) s m = λ h n held last there. (
       meets_given S R (ReleaseOwner o) Done m n
-          (given h.names n (s.owned o.key h (held_record S o h held)) there),
+          (boxed_among S h.names n (s.owned o.key h (held_record S o h held)) there).0,
       ap (λ cells. map.get cells n) (last_cells (record { held = held; done = m }) last)
           ∙ box_ends S.cells h.names n (listed_boxed S o h n s held there) there,
     )
-      where
-        given : (names : List Name) (n : Name) → AllByRecursion (IsBoxed S) names
-            → among names n ≡ true → IsGiven S n
-        given [] n all there = absurd (true≢false (sym there))
-        given (k ∷ names) n all there = ⊎_elim
-            (λ is. subst (IsGiven S) (sym (name_same n k is)) all.0.0)
-            (λ rest. given names n all.1 rest) (or_cases _ _ there)
     ended_owned o (Err e) s m = tt
 
     -- ---- references that turn
@@ -102,16 +95,11 @@ module _ {T : Type 0} where
     -- a box that was pointed elsewhere sees what the other saw
     pub points_seen : (a b : GenerationalPointer) {U : Type 0} (r : Result U (Refused BorrowMutError))
         → IsSound S → Meets S (Point a b) (end_answer r) R → OnOk r (value_in R a ≡ value_in S b)
-    points_seen a b {U} (Ok u) s m = at (reach S b) refl
-      where
-        together : reach R a ≡ reach S b
-        together = points a b {U = U} (Ok u) m
-
-        at : (to : Option Name) → reach S b ≡ to → value_in R a ≡ value_in S b
-        at None is = unseen R a (together ∙ is) ∙ sym (unseen S b is)
-        at (Some n) is = value_in_reached R a n (together ∙ is)
-            ∙ (kept_value S R (Point a b) Done n s m (λ lent. lent) (λ set. set)
-            (reached_live S b n s is)
-            (reached_live R a n (meets_sound S R (Point a b) Done s m) (together ∙ is))
-            ∙ sym (value_in_reached S b n is))
+    points_seen a b {U} (Ok u) s m =
+        let together = points a b {U = U} (Ok u) m in
+        by_option (reach S b) (λ is. unseen R a (together ∙ is) ∙ sym (unseen S b is))
+        (λ n is. let live = reached_live R a n (meets_sound S R (Point a b) Done s m)
+        (together ∙ is) in value_in_reached R a n (together ∙ is)
+        ∙ (kept_value S R (Point a b) Done n s m (λ lent. lent) (λ set. set)
+        (reached_live S b n s is) live ∙ sym (value_in_reached S b n is)))
     points_seen a b (Err e) s m = tt

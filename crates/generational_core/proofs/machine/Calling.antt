@@ -1,26 +1,24 @@
 -- What callers cite: what results tell, and what calls leave as it was. The arguments of each are
 -- found from the clause of the call that it is given.
 use Rattle.generational_core.proofs.machine
-use machine.{◌≡◌, ◌≢◌, ◌≤◌, Bool, true, false, cond, Option, None, Some, refl, sym, ap, ◌∙◌, []}
-use machine.{true≢false, ◌+◌, is_some, nat_eq, Result, Ok, Err, IfOk, OnOk, IsOk, IsErr, value_at}
-use machine.{Guard, reach, leads_to, can_write, name_of, Cell, one_listed, Action, Answer}
-use machine.{OwnerName, ownership, Make, MakeShared, Refer, NewOwner, Read, Write, ReleaseWriter}
-use machine.{SetValue, End, Point, ReleaseOwner, ReleaseReader, Made, Reads, Writes, Done, Old}
-use machine.{Flag, Name, among, value_reached, value_in, LeavesBox, LeavesValue, LeavesUnborrowed}
-use machine.{State, IsSound, Ownership, Meets, GenerationalBox, GenerationalPointer, BorrowError}
-use machine.{BorrowMutError, Location, Refusal, StoreError, AllByRecursion, List, ◌++◌, ◌||◌, ◌∷◌}
-use machine.{or_right, names_in, is_name, held_record, name_apart, name_here, none≢some, some_live}
-use machine.{last_cells, made_new, reads_known}
+use machine.{◌≡◌, ◌≢◌, ◌≤◌, Bool, true, false, Option, None, Some, refl, sym, ap, ◌∙◌, [], ◌+◌}
+use machine.{nat_eq, Result, Ok, Err, IfOk, OnOk, IsOk, IsErr, Guard, reach, can_write, name_of}
+use machine.{one_listed, Action, Answer, OwnerName, ownership, Make, MakeShared, Refer, NewOwner}
+use machine.{Read, Write, ReleaseWriter, SetValue, End, Point, ReleaseOwner, ReleaseReader, Made}
+use machine.{Reads, Writes, Done, Old, Flag, Name, among, value_reached, value_in, LeavesBox}
+use machine.{LeavesValue, LeavesUnborrowed, State, IsSound, Ownership, Meets, GenerationalBox}
+use machine.{GenerationalPointer, BorrowError, BorrowMutError, Location, Refusal, StoreError}
+use machine.{AllByRecursion, List, ◌++◌, ◌||◌, ◌∷◌, or_right, names_in, is_name, held_record}
+use machine.{name_apart, name_here, some_live, last_cells, made_new, reads_known, by_option}
+use machine.{by_cond}
 use Rattle.generational_core.specs
 use specs.Answers.{value_behind, WriteGuard, pointer_of, box_answer, reference_box_answer}
 use specs.Answers.{read_answer, write_answer, back_answer, end_answer, owner_answer, release_answer}
 use specs.{Answers.free_read_answer, Answers.free_write_answer}
 use Rattle.generational_errors.specs.declared.error.Refused.{Refused}
 use Rattle.generational_core.proofs.machine.Resting.{free_stays, free_ends, read_released}
-use Rattle.generational_core.proofs.machine.Seeing.{reaches, reach_stays, value_stays}
+use Rattle.generational_core.proofs.machine.Seeing.{led_box, reaches, reach_stays, value_stays}
 use Rattle.generational_core.proofs.machine.Telling.{meets_tells, ended_leads}
-use Rattle.std.specs.FinMap as map
-use Rattle.std.specs.FinSet as set
 use Rattle.generational_errors.specs.declared.error.Refused.TheVariants as refused
 
 -- a name stands in the list that it ends
@@ -33,11 +31,8 @@ module _ {T : Type 0} where
   pub seen_reached : (S : State T) (b : GenerationalPointer) (v : T)
       → value_in S b ≡ Some v → (m : Name) × (reach S b ≡ Some m)
   unfolding value_in
-  seen_reached S b v seen = at (reach S b) refl
-    where
-      at : (to : Option Name) → reach S b ≡ to → (m : Name) × (reach S b ≡ Some m)
-      at None is = absurd (none≢some _ v (ap (value_reached S) is) seen)
-      at (Some m) is = (m, is)
+  seen_reached S b v seen =
+      by_option (reach S b) (λ none. cc (ap (value_reached S) none)) (λ m to. (m, to))
 
   -- and one that reaches nothing sees nothing
   pub unseen : (S : State T) (b : GenerationalPointer) → reach S b ≡ None → value_in S b ≡ None
@@ -47,72 +42,78 @@ module _ {T : Type 0} where
   module _ {S R : State T} where
     -- ---- makings
 
-    pub made : (o : Option OwnerName) (v : T) (l : Location)
-        (r : Result (GenerationalBox T) (Refusal T)) → Meets S (Make o v l) (box_answer r) R
-        → IfOk r (λ b. value_in R (pointer_of b) ≡ Some v)
-    made o v l (Ok b) m = (meets_tells S R (Make o v l) (Made (pointer_of b)) m).1
-    made o v l (Err e) m = tt
-
-    pub made_shared : (o : Option OwnerName) (v : T) (l : Location)
-        (r : Result (GenerationalBox T) (Refusal T)) → Meets S (MakeShared o v l) (box_answer r) R
-        → IfOk r (λ b. value_in R (pointer_of b) ≡ Some v)
-    made_shared o v l (Ok b) m = (meets_tells S R (MakeShared o v l) (Made (pointer_of b)) m).0
-    made_shared o v l (Err e) m = tt
-
-    pub referred : (o : Option OwnerName) (c : GenerationalPointer)
-        (r : Result (GenerationalBox T) (Refused BorrowError)) → IsSound S → Meets S (Refer o c)
-        (reference_box_answer r) R → IfOk r (λ b. value_in R (pointer_of b) ≡ value_in S c)
-    referred o c (Ok b) s m = (meets_tells S R (Refer o c) (Made (pointer_of b)) m).1 s
-    referred o c (Err e) s m = tt
-
-    pub referred_reach : (o : Option OwnerName)
-        (c : GenerationalPointer) (r : Result (GenerationalBox T) (Refused BorrowError)) → Meets S
-        (Refer o c) (reference_box_answer r) R → IfOk r (λ b. reach R (pointer_of b) ≡ reach S c)
-    referred_reach o c (Ok b) m = (meets_tells S R (Refer o c) (Made (pointer_of b)) m).0
-    referred_reach o c (Err e) m = tt
-
     -- a new box has no name of one that sees a value
     new_apart : (call : Action T) (b : GenerationalPointer) → IsSound S → Meets S call (Made b) R
         → (c : GenerationalPointer) (v : T) → value_in S c ≡ Some v → name_of b ≢ name_of c
     new_apart call b s m c v seen is = let to = seen_reached S c v seen in
-        let own = led (map.get S.cells (name_of c)) to.0 (reaches S c to.0 to.1).leads in
-        true≢false (sym (s.given (name_of c) own)
-        ∙ (ap (set.contains S.given) (sym is) ∙ (made_new S R call b m).1))
-      where
-        led : (x : Option (Cell T)) (m : Name) → leads_to x (name_of c) ≡ Some m → is_some x ≡ true
-        led None m e = absurd (none≢some {A = Name} None m refl e)
-        led (Some x) m e = refl
+        let own = (led_box _ (name_of c) to.0 (reaches S c to.0 to.1).leads).0 in
+        cc (s.given (name_of c) own, (made_new S R call b m).1)
 
-    pub made_apart : (o : Option OwnerName)
-        (v : T) (l : Location) (r : Result (GenerationalBox T) (Refusal T)) → IsSound S
-        → Meets S (Make o v l) (box_answer r) R → IfOk r (λ b. (c : GenerationalPointer) (w : T)
-        → value_in S c ≡ Some w → name_of (pointer_of b) ≢ name_of c)
-    made_apart o v l (Ok b) s m = new_apart _ _ s m
-    made_apart o v l (Err e) s m = tt
+    module _ (o : Option OwnerName) (v : T) (l : Location) where
+      pub made : (r : Result (GenerationalBox T) (Refusal T))
+          → Meets S (Make o v l) (box_answer r) R → IfOk r (λ b. value_in R (pointer_of b) ≡ Some v)
+      made (Ok b) m = (meets_tells S R (Make o v l) (Made (pointer_of b)) m).1
+      made (Err e) m = tt
 
-    pub referred_apart : (o : Option OwnerName) (c : GenerationalPointer)
-        (r : Result (GenerationalBox T) (Refused BorrowError)) → IsSound S → Meets S
-        (Refer o c) (reference_box_answer r) R → IfOk r (λ b. (d : GenerationalPointer) (w : T)
-        → value_in S d ≡ Some w → name_of (pointer_of b) ≢ name_of d)
-    referred_apart o c (Ok b) s m = new_apart _ _ s m
-    referred_apart o c (Err e) s m = tt
+      pub made_apart : (r : Result (GenerationalBox T) (Refusal T)) → IsSound S
+          → Meets S (Make o v l) (box_answer r) R → IfOk r (λ b. (c : GenerationalPointer) (w : T)
+          → value_in S c ≡ Some w → name_of (pointer_of b) ≢ name_of c)
+      made_apart (Ok b) s m = new_apart _ _ s m
+      made_apart (Err e) s m = tt
 
-    -- a reference and the box from which it was made reach the same
-    pub referred_together : (o : Option OwnerName) (c : GenerationalPointer)
-        (r : Result (GenerationalBox T) (Refused BorrowError)) → IsSound S → Meets S
-        (Refer o c) (reference_box_answer r) R → IfOk r (λ b. reach R (pointer_of b) ≡ reach R c)
-    referred_together o c (Ok b) s m =
-        let told = meets_tells S R (Refer o c) (Made (pointer_of b)) m in
-        let to = some_live (reach S c) told.3 in
-        told.0 ∙ (to.1 ∙ sym (reach_stays S R (Refer o c) _ c to.0 s m tt to.1))
-    referred_together o c (Err e) s m = tt
+      pub made_free : (r : Result (GenerationalBox T) (Refusal T))
+          → Meets S (Make o v l) (box_answer r) R → IfOk r (λ b. can_write R (pointer_of b) ≡ true)
+      made_free (Ok b) m = (meets_tells S R (Make o v l) (Made (pointer_of b)) m).3
+      made_free (Err e) m = tt
+
+      pub made_shared : (r : Result (GenerationalBox T) (Refusal T))
+          → Meets S (MakeShared o v l) (box_answer r) R
+          → IfOk r (λ b. value_in R (pointer_of b) ≡ Some v)
+      made_shared (Ok b) m = (meets_tells S R (MakeShared o v l) (Made (pointer_of b)) m).0
+      made_shared (Err e) m = tt
+
+      pub made_shared_free : (r : Result (GenerationalBox T) (Refusal T))
+          → Meets S (MakeShared o v l) (box_answer r) R
+          → IfOk r (λ b. can_write R (pointer_of b) ≡ true)
+      made_shared_free (Ok b) m = (meets_tells S R (MakeShared o v l) (Made (pointer_of b)) m).2
+      made_shared_free (Err e) m = tt
+
+    module _ (o : Option OwnerName) (c : GenerationalPointer) where
+      pub referred : (r : Result (GenerationalBox T) (Refused BorrowError)) → IsSound S
+          → Meets S (Refer o c) (reference_box_answer r) R
+          → IfOk r (λ b. value_in R (pointer_of b) ≡ value_in S c)
+      referred (Ok b) s m = (meets_tells S R (Refer o c) (Made (pointer_of b)) m).1 s
+      referred (Err e) s m = tt
+
+      pub referred_reach : (r : Result (GenerationalBox T) (Refused BorrowError))
+          → Meets S (Refer o c) (reference_box_answer r) R
+          → IfOk r (λ b. reach R (pointer_of b) ≡ reach S c)
+      referred_reach (Ok b) m = (meets_tells S R (Refer o c) (Made (pointer_of b)) m).0
+      referred_reach (Err e) m = tt
+
+      pub referred_apart : (r : Result (GenerationalBox T) (Refused BorrowError)) → IsSound S
+          → Meets S (Refer o c) (reference_box_answer r) R
+          → IfOk r (λ b. (d : GenerationalPointer) (w : T)
+          → value_in S d ≡ Some w → name_of (pointer_of b) ≢ name_of d)
+      referred_apart (Ok b) s m = new_apart _ _ s m
+      referred_apart (Err e) s m = tt
+
+      -- a reference and the box from which it was made reach the same
+      pub referred_together : (r : Result (GenerationalBox T) (Refused BorrowError)) → IsSound S
+          → Meets S (Refer o c) (reference_box_answer r) R
+          → IfOk r (λ b. reach R (pointer_of b) ≡ reach R c)
+      referred_together (Ok b) s m =
+          let told = meets_tells S R (Refer o c) (Made (pointer_of b)) m in
+          let to = some_live (reach S c) told.3 in
+          cc (told.0, to.1, reach_stays S R (Refer o c) _ c to.0 s m tt to.1)
+      referred_together (Err e) s m = tt
 
     -- ---- borrows
 
     pub opens : (b : GenerationalPointer) (l : Location) (r : Result Guard (Refused BorrowError))
         → Meets S (Read b l) (read_answer r) R → IfOk r (λ g. value_behind R g ≡ value_in S b)
-    opens b l (Ok g) m = ap (λ known. cond known (value_at R g.cell) None)
-        (reads_known S R (Read b l) g m).0 ∙ (meets_tells S R (Read b l) (Reads g) m).1
+    opens b l (Ok g) m =
+        rw (reads_known S R (Read b l) g m).0 (meets_tells S R (Read b l) (Reads g) m).1
     opens b l (Err e) m = tt
 
     pub lends : (b : GenerationalPointer) (l : Location)
@@ -155,18 +156,6 @@ module _ {T : Type 0} where
 
     -- ---- values at which no borrow stands
 
-    pub made_free : (o : Option OwnerName) (v : T) (l : Location)
-        (r : Result (GenerationalBox T) (Refusal T)) → Meets S (Make o v l) (box_answer r) R
-        → IfOk r (λ b. can_write R (pointer_of b) ≡ true)
-    made_free o v l (Ok b) m = (meets_tells S R (Make o v l) (Made (pointer_of b)) m).3
-    made_free o v l (Err e) m = tt
-
-    pub made_shared_free : (o : Option OwnerName) (v : T) (l : Location)
-        (r : Result (GenerationalBox T) (Refusal T)) → Meets S (MakeShared o v l) (box_answer r) R
-        → IfOk r (λ b. can_write R (pointer_of b) ≡ true)
-    made_shared_free o v l (Ok b) m = (meets_tells S R (MakeShared o v l) (Made (pointer_of b)) m).2
-    made_shared_free o v l (Err e) m = tt
-
     pub keeps_free : (call : Action T) (answer : Answer T) → IsSound S → Meets S call answer R
         → (b : GenerationalPointer) → LeavesUnborrowed S call b
         → can_write S b ≡ true → can_write R b ≡ true
@@ -175,8 +164,8 @@ module _ {T : Type 0} where
     pub ends_free : (b : GenerationalPointer) {U : Type 0} (r : Result U (Refused BorrowMutError))
         → Meets S (End b) (end_answer r) R → can_write S b ≡ true → IsOk r
     ends_free b (Ok u) m free = refl
-    ends_free b (Err (refused.Borrow e)) m free = let done = free_ends S R b _ free m in absurd cc
-    ends_free b (Err (refused.Store e)) m free = let done = free_ends S R b _ free m in absurd cc
+    ends_free b (Err (refused.Borrow e)) m free = cc (free_ends S R b _ free m)
+    ends_free b (Err (refused.Store e)) m free = cc (free_ends S R b _ free m)
 
     pub reads_back : {Q : State T} (b : GenerationalPointer) (l : Location) (g : Guard)
         (flag : Bool) → IsSound S → Meets S (Read b l) (Reads g) R
@@ -195,14 +184,10 @@ module _ {T : Type 0} where
         → OnOk r ((h : Ownership) (b : GenerationalPointer) → ownership S o ≡ Some h → h.count ≤ 1
         → among h.names (name_of b) ≡ true → reach R b ≡ None)
     unfolding reach
-    ends_owned o (Ok u) m = λ h b held last there. ap (λ to. cond (nat_eq b.id.store R.number) to
-        None) (ap (λ cells. leads_to (map.get cells (name_of b)) (name_of b))
-        (last_cells (record { held = held; done = m }) last)
-        ∙ ended_leads S.cells h.names (name_of b) there) ∙ none _
-      where
-        none : (own : Bool) → ◌≡◌ {A = Option Name} (cond own None None) None
-        none true = refl
-        none false = refl
+    ends_owned o (Ok u) m = λ h b held last there.
+        by_cond (λ to. to ≡ None) (nat_eq b.id.store R.number)
+        (λ _. rw (last_cells (record { held = held; done = m }) last)
+        (ended_leads S.cells h.names (name_of b) there)) (λ _. refl)
     ends_owned o (Err e) m = tt
 
     pub points : (a b : GenerationalPointer) {U : Type 0} (r : Result U (Refused BorrowMutError))
@@ -213,8 +198,7 @@ module _ {T : Type 0} where
     -- a box that reaches nothing can't be read
     pub unread : (b : GenerationalPointer) (l : Location) (r : Result Guard (Refused BorrowError))
         → Meets S (Read b l) (read_answer r) R → reach S b ≡ None → IsErr r
-    unread b l (Ok g) m none =
-        absurd (none≢some _ g.cell none (meets_tells S R (Read b l) (Reads g) m).0)
+    unread b l (Ok g) m none = cc ((meets_tells S R (Read b l) (Reads g) m).0)
     unread b l (Err e) m none = refl
 
     -- ---- owners' lists
@@ -251,8 +235,8 @@ module _ {T : Type 0} where
         none : (names : List Name) → AllByRecursion (λ n. n ≢ name_of b) names
             → among names (name_of b) ≡ false
         none [] all = refl
-        none (n ∷ names) all = ap (λ x. x || among names (name_of b))
-            (name_apart (name_of b) n (λ e. all.0 (sym e))) ∙ none names all.1
+        none (n ∷ names) all =
+            rw (name_apart (name_of b) n (λ e. all.0 (sym e))) (none names all.1)
 
     -- and reaches what it reached
     pub keeps_reach : (call : Action T) (answer : Answer T) → IsSound S → Meets S call answer R

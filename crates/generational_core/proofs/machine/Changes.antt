@@ -2,42 +2,35 @@
 -- and what its answer says of that.
 use Rattle.generational_core.proofs.machine.Common
 use Common.{Bool, true, false, cond, List, [], ◌++◌, Option, subst, arith, ⊎_elim, ◌≡◌, ◌≢◌, ℕ, ◌+◌}
-use Common.{◌≤◌, ◌<◌, not, ◌∷◌, None, Some, refl, sym, ap, ◌∙◌, true≢false, or_right, or_left}
-use Common.{or_parts, and_parts, and_from, list_any-append, nat_eq_equiv, list_any, filter}
-use Common.{AllByRecursion, option_map, nat_eq, nat_lt, BorrowRefusal, Guard, reach, fill, refusal_at}
-use Common.{refusal_to_read, refusal_to_write, write_refusal, name_of, has_same_id, Content, Cell}
-use Common.{content_of, is_shared, refill, Value, Shared, Ref, Here, Lent, one_listed, one_less}
-use Common.{one_more, names_in, close, hindrance_to, hindrance_at, sweep, Sets, add_to_list}
-use Common.{release_owner, knows_reader, remove_reader, act, clone_owner, knows_writer, has_reader}
-use Common.{next_borrow, OwnerName, add_cell, is_known, ownership, has_writer, Action, Outcome}
-use Common.{cell_at, read_at, write_at, own_name, Answer, NewNames, unless, refer, set_at, point, Make}
-use Common.{MakeShared, Refer, NewOwner, CloneOwner, ReleaseOwner, Read, Write, ReleaseReader}
-use Common.{ReleaseWriter, SetValue, End, Point, Made, Owned, Reads, Writes, Done, Flag, Refused}
-use Common.{change, Name, Names, is_name, State, Ownership, Owners, IsBoxed, content_at}
-use Common.{tickets_of, ending, Turns, Lends, Borrows, IsNew, AreNew, want, Borrow}
-use Common.{GenerationalPointer, Location, StoreError, UnknownOwner, by_name, by_number}
-use Common.{get-insert_here, get-insert_apart, get-remove_here, get-remove_apart, changed_view}
-use Common.{key_cases, name_here, contains-insert_name, contains-insert_here, get-changed_name}
-use Rattle.generational_core.proofs.machine.Ends.{none≢some, by_cond, target_of}
+use Common.{◌≤◌, ◌<◌, not, ◌∷◌, None, Some, refl, sym, ap, ◌∙◌, or_right, or_left, or_parts}
+use Common.{and_parts, and_from, list_any-append, nat_eq_equiv, filter, AllByRecursion, option_map}
+use Common.{nat_eq, nat_lt, BorrowRefusal, Guard, reach, fill, refusal_at, refusal_to_read}
+use Common.{refusal_to_write, write_refusal, name_of, has_same_id, Content, Cell, content_of}
+use Common.{is_shared, refill, Value, Shared, Ref, Here, Lent, one_listed, one_less, one_more}
+use Common.{names_in, close, hindrance_to, hindrance_at, sweep, Sets, add_to_list, release_owner}
+use Common.{knows_reader, remove_reader, act, clone_owner, knows_writer, next_guard, next_borrow}
+use Common.{OwnerName, add_cell, is_known, ownership, has_writer, Action, Outcome, cell_at, read_at}
+use Common.{write_at, own_name, Answer, NewNames, unless, refer, set_at, point, Make, MakeShared}
+use Common.{Refer, NewOwner, CloneOwner, ReleaseOwner, Read, Write, ReleaseReader, ReleaseWriter}
+use Common.{SetValue, End, Point, Made, Owned, Reads, Writes, Done, Flag, Refused, change, Name}
+use Common.{Names, is_name, State, Ownership, Owners, IsBoxed, content_at, tickets_of, ending}
+use Common.{Turns, Lends, Borrows, IsNew, AreNew, want, Borrow, GenerationalPointer, Location}
+use Common.{StoreError, by_name, by_number, get-insert_here, get-insert_apart, get-remove_here}
+use Common.{get-remove_apart, changed_view, name_here, contains-insert_name, contains-insert_here}
+use Common.{get-changed_name, by_keys}
+use Rattle.generational_core.proofs.machine.Ends.{cond_gives}
 use Rattle.std.specs.FinMap as map
 use Rattle.std.specs.FinSet as set
 
 -- the name behind another was never given, and isn't the other
 pub second_fresh : (given : Names) (m n : Name) → set.contains (set.insert given m) n ≡ false
     → (set.contains given n ≡ false) × (m ≢ n)
-second_fresh given m n h =
-    let parts = or_parts (is_name n m) (set.contains given n) (sym (contains-insert_name given m n)
-    ∙ h) in (parts.1, λ is. true≢false (sym (name_here n) ∙ (ap (is_name n) (sym is) ∙ parts.0)))
+second_fresh given m n h = let parts = or_parts (is_name n m) (set.contains given n)
+    (rw contains-insert_name at h) in (parts.1, λ is. cc (name_here n))
 
 -- the readers but for those with a ticket
 abbrev pub without : ℕ → List Borrow → List Borrow
 without t readers = filter (λ r. not (nat_eq r.ticket t)) readers
-
--- a reader at the end of a list is in it
-pushed_reads : (readers : List Borrow) (b : Borrow)
-    → list_any (λ r. nat_eq r.ticket b.ticket) (readers ++ b ∷ []) ≡ true
-pushed_reads readers b = list_any-append (λ r. nat_eq r.ticket b.ticket) readers (b ∷ [])
-    ∙ or_right _ _ (or_left _ _ (nat_eq_equiv.refl b.ticket))
 
 -- How a content is filled anew: a reader comes, a writer comes, a reader goes, a writer gives the
 -- value back, a value is set.
@@ -207,16 +200,11 @@ module _ {T : Type 0} where
       → IsSaid S (answer, S) → Leads S call f (answer, S)
   still {S} said = leads Stay _ S.next (omega arith) tt (λ h. h) (λ _. said)
 
-  -- a refusal where a refusal stands, or where an owner isn't known
+  -- a refusal where a refusal stands, and one of two outcomes
   leads_unless : {S : State T} {call : Action T} {f : NewNames} (t : Option BorrowRefusal) {x : Outcome T}
       → (t ≡ None → Leads S call f x) → Leads S call f (unless t S x)
   leads_unless None h = h refl
   leads_unless (Some t) h = still (plain tt refl)
-
-  leads_known : {S : State T} {call : Action T} {f : NewNames} (known : Bool) {x : Outcome T}
-      → Leads S call f x → Leads S call f (cond known x (Refused UnknownOwner, S))
-  leads_known true h = h
-  leads_known false h = still (plain tt refl)
 
   leads_if : {S : State T} {call : Action T} {f : NewNames} (b : Bool) {x y : Outcome T}
       → (b ≡ true → Leads S call f x) → Leads S call f y → Leads S call f (cond b x y)
@@ -228,8 +216,7 @@ module _ {T : Type 0} where
   -- the record of an owner that the store knows
   pub held_record : (S : State T) (o : OwnerName) (h : Ownership)
       → ownership S o ≡ Some h → map.get S.owners o.key ≡ Some h
-  held_record S o h = by_cond (λ x. x ≡ Some h → map.get S.owners o.key ≡ Some h)
-      (nat_eq o.store S.number) (λ _ e. e) (λ _ e. absurd (none≢some _ _ refl e))
+  held_record S o h is = (cond_gives _ _ h is).1
 
   boxed_push : (S : State T) (names : List Name) (n : Name) → AllByRecursion (IsBoxed S) names
       → IsBoxed S n → AllByRecursion (IsBoxed S) (names ++ n ∷ [])
@@ -241,26 +228,21 @@ module _ {T : Type 0} where
       (all : AreRecords S next owners) (key : ℕ) where
     records_listed : (n : Name) → IsBoxed S n → AreRecords S next (change owners key (one_listed n))
     records_listed n boxed k h is = ⊎_elim (λ e. all k h (sym e ∙ is))
-        (λ e. let old = all k e.1 e.2 in let same : one_listed n e.1 ≡ h = cc in subst
-        (λ (x : Ownership). AllByRecursion (IsBoxed S) x.names × (k < next)) same (
-          boxed_push S
-              e.1.names n old.0 boxed,
-          old.1,
-        )) (changed_view by_number owners key (one_listed n) k)
+        (λ e. let old = all k e.1 e.2 in let same : one_listed n e.1 ≡ h = cc in
+        subst (λ (x : Ownership). AllByRecursion (IsBoxed S) x.names × (k < next)) same
+        (boxed_push S e.1.names n old.0 boxed, old.1))
+        (changed_view by_number owners key (one_listed n) k)
 
     records_put : (h : Ownership) → AllByRecursion (IsBoxed S) h.names → key < next
         → AreRecords S next (map.insert owners key h)
-    records_put h boxed below k x is = ⊎_elim (λ e. let here = get-insert_here
-        by_number owners key h in let there = ap (map.get (map.insert owners key h)) e in
-        let same : h ≡ x = cc in subst (λ (y : Ownership). AllByRecursion (IsBoxed S) y.names
-        × (k < next)) same (boxed, subst (λ j. j < next) (sym e) below)) (λ ne. all k x
-        (sym (get-insert_apart by_number owners key h k ne) ∙ is)) (key_cases by_number k key)
+    records_put h boxed below k x is = by_keys by_number k key
+        (λ e. let here = get-insert_here by_number owners key h in let same : x ≡ h = cc in
+        rw (same, e) (boxed, below))
+        (λ ne. all k x (sym (get-insert_apart by_number owners key h k ne) ∙ is))
 
     records_left : AreRecords S next (map.remove owners key)
-    records_left k x is = ⊎_elim (λ e. absurd (none≢some _ _
-        (ap (map.get (map.remove owners key)) e ∙ get-remove_here by_number owners key) is))
+    records_left k x is = by_keys by_number k key (λ e. cc (get-remove_here by_number owners key))
         (λ ne. all k x (sym (get-remove_apart by_number owners key k ne) ∙ is))
-        (key_cases by_number k key)
 
   leads_cloned : {S : State T} {f : NewNames} (o : OwnerName) (h : Option Ownership)
       → ownership S o ≡ h → Leads S (CloneOwner o) f (clone_owner S o h)
@@ -284,10 +266,8 @@ module _ {T : Type 0} where
   -- the name of a new cell that is no Shared one
   boxed_here : (S : State T) (n : Name) (c : Cell T)
       → is_shared (Some c) ≡ false → IsBoxed (add_cell S n c) n
-  boxed_here S n c plain = (
-    contains-insert_here by_name S.given n,
-    ap is_shared (get-insert_here by_name S.cells n c) ∙ plain,
-  )
+  boxed_here S n c plain = let here = get-insert_here by_name S.cells n c in
+      (contains-insert_here by_name S.given n, cc)
 
   -- cells are made, and their box is listed
   leads_made : {S : State T}
@@ -308,9 +288,8 @@ module _ {T : Type 0} where
       (to : Option Name) (target : Option (Cell T)) → cell_at S to ≡ target
       → Leads S (Refer o b) f (refer S o b to target f.first)
   leads_referred {S} {f} o b (Some m) (Some (Shared c l)) is =
-      let leads = λ (k : Name) (j : Location) (e : Some (Ref m l) ≡ Some (Ref k j)).
-      subst (λ x. is_shared (map.get S.cells x) ≡ true) (target_of m k l j e) (ap is_shared is) in
-      leads_made (Birth (Ref m l)) o _ (omega arith) (refl, (refl, refl, leads), λ new. new) refl
+      leads_made (Birth (Ref m l)) o _ (omega arith)
+      (refl, (refl, refl, λ k j e. cc), λ new. new) refl
       (λ new. new) (boxed_here S f.first (Ref m l) refl)
   leads_referred o b to target is = still (plain tt refl)
 
@@ -321,24 +300,24 @@ module _ {T : Type 0} where
       → content_of x ≡ Some old → content_of (option_map (refill c) x) ≡ Some c
   refilled_content c old (Some (Value o l)) h = refl
   refilled_content c old (Some (Shared o l)) h = refl
-  refilled_content c old x h = absurd (none≢some _ _ refl h)
+  refilled_content c old x h = cc
 
   pub filled_content : (S : State T) (m : Name) (c old : Content T)
       → content_at S m ≡ Some old → content_at (fill S m c) m ≡ Some c
-  filled_content S m c old had = ap content_of (get-changed_name S.cells m (refill c) m ∙ ap
-      (λ b. cond b (option_map (refill c) (map.get S.cells m)) (map.get S.cells m)) (name_here m))
-      ∙ refilled_content c old (map.get S.cells m) had
+  filled_content S m c old had = rw (get-changed_name S.cells m (refill c) m, name_here m)
+      (refilled_content c old (map.get S.cells m) had)
 
   leads_read : {S : State T} {f : NewNames} (b : GenerationalPointer) (l : Location) (m : Option Name)
       (c : Option (Content T)) → content_of (cell_at S m) ≡ c → reach S b ≡ m
       → Leads S (Read b l) f (read_at S l m c)
   leads_read {S} b l (Some m) (Some (Here v readers)) had to =
       let k : Filling T = Reader v readers l in
-      let known = and_from _ _ (nat_eq_equiv.refl S.number)
-      (ap (λ c. has_reader c S.next) (filled_content S m (new_content S k) (Here v readers) had)
-      ∙ pushed_reads readers (next_borrow S l)) in
+      let filled = filled_content S m (new_content S k) (Here v readers) had in
+      let stands : knows_reader (fill S m (new_content S k)) (next_guard S m) ≡ true =
+      and_from _ _ (nat_eq_equiv.refl S.number)
+      (rw (filled, list_any-append) (or_right _ _ (or_left _ _ (nat_eq_equiv.refl S.next)))) in
       leads (Fill m k) _ (S.next + 1) (omega arith) (had, (refl, to)) (λ h. h)
-      (λ _. plain (record { is = refl; next = refl }, known) refl)
+      (λ _. plain (record { is = refl; next = refl }, stands) refl)
   leads_read b l m c had to = still (plain tt refl)
 
   leads_write : {S : State T} {f : NewNames} (b : GenerationalPointer) (l : Location) (m : Option Name)
@@ -350,8 +329,7 @@ module _ {T : Type 0} where
       (filled_content S m (Lent (next_borrow S l)) (Here v []) had) ∙ nat_eq_equiv.refl S.next) in
       leads (Fill m (Writer v l)) _ (S.next + 1) (omega arith) (had, (refl, to, to)) (λ h. h)
       (λ _. plain (record { is = refl; next = refl }, known) refl)
-  leads_write b l (Some m) (Some (Here v (r ∷ readers))) had free to =
-      absurd (none≢some _ _ free (ap write_refusal had))
+  leads_write b l (Some m) (Some (Here v (r ∷ readers))) had free to = cc (ap write_refusal had)
   leads_write b l m c had free to = still (plain tt refl)
 
   leads_left : {S : State T} {f : NewNames} (g : Guard) (c : Option (Content T))
@@ -367,7 +345,7 @@ module _ {T : Type 0} where
       → Leads S (ReleaseWriter g v) f (Done, fill S g.cell (Here v []))
   leads_returned {S} g v (Some (Lent w)) had known = leads (Fill g.cell (Return w g v)) _
       S.next (omega arith) (had, (refl, known, refl)) (λ h. h) (λ _. plain tt refl)
-  leads_returned g v c had known = absurd (true≢false (sym known))
+  leads_returned g v c had known = cc
 
   leads_set : {S : State T} {f : NewNames} (b : GenerationalPointer) (v : T) (m : Option Name)
       (c : Option (Content T)) → content_of (cell_at S m) ≡ c → reach S b ≡ m
@@ -383,27 +361,26 @@ module _ {T : Type 0} where
       (cell : Option (Cell T)) (to : Option Name) (target : Option (Cell T))
       → map.get S.cells (name_of a) ≡ cell → cell_at S to ≡ target
       → Leads S (Point a b) f (point S a b (cond own cell None) to target)
-  leads_pointed a b false cell to target at_a at_b = still (plain tt refl)
-  leads_pointed a b true None to target at_a at_b = still (plain tt refl)
   leads_pointed {S} a b true (Some (Ref old l)) (Some new) (Some (Shared c k)) at_a at_b =
       leads_if (is_name old new) (λ _. still (plain tt refl))
       (leads_unless (hindrance_at S.cells (sweep (map.insert S.cells (name_of a) (Ref new l))) old)
       (λ free. leads (Turn (name_of a) old new l) _ S.next (omega arith)
       (at_a, ap is_shared at_b, free, refl) (λ h. h) (λ _. plain tt refl)))
-  leads_pointed a b true (Some _) to target at_a at_b = still (plain tt refl)
+  leads_pointed a b _ _ _ _ at_a at_b = still (plain tt refl)
 
   -- what each call leads to
   pub act_leads : (S : State T) (call : Action T) (f : NewNames) → Leads S call f (act S call f)
   unfolding refusal_to_write
-  act_leads S (Make o v l) f = leads_known (is_known S o)
-      (leads_made (Birth (Value (Here v []) l)) o _ (omega arith)
-      (refl, (refl, refl, λ m k e. absurd cc), λ new. new) refl (λ new. new)
-      (boxed_here S f.first _ refl))
-  act_leads S (MakeShared o v l) f = leads_known (is_known S o)
-      (leads_made (Pair v l) o _ (omega arith) (refl, λ new. new) refl (λ new. new.1)
+  act_leads S (Make o v l) f = leads_if (is_known S o)
+      (λ _. leads_made (Birth (Value (Here v []) l)) o _ (omega arith)
+      (refl, (refl, refl, λ m k e. cc), λ new. new) refl (λ new. new)
+      (boxed_here S f.first _ refl)) (still (plain tt refl))
+  act_leads S (MakeShared o v l) f = leads_if (is_known S o)
+      (λ _. leads_made (Pair v l) o _ (omega arith) (refl, λ new. new) refl (λ new. new.1)
       (boxed_here (add_cell S f.first (Shared (Here v []) l)) f.second (Ref f.first l) refl))
-  act_leads S (Refer o b) f = leads_known (is_known S o)
-      (leads_unless (refusal_to_read S b) (λ _. leads_referred o b (reach S b) _ refl))
+      (still (plain tt refl))
+  act_leads S (Refer o b) f = leads_if (is_known S o) (λ _. leads_unless (refusal_to_read S b)
+      (λ _. leads_referred o b (reach S b) _ refl)) (still (plain tt refl))
   act_leads S NewOwner f = leads Stay _ (S.next + 1) (omega arith) tt
       (λ all. records_put S _ S.owners all S.next _ tt (omega arith)) (λ _. plain refl refl)
   act_leads S (CloneOwner o) f = leads_cloned o (ownership S o) refl

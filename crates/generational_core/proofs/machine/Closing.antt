@@ -1,18 +1,19 @@
 -- Names that end one after the other, and Refs that turn: what is left, and what hinders it.
 use Rattle.generational_core.proofs.machine
-use machine.{Bool, true, false, cond, ap, subst, ⊎_elim, Value, Shared, sweep, among, State, is_ref}
-use machine.{◌≡◌, or_cases, or_right, take_away, is_named, Location, name_here, name_same, get-keep}
-use machine.{◌≢◌, or_left, is_some, BorrowRefusal, NameMap, is_name, by_name, by_cond, IsLinked, box_ends}
-use machine.{not, ◌||◌, List, ◌∷◌, None, Some, refl, sym, ◌∙◌, Cell, Ref, Name}
+use machine.{Bool, true, false, cond, ap, ⊎_elim, Value, Shared, sweep, among, State, is_ref}
+use machine.{◌≡◌, or_right, take_away, is_named, Location, name_here, name_same}
+use machine.{◌≢◌, or_left, BorrowRefusal, NameMap, is_name, by_name, by_cond, IsLinked, box_ends}
+use machine.{not, ◌||◌, List, ◌∷◌, None, Some, refl, sym, ◌∙◌, Cell, Ref, Name, get-swept, live_by}
 use machine.{[], write_refusal, cells_after, hindrance_at, hindrance_of, hindrance_to, without_view}
 use machine.{Option, both_ways, option_or, is_shared, refers_to, name_apart, named_from, swept_view}
-use machine.{true≢false, content_of, name_total, name_exact, name_cases, remove_each, named_gives}
+use machine.{content_of, name_total, name_exact, remove_each, named_gives, by_keys, get-without}
 use machine.{first_hindrance, get-insert_here, get-insert_apart, get-remove_here, get-remove_apart}
 use Rattle.std.specs.FinMap as map
+use Rattle.std.proofs.Math.Bool.{or-false, or-true}
 
 -- what stands in a list of one name
 just_one : (n q : Name) → among (n ∷ []) q ≡ true → q ≡ n
-just_one n q h = ⊎_elim (λ e. name_same q n e) (λ e. absurd (true≢false (sym e))) (or_cases _ _ h)
+just_one n q h = name_same q n (rw or-false at h)
 
 module _ {T : Type 0} where
   -- ---- what is left at a name
@@ -22,17 +23,6 @@ module _ {T : Type 0} where
 
   abbrev swept : Option (Cell T) → Bool → Option (Cell T)  -- where a Ref names it, or none does
   swept cell named = cond (not (is_shared cell) || named) cell None
-
-  -- what stands at a name where names are taken away, and after a sweep
-  get-without : (cells : NameMap (Cell T)) (names : List Name) (q : Name)
-      → map.get (take_away cells names) q ≡ without (map.get cells q) (among names q)
-  unfolding take_away
-  get-without cells names q = get-keep by_name cells _ q
-
-  get-swept : (cells : NameMap (Cell T)) (q : Name)
-      → map.get (sweep cells) q ≡ swept (map.get cells q) (is_named cells q)
-  unfolding sweep
-  get-swept cells q = get-keep by_name cells _ q
 
   -- cells that are the same at each name
   same_cells : (a b : NameMap (Cell T)) → ((q : Name) → map.get a q ≡ map.get b q) → a ≡ b
@@ -55,93 +45,57 @@ module _ {T : Type 0} where
   named_same a b m same = both_ways _ _ (named_still a b m (λ k h. sym (same k) ∙ h))
       (named_still b a m (λ k h. same k ∙ h))
 
-  -- a Ref is swept under no test, and nothing else is one
-  swept_refers : (m : Name) (cell : Option (Cell T)) (named : Bool)
-      → refers_to m (swept cell named) ≡ refers_to m cell
-  swept_refers m (Some (Shared c l)) true = refl
-  swept_refers m (Some (Shared c l)) false = refl
-  swept_refers m None true = refl
-  swept_refers m None false = refl
-  swept_refers m (Some (Value c l)) named = refl
-  swept_refers m (Some (Ref k l)) named = refl
-
   -- the end of a cell that is no Ref to m leaves what names m
   pub remove_names : (cells : NameMap (Cell T)) (n m : Name)
       → refers_to m (map.get cells n) ≡ false → is_named (map.remove cells n) m ≡ is_named cells m
-  remove_names cells n m other = named_same (map.remove cells n) cells m (λ k. ⊎_elim
-      (λ is. ap (λ x. refers_to m (map.get (map.remove cells n) x)) is
-      ∙ (ap (refers_to m) (get-remove_here by_name cells n)
-      ∙ (sym other ∙ ap (λ x. refers_to m (map.get cells x)) (sym is))))
-      (λ ne. ap (refers_to m) (get-remove_apart by_name cells n k ne)) (name_cases k n))
+  remove_names cells n m other = named_same (map.remove cells n) cells m (λ k. by_keys by_name k n
+      (λ is. cc (ap (refers_to m) (get-remove_here by_name cells n)))
+      (λ ne. ap (refers_to m) (get-remove_apart by_name cells n k ne)))
 
   -- ---- names end one after the other
 
   -- names are taken away one after the other
   pub away_each : (cells : NameMap (Cell T)) (n : Name) (names : List Name)
       → take_away cells (n ∷ names) ≡ take_away (take_away cells (n ∷ [])) names
-  away_each cells n names = same_cells _ _ (λ q.
-      get-without cells (n ∷ names) q
-      ∙ (sym (twice (map.get cells q) (is_name q n) (among names q))
-      ∙ sym (get-without (take_away cells (n ∷ [])) names q
-      ∙ ap (λ x. without x (among names q)) (get-without cells (n ∷ []) q))))
+  away_each cells n names = same_cells _ _ (λ q. simp get-without
+      (sym (twice (map.get cells q) (is_name q n) (among names q))))
     where
       twice : (cell : Option (Cell T)) (a b : Bool)
           → without (without cell (a || false)) b ≡ without cell (a || b)
-      twice None true true = refl
-      twice None true false = refl
-      twice None false true = refl
-      twice None false false = refl
       twice (Some (Shared c l)) a b = refl
-      twice (Some (Value c l)) true true = refl
-      twice (Some (Value c l)) true false = refl
-      twice (Some (Value c l)) false b = refl
-      twice (Some (Ref m l)) true true = refl
-      twice (Some (Ref m l)) true false = refl
-      twice (Some (Ref m l)) false b = refl
+      twice cell true true = refl
+      twice cell true false = refl
+      twice cell false true = refl
+      twice cell false false = refl
 
   -- a sweep between changes nothing in the end
   sweep_between : (cells : NameMap (Cell T)) (names : List Name)
       → sweep (take_away (sweep cells) names) ≡ sweep (take_away cells names)
-  sweep_between cells names = same_cells _ _ (λ q. let named = is_named (take_away cells names) q in
-      get-swept (take_away (sweep cells) names) q
-      ∙ (rw (names_same q, get-without (sweep cells) names q, get-swept cells q)
-      (between (map.get cells q) (is_named cells q) (among names q) named (fewer q)) ∙ sym
-      (get-swept (take_away cells names) q ∙ ap (λ x. swept x named) (get-without cells names q))))
+  sweep_between cells names = same_cells _ _ (λ q. simp (get-swept, names_same q, get-without)
+      (between (map.get cells q) (is_named cells q) (among names q) _ (fewer q)))
     where
       refers_same : (m : Name) (cell : Option (Cell T)) (named there : Bool)
           → refers_to m (without (swept cell named) there) ≡ refers_to m (without cell there)
-      refers_same m None true there = refl
-      refers_same m None false there = refl
-      refers_same m (Some (Shared c l)) true there = refl
       refers_same m (Some (Shared c l)) false true = refl
       refers_same m (Some (Shared c l)) false false = refl
-      refers_same m (Some (Value c l)) named there = refl
-      refers_same m (Some (Ref k l)) named there = refl
+      refers_same m cell named there = refl
 
       names_same : (q : Name)
           → is_named (take_away (sweep cells) names) q ≡ is_named (take_away cells names) q
-      names_same q = named_same _ _ q (λ k. rw (
-        get-without (sweep cells) names k,
-        get-swept cells k,
-        get-without cells names k,
-      ) (refers_same q (map.get cells k) (is_named cells k) (among names k)))
+      names_same q = named_same _ _ q (λ k. simp (get-without, get-swept)
+          (refers_same q (map.get cells k) (is_named cells k) (among names k)))
 
       fewer : (q : Name) → is_named (take_away cells names) q ≡ true → is_named cells q ≡ true
       fewer q = named_still (take_away cells names) cells q (λ k h. ⊎_elim
-          (λ e. ap (refers_to q) (sym e) ∙ h)
-          (λ e. absurd (true≢false (sym h ∙ ap (refers_to q) e.0))) (without_view cells names k))
+          (λ e. cc) (λ e. cc (ap (refers_to q) e.0)) (without_view cells names k))
 
       between : (cell : Option (Cell T)) (before there after : Bool)
           → (after ≡ true → before ≡ true)
           → swept (without (swept cell before) there) after ≡ swept (without cell there) after
-      between None true there after h = refl
-      between None false there after h = refl
-      between (Some (Value c l)) before there after h = refl
-      between (Some (Ref m l)) before there after h = refl
-      between (Some (Shared c l)) true there after h = refl
-      between (Some (Shared c l)) false there true h = absurd (true≢false (sym (h refl)))
+      between (Some (Shared c l)) false there true h = cc (h refl)
       between (Some (Shared c l)) false true false h = refl
       between (Some (Shared c l)) false false false h = refl
+      between cell before there after h = refl
 
   -- what is left where names end is what is left where they end one after the other
   pub close_each : (cells : NameMap (Cell T)) (n : Name) (names : List Name)
@@ -158,49 +112,40 @@ module _ {T : Type 0} where
   away_nothing cells names nothing = same_cells _ _ (λ q. ⊎_elim (λ e. e)
       (λ e. e.0 ∙ sym (nothing q e.2 e.1)) (without_view cells names q))
 
-  -- so a Shared cell stays where its name alone ends
-  pub away_shared : (cells : NameMap (Cell T)) (n : Name)
-      → is_shared (map.get cells n) ≡ true → take_away cells (n ∷ []) ≡ cells
-  away_shared cells n shared = away_nothing cells (n ∷ []) (λ q there plain. absurd (true≢false
-      (sym shared ∙ (ap (λ x. is_shared (map.get cells x)) (sym (just_one n q there)) ∙ plain))))
+  module _ (cells : NameMap (Cell T)) (n : Name) where
+    -- so a Shared cell stays where its name alone ends
+    pub away_shared : is_shared (map.get cells n) ≡ true → take_away cells (n ∷ []) ≡ cells
+    away_shared shared = away_nothing cells (n ∷ []) (λ q there plain. cc (just_one n q there))
 
-  -- and where none stands, nothing goes
-  pub away_absent : (cells : NameMap (Cell T)) (n : Name)
-      → map.get cells n ≡ None → take_away cells (n ∷ []) ≡ cells
-  away_absent cells n none = away_nothing cells (n ∷ []) (λ q there plain.
-      ap (map.get cells) (just_one n q there) ∙ none)
+    -- and where none stands, nothing goes
+    pub away_absent : map.get cells n ≡ None → take_away cells (n ∷ []) ≡ cells
+    away_absent none = away_nothing cells (n ∷ []) (λ q there plain. cc (just_one n q there))
 
-  -- any other cell goes
-  pub away_one : (cells : NameMap (Cell T)) (n : Name)
-      → is_shared (map.get cells n) ≡ false → take_away cells (n ∷ []) ≡ map.remove cells n
-  away_one cells n plain = same_cells _ _ (λ q. ⊎_elim
-      (λ is. subst (λ x. map.get (take_away cells (n ∷ [])) x ≡ map.get (map.remove cells n) x)
-      (sym is) (get-without cells (n ∷ []) n
-      ∙ rw (plain, name_here n) (sym (get-remove_here by_name cells n))))
-      (λ ne. ⊎_elim (λ e. e) (λ e. absurd (ne (just_one n q e.2))) (without_view cells (n ∷ []) q)
-      ∙ sym (get-remove_apart by_name cells n q ne))
-      (name_cases q n))
+    -- any other cell goes
+    pub away_one : is_shared (map.get cells n) ≡ false
+        → take_away cells (n ∷ []) ≡ map.remove cells n
+    away_one plain = same_cells _ _ (λ q. by_keys by_name q n
+        (λ is. rw (is, get-without, plain, name_here n, get-remove_here by_name cells n))
+        (λ ne. rw (get-without, get-remove_apart by_name cells n q ne, name_apart q n ne, or-true)))
 
   -- ---- a sweep of cells where each Shared cell is named, or each but one
 
   -- where each is named, none goes
   pub sweep_all : (cells : NameMap (Cell T)) → ((q : Name) → is_shared (map.get cells q) ≡ true
       → is_named cells q ≡ true) → sweep cells ≡ cells
-  sweep_all cells named = same_cells _ _ (λ q. ⊎_elim (λ e. e.0)
-      (λ e. absurd (true≢false (sym (named q e.1) ∙ e.2))) (swept_view cells q))
+  sweep_all cells named =
+      same_cells _ _ (λ q. ⊎_elim (λ e. e.0) (λ e. cc (named q e.1)) (swept_view cells q))
 
   -- where each but m is named, m alone may go
   pub sweep_but : (cells : NameMap (Cell T)) (m : Name) → is_shared (map.get cells m) ≡ true
       → ((q : Name) → q ≢ m → is_shared (map.get cells q) ≡ true → is_named cells q ≡ true)
       → sweep cells ≡ cond (is_named cells m) cells (map.remove cells m)
   sweep_but cells m shared others = by_cond (λ x. sweep cells ≡ x) (is_named cells m)
-      (λ named. sweep_all cells (λ q h. ⊎_elim (λ is. ap (is_named cells) is ∙ named)
-      (λ ne. others q ne h) (name_cases q m)))
-      (λ unnamed. same_cells _ _ (λ q. ⊎_elim
-      (λ is. subst (λ x. map.get (sweep cells) x ≡ map.get (map.remove cells m) x) (sym is)
-      (get-swept cells m ∙ rw (shared, unnamed) (sym (get-remove_here by_name cells m))))
-      (λ ne. ⊎_elim (λ e. e.0) (λ e. absurd (true≢false (sym (others q ne e.1) ∙ e.2)))
-      (swept_view cells q) ∙ sym (get-remove_apart by_name cells m q ne)) (name_cases q m)))
+      (λ named. sweep_all cells (λ q h. by_keys by_name q m (λ is. cc) (λ ne. others q ne h)))
+      (λ unnamed. same_cells _ _ (λ q. by_keys by_name q m
+      (λ is. cc (get-swept cells m, get-remove_here by_name cells m))
+      (λ ne. ⊎_elim (λ e. e.0) (λ e. cc (others q ne e.1)) (swept_view cells q)
+      ∙ sym (get-remove_apart by_name cells m q ne))))
 
   -- ---- the end of one name, of cells that are linked
 
@@ -210,19 +155,8 @@ module _ {T : Type 0} where
 
   -- nor where no names end
   pub close_nothing : (cells : NameMap (Cell T)) → IsLinked cells → cells_after cells [] ≡ cells
-  close_nothing cells linked = ap sweep (away_nothing
-      cells [] (λ q there. absurd (true≢false (sym there)))) ∙ sweep_linked cells linked
-
-  -- a Shared cell that the cell at n doesn't name is named without it
-  named_without : (cells : NameMap (Cell T)) (n q : Name) → IsLinked cells
-      → refers_to q (map.get cells n) ≡ false
-      → is_shared (map.get (map.remove cells n) q) ≡ true → is_named (map.remove cells n) q ≡ true
-  named_without cells n q linked other h = ⊎_elim
-      (λ is. absurd (true≢false (sym h ∙ (ap (λ x. is_shared (map.get (map.remove cells n) x)) is
-      ∙ ap is_shared (get-remove_here by_name cells n)))))
-      (λ ne. remove_names cells n q other ∙ named_from cells q
-      (linked.named q (sym (ap is_shared (get-remove_apart by_name cells n q ne)) ∙ h)))
-      (name_cases q n)
+  close_nothing cells linked =
+      ap sweep (away_nothing cells [] (λ q there plain. cc)) ∙ sweep_linked cells linked
 
   -- what is left where the name of a cell ends: a Ref's target goes with the last Ref to it
   abbrev pub left_of_end : NameMap (Cell T) → Name → Option (Cell T) → NameMap (Cell T)
@@ -231,22 +165,27 @@ module _ {T : Type 0} where
       cond (is_named rest m) rest (map.remove (map.remove cells m) n)
   left_of_end cells n _ = cells
 
-  -- it is what is left of the cells
-  pub close_one : (cells : NameMap (Cell T)) (n : Name) → IsLinked cells → (cell : Option (Cell T))
-      → map.get cells n ≡ cell → cells_after cells (n ∷ []) ≡ left_of_end cells n cell
-  close_one cells n linked None at = ap sweep (away_absent cells n at) ∙ sweep_linked cells linked
-  close_one cells n linked (Some (Shared c l)) at =
-      ap sweep (away_shared cells n (ap is_shared at)) ∙ sweep_linked cells linked
-  close_one cells n linked (Some (Value c l)) at = ap sweep (away_one cells n (ap is_shared at)) ∙
-      sweep_all (map.remove cells n) (λ q h. named_without cells n q linked (ap (refers_to q) at) h)
-  close_one cells n linked (Some (Ref m l)) at =
-      let rest = map.remove cells n in let target = linked.targets n m l at in
-      let apart = λ (is : m ≡ n).
-      true≢false (sym target ∙ (ap (λ x. is_shared (map.get cells x)) is ∙ ap is_shared at)) in
-      ap sweep (away_one cells n (ap is_shared at))
-      ∙ (sweep_but rest m (ap is_shared (get-remove_apart by_name cells n m apart) ∙ target)
-      (λ q ne h. named_without cells n q linked (ap (refers_to q) at ∙ name_apart q m ne) h)
-      ∙ ap (cond (is_named rest m) rest) (remove_each by_name cells n m))
+  module _ (cells : NameMap (Cell T)) (n : Name) (linked : IsLinked cells) where
+    -- a Shared cell that the cell at n doesn't name is named without it
+    named_without : (q : Name) → refers_to q (map.get cells n) ≡ false
+        → is_shared (map.get (map.remove cells n) q) ≡ true → is_named (map.remove cells n) q ≡ true
+    named_without q other h = by_keys by_name q n (λ is. cc (get-remove_here by_name cells n))
+        (λ ne. remove_names cells n q other ∙ named_from cells q
+        (linked.named q (rw (get-remove_apart by_name cells n q ne) at h)))
+
+    -- it is what is left of the cells
+    pub close_one : (cell : Option (Cell T)) → map.get cells n ≡ cell
+        → cells_after cells (n ∷ []) ≡ left_of_end cells n cell
+    close_one (Some (Value c l)) at = ap sweep (away_one cells n (ap is_shared at))
+        ∙ sweep_all (map.remove cells n) (λ q h. named_without q (ap (refers_to q) at) h)
+    close_one (Some (Ref m l)) at =
+        let rest = map.remove cells n in let target = linked.targets n m l at in
+        let still = get-remove_apart by_name cells n m (λ is. cc) in
+        ap sweep (away_one cells n (ap is_shared at)) ∙ (sweep_but rest m (rw still target)
+        (λ q ne h. named_without q (ap (refers_to q) at ∙ name_apart q m ne) h)
+        ∙ ap (cond (is_named rest m) rest) (remove_each by_name cells n m))
+    close_one cell at = ap sweep (away_nothing cells (n ∷ [])
+        (λ q there plain. cc (just_one n q there))) ∙ sweep_linked cells linked
 
   -- ---- what hinders the end of names
 
@@ -254,11 +193,7 @@ module _ {T : Type 0} where
   hindered_unnamed : (cells left : NameMap (Cell T)) (m : Name) (named : Bool)
       → is_shared (map.get cells m) ≡ true → map.get left m ≡ cond named (map.get cells m) None
       → hindrance_at cells left m ≡ cond named None (write_refusal (content_of (map.get cells m)))
-  hindered_unnamed cells left m true shared at = rw (at, live (map.get cells m) shared) refl
-    where
-      live : (cell : Option (Cell T)) → is_shared cell ≡ true → is_some cell ≡ true
-      live None h = h
-      live (Some c) h = refl
+  hindered_unnamed cells left m true shared at = rw (at, live_by is_shared refl _ shared)
   hindered_unnamed cells left m false shared at = rw at refl
 
   -- what hinders the end of a cell, where a test tells what is named afterwards
@@ -279,18 +214,13 @@ module _ {T : Type 0} where
     pub end_hindered : (n : Name) → among names n ≡ true → (cell : Option (Cell T))
         → map.get cells n ≡ cell → hindrance_of cells (cells_after cells names)
         (map.get cells n) n ≡ borrowed_end cells (is_named (take_away cells names)) cell
-    end_hindered n there cell at = rw at (by cell at)
-      where
-        by : (cell : Option (Cell T)) → map.get cells n ≡ cell
-            → hindrance_of cells (cells_after cells names) cell n
-            ≡ borrowed_end cells (is_named (take_away cells names)) cell
-        by None at = refl
-        by (Some (Shared c l)) at = refl
-        by (Some (Value c l)) at = rw (box_ends cells names n (ap is_shared at) there, at) refl
-        by (Some (Ref m l)) at =
-            let rest = take_away cells names in let shared = linked.targets n m l at in
-            hindered_unnamed cells (sweep rest) m (is_named rest m)
-            shared (get-swept rest m ∙ rw (get-without cells names m, shared, shared) refl)
+    end_hindered n there (Some (Value c l)) at =
+        rw (at, box_ends cells names n (ap is_shared at) there, at)
+    end_hindered n there (Some (Ref m l)) at =
+        let rest = take_away cells names in let shared = linked.targets n m l at in
+        rw at (hindered_unnamed cells (sweep rest) m (is_named rest m) shared
+        (rw (get-swept rest m, get-without cells names m, shared, shared)))
+    end_hindered n there _ at = rw at
 
     -- so the first hindrance is that of each name by itself
     pub first_hindered : first_hindrance cells (cells_after cells names) names
@@ -301,10 +231,10 @@ module _ {T : Type 0} where
             → first_hindrance cells (cells_after cells names) some
             ≡ first_borrowed_end cells (is_named (take_away cells names)) some
         of_some [] within = refl
-        of_some (n ∷ some) within = rw (
-          end_hindered n (within n (or_left _ _ (name_here n))) (map.get cells n) refl,
-          of_some some (λ q h. within q (or_right _ _ h)),
-        ) refl
+        of_some (n ∷ some) within =
+            let there = within n (or_left _ _ (name_here n)) in
+            let here = end_hindered n there (map.get cells n) refl in
+            let rest = of_some some (λ q h. within q (or_right _ _ h)) in cc
 
   -- what hinders the end of one name
   pub one_hindered : (S : State T) (n : Name) → IsLinked S.cells
@@ -321,10 +251,8 @@ module _ {T : Type 0} where
       by : (cell : Option (Cell T)) → map.get S.cells n ≡ cell
           → borrowed_end S.cells (is_named (take_away S.cells (n ∷ []))) cell
           ≡ borrowed_end S.cells (is_named (map.remove S.cells n)) cell
-      by (Some (Ref m l)) at = rw (away_one S.cells n (ap is_shared at)) refl
-      by (Some (Value c l)) at = refl
-      by (Some (Shared c l)) at = refl
-      by None at = refl
+      by (Some (Ref m l)) at = rw (away_one S.cells n (ap is_shared at))
+      by _ at = refl
 
   -- ---- a Ref that turns to another cell
 
@@ -337,27 +265,17 @@ module _ {T : Type 0} where
     apart : (k : Name) → k ≢ a → map.get (map.insert cells a (Ref new l)) k ≡ map.get cells k
     apart k ne = get-insert_apart by_name cells a (Ref new l) k ne
 
-    -- Shared cells aren't at the Ref's name
-    not_there : (q : Name) → is_shared (map.get cells q) ≡ true → q ≢ a
-    not_there q h is =
-        true≢false (sym h ∙ (ap (λ x. is_shared (map.get cells x)) is ∙ ap is_shared at))
-
     -- what is Shared afterwards was Shared before
     turned_other : (q : Name) → is_shared (map.get turned q) ≡ true
         → is_shared (map.get cells q) ≡ true
-    turned_other q h = ⊎_elim
-        (λ is. absurd (true≢false (sym h ∙ (ap (λ x. is_shared (map.get turned x)) is
-        ∙ ap is_shared (get-insert_here by_name cells a (Ref new l))))))
-        (λ ne. ap is_shared (sym (apart q ne)) ∙ h) (name_cases q a)
+    turned_other q h = by_keys by_name q a
+        (λ is. cc (get-insert_here by_name cells a (Ref new l))) (λ ne. rw (apart q ne) at h)
 
     -- all but the old target are named still
     turned_named : (q : Name)
         → q ≢ old → is_shared (map.get turned q) ≡ true → is_named turned q ≡ true
     turned_named q ne h = named_still cells turned q
-        (λ k h. ⊎_elim
-        (λ is. absurd (true≢false (sym h ∙ (ap (λ x. refers_to q (map.get cells x)) is
-        ∙ (ap (refers_to q) at ∙ name_apart q old ne)))))
-        (λ ne. ap (refers_to q) (apart k ne) ∙ h) (name_cases k a))
+        (λ k h. by_keys by_name k a (λ is. cc (name_apart q old ne)) (λ ne. rw (apart k ne) h))
         (named_from cells q (linked.named q (turned_other q h)))
 
     module _ (other : is_name old new ≡ false) where
@@ -365,20 +283,16 @@ module _ {T : Type 0} where
       turn_names : is_named (map.insert cells a (Ref new l)) old ≡ is_named (map.remove cells a) old
       turn_names =
           let rest = map.remove cells a in
-          named_same turned rest old (λ k. ⊎_elim
-          (λ is. subst (λ x. refers_to old (map.get turned x) ≡ refers_to old (map.get rest x))
-          (sym is) (ap (refers_to old) (get-insert_here by_name cells a (Ref new l))
-          ∙ (other ∙ ap (refers_to old) (sym (get-remove_here by_name cells a)))))
-          (λ ne. ap (refers_to old) (apart k ne ∙ sym (get-remove_apart by_name cells a k ne)))
-          (name_cases k a))
+          named_same turned rest old (λ k. by_keys by_name k a
+          (λ is. rw (is, get-insert_here by_name, get-remove_here by_name) other)
+          (λ ne. rw (apart k ne, get-remove_apart by_name cells a k ne)))
 
       -- it goes if none does
       pub turn_sweep : sweep (map.insert cells a (Ref new l))
           ≡ cond (is_named (map.remove cells a) old) (map.insert cells a (Ref new l))
           (map.remove (map.insert cells a (Ref new l)) old)
       turn_sweep = let shared = linked.targets a old l at in
-          let still = ap is_shared (apart old (not_there old shared)) ∙ shared in
-          sweep_but turned old still turned_named
+          sweep_but turned old (ap is_shared (apart old (λ is. cc)) ∙ shared) turned_named
           ∙ ap (λ b. cond b turned (map.remove turned old)) turn_names
 
       -- and its borrows hinder that
@@ -386,4 +300,4 @@ module _ {T : Type 0} where
           (is_named (map.remove cells a) old) None (write_refusal (content_of (map.get cells old)))
       turn_hindered = let shared = linked.targets a old l at in
           hindered_unnamed cells (sweep turned) old (is_named (map.remove cells a) old) shared
-          (get-swept turned old ∙ rw (turn_names, apart old (not_there old shared), shared) refl)
+          (rw (get-swept turned old, turn_names, apart old (λ is. cc), shared))

@@ -44,12 +44,12 @@ pub use Rattle.std.specs.Prelude.{is_none, is_some, map as list_map, nat_eq, opt
 pub use Rattle.std.specs.{Fmt.HasWritten, Fmt.IsPlainFormatter, List.AllByRecursion, List.filter}
 pub use Rattle.std.specs.{List.list_any, Option.option_or, Ordering.eq_by_cmp, Ordering.nat_cmp}
 use Rattle.generational_core.proofs.maps.Maps
-pub use Maps.{by_name, by_number, changed_back, changed_view, contains-insert_here}
-pub use Maps.{contains-insert_name, contains-insert_old, get-changed_here, get-changed_name}
-pub use Maps.{get-insert_apart, get-insert_here, get-keep, get-remove_apart, get-remove_here}
-pub use Maps.{is_ref, keep_view, kept_key, key_cases, key_here, key_same, keys_apart, len_keys}
-pub use Maps.{len_three, len_within, name_apart, name_cases, name_exact, name_here, name_same}
-pub use Maps.{name_total, named_from, named_gives, remove_each, same_ids}
+pub use Maps.{by_keys, by_name, by_number, by_option, changed_back, changed_view}
+pub use Maps.{contains-insert_here, contains-insert_name, contains-insert_old, get-changed_here}
+pub use Maps.{get-changed_name, get-insert_apart, get-insert_here, get-keep, get-remove_apart}
+pub use Maps.{get-remove_here, is_ref, keep_view, kept_key, key_cases, key_here, key_same}
+pub use Maps.{keys_apart, len_keys, len_three, len_within, name_apart, name_cases, name_exact}
+pub use Maps.{name_here, name_same, name_total, named_from, named_gives, remove_each, same_ids}
 unfoldable pub use specs.Borrowing.{reach, refusal_to_read, refusal_to_write}
 unfoldable pub use specs.Ending.{hindrance_to, sweep, take_away}
 unfoldable pub use specs.Names.{change, is_name}

@@ -1,7 +1,7 @@
 -- A write that is free is refused by the end of numbers alone: it wants no memory.
 use Rattle.generational_core.proofs.machine
-use machine.{◌≡◌, true, false, Option, None, Some, refl, sym, ap, subst, ◌∙◌, inl, inr, nat_eq}
-use machine.{◌&&◌, is_none, true≢false, cond_both, GenerationalPointer, Location, StoreError}
+use machine.{◌≡◌, true, false, Option, None, Some, refl, sym, ap, subst, inl, inr, nat_eq}
+use machine.{◌&&◌, is_none, cond_both, GenerationalPointer, Location, StoreError}
 use machine.{NumbersExhausted, Name, Content, Here, State, Guard, BorrowRefusal, can_write, Answer, NewNames}
 use machine.{Outcome, act, unless, write_at, Write, Writes, Done, Refused, Meets, limit_tickets}
 use machine.{takes_ticket, last_ticket, may_lack, needs_memory, no_names}
@@ -20,7 +20,7 @@ module _ {T : Type 0} where
   unhindered : (S : State T) (o : Option BorrowRefusal) (out : Outcome T)
       → is_none o ≡ true → Granted out.0 → Granted (unless o S out).0
   unhindered S None out h g = g
-  unhindered S (Some t) out h g = absurd (true≢false (sym h))
+  unhindered S (Some t) out h g = cc
 
   write_granted : (S : State T) (l : Location) (m : Option Name) (c : Option (Content T))
       → Granted (write_at S l m c).0
@@ -31,14 +31,12 @@ module _ {T : Type 0} where
   refuses_by : (answer : Answer T) (e : StoreError)
       → Granted answer → answer ≡ Refused e → e ≡ NumbersExhausted
   refuses_by answer e (writes g v) is = cc
-  refuses_by answer e done is = cc
-  refuses_by answer e ended is = cc
+  refuses_by answer e _ is = cc
 
   wants_none : (S : State T) (b : GenerationalPointer) (l : Location) (answer : Answer T)
       → Granted answer → needs_memory S answer (Write b l) ≡ false
   wants_none S b l answer (writes g v) = refl
-  wants_none S b l answer done = refl
-  wants_none S b l answer ended = refl
+  wants_none S b l answer _ = refl
 
   module _ (S R : State T) (b : GenerationalPointer) (l : Location) where
     act_write : can_write S b ≡ true
@@ -49,10 +47,9 @@ module _ {T : Type 0} where
     write_met : (answer : Answer T) → can_write S b ≡ true → Meets S (Write b l) answer R
         → Granted answer
     unfolding may_lack
-    write_met answer free (inl m) = subst Granted
-        (sym (ap (λ (out : Outcome T). out.0) m.2)) (act_write free m.0)
-    write_met answer free (inr m) = absurd (true≢false
-        (sym m.0 ∙ wants_none S b l _ (act_write free no_names)))
+    write_met answer free (inl m) =
+        subst Granted (sym (ap (λ (out : Outcome T). out.0) m.2)) (act_write free m.0)
+    write_met answer free (inr m) = cc (wants_none S b l _ (act_write free no_names))
 
     pub write_refused_by : (e : StoreError) → can_write S b ≡ true
         → Meets S (Write b l) (Refused e) R → e ≡ NumbersExhausted

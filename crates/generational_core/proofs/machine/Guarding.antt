@@ -5,20 +5,20 @@ use Rattle.std.proofs.Common.{◌≡◌, ◌≢◌, ℕ, ◌+◌, Bool, true, fa
 use Rattle.std.proofs.Common.{Option, None, Some, refl, sym, ap, subst, ◌∙◌, ⊎_elim}
 use Rattle.std.specs.List.{list_any}
 use Rattle.std.specs.Cmp.{nat_eq_equiv}
-use Rattle.std.specs.Prelude.{is_some, nat_eq, option_map, ◌&&◌, map as list_map}
-use Rattle.std.specs.Prelude.{Result, Ok, Err, IfOk, IsOk}
-use Rattle.std.proofs.lemmas.Bool.{true≢false, and_parts, cases_Bool, eqb-true, or_left}
-use Rattle.generational_core.specs.Answers.{value_of, value_at, value_behind, read_answer, back_answer}
-use Rattle.generational_core.specs.Borrowing.{Guard, BorrowRefusal, reach, refusal_to_write, write_refusal}
-use Rattle.generational_core.specs.Borrowing.{refusal_at, fill, take_ticket}
+use Rattle.std.specs.Prelude.{nat_eq, option_map, ◌&&◌, map as list_map, Result, Ok, Err, IfOk}
+use Rattle.std.specs.Prelude.{IsOk}
+use Rattle.std.proofs.lemmas.Bool.{and_parts, cases_Bool, eqb-true, or_left}
+use Rattle.generational_core.specs.Answers.{value_of, value_at, value_behind, read_answer}
+use Rattle.generational_core.specs.Answers.{back_answer}
+use Rattle.generational_core.specs.Borrowing.{Guard, BorrowRefusal, reach, refusal_to_write, fill}
+use Rattle.generational_core.specs.Borrowing.{take_ticket}
 use Rattle.generational_core.specs.Cells.{Content, Cell, content_of, refill}
-use Rattle.generational_core.specs.Cells.Cell.{Value, Shared, Ref}
+use Rattle.generational_core.specs.Cells.Cell.{Value}
 use Rattle.generational_core.specs.Cells.Content.{Here, Lent}
 use Rattle.generational_core.specs.Leaving.{LeavesGuard, IsLeft, IsSet}
-use Rattle.generational_core.specs.Machine.{Action, Answer, NewNames, Outcome, OwnerName, act, unless}
-use Rattle.generational_core.specs.Machine.{cell_at}
-use Rattle.generational_core.specs.Machine.{has_reader, has_writer, knows_reader, knows_writer}
-use Rattle.generational_core.specs.Machine.{next_borrow, next_guard, ownership, remove_reader}
+use Rattle.generational_core.specs.Machine.{Action, Answer, NewNames, Outcome, OwnerName, act}
+use Rattle.generational_core.specs.Machine.{unless, cell_at, has_reader, has_writer, knows_reader}
+use Rattle.generational_core.specs.Machine.{knows_writer, next_borrow, next_guard, ownership}
 use Rattle.generational_core.specs.Machine.{write_at}
 use Rattle.generational_core.specs.Machine.Action.{Read, Write, ReleaseReader, ReleaseWriter}
 use Rattle.generational_core.specs.Machine.Answer.{Reads, Writes, Done, Flag, Back}
@@ -32,26 +32,25 @@ use Rattle.generational_errors.specs.declared.error.BorrowError.{BorrowError}
 use Rattle.generational_errors.specs.declared.error.Location.{Location}
 use Rattle.generational_errors.specs.declared.error.Refused.{Refused}
 use Rattle.generational_core.proofs.maps.Maps.{by_name, get-changed_apart, get-changed_name}
-use Rattle.generational_core.proofs.maps.Maps.{name_exact, name_total}
+use Rattle.generational_core.proofs.maps.Maps.{name_exact, name_total, by_option}
 use Rattle.generational_core.proofs.machine.Calling.{opens, unseen, reads_back}
 use Rattle.generational_core.proofs.machine.Changes.{Filling, old_content, new_content}
 use Rattle.generational_core.proofs.machine.Changes.{filled_content}
 use Rattle.generational_core.proofs.machine.Changes.Filling.{Reader, Leave}
-use Rattle.generational_core.proofs.machine.Ends.{none≢some}
+use Rattle.generational_core.proofs.machine.Ends.{by_cond, live_by}
+use Rattle.generational_core.proofs.machine.Stepping.{meets_each, ends_reader, ends_writer}
+use Rattle.generational_core.proofs.machine.Stepping.{is_refusal, meets_cases, meets_follows}
+use Rattle.generational_core.proofs.machine.Stepping.{reader_stays, reads_known, writer_stays}
+use Rattle.generational_core.proofs.machine.Stepping.{writes_known}
 use Rattle.generational_core.proofs.machine.Seeing.{value_in_reached}
 use Rattle.generational_core.proofs.machine.Soundness.{keep_each}
-use Rattle.generational_core.proofs.machine.Stepping.{ends_reader, ends_writer, is_refusal}
-use Rattle.generational_core.proofs.machine.Stepping.{meets_cases, meets_follows, reader_stays}
-use Rattle.generational_core.proofs.machine.Stepping.{reads_known, writer_stays, writes_known}
 use Rattle.generational_core.proofs.machine.Telling.{filled_reach}
 
 -- what is changed twice at one key
 changed_twice : {X : Type 0} (m : NameMap X) (k : Name) (f g h : X → X)
     → ((x : X) → g (f x) ≡ h x) → change (change m k f) k g ≡ change m k h
 changed_twice {X} m k f g h both = map.same_map name_total name_exact _ _ (λ q.
-    get-changed_name (change m k f) k g q
-    ∙ (ap (λ x. cond (is_name q k) (option_map g x) x) (get-changed_name m k f q)
-    ∙ (twice (is_name q k) (map.get m q) ∙ sym (get-changed_name m k h q))))
+    simp get-changed_name (twice (is_name q k) (map.get m q)))
   where
     twice : (e : Bool) (x : Option X)
         → cond e (option_map g (cond e (option_map f x) x)) (cond e (option_map f x) x)
@@ -67,7 +66,7 @@ module _ {T : Type 0} where
   pub reader_stands : (c : Option (Content T)) (t : ℕ)
       → has_reader c t ≡ true → list_any (nat_eq t) (tickets_of c) ≡ true
   reader_stands None t h = h
-  reader_stands (Some (Lent w)) t h = absurd (true≢false (sym h))
+  reader_stands (Some (Lent w)) t h = cc
   reader_stands (Some (Here v readers)) t h = turn readers ∙ h
     where
       turn : (readers : List Borrow)
@@ -79,7 +78,7 @@ module _ {T : Type 0} where
   pub writer_stands : (c : Option (Content T)) (t : ℕ)
       → has_writer c t ≡ true → list_any (nat_eq t) (tickets_of c) ≡ true
   writer_stands (Some (Lent w)) t h = or_left _ _ (nat_eq_equiv.symm t w.ticket ∙ h)
-  writer_stands c t h = absurd (true≢false (sym h))
+  writer_stands c t h = cc
 
   -- two known guards of one kind and one ticket are one
   one_guard : (has : Option (Content T) → ℕ → Bool)
@@ -104,49 +103,38 @@ module _ {T : Type 0} where
     other_reader : IsSound S → Meets S call answer R → (g : Guard) → knows_reader S g ≡ true
         → LeavesGuard call g → ends_reader call g.ticket ≡ true → R ≡ S
     other_reader s m g known leaves ends =
-        ⊎_elim (λ refused. refused.1) (λ acts. at call acts.0 acts.2 leaves ends)
-        (meets_cases S R call answer m)
+        meets_each S R call answer (λ out. out.1 ≡ S) (λ _. refl) (λ f new. at call f leaves ends) m
       where
-        at : (call : Action T) (f : NewNames) → (answer, R) ≡ act S call f → LeavesGuard call g
-            → ends_reader call g.ticket ≡ true → R ≡ S
-        at (ReleaseReader h) f acts leaves ends = ⊎_elim
-            (λ is. absurd (leaves (one_guard has_reader reader_stands S s g h known is
-            (eqb-true h.ticket g.ticket ends))))
-            (λ is. ap (λ (out : Outcome T). out.1) acts
-            ∙ ap (λ k. (cond {A = Outcome T} k (Flag true, remove_reader S h.cell h.ticket (content_at S h.cell))
-            (Flag false, S)).1) is)
-            (cases_Bool (knows_reader S h))
-        at _ f acts leaves ends = absurd (true≢false (sym ends))
+        at : (call : Action T) (f : NewNames) → LeavesGuard call g
+            → ends_reader call g.ticket ≡ true → (act S call f).1 ≡ S
+        at (ReleaseReader h) f leaves ends = by_cond (λ (out : Outcome T). out.1 ≡ S)
+            (knows_reader S h) (λ is. absurd (leaves (one_guard has_reader reader_stands S s g h
+            known is (eqb-true h.ticket g.ticket ends)))) (λ _. refl)
+        at _ f leaves ends = cc
 
     other_writer : IsSound S → Meets S call answer R → (g : Guard) → knows_writer S g ≡ true
         → LeavesGuard call g → ends_writer call g.ticket ≡ true → R ≡ S
     other_writer s m g known leaves ends =
-        ⊎_elim (λ refused. refused.1) (λ acts. at call acts.0 acts.2 leaves ends)
-        (meets_cases S R call answer m)
+        meets_each S R call answer (λ out. out.1 ≡ S) (λ _. refl) (λ f new. at call f leaves ends) m
       where
-        at : (call : Action T) (f : NewNames) → (answer, R) ≡ act S call f → LeavesGuard call g
-            → ends_writer call g.ticket ≡ true → R ≡ S
-        at (ReleaseWriter h v) f acts leaves ends = ⊎_elim
-            (λ is. absurd (leaves (one_guard has_writer writer_stands S s g h known is
-            (eqb-true h.ticket g.ticket ends))))
-            (λ is. ap (λ (out : Outcome T). out.1) acts
-            ∙ ap (λ k. (cond {A = Outcome T} k (Done, fill S h.cell (Here v [])) (Back v, S)).1) is)
-            (cases_Bool (knows_writer S h))
-        at _ f acts leaves ends = absurd (true≢false (sym ends))
+        at : (call : Action T) (f : NewNames) → LeavesGuard call g
+            → ends_writer call g.ticket ≡ true → (act S call f).1 ≡ S
+        at (ReleaseWriter h v) f leaves ends = by_cond (λ (out : Outcome T). out.1 ≡ S)
+            (knows_writer S h) (λ is. absurd (leaves (one_guard has_writer writer_stands S s g h
+            known is (eqb-true h.ticket g.ticket ends)))) (λ _. refl)
+        at _ f leaves ends = cc
 
     -- a store knows a guard until that guard is released
     pub reader_kept : IsSound S → Meets S call answer R → (g : Guard) → LeavesGuard call g
         → knows_reader S g ≡ true → knows_reader R g ≡ true
     reader_kept s m g leaves known = ⊎_elim
-        (λ ends. subst (λ (X : State T). knows_reader X g ≡ true)
-        (sym (other_reader s m g known leaves ends)) known)
+        (λ ends. rw (other_reader s m g known leaves ends) known)
         (reader_stays S R call answer s m g known) (cases_Bool (ends_reader call g.ticket))
 
     pub writer_kept : IsSound S → Meets S call answer R → (g : Guard) → LeavesGuard call g
         → knows_writer S g ≡ true → knows_writer R g ≡ true
     writer_kept s m g leaves known = ⊎_elim
-        (λ ends. subst (λ (X : State T). knows_writer X g ≡ true)
-        (sym (other_writer s m g known leaves ends)) known)
+        (λ ends. rw (other_writer s m g known leaves ends) known)
         (writer_stays S R call answer s m g known) (cases_Bool (ends_writer call g.ticket))
 
     -- the value at a cell stays while a reader stands there
@@ -156,49 +144,36 @@ module _ {T : Type 0} where
     read_value_stays s m n t = keep_each (meets_follows S R call answer m) n
         (λ x y. has_reader (content_of x) t ≡ true → has_reader (content_of y) t ≡ true
         → value_of (content_of y) ≡ value_of (content_of x))
-        (λ x h k. refl) (λ free h k. absurd (true≢false (sym k)))
-        (λ new given quiet h k. absurd (true≢false (sym (s.given n (live _ h)) ∙ new)))
-        (λ k c here law had has h _. ap value_of has
-        ∙ (filled k (sym (ap (λ x. has_reader x t) had) ∙ h) ∙ sym (ap value_of had)))
-        (λ k j l h _. refl)
+        (λ x h k. refl) (λ free h k. cc) (λ new given quiet h k.
+        cc (s.given n (live_by (λ c. has_reader (content_of c) t) refl _ h)))
+        (λ k c here law had has h _. rw (has, had) (filled k (rw had at h))) (λ k j l h _. refl)
       where
-        live : (c : Option (Cell T)) → has_reader (content_of c) t ≡ true → is_some c ≡ true
-        live None h = h
-        live (Some c) h = refl
-
         filled : (k : Filling T) → has_reader (Some (old_content k)) t ≡ true
             → value_of (Some (new_content S k)) ≡ value_of (Some (old_content k))
         filled (Reader v readers l) h = refl
         filled (Leave v readers g) h = refl
-        filled _ h = absurd (true≢false (sym h))
+        filled _ h = cc
 
-  -- what a known reader's guard opens
-  opened : (S : State T) (g : Guard) → knows_reader S g ≡ true
-      → value_behind S g ≡ value_at S g.cell
-  opened S g known = ap (λ k. cond k (value_at S g.cell) None) known
-
-  -- so it opens the same value
+  -- so a known reader's guard opens the same value
   pub reader_sees : (S R : State T) (call : Action T) (answer : Answer T) → IsSound S
       → Meets S call answer R → (g : Guard) → LeavesGuard call g
       → knows_reader S g ≡ true → value_behind R g ≡ value_behind S g
   reader_sees S R call answer s m g leaves known =
       let still = reader_kept S R call answer s m g leaves known in
-      opened R g still
-      ∙ (read_value_stays S R call answer s m g.cell g.ticket (and_parts _ _ known).1
-      (and_parts _ _ still).1
-      ∙ sym (opened S g known))
+      rw (still, known) (read_value_stays S R call answer s m g.cell g.ticket
+      (and_parts _ _ known).1 (and_parts _ _ still).1)
 
   -- and there is one
   pub reader_opens : (S : State T) (g : Guard) → knows_reader S g ≡ true
       → (v : T) × (value_behind S g ≡ Some v)
   reader_opens S g known =
-      let there = read (content_at S g.cell) (and_parts _ _ known).1 in
-      (there.0, opened S g known ∙ there.1)
+      let there = read (content_at S g.cell) (and_parts (nat_eq g.store S.number) _ known).1 in
+      (there.0, rw known there.1)
     where
       read : (c : Option (Content T))
           → has_reader c g.ticket ≡ true → (v : T) × (value_of c ≡ Some v)
       read (Some (Here v rs)) h = (v, refl)
-      read _ h = absurd (true≢false (sym h))
+      read _ h = cc
 
   module _ {S R : State T} where
     -- a read that isn't refused gives a guard that opens a value, which the box sees
@@ -213,29 +188,21 @@ module _ {T : Type 0} where
     -- a known reader's release is answered so, and a known writer's is done
     pub reader_leaves : (g : Guard) (flag : Bool) → knows_reader S g ≡ true
         → Meets S (ReleaseReader g) (Flag flag) R → flag ≡ true
-    reader_leaves g flag known m = ⊎_elim
-        (λ refused. absurd (true≢false (sym refused.0)))
-        (λ acts. let out = ap (λ (out : Outcome T). out.0) acts.2
-        ∙ ap (λ k. (cond {A = Outcome T} k (Flag true, remove_reader S g.cell g.ticket (content_at S g.cell))
-        (Flag false, S)).0) known in cc)
-        (meets_cases S R (ReleaseReader g) (Flag flag) m)
+    reader_leaves g flag known m = cc (meets_each S R (ReleaseReader g) (Flag flag)
+        (λ out. out.0 ≡ Flag true) (λ refused. cc) (λ f new. rw known) m)
 
     returned : (g : Guard) (v : T) (answer : Answer T) → knows_writer S g ≡ true
         → is_refusal answer ≡ false → Meets S (ReleaseWriter g v) answer R
         → (answer ≡ Done) × (R ≡ fill S g.cell (Here v []))
-    returned g v answer known plain m = ⊎_elim
-        (λ refused. absurd (true≢false (sym refused.0 ∙ plain)))
-        (λ acts. let out = acts.2
-        ∙ ap (λ k. cond k (Done, fill S g.cell (Here v [])) (Back v, S)) known in
-        (ap (λ (x : Outcome T). x.0) out, ap (λ (x : Outcome T). x.1) out))
-        (meets_cases S R (ReleaseWriter g v) answer m)
+    returned g v answer known plain = meets_each S R (ReleaseWriter g v) answer
+        (λ out. (out.0 ≡ Done) × (out.1 ≡ fill S g.cell (Here v []))) (λ refused. cc)
+        (λ f new. rw known (refl, refl))
 
     pub writer_returns : (g : Guard) (v : T) {U : Type 0} (r : Result U T)
         → knows_writer S g ≡ true → Meets S (ReleaseWriter g v) (back_answer r) R
         → IsOk r × (R ≡ fill S g.cell (Here v []))
     writer_returns g v (Ok u) known m = (refl, (returned g v Done known refl m).1)
-    writer_returns g v (Err w) known m =
-        let done = (returned g v (Back w) known refl m).0 in absurd cc
+    writer_returns g v (Err w) known m = cc ((returned g v (Back w) known refl m).0)
 
   -- ---- a write that was released
 
@@ -247,45 +214,30 @@ module _ {T : Type 0} where
     had : content_at S g.cell ≡ Some (Here old [])
     left : R ≡ take_ticket (fill S g.cell (Lent (next_borrow S l)))
 
-  abbrev writer_of : Guard → Answer T → Guard
-  writer_of other (Writes g v) = g
-  writer_of other _ = other
-
   wrote : (S R : State T) (b : GenerationalPointer) (l : Location) (g : Guard) (w : T)
       → Meets S (Write b l) (Writes g w) R → Wrote S b l g R
   unfolding refusal_to_write
-  wrote S R b l g w meets = ⊎_elim (λ refused. absurd (true≢false (sym refused.0)))
+  wrote S R b l g w meets = ⊎_elim (λ refused. cc)
       (λ acts. at (refusal_to_write S b) (reach S b) _ refl refl refl acts.2)
       (meets_cases S R (Write b l) (Writes g w) meets)
     where
-      none : {out : Outcome T} → (Writes g w, R) ≡ out → takes_ticket out.0 ≡ false → ⊥
-      none e given = true≢false (ap (λ (out : Outcome T). takes_ticket out.0) e ∙ given)
-
       at : (t : Option BorrowRefusal) (to : Option Name) (c : Option (Content T))
           → refusal_to_write S b ≡ t → reach S b ≡ to → content_of (cell_at S to) ≡ c
           → (Writes g w, R) ≡ unless t S (write_at S l to c) → Wrote S b l g R
       at None (Some m) (Some (Here v [])) free to had e =
-          let guard : g ≡ next_guard S m = ap (λ (out : Outcome T). writer_of g out.0) e in
+          let guard : g ≡ next_guard S m = cc (ap (λ (out : Outcome T). out.0) e) in
           record {
             old = v;
-            to = to ∙ ap (λ (x : Guard). Some x.cell) (sym guard);
-            had = ap (λ (x : Guard). content_at S x.cell) guard ∙ had;
-            left = ap (λ (out : Outcome T). out.1) e
-                ∙ ap (λ (x : Guard). take_ticket (fill S x.cell (Lent (next_borrow S l)))) (sym guard);
+            to = cc;
+            had = cc;
+            left = rw guard (ap (λ (out : Outcome T). out.1) e);
           }
-      at None (Some m) (Some (Here v (r ∷ rs))) free to had e =
-          absurd (none≢some _ _ free
-          (ap (λ x. refusal_at x b.created_at (λ n. write_refusal (content_at S n))) to
-          ∙ ap write_refusal had))
-      at (Some t) to c free is had e = absurd (none e refl)
-      at None None c free is had e = absurd (none e refl)
-      at None (Some m) (Some (Lent b)) free is had e = absurd (none e refl)
-      at None (Some m) None free is had e = absurd (none e refl)
+      at None (Some m) (Some (Here v (r ∷ rs))) free to had e = cc
+      at t to c free is had e = cc (ap (λ (out : Outcome T). takes_ticket out.0) e)
 
   refill_twice : (c d : Content T) (x : Cell T) → refill d (refill c x) ≡ refill d x
   refill_twice c d (Value o l) = refl
-  refill_twice c d (Shared o l) = refl
-  refill_twice c d (Ref n l) = refl
+  refill_twice c d _ = refl
 
   -- a write whose guard was released has set the guard's value, and its release is done
   pub writes_back : {S R Q : State T} (b : GenerationalPointer) (l : Location) (g : Guard) (w v : T)
@@ -331,16 +283,17 @@ module _ {T : Type 0} where
 
     filled_beside : reach S c ≢ Some n → IsLeft S c (fill S n k)
     filled_beside apart =
-        record { reached = filled_reach S n k c; content = content; seen = at (reach S c) refl }
+        record { reached = filled_reach S n k c; content = content; seen = seen }
       where
         content : (m : Name) → reach S c ≡ Some m → content_at (fill S n k) m ≡ content_at S m
         content m to = ap content_of (get-changed_apart by_name S.cells n (refill k) m
             (λ is. apart (to ∙ ap Some is)))
 
-        at : (to : Option Name) → reach S c ≡ to → value_in (fill S n k) c ≡ value_in S c
-        at None to = unseen (fill S n k) c (filled_reach S n k c ∙ to) ∙ sym (unseen S c to)
-        at (Some m) to = value_in_reached (fill S n k) c m (filled_reach S n k c ∙ to)
-            ∙ (ap value_of (content m to) ∙ sym (value_in_reached S c m to))
+        seen : value_in (fill S n k) c ≡ value_in S c
+        seen = by_option (reach S c) (λ none.
+            unseen (fill S n k) c (filled_reach S n k c ∙ none) ∙ sym (unseen S c none))
+            (λ m to. let after = value_in_reached (fill S n k) c m (filled_reach S n k c ∙ to) in
+            cc (content m to, value_in_reached S c m to))
 
   left_twice : (S R Q : State T) (c : GenerationalPointer) → IsLeft S c R → IsLeft R c Q
       → IsLeft S c Q

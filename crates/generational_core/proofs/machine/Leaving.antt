@@ -1,9 +1,8 @@
 -- What a call leaves of boxes, as equations: what a box reaches, the content there, and what it sees.
 use Rattle.std.specs.FinMap as map
-use Rattle.std.specs.FinSet as set
 use Rattle.std.proofs.Common.{◌≡◌, ◌≢◌, ℕ, Bool, true, false, cond, Option, None, Some, refl, sym, ap}
 use Rattle.std.proofs.Common.{subst, ◌∙◌, ⊎_elim, []}
-use Rattle.std.proofs.lemmas.Bool.{true≢false, cases_Bool}
+use Rattle.std.proofs.lemmas.Bool.{cases_Bool}
 use Rattle.std.specs.Prelude.{is_some, nat_eq}
 use Rattle.generational_core.specs.Borrowing.{BorrowRefusal, reach, leads_to, refusal_to_read, refusal_to_write}
 use Rattle.generational_core.specs.Borrowing.{refusal_at, read_refusal, write_refusal}
@@ -24,12 +23,14 @@ use Rattle.generational_core.specs.State.{State, IsSound, IsGiven, Ownership, co
 use Rattle.generational_core.specs.Steps.{AreNew, Meets}
 use Rattle.generational_core.specs.declared.boxes.GenerationalPointer.{GenerationalPointer}
 use Rattle.generational_errors.specs.declared.error.Location.{Location}
-use Rattle.generational_core.proofs.maps.Maps.{by_name, get-insert_here, get-insert_apart, name_cases}
+use Rattle.generational_core.proofs.maps.Maps.{by_name, get-insert_here, get-insert_apart}
 use Rattle.generational_core.proofs.machine.Calling.{unseen}
 use Rattle.generational_core.proofs.machine.Changes.{Filling, IsFilling, held_record, is_making}
 use Rattle.generational_core.proofs.machine.Changes.{new_content}
 use Rattle.generational_core.proofs.machine.Changes.Filling.{Reader, Writer, Leave, Return, Replace}
-use Rattle.generational_core.proofs.machine.Ends.{by_cond, none≢some}
+use Rattle.generational_core.proofs.machine.Ends.{by_cond}
+use Rattle.generational_core.proofs.machine.Stepping.{meets_each}
+use Rattle.generational_core.proofs.maps.Maps.{by_keys, by_option}
 use Rattle.generational_core.proofs.machine.Seeing.{leaves_box, reach_stays, reached_live}
 use Rattle.generational_core.proofs.machine.Seeing.{refilled_leads, unlent, unset}
 use Rattle.generational_core.proofs.machine.Seeing.{value_stays}
@@ -55,12 +56,9 @@ module _ {T : Type 0} where
   shared_beside : (S : State T) (n : Name) (k : Content T) (l : Location) (b : GenerationalPointer)
       → map.get S.cells n ≡ None → reach (add_cell S n (Shared k l)) b ≡ reach S b
   unfolding reach
-  shared_beside S n k l b none = ⊎_elim
-      (λ is. ap (led S b) (ap (map.get (map.insert S.cells n (Shared k l))) is
-      ∙ get-insert_here by_name S.cells n (Shared k l))
-      ∙ sym (ap (led S b) (ap (map.get S.cells) is ∙ none)))
+  shared_beside S n k l b none = by_keys by_name (name_of b) n
+      (λ is. rw (is, get-insert_here by_name S.cells n (Shared k l), none))
       (λ ne. ap (led S b) (get-insert_apart by_name S.cells n (Shared k l) (name_of b) ne))
-      (name_cases (name_of b) n)
 
   -- an outcome that gives another box lets a box reach what it reached
   abbrev Reaches : State T → GenerationalPointer → Outcome T → Type 0
@@ -94,7 +92,7 @@ module _ {T : Type 0} where
   making_beside S s (Refer o a) f new making b = by_cond (Reaches S b) (is_known S o)
       (λ _. reaches_unless S b (refusal_to_read S a) _
       (referred_beside S o a b (reach S a) (cell_at S (reach S a)) f.first)) (λ _ _. refl)
-  making_beside S s _ f new making b = absurd (true≢false (sym making))
+  making_beside S s _ f new making b = cc
 
   -- ---- what a box reaches
 
@@ -109,20 +107,17 @@ module _ {T : Type 0} where
         ∙ still (nat_eq b.id.store S.number) none
       where
         given : R.given ≡ S.given
-        given = ⊎_elim (λ refused. ap (λ (X : State T). X.given) refused.1)
-            (λ acts. ap (λ (out : Outcome T). out.1.given) acts.2
-            ∙ (act_start S call acts.0).given other)
-            (meets_cases S R call answer m)
+        given = meets_each S R call answer (λ out. out.1.given ≡ S.given) (λ _. refl)
+            (λ f new. (act_start S call f).given other) m
 
         leads : leads_to (map.get S.cells (name_of b)) (name_of b) ≡ None
             → leads_to (map.get R.cells (name_of b)) (name_of b) ≡ None
         leads = keep_each (meets_follows S R call answer m) (name_of b)
             (λ x y. leads_to x (name_of b) ≡ None → leads_to y (name_of b) ≡ None)
             (λ x e. e) (λ free e. refl)
-            (λ new is quiet e. absurd (true≢false
-            (sym is ∙ (ap (λ names. set.contains names (name_of b)) given ∙ new))))
+            (λ new is quiet e. cc given)
             (λ k c here law had has e. refilled_leads (new_content S k) c (name_of b) ∙ e)
-            (λ n k l e. absurd (none≢some (Some n) n e refl))
+            (λ n k l e. cc)
 
         still : (own : Bool) → cond own (leads_to (map.get S.cells (name_of b)) (name_of b)) None ≡ None
             → cond own (leads_to (map.get R.cells (name_of b)) (name_of b)) None ≡ None
@@ -142,21 +137,15 @@ module _ {T : Type 0} where
             (meets_cases S R call answer m)
 
         unmade : is_making call ≡ false → reach R b ≡ reach S b
-        unmade none = at (reach S b) refl
-          where
-            at : (to : Option Name) → reach S b ≡ to → reach R b ≡ reach S b
-            at None is = nothing_comes m none b is ∙ sym is
-            at (Some n) is = reach_stays S R call answer b n s m leaves is ∙ sym is
+        unmade none = by_option (reach S b) (λ is. nothing_comes m none b is ∙ sym is)
+            (λ n is. reach_stays S R call answer b n s m leaves is ∙ sym is)
 
     -- and sees what it saw, unless the call lends its value or sets it, or takes it back
     pub same_value : IsSound S → Meets S call answer R → (b : GenerationalPointer)
         → LeavesValue S call b → GivesOther call answer b → value_in R b ≡ value_in S b
-    same_value s m b leaves other = at (reach S b) refl
-      where
-        at : (to : Option Name) → reach S b ≡ to → value_in R b ≡ value_in S b
-        at None is = unseen R b (same_reach s m b (leaves_box S call b leaves) other ∙ is)
-            ∙ sym (unseen S b is)
-        at (Some n) is = value_stays S R call answer b n s m leaves is
+    same_value s m b leaves other = by_option (reach S b)
+        (λ is. unseen R b (same_reach s m b (leaves_box S call b leaves) other ∙ is)
+        ∙ sym (unseen S b is)) (λ n is. value_stays S R call answer b n s m leaves is)
 
   -- ---- the content there
 
@@ -194,9 +183,8 @@ module _ {T : Type 0} where
     same_content s meets b m leaves to =
         keep_each (meets_follows S R call answer meets) m
         (λ x y. is_some y ≡ true → content_of y ≡ content_of x)
-        (λ x e. refl) (λ _ e. absurd (true≢false (sym e)))
-        (λ new given quiet e. absurd (true≢false
-        (sym (s.given m (reached_live S b m s to)) ∙ new)))
+        (λ x e. refl) (λ _ e. cc)
+        (λ new given quiet e. cc (s.given m (reached_live S b m s to)))
         (λ k c here law had has e. absurd (unfilled S call R.next b m to leaves k law))
         (λ k n l e. refl)
 
@@ -224,18 +212,13 @@ module _ {T : Type 0} where
   pub left_refusals : (S R : State T) (b : GenerationalPointer) → IsLeft S b R
       → (refusal_to_read R b ≡ refusal_to_read S b) × (refusal_to_write R b ≡ refusal_to_write S b)
   unfolding refusal_to_read refusal_to_write
-  left_refusals S R b left = (at read_refusal (reach S b) refl, at write_refusal (reach S b) refl)
+  left_refusals S R b left = (at read_refusal, at write_refusal)
     where
-      at : (refusal : Option (Content T) → Option BorrowRefusal) (to : Option Name) → reach S b ≡ to
+      at : (refusal : Option (Content T) → Option BorrowRefusal)
           → refusal_at (reach R b) b.created_at (λ n. refusal (content_at R n))
           ≡ refusal_at (reach S b) b.created_at (λ n. refusal (content_at S n))
-      at refusal None to =
-          ap (λ x. refusal_at x b.created_at (λ n. refusal (content_at R n))) (left.reached ∙ to)
-          ∙ sym (ap (λ x. refusal_at x b.created_at (λ n. refusal (content_at S n))) to)
-      at refusal (Some m) to =
-          ap (λ x. refusal_at x b.created_at (λ n. refusal (content_at R n))) (left.reached ∙ to)
-          ∙ (ap refusal (left.content m to)
-          ∙ sym (ap (λ x. refusal_at x b.created_at (λ n. refusal (content_at S n))) to))
+      at refusal = by_option (reach S b) (λ none. cc (left.reached))
+          (λ m to. cc (left.reached, left.content m to))
 
   -- a box whose name was given isn't the one that a call gives
   pub given_other : (S R : State T) (call : Action T) (answer : Answer T) (b : GenerationalPointer)
@@ -243,8 +226,7 @@ module _ {T : Type 0} where
   given_other S R call answer b m given = other call
     where
       beside : (answer : Answer T) → Meets S call answer R → IsBeside answer b
-      beside (Made a) m = λ is. true≢false (sym given
-          ∙ (ap (set.contains S.given) (sym is) ∙ (made_new S R call a m).1))
+      beside (Made a) m = λ is. cc ((made_new S R call a m).1)
       beside _ m = tt
 
       other : (c : Action T) → GivesOther c answer b

@@ -1,11 +1,10 @@
 -- Cells that are linked stay so: where cells come, and where contents change.
 use Rattle.generational_core.proofs.machine.Common
-use Common.{◌≡◌, ◌≢◌, true, None, Some, refl, sym, ◌∙◌, inl, inr, List, Cell, Ref, Name}
-use Common.{false, subst, ⊎_elim, refill, Value, Shared, NameMap, change, State, IsSound, by_name}
-use Common.{ap, option_map, Content, is_shared, IsNamed, Location, HasTargets, IsLinked, name_cases}
-use Common.{true≢false, cells_after, get-insert_here, get-insert_apart, changed_view, named_gives}
-use Rattle.generational_core.proofs.machine.Ends.{none≢some, targets_still, target_of}
-use Rattle.generational_core.proofs.machine.Ends.{closed_linked}
+use Common.{◌≡◌, ◌≢◌, true, None, Some, refl, sym, ◌∙◌, inl, inr, List, Cell, Ref, Name, false}
+use Common.{⊎_elim, refill, Value, Shared, NameMap, change, State, IsSound, by_name, ap, option_map}
+use Common.{Content, is_shared, IsNamed, Location, HasTargets, IsLinked, by_keys, cells_after}
+use Common.{get-insert_here, get-insert_apart, changed_view, named_gives}
+use Rattle.generational_core.proofs.machine.Ends.{targets_still, closed_linked}
 use Rattle.std.specs.FinMap as map
 
 module _ {T : Type 0} where
@@ -23,21 +22,18 @@ module _ {T : Type 0} where
   module _ (cells : NameMap (Cell T)) (n : Name) (c : Cell T) (none : map.get cells n ≡ None) where
     kept : (q : Name) (x : Cell T) → map.get cells q ≡ Some x
         → map.get (map.insert cells n c) q ≡ Some x
-    kept q x h = get-insert_apart by_name cells n c q
-        (λ is. none≢some _ _ none (ap (map.get cells) (sym is) ∙ h)) ∙ h
+    kept q x h = get-insert_apart by_name cells n c q (λ is. cc) ∙ h
 
     shared_kept : (q : Name) → is_shared (map.get cells q) ≡ true
         → is_shared (map.get (map.insert cells n c) q) ≡ true
-    shared_kept q h = ap is_shared (get-insert_apart by_name cells n c q
-        (λ is. true≢false (sym h ∙ ap is_shared (ap (map.get cells) is ∙ none)))) ∙ h
+    shared_kept q h = ap is_shared (get-insert_apart by_name cells n c q (λ is. cc)) ∙ h
 
     targets_born : HasTargets cells → ((m : Name) (l : Location) → Some c ≡ Some (Ref m l)
         → is_shared (map.get cells m) ≡ true) → HasTargets (map.insert cells n c)
     targets_born t leads = targets_still cells (map.insert cells n c) t shared_kept
-        (λ q m l h. ⊎_elim
-        (λ is. inr (shared_kept m (leads m l (sym (get-insert_here by_name cells n c)
-        ∙ (ap (map.get (map.insert cells n c)) (sym is) ∙ h)))))
-        (λ ne. inl (sym (get-insert_apart by_name cells n c q ne) ∙ h)) (name_cases q n))
+        (λ q m l h. by_keys by_name q n
+        (λ is. inr (shared_kept m (leads m l (cc (get-insert_here by_name cells n c)))))
+        (λ ne. inl (sym (get-insert_apart by_name cells n c q ne) ∙ h)))
 
     named_apart : (m : Name) → m ≢ n → (is_shared (map.get cells m) ≡ true → IsNamed cells m)
         → is_shared (map.get (map.insert cells n c) m) ≡ true → IsNamed (map.insert cells n c) m
@@ -48,11 +44,8 @@ module _ {T : Type 0} where
     named_plain : is_shared (Some c) ≡ false → (m : Name)
         → (is_shared (map.get cells m) ≡ true → IsNamed cells m)
         → is_shared (map.get (map.insert cells n c) m) ≡ true → IsNamed (map.insert cells n c) m
-    named_plain plain m named h = ⊎_elim
-        (λ is. absurd (true≢false (sym h
-        ∙ (ap (λ x. is_shared (map.get (map.insert cells n c) x)) is
-        ∙ (ap is_shared (get-insert_here by_name cells n c) ∙ plain)))))
-        (λ ne. named_apart m ne named h) (name_cases m n)
+    named_plain plain m named h = by_keys by_name m n
+        (λ is. cc (get-insert_here by_name cells n c)) (λ ne. named_apart m ne named h)
 
   -- a cell that isn't Shared, with a Shared cell to name if it is a Ref
   pub born_linked : (cells : NameMap (Cell T)) (n : Name) (c : Cell T)
@@ -74,17 +67,12 @@ module _ {T : Type 0} where
       ∙ none_second in
       let here = get-insert_here by_name cells m (Shared c l) in
       record {
-        targets = targets_born one n (Ref m j) none (targets_born
-            cells m (Shared c l) none_first linked.targets (λ q k e. absurd cc)) (λ q k e. subst
-            (λ x. is_shared (map.get one x) ≡ true) (target_of m q j k e) (ap is_shared here));
-        named = λ q h. ⊎_elim
-            (λ is. (
-              n,
-              j,
-              subst (λ x. map.get (map.insert one n (Ref m j)) n ≡ Some (Ref x j))
-                  (sym is) (get-insert_here by_name one n (Ref m j)),
-            )) (λ ne. named_plain one n (Ref m j) none refl q
-            (named_apart cells m (Shared c l) none_first q ne (linked.named q)) h) (name_cases q m);
+        targets = targets_born one n (Ref m j) none (targets_born cells m (Shared c l) none_first
+            linked.targets (λ q k e. cc)) (λ q k e. cc);
+        named = λ q h. by_keys by_name q m
+            (λ is. (n, j, cc (get-insert_here by_name one n (Ref m j))))
+            (λ ne. named_plain one n (Ref m j) none refl q
+            (named_apart cells m (Shared c l) none_first q ne (linked.named q)) h);
       }
 
   -- another content leaves Refs and Shared cells
@@ -96,15 +84,15 @@ module _ {T : Type 0} where
   refilled_ref : (c : Content T) (x : Cell T) (m : Name) (l : Location)
       → Some (refill c x) ≡ Some (Ref m l) → Some x ≡ Some (Ref m l)
   refilled_ref c (Ref n k) m l h = h
-  refilled_ref c _ m l h = absurd cc
+  refilled_ref c _ m l h = cc
 
   -- so cells stay linked where a content changes
   pub refilled_linked : (cells : NameMap (Cell T)) (n : Name) (c : Content T)
       → IsLinked cells → IsLinked (change cells n (refill c))
   refilled_linked cells n c linked =
       let at = changed_view by_name cells n (refill c) in
-      let shared = λ (q : Name). ⊎_elim (λ e. ap is_shared e)
-      (λ e. ap is_shared e.3 ∙ (refilled_shared c e.1 ∙ sym (ap is_shared e.2))) (at q) in
+      let shared = λ (q : Name).
+      ⊎_elim (λ e. ap is_shared e) (λ e. cc (refilled_shared c e.1)) (at q) in
       record {
         targets = targets_still cells _ linked.targets (λ m h. shared m ∙ h) (λ q m l h. inl (⊎_elim
             (λ e. sym e ∙ h) (λ e. e.2 ∙ refilled_ref c e.1 m l (sym e.3 ∙ h)) (at q)));
@@ -112,7 +100,7 @@ module _ {T : Type 0} where
             let it = linked.named m (sym (shared m) ∙ h) in (
               it.0,
               it.1,
-              ⊎_elim (λ e. e ∙ it.2) (λ e. e.3
-                  ∙ ap (λ x. option_map (refill c) x) (sym e.2 ∙ it.2)) (at it.0),
+              ⊎_elim (λ e. e ∙ it.2)
+                  (λ e. e.3 ∙ ap (option_map (refill c)) (sym e.2 ∙ it.2)) (at it.0),
             );
       }

@@ -1,12 +1,11 @@
 -- Owners' records: which calls list a box there, and which leave a record as it was.
 use Rattle.std.specs.FinMap as map
 use Rattle.std.specs.FinSet as set
-use Rattle.std.proofs.Common.{◌≡◌, ◌≢◌, ℕ, Bool, true, false, cond, List, [], ◌∷◌}
-use Rattle.std.proofs.Common.{Option, None, Some, refl, sym, ap, subst, ◌∙◌, ⊎_elim, arith}
-use Rattle.std.specs.List.{AllByRecursion}
+use Rattle.std.proofs.Common.{◌≡◌, ◌≢◌, ℕ, true, false, [], Option, None, Some, refl, sym, ap}
+use Rattle.std.proofs.Common.{subst, ◌∙◌, ⊎_elim, arith}
 use Rattle.std.specs.Cmp.{nat_eq_equiv}
 use Rattle.std.specs.Prelude.{is_some, nat_eq, nat_lt, Result, Ok, Err, IfOk}
-use Rattle.std.proofs.lemmas.Bool.{true≢false, eqb-true, false_from_ne_true, or_cases}
+use Rattle.std.proofs.lemmas.Bool.{cases_Bool, eqb-true, false_from_ne_true}
 use Rattle.generational_core.specs.Answers.{box_answer, reference_box_answer, owner_answer}
 use Rattle.generational_core.specs.Answers.{pointer_of}
 use Rattle.generational_core.specs.Borrowing.{BorrowRefusal, refusal_to_read, refusal_to_write}
@@ -14,20 +13,19 @@ use Rattle.generational_core.specs.Boxes.{name_of, has_same_id}
 use Rattle.generational_core.specs.Cells.{Content, Cell}
 use Rattle.generational_core.specs.Cells.Cell.{Value, Shared, Ref}
 use Rattle.generational_core.specs.Cells.Content.{Here}
-use Rattle.generational_core.specs.State.{one_less, one_listed}
+use Rattle.generational_core.specs.State.{one_less, one_listed, State, IsSound, Ownership}
 use Rattle.generational_core.specs.Ending.{close, hindrance_to, hindrance_at, sweep}
 use Rattle.generational_core.specs.Leaving.{GivesOtherOwner, IsOtherOwner, LeavesOwner}
-use Rattle.generational_core.specs.Machine.{Action, Answer, NewNames, Outcome, OwnerName, act, unless}
-use Rattle.generational_core.specs.Machine.{ownership, add_cell, make, refer, is_known}
-use Rattle.generational_core.specs.Machine.{clone_owner, release_owner, read_at, set_at, set_ownership, write_at}
-use Rattle.generational_core.specs.Machine.{knows_reader, knows_writer, own_name, point, remove_reader}
+use Rattle.generational_core.specs.Machine.{Action, Answer, NewNames, Outcome, OwnerName, act}
+use Rattle.generational_core.specs.Machine.{unless, ownership, add_cell, make, refer, is_known}
+use Rattle.generational_core.specs.Machine.{clone_owner, release_owner, read_at, set_at}
+use Rattle.generational_core.specs.Machine.{set_ownership, write_at, knows_reader, knows_writer}
+use Rattle.generational_core.specs.Machine.{own_name, point, remove_reader}
 use Rattle.generational_core.specs.Machine.Action.{Make, MakeShared, Refer, NewOwner, CloneOwner}
-use Rattle.generational_core.specs.Machine.Action.{ReleaseOwner, LeakOwner, Read, Write}
-use Rattle.generational_core.specs.Machine.Action.{ReleaseReader, ReleaseWriter, SetValue, End, Point}
-use Rattle.generational_core.specs.Machine.Action.{CanRead, CanWrite}
+use Rattle.generational_core.specs.Machine.Action.{ReleaseOwner, Read, Write, ReleaseReader}
+use Rattle.generational_core.specs.Machine.Action.{ReleaseWriter, SetValue, End, Point}
 use Rattle.generational_core.specs.Machine.Answer.{Made, Owned}
 use Rattle.generational_core.specs.Names.{Name, among, is_name}
-use Rattle.generational_core.specs.State.{State, IsSound, IsGiven, IsBoxed, Ownership}
 use Rattle.generational_core.specs.Steps.{Meets}
 use Rattle.generational_core.specs.declared.boxes.GenerationalBox.{GenerationalBox}
 use Rattle.generational_core.specs.declared.boxes.GenerationalPointer.{GenerationalPointer}
@@ -37,10 +35,11 @@ use Rattle.generational_errors.specs.declared.error.Refusal.{Refusal}
 use Rattle.generational_errors.specs.declared.error.Refused as error
 use Rattle.generational_errors.specs.declared.error.StoreError.{StoreError}
 use Rattle.generational_core.proofs.maps.Maps.{by_number, get-insert_apart, get-remove_apart}
-use Rattle.generational_core.proofs.maps.Maps.{get-changed_apart, name_same}
+use Rattle.generational_core.proofs.maps.Maps.{get-changed_apart, by_option}
 use Rattle.generational_core.proofs.machine.Changes.{held_record}
-use Rattle.generational_core.proofs.machine.Ends.{by_cond, none≢some}
-use Rattle.generational_core.proofs.machine.Stepping.{meets_cases}
+use Rattle.generational_core.proofs.machine.Ends.{by_cond, cond_gives, some_live}
+use Rattle.generational_core.proofs.machine.Releasing.{boxed_among}
+use Rattle.generational_core.proofs.machine.Stepping.{meets_each, meets_cases}
 use Rattle.generational_core.proofs.machine.Telling.{meets_tells}
 
 module _ {T : Type 0} where
@@ -67,15 +66,8 @@ module _ {T : Type 0} where
   -- a name that was never given is in no list
   pub unlisted : (S : State T) (o : OwnerName) (h : Ownership) (n : Name) → IsSound S
       → ownership S o ≡ Some h → set.contains S.given n ≡ false → among h.names n ≡ false
-  unlisted S o h n s held new = false_from_ne_true _ (λ there. true≢false
-      (sym (given h.names (s.owned o.key h (held_record S o h held)) there) ∙ new))
-    where
-      given : (names : List Name) → AllByRecursion (IsBoxed S) names → among names n ≡ true
-          → IsGiven S n
-      given [] all there = absurd (true≢false (sym there))
-      given (m ∷ names) all there = ⊎_elim
-          (λ is. subst (IsGiven S) (sym (name_same n m is)) all.0.0)
-          (λ rest. given names all.1 rest) (or_cases _ _ there)
+  unlisted S o h n s held new = false_from_ne_true _ (λ there.
+      cc ((boxed_among S h.names n (s.owned o.key h (held_record S o h held)) there).0))
 
   -- ---- what a call leaves of a record
 
@@ -93,25 +85,17 @@ module _ {T : Type 0} where
   apart : (S : State T) (a o : OwnerName) → is_some (ownership S a) ≡ true → a ≢ o
       → nat_eq o.store S.number ≡ true → o.key ≢ a.key
   apart S a o known ne own same =
-      let stores = eqb-true a.store S.number (here known) ∙ sym (eqb-true o.store S.number own) in
+      let held = some_live (ownership S a) known in
+      let stores = eqb-true a.store S.number (cond_gives _ _ held.0 held.1).0
+      ∙ sym (eqb-true o.store S.number own) in
       ne (λ i. record { store = stores i; key = sym same i })
-    where
-      here : is_some (ownership S a) ≡ true → nat_eq a.store S.number ≡ true
-      here = by_cond (λ h. is_some h ≡ true → nat_eq a.store S.number ≡ true)
-          (nat_eq a.store S.number) (λ own _. own) (λ _ h. absurd (true≢false (sym h)))
 
   -- a table of owners with the record that the state has under the owner's key, if it is its own
   same_record : (S Q : State T) (o : OwnerName) → Q.number ≡ S.number
       → (nat_eq o.store S.number ≡ true → map.get Q.owners o.key ≡ map.get S.owners o.key)
       → ownership Q o ≡ ownership S o
   same_record S Q o number same =
-      ap (λ n. cond (nat_eq o.store n) (map.get Q.owners o.key) None) number
-      ∙ at (nat_eq o.store S.number) same
-    where
-      at : (own : Bool) → (own ≡ true → map.get Q.owners o.key ≡ map.get S.owners o.key)
-          → cond own (map.get Q.owners o.key) None ≡ cond own (map.get S.owners o.key) None
-      at true same = same refl
-      at false same = refl
+      ⊎_elim (λ own. cc (same own)) (λ other. cc) (cases_Bool (nat_eq o.store S.number))
 
   -- no call but those of owners changes a record
   module _ (S : State T) (o : OwnerName) where
@@ -181,24 +165,22 @@ module _ {T : Type 0} where
 
     keeps_pointed : (a b : GenerationalPointer) (cell : Option (Cell T)) (to : Option Name)
         (target : Option (Cell T)) → Keeps S o (point S a b cell to target)
-    keeps_pointed a b None to target = refl
     keeps_pointed a b (Some (Ref old l)) (Some new) (Some (Shared c j)) =
         by_cond (Keeps S o) (is_name old new) (λ _. refl)
         (λ _. keeps_unless (hindrance_at S.cells
         (sweep (map.insert S.cells (name_of a) (Ref new l))) old) _ refl)
-    keeps_pointed a b (Some _) to target = refl
+    keeps_pointed a b _ to target = refl
 
     -- the owner of a making has another key
     other : (a : OwnerName) → a ≢ o → is_known S (Some a) ≡ true
         → (x : OwnerName) → ◌≡◌ {A = Option OwnerName} (Some a) (Some x)
         → nat_eq o.store S.number ≡ true → o.key ≢ x.key
     other a ne known x is own =
-        let same : a ≡ x = cc in
-        subst (λ (y : OwnerName). o.key ≢ y.key) same (apart S a o known ne own)
+        let same : x ≡ a = cc in rw same (apart S a o known ne own)
 
     no_owner : (x : OwnerName) → ◌≡◌ {A = Option OwnerName} None (Some x)
         → nat_eq o.store S.number ≡ true → o.key ≢ x.key
-    no_owner x is own = absurd (none≢some _ x refl is)
+    no_owner x is own = cc
 
     act_keeps : (call : Action T) (f : NewNames) → LeavesOwner call o → IsNotNext S call o
         → Keeps S o (act S call f)
@@ -223,7 +205,6 @@ module _ {T : Type 0} where
         (λ i. record { store = sym (eqb-true o.store S.number own) i; key = sym is i })))
     act_keeps (CloneOwner a) f ne next = keeps_cloned a (ownership S a) refl ne
     act_keeps (ReleaseOwner a) f ne next = keeps_released a (ownership S a) refl ne
-    act_keeps (LeakOwner a) f ne next = refl
     act_keeps (Read b l) f ne next = keeps_unless (refusal_to_read S b) _ (keeps_read l _ _)
     act_keeps (Write b l) f ne next = keeps_unless (refusal_to_write S b) _ (keeps_write l _ _)
     act_keeps (ReleaseReader g) f ne next = by_cond (Keeps S o) (knows_reader S g)
@@ -234,8 +215,7 @@ module _ {T : Type 0} where
     act_keeps (End b) f ne next = keeps_unless (hindrance_to S (own_name S b)) _ refl
     act_keeps (Point a b) f ne next = by_cond (Keeps S o) (has_same_id a b) (λ _. refl)
         (λ _. keeps_unless (refusal_to_read S b) _ (keeps_pointed a b _ _ _))
-    act_keeps (CanRead b) f ne next = refl
-    act_keeps (CanWrite b) f ne next = refl
+    act_keeps _ f ne next = refl
 
   module _ {S R : State T} where
     -- which is so of each call, where it doesn't make the owner
@@ -270,31 +250,23 @@ module _ {T : Type 0} where
         next NewOwner f is = λ same.
             let low = s.keys o.key (ap is_some (held_record S o h held)) in
             let key : S.next ≡ o.key = ap (λ (x : OwnerName). x.key) same in
-            absurd (omega arith)
+            omega arith
         next _ f is = tt
 
     -- a new owner has the store's number and the next ticket as its key
     new_owner : (o : OwnerName) → Meets S NewOwner (Owned o) R
         → o ≡ record { store = S.number; key = S.next }
-    new_owner o m = ⊎_elim (λ refused. absurd (true≢false (sym refused.0)))
-        (λ acts. ap (λ (out : Outcome T). owner_in o out.0) acts.2)
-        (meets_cases S R NewOwner (Owned o) m)
-      where
-        owner_in : OwnerName → Answer T → OwnerName
-        owner_in a (Owned b) = b
-        owner_in a _ = a
+    new_owner o m = cc (meets_each S R NewOwner (Owned o)
+        (λ out. out.0 ≡ Owned (record { store = S.number; key = S.next })) (λ refused. cc)
+        (λ f new. refl) m)
 
     -- so no owner that a sound store knows is that one
     pub unknown_owner : (r : Result OwnerName StoreError) → IsSound S
         → Meets S NewOwner (owner_answer r) R → IfOk r (λ o. ownership S o ≡ None)
     unknown_owner (Err e) s m = tt
-    unknown_owner (Ok o) s m =
-        ap (λ x. ownership S x) (new_owner o m)
-        ∙ rw (nat_eq_equiv.refl S.number) (none (map.get S.owners S.next) refl)
-      where
-        none : (h : Option Ownership) → map.get S.owners S.next ≡ h → h ≡ None
-        none None is = refl
-        none (Some h) is = let low = s.keys S.next (ap is_some is) in absurd (omega arith)
+    unknown_owner (Ok o) s m = rw (new_owner o m, nat_eq_equiv.refl S.number)
+        (by_option (map.get S.owners S.next) (λ none. none)
+        (λ h is. absurd (omega (arith, s.keys S.next (ap is_some is)))))
 
     pub owner_number : (r : Result OwnerName StoreError) → Meets S NewOwner (owner_answer r) R
         → IfOk r (λ o. o.store ≡ S.number)

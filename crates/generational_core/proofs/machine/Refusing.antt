@@ -1,28 +1,26 @@
 -- A call that is refused changes nothing.
-use Rattle.std.proofs.Common.{◌≡◌, Bool, true, false, cond, Option, None, Some, refl, sym, ap, subst}
-use Rattle.std.proofs.Common.{◌∙◌, ⊎_elim, []}
+use Rattle.std.proofs.Common.{◌≡◌, Bool, true, false, cond, Option, None, Some, refl, []}
 use Rattle.std.specs.Prelude.{nat_lt, Result, Ok, Err, OnErr}
-use Rattle.std.proofs.lemmas.Bool.{true≢false}
 use Rattle.generational_core.specs.Answers.{box_answer, reference_box_answer, read_answer}
 use Rattle.generational_core.specs.Answers.{write_answer, back_answer, end_answer, owner_answer}
 use Rattle.generational_core.specs.Answers.{release_answer, free_read_answer, free_write_answer}
 use Rattle.generational_core.specs.Answers.{WriteGuard, read_refused, end_refused}
-use Rattle.generational_core.specs.Borrowing.{Guard, BorrowRefusal, reach, refusal_to_read, refusal_to_write}
+use Rattle.generational_core.specs.Borrowing.{Guard, BorrowRefusal, reach, refusal_to_read}
+use Rattle.generational_core.specs.Borrowing.{refusal_to_write}
 use Rattle.generational_core.specs.Borrowing.BorrowRefusal.{Dropped}
 use Rattle.generational_core.specs.Boxes.{name_of, has_same_id}
-use Rattle.generational_core.specs.Cells.{Content, Cell, content_of}
+use Rattle.generational_core.specs.Cells.{Content, Cell}
 use Rattle.generational_core.specs.Cells.Cell.{Shared, Ref}
 use Rattle.generational_core.specs.Cells.Content.{Here}
 use Rattle.generational_core.specs.Ending.{hindrance_to}
 use Rattle.generational_core.specs.Leaving.{refuses}
-use Rattle.generational_core.specs.Machine.{Action, Answer, NewNames, Outcome, OwnerName, act, unless}
-use Rattle.generational_core.specs.Machine.{cell_at, clone_owner, is_known, knows_reader}
+use Rattle.generational_core.specs.Machine.{Action, Answer, NewNames, Outcome, OwnerName, act}
+use Rattle.generational_core.specs.Machine.{unless, cell_at, clone_owner, is_known, knows_reader}
 use Rattle.generational_core.specs.Machine.{knows_writer, own_cell, own_name, ownership, point}
 use Rattle.generational_core.specs.Machine.{read_at, refer, release_owner, set_at, turn, write_at}
-use Rattle.generational_core.specs.Machine.Action.{Make, MakeShared, Refer, NewOwner, CloneOwner}
-use Rattle.generational_core.specs.Machine.Action.{ReleaseOwner, LeakOwner, Read, Write}
-use Rattle.generational_core.specs.Machine.Action.{ReleaseReader, ReleaseWriter, SetValue, End}
-use Rattle.generational_core.specs.Machine.Action.{Point, CanRead, CanWrite}
+use Rattle.generational_core.specs.Machine.Action.{Make, MakeShared, Refer, CloneOwner}
+use Rattle.generational_core.specs.Machine.Action.{ReleaseOwner, Read, Write, ReleaseReader}
+use Rattle.generational_core.specs.Machine.Action.{ReleaseWriter, SetValue, End, Point}
 use Rattle.generational_core.specs.Machine.Answer.{Done, Flag, Back, BorrowRefused, Refused}
 use Rattle.generational_core.specs.Names.{Name, is_name}
 use Rattle.generational_core.specs.State.{State, Ownership}
@@ -37,7 +35,8 @@ use Rattle.generational_errors.specs.declared.error.Refused as error
 use Rattle.generational_errors.specs.declared.error.Refused.TheVariants as refused
 use Rattle.generational_errors.specs.declared.error.StoreError.{StoreError}
 use Rattle.generational_errors.specs.declared.error.StoreError.TheVariants.{UnknownOwner}
-use Rattle.generational_core.proofs.machine.Stepping.{meets_cases}
+use Rattle.generational_core.proofs.machine.Ends.{by_cond}
+use Rattle.generational_core.proofs.machine.Stepping.{meets_each}
 
 module _ {T : Type 0} where
   -- ---- how the machine refuses
@@ -110,39 +109,32 @@ module _ {T : Type 0} where
   act_answered S (MakeShared o v l) f = answered_if (is_known S o) (goes _ refl) unknown
   act_answered S (Refer o b) f = answered_if (is_known S o) (answered_unless (refusal_to_read S b)
       (answered_refer o b (reach S b) (cell_at S (reach S b)) f.first)) unknown
-  act_answered S NewOwner f = goes _ refl
   act_answered S (CloneOwner o) f = answered_clone o (ownership S o)
   act_answered S (ReleaseOwner o) f = answered_release o (ownership S o)
-  act_answered S (LeakOwner o) f = goes _ refl
   act_answered S (Read b l) f = answered_unless (refusal_to_read S b)
-      (answered_read l (reach S b) (content_of (cell_at S (reach S b))))
+      (answered_read l (reach S b) _)
   act_answered S (Write b l) f = answered_unless (refusal_to_write S b)
-      (answered_write l (reach S b) (content_of (cell_at S (reach S b))))
+      (answered_write l (reach S b) _)
   act_answered S (ReleaseReader g) f = answered_if (knows_reader S g) (goes _ refl) (goes _ refl)
   act_answered S (ReleaseWriter g v) f = answered_if (knows_writer S g) (goes _ refl) (back v)
-  act_answered S (SetValue b v) f =
-      answered_set b v (reach S b) (content_of (cell_at S (reach S b)))
+  act_answered S (SetValue b v) f = answered_set b v (reach S b) _
   act_answered S (End b) f = answered_unless (hindrance_to S (own_name S b)) (goes _ refl)
   act_answered S (Point a b) f = answered_if (has_same_id a b) (goes _ refl)
       (answered_unless (refusal_to_read S b)
       (answered_point a b (own_cell S a.id) (reach S b) (cell_at S (reach S b))))
-  act_answered S (CanRead b) f = goes _ refl
-  act_answered S (CanWrite b) f = goes _ refl
+  act_answered S _ f = goes _ refl
 
   pub answered_still : (S : State T) (out : Outcome T) → IsAnswered S out
       → refuses out.0 ≡ true → out.1 ≡ S
-  answered_still S out (goes o on) refused = absurd (true≢false (sym refused ∙ on))
+  answered_still S out (goes o on) refused = cc
   answered_still S out _ refused = refl
 
   -- ---- a refused call changes nothing, whichever it is
 
   module _ {S R : State T} (call : Action T) where
     pub refused_stays : (answer : Answer T) → Meets S call answer R → refuses answer ≡ true → R ≡ S
-    refused_stays answer m h =
-        ⊎_elim (λ refused. refused.1)
-        (λ acts. subst (λ (out : Outcome T). refuses out.0 ≡ true → out.1 ≡ S) (sym acts.2)
-        (answered_still S _ (act_answered S call acts.0)) h)
-        (meets_cases S R call answer m)
+    refused_stays answer = meets_each S R call answer (λ out. refuses out.0 ≡ true → out.1 ≡ S)
+        (λ _ _. refl) (λ f new. answered_still S _ (act_answered S call f))
 
     -- so it is of each result
     pub refused_make : (r : Result (GenerationalBox T) (Refusal T)) → Meets S call (box_answer r) R
@@ -206,11 +198,7 @@ module _ {T : Type 0} where
   -- nor does the release of a reader that isn't known
   pub unknown_reader : {S R : State T} (g : Guard) → Meets S (ReleaseReader g) (Flag false) R
       → R ≡ S
-  unknown_reader {S} {R} g m =
-      ⊎_elim (λ refused. refused.1) (λ acts. at (knows_reader S g) _ acts.2)
-      (meets_cases S R (ReleaseReader g) (Flag false) m)
-    where
-      at : (known : Bool) (Q : State T)
-          → ◌≡◌ {A = Outcome T} (Flag false, R) (cond known (Flag true, Q) (Flag false, S)) → R ≡ S
-      at true Q e = let other = ap (λ (out : Outcome T). out.0) e in absurd cc
-      at false Q e = ap (λ (out : Outcome T). out.1) e
+  unknown_reader {S} {R} g m = meets_each S R (ReleaseReader g) (Flag false)
+      (λ out. out.0 ≡ Flag false → out.1 ≡ S) (λ _ _. refl)
+      (λ f new. by_cond (λ (out : Outcome T). out.0 ≡ Flag false → out.1 ≡ S) (knows_reader S g)
+      (λ _ e. cc) (λ _ _. refl)) m refl

@@ -2,36 +2,30 @@
 -- that a read which was released leaves no trace but a ticket.
 use Rattle.generational_core.proofs.machine
 use machine.{◌≡◌, take_ticket, hindrance_of, knows_reader, needs_memory, takes_ticket, changed_back}
-use machine.{ℕ, ◌+◌, ◌∷◌, sym, ap, ◌∙◌, inl, inr, Ref, End, Done, Flag, Name}
-use machine.{Bool, Option, ⊎_elim, nat_eq, refill, Shared, Action, Answer, unless, Filling, without}
-use machine.{true, cond, List, ◌++◌, None, Some, refl, fill, Cell, Here, Lent, Read, Meets, Leave}
-use machine.{false, option_or, can_write, content_of, is_shared, next_guard, content_at, tickets_of}
-use machine.{[], list_map, or_right, value_of, leads_to, LeavesBox, IsFilling, none≢some, keep_each}
-use machine.{subst, name_of, Content, Outcome, cell_at, read_at, NameMap, Borrows, IsSound, by_name}
-use machine.{arith, Guard, reach, Value, close, Write, Reads, change, State, Borrow, Reader, Writer}
-use machine.{list_any, cells_after, next_borrow, old_content, new_content, meets_cases, reads_known}
-use machine.{is_some, is_none, or_left, BorrowRefusal, can_read, own_name, value_in, may_lack, Location}
-use machine.{nat_eq_equiv, read_refusal, refusal_to_read, hindrance_to, limit_tickets, meets_follows}
-use machine.{true≢false, false_from_ne_true, first_hindrance, LeavesUnborrowed, GenerationalPointer}
-use machine.{write_refusal, refusal_to_write, refusal_at, remove_reader, ReleaseReader, filled_content}
+use machine.{ℕ, ◌+◌, ◌∷◌, sym, ap, ◌∙◌, inl, inr, Ref, End, Done, Flag, Name, Bool, Option, ⊎_elim}
+use machine.{nat_eq, refill, Action, Answer, unless, Filling, without, true, List, ◌++◌, None, Some}
+use machine.{refl, fill, Cell, Here, Lent, Read, Meets, Leave, false, can_write, content_of}
+use machine.{next_guard, content_at, [], list_map, value_of, leads_to, LeavesBox, IsFilling}
+use machine.{keep_each, name_of, Content, Outcome, cell_at, read_at, NameMap, Borrows, IsSound}
+use machine.{by_name, arith, Guard, reach, Value, close, Write, Reads, change, State, Borrow}
+use machine.{Reader, Writer, list_any, next_borrow, old_content, new_content, meets_cases}
+use machine.{reads_known, is_some, BorrowRefusal, can_read, own_name, value_in, may_lack, Location}
+use machine.{nat_eq_equiv, read_refusal, refusal_to_read, hindrance_to, limit_tickets}
+use machine.{meets_follows, false_from_ne_true, LeavesUnborrowed, GenerationalPointer}
+use machine.{write_refusal, refusal_to_write, remove_reader, ReleaseReader, filled_content, by_cond}
+use machine.{by_option, meets_each, not, or_parts}
 use Rattle.generational_core.proofs.machine.Seeing.{reaches, reached_live, reach_stays}
 use Rattle.generational_core.proofs.machine.Seeing.{value_in_reached}
+pub use Rattle.generational_core.proofs.machine.Seeing.{reached_content}
 use Rattle.std.specs.FinMap as map
-
-no_option : {A : Type 0} (o : Option A) → is_none o ≡ true → o ≡ None
-no_option None h = refl
-no_option (Some x) h = absurd (true≢false (sym h))
 
 -- a ticket that stood nowhere is taken away from the end, where it was put
 left_again : (t : ℕ) (readers : List Borrow) (r : Borrow) → r.ticket ≡ t → list_any
     (nat_eq t) (list_map (λ b. b.ticket) readers) ≡ false → without t (readers ++ r ∷ []) ≡ readers
 left_again t [] r is none = rw (is, nat_eq_equiv.refl t) refl
-left_again t (b ∷ readers) r is none =
-    let other : nat_eq b.ticket t ≡ false = false_from_ne_true _ (λ h.
-    true≢false (sym (or_left _ _ (nat_eq_equiv.symm t b.ticket ∙ h)) ∙ none)) in
-    let rest = false_from_ne_true (list_any (nat_eq t) (list_map (λ b. b.ticket) readers)) (λ h.
-    true≢false (sym (or_right (nat_eq t b.ticket) _ h) ∙ none)) in
-    rw other (ap (λ bs. b ∷ bs) (left_again t readers r is rest))
+left_again t (b ∷ readers) r is none = let apart = or_parts (nat_eq t b.ticket) _ none in
+    let other : nat_eq b.ticket t ≡ false = cc (nat_eq_equiv.symm t b.ticket) in
+    rw other (ap (λ bs. b ∷ bs) (left_again t readers r is apart.1))
 
 module _ {T : Type 0} where
   -- ---- what a box that may be written reaches
@@ -44,52 +38,26 @@ module _ {T : Type 0} where
   pub rests : (S : State T) (b : GenerationalPointer)
       → can_write S b ≡ true → (m : Name) × Rests S b m
   unfolding refusal_to_write
-  rests S b h = at (reach S b) refl h
-    where
-      at : (to : Option Name) → reach S b ≡ to
-          → is_none (refusal_at to b.created_at (λ n. write_refusal (content_at S n))) ≡ true
-          → (m : Name) × Rests S b m
-      at None to h = absurd (true≢false (sym h))
-      at (Some m) to h = (m, record { reaches = to; free = no_option _ h })
+  rests S b h = by_option (reach S b) (λ none. cc) (λ m to.
+      let free : write_refusal (content_at S m) ≡ None = by_option _ (λ none. none) (λ t is. cc) in
+      (m, record { reaches = to; free = free }))
 
   pub rests_free : (S : State T) (b : GenerationalPointer) (m : Name)
       → Rests S b m → can_write S b ≡ true
   unfolding refusal_to_write
-  rests_free S b m r = ap (λ to. is_none (refusal_at to
-      b.created_at (λ n. write_refusal (content_at S n)))) r.reaches ∙ ap is_none r.free
+  rests_free S b m r = rw (r.reaches, r.free)
 
   -- it may be read too
   pub free_reads : (S : State T) (b : GenerationalPointer)
       → can_write S b ≡ true → can_read S b ≡ true
   unfolding refusal_to_read
   free_reads S b h = let at = rests S b h in
-      ap (λ to. is_none (refusal_at to b.created_at (λ n. read_refusal (content_at S n))))
-      at.1.reaches ∙ ap is_none (unwritten (content_at S at.0) at.1.free)
+      rw (at.1.reaches, unwritten (content_at S at.0) at.1.free)
     where
       unwritten : (c : Option (Content T)) → write_refusal c ≡ None → read_refusal c ≡ None
       unwritten (Some (Here v rs)) e = refl
       unwritten (Some (Lent w)) e = e
       unwritten None e = refl
-
-  -- a content stands where a box reaches
-  pub reached_content : (S : State T) (b : GenerationalPointer) (m : Name)
-      → IsSound S → reach S b ≡ Some m → is_some (content_at S m) ≡ true
-  reached_content S b m s e = at (map.get S.cells (name_of b)) refl (reaches S b m e).leads
-    where
-      held : (c : Option (Cell T)) → is_shared c ≡ true → is_some (content_of c) ≡ true
-      held (Some (Shared c l)) h = refl
-      held None h = h
-      held (Some _) h = absurd (true≢false (sym h))
-
-      at : (c : Option (Cell T)) → map.get S.cells (name_of b) ≡ c → leads_to c (name_of b) ≡ Some m
-          → is_some (content_at S m) ≡ true
-      at None is e = absurd (none≢some {A = Name} None m refl e)
-      at (Some (Value c l)) is e = let same : name_of b ≡ m = cc in
-          subst (λ n. is_some (content_at S n) ≡ true) same (ap (λ x. is_some (content_of x)) is)
-      at (Some (Ref n l)) is e = let same : n ≡ m = cc in
-          held _
-          (subst (λ k. is_shared (map.get S.cells k) ≡ true) same (s.targets (name_of b) n l is))
-      at (Some (Shared c l)) is e = absurd (none≢some {A = Name} None m refl e)
 
   -- and it sees a value
   pub free_sees : (S : State T) (b : GenerationalPointer)
@@ -101,8 +69,7 @@ module _ {T : Type 0} where
       value : (c : Option (Content T)) → is_some c ≡ true → write_refusal c ≡ None
           → (v : T) × (value_of c ≡ Some v)
       value (Some (Here v rs)) there free = (v, refl)
-      value (Some (Lent w)) there free = absurd (none≢some _ _ free refl)
-      value None there free = absurd (true≢false (sym there))
+      value _ there free = cc
 
   -- ---- what calls leave
 
@@ -123,7 +90,16 @@ module _ {T : Type 0} where
   pub free_stays : (S R : State T) (call : Action T) (answer : Answer T) (b : GenerationalPointer)
       → IsSound S → Meets S call answer R → LeavesUnborrowed S call b
       → can_write S b ≡ true → can_write R b ≡ true
-  free_stays S R call answer b s meets leaves h = still (rests S b h).0 (rests S b h).1
+  free_stays S R call answer b s meets leaves h =
+      let m = (rests S b h).0 in let r = (rests S b h).1 in
+      let live = reached_live S b m s r.reaches in
+      let quiet = unborrowed S call b m r.reaches leaves in
+      let stays = reach_stays S R call answer b m s meets (leaves_box S call b leaves) r.reaches in
+      let free = keep_each (meets_follows S R call answer meets) m
+      (λ x y. write_refusal (content_of x) ≡ None → write_refusal (content_of y) ≡ None)
+      (λ x e. e) (λ _ e. refl) (λ new given still e. cc (s.given m live))
+      (λ k c here law had has e. rw has (filled m quiet k law (rw had at e))) (λ k n l e. refl)
+      r.free in rests_free R b m (record { reaches = stays; free = free })
     where
       filled : (m : Name) → (Borrows S call m → ⊥) → (k : Filling T) → IsFilling S call R.next m k
           → write_refusal (Some (old_content k)) ≡ None
@@ -131,22 +107,8 @@ module _ {T : Type 0} where
       filled m quiet (Reader v rs l) law e = absurd (quiet law.1)
       filled m quiet (Writer v l) law e = absurd (quiet law.2)
       filled m quiet (Leave v [] g) law e = refl
-      filled m quiet (Leave v (r ∷ rs) g) law e = absurd (none≢some _ _ e refl)
+      filled m quiet (Leave v (r ∷ rs) g) law e = cc
       filled m quiet _ law e = refl
-
-      still : (m : Name) → Rests S b m → can_write R b ≡ true
-      still m r =
-          let live = reached_live S b m s r.reaches in
-          let quiet = unborrowed S call b m r.reaches leaves in
-          rests_free R b m (record {
-            reaches = reach_stays S R call answer b m s meets (leaves_box S call b leaves) r.reaches;
-            free = keep_each (meets_follows S R call answer meets) m
-                (λ x y. write_refusal (content_of x) ≡ None → write_refusal (content_of y) ≡ None)
-                (λ x e. e) (λ _ e. refl)
-                (λ new given still e. absurd (true≢false (sym (s.given m live) ∙ new)))
-                (λ k c here law had has e. ap write_refusal has
-                ∙ filled m quiet k law (sym (ap write_refusal had) ∙ e)) (λ k n l e. refl) r.free;
-          })
 
   -- ---- ends
 
@@ -154,43 +116,26 @@ module _ {T : Type 0} where
   unhindered_leads : (S : State T) (left : NameMap (Cell T)) (c : Option (Cell T)) (n m : Name)
       → map.get S.cells n ≡ c → leads_to c n ≡ Some m → write_refusal (content_at S m) ≡ None
       → hindrance_of S.cells left c n ≡ None
-  unhindered_leads S left c n m is e free = at c is e
-    where
-      either : (b : Bool) (o : Option BorrowRefusal) → o ≡ None → cond b o None ≡ None
-      either true o e = e
-      either false o e = refl
-
-      at : (c : Option (Cell T)) → map.get S.cells n ≡ c → leads_to c n ≡ Some m
-          → hindrance_of S.cells left c n ≡ None
-      at (Some (Value c l)) is e =
-          let same : n ≡ m = cc in either _ _ (ap (λ k. write_refusal (content_at S k)) same ∙ free)
-      at (Some (Ref k l)) is e =
-          let same : k ≡ m = cc in either _ _ (ap (λ k. write_refusal (content_at S k)) same ∙ free)
-      at None is e = refl
-      at (Some (Shared c l)) is e = refl
+  unhindered_leads S left (Some (Value c l)) n m is e free =
+      by_cond (λ o. o ≡ None) (not (is_some (map.get left n))) (λ _. cc) (λ _. refl)
+  unhindered_leads S left (Some (Ref k l)) n m is e free =
+      by_cond (λ o. o ≡ None) (not (is_some (map.get left k))) (λ _. cc) (λ _. refl)
+  unhindered_leads S left _ n m is e free = refl
 
   unhindered : (S : State T) (b : GenerationalPointer)
       → can_write S b ≡ true → hindrance_to S (own_name S b) ≡ None
   unfolding hindrance_to
   unhindered S b h = let at = rests S b h in let r = reaches S b at.0 at.1.reaches in
-      ap (λ own. first_hindrance S.cells
-      (cells_after S.cells (cond own (name_of b ∷ []) [])) (cond own (name_of b ∷ []) [])) r.number
-      ∙ ap (λ o. option_or o None) (unhindered_leads S _ _ (name_of b) at.0 refl r.leads at.1.free)
+      rw (r.number, unhindered_leads S _ _ (name_of b) at.0 refl r.leads at.1.free)
 
   -- an end of it is answered Ok
   pub free_ends : (S R : State T) (b : GenerationalPointer) (answer : Answer T)
       → can_write S b ≡ true → Meets S (End b) answer R → answer ≡ Done
   unfolding may_lack
-  free_ends S R b answer h m = at m
-    where
-      acts : unless (hindrance_to S (own_name S b)) S (Done, close S (own_name S b))
-          ≡ (Done, close S (own_name S b))
-      acts = ap (λ t. unless t S (Done, close S (own_name S b))) (unhindered S b h)
-
-      at : Meets S (End b) answer R → answer ≡ Done
-      at (inl m) = ap (λ (out : Outcome T). out.0) (m.2 ∙ ap (limit_tickets S) acts)
-      at (inr m) = absurd (true≢false (sym m.0
-          ∙ ap (λ (out : Outcome T). needs_memory S (limit_tickets S out).0 (End b)) acts))
+  free_ends S R b answer h (inl m) =
+      ap (λ (out : Outcome T). out.0) (rw (unhindered S b h) at m.2)
+  free_ends S R b answer h (inr m) = cc (ap (λ t. needs_memory S
+      (limit_tickets S (unless t S (Done, close S (own_name S b)))).0 (End b)) (unhindered S b h))
 
   -- ---- a read that was released
 
@@ -203,18 +148,12 @@ module _ {T : Type 0} where
     guard : g ≡ next_guard S cell
     left : R ≡ take_ticket (fill S cell (Here value (readers ++ next_borrow S l ∷ [])))
 
-  abbrev reader_of : Guard → Answer T → Guard
-  reader_of other (Reads g) = g
-  reader_of other _ = other
-
   began : (S R : State T) (b : GenerationalPointer) (l : Location) (g : Guard)
       → Meets S (Read b l) (Reads g) R → Began S l g R
-  began S R b l g meets = ⊎_elim (λ refused. absurd (true≢false (sym refused.0))) (λ acts. at
-      (refusal_to_read S b) (reach S b) _ refl acts.2) (meets_cases S R (Read b l) (Reads g) meets)
+  began S R b l g meets = ⊎_elim (λ refused. cc)
+      (λ acts. at (refusal_to_read S b) (reach S b) _ refl acts.2)
+      (meets_cases S R (Read b l) (Reads g) meets)
     where
-      no_reads : {out : Outcome T} → (Reads g, R) ≡ out → takes_ticket out.0 ≡ false → ⊥
-      no_reads e none = true≢false (ap (λ (out : Outcome T). takes_ticket out.0) e ∙ none)
-
       at : (t : Option BorrowRefusal) (to : Option Name) (c : Option (Content T)) → content_of
           (cell_at S to) ≡ c → (Reads g, R) ≡ unless t S (read_at S l to c) → Began S l g R
       at None (Some m) (Some (Here v rs)) had e = record {
@@ -222,36 +161,26 @@ module _ {T : Type 0} where
         value = v;
         readers = rs;
         had = had;
-        guard = ap (λ (out : Outcome T). reader_of g out.0) e;
+        guard = cc (ap (λ (out : Outcome T). out.0) e);
         left = ap (λ (out : Outcome T). out.1) e;
       }
-      at (Some t) to c had e = absurd (no_reads e refl)
-      at None None c had e = absurd (no_reads e refl)
-      at None (Some m) (Some (Lent w)) had e = absurd (no_reads e refl)
-      at None (Some m) None had e = absurd (no_reads e refl)
+      at t to c had e = cc (ap (λ (out : Outcome T). takes_ticket out.0) e)
 
   -- a cell that is filled and filled again with what it held
   refilled_back : (S : State T) (m : Name) (c d : Content T) → content_at S m ≡ Some d
       → change (change S.cells m (refill c)) m (refill d) ≡ S.cells
-  refilled_back S m c d had = at (map.get S.cells m) refl had
+  refilled_back S m c d had = by_option (map.get S.cells m) (λ none. cc)
+      (λ x is. changed_back by_name S.cells m (refill c) (refill d) x is (same x (rw is at had)))
     where
-      at : (x : Option (Cell T)) → map.get S.cells m ≡ x → content_of x ≡ Some d
-          → change (change S.cells m (refill c)) m (refill d) ≡ S.cells
-      at (Some (Value o l)) is e = let same : o ≡ d = cc in
-          changed_back
-          by_name S.cells m (refill c) (refill d) (Value o l) is (ap (λ k. Value k l) (sym same))
-      at (Some (Shared o l)) is e = let same : o ≡ d = cc in
-          changed_back
-          by_name S.cells m (refill c) (refill d) (Shared o l) is (ap (λ k. Shared k l) (sym same))
-      at (Some (Ref n l)) is e = absurd (none≢some _ d refl e)
-      at None is e = absurd (none≢some _ d refl e)
+      same : (x : Cell T) → content_of (Some x) ≡ Some d → refill d (refill c x) ≡ x
+      same (Value o l) e = cc
+      same x e = cc
 
   released : (R Q : State T) (g : Guard) (flag : Bool) → knows_reader R g ≡ true → Meets R
       (ReleaseReader g) (Flag flag) Q → Q ≡ remove_reader R g.cell g.ticket (content_at R g.cell)
-  released R Q g flag known meets = ⊎_elim (λ refused. absurd (true≢false (sym refused.0)))
-      (λ acts. ap (λ (out : Outcome T). out.1) (acts.2 ∙ ap (λ knows. cond knows
-      (Flag true, remove_reader R g.cell g.ticket (content_at R g.cell)) (Flag false, R)) known))
-      (meets_cases R Q (ReleaseReader g) (Flag flag) meets)
+  released R Q g flag known = meets_each R Q (ReleaseReader g) (Flag flag)
+      (λ out. out.1 ≡ remove_reader R g.cell g.ticket (content_at R g.cell)) (λ refused. cc)
+      (λ f new. rw known)
 
   -- the state is as it was, but for a ticket
   pub read_released : (S R Q : State T) (b : GenerationalPointer) (l : Location) (g : Guard)
@@ -267,14 +196,10 @@ module _ {T : Type 0} where
           let now = Here it.value (it.readers ++ next_borrow S l ∷ []) in
           let back = Here it.value it.readers in
           let quiet : list_any (nat_eq S.next) (list_map (λ b. b.ticket) it.readers) ≡ false =
-          false_from_ne_true _ (λ h. let low = s.below m S.next
-          (ap (λ c. list_any (nat_eq S.next) (tickets_of c)) it.had ∙ h) in absurd (omega arith)) in
+          false_from_ne_true _ (λ h. omega (arith, s.below m S.next (rw it.had h))) in
+          let filled = filled_content S m now back it.had in
+          let left = left_again S.next it.readers (next_borrow S l) refl quiet in
           released R Q g flag known release
           ∙ (ap (λ (x : Guard). remove_reader R x.cell x.ticket (content_at R x.cell)) it.guard
           ∙ (ap (λ (X : State T). remove_reader X m S.next (content_at X m)) it.left
-          ∙ (ap (remove_reader (take_ticket (fill S m now)) m S.next)
-          (filled_content S m now back it.had)
-          ∙ (ap (λ rs. fill (take_ticket (fill S m now)) m (Here it.value rs))
-          (left_again S.next it.readers (next_borrow S l) refl quiet)
-          ∙ ap (λ cells. record S { cells = cells; next = S.next + 1 })
-          (refilled_back S m now back it.had)))))
+          ∙ rw (filled, left, refilled_back S m now back it.had)))

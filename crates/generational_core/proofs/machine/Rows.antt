@@ -2,18 +2,17 @@
 -- what stands under a name without its value.
 use Rattle.std.proofs.Common.{◌≡◌, ℕ, zero, suc, Bool, true, false, cond, ◌&&◌, ◌||◌, leb, List, []}
 use Rattle.std.proofs.Common.{◌∷◌, ◌++◌, Option, None, Some, option_map, refl, sym, ap, ◌∙◌, arith}
-use Rattle.std.proofs.Common.{nat_eq, append-nil, append_assoc}
+use Rattle.std.proofs.Common.{nat_eq, append-nil, append_assoc, Ordering}
 use Rattle.std.proofs.lemmas.Bool.Decides.{nat_tests}
 use Rattle.std.specs.Prelude.{map as list_map}
 use Rattle.std.specs.List.{AllByRecursion, IsDistinct}
 use Rattle.std.specs.Option.{option_or}
-use Rattle.std.proofs.Common.{Ordering}
 use Rattle.std.specs.Ordering.{eq_by_cmp}
 use Rattle.std.specs.FinMap as map
 use Rattle.std.specs.FinSet as set
 use Rattle.generational_core.proofs.maps.Maps.{IsKeyOrder, by_name, by_number, key_same, name_total}
-use Rattle.generational_core.proofs.maps.Maps.{name_test, get-insert_here, changed_there, keys_apart}
-use Rattle.generational_core.proofs.maps.Maps.{contains-insert_name}
+use Rattle.generational_core.proofs.maps.Maps.{name_test, get-insert_here, changed_there}
+use Rattle.generational_core.proofs.maps.Maps.{keys_apart, contains-insert_name}
 use Rattle.generational_core.specs
 use specs.declared.borrow.Borrow.{Borrow}
 use specs.declared.rows.BaseRow.{BaseRow}
@@ -57,11 +56,8 @@ or_none (Some x) = refl
 module _ {K X : Type 0} {R : K → K → Ordering} (o : IsKeyOrder R) where
   put_twice : (m : map.FinMap R X) (k : K) (x y : X)
       → map.insert (map.insert m k x) k y ≡ map.insert m k y
-  put_twice m k x y = map.same_map o.total o.exact _ _ (λ q.
-      map.get-insert o.total (map.insert m k x) k y q
-      ∙ ap (cond (eq_by_cmp R q k) (Some y)) (map.get-insert o.total m k x q)
-      ∙ shadowed (eq_by_cmp R q k) (Some y) (Some x) (map.get m q)
-      ∙ sym (map.get-insert o.total m k y q))
+  put_twice m k x y = map.same_map o.total o.exact _ _ (λ q. simp (map.get-insert {X = X} o.total)
+      (shadowed (eq_by_cmp R q k) (Some y) (Some x) (map.get m q)))
 
   -- what was put is changed
   changed_put : (m : map.FinMap R X) (k : K) (x : X) (f : X → X)
@@ -80,18 +76,14 @@ module _ {K X : Type 0} {R : K → K → Ordering} (o : IsKeyOrder R) where
       at : (b : Bool) → eq_by_cmp R q e.0 ≡ b
           → option_or (map.find R q es) (cond b (Some e.1) (map.get m q))
           ≡ option_or (cond b (Some e.1) (map.find R q es)) (map.get m q)
-      at true is =
-          ap (λ x. option_or x (Some e.1))
-          (ap (λ k. map.find R k es) (key_same o q e.0 is) ∙ apart.0)
+      at true is = cc (key_same o q e.0 is, apart.0)
       at false is = refl
 
   -- what is put where nothing stood
   pub put_new : (es : List (K × X)) → AreApart R es → put (map.empty {R = R}) es ≡ map.from_entries es
   put_new es apart = map.same_map o.total o.exact _ _ (λ q.
-      get_put map.empty es apart q
-      ∙ ap (option_or (map.find R q es)) (map.get-empty R q)
-      ∙ or_none (map.find R q es)
-      ∙ sym (map.get-from_entries o.total es q))
+      rw (get_put map.empty es apart q, map.get-empty R q, map.get-from_entries o.total es q)
+      (or_none (map.find R q es)))
 
   find_none : (k : K) (es : List (K × X))
       → AllByRecursion (λ y. eq_by_cmp R k y ≡ false) (list_map (λ (e : K × X). e.0) es)

@@ -1,17 +1,16 @@
 -- What a box sees after a call: what the call's answer tells of it, and what the call leaves.
 use Rattle.generational_core.proofs.machine
-use machine.{◌≡◌, ℕ, true, false, [], Option, None, Some, refl, sym, ap, subst, ◌∙◌, ⊎_elim}
-use machine.{true≢false, is_some, nat_eq, ◌||◌, value_of, value_at, reach, leads_to, name_of}
+use machine.{◌≡◌, ℕ, true, false, [], Option, Some, refl, sym, ap, ◌∙◌, ⊎_elim}
+use machine.{is_some, nat_eq, ◌||◌, value_of, value_at, reach, leads_to, name_of}
 use machine.{Content, Cell, content_of, is_shared, refill, Value, Shared, Ref, Here, Action, Answer}
 use machine.{NewNames, act, add_cell, ReleaseOwner, Write, ReleaseWriter, SetValue, End, Point, Sets}
 use machine.{Name, among, value_reached, value_in, ending, Turns, Lends, LeavesBox, LeavesValue}
 use machine.{State, IsSound, IsGiven, AreNew, Meets, GenerationalPointer, by_name, get-insert_apart}
 use machine.{changed_view, name_apart, Change, Filling, IsFilling, IsLawful, after, old_content}
 use machine.{new_content, act_leads, second_fresh, Stay, Birth, Pair, Fill, Close, Turn, Writer}
-use machine.{Return, Replace, by_cond, none≢some, swept_view, box_stays, keep_each, last}
-use machine.{same_store, meets_cases, meets_follows, meets_sound}
+use machine.{Return, Replace, by_cond, cond_gives, live_by, swept_view, box_stays, keep_each, last}
+use machine.{same_store, meets_each, meets_follows, meets_sound, content_at}
 use Rattle.std.specs.FinMap as map
-use Rattle.std.specs.FinSet as set
 
 module _ {T : Type 0} where
   -- ---- what a box reaches
@@ -24,8 +23,7 @@ module _ {T : Type 0} where
   pub reaches : (S : State T) (b : GenerationalPointer) (m : Name)
       → reach S b ≡ Some m → Reaches S b m
   unfolding reach
-  reaches S b m = by_cond (λ to. to ≡ Some m → Reaches S b m) (nat_eq b.id.store S.number)
-      (λ n e. record { number = n; leads = e }) (λ _ e. absurd (none≢some {A = Name} None m refl e))
+  reaches S b m e = let it = cond_gives _ _ m e in record { number = it.0; leads = it.1 }
 
   pub reach_by : (S : State T) (b : GenerationalPointer) (m : Name)
       → Reaches S b m → reach S b ≡ Some m
@@ -35,66 +33,62 @@ module _ {T : Type 0} where
   -- what leads somewhere is a Value or a Ref, and a filled one leads to the same
   pub led_box : (c : Option (Cell T)) (q m : Name) → leads_to c q ≡ Some m
       → (is_some c ≡ true) × (is_shared c ≡ false)
-  led_box None q m e = absurd (none≢some {A = Name} None m refl e)
   led_box (Some (Value c l)) q m e = (refl, refl)
   led_box (Some (Ref n l)) q m e = (refl, refl)
-  led_box (Some (Shared c l)) q m e = absurd (none≢some {A = Name} None m refl e)
+  led_box _ q m e = cc
 
   pub refilled_leads : (k : Content T) (c : Cell T) (q : Name)
       → leads_to (Some (refill k c)) q ≡ leads_to (Some c) q
   refilled_leads k (Value c l) q = refl
-  refilled_leads k (Shared c l) q = refl
-  refilled_leads k (Ref n l) q = refl
+  refilled_leads k _ q = refl
 
-  -- what stands there is live
-  pub reached_live : (S : State T) (b : GenerationalPointer) (m : Name)
-      → IsSound S → reach S b ≡ Some m → is_some (map.get S.cells m) ≡ true
-  reached_live S b m s e = at (map.get S.cells (name_of b)) refl (reaches S b m e).leads
+  -- a content stands where a box reaches
+  pub reached_content : (S : State T) (b : GenerationalPointer) (m : Name)
+      → IsSound S → reach S b ≡ Some m → is_some (content_at S m) ≡ true
+  reached_content S b m s e = at (map.get S.cells (name_of b)) refl (reaches S b m e).leads
     where
-      live : (c : Option (Cell T)) → is_shared c ≡ true → is_some c ≡ true
-      live None h = h
-      live (Some c) h = refl
+      held : (c : Option (Cell T)) → is_shared c ≡ true → is_some (content_of c) ≡ true
+      held (Some (Shared c l)) h = refl
+      held _ h = cc
 
       at : (c : Option (Cell T)) → map.get S.cells (name_of b) ≡ c → leads_to c (name_of b) ≡ Some m
-          → is_some (map.get S.cells m) ≡ true
-      at None is e = absurd (none≢some {A = Name} None m refl e)
-      at (Some (Value c l)) is e = let same : name_of b ≡ m = cc in
-          subst (λ n. is_some (map.get S.cells n) ≡ true) same (ap is_some is)
-      at (Some (Ref n l)) is e = let same : n ≡ m = cc in
-          live _
-          (subst (λ k. is_shared (map.get S.cells k) ≡ true) same (s.targets (name_of b) n l is))
-      at (Some (Shared c l)) is e = absurd (none≢some {A = Name} None m refl e)
+          → is_some (content_at S m) ≡ true
+      at (Some (Value c l)) is e = cc
+      at (Some (Ref n l)) is e = held _ (cc (s.targets (name_of b) n l is))
+      at _ is e = cc
+
+  -- so what stands there is live
+  pub reached_live : (S : State T) (b : GenerationalPointer) (m : Name)
+      → IsSound S → reach S b ≡ Some m → is_some (map.get S.cells m) ≡ true
+  reached_live S b m s e = live_by (λ c. is_some (content_of c)) refl _ (reached_content S b m s e)
 
   -- ---- the cell of a box
 
   -- A Value or a Ref leads where it led, unless its name ends or it turns.
-  kept_cell : (S : State T) (call : Action T) (f : NewNames) (next : ℕ) (c : Change T)
-      → AreNew S call f → IsLawful S call f next c → (q : Name) → IsGiven S q
-      → is_shared (map.get S.cells q) ≡ false → among (ending S call) q ≡ false → (Turns call q → ⊥)
-      → leads_to (map.get (after S f c).cells q) q ≡ leads_to (map.get S.cells q) q
-  kept_cell S call f next Stay new law q given box on unturned = refl
-  kept_cell S call f next (Birth c) new law q given box on unturned =
-      ap (λ x. leads_to x q) (get-insert_apart by_name S.cells f.first c q
-      (λ is. true≢false (sym given ∙ (ap (set.contains S.given) is ∙ (law.2 new).ungiven))))
-  kept_cell S call f next (Pair v l) new law q given box on unturned =
-      let one = add_cell S f.first (Shared (Here v []) l) in
-      let names = law.1 new in let second = second_fresh S.given f.first f.second names.1.ungiven in
-      ap (λ x. leads_to x q) (get-insert_apart by_name one.cells f.second
-      (Ref f.first l) q (λ is. true≢false (sym given ∙ (ap (set.contains S.given) is ∙ second.0)))
-      ∙ get-insert_apart by_name S.cells f.first (Shared (Here v []) l) q
-      (λ is. true≢false (sym given ∙ (ap (set.contains S.given) is ∙ names.0.ungiven))))
-  kept_cell S call f next (Fill n k) new law q given box on unturned =
-      ⊎_elim (ap (λ x. leads_to x q)) (λ e. ap (λ x. leads_to x q) e.3
-      ∙ (refilled_leads (new_content S k) e.1 q ∙ sym (ap (λ x. leads_to x q) e.2)))
-      (changed_view by_name S.cells n (refill (new_content S k)) q)
-  kept_cell S call f next (Close names) new law q given box on unturned =
-      ap (λ x. leads_to x q) (box_stays S.cells names q box (ap (λ ns. among ns q) law.1 ∙ on))
-  kept_cell S call f next (Turn a old to l) new law q given box on unturned =
-      let one = map.insert S.cells a (Ref to l) in
-      let other = get-insert_apart
-      by_name S.cells a (Ref to l) q (λ is. unturned (subst (Turns call) (sym is) law.3)) in
-      ap (λ x. leads_to x q) (⊎_elim (λ e. e.0 ∙ other)
-      (λ e. absurd (true≢false (sym e.1 ∙ (ap is_shared other ∙ box)))) (swept_view one q))
+  module _ (S : State T) (call : Action T) (f : NewNames) (next : ℕ) (new : AreNew S call f)
+      (q : Name) (given : IsGiven S q) (box : is_shared (map.get S.cells q) ≡ false)
+      (on : among (ending S call) q ≡ false) (unturned : Turns call q → ⊥) where
+    kept_cell : (c : Change T) → IsLawful S call f next c
+        → leads_to (map.get (after S f c).cells q) q ≡ leads_to (map.get S.cells q) q
+    kept_cell Stay law = refl
+    kept_cell (Birth c) law =
+        rw (get-insert_apart by_name S.cells f.first c q (λ is. cc ((law.2 new).ungiven)))
+    kept_cell (Pair v l) law =
+        let names = law.1 new in
+        let second = second_fresh S.given f.first f.second names.1.ungiven in
+        let one = add_cell S f.first (Shared (Here v []) l) in
+        ap (λ x. leads_to x q)
+        (get-insert_apart by_name one.cells f.second (Ref f.first l) q (λ is. cc (second.0))
+        ∙ get-insert_apart by_name S.cells f.first _ q (λ is. cc (names.0.ungiven)))
+    kept_cell (Fill n k) law =
+        ⊎_elim (ap (λ x. leads_to x q)) (λ e. cc (refilled_leads (new_content S k) e.1 q))
+        (changed_view by_name S.cells n (refill (new_content S k)) q)
+    kept_cell (Close names) law = rw (box_stays S.cells names q box (rw law.1 on))
+    kept_cell (Turn a old to l) law =
+        let other = get-insert_apart by_name S.cells a (Ref to l) q
+        (λ is. unturned (rw is law.3)) in
+        ap (λ x. leads_to x q)
+        (⊎_elim (λ e. e.0 ∙ other) (λ e. cc) (swept_view (map.insert S.cells a (Ref to l)) q))
 
   -- a call that leaves a box ends no such name, and turns no such Ref
   unended : (S : State T) (call : Action T) (b : GenerationalPointer)
@@ -109,26 +103,6 @@ module _ {T : Type 0} where
       → LeavesBox S call b → Turns call (name_of b) → ⊥
   unturned S (Point a c) b h t = h t
   unturned S _ b h t = t
-
-  -- a box reaches what it reached, unless the call ends it or points it elsewhere
-  pub reach_stays : (S R : State T) (call : Action T) (answer : Answer T) (b : GenerationalPointer)
-      (m : Name) → IsSound S → Meets S call answer R → LeavesBox S call b
-      → reach S b ≡ Some m → reach R b ≡ Some m
-  reach_stays S R call answer b m s meets leaves e = ⊎_elim (λ same. ap (λ (X : State T). reach X b)
-      same.1 ∙ e) (λ acts. ap (λ (o : Answer T × State T). reach o.1 b) acts.2
-      ∙ acted acts.0 acts.1) (meets_cases S R call answer meets)
-    where
-      acted : (f : NewNames) → AreNew S call f → reach (act S call f).1 b ≡ Some m
-      acted f new =
-          let h = act_leads S call f in
-          let r = reaches S b m e in
-          let box = led_box _ (name_of b) m r.leads in
-          let given = s.given (name_of b) box.0 in
-          ap (λ (X : State T). reach X b) h.is ∙ reach_by (last h) b m (record {
-            number = ap (nat_eq b.id.store) (same_store S f h.change).0 ∙ r.number;
-            leads = kept_cell S call f h.next h.change new h.lawful (name_of b) given box.1
-                (unended S call b leaves) (unturned S call b leaves) ∙ r.leads;
-          })
 
   -- ---- the value that it reaches
 
@@ -151,37 +125,52 @@ module _ {T : Type 0} where
   unset S (SetValue a v) b m e h t = h (t ∙ sym e)
   unset S _ b m e h t = t
 
-  -- what stands at a live name keeps its value, unless the call lends it or sets it
-  pub kept_value : (S R : State T) (call : Action T) (answer : Answer T) (m : Name)
-      → IsSound S → Meets S call answer R → (Lends S call m → ⊥) → (Sets S call m → ⊥)
-      → is_some (map.get S.cells m) ≡ true → is_some (map.get R.cells m) ≡ true
-      → value_at R m ≡ value_at S m
-  kept_value S R call answer m s meets free quiet before after =
-      let value = λ (x : Option (Cell T)). value_of (content_of x) in
-      keep_each (meets_follows S R call answer meets) m (λ x y. is_some y ≡ true → value y
-      ≡ value x) (λ x e. refl) (λ _ e. absurd (true≢false (sym e))) (λ new given still e. absurd
-      (true≢false (sym (s.given m before) ∙ new))) (λ k c here law had has e. ap value_of has
-      ∙ (filled k law ∙ sym (ap value_of had))) (λ k n l e. refl) after
-    where
-      filled : (k : Filling T) → IsFilling S call R.next m k
-          → value_of (Some (new_content S k)) ≡ value_of (Some (old_content k))
-      filled (Writer v l) law = absurd (free law.1)
-      filled (Return w g v) law = absurd (free law.2)
-      filled (Replace w v) law = absurd (quiet law)
-      filled _ law = refl
-
   pub value_in_reached : (S : State T) (b : GenerationalPointer) (m : Name)
       → reach S b ≡ Some m → value_in S b ≡ value_at S m
   unfolding value_in
   value_in_reached S b m e = ap (value_reached S) e
 
-  -- a box sees what it saw, unless the call ends it, points it elsewhere, lends or sets its value
-  pub value_stays : (S R : State T) (call : Action T) (answer : Answer T) (b : GenerationalPointer)
-      (m : Name) → IsSound S → Meets S call answer R → LeavesValue S call b
-      → reach S b ≡ Some m → value_in R b ≡ value_in S b
-  value_stays S R call answer b m s meets leaves e =
-      let stays = reach_stays S R call answer b m s meets (leaves_box S call b leaves) e in
-      value_in_reached R b m stays ∙
-      (kept_value S R call answer m s meets (unlent S call b m e leaves) (unset S call b m e leaves)
-      (reached_live S b m s e) (reached_live R b m (meets_sound S R call answer s meets) stays)
-      ∙ sym (value_in_reached S b m e))
+  module _ (S R : State T) (call : Action T) (answer : Answer T) where
+    -- a box reaches what it reached, unless the call ends it or points it elsewhere
+    pub reach_stays : (b : GenerationalPointer) (m : Name) → IsSound S → Meets S call answer R
+        → LeavesBox S call b → reach S b ≡ Some m → reach R b ≡ Some m
+    reach_stays b m s meets leaves e =
+        meets_each S R call answer (λ o. reach o.1 b ≡ Some m) (λ _. e) acted meets
+      where
+        acted : (f : NewNames) → AreNew S call f → reach (act S call f).1 b ≡ Some m
+        acted f new =
+            let h = act_leads S call f in
+            let r = reaches S b m e in
+            let box = led_box _ (name_of b) m r.leads in
+            let given = s.given (name_of b) box.0 in
+            let stays = kept_cell S call f h.next new (name_of b) given box.1
+            (unended S call b leaves) (unturned S call b leaves) h.change h.lawful in
+            ap (λ (X : State T). reach X b) h.is ∙ reach_by (last h) b m
+            (record { number = rw (same_store S f h.change).0 r.number; leads = stays ∙ r.leads })
+
+    -- what stands at a live name keeps its value, unless the call lends it or sets it
+    pub kept_value : (m : Name) → IsSound S → Meets S call answer R
+        → (Lends S call m → ⊥) → (Sets S call m → ⊥) → is_some (map.get S.cells m) ≡ true
+        → is_some (map.get R.cells m) ≡ true → value_at R m ≡ value_at S m
+    kept_value m s meets free quiet before after =
+        let value = λ (x : Option (Cell T)). value_of (content_of x) in
+        keep_each (meets_follows S R call answer meets) m
+        (λ x y. is_some y ≡ true → value y ≡ value x) (λ x e. refl) (λ _ e. cc)
+        (λ new given still e. cc (s.given m before))
+        (λ k c here law had has e. rw (has, had) (filled k law)) (λ k n l e. refl) after
+      where
+        filled : (k : Filling T) → IsFilling S call R.next m k
+            → value_of (Some (new_content S k)) ≡ value_of (Some (old_content k))
+        filled (Writer v l) law = absurd (free law.1)
+        filled (Return w g v) law = absurd (free law.2)
+        filled (Replace w v) law = absurd (quiet law)
+        filled _ law = refl
+
+    -- a box sees what it saw, unless the call ends it, points it elsewhere, lends or sets its value
+    pub value_stays : (b : GenerationalPointer) (m : Name) → IsSound S → Meets S call answer R
+        → LeavesValue S call b → reach S b ≡ Some m → value_in R b ≡ value_in S b
+    value_stays b m s meets leaves e =
+        let stays = reach_stays b m s meets (leaves_box S call b leaves) e in
+        let live = reached_live R b m (meets_sound S R call answer s meets) stays in
+        let same = kept_value m s meets (unlent S call b m e leaves) (unset S call b m e leaves)
+        (reached_live S b m s e) live in cc (value_in_reached S b m e, value_in_reached R b m stays)

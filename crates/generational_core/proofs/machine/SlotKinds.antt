@@ -3,7 +3,7 @@
 use Rattle.generational_core.proofs.machine
 use machine.{◌≡◌, ◌+◌, ℕ, Bool, true, false, List, [], ◌∷◌, ◌++◌, sym, ap, subst, ◌∙◌, ⊎_elim, arith}
 use machine.{AllByRecursion, IsDistinct, IsSound, Name, State, and_parts, by_name, by_number, cases_Bool}
-use machine.{eq_by_cmp, eq_by_cmp_equiv, is_some, keep_view, key_here, key_same, keys_apart, len_keys}
+use machine.{eq_by_cmp, eq_by_cmp_equiv, keep_view, key_here, key_same, keys_apart, len_keys}
 use machine.{length-le_from_is_member, length-map, list_any, list_any-append, list_map, name_cmp, not}
 use machine.{nat_cmp, nat_cmp_total, not-true, or_cases, or_left, or_right, true≢false, ◌&&◌, IsBounded}
 use Rattle.std.proofs.Common.{length-append}
@@ -24,9 +24,9 @@ module _ {K : Type 0} (e : K → K → Bool) where
 
   no_any : (x : K) (ys : List K) → AllByRecursion (λ y. e x y ≡ false) ys
       → list_any (e x) ys ≡ true → ⊥
-  no_any x [] all any = true≢false (sym any)
-  no_any x (y ∷ ys) all any = ⊎_elim (λ yes. true≢false (sym yes ∙ all.0))
-      (λ rest. no_any x ys all.1 rest) (or_cases _ _ any)
+  no_any x [] all any = cc
+  no_any x (y ∷ ys) all any =
+      ⊎_elim (λ (yes : e x y ≡ true). cc) (no_any x ys all.1) (or_cases _ _ any)
 
   -- two lists that have nothing in common, each of which has each once, do so in a row
   distinct_both : ((x : K) → e x x ≡ true) → (xs ys : List K) → IsDistinct e xs → IsDistinct e ys
@@ -45,7 +45,7 @@ slots_in names = list_map (λ (n : Name). n.slot) names
 
 found_slot : (names : List Name) (s : ℕ) → list_any (eq_by_cmp nat_cmp s) (slots_in names) ≡ true
     → (m : Name) × (list_any (eq_by_cmp name_cmp m) names ≡ true) × (s ≡ m.slot)
-found_slot [] s any = absurd (true≢false (sym any))
+found_slot [] s any = cc
 found_slot (n ∷ names) s any = ⊎_elim
     (λ yes. (n, or_left _ _ (key_here by_name n), key_same by_number s n.slot yes))
     (λ rest. let m = found_slot names s rest in (m.0, or_right _ _ m.1, m.2)) (or_cases _ _ any)
@@ -81,8 +81,7 @@ module _ {T : Type 0} (S : State T) (s : IsSound S) (b : IsBounded S) where
   is_live_slot q any =
       let m = found_slot (map.keys S.cells) q any in
       let live = live_key m.0 m.1 in (
-        ap (is_last_live S) m.2
-            ∙ (ap (λ n. is_some (map.get S.cells n)) (sym (b.last m.0 live)) ∙ live),
+        cc (m.2, b.last m.0 live),
         ap (map.contains_key (slots_of S)) m.2 ∙ slot_made S m.0 (s.given m.0 live),
       )
 
@@ -90,9 +89,7 @@ module _ {T : Type 0} (S : State T) (s : IsSound S) (b : IsBounded S) where
       → (p q ≡ true) × (map.contains_key (slots_of S) q ≡ true)
   is_kept_slot p q any =
       let there = map.contains_key-keys (map.retain_keys (slots_of S) p) q ∙ any in
-      ⊎_elim (λ kept. (kept.1, sym (ap is_some kept.0) ∙ there))
-      (λ gone. absurd (true≢false (sym there ∙ ap is_some gone.0)))
-      (keep_view by_number (slots_of S) p q)
+      ⊎_elim (λ kept. (kept.1, cc)) (λ gone. cc) (keep_view by_number (slots_of S) p q)
 
   -- a slot isn't free and retired, nor live and one of these
   one_kind : (q : ℕ) → is_free S q ≡ true → is_retired S q ≡ true → ⊥

@@ -2,22 +2,23 @@
 use Rattle.generational_core.proofs.machine.Common
 use Common.{◌≡◌, false_from_ne_true, GenerationalPointer, contains-insert_here, contains-insert_old}
 use Common.{ℕ, ◌≤◌, ◌<◌, ◌∷◌, None, Some, refl, sym, ap, ◌∙◌, inl, inr, ◌⊎◌, Cell, Ref, Here, Name}
-use Common.{Bool, true, false, ◌||◌, List, ◌++◌, subst, arith, reach, fresh, NewNames, State, Borrow}
-use Common.{[], list_any-append, IsDistinct-push, AllByRecursion, get-insert_here, get-insert_apart}
+use Common.{Bool, true, false, ◌||◌, List, subst, arith, reach, fresh, NewNames, State, Borrow, []}
+use Common.{list_any-append, IsDistinct-push, AllByRecursion, get-insert_here, get-insert_apart}
 use Common.{Option, is_some, name_of, Content, IsNamed, IsEnded, Outcome, IsSound, IsGiven, IsBoxed}
 use Common.{⊎_elim, eq-eqb, filter, nat_eq, refill, Shared, Action, Stands, Owners, AreNew, by_name}
-use Common.{true≢false, nat_eq_equiv, IsDistinct, content_of, next_borrow, tickets_of, changed_view}
-use Common.{or_cases, or_left, is_shared, Ownership, tickets_at, content_at, name_cases, named_from}
-use Common.{or_right, eqb-true, list_any, nat_cmp, list_map, add_cell, name_cmp, Location, IsLinked}
+use Common.{nat_eq_equiv, IsDistinct, content_of, next_borrow, tickets_of, changed_view, or_cases}
+use Common.{or_left, is_shared, Ownership, tickets_at, named_from, or_right, eqb-true, list_any}
+use Common.{nat_cmp, list_map, add_cell, name_cmp, Location, IsLinked, by_keys, by_option}
 use Rattle.generational_core.proofs.machine.Changes.{Change, Filling, IsFilling, IsLawful, Leads}
 use Rattle.generational_core.proofs.machine.Changes.{after, AreRecords, old_content, new_content}
 use Rattle.generational_core.proofs.machine.Changes.{second_fresh, refilled_content}
 use Rattle.generational_core.proofs.machine.Changes.Change.{Stay, Birth, Pair, Fill, Close, Turn}
 use Rattle.generational_core.proofs.machine.Changes.Filling.{Reader, Writer, Leave}
-use Rattle.generational_core.proofs.machine.Ends.{none≢some, by_cond, closed_linked, turned_linked}
-use Rattle.generational_core.proofs.machine.Ends.{some_live, IsBorrowed, closed_view, turned_view}
+use Rattle.generational_core.proofs.machine.Ends.{by_cond, closed_linked, turned_linked, some_live}
+use Rattle.generational_core.proofs.machine.Ends.{IsBorrowed, closed_view, turned_view}
 use Rattle.generational_core.proofs.machine.Linking.{sound_linked, born_linked, pair_linked}
 use Rattle.generational_core.proofs.machine.Linking.{refilled_linked, refilled_shared}
+use Rattle.std.proofs.{Math.Bool.or-false, lemmas.List.map-append}
 use Rattle.std.specs.FinMap as map
 use Rattle.std.specs.FinSet as set
 
@@ -26,10 +27,6 @@ use Rattle.std.specs.FinSet as set
 -- the tickets of borrows
 abbrev tickets : List Borrow → List ℕ
 tickets rs = list_map (λ r. r.ticket) rs
-
-tickets-append : (rs ss : List Borrow) → tickets (rs ++ ss) ≡ tickets rs ++ tickets ss
-tickets-append [] ss = refl
-tickets-append (r ∷ rs) ss = ap (λ ts. r.ticket ∷ ts) (tickets-append rs ss)
 
 -- what passes a filter was there, and stands apart still
 in_filter : (p : Borrow → Bool) (q : ℕ → Bool) (rs : List Borrow)
@@ -52,10 +49,6 @@ unfolding IsDistinct
 apart_filter p [] h = h
 apart_filter p (r ∷ rs) h = by_cond (λ ss. IsDistinct nat_eq (tickets ss)) (p r)
     (λ _. (none_after p r.ticket rs h.0, apart_filter p rs h.1)) (λ _. apart_filter p rs h.1)
-
--- one ticket
-just_one : (t u : ℕ) → (nat_eq t u || false) ≡ true → t ≡ u
-just_one t u h = ⊎_elim (eqb-true t u) (λ e. absurd (true≢false (sym e))) (or_cases _ _ h)
 
 module _ {T : Type 0} where
   -- ---- what each name keeps
@@ -84,42 +77,40 @@ module _ {T : Type 0} where
   -- a cell at a new name
   born_here : (S : State T) (n q : Name) (c : Cell T) → q ≡ n → tickets_of (content_of (Some c))
       ≡ [] → IsGiven (add_cell S n c) q × (tickets_at (add_cell S n c).cells q ≡ [])
-  born_here S n q c is quiet = (
-    subst (λ x. IsGiven (add_cell S n c) x) (sym is) (contains-insert_here by_name S.given n),
-    ap (tickets_at (add_cell S n c).cells) is
-        ∙ (ap (λ x. tickets_of (content_of x)) (get-insert_here by_name S.cells n c) ∙ quiet),
-  )
+  born_here S n q c is quiet = rw is
+      (contains-insert_here by_name S.given n, rw (get-insert_here by_name S.cells n c) quiet)
 
-  -- what each change leaves at each name
-  view : (S : State T) (call : Action T) (f : NewNames) (c : Change T) (owners : Owners) (next : ℕ)
-      → AreNew S call f → IsLawful S call f next c → (q : Name)
-      → View S (record (after S f c) { owners = owners; next = next }) call (place f c) q
-  view S call f Stay owners next new law q = Same refl
-  view S call f (Birth c) owners next new law q = let fresh = (law.2 new).ungiven in
-      ⊎_elim (λ is. let born = born_here S f.first q c is law.1.1 in
-      Born (ap (set.contains S.given) is ∙ fresh) born.0 born.1)
-      (λ ne. Same (get-insert_apart by_name S.cells f.first c q ne)) (name_cases q f.first)
-  view S call f (Pair v l) owners next new law q =
-      let one = add_cell S f.first (Shared (Here v []) l) in
-      let names = law.1 new in let second = second_fresh S.given f.first f.second names.1.ungiven in
-      let other = get-insert_apart by_name one.cells f.second (Ref f.first l) q in
-      ⊎_elim (λ is. let born = born_here one f.second q (Ref f.first l) is refl in
-      Born (ap (set.contains S.given) is ∙ second.0) born.0 born.1)
-      (λ no. ⊎_elim (λ is. let born = born_here S f.first q (Shared (Here v []) l) is refl in
-      Born (ap (set.contains S.given) is ∙ names.0.ungiven)
-      (contains-insert_old by_name one.given f.second q born.0)
-      (ap (λ x. tickets_of (content_of x)) (other no) ∙ born.1))
-      (λ ne. Same (other no ∙ get-insert_apart by_name S.cells f.first (Shared (Here v []) l) q ne))
-      (name_cases q f.first)) (name_cases q f.second)
-  view S call f (Fill n k) owners next new law q = ⊎_elim
-      Same (λ e. Filled k e.1 e.0 (subst (λ x. IsFilling S call next x k) (sym e.0) law.1) e.2 e.3
-      (sym (ap content_of e.2) ∙ (ap (content_at S) e.0 ∙ law.0)))
-      (changed_view by_name S.cells n (refill (new_content S k)) q)
-  view S call f (Close names) owners next new law q =
-      ⊎_elim Same (λ e. Gone e.0 e.1) (closed_view S names law.0 q)
-  view S call f (Turn a old to l) owners next new law q =
-      ⊎_elim Same (⊎_elim (λ e. Turned old to l e.0 e.1) (λ e. Gone e.0 e.1))
-      (turned_view S a old to l law.0 law.2 q)
+  module _ (S : State T) (call : Action T) (f : NewNames) (owners : Owners) (next : ℕ)
+      (new : AreNew S call f) (q : Name) where
+    -- what each change leaves at each name
+    view : (c : Change T) → IsLawful S call f next c
+        → View S (record (after S f c) { owners = owners; next = next }) call (place f c) q
+    view Stay law = Same refl
+    view (Birth c) law = by_keys by_name q f.first
+        (λ is. let born = born_here S f.first q c is law.1.1 in
+        Born (rw is (law.2 new).ungiven) born.0 born.1)
+        (λ ne. Same (get-insert_apart by_name S.cells f.first c q ne))
+    view (Pair v l) law =
+        let c : Cell T = Shared (Here v []) l in
+        let one = add_cell S f.first c in
+        let names = law.1 new in
+        let second = second_fresh S.given f.first f.second names.1.ungiven in
+        let other = get-insert_apart by_name one.cells f.second (Ref f.first l) q in
+        by_keys by_name q f.second
+        (λ is. let born = born_here one f.second q (Ref f.first l) is refl in
+        Born (rw is second.0) born.0 born.1)
+        (λ no. by_keys by_name q f.first
+        (λ is. let born = born_here S f.first q c is refl in Born (rw is names.0.ungiven)
+        (contains-insert_old by_name one.given f.second q born.0) (rw (other no) born.1))
+        (λ ne. Same (other no ∙ get-insert_apart by_name S.cells f.first c q ne)))
+    view (Fill n k) law = ⊎_elim Same (λ e. Filled k e.1 e.0
+        (subst (λ x. IsFilling S call next x k) (sym e.0) law.1) e.2 e.3
+        (cc (law.0, ap content_of e.2)))
+        (changed_view by_name S.cells n (refill (new_content S k)) q)
+    view (Close names) law = ⊎_elim Same (λ e. Gone e.0 e.1) (closed_view S names law.0 q)
+    view (Turn a old to l) law = ⊎_elim Same
+        (⊎_elim (λ e. Turned old to l e.0 e.1) (λ e. Gone e.0 e.1))
+        (turned_view S a old to l law.0 law.2 q)
 
   -- no change takes a name back
   given_still : (S : State T) (f : NewNames) (c : Change T) (q : Name)
@@ -129,11 +120,11 @@ module _ {T : Type 0} where
       contains-insert_old by_name _ f.second q (contains-insert_old by_name S.given f.first q h)
   given_still S f _ q h = h
 
-  -- nor another store's number, or a slot's first generation
-  pub same_store : (S : State T) (f : NewNames) (c : Change T)
-      → ((after S f c).number ≡ S.number) × ((after S f c).start ≡ S.start)
-  same_store S f (Birth c) = (refl, refl)
-  same_store S f _ = (refl, refl)
+  -- nor another store's number, or a slot's first generation; and none changes owners' records
+  pub same_store : (S : State T) (f : NewNames) (c : Change T) → ((after S f c).number ≡ S.number)
+      × ((after S f c).start ≡ S.start) × ((after S f c).owners ≡ S.owners)
+  same_store S f (Birth c) = (refl, refl, refl)
+  same_store S f _ = (refl, refl, refl)
 
   -- R comes after S by a call: nothing is taken back
   pub record Follows (S : State T) (call : Action T) (R : State T) : Type 0 where
@@ -155,24 +146,22 @@ module _ {T : Type 0} where
   }
 
   -- what a call leads to comes after it
-  abbrev pub last : {S : State T} {call : Action T} {f : NewNames} {out : Outcome T}
-      → Leads S call f out → State T
-  last {S} {f = f} h = record (after S f h.change) { owners = h.owners; next = h.next }
+  module _ {S : State T} {call : Action T} {f : NewNames} {out : Outcome T} where
+    abbrev pub last : Leads S call f out → State T
+    last h = record (after S f h.change) { owners = h.owners; next = h.next }
 
-  pub change_follows : {S : State T} {call : Action T} {f : NewNames} {out : Outcome T}
-      → AreNew S call f → (h : Leads S call f out) → Follows S call (last h)
-  change_follows {S} {call} {f} new h = record {
-    number = (same_store S f h.change).0;
-    start = (same_store S f h.change).1;
-    next = h.up;
-    given = given_still S f h.change;
-    spot = place f h.change;
-    view = view S call f h.change h.owners h.next new h.lawful;
-  }
+    pub change_follows : AreNew S call f → (h : Leads S call f out) → Follows S call (last h)
+    change_follows new h = record {
+      number = (same_store S f h.change).0;
+      start = (same_store S f h.change).1;
+      next = h.up;
+      given = given_still S f h.change;
+      spot = place f h.change;
+      view = λ q. view S call f h.owners h.next new q h.change h.lawful;
+    }
 
-  pub leads_follows : {S : State T} {call : Action T} {f : NewNames} {out : Outcome T}
-      → AreNew S call f → Leads S call f out → Follows S call out.1
-  leads_follows {S} {call} new h = subst (Follows S call) (sym h.is) (change_follows new h)
+    pub leads_follows : AreNew S call f → Leads S call f out → Follows S call out.1
+    leads_follows new h = subst (Follows S call) (sym h.is) (change_follows new h)
 
   -- what holds of what a name had and has, shown for each way in which that may change
   pub keep_each : {S R : State T} {call : Action T} (h : Follows S call R)
@@ -188,7 +177,7 @@ module _ {T : Type 0} where
     where
       both : {x y : Option (Cell T)} → map.get S.cells q ≡ x → map.get R.cells q ≡ y
           → P x y → P (map.get S.cells q) (map.get R.cells q)
-      both {x} {y} e f r = subst (λ c. P c (map.get R.cells q)) (sym e) (subst (P x) (sym f) r)
+      both {x} {y} e f r = rw (e, f) r
 
       at : View S R call h.spot q → P (map.get S.cells q) (map.get R.cells q)
       at (Same e) = both refl e (same (map.get S.cells q))
@@ -204,16 +193,14 @@ module _ {T : Type 0} where
       ⊎ ((set.contains S.given q ≡ false) × IsGiven R q)
   live_before {S} {R} h q = keep_each h q (λ x y. is_some y ≡ true
       → (is_some x ≡ true) ⊎ ((set.contains S.given q ≡ false) × IsGiven R q)) (λ x live. inl live)
-      (λ free live. absurd (true≢false (sym live))) (λ new given quiet live. inr (new, given))
+      (λ free live. cc) (λ new given quiet live. inr (new, given))
       (λ k c here law had has live. inl refl) (λ m n l live. inl refl)
 
   -- an ended name has no cell again
   pub ended_still : {S R : State T} {call : Action T} (h : Follows S call R) (q : Name)
       → IsEnded S q → map.get R.cells q ≡ None
   ended_still h q ended = keep_each h q (λ x y. x ≡ None → y ≡ None) (λ x e. e) (λ free e. refl)
-      (λ new given quiet e. absurd (true≢false (sym ended.0 ∙ new)))
-      (λ k c here law had has e. absurd (none≢some _ _ e refl))
-      (λ m n l e. absurd (none≢some _ _ e refl)) ended.1
+      (λ new given quiet e. cc) (λ k c here law had has e. cc) (λ m n l e. cc) ended.1
 
   -- ---- tickets
 
@@ -230,30 +217,30 @@ module _ {T : Type 0} where
       → Renews S next spot q (Some (old_content k)) (Some (new_content S k))
   unfolding IsDistinct
   renewed S call next spot q (Reader v rs l) here law d low =
-      let more = tickets-append rs (next_borrow S l ∷ []) in (
-        subst (IsDistinct nat_eq) (sym more) (IsDistinct-push nat_eq_equiv (tickets rs) S.next d
+      let more = map-append (λ (r : Borrow). r.ticket) rs (next_borrow S l ∷ []) in (
+        rw more (IsDistinct-push nat_eq_equiv (tickets rs) S.next d
             (false_from_ne_true _ (λ h. let lt = low S.next h in omega arith))),
         λ t h. ⊎_elim inl
-            (λ e. let is = just_one t S.next e in inr (here, omega arith, omega arith))
-            (or_cases _ _ (sym (list_any-append (nat_eq t) (tickets rs) (S.next ∷ []))
-            ∙ (sym (ap (list_any (nat_eq t)) more) ∙ h))),
+            (λ e. let is = eqb-true t S.next (rw or-false at e) in
+            inr (here, omega arith, omega arith))
+            (or_cases _ _ (rw (more, list_any-append (nat_eq t) (tickets rs) (S.next ∷ [])) at h)),
       )
-  renewed S call next spot q (Writer v l) here law d low =
-      ((tt, tt), λ t h. let is = just_one t S.next h in inr (here, omega arith, omega arith))
+  renewed S call next spot q (Writer v l) here law d low = (
+    (tt, tt),
+    λ t h. let is = eqb-true t S.next (rw or-false at h) in
+        inr (here, omega arith, omega arith),
+  )
   renewed S call next spot q (Leave v rs g) here law d low =
       (apart_filter _ rs d, λ t h. inl (in_filter _ (nat_eq t) rs h))
-  renewed S call next spot q _ here law d low = (tt, λ t h. absurd (true≢false (sym h)))
+  renewed S call next spot q _ here law d low = (tt, λ t h. cc)
 
   -- ---- what Refs name
 
   -- nothing stands at a name that was never given, also beside another new one
   pub absent : (S : State T) → IsSound S → (n : Name)
       → set.contains S.given n ≡ false → map.get S.cells n ≡ None
-  absent S s n new = at (map.get S.cells n) refl
-    where
-      at : (o : Option (Cell T)) → map.get S.cells n ≡ o → o ≡ None
-      at None e = refl
-      at (Some c) e = absurd (true≢false (sym (s.given n (ap is_some e)) ∙ new))
+  absent S s n new =
+      by_option (map.get S.cells n) (λ none. none) (λ c is. cc (s.given n (ap is_some is)))
 
   pub absent_beside : (S : State T) → IsSound S → (m n : Name) (c : Cell T)
       → set.contains (add_cell S m c).given n ≡ false → map.get (add_cell S m c).cells n ≡ None
@@ -261,20 +248,20 @@ module _ {T : Type 0} where
       get-insert_apart by_name S.cells m c n (λ is. apart.1 (sym is)) ∙ absent S s n apart.0
 
   -- after each change Refs name Shared cells, and Shared cells are named
-  linked : (S : State T) (call : Action T) (f : NewNames) (next : ℕ) (c : Change T)
-      → IsSound S → AreNew S call f → IsLawful S call f next c → IsLinked (after S f c).cells
-  linked S call f next Stay s new law = sound_linked S s
-  linked S call f next (Birth c) s new law = let none = absent S s f.first (law.2 new).ungiven in
-      born_linked S.cells f.first c (sound_linked S s) none law.1.0 law.1.2
-  linked S call f next (Pair v l) s new law =
-      let names = law.1 new in let apart = second_fresh S.given f.first f.second names.1.ungiven in
-      pair_linked S.cells f.first f.second (Here v []) l l
-      (sound_linked S s) apart.1 (absent S s f.first names.0.ungiven) (absent S s f.second apart.0)
-  linked S call f next (Fill n k) s new law =
-      refilled_linked S.cells n (new_content S k) (sound_linked S s)
-  linked S call f next (Close names) s new law = closed_linked S.cells names s.targets
-  linked S call f next (Turn a old to l) s new law =
-      turned_linked S.cells a old to l s.targets law.0 law.1
+  module _ (S : State T) (call : Action T) (f : NewNames) (next : ℕ)
+      (s : IsSound S) (new : AreNew S call f) where
+    linked : (c : Change T) → IsLawful S call f next c → IsLinked (after S f c).cells
+    linked Stay law = sound_linked S s
+    linked (Birth c) law = born_linked S.cells f.first c (sound_linked S s)
+        (absent S s f.first (law.2 new).ungiven) law.1.0 law.1.2
+    linked (Pair v l) law =
+        let names = law.1 new in
+        let apart = second_fresh S.given f.first f.second names.1.ungiven in
+        pair_linked S.cells f.first f.second (Here v []) l l (sound_linked S s) apart.1
+        (absent S s f.first names.0.ungiven) (absent S s f.second apart.0)
+    linked (Fill n k) law = refilled_linked S.cells n (new_content S k) (sound_linked S s)
+    linked (Close names) law = closed_linked S.cells names s.targets
+    linked (Turn a old to l) law = turned_linked S.cells a old to l s.targets law.0 law.1
 
   -- ---- soundness
 
@@ -283,7 +270,7 @@ module _ {T : Type 0} where
         → IsGiven S q → is_shared (map.get S.cells q) ≡ false
         → is_shared (map.get R.cells q) ≡ false
     shared_still q given = keep_each h q (λ x y. is_shared x ≡ false → is_shared y ≡ false)
-        (λ x e. e) (λ free e. refl) (λ new is quiet e. absurd (true≢false (sym given ∙ new)))
+        (λ x e. e) (λ free e. refl) (λ new is quiet e. cc)
         (λ k c here law had has e. refilled_shared _ c ∙ e) (λ m n l e. refl)
 
     each_boxed : (names : List Name)
@@ -299,14 +286,9 @@ module _ {T : Type 0} where
     tickets_still q =
         let P = Renews S R.next h.spot q in
         keep_each h q (λ x y. P (content_of x) (content_of y)) (λ x d low. (d, λ t e. inl e))
-        (λ free d low. (tt, λ t e. absurd (true≢false (sym e))))
-        (λ new given quiet d low. (
-          subst (IsDistinct nat_eq) (sym quiet) tt,
-          λ t e. absurd (true≢false (sym e ∙ ap (list_any (nat_eq t)) quiet)),
-        )) (λ k c here law had has.
-        subst (λ x. P x (content_of (Some (refill (new_content S k) c)))) (sym had)
-        (subst (P (Some (old_content k))) (sym has) (renewed S call R.next h.spot q k here law)))
-        (λ m n l d low. (tt, λ t e. absurd (true≢false (sym e)))) (s.apart q) (s.below q)
+        (λ free d low. (tt, λ t e. cc)) (λ new given quiet d low. rw quiet (tt, λ t e. cc))
+        (λ k c here law had has. rw (had, has) (renewed S call R.next h.spot q k here law))
+        (λ m n l d low. (tt, λ t e. cc)) (s.apart q) (s.below q)
 
     follows_sound : IsLinked R.cells → AreRecords R R.next R.owners → IsSound R
     follows_sound links records = record {
@@ -325,19 +307,15 @@ module _ {T : Type 0} where
       keys = λ k live. let x = some_live _ live in (records k x.0 x.1).1;
     }
 
-  same_owners : (S : State T) (f : NewNames) (c : Change T) → (after S f c).owners ≡ S.owners
-  same_owners S f (Birth c) = refl
-  same_owners S f _ = refl
-
   -- each call, with new names, leads from a sound state to a sound state
   pub leads_sound : {S : State T} {call : Action T} {f : NewNames} {out : Outcome T}
       → IsSound S → AreNew S call f → Leads S call f out → IsSound out.1
   leads_sound {S} {call} {f} s new h =
       let follows = change_follows new h in
       subst IsSound (sym h.is) (follows_sound s follows
-      (linked S call f h.next h.change s new h.lawful)
+      (linked S call f h.next s new h.change h.lawful)
       (h.recorded (λ k x is.
-      let there = sym (ap (λ o. map.get o k) (same_owners S f h.change)) ∙ is in
+      let there = rw (same_store S f h.change).2 at is in
       let low = s.keys k (ap is_some there) in let up = h.up in
       (each_boxed s follows x.names (s.owned k x there), omega arith))))
 
@@ -348,17 +326,16 @@ module _ {T : Type 0} where
   unfolding IsDistinct
   fresh_sound number start next =
       let none = map.get-empty {X = Cell T} name_cmp in
-      let quiet = λ (n : Name). ap (λ c. tickets_of (content_of c)) (none n) in
       let unknown = map.get-empty {X = Ownership} nat_cmp in
       record {
-        given = λ n live. absurd (true≢false (sym live ∙ ap is_some (none n)));
-        owned = λ k h is. absurd (none≢some _ h (unknown k) is);
-        targets = λ n m l is. absurd (none≢some _ _ (none n) is);
-        shared = λ m h. absurd (true≢false (sym h ∙ ap is_shared (none m)));
-        below = λ n t h. absurd (true≢false (sym h ∙ ap (list_any (nat_eq t)) (quiet n)));
-        apart = λ n. subst (IsDistinct nat_eq) (sym (quiet n)) tt;
-        one_cell = λ n m t h k. absurd (true≢false (sym h ∙ ap (list_any (nat_eq t)) (quiet n)));
-        keys = λ k live. absurd (true≢false (sym live ∙ ap is_some (unknown k)));
+        given = λ n live. cc (none n);
+        owned = λ k h is. cc (unknown k);
+        targets = λ n m l is. cc (none n);
+        shared = λ m h. cc (none m);
+        below = λ n t h. cc (none n);
+        apart = λ n. rw (none n) tt;
+        one_cell = λ n m t h k. cc (none n);
+        keys = λ k live. cc (unknown k);
       }
 
   -- a Shared cell is live exactly while a live Ref names it

@@ -1,21 +1,22 @@
 -- What holds of each call of a store, whichever names it takes and whatever memory lacks.
 use Rattle.generational_core.proofs.machine.Common
-use Common.{◌≡◌, ◌+◌, ◌≤◌, not, ◌∷◌, sym, ap, ◌∙◌, inl, inr, ◌⊎◌, act, Made, Name}
-use Common.{ℕ, list_any-append, refusal_to_write, write_refusal, GenerationalPointer, NumbersExhausted}
-use Common.{Bool, true, cond, List, [], None, Some, refl, ◌&&◌, Cell, Here, Lent, Sets, Make, Meets}
-use Common.{false, ⊎_elim, nat_eq, refill, Shared, Action, Answer, unless, Writes, IsSound, IsGiven}
-use Common.{Option, is_some, BorrowRefusal, Dropped, name_of, Content, IsEnded, Outcome, cell_at, Refused}
+use Common.{◌≡◌, ◌+◌, ◌≤◌, not, sym, ap, ◌∙◌, inl, inr, ◌⊎◌, act, Made, Name, ℕ, list_any-append}
+use Common.{refusal_to_write, write_refusal, GenerationalPointer, NumbersExhausted, Bool, true}
+use Common.{cond, List, None, Some, refl, ◌&&◌, Cell, Here, Sets, Make, Meets, false, ⊎_elim}
+use Common.{nat_eq, refill, Shared, Action, Answer, unless, Writes, IsSound, IsGiven, Option}
+use Common.{is_some, BorrowRefusal, Dropped, name_of, Content, IsEnded, Outcome, cell_at, Refused}
 use Common.{subst, Guard, reach, Value, NewNames, refer, Refer, Reads, State, AreNew, Takes, Borrow}
-use Common.{true≢false, content_of, location_of, location_at, has_reader, has_writer, last_ticket}
-use Common.{or_cases, or_right, and_parts, and_from, not-false, OwnerName, MakeShared, content_at}
-use Common.{or_left, eqb-true, list_any, value_of, value_at, leads_to, is_known, BorrowRefused, no_names}
-use Common.{refusal_to_read, knows_reader, knows_writer, ReleaseReader, ReleaseWriter, takes_ticket}
+use Common.{content_of, location_of, location_at, has_reader, has_writer, last_ticket, and_parts}
+use Common.{and_from, OwnerName, MakeShared, content_at, or_left, eqb-true, list_any, value_of}
+use Common.{value_at, is_known, BorrowRefused, no_names, refusal_to_read, knows_reader}
+use Common.{knows_writer, ReleaseReader, ReleaseWriter, takes_ticket, nat_eq_equiv, []}
 use Rattle.generational_core.proofs.machine.Changes.{new_fresh, act_leads, is_making, IsLawful}
 use Rattle.generational_core.proofs.machine.Changes.{Change, after, Filling, IsFilling, Says}
 use Rattle.generational_core.proofs.machine.Changes.{act_says, without, old_content, new_content}
 use Rattle.generational_core.proofs.machine.Changes.Change.{Birth, Pair}
 use Rattle.generational_core.proofs.machine.Changes.Filling.{Reader, Writer, Leave, Return, Replace}
-use Rattle.generational_core.proofs.machine.Ends.{by_cond, borrowed_live}
+use Rattle.std.proofs.lemmas.Map.Views.{any-filter_same}
+use Rattle.generational_core.proofs.machine.Ends.{by_cond, live_by}
 use Rattle.generational_core.proofs.machine.Soundness.{keep_each, Follows, ended_still, same_store}
 use Rattle.generational_core.proofs.machine.Soundness.{leads_sound, follows_same, leads_follows}
 use Rattle.std.specs.FinMap as map
@@ -25,12 +26,9 @@ use Rattle.std.specs.FinSet as set
 unread_stays : (u t : ℕ) (readers : List Borrow)
     → nat_eq u t ≡ false → list_any (λ r. nat_eq r.ticket t) readers ≡ true
     → list_any (λ r. nat_eq r.ticket t) (without u readers) ≡ true
-unread_stays u t [] other h = h
-unread_stays u t (r ∷ readers) other h = by_cond (λ rs. list_any (λ r. nat_eq r.ticket t) rs ≡ true)
-    (not (nat_eq r.ticket u)) (λ e. ⊎_elim (λ k. or_left _ _ k) (λ k. or_right _ _
-    (unread_stays u t readers other k)) (or_cases _ _ h)) (λ e. ⊎_elim (λ k. absurd
-    (true≢false (sym k ∙ (ap (λ x. nat_eq x t) (eqb-true r.ticket u (not-false _ e)) ∙ other))))
-    (λ k. unread_stays u t readers other k) (or_cases _ _ h))
+unread_stays u t readers other h = any-filter_same (λ r. nat_eq r.ticket t)
+    (λ r. not (nat_eq r.ticket u)) true
+    (λ r e. cc (eqb-true r.ticket t e, nat_eq_equiv.symm u t)) readers ∙ h
 
 module _ {T : Type 0} where
   -- ---- the first generation of slots, and names, whichever names a call takes
@@ -42,8 +40,8 @@ module _ {T : Type 0} where
 
   same_given : (S : State T) (call : Action T) (f : NewNames) (next : ℕ) (c : Change T)
       → IsLawful S call f next c → is_making call ≡ false → (after S f c).given ≡ S.given
-  same_given S call f next (Birth c) law other = absurd (true≢false (sym law.0 ∙ other))
-  same_given S call f next (Pair v l) law other = absurd (true≢false (sym law.0 ∙ other))
+  same_given S call f next (Birth c) law other = cc
+  same_given S call f next (Pair v l) law other = cc
   same_given S call f next _ law other = refl
 
   -- each call leaves the first generation, and none but a making gives names
@@ -52,9 +50,8 @@ module _ {T : Type 0} where
   act_start S call f =
       let h = act_leads S call f in
       record {
-        start = ap (λ (R : State T). R.start) h.is ∙ (same_store S f h.change).1;
-        given = λ other. ap (λ (R : State T). R.given) h.is
-            ∙ same_given S call f h.next h.change h.lawful other;
+        start = cc (h.is, (same_store S f h.change).1);
+        given = λ other. cc (h.is, same_given S call f h.next h.change h.lawful other);
       }
 
   -- ---- the two cases of a call
@@ -74,7 +71,7 @@ module _ {T : Type 0} where
   Acts S call answer R = (new : NewNames) × AreNew S call new × ((answer, R) ≡ act S call new)
 
   -- an outcome takes new names, or is a refusal
-  abbrev TakesNew : State T → Action T → NewNames → Outcome T → Type 0
+  abbrev pub TakesNew : State T → Action T → NewNames → Outcome T → Type 0
   TakesNew S call f out = Takes S call out.0 f → AreNew S call f ⊎ IsRefused S out.0 out.1
 
   takes_referred : (S : State T) (call : Action T) (f : NewNames) (t : Option BorrowRefusal)
@@ -84,8 +81,7 @@ module _ {T : Type 0} where
   takes_referred S call f t o b to target = λ _. inr (refl, refl)
 
   -- a call takes new names, or is refused
-  pub takes_new : (S : State T) (call : Action T) (f : NewNames) → Takes S call (act S call f).0 f
-      → AreNew S call f ⊎ IsRefused S (act S call f).0 (act S call f).1
+  pub takes_new : (S : State T) (call : Action T) (f : NewNames) → TakesNew S call f (act S call f)
   takes_new S (Make o v l) f =
       by_cond (TakesNew S (Make o v l) f) (is_known S o) (λ _. inl) (λ _ _. inr (refl, refl))
   takes_new S (MakeShared o v l) f =
@@ -112,8 +108,8 @@ module _ {T : Type 0} where
   -- a box of an ended name reaches nothing, so it is answered that its value is gone
   ended_reach : (S : State T) (b : GenerationalPointer) → IsEnded S (name_of b) → reach S b ≡ None
   unfolding reach
-  ended_reach S b e = by_cond (λ to. to ≡ None) (nat_eq b.id.store S.number)
-      (λ _. ap (λ c. leads_to c (name_of b)) e.1) (λ _. refl)
+  ended_reach S b e =
+      by_cond (λ to. to ≡ None) (nat_eq b.id.store S.number) (λ _. rw e.1) (λ _. refl)
 
   pub ended_read : (S : State T) (b : GenerationalPointer)
       → IsEnded S (name_of b) → refusal_to_read S b ≡ Some (Dropped b.created_at)
@@ -128,7 +124,7 @@ module _ {T : Type 0} where
   says_refused : (S R : State T) (answer : Answer T) → is_refusal answer ≡ true → Says S answer R
   says_refused S R (BorrowRefused t) h = tt
   says_refused S R (Refused e) h = tt
-  says_refused S R _ h = absurd (true≢false (sym h))
+  says_refused S R _ h = cc
 
   -- whether a call gives back the reader, or the writer, with a ticket
   abbrev pub ends_reader : Action T → ℕ → Bool
@@ -142,17 +138,22 @@ module _ {T : Type 0} where
   -- ---- soundness, and what nothing takes back
 
   module _ (S R : State T) (call : Action T) (answer : Answer T) where
+    -- what holds of a refusal, which changes nothing, and of what the machine does holds of a call
+    pub meets_each : (P : Outcome T → Type 0) → (is_refusal answer ≡ true → P (answer, S))
+        → ((f : NewNames) → AreNew S call f → P (act S call f))
+        → Meets S call answer R → P (answer, R)
+    meets_each P refused acts m = ⊎_elim (λ e. subst (λ X. P (answer, X)) (sym e.1) (refused e.0))
+        (λ e. subst P (sym e.2) (acts e.0 e.1)) (meets_cases S R call answer m)
+
     -- each call of a sound store leaves it sound
     pub meets_sound : IsSound S → Meets S call answer R → IsSound R
-    meets_sound s m =
-        ⊎_elim (λ e. subst IsSound (sym e.1) s) (λ e. subst (λ (o : Outcome T). IsSound o.1)
-        (sym e.2) (leads_sound s e.1 (act_leads S call e.0))) (meets_cases S R call answer m)
+    meets_sound s = meets_each (λ o. IsSound o.1) (λ _. s)
+        (λ f new. leads_sound s new (act_leads S call f))
 
     -- nothing is taken back
     pub meets_follows : Meets S call answer R → Follows S call R
-    meets_follows m = ⊎_elim (λ e. subst (Follows S call) (sym e.1)
-        (follows_same S call no_names.first)) (λ e. subst (λ (o : Outcome T). Follows S call o.1)
-        (sym e.2) (leads_follows e.1 (act_leads S call e.0))) (meets_cases S R call answer m)
+    meets_follows = meets_each (λ o. Follows S call o.1)
+        (λ _. follows_same S call no_names.first) (λ f new. leads_follows new (act_leads S call f))
 
     pub meets_number : Meets S call answer R → R.number ≡ S.number
     meets_number m = (meets_follows m).number
@@ -171,9 +172,8 @@ module _ {T : Type 0} where
 
     -- what an answer says is so
     pub meets_says : Meets S call answer R → Says S answer R
-    meets_says m = ⊎_elim
-        (λ e. says_refused S R answer e.0) (λ e. subst (λ (o : Outcome T). Says S o.0 o.1) (sym e.2)
-        (act_says S call e.0 (new_fresh S call e.0 e.1)).so) (meets_cases S R call answer m)
+    meets_says = meets_each (λ o. Says S o.0 o.1) (says_refused S S answer)
+        (λ f new. (act_says S call f (new_fresh S call f new)).so)
 
     -- ---- values that stay
 
@@ -181,10 +181,10 @@ module _ {T : Type 0} where
     pub meets_location : (m : Name) → IsSound S → Meets S call answer R
         → is_some (map.get S.cells m) ≡ true → is_some (map.get R.cells m) ≡ true
         → location_at R m ≡ location_at S m
-    meets_location m s meets before = keep_each (meets_follows meets) m (λ x y. is_some y ≡ true
-        → location_of y ≡ location_of x) (λ x e. refl) (λ free e. absurd (true≢false (sym e)))
-        (λ new given quiet e. absurd (true≢false (sym (s.given m before) ∙ new)))
-        (λ k c here law had has e. refilled _ c) (λ k n l e. refl)
+    meets_location m s meets before = keep_each (meets_follows meets) m
+        (λ x y. is_some y ≡ true → location_of y ≡ location_of x) (λ x e. refl) (λ free e. cc)
+        (λ new given quiet e. cc (s.given m before)) (λ k c here law had has e. refilled _ c)
+        (λ k n l e. refl)
       where
         refilled : (c : Content T) (x : Cell T)
             → location_of (Some (refill c x)) ≡ location_of (Some x)
@@ -196,81 +196,72 @@ module _ {T : Type 0} where
         (value_at S m) ≡ true → is_some (value_at R m) ≡ true → value_at R m ≡ value_at S m
     meets_value m s meets unset before =
         let value = λ (x : Option (Cell T)). value_of (content_of x) in
-        let is_here = λ (x : Option (Content T)). is_some (value_of x) in
-        keep_each (meets_follows meets) m (λ x y. is_some (value x) ≡ true → is_some (value y)
-        ≡ true → value y ≡ value x) (λ x e i. refl) (λ free e i. absurd (true≢false (sym i)))
-        (λ new given quiet e i. absurd (true≢false (sym (s.given m (live _ before)) ∙ new)))
-        (λ k c here law had has e i. ap value_of has ∙ (filled k law
-        (sym (ap is_here had) ∙ e) (sym (ap is_here has) ∙ i) ∙ sym (ap value_of had)))
-        (λ k n l e i. absurd (true≢false (sym e))) before
+        keep_each (meets_follows meets) m
+        (λ x y. is_some (value x) ≡ true → is_some (value y) ≡ true → value y ≡ value x)
+        (λ x e i. refl) (λ free e i. cc)
+        (λ new given quiet e i. cc (s.given m (live_by (λ c. is_some (value c)) refl _ before)))
+        (λ k c here law had has e i. rw (has, had) (filled k law (rw had at e) (rw has at i)))
+        (λ k n l e i. cc) before
       where
-        live : (c : Option (Cell T)) → is_some (value_of (content_of c)) ≡ true → is_some c ≡ true
-        live None h = h
-        live (Some c) h = refl
-
         -- what a content that is filled anew has where neither is lent
         filled : (k : Filling T) → IsFilling S call R.next m k → is_some
             (value_of (Some (old_content k))) ≡ true → is_some (value_of (Some (new_content S k)))
             ≡ true → value_of (Some (new_content S k)) ≡ value_of (Some (old_content k))
-        filled (Writer v l) law old new = absurd (true≢false (sym new))
-        filled (Return w g v) law old new = absurd (true≢false (sym old))
+        filled (Writer v l) law old new = cc
+        filled (Return w g v) law old new = cc
         filled (Replace w v) law old new = absurd (unset law)
         filled _ law old new = refl
 
     -- ---- guards
 
     -- a guard is known still where a test of its content shows a borrow that each filling leaves
-    stays : (g : Guard) (p : Option (Content T) → Bool) → ((c : Option (Content T)) → p c ≡ true
-        → is_some (write_refusal c) ≡ true) → ((k : Filling T) → IsFilling S call R.next g.cell k
-        → p (Some (old_content k)) ≡ true → p (Some (new_content S k)) ≡ true) → IsSound S
-        → Meets S call answer R → (nat_eq g.store S.number && p (content_at S g.cell)) ≡ true
+    stays : (g : Guard) (p : Option (Content T) → Bool) → p None ≡ false
+        → ((v : T) → p (Some (Here v [])) ≡ false) → ((k : Filling T)
+        → IsFilling S call R.next g.cell k → p (Some (old_content k)) ≡ true
+        → p (Some (new_content S k)) ≡ true) → IsSound S → Meets S call answer R
+        → (nat_eq g.store S.number && p (content_at S g.cell)) ≡ true
         → (nat_eq g.store R.number && p (content_at R g.cell)) ≡ true
-    stays g p refused filled s meets known = let f = meets_follows meets in
+    stays g p none alone filled s meets known = let f = meets_follows meets in
         let parts = and_parts (nat_eq g.store S.number) (p (content_at S g.cell)) known in
         let borrowed = refused _ parts.1 in
-        and_from _ _ (ap (nat_eq g.store) f.number ∙ parts.0)
+        let live = live_by (λ c. is_some (write_refusal (content_of c))) refl _ borrowed in
+        and_from _ _ (rw f.number parts.0)
         (keep_each f g.cell (λ x y. p (content_of x) ≡ true → p (content_of y) ≡ true)
-        (λ x e. e) (λ free e. absurd (free s borrowed)) (λ new given quiet e. absurd
-        (true≢false (sym (s.given g.cell (borrowed_live _ borrowed)) ∙ new)))
-        (λ k c here law had has e. ap p has ∙ filled k law (sym (ap p had) ∙ e))
-        (λ m n l e. absurd (true≢false (sym (refused None e)))) parts.1)
+        (λ x e. e) (λ free e. absurd (free s borrowed))
+        (λ new given quiet e. cc (s.given g.cell live))
+        (λ k c here law had has e. rw has (filled k law (rw had at e)))
+        (λ m n l e. cc) parts.1)
+      where
+        refused : (c : Option (Content T)) → p c ≡ true → is_some (write_refusal c) ≡ true
+        refused None h = cc
+        refused (Some (Here v [])) h = cc (alone v)
+        refused _ h = refl
 
     -- a store knows a guard until it is given back
     pub reader_stays : IsSound S → Meets S call answer R → (g : Guard)
         → knows_reader S g ≡ true → ends_reader call g.ticket ≡ false → knows_reader R g ≡ true
-    reader_stays s m g known other = stays g (λ c. has_reader c g.ticket) refused filled s m known
+    reader_stays s m g known other =
+        stays g (λ c. has_reader c g.ticket) refl (λ v. refl) filled s m known
       where
-        refused : (c : Option (Content T))
-            → has_reader c g.ticket ≡ true → is_some (write_refusal c) ≡ true
-        refused (Some (Here v (r ∷ readers))) h = refl
-        refused (Some (Lent w)) h = refl
-        refused _ h = h
-
         filled : (k : Filling T) → IsFilling S call R.next g.cell k
             → has_reader (Some (old_content k)) g.ticket ≡ true
             → has_reader (Some (new_content S k)) g.ticket ≡ true
         filled (Reader v readers l) law h =
             list_any-append (λ r. nat_eq r.ticket g.ticket) readers _ ∙ or_left _ _ h
-        filled (Leave v readers k) law h = unread_stays k.ticket g.ticket readers
-            (sym (ap (λ c. ends_reader c g.ticket) law.0) ∙ other) h
-        filled _ law h = absurd (true≢false (sym h))
+        filled (Leave v readers k) law h =
+            unread_stays k.ticket g.ticket readers (rw law.0 at other) h
+        filled _ law h = cc
 
     pub writer_stays : IsSound S → Meets S call answer R → (g : Guard)
         → knows_writer S g ≡ true → ends_writer call g.ticket ≡ false → knows_writer R g ≡ true
-    writer_stays s m g known other = stays g (λ c. has_writer c g.ticket) refused filled s m known
+    writer_stays s m g known other =
+        stays g (λ c. has_writer c g.ticket) refl (λ v. refl) filled s m known
       where
-        refused : (c : Option (Content T))
-            → has_writer c g.ticket ≡ true → is_some (write_refusal c) ≡ true
-        refused (Some (Lent w)) h = refl
-        refused _ h = absurd (true≢false (sym h))
-
         filled : (k : Filling T) → IsFilling S call R.next g.cell k
             → has_writer (Some (old_content k)) g.ticket ≡ true
             → has_writer (Some (new_content S k)) g.ticket ≡ true
-        filled (Return w k v) law h = absurd (true≢false (sym h ∙ (ap (λ x. nat_eq x g.ticket)
-            (eqb-true w.ticket k.ticket law.1)
-            ∙ (sym (ap (λ c. ends_writer c g.ticket) law.0) ∙ other))))
-        filled _ law h = absurd (true≢false (sym h))
+        filled (Return w k v) law h = cc (eqb-true w.ticket k.ticket law.1, rw law.0 at other)
+        filled _ law h = cc
 
   -- ---- new boxes and guards
 

@@ -1,20 +1,20 @@
 -- What the answer of each call tells of boxes, guards and owners.
 use Rattle.generational_core.proofs.machine
 use machine.{◌≡◌, ◌≢◌, Bool, true, false, cond, List, [], ◌∷◌, Option, None, Some, refl, sym, ap}
-use machine.{subst, ◌∙◌, ⊎_elim, inl, inr, ◌||◌, true≢false, and_parts, cases_Bool, nat_eq_equiv}
-use machine.{is_some, nat_eq, ◌⊎◌, value_at, value_of, Guard, BorrowRefusal, reach, leads_to, fill}
-use machine.{refusal_to_read, refusal_to_write, write_refusal, can_write, name_of, box_of, has_same_id}
-use machine.{Content, Cell, content_of, is_shared, refill, Value, Shared, Ref, Here, Lent, sweep}
-use machine.{take_away, cells_after, close, hindrance_to, hindrance_at, Action, Answer, NewNames}
-use machine.{Outcome, OwnerName, act, add_cell, own_name, add_to_list, is_known, unless, refer}
-use machine.{cell_at, read_at, write_at, knows_writer, has_writer, make, point, next_borrow}
-use machine.{one_listed, ownership, Make, MakeShared, Refer, NewOwner, Read, Write, set_at}
-use machine.{ReleaseWriter, SetValue, End, Point, Made, Owned, Reads, Writes, Done, Old, BorrowRefused}
-use machine.{Name, NameMap, among, is_name, change, value_in, State, IsSound, Ownership, content_at}
-use machine.{Meets, GenerationalBoxId, GenerationalPointer, Location, by_name, by_number}
-use machine.{get-insert_here, get-insert_apart, get-changed_here, changed_view, name_here}
-use machine.{name_same, same_ids, filled_content, AreFresh, new_fresh, by_cond, none≢some}
-use machine.{swept_view, swept_ref, without_view, box_ends, meets_cases, is_refusal}
+use machine.{◌∙◌, ⊎_elim, ◌||◌, and_parts, cases_Bool, nat_eq_equiv, is_some, nat_eq, value_at}
+use machine.{value_of, Guard, BorrowRefusal, reach, leads_to, fill, refusal_to_read}
+use machine.{refusal_to_write, write_refusal, can_write, name_of, box_of, has_same_id, Content}
+use machine.{Cell, content_of, is_shared, refill, Value, Shared, Ref, Here, Lent, sweep, take_away}
+use machine.{cells_after, close, hindrance_to, hindrance_at, Action, Answer, NewNames, Outcome}
+use machine.{OwnerName, act, add_cell, own_name, add_to_list, is_known, unless, refer, cell_at}
+use machine.{read_at, write_at, knows_writer, has_writer, make, point, next_borrow, one_listed}
+use machine.{ownership, Make, MakeShared, Refer, NewOwner, Read, Write, set_at, ReleaseWriter}
+use machine.{SetValue, End, Point, Made, Owned, Reads, Writes, Done, Old, BorrowRefused, Name}
+use machine.{NameMap, among, is_name, value_in, State, IsSound, Ownership, content_at, Meets}
+use machine.{GenerationalPointer, Location, by_name, by_number, get-insert_here, get-insert_apart}
+use machine.{get-changed_here, changed_view, name_here, name_same, same_ids, filled_content}
+use machine.{AreFresh, new_fresh, by_cond, swept_view, swept_ref, box_ends, meets_each, is_refusal}
+use machine.{cond_gives, Refused, get-without, ◌++◌}
 use Rattle.generational_core.proofs.machine.Resting.{rests_free}
 use Rattle.generational_core.proofs.machine.Seeing.{reach_by, value_in_reached, refilled_leads}
 use Rattle.std.specs.FinMap as map
@@ -52,17 +52,24 @@ module _ {T : Type 0} where
   abbrev TellsOf : State T → Action T → Outcome T → Type 0
   TellsOf S call out = Tells S call out.0 out.1
 
-  -- a refusal that may come tells nothing
+  -- a refusal tells nothing, and so does one that may come
+  refused_tells : (S R : State T) (answer : Answer T) (call : Action T)
+      → is_refusal answer ≡ true → Tells S call answer R
+  refused_tells S R (BorrowRefused t) (Make o v l) h = tt
+  refused_tells S R (BorrowRefused t) call h = tt
+  refused_tells S R (Refused e) (Make o v l) h = tt
+  refused_tells S R (Refused e) call h = tt
+  refused_tells S R answer call h = cc
+
   unless_told : (S : State T) (call : Action T) (t : Option BorrowRefusal) (out : Outcome T)
-      → ((why : BorrowRefusal) → Tells S call (BorrowRefused why) S) → TellsOf S call out
-      → TellsOf S call (unless t S out)
-  unless_told S call None out h told = told
-  unless_told S call (Some t) out h told = h t
+      → TellsOf S call out → TellsOf S call (unless t S out)
+  unless_told S call None out told = told
+  unless_told S call (Some t) out told = refused_tells S S (BorrowRefused t) call refl
 
   -- boxes of one id reach the same
   same_reach : (S : State T) (a b : GenerationalPointer) → a.id ≡ b.id → reach S a ≡ reach S b
   unfolding reach
-  same_reach S a b e = ap (λ (d : GenerationalBoxId). reach S (record { id = d; created_at = a.created_at })) e
+  same_reach S a b e = rw e
 
   -- ---- makings
 
@@ -76,52 +83,44 @@ module _ {T : Type 0} where
   listed S (Some o) n b = (refl, refl, refl)
 
   in_list : (S : State T) (o : Option OwnerName) (n : Name) → Lists S o n (add_to_list S o n)
-  in_list S None n a h is held = absurd cc
-  in_list S (Some b) n a h is held = let same : b ≡ a = cc in
-      subst (λ x. ownership (add_to_list S (Some x) n) a ≡ Some (one_listed n h))
-      (sym same) (by_cond (λ x. x ≡ Some h → cond (nat_eq a.store S.number)
-      (map.get (change S.owners a.key (one_listed n)) a.key) None ≡ Some (one_listed n h))
-      (nat_eq a.store S.number)
-      (λ own e. rw own (get-changed_here by_number S.owners a.key (one_listed n) h e))
-      (λ _ e. absurd (none≢some _ h refl e)) held)
+  in_list S None n a h is held = cc
+  in_list S (Some b) n a h is held =
+      let it = cond_gives (nat_eq a.store S.number) _ h held in let same : b ≡ a = cc in
+      rw (same, it.0) (get-changed_here by_number S.owners a.key (one_listed n) h it.1)
 
   -- the box of a cell that is added leads where the cell does
   added_reach : (S : State T) (n : Name) (c : Cell T) (l : Location)
       → reach (add_cell S n c) (box_of S.number n l) ≡ leads_to (Some c) n
   unfolding reach
-  added_reach S n c l = rw (nat_eq_equiv.refl S.number)
-      (ap (λ x. leads_to x n) (get-insert_here by_name S.cells n c))
+  added_reach S n c l = rw (nat_eq_equiv.refl S.number, get-insert_here by_name S.cells n c)
+
+  -- a box that reaches a value without borrows sees it, and may be written; it is listed
+  new_told : (Q : State T) (o : Option OwnerName) (n : Name) (b : GenerationalPointer) (m : Name)
+      (v : T) → reach Q b ≡ Some m → content_at Q m ≡ Some (Here v [])
+      → let R = add_to_list Q o n in
+      (value_in R b ≡ Some v) × Lists Q o n R × (can_write R b ≡ true)
+  new_told Q o n b m v to there = let list = listed Q o n b in (
+    cc (list.1, value_in_reached Q b m to),
+    in_list Q o n,
+    list.2 ∙ rests_free Q b m (record { reaches = to; free = ap write_refusal there }),
+  )
 
   made_told : (S : State T) (o : Option OwnerName) (v : T) (l : Location) (n : Name)
       → TellsOf S (Make o v l) (make S o n (Value (Here v []) l) l)
   made_told S o v l n =
       let c : Cell T = Value (Here v []) l in
-      let b = box_of S.number n l in
       let Q = add_cell S n c in
-      let list = listed Q o n b in
+      let b = box_of S.number n l in
       let to = added_reach S n c l in
-      let there = ap content_of (get-insert_here by_name S.cells n c) in (
-        list.0 ∙ to,
-        list.1 ∙ (value_in_reached Q b n to ∙ ap value_of there),
-        in_list Q o n,
-        list.2 ∙ rests_free Q b n (record { reaches = to; free = ap write_refusal there }),
-      )
+      let told = new_told Q o n b n v to (ap content_of (get-insert_here by_name S.cells n c)) in
+      ((listed Q o n b).0 ∙ to, told.0, told.1, told.2)
 
   shared_told : (S : State T) (o : Option OwnerName) (v : T) (l : Location) (m n : Name) → m ≢ n
       → TellsOf S (MakeShared o v l) (make (add_cell S m (Shared (Here v []) l)) o n (Ref m l) l)
-  shared_told S o v l m n apart =
-      let c : Cell T = Shared (Here v []) l in
-      let one = add_cell S m c in
-      let Q = add_cell one n (Ref m l) in
-      let b = box_of S.number n l in
-      let list = listed Q o n b in
-      let to = added_reach one n (Ref m l) l in
-      let there = ap content_of (get-insert_apart by_name one.cells n (Ref m l) m apart
-      ∙ get-insert_here by_name S.cells m c) in (
-        list.1 ∙ (value_in_reached Q b m to ∙ ap value_of there),
-        in_list Q o n,
-        list.2 ∙ rests_free Q b m (record { reaches = to; free = ap write_refusal there }),
-      )
+  shared_told S o v l m n apart = let one = add_cell S m (Shared (Here v []) l) in
+      new_told (add_cell one n (Ref m l)) o n (box_of S.number n l) m v
+      (added_reach one n (Ref m l) l)
+      (rw (get-insert_apart by_name one.cells n (Ref m l) m apart, get-insert_here by_name))
 
   referred_told : (S : State T) (o : Option OwnerName) (b : GenerationalPointer) (n : Name)
       (to : Option Name) (target : Option (Cell T)) → set.contains S.given n ≡ false
@@ -134,8 +133,7 @@ module _ {T : Type 0} where
         list.0 ∙ (there ∙ sym to),
         λ s. list.1 ∙ (value_in_reached Q box m there
             ∙ (ap (λ x. value_of (content_of x)) (get-insert_apart by_name S.cells n (Ref m l) m
-            (λ is. true≢false (sym (s.given m (ap is_some at)) ∙ (ap (set.contains S.given) is ∙ new))))
-            ∙ sym (value_in_reached S b m to))),
+            (λ is. cc (s.given m (ap is_some at)))) ∙ sym (value_in_reached S b m to))),
         in_list Q o n,
         ap is_some to,
       )
@@ -148,29 +146,23 @@ module _ {T : Type 0} where
       → reach (fill S n k) b ≡ reach S b
   unfolding reach
   filled_reach S n k b = ap (λ to. cond (nat_eq b.id.store S.number) to None)
-      (⊎_elim (ap (λ x. leads_to x (name_of b))) (λ e. ap (λ x. leads_to x (name_of b)) e.3
-      ∙ (refilled_leads k e.1 (name_of b) ∙ sym (ap (λ x. leads_to x (name_of b)) e.2)))
+      (⊎_elim (ap (λ x. leads_to x (name_of b))) (λ e. cc (refilled_leads k e.1 (name_of b)))
       (changed_view by_name S.cells n (refill k) (name_of b)))
 
   read_told : (S : State T) (b : GenerationalPointer) (l : Location) (m : Option Name)
       (c : Option (Content T)) → reach S b ≡ m → content_of (cell_at S m) ≡ c
       → TellsOf S (Read b l) (read_at S l m c)
-  read_told S b l (Some m) (Some (Here v rs)) to had = (
-    to,
-    ap value_of (filled_content S m _ (Here v rs) had)
-        ∙ (sym (ap value_of had) ∙ sym (value_in_reached S b m to)),
-  )
+  read_told S b l (Some m) (Some (Here v rs)) to had =
+      let filled = filled_content S m (Here v (rs ++ next_borrow S l ∷ [])) (Here v rs) had in
+      (to, cc (value_in_reached S b m to))
   read_told S b l m c to had = tt
 
   write_told : (S : State T) (b : GenerationalPointer) (l : Location) (m : Option Name)
       (c : Option (Content T)) → reach S b ≡ m → content_of (cell_at S m) ≡ c
       → TellsOf S (Write b l) (write_at S l m c)
   unfolding reach
-  write_told S b l (Some m) (Some (Here v rs)) to had = (
-    to,
-    value_in_reached S b m to ∙ ap value_of had,
-    filled_reach S m (Lent (next_borrow S l)),
-  )
+  write_told S b l (Some m) (Some (Here v rs)) to had =
+      (to, cc (value_in_reached S b m to), filled_reach S m (Lent (next_borrow S l)))
   write_told S b l m c to had = tt
 
   written_told : (S : State T) (g : Guard) (v : T) (c : Option (Content T)) → content_at S g.cell ≡ c
@@ -178,7 +170,7 @@ module _ {T : Type 0} where
   written_told S g v (Some k) had known = λ b to. value_in_reached
       (fill S g.cell (Here v [])) b g.cell (filled_reach S g.cell (Here v []) b ∙ to)
       ∙ ap value_of (filled_content S g.cell (Here v []) k had)
-  written_told S g v None had known = absurd (true≢false (sym known))
+  written_told S g v None had known = cc
 
   set_told : (S : State T) (b : GenerationalPointer) (v : T) (m : Option Name)
       (c : Option (Content T)) → reach S b ≡ m → content_of (cell_at S m) ≡ c
@@ -195,24 +187,16 @@ module _ {T : Type 0} where
 
   -- ---- ends, and references that turn
 
-  -- a cell that isn't kept in an end is gone
-  left_view : (cells : NameMap (Cell T)) (names : List Name) (n : Name)
-      → (map.get (cells_after cells names) n ≡ map.get cells n)
-      ⊎ (map.get (cells_after cells names) n ≡ None)
-  left_view cells names n = ⊎_elim (λ e. ⊎_elim (λ k. inl (e.0 ∙ k)) (λ k. inr (e.0 ∙ k.0))
-      (without_view cells names n)) (λ e. inr e.0) (swept_view (take_away cells names) n)
-
   shared_leads : (c : Option (Cell T)) (n : Name) → is_shared c ≡ true → leads_to c n ≡ None
   shared_leads (Some (Shared c l)) n h = refl
-  shared_leads None n h = refl
-  shared_leads _ n h = absurd (true≢false (sym h))
+  shared_leads _ n h = cc
 
   pub ended_leads : (cells : NameMap (Cell T)) (names : List Name) (n : Name)
       → among names n ≡ true → leads_to (map.get (cells_after cells names) n) n ≡ None
-  ended_leads cells names n there =
-      ⊎_elim (λ shared. ⊎_elim (λ e. ap (λ x. leads_to x n) e ∙ shared_leads _ n shared)
-      (ap (λ x. leads_to x n)) (left_view cells names n)) (λ box. ap (λ x. leads_to x n)
-      (box_ends cells names n box there)) (cases_Bool (is_shared (map.get cells n)))
+  ended_leads cells names n there = ⊎_elim
+      (λ shared. let none = shared_leads (map.get cells n) n shared in ⊎_elim
+      (λ e. cc (get-without cells names n)) (λ e. cc) (swept_view (take_away cells names) n))
+      (λ box. cc (box_ends cells names n box there)) (cases_Bool (is_shared (map.get cells n)))
 
   ended_told : (S : State T) (b : GenerationalPointer)
       → TellsOf S (End b) (Done, close S (own_name S b))
@@ -229,18 +213,14 @@ module _ {T : Type 0} where
   turned_told S a b true (Some (Ref old l)) (Some new) (Some (Shared c k)) own at to =
       let one = map.insert S.cells (name_of a) (Ref new l) in
       by_cond (TellsOf S (Point a b)) (is_name old new)
-      (λ same. reach_by S a old (record
-      { number = own; leads = ap (λ x. leads_to x (name_of a)) at })
-      ∙ (ap Some (name_same old new same) ∙ sym to))
-      (λ _. unless_told S (Point a b) (hindrance_at S.cells (sweep one) old) _ (λ t. tt)
+      (λ same. cc (name_same old new same, reach_by S a old (record { number = own; leads = cc })))
+      (λ _. unless_told S (Point a b) (hindrance_at S.cells (sweep one) old) _
       (reach_by (record S { cells = sweep one }) a new (record {
         number = own;
-        leads = ap (λ x. leads_to x (name_of a)) (swept_ref one (name_of a) new l
+        leads = cc (swept_ref one (name_of a) new l
             (get-insert_here by_name S.cells (name_of a) (Ref new l)));
       }) ∙ sym to))
-  turned_told S a b false cell to target own at is = tt
-  turned_told S a b true None to target own at is = tt
-  turned_told S a b true (Some _) to target own at is = tt
+  turned_told S a b _ _ _ _ own at to = tt
 
   -- ---- each call
 
@@ -251,40 +231,25 @@ module _ {T : Type 0} where
   act_tells S (MakeShared o v l) f new = by_cond (TellsOf S (MakeShared o v l)) (is_known S o)
       (λ _. shared_told S o v l f.first f.second new.2) (λ _. tt)
   act_tells S (Refer o b) f new = by_cond (TellsOf S (Refer o b)) (is_known S o)
-      (λ _. unless_told S (Refer o b) (refusal_to_read S b) _ (λ t. tt)
+      (λ _. unless_told S (Refer o b) (refusal_to_read S b) _
       (referred_told S o b f.first (reach S b) _ new refl refl)) (λ _. tt)
   act_tells S NewOwner f new =
       rw (nat_eq_equiv.refl S.number) (get-insert_here by_number S.owners S.next _)
-  act_tells S (Read b l) f new = unless_told S (Read b l) (refusal_to_read S b) _ (λ t. tt)
+  act_tells S (Read b l) f new = unless_told S (Read b l) (refusal_to_read S b) _
       (read_told S b l (reach S b) _ refl refl)
-  act_tells S (Write b l) f new = unless_told S (Write b l) (refusal_to_write S b) _ (λ t. tt)
+  act_tells S (Write b l) f new = unless_told S (Write b l) (refusal_to_write S b) _
       (write_told S b l (reach S b) _ refl refl)
   act_tells S (ReleaseWriter g v) f new = by_cond (TellsOf S (ReleaseWriter g v)) (knows_writer S g)
       (λ known. written_told S g v _ refl (and_parts _ _ known).1) (λ _. tt)
   act_tells S (SetValue b v) f new = set_told S b v (reach S b) _ refl refl
-  act_tells S (End b) f new = unless_told S (End b) (hindrance_to S (own_name S b)) _ (λ t. tt)
+  act_tells S (End b) f new = unless_told S (End b) (hindrance_to S (own_name S b)) _
       (ended_told S b)
   act_tells S (Point a b) f new = by_cond (TellsOf S (Point a b)) (has_same_id a b)
       (λ same. same_reach S a b ((same_ids a b).0 same)) (λ _. unless_told S (Point a b)
-      (refusal_to_read S b) _ (λ t. tt) (turned_told S a b _ _ (reach S b) _ refl refl refl))
+      (refusal_to_read S b) _ (turned_told S a b _ _ (reach S b) _ refl refl refl))
   act_tells S _ f new = tt
-
-  refused_tells : (S R : State T) (call : Action T) (answer : Answer T)
-      → is_refusal answer ≡ true → Tells S call answer R
-  refused_tells S R (Make o v l) (Made b) h = absurd (true≢false (sym h))
-  refused_tells S R (MakeShared o v l) (Made b) h = absurd (true≢false (sym h))
-  refused_tells S R (Refer o c) (Made b) h = absurd (true≢false (sym h))
-  refused_tells S R NewOwner (Owned o) h = absurd (true≢false (sym h))
-  refused_tells S R (Read b l) (Reads g) h = absurd (true≢false (sym h))
-  refused_tells S R (Write b l) (Writes g v) h = absurd (true≢false (sym h))
-  refused_tells S R (ReleaseWriter g v) Done h = absurd (true≢false (sym h))
-  refused_tells S R (SetValue b v) (Old old) h = absurd (true≢false (sym h))
-  refused_tells S R (End b) Done h = absurd (true≢false (sym h))
-  refused_tells S R (Point a b) Done h = absurd (true≢false (sym h))
-  refused_tells S R _ _ h = tt
 
   pub meets_tells : (S R : State T) (call : Action T) (answer : Answer T)
       → Meets S call answer R → Tells S call answer R
-  meets_tells S R call answer m = ⊎_elim
-      (λ same. refused_tells S R call answer same.0) (λ acts. subst (TellsOf S call) (sym acts.2)
-      (act_tells S call acts.0 (new_fresh S call acts.0 acts.1))) (meets_cases S R call answer m)
+  meets_tells S R call answer = meets_each S R call answer (TellsOf S call)
+      (refused_tells S S answer call) (λ f new. act_tells S call f (new_fresh S call f new))

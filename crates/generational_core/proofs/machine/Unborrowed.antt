@@ -1,35 +1,30 @@
 -- Stores in which no borrow stands: which calls leave them so, and what is never refused there; and
 -- what the tests of boxes say.
 use Rattle.std.specs.FinMap as map
-use Rattle.std.proofs.Common.{◌≡◌, ℕ, Bool, true, false, cond, List, [], ◌∷◌, Option, None, Some}
-use Rattle.std.proofs.Common.{refl, sym, ap, subst, ◌∙◌, ⊎_elim, inl, inr, not}
+use Rattle.std.proofs.Common.{◌≡◌, ℕ, Bool, true, cond, List, [], ◌∷◌, Option, None, Some, refl}
+use Rattle.std.proofs.Common.{sym, ap, ◌∙◌, inl, inr}
 use Rattle.std.specs.Cmp.{nat_eq_equiv}
-use Rattle.std.specs.Option.{option_or}
-use Rattle.std.specs.Prelude.{is_some, is_none, nat_eq, nat_lt, ◌&&◌}
-use Rattle.std.specs.Prelude.{Result, Ok, Err, IsOk}
-use Rattle.std.proofs.lemmas.Bool.{true≢false, or_left, or_right}
-use Rattle.std.proofs.lemmas.Option.{same_Some}
+use Rattle.std.specs.Prelude.{is_some, is_none, nat_eq, nat_lt, ◌&&◌, Result, Ok, Err, IsOk}
+use Rattle.std.proofs.lemmas.Bool.{or_left, or_right}
 use Rattle.generational_core.specs.Answers.{value_of, end_answer, release_answer}
 use Rattle.generational_core.specs.Borrowing.{Guard, reach, can_read, can_write, read_refusal}
-use Rattle.generational_core.specs.Borrowing.{write_refusal, refusal_to_read, refusal_to_write, refusal_at}
-use Rattle.generational_core.specs.Borrowing.{fill, leads_to}
+use Rattle.generational_core.specs.Borrowing.{write_refusal, refusal_to_read, refusal_to_write}
+use Rattle.generational_core.specs.Borrowing.{leads_to}
 use Rattle.generational_core.specs.Boxes.{name_of, box_of}
 use Rattle.generational_core.specs.Cells.{Content, Cell, content_of, refill}
 use Rattle.generational_core.specs.Cells.Cell.{Value, Shared, Ref}
 use Rattle.generational_core.specs.Cells.Content.{Here, Lent}
 use Rattle.generational_core.specs.Conditions.{fresh}
-use Rattle.generational_core.specs.State.{one_less}
-use Rattle.generational_core.specs.Ending.{cells_after, close, first_hindrance, hindrance_at}
-use Rattle.generational_core.specs.Ending.{hindrance_of, hindrance_to}
+use Rattle.generational_core.specs.Ending.{cells_after, first_hindrance, hindrance_at, hindrance_of}
+use Rattle.generational_core.specs.Ending.{hindrance_to}
 use Rattle.generational_core.specs.Leaving.{AreFree, BeginsNoBorrow, IsSet, IsUnborrowed}
 use Rattle.generational_core.specs.Machine.{Action, Answer, NewNames, Outcome, OwnerName, act}
-use Rattle.generational_core.specs.Machine.{own_name, ownership, release_owner, set_ownership, unless}
+use Rattle.generational_core.specs.Machine.{own_name, ownership}
 use Rattle.generational_core.specs.Machine.Action.{Read, Write, ReleaseReader, ReleaseOwner, End}
 use Rattle.generational_core.specs.Machine.Answer.{Reads, Done, Flag, Refused}
 use Rattle.generational_core.specs.Names.{Name, among, name_cmp}
-use Rattle.generational_core.specs.Seeing.{value_in, value_reached, Borrows}
-use Rattle.generational_core.specs.State.{State, IsSound, Ownership, content_at, tickets_at}
-use Rattle.generational_core.specs.State.{tickets_of}
+use Rattle.generational_core.specs.Seeing.{value_in, Borrows}
+use Rattle.generational_core.specs.State.{State, IsSound, Ownership, content_at, tickets_of}
 use Rattle.generational_core.specs.Steps.{Meets, last_ticket, limit_tickets, may_lack, needs_memory}
 use Rattle.generational_core.specs.Steps.{no_names, takes_ticket}
 use Rattle.generational_core.specs.declared.boxes.GenerationalPointer.{GenerationalPointer}
@@ -38,14 +33,15 @@ use Rattle.generational_errors.specs.declared.error.Location.{Location}
 use Rattle.generational_errors.specs.declared.error.Refused as error
 use Rattle.generational_errors.specs.declared.error.Refused.TheVariants as refused
 use Rattle.generational_errors.specs.declared.error.StoreError.TheVariants.{NumbersExhausted}
-use Rattle.generational_core.proofs.maps.Maps.{by_name, get-changed_apart, name_cases, name_here}
+use Rattle.generational_core.proofs.maps.Maps.{by_name, get-changed_apart, name_here, by_keys}
+use Rattle.generational_core.proofs.maps.Maps.{by_option}
 use Rattle.generational_core.proofs.machine.Calling.{reads_back}
-use Rattle.generational_core.proofs.machine.Changes.{Filling, IsFilling, filled_content, new_content}
-use Rattle.generational_core.proofs.machine.Changes.{old_content}
-use Rattle.generational_core.proofs.machine.Changes.Filling.{Reader, Writer, Leave, Return, Replace}
-use Rattle.generational_core.proofs.machine.Ends.{none≢some}
+use Rattle.generational_core.proofs.machine.Changes.{Filling, IsFilling, filled_content}
+use Rattle.generational_core.proofs.machine.Changes.{new_content, old_content}
+use Rattle.generational_core.proofs.machine.Changes.Filling.{Reader, Writer, Leave}
+use Rattle.generational_core.proofs.machine.Ends.{by_cond}
 use Rattle.generational_core.proofs.machine.Resting.{free_sees, reached_content, rests, rests_free}
-use Rattle.generational_core.proofs.machine.Seeing.{reach_by, value_in_reached}
+use Rattle.generational_core.proofs.machine.Seeing.{reach_by}
 use Rattle.generational_core.proofs.machine.Soundness.{keep_each}
 use Rattle.generational_core.proofs.machine.Stepping.{meets_follows}
 
@@ -56,19 +52,14 @@ module _ {T : Type 0} where
   pub test_sees : (S : State T) (b : GenerationalPointer) → IsSound S
       → can_read S b ≡ is_some (value_in S b)
   unfolding refusal_to_read value_in
-  test_sees S b s = at (reach S b) refl
+  test_sees S b s = by_option (reach S b) (λ none. cc)
+      (λ m to. rw to (seen (content_at S m) (reached_content S b m s to)))
     where
       seen : (c : Option (Content T)) → is_some c ≡ true
           → is_none (read_refusal c) ≡ is_some (value_of c)
       seen (Some (Here v rs)) h = refl
       seen (Some (Lent w)) h = refl
-      seen None h = absurd (true≢false (sym h))
-
-      at : (to : Option Name) → reach S b ≡ to
-          → is_none (refusal_at to b.created_at (λ n. read_refusal (content_at S n)))
-          ≡ is_some (value_reached S to)
-      at None is = refl
-      at (Some m) is = seen (content_at S m) (reached_content S b m s is)
+      seen None h = cc
 
   -- ---- stores without borrows
 
@@ -76,8 +67,7 @@ module _ {T : Type 0} where
   unrefused : (c : Option (Content T)) → tickets_of c ≡ [] → write_refusal c ≡ None
   unrefused None h = refl
   unrefused (Some (Here v [])) h = refl
-  unrefused (Some (Here v (r ∷ rs))) h = absurd cc
-  unrefused (Some (Lent w)) h = absurd cc
+  unrefused _ h = cc
 
   module _ (S : State T) (quiet : IsUnborrowed S) (b : GenerationalPointer) where
     -- a box that reaches something may be written
@@ -87,30 +77,14 @@ module _ {T : Type 0} where
 
     -- so one that sees nothing reaches nothing
     pub quiet_gone : IsSound S → value_in S b ≡ None → reach S b ≡ None
-    quiet_gone s none = at (reach S b) refl
-      where
-        at : (to : Option Name) → reach S b ≡ to → reach S b ≡ None
-        at None is = is
-        at (Some m) is = let saw = free_sees S b s (quiet_free m is) in
-            absurd (none≢some _ saw.0 none saw.1)
+    quiet_gone s none = by_option (reach S b) (λ gone. gone)
+        (λ m to. cc ((free_sees S b s (quiet_free m to)).1))
 
     -- and a box may be written exactly where it sees a value
     pub quiet_sees : IsSound S → can_write S b ≡ is_some (value_in S b)
     unfolding refusal_to_write value_in
-    quiet_sees s = at (reach S b) refl
-      where
-        free : (m : Name) → reach S b ≡ Some m
-            → is_none (write_refusal (content_at S m)) ≡ is_some (value_reached S (Some m))
-        free m is =
-            let saw = free_sees S b s (quiet_free m is) in
-            ap is_none (unrefused (content_at S m) (quiet.none m))
-            ∙ sym (ap is_some (sym (value_in_reached S b m is) ∙ saw.1))
-
-        at : (to : Option Name) → reach S b ≡ to
-            → is_none (refusal_at to b.created_at (λ n. write_refusal (content_at S n)))
-            ≡ is_some (value_reached S to)
-        at None is = refl
-        at (Some m) is = free m is
+    quiet_sees s = by_option (reach S b) (λ none. cc) (λ m to. let free = quiet_free m to in
+        let saw = (free_sees S b s free).1 in free ∙ sym (ap is_some saw))
 
   -- ---- which calls leave a store so
 
@@ -128,7 +102,7 @@ module _ {T : Type 0} where
           keep_each (meets_follows S R call answer m) n
           (λ x y. tickets_of (content_of x) ≡ [] → tickets_of (content_of y) ≡ [])
           (λ x e. e) (λ _ e. refl) (λ new given still e. still)
-          (λ k c here law had has e. ap tickets_of has ∙ filled n k law (sym (ap tickets_of had) ∙ e))
+          (λ k c here law had has e. rw has (filled n k law (rw had at e)))
           (λ j l at e. refl) (quiet.none n);
     }
       where
@@ -141,28 +115,24 @@ module _ {T : Type 0} where
             → tickets_of (Some (old_content k)) ≡ [] → tickets_of (Some (new_content S k)) ≡ []
         filled n (Reader v rs l) law e = absurd (begun call n begins law.1)
         filled n (Writer v l) law e = absurd (begun call n begins law.2)
+        filled n (Leave v (r ∷ rs) g) law e = cc
         filled n (Leave v [] g) law e = refl
-        filled n (Leave v (r ∷ rs) g) law e = absurd cc
-        filled n (Return w g v) law e = refl
-        filled n (Replace old v) law e = refl
+        filled n _ law e = refl
 
     -- a read that was released, and a write
     pub quiet_read : {Q : State T} (b : GenerationalPointer) (l : Location) (g : Guard)
         (flag : Bool) → IsSound S → Meets S (Read b l) (Reads g) R
         → Meets R (ReleaseReader g) (Flag flag) Q → IsUnborrowed S → IsUnborrowed Q
     quiet_read b l g flag s read release quiet =
-        subst IsUnborrowed (sym (reads_back b l g flag s read release))
-        (record { none = quiet.none })
+        rw (reads_back b l g flag s read release) (record { none = quiet.none })
 
     pub quiet_set : (b : GenerationalPointer) (v : T) → IsSet S b v R
         → IsUnborrowed S → IsUnborrowed R
-    quiet_set b v it quiet = subst IsUnborrowed (sym it.after) (record {
-      none = λ n. ⊎_elim
-          (λ is. subst (λ k. tickets_at (fill S it.name (Here v [])).cells k ≡ []) (sym is)
-          (ap tickets_of (filled_content S it.name (Here v []) (Here it.old []) it.content)))
-          (λ ne. ap (λ c. tickets_of (content_of c))
-          (get-changed_apart by_name S.cells it.name (refill (Here v [])) n ne) ∙ quiet.none n)
-          (name_cases n it.name);
+    quiet_set b v it quiet = rw it.after (record {
+      none = λ n. by_keys by_name n it.name
+          (λ is. rw (is, filled_content S it.name (Here v []) (Here it.old []) it.content))
+          (λ ne. rw (get-changed_apart by_name S.cells it.name (refill (Here v [])) n ne)
+          (quiet.none n));
     })
 
   -- ---- ends that no borrow hinders
@@ -179,8 +149,7 @@ module _ {T : Type 0} where
 
       at : Meets S call answer R → answer ≡ Done
       at (inl m) = ap (λ (out : Outcome T). out.0) m.2 ∙ limited m.0
-      at (inr m) = absurd (true≢false (sym m.0
-          ∙ ap (λ a. needs_memory S a call) (limited no_names)))
+      at (inr m) = cc (ap (λ a. needs_memory S a call) (limited no_names))
 
   -- no borrow hinders names that are free
   unhindered : (S : State T) (names : List Name) → AreFree S names → hindrance_to S names ≡ None
@@ -190,26 +159,20 @@ module _ {T : Type 0} where
       at : (m : Name) → (map.get (cells_after S.cells names) m ≡ None
           → write_refusal (content_at S m) ≡ None)
           → hindrance_at S.cells (cells_after S.cells names) m ≡ None
-      at m h = by (map.get (cells_after S.cells names) m) refl
-        where
-          by : (c : Option (Cell T)) → map.get (cells_after S.cells names) m ≡ c
-              → cond (not (is_some c)) (write_refusal (content_at S m)) None ≡ None
-          by None is = h is
-          by (Some c) is = refl
+      at m h = by_option (map.get (cells_after S.cells names) m) (λ gone. rw gone (h gone))
+          (λ c is. rw is)
 
       rest : (b : GenerationalPointer) (m : Name) → among names (name_of b) ≡ true
           → reach S b ≡ Some m → map.get (cells_after S.cells names) m ≡ None
           → write_refusal (content_at S m) ≡ None
-      rest b m there to gone =
-          let at = rests S b (free b m there to gone) in
-          subst (λ k. write_refusal (content_at S k) ≡ None)
-          (same_Some at.0 m (sym at.1.reaches ∙ to)) at.1.free
+      rest b m there to gone = let at = rests S b (free b m there to gone) in
+          cc (at.1.reaches, at.1.free)
 
       own : (n m : Name) (l : Location) (c : Cell T) → map.get S.cells n ≡ Some c
           → leads_to (Some c) n ≡ Some m → reach S (box_of S.number n l) ≡ Some m
       own n m l c is leads = reach_by S (box_of S.number n l) m (record {
         number = nat_eq_equiv.refl S.number;
-        leads = ap (λ x. leads_to x n) is ∙ leads;
+        leads = rw is leads;
       })
 
       one : (n : Name) → among names n ≡ true → (c : Option (Cell T)) → map.get S.cells n ≡ c
@@ -225,22 +188,21 @@ module _ {T : Type 0} where
           → first_hindrance S.cells (cells_after S.cells names) some ≡ None
       each [] within = refl
       each (n ∷ some) within =
-          ap (λ o. option_or o (first_hindrance S.cells (cells_after S.cells names) some))
-          (one n (within n (or_left _ _ (name_here n))) (map.get S.cells n) refl)
-          ∙ each some (λ q h. within q (or_right _ _ h))
+          rw (one n (within n (or_left _ _ (name_here n))) (map.get S.cells n) refl)
+          (each some (λ q h. within q (or_right _ _ h)))
 
   -- results that are told as done are Ok
   ended_ok : {U : Type 0} (r : Result U (error.Refused BorrowMutError))
       → ◌≡◌ {A = Answer T} (end_answer r) Done → IsOk r
   ended_ok (Ok u) e = refl
-  ended_ok (Err (refused.Borrow e)) is = absurd cc
-  ended_ok (Err (refused.Store e)) is = absurd cc
+  ended_ok (Err (refused.Borrow e)) is = cc
+  ended_ok (Err (refused.Store e)) is = cc
 
   released_ok : {U V : Type 0} (r : Result U (V × error.Refused BorrowMutError))
       → ◌≡◌ {A = Answer T} (release_answer r) Done → IsOk r
   released_ok (Ok u) e = refl
-  released_ok (Err (v, refused.Borrow e)) is = absurd cc
-  released_ok (Err (v, refused.Store e)) is = absurd cc
+  released_ok (Err (v, refused.Borrow e)) is = cc
+  released_ok (Err (v, refused.Store e)) is = cc
 
   module _ {S R : State T} where
     -- so a release of their owner is never refused
@@ -250,19 +212,9 @@ module _ {T : Type 0} where
     frees_owned o h {U} {V} r held free m =
         released_ok {U = U} {V = V} r (done_always S R (ReleaseOwner o) _ goes m)
       where
-        either : (more : Bool) (X Y : State T)
-            → (cond {A = Outcome T} more (Done, X) (Done, Y)).0 ≡ Done
-        either true X Y = refl
-        either false X Y = refl
-
         goes : (f : NewNames) → (act S (ReleaseOwner o) f).0 ≡ Done
-        goes f =
-            let less = set_ownership S o.key (one_less h) in
-            let last = record (close S h.names) { owners = map.remove S.owners o.key } in
-            ap (λ x. (release_owner S o x).0) held
-            ∙ (ap (λ t. (cond {A = Outcome T} (nat_lt 1 h.count) (Done, less)
-            (unless t S (Done, last))).0) (unhindered S h.names free)
-            ∙ either (nat_lt 1 h.count) less last)
+        goes f = rw (held, unhindered S h.names free)
+            (by_cond (λ (out : Outcome T). out.0 ≡ Done) (nat_lt 1 h.count) (λ _. refl) (λ _. refl))
 
     -- nor is an end in a store without borrows, or an owner's release
     pub quiet_ends : (b : GenerationalPointer) {U : Type 0}
@@ -271,8 +223,8 @@ module _ {T : Type 0} where
     quiet_ends b {U} r quiet m = ended_ok {U = U} r (done_always S R (End b) _ goes m)
       where
         goes : (f : NewNames) → (act S (End b) f).0 ≡ Done
-        goes f = ap (λ t. (unless t S (Done, close S (own_name S b))).0)
-            (unhindered S (own_name S b) (λ a m there to gone. quiet_free S quiet a m to))
+        goes f =
+            rw (unhindered S (own_name S b) (λ a m there to gone. quiet_free S quiet a m to))
 
     pub quiet_releases : (o : OwnerName) (h : Ownership) {U V : Type 0}
         (r : Result U (V × error.Refused BorrowMutError)) → ownership S o ≡ Some h

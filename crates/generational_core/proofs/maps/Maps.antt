@@ -1,18 +1,19 @@
 -- Finite maps and sets read at a key, how many keys a map has, and when names and ids are the same.
 use Rattle.std.specs.declared.cmp.{Ordering.Ordering, Ordering.TheVariants.Equal}
-use Rattle.std.proofs.lemmas.Bool.{true≢false, false_from_ne_true, cases_Bool, and_parts, or_left}
-use Rattle.std.proofs.lemmas.Bool.{or_right, or_cases, eqb-true, eq-eqb, and_from}
+use Rattle.std.proofs.lemmas.Bool.{false_from_ne_true, cases_Bool, and_parts, or_left}
+use Rattle.std.proofs.lemmas.Bool.{or_right, or_cases, eqb-true, and_from}
 use Rattle.std.proofs.lemmas.Map.Lookups.{exact_unsigned, exact_pairs}
 use Rattle.std.proofs.lemmas.{Cmp.on_total, Cmp.then_total, List.length-map, List.length-append}
 use Rattle.std.proofs.lemmas.{List.Folds.list_any-append, Map.Made.length-le_from_is_member}
 use Rattle.std.specs.Prelude.{◌⊎◌, option_map, is_some, map as list_map, T, ◌&&◌, nat_eq, ◌↔◌}
 use Rattle.std.specs.Cmp.{IsTotalOrder, nat_cmp_total, Equal-is, tied_itself, eq_by_cmp_equiv}
+use Rattle.std.specs.Cmp.{nat_eq_equiv}
 use Rattle.std.specs.{Ordering.nat_cmp, Ordering.eq_by_cmp, Ordering.is_eq, Ordering.is_lt}
 use Rattle.std.specs.{Cmp.both_ways, List.AllByRecursion, List.IsDistinct, List.list_any}
 use Rattle.generational_core.specs
 use specs.Names.{Name, Names, NameMap, name_cmp, is_name, change, change_if}
 use specs.{Boxes.has_same_id, Cells.Cell, Cells.refers_to, Cells.Cell.Ref, Conditions.IsNamed}
-use specs.{State.is_named, declared.boxes.GenerationalBoxId.GenerationalBoxId}
+use specs.{State.is_named}
 use specs.declared.boxes.GenerationalPointer.{GenerationalPointer}
 use Rattle.generational_errors.specs.declared.error.Location.{Location}
 use Rattle.std.proofs.Common.{◌≡◌, ◌≢◌, ℕ, ◌+◌, ◌≤◌, Bool, true, false, cond, ◌||◌, Option, None}
@@ -43,6 +44,11 @@ by_name = record { total = name_total; exact = name_exact }
 pub by_number : IsKeyOrder nat_cmp
 by_number = record { total = nat_cmp_total; exact = map.nat_cmp-IsAntisymmetric }
 
+-- what holds where there is nothing, and where there is a value
+pub by_option : {A B : Type 0} (x : Option A) → (x ≡ None → B) → ((a : A) → x ≡ Some a → B) → B
+by_option None none some = none refl
+by_option (Some a) none some = some a refl
+
 -- ---- keys of any kind
 
 module _ {K : Type 0} {R : K → K → Ordering} (o : IsKeyOrder R) where
@@ -58,8 +64,12 @@ module _ {K : Type 0} {R : K → K → Ordering} (o : IsKeyOrder R) where
 
   -- two keys are one, or apart
   pub key_cases : (j k : K) → (j ≡ k) ⊎ (j ≢ k)
-  key_cases j k = ⊎_elim (λ h. inl (key_same j k h)) (λ h. inr (λ e. true≢false
-      (sym (key_here k) ∙ (sym (ap (λ x. eq_by_cmp R x k) e) ∙ h)))) (cases_Bool (eq_by_cmp R j k))
+  key_cases j k = ⊎_elim (λ h. inl (key_same j k h)) (λ h. inr (λ e. cc (key_here k)))
+      (cases_Bool (eq_by_cmp R j k))
+
+  -- what holds where they are one, and where they are apart
+  pub by_keys : {A : Type 0} (j k : K) → (j ≡ k → A) → (j ≢ k → A) → A
+  by_keys j k same apart = ⊎_elim same apart (key_cases j k)
 
   module _ {X : Type 0} where
     pub get-insert_here : (m : map.FinMap R X) (k : K) (v : X)
@@ -84,12 +94,8 @@ module _ {K : Type 0} {R : K → K → Ordering} (o : IsKeyOrder R) where
     -- keys are removed in either order
     pub remove_each : (m : map.FinMap R X) (j k : K)
         → map.remove (map.remove m j) k ≡ map.remove (map.remove m k) j
-    remove_each m j k = map.same_map o.total o.exact _ _ (λ q.
-        map.get-remove o.total (map.remove m j) k q
-        ∙ (rw (map.get-remove o.total m j q)
-        (either (eq_by_cmp R q j) (eq_by_cmp R q k) (map.get m q))
-        ∙ sym (map.get-remove o.total (map.remove m k) j q
-        ∙ ap (cond (eq_by_cmp R q j) None) (map.get-remove o.total m k q))))
+    remove_each m j k = map.same_map o.total o.exact _ _ (λ q. simp (map.get-remove {X = X} o.total)
+        (either (eq_by_cmp R q j) (eq_by_cmp R q k) (map.get m q)))
       where
         either : (a b : Bool) (x : Option X)
             → cond b None (cond a None x) ≡ cond a None (cond b None x)
@@ -101,16 +107,13 @@ module _ {K : Type 0} {R : K → K → Ordering} (o : IsKeyOrder R) where
     pub keep_view : (m : map.FinMap R X) (p : K → Bool) (q : K)
         → ((map.get (map.retain_keys m p) q ≡ map.get m q) × (p q ≡ true))
         ⊎ ((map.get (map.retain_keys m p) q ≡ None) × (p q ≡ false))
-    keep_view m p q =
-        let at = λ (b : Bool) (h : p q ≡ b).
-        get-keep m p q ∙ ap (λ b. cond b (map.get m q) None) h in
-        ⊎_elim (λ h. inl (at true h, h)) (λ h. inr (at false h, h)) (cases_Bool (p q))
+    keep_view m p q = ⊎_elim (λ h. inl (cc (get-keep m p q), h))
+        (λ h. inr (cc (get-keep m p q), h)) (cases_Bool (p q))
 
     pub get-changed_here : (m : map.FinMap R X) (k : K) (f : X → X) (x : X)
         → map.get m k ≡ Some x → map.get (change m k f) k ≡ Some (f x)
     unfolding change
-    get-changed_here m k f x h =
-        ap (λ o. map.get (change_if m k f o) k) h ∙ get-insert_here m k (f x)
+    get-changed_here m k f x h = rw h (get-insert_here m k (f x))
 
     pub changed_there : (m : map.FinMap R X) (k : K) (f : X → X) (x : X)
         → map.get m k ≡ Some x → change m k f ≡ map.insert m k (f x)
@@ -120,9 +123,8 @@ module _ {K : Type 0} {R : K → K → Ordering} (o : IsKeyOrder R) where
     -- what stands at a key, put there again
     pub insert_there : (m : map.FinMap R X) (k : K) (x : X) → map.get m k ≡ Some x
         → map.insert m k x ≡ m
-    insert_there m k x there = map.same_map o.total o.exact _ _ (λ q. ⊎_elim
-        (λ e. subst (λ j. map.get (map.insert m k x) j ≡ map.get m j) (sym e)
-        (get-insert_here m k x ∙ sym there)) (get-insert_apart m k x q) (key_cases q k))
+    insert_there m k x there = map.same_map o.total o.exact _ _ (λ q.
+        by_keys q k (λ is. cc (get-insert_here m k x)) (get-insert_apart m k x q))
 
     pub get-changed_none : (m : map.FinMap R X) (k : K) (f : X → X)
         → map.get m k ≡ None → change m k f ≡ m
@@ -131,52 +133,31 @@ module _ {K : Type 0} {R : K → K → Ordering} (o : IsKeyOrder R) where
 
     pub get-changed_apart : (m : map.FinMap R X) (k : K) (f : X → X) (q : K)
         → q ≢ k → map.get (change m k f) q ≡ map.get m q
-    unfolding change
-    get-changed_apart m k f q ne = split (map.get m k)
-      where
-        split : (o : Option X) → map.get (change_if m k f o) q ≡ map.get m q
-        split None = refl
-        split (Some x) = get-insert_apart m k (f x) q ne
+    get-changed_apart m k f q ne = by_option (map.get m k) (λ e. rw (get-changed_none m k f e))
+        (λ x e. rw (changed_there m k f x e) (get-insert_apart m k (f x) q ne))
 
     -- what is changed and changed back
     pub changed_back : (m : map.FinMap R X) (k : K) (f g : X → X) (x : X)
         → map.get m k ≡ Some x → g (f x) ≡ x → change (change m k f) k g ≡ m
-    changed_back m k f g x there back = map.same_map o.total o.exact _ _ (λ q. ⊎_elim
-        (λ is. subst (λ j. map.get (change (change m k f) k g) j ≡ map.get m j) (sym is)
-        (get-changed_here (change m k f) k g (f x) (get-changed_here m k f x there)
-        ∙ (ap Some back ∙ sym there)))
-        (λ ne. get-changed_apart (change m k f) k g q ne ∙ get-changed_apart m k f q ne)
-        (key_cases q k))
+    changed_back m k f g x there back = map.same_map o.total o.exact _ _ (λ q. by_keys q k
+        (λ is. cc (get-changed_here (change m k f) k g (f x) (get-changed_here m k f x there)))
+        (λ ne. get-changed_apart (change m k f) k g q ne ∙ get-changed_apart m k f q ne))
 
     pub get-changed : (m : map.FinMap R X) (k : K) (f : X → X) (q : K) → map.get (change m k f) q
         ≡ cond (eq_by_cmp R q k) (option_map f (map.get m q)) (map.get m q)
-    get-changed m k f q = ⊎_elim (λ is. subst
-        (λ j. map.get (change m k f) j ≡ cond (eq_by_cmp R j k) (option_map f (map.get m j))
-        (map.get m j)) (sym is) (rw (key_here k) (here (map.get m k) refl)))
-        (λ ne. rw (key_apart q k ne) (get-changed_apart m k f q ne)) (key_cases q k)
-      where
-        here : (x : Option X) → map.get m k ≡ x
-            → map.get (change m k f) k ≡ option_map f (map.get m k)
-        here None h = ap (λ n. map.get n k) (get-changed_none m k f h) ∙ rw h refl
-        here (Some x) h = get-changed_here m k f x h ∙ rw h refl
+    get-changed m k f q = by_keys q k
+        (λ is. by_option (map.get m k) (λ e. cc (key_here k, get-changed_none m k f e))
+        (λ x e. cc (key_here k, get-changed_here m k f x e)))
+        (λ ne. rw (key_apart q k ne) (get-changed_apart m k f q ne))
 
     -- the one key that is changed, if anything stands there
     pub changed_view : (m : map.FinMap R X) (k : K) (f : X → X) (q : K)
         → (map.get (change m k f) q ≡ map.get m q)
         ⊎ ((q ≡ k) × (x : X) × (map.get m q ≡ Some x) × (map.get (change m k f) q ≡ Some (f x)))
-    changed_view m k f q = ⊎_elim (λ is. at is (map.get m q) refl)
-        (λ ne. inl (get-changed_apart m k f q ne)) (key_cases q k)
-      where
-        at : q ≡ k → (old : Option X) → map.get m q ≡ old → (map.get (change m k f) q ≡ map.get m q)
-            ⊎ ((q ≡ k) × (x : X) × (map.get m q ≡ Some x) × (map.get (change m k f) q ≡ Some (f x)))
-        at is None h =
-            inl (ap (λ n. map.get n q) (get-changed_none m k f (ap (map.get m) (sym is) ∙ h)))
-        at is (Some x) h = inr (
-          is,
-          x,
-          h,
-          ap (map.get (change m k f)) is ∙ get-changed_here m k f x (ap (map.get m) (sym is) ∙ h),
-        )
+    changed_view m k f q = by_keys q k
+        (λ is. by_option (map.get m k) (λ e. inl (cc (get-changed_none m k f e)))
+        (λ x e. inr (is, x, cc, cc (get-changed_here m k f x e))))
+        (λ ne. inl (get-changed_apart m k f q ne))
 
   -- what is in a set with one key more
   pub contains-insert_here : (s : set.FinSet R) (k : K) → set.contains (set.insert s k) k ≡ true
@@ -231,10 +212,6 @@ less_apart : (r : Ordering) → is_lt r ≡ true → is_eq r ≡ false
 less_apart Equal h = cc
 less_apart r h = refl
 
-is_true : (b : Bool) → T b → b ≡ true
-is_true true h = refl
-is_true false h = absurd h
-
 -- the keys of a finite map are distinct
 module _ {K X : Type 0} (R : K → K → Ordering) where
   below_apart : (x : K) (es : List (K × X)) → map.Entries.below_all R x es ≡ true
@@ -252,7 +229,9 @@ module _ {K X : Type 0} (R : K → K → Ordering) where
 
   -- the keys of a map are distinct
   pub keys_apart : (m : map.FinMap R X) → IsDistinct (eq_by_cmp R) (map.keys m)
-  keys_apart m = sorted_apart (map.entries m) (is_true _ (map.entries_sorted m))
+  keys_apart m = sorted_apart (map.entries m) (⊎_elim (λ h. h)
+      (λ h. absurd (subst T h (map.entries_sorted m)))
+      (cases_Bool (map.is_sorted R (map.entries m))))
 
   -- and as many as the map says
   pub len_keys : (m : map.FinMap R X) → map.len m ≡ length (map.keys m)
@@ -263,7 +242,7 @@ module _ {K X : Type 0} {R : K → K → Ordering}
   -- what passes is kept
   pub kept_key : (m : map.FinMap R X) (p : K → Bool) (q : K)
       → map.contains_key m q ≡ true → p q ≡ true → map.contains_key (map.retain_keys m p) q ≡ true
-  kept_key m p q h t = ap is_some (get-keep o m p q ∙ ap (λ b. cond b (map.get m q) None) t) ∙ h
+  kept_key m p q h t = rw (get-keep o m p q, t) h
 
   -- keys that pass one of three tests are no more than those that pass each
   pub len_three : (m : map.FinMap R X) (p q r : K → Bool)
@@ -272,15 +251,14 @@ module _ {K X : Type 0} {R : K → K → Ordering}
   len_three m p q r one = let a = map.keys (map.retain_keys m p) in
       let b = map.keys (map.retain_keys m q) in let c = map.keys (map.retain_keys m r) in
       let le = length-le_from_is_member (eq_by_cmp_equiv o.total) (map.keys m) ((a ++ b) ++ c)
-      (keys_apart R m) (λ k h. let there : map.contains_key m k ≡ true = map.contains_key-keys m k
-      ∙ h in let at = λ (t : K → Bool) (e : t k ≡ true). sym
-      (map.contains_key-keys (map.retain_keys m t) k) ∙ kept_key m t k there e in
+      (keys_apart R m) (λ k h.
+      let at = λ (t : K → Bool) (e : t k ≡ true).
+      sym (map.contains_key-keys (map.retain_keys m t) k)
+      ∙ kept_key m t k (map.contains_key-keys m k ∙ h) e in
       rw (list_any-append (eq_by_cmp R k) (a ++ b) c, list_any-append (eq_by_cmp R k) a b)
       (⊎_elim (λ e. or_left _ _ (or_left _ _ (at p e)))
       (⊎_elim (λ e. or_left _ _ (or_right _ _ (at q e))) (λ e. or_right _ _ (at r e))) (one k))) in
-      let ab = length-append (a ++ b) c in let bb = length-append a b in let l0 = len_keys R m in
-      let l1 = len_keys R (map.retain_keys m p) in let l2 = len_keys R (map.retain_keys m q) in
-      let l3 = len_keys R (map.retain_keys m r) in omega arith
+      simp (len_keys {X = X} R) (omega (arith, le, length-append (a ++ b) c, length-append a b))
 
 module _ {K X Y : Type 0} {R : K → K → Ordering} (o : IsKeyOrder R) where
   -- a map whose keys are another's is no larger
@@ -291,16 +269,17 @@ module _ {K X Y : Type 0} {R : K → K → Ordering} (o : IsKeyOrder R) where
       let le =
       length-le_from_is_member (eq_by_cmp_equiv o.total) (map.keys m) (map.keys n) (keys_apart R m)
       (λ k e. sym (map.contains_key-keys n k) ∙ h k (map.contains_key-keys m k ∙ e)) in
-      let a = len_keys R m in let b = len_keys R n in omega arith
+      omega (arith, len_keys R m, len_keys R n)
 
 -- two names are the same if both their numbers are
 pub name_test : (a b : Name)
     → is_name a b ≡ (nat_eq a.slot b.slot && nat_eq a.generation b.generation)
-name_test a b = both_ways _ _ (λ h. let e = name_same a b h in and_from _ _
-    (eq-eqb a.slot b.slot (ap (λ (n : Name). n.slot) e)) (eq-eqb a.generation b.generation
-    (ap (λ (n : Name). n.generation) e))) (λ h. let p = and_parts _ _ h in let s = eqb-true
-    a.slot b.slot p.0 in let g = eqb-true a.generation b.generation p.1 in let e : a
-    ≡ b = λ i. record { slot = s i; generation = g i } in ap (λ n. is_name n b) e ∙ name_here b)
+name_test a b = both_ways _ _
+    (λ h. rw (name_same a b h)
+    (and_from _ _ (nat_eq_equiv.refl b.slot) (nat_eq_equiv.refl b.generation)))
+    (λ h. let p = and_parts _ _ h in let s = eqb-true a.slot b.slot p.0 in
+    let g = eqb-true a.generation b.generation p.1 in
+    let e : a ≡ b = λ i. record { slot = s i; generation = g i } in rw e (name_here b))
 
 -- boxes have the same id exactly where the ids are one
 pub same_ids : (a b : GenerationalPointer) → (has_same_id a b ≡ true) ↔ (a.id ≡ b.id)
@@ -312,9 +291,8 @@ same_ids a b = (
       let slot = eqb-true a.id.slot b.id.slot q.0 in
       let generation = eqb-true a.id.generation b.id.generation q.1 in
       λ i. record { store = store i; slot = slot i; generation = generation i },
-  λ e. and_from _ _ (eq-eqb a.id.store b.id.store (ap (λ (d : GenerationalBoxId). d.store) e))
-      (and_from _ _ (eq-eqb a.id.slot b.id.slot (ap (λ (d : GenerationalBoxId). d.slot) e))
-      (eq-eqb a.id.generation b.id.generation (ap (λ (d : GenerationalBoxId). d.generation) e))),
+  λ e. rw e (and_from _ _ (nat_eq_equiv.refl b.id.store) (and_from _ _
+      (nat_eq_equiv.refl b.id.slot) (nat_eq_equiv.refl b.id.generation))),
 )
 
 pub same_itself : (a : GenerationalPointer) → has_same_id a a ≡ true
@@ -331,7 +309,7 @@ same_turned a b = both_ways _ _ (λ h. (same_ids b a).1 (sym ((same_ids a b).0 h
 -- some element of a list passes
 one_passes : {A : Type 0} (p : A → Bool) (xs : List A)
     → list_any p xs ≡ true → (x : A) × (p x ≡ true)
-one_passes p [] h = absurd (true≢false (sym h))
+one_passes p [] h = cc
 one_passes p (x ∷ xs) h = ⊎_elim (λ e. (x, e)) (λ e. one_passes p xs e) (or_cases _ _ h)
 
 -- an element that passes both
@@ -345,8 +323,8 @@ module _ {T : Type 0} where
   -- what passes the test of a Ref is one
   pub is_ref : (m : Name) (c : Option (Cell T))
       → refers_to m c ≡ true → (l : Location) × (c ≡ Some (Ref m l))
-  is_ref m (Some (Ref k l)) h = (l, ap (λ n. Some (Ref n l)) (sym (name_same m k h)))
-  is_ref m _ h = absurd (true≢false (sym h))
+  is_ref m (Some (Ref k l)) h = (l, cc (name_same m k h))
+  is_ref m _ h = cc
 
   -- the test gives a Ref, and a Ref passes it
   pub named_gives : (cells : NameMap (Cell T)) (m : Name)
@@ -359,6 +337,5 @@ module _ {T : Type 0} where
   pub named_from : (cells : NameMap (Cell T)) (m : Name) → IsNamed cells m → is_named cells m ≡ true
   unfolding is_named
   named_from cells m h = passes_both (λ n. refers_to m (map.get cells n)) (eq_by_cmp name_cmp h.0)
-      (λ n e. ap (λ k. refers_to m (map.get cells k)) (sym (key_same by_name h.0 n e))
-      ∙ (ap (refers_to m) h.2 ∙ name_here m))
+      (λ n e. cc (key_same by_name h.0 n e, ap (refers_to m) h.2, name_here m))
       (map.keys cells) (sym (map.contains_key-keys cells h.0) ∙ ap is_some h.2)

@@ -1,11 +1,10 @@
 -- At which indexes of the table the borrows of a store's slots stand, and what is left of that
 -- where a slot is written.
 use Rattle.generational_entries.proofs.Common
-use Common.{AreIndexed, arith, Bool, cond, eq-eqb, eqb-true, false, false≢true}
-use Common.{has_index, HasListIndex, HasListIndexIn, how_many, index_in, index_of, IsUnborrowed}
-use Common.{IsUsed, IsWritten, length, List, nat_cmp, nat_eq, no_index, None, Option, passes, refl}
-use Common.{slice_get, Some, StorageEntry, StorageEntryData, subst, sym, Table, true, ℕ, [], ◌+◌}
-use Common.{◌∙◌, ◌≡◌, ◌≢◌, ◌≤◌}
+use Common.{AreIndexed, arith, cases_eq, eq-eqb, false, has_index, HasListIndex, HasListIndexIn}
+use Common.{how_many, index_in, index_of, IsUnborrowed, IsUsed, IsWritten, length, List, nat_cmp}
+use Common.{nat_tests, ne_eqb, no_index, Option, passes, refl, slice_get, Some, StorageEntry}
+use Common.{StorageEntryData, sym, Table, ℕ, [], ⊎_elim, ◌+◌, ◌∙◌, ◌≡◌, ◌≢◌, ◌≤◌}
 use Rattle.std.specs.FinSet as set
 
 module _ {T : Type 0} where
@@ -14,11 +13,8 @@ module _ {T : Type 0} where
     -- what holds of the slot that was written and of the others holds of all
     over : (P : ℕ → Option (StorageEntry T) → Type 0) → P i (Some e)
         → ((k : ℕ) → k ≢ i → P k (slice_get es k)) → (k : ℕ) → P k (slice_get es' k)
-    over P here others k = subst (P k) (sym (w.at k)) (at (nat_eq k i) refl)
-      where
-        at : (b : Bool) → nat_eq k i ≡ b → P k (cond b (Some e) (slice_get es k))
-        at true same = subst (λ n. P n (Some e)) (sym (eqb-true k i same)) here
-        at false other = others k (λ z. false≢true (sym other ∙ eq-eqb k i z))
+    over P here others k = rw (w.at k) (⊎_elim (λ (e : k ≡ i). rw (e, eq-eqb i i refl) here)
+        (λ other. rw (ne_eqb k i other) (others k other)) (cases_eq k i))
 
     pub indexed : {t t' : Table} → AreIndexed t es → HasListIndex e.content
         → ((k : ℕ) → k ≢ i → index_in (slice_get es k) ≢ no_index
@@ -77,8 +73,7 @@ indexed_none none empty free = rw none (record {
 module _ {T : Type 0} where
   no_index_test : (o : Option (StorageEntry T)) → index_in o ≡ no_index
       → passes has_index o ≡ false
-  no_index_test None none = refl
-  no_index_test (Some e) none = rw (eq-eqb (index_of e.content) no_index none) refl
+  no_index_test o none = grind (arith, nat_tests)
 
   -- a slot without borrows that is written where none stood
   pub indexed_free : {t : Table} {es es' : List (StorageEntry T)} {i : ℕ} {e : StorageEntry T}
@@ -87,10 +82,8 @@ module _ {T : Type 0} where
       → AreIndexed t es'
   indexed_free {t} {es} {es'} {i} {e} w s fits longer before none =
       indexed w s fits (λ k other. s.used k) (λ some. absurd (some none))
-      (λ some. absurd (some none)) counted (let few = s.few in omega arith)
-    where
-      counted : set.len t.free + how_many has_index es' ≡ length t.lists
-      counted =
-          let count = rw (no_index_test (slice_get es i) before, no_index_test (Some e) none)
-          at (w.count has_index) in
-          let all = s.counted in omega (arith, count)
+      (λ some. absurd (some none)) (omega (
+        arith,
+        rw (no_index_test (slice_get es i) before, no_index_test (Some e) none)
+            at (w.count has_index),
+      )) (omega arith)

@@ -1,12 +1,12 @@
 -- A slot that changes with the table of borrows, and what is left of the other slots.
 use Rattle.generational_entries.proofs.Common
 use Rattle.generational_entries.proofs.lists
-use Common.{ap, AreIndexed, arith, bit, Bool, Borrow, EntryDetails, EntryList, eq-eqb}
-use Common.{eqb-true, false, fewer_within, get_or-set_same, has_index, HasListIndex, Here, how_many}
-use Common.{index_in, index_of, inl, inr, IsClosed, IsUsed, IsVacant, kept_data, Kind, length}
-use Common.{length-set, List, list_at, Live, Location, nat_cmp, nat_eq, ne_eqb, no_index, refl}
-use Common.{Releases, set_written, slice_get, slice_set, StorageEntry, subst, sym, Table, true}
-use Common.{true≢false, unread_data, ℕ, [], ◌+◌, ◌<◌, ◌∙◌, ◌∷◌, ◌≡◌, ◌≢◌, ◌≤◌}
+use Common.{AreIndexed, arith, bit, Borrow, cases_eq, EntryDetails, EntryList, eq-eqb}
+use Common.{false, fewer_within, get_or-set_same, has_index, HasListIndex, Here, how_many}
+use Common.{index_in, index_of, inl, inr, IsClosed, IsUsed, kept_data, Kind, length}
+use Common.{length-set, List, list_at, Live, Location, nat_cmp, ne_eqb, no_index, refl}
+use Common.{Releases, set_written, slice_get, slice_set, StorageEntry, sym, Table, true}
+use Common.{unread_data, ℕ, [], ⊎_elim, ◌+◌, ◌<◌, ◌∙◌, ◌∷◌, ◌≡◌, ◌≢◌, ◌≤◌}
 use lists.TableChanges.{Changes, closed, closed_count, list_changed, none_some, opened}
 use lists.TableChanges.{opened_count, opened_few, opened_used, Opens, used_still}
 use Rattle.generational_entries.proofs.states.Entries.{has_place, IsAt, SameLists, used_here}
@@ -34,7 +34,7 @@ module _ {T : Type 0} {t : Table} {es : List (StorageEntry T)} {ls : List EntryD
         let long = length-set es i e' in
         indexed w a.store.indexed fits
         (λ k other some. used_still c _ (alone k other) (a.store.indexed.used k some))
-        (λ some. subst (IsUsed t') (sym (here some).0) (here some).1)
+        (λ some. rw (here some).0 (here some).1)
         (λ some k other same. alone k other (same ∙ (here some).0))
         (omega arith) (omega arith)
 
@@ -42,7 +42,7 @@ module _ {T : Type 0} {t : Table} {es : List (StorageEntry T)} {ls : List EntryD
   vacant_alone : (x : ℕ) → (IsUsed t x → ⊥) → x ≢ no_index
       → (k : ℕ) → k ≢ i → index_in (slice_get es k) ≢ x
   vacant_alone x unused some k other same =
-      unused (subst (IsUsed t) same (a.store.indexed.used k (λ z. some (sym same ∙ z))))
+      unused (rw same at (a.store.indexed.used k (λ z. some (sym same ∙ z))))
 
   pub used_alone : (x : ℕ) → index_of e.content ≡ x → x ≢ no_index
       → (k : ℕ) → k ≢ i → index_in (slice_get es k) ≢ x
@@ -58,29 +58,22 @@ module _ {T : Type 0} {t : Table} {es : List (StorageEntry T)} {ls : List EntryD
     fewer = fewer_within has_index es i e a.there has_none
 
     pub small_left : length t.lists < no_index
-    small_left = let few = a.store.indexed.few in let small = a.store.small in omega arith
+    small_left = omega arith
 
     pub room_left : length es ≤ t.rooms → t.free ≡ set.empty → length t.lists < t.rooms
     room_left roomy empty =
-        let full : set.len t.free ≡ 0 = ap set.len empty ∙ set.len-empty nat_cmp in
-        let counted = a.store.indexed.counted in let less = fewer in omega arith
+        let full : set.len t.free ≡ 0 = rw (empty, set.len-empty nat_cmp) in omega (arith, fewer)
 
     -- the slot gets an index
     module _ {t' : Table} {x : ℕ} {list : List Borrow} (o : Opens t t' x list) where
       pub open_below : x < no_index
-      open_below = at o.vacant
-        where
-          at : IsVacant t x → x < no_index
-          at (inl v) = let low = v.1 in let small = small_left in omega arith
-          at (inr v) = let end = v.1 in let small = small_left in omega arith
+      open_below = let small = small_left in
+          elim o.vacant [ inl v ↦ omega arith | inr v ↦ omega arith ]
 
       open_alone : (k : ℕ) → k ≢ i → index_in (slice_get es k) ≢ x
-      open_alone = vacant_alone x (λ u. at u o.vacant) (let below = open_below in λ z. omega
-          (arith, z))
-        where
-          at : IsUsed t x → IsVacant t x → ⊥
-          at u (inl v) = true≢false (sym v.0 ∙ u.used)
-          at u (inr v) = let low = u.within in omega (arith, v.1)
+      open_alone = let below = open_below in vacant_alone x
+          (λ u. elim o.vacant [ inl v ↦ cc (v.0, u.used) | inr v ↦ omega (arith, u.within, v.1) ])
+          (λ z. omega arith)
 
       pub open_lists : SameLists t.lists t'.lists es i
       open_lists = same_lists (opened o) open_below open_alone
@@ -101,11 +94,10 @@ module _ {T : Type 0} {t : Table} {es : List (StorageEntry T)} {ls : List EntryD
 
   module _ (x : ℕ) (is : index_of e.content ≡ x) (some : x ≢ no_index) where
     pub used_x : IsUsed t x
-    used_x = subst (IsUsed t) is (used_here a (λ z. some (sym is ∙ z)))
+    used_x = rw is at (used_here a (λ z. some (sym is ∙ z)))
 
     used_below : x < no_index
-    used_below = let low = used_x.within in let few = a.store.indexed.few in
-        let small = a.store.small in omega arith
+    used_below = omega (arith, used_x.within)
 
     has_some : has_index e ≡ true
     has_some = rw (is, ne_eqb x no_index some) refl
@@ -130,8 +122,7 @@ module _ {T : Type 0} {t : Table} {es : List (StorageEntry T)} {ls : List EntryD
         where
           list_used : IsUsed t' x
           list_used = rw now' (record {
-            within = let long = length-set t.lists x left in let low = used_x.within in omega
-                arith;
+            within = omega (arith, length-set t.lists x left, used_x.within);
             used = used_x.used;
             some = λ z. b (sym (get_or-set_same t.lists x left [] used_x.within) ∙ z);
           })
@@ -162,14 +153,8 @@ module _ {T : Type 0} {t : Table} {es : List (StorageEntry T)} {ls : List EntryD
       (some : x ≢ no_index → IsClosed t t' x) where
     given_back : (P : Table → Type 0) → (x ≡ no_index → P t)
         → (x ≢ no_index → IsClosed t t' x → P t') → P t'
-    given_back P kept closes = at (nat_eq x no_index) refl
-      where
-        at : (b : Bool) → nat_eq x no_index ≡ b → P t'
-        at true same =
-            let last = eqb-true x no_index same in subst P (sym (none last)) (kept last)
-        at false other =
-            let index : x ≢ no_index = λ z. true≢false (sym (eq-eqb x no_index z) ∙ other) in
-            closes index (some index)
+    given_back P kept closes = ⊎_elim (λ last. rw (none last) (kept last))
+        (λ index. closes index (some index)) (cases_eq x no_index)
 
     pub given_lists : SameLists t.lists t'.lists es i
     given_lists = given_back (λ u. SameLists t.lists u.lists es i) (λ z k other. refl)
@@ -212,6 +197,9 @@ module _ {T : Type 0} {t : Table} {es : List (StorageEntry T)} {ls : List EntryD
         l (unread_data (slot.Read kd y v)) ≡ Live kd (Here v left) l
     release_kept t' y [] r l = rw (eq-eqb y no_index r.0) refl
     release_kept t' y (b ∷ bs) r l =
-        rw (ne_eqb y no_index (λ z. some (sym r.0 ∙ z)), r.0, r.1)
-        (ap (λ left. Live kd (Here v left) l)
-        (get_or-set_same t.lists x (b ∷ bs) [] (used_x x own some).within))
+        rw (
+          ne_eqb y no_index (λ z. some (sym r.0 ∙ z)),
+          r.0,
+          r.1,
+          get_or-set_same t.lists x (b ∷ bs) [] (used_x x own some).within,
+        )

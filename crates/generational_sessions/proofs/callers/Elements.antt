@@ -1,6 +1,6 @@
 -- Elements of a list after a write, of a beginning, and after a push.
-use Rattle.std.proofs.Common.{◌≡◌, ◌≢◌, ℕ, zero, suc, List, [], ◌∷◌, ◌++◌, ◌<◌, length, Some}
-use Rattle.std.proofs.Common.{inl, inr, refl, ap, ⊎_elim, arith}
+use Rattle.std.proofs.Common.{◌≡◌, ◌≢◌, ℕ, zero, suc, List, [], ◌∷◌, ◌++◌, ◌<◌, length, Some, inl}
+use Rattle.std.proofs.Common.{inr, refl, ap, ⊎_elim, arith}
 use Rattle.std.specs.Prelude.{◌⊎◌, slice_get, slice_set, take}
 use Rattle.std.proofs.lemmas.Option.{none-some, same_Some}
 
@@ -13,11 +13,9 @@ module _ {X : Type 0} where
 
   pub get_set_apart : (xs : List X) (i k : ℕ) (x : X) → k ≢ i
       → slice_get (slice_set xs i x) k ≡ slice_get xs k
-  get_set_apart [] i k x ne = refl
   get_set_apart (y ∷ xs) zero zero x ne = absurd (ne refl)
-  get_set_apart (y ∷ xs) zero (suc k) x ne = refl
-  get_set_apart (y ∷ xs) (suc i) zero x ne = refl
   get_set_apart (y ∷ xs) (suc i) (suc k) x ne = get_set_apart xs i k x (λ e. ne (ap suc e))
+  get_set_apart xs i k x ne = refl
 
   pub get_take : (xs : List X) (n k : ℕ) → k < n → slice_get (take n xs) k ≡ slice_get xs k
   get_take xs zero k lt = absurd (omega arith)

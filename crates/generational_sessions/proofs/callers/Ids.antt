@@ -1,26 +1,17 @@
 -- What a box reaches and sees depends on its id alone; a box of another store sees nothing. So a call
 -- that leaves each box of another name leaves each of another id.
-use Rattle.std.proofs.Common.{◌≡◌, ◌≢◌, true, cond, Option, None, Some, refl, sym, ap, ◌∙◌, ⊎_elim, eqb-true}
-use Rattle.std.proofs.lemmas.Option.{none-some, same_Some}
-use Rattle.std.specs.Prelude.{is_some, nat_eq, option_map}
+use Rattle.generational_sessions.proofs
+use proofs.{Action, Answer, ap, cond, eqb-true, GenerationalPointer, is_some, IsSound, leads_to}
+use proofs.{Location, Meets, meets_number, Name, name_cases, name_of, nat_eq, None, none-some}
+use proofs.{Option, option_map, own_cell, reach, refl, same_Some, Some, some_live, State, sym, true}
+use proofs.{unseen, value_in, ⊎_elim, ◌∙◌, ◌≡◌, ◌≢◌}
 use Rattle.std.specs.FinMap as map
-use Rattle.generational_core.specs.Borrowing.{leads_to, reach}
-use Rattle.generational_core.specs.Boxes.{name_of}
 use Rattle.generational_core.specs.Keeping.{box_with, boxed_at}
-use Rattle.generational_core.specs.Machine.{Action, Answer, own_cell}
-use Rattle.generational_core.specs.Names.{Name}
-use Rattle.generational_core.specs.Seeing.{value_in, value_reached}
-use Rattle.generational_core.specs.State.{State, IsSound}
-use Rattle.generational_core.specs.Steps.{Meets}
+use Rattle.generational_core.specs.Seeing.{value_reached}
 use Rattle.generational_core.specs.declared.boxes.GenerationalBoxId.{GenerationalBoxId}
-use Rattle.generational_core.specs.declared.boxes.GenerationalPointer.{GenerationalPointer}
-use Rattle.generational_errors.specs.declared.error.Location.{Location}
 use Rattle.generational_core.proofs.machine.Boxing.{reached_boxed}
-use Rattle.generational_core.proofs.machine.Calling.{seen_reached, unseen}
-use Rattle.generational_core.proofs.machine.Ends.{some_live}
+use Rattle.generational_core.proofs.machine.Calling.{seen_reached}
 use Rattle.generational_core.proofs.machine.Seeing.{led_box, reaches}
-use Rattle.generational_core.proofs.machine.Stepping.{meets_number}
-use Rattle.generational_core.proofs.maps.Maps.{name_cases}
 
 module _ {T : Type 0} where
   -- what a box sees lies at what it reaches

@@ -6,8 +6,8 @@ use proofs.{GenerationalPointer, Guard, Here, hindrance_to, inl, inr, is_known, 
 use proofs.{last_ticket, limit_tickets, Location, Make, may_lack, Meets, meets_cases, Name, nat_eq}
 use proofs.{needs_memory, NewNames, NewOwner, no_names, None, NumbersExhausted, Option, Outcome}
 use proofs.{OutOfMemory, own_name, OwnerName, reach, Read, read_at, Reads, refl, refusal_to_read}
-use proofs.{refusal_to_write, Refused, rests, Some, State, StoreError, subst, sym, takes_ticket}
-use proofs.{true, true≢false, unless, Write, write_at, write_refusal, ⊎_elim, ◌&&◌, ◌∙◌, ◌≡◌, ◌⊎◌}
+use proofs.{refusal_to_write, Refused, rests, Some, State, StoreError, takes_ticket, true}
+use proofs.{true≢false, unless, Write, write_at, write_refusal, ⊎_elim, ◌&&◌, ◌∙◌, ◌≡◌, ◌⊎◌}
 use Rattle.generational_sessions.specs.Lacking.{Lacks}
 
 module _ {T : Type 0} where
@@ -46,7 +46,7 @@ module _ {T : Type 0} where
   unhindered : (S : State T) (o : Option BorrowRefusal) (out : Outcome T)
       → is_none o ≡ true → Unhindered out.0 → Unhindered (unless o S out).0
   unhindered S None out h g = g
-  unhindered S (Some t) out h g = absurd (true≢false (sym h))
+  unhindered S (Some t) out h g = cc
 
   read_unhindered : (S : State T) (l : Location) (m : Option Name) (c : Option (Content T))
       → Unhindered (read_at S l m c).0
@@ -91,13 +91,12 @@ module _ {T : Type 0} where
         at true both told =
             let answer = ap (λ (out : Outcome T). out.0) told in
             inl (cc, eqb-true S.next last_ticket (and_parts _ _ both).1)
-        at false both told =
-            absurd (true≢false (ap (λ (out : Outcome T). is_lack out.0) told ∙ own m.0))
+        at false both told = cc (ap (λ (out : Outcome T). is_lack out.0) told, own m.0)
 
     lacks : (call : Action T) (e : StoreError) → Meets S call (Refused e) R
         → ((f : NewNames) → is_lack (act S call f).0 ≡ false) → Lacks S e
-    lacks call e m own = ⊎_elim (λ ticket. subst (Lacks S) (sym ticket.0) ticket.1)
-        (λ memory. subst (Lacks S) (sym memory.0) tt) (tells_lack call e m own)
+    lacks call e m own =
+        ⊎_elim (λ ticket. rw ticket.0 ticket.1) (λ memory. rw memory.0 tt) (tells_lack call e m own)
 
     -- a new owner, a read and a write
     pub owner_lacks : (e : StoreError) → Meets S NewOwner (Refused e) R → Lacks S e
@@ -128,7 +127,7 @@ module _ {T : Type 0} where
         → can_write S b ≡ true → Meets S (Read b l) (Refused e) R
         → (e ≡ NumbersExhausted) × (S.next ≡ last_ticket)
     free_read_lacks b l e free m = ⊎_elim (λ ticket. ticket)
-        (λ memory. absurd (true≢false (sym memory.1 ∙ first_reader S b l free)))
+        (λ memory. cc (first_reader S b l free))
         (tells_lack (Read b l) e m
         (λ f. unless_lack S (refusal_to_read S b) _ (read_lack S l (reach S b) _)))
 

@@ -5,15 +5,14 @@ use Rattle.generational_core.proofs.machine.{Changes.filled_content, Telling.fil
 use Rattle.generational_core.specs.{Answers.WriteGuard, Leaving.IsSet, Leaving.LeavesContent}
 use proofs.{Action, Answer, ap, back_answer, can_write, fill, GenerationalPointer, given_other}
 use proofs.{Here, IsGiven, IsLeft, IsSound, leaves, Location, Meets, name_of, reach, refl}
-use proofs.{ReleaseWriter, rests_free, Result, State, subst, sym, take_ticket, true, value_in}
-use proofs.{Write, write_refusal, Writes, writes_back, [], ◌∙◌, ◌≡◌}
+use proofs.{ReleaseWriter, rests_free, Result, State, take_ticket, true, value_in, Write}
+use proofs.{write_refusal, Writes, writes_back, [], ◌∙◌, ◌≡◌}
 use proofs.callers.Rows.{ticket_keeps}
 
 module _ {T : Type 0} where
   -- a box is left where nothing changed
   pub left_still : {S R : State T} (b : GenerationalPointer) → R ≡ S → IsLeft S b R
-  left_still {S} b is =
-      subst (IsLeft S b) (sym is) (record { reached = refl; content = λ m to. refl; seen = refl })
+  left_still b is = rw is (record { reached = refl; content = λ m to. refl; seen = refl })
 
   -- and where a ticket alone was given
   pub left_ticket : (S : State T) (b : GenerationalPointer) → IsLeft S b (take_ticket S)
@@ -43,15 +42,14 @@ module _ {T : Type 0} where
       → now ≡ record w { value = v } → IsOk r × IsSet S b v Q
   written_by {S} {R} {Q} b l w now v {U} r write release is =
       writes_back b l w.guard w.value v {U = U} r write
-      (subst (λ (x : WriteGuard T). Meets R (ReleaseWriter x.guard x.value) (back_answer r) Q) is release)
+      (rw is at release)
 
   -- and each box that reaches what was set may be written then
   pub set_free : {S Q : State T} {b : GenerationalPointer} {v : T} → IsSet S b v Q
       → (c : GenerationalPointer) → reach S c ≡ reach S b → can_write Q c ≡ true
   set_free {S} {Q} {b} {v} it c same =
       let filled = fill S it.name (Here v []) in
-      subst (λ (X : State T). can_write X c ≡ true) (sym it.after)
-      ((ticket_keeps filled c).free (rests_free filled c it.name (record {
+      rw it.after ((ticket_keeps filled c).free (rests_free filled c it.name (record {
         reaches = filled_reach S it.name (Here v []) c ∙ (same ∙ it.reached);
         free = ap write_refusal (filled_content S it.name (Here v []) (Here it.old []) it.content);
       })))

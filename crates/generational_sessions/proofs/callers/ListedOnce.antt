@@ -4,7 +4,8 @@ use Rattle.std.proofs.lemmas.{Cmp.eq_by_cmp_equiv, Map.Keys.IsDistinct-push}
 use Rattle.std.specs.Cmp.{IsEquivalence}
 use Rattle.generational_core.proofs.maps.Maps.{get-changed_here, get-changed_none, get-remove_here}
 use Rattle.generational_core.proofs.maps.Maps.{name_same}
-use Rattle.generational_core.specs.{Conditions.names_in, Leaving.IsOtherOwner}
+use Rattle.generational_core.specs.{Conditions.names_in, Leaving.GivesOtherOwner}
+use Rattle.generational_core.specs.Leaving.{IsOtherOwner, LeavesOwner}
 use Rattle.generational_sessions.{proofs.callers.Lefts.left_still, specs.ListedOnce.AreListedOnce}
 use proofs.{act, Action, among, Answer, ap, AreNew, Bool, BorrowRefusal, by_cond, by_number, by_run}
 use proofs.{by_step, Call, Cell, cell_at, change, clone_owner, CloneOwner, close, cond, false}
@@ -12,11 +13,11 @@ use proofs.{fresh, GenerationalPointer, get-insert_here, hindrance_to, inl, inr,
 use proofs.{IsDistinct, IsLeft, IsSound, IsSoundSession, keeps_record, key_cases, List}
 use proofs.{list_any-append, Make, MakeShared, Meets, meets_cases, meets_sound, Name, name_apart}
 use proofs.{name_of, name_total, nat_cmp, nat_eq, nat_lt, new_fresh, NewNames, NewOwner, None}
-use proofs.{none≢some, one_less, one_listed, one_more, Option, or_cases, Outcome, OwnerName, Owners}
-use proofs.{Ownership, ownership, reach, Refer, refer, refl, refusal_to_read, release_leaves}
-use proofs.{release_owner, ReleaseOwner, Run, session_kept, SessionReply, SessionState, SessionStep}
-use proofs.{Shared, Some, State, subst, sym, true, true≢false, unless, unlisted, ℕ, [], ⊎_elim}
-use proofs.{◌++◌, ◌∙◌, ◌∷◌, ◌≡◌, ◌≢◌, ◌⊎◌}
+use proofs.{one_less, one_listed, one_more, Option, or_cases, Outcome, OwnerName, Owners, Ownership}
+use proofs.{ownership, reach, Refer, refer, refl, refusal_to_read, release_leaves, release_owner}
+use proofs.{ReleaseOwner, Run, session_kept, SessionReply, SessionState, SessionStep, Shared, Some}
+use proofs.{State, subst, sym, true, true≢false, unless, unlisted, ℕ, [], ⊎_elim, ◌++◌, ◌∙◌, ◌∷◌}
+use proofs.{◌≡◌, ◌≢◌, ◌⊎◌}
 use Rattle.std.specs.FinMap as map
 use Rattle.std.specs.FinSet as set
 
@@ -71,21 +72,20 @@ module _ {T : Type 0} where
       two : (o p : OwnerName) (n : Name) → o ≢ p → (x y : Option Ownership)
           → ownership S o ≡ x → ownership S p ≡ y → among (names_in x) n ≡ true
           → among (names_in y) n ≡ false
-      two o p n ne None y is also there = absurd (true≢false (sym there))
+      two o p n ne None y is also there = cc
       two o p n ne (Some h) None is also there = refl
       two o p n ne (Some h) (Some k) is also there = l.apart o p h k n ne is also there
 
   from_lists : {S : State T} → AreApart S → AreListedOnce S
   from_lists a = record {
-    once = λ o h is. subst (λ x. IsDistinct is_name (names_in x)) is (a.once o);
-    apart = λ o p h k n ne is also there. subst (λ x. among (names_in x) n ≡ false) also
-        (a.apart o p n ne (subst (λ x. among (names_in x) n ≡ true) (sym is) there));
+    once = λ o h is. rw is at (a.once o);
+    apart = λ o p h k n ne is also there. rw also at (a.apart o p n ne (rw is there));
   }
 
   pub fresh_listed : (number start next : ℕ) → AreListedOnce (fresh {T = T} number start next)
   fresh_listed number start next = record {
-    once = λ o h is. absurd (none≢some _ h (nobody o) is);
-    apart = λ o p h k n ne is. absurd (none≢some _ h (nobody o) is);
+    once = λ o h is. cc (nobody o);
+    apart = λ o p h k n ne is. cc (nobody o);
   }
     where
       nobody : (o : OwnerName) → ownership (fresh {T = T} number start next) o ≡ None
@@ -121,8 +121,7 @@ module _ {T : Type 0} where
         at None is = same (ap (λ m. names_in (map.get m a.key))
             (get-changed_none by_number owners a.key (one_listed n) is))
         at (Some h) is = more n new
-            (ap names_in (get-changed_here by_number owners a.key (one_listed n) h is)
-            ∙ sym (ap (λ x. names_in x ++ n ∷ []) is))
+            (rw (get-changed_here by_number owners a.key (one_listed n) h is, is))
 
     -- where another record is put in the place of the owner's
     put : (own : Bool) (names : List Name) (h : Ownership) → h.names ≡ names
@@ -168,59 +167,57 @@ module _ {T : Type 0} where
     module _ (o : OwnerName) where
       once_after : Becomes S (names_of S o) (names_of R o) → IsDistinct is_name (names_of R o)
       unfolding IsDistinct
-      once_after (same is) = subst (IsDistinct is_name) (sym is) (a.once o)
-      once_after (none is) = subst (IsDistinct is_name) (sym is) tt
-      once_after (more n new is) = subst (IsDistinct is_name) (sym is)
-          (IsDistinct-push name_equal (names_of S o) n (a.once o) (unlisted_by S s o n new))
+      once_after (same is) = rw is (a.once o)
+      once_after (none is) = rw is tt
+      once_after (more n new is) =
+          rw is (IsDistinct-push name_equal (names_of S o) n (a.once o) (unlisted_by S s o n new))
 
       -- a name of this list, after the call, was in no other; and a name of another isn't in it then
       apart_from : (p : OwnerName) (n : Name) → o ≢ p → Becomes S (names_of S o) (names_of R o)
           → among (names_of R o) n ≡ true → among (names_of S p) n ≡ false
-      apart_from p n ne (same is) there = a.apart o p n ne (sym (ap (λ xs. among xs n) is) ∙ there)
-      apart_from p n ne (none is) there =
-          absurd (true≢false (sym there ∙ ap (λ xs. among xs n) is))
+      apart_from p n ne (same is) there = a.apart o p n ne (rw is at there)
+      apart_from p n ne (none is) there = let none = rw is at there in cc
       apart_from p n ne (more m new is) there = ⊎_elim (a.apart o p n ne)
-          (λ behind. subst (λ x. among (names_of S p) x ≡ false) (sym behind) (unlisted_by S s p m new))
-          (among_pushed (names_of S o) m n (sym (ap (λ xs. among xs n) is) ∙ there))
+          (λ behind. rw behind (unlisted_by S s p m new))
+          (among_pushed (names_of S o) m n (rw is at there))
 
       apart_after : (p : OwnerName) (n : Name) → o ≢ p → Becomes S (names_of S o) (names_of R o)
           → among (names_of S p) n ≡ true → among (names_of R o) n ≡ false
-      apart_after p n ne (same is) there =
-          ap (λ xs. among xs n) is ∙ a.apart p o n (λ e. ne (sym e)) there
-      apart_after p n ne (none is) there = ap (λ xs. among xs n) is
-      apart_after p n ne (more m new is) there = ap (λ xs. among xs n) is
-          ∙ apart_pushed (names_of S o) m n (a.apart p o n (λ e. ne (sym e)) there)
-          (λ e. true≢false (sym there ∙ (ap (among (names_of S p)) e ∙ unlisted_by S s p m new)))
+      apart_after p n ne (same is) there = rw is (a.apart p o n (λ e. ne (sym e)) there)
+      apart_after p n ne (none is) there = rw is
+      apart_after p n ne (more m new is) there = rw is (apart_pushed (names_of S o) m n
+          (a.apart p o n (λ e. ne (sym e)) there)
+          (λ e. let out = unlisted_by S s p m new in let among = rw e at there in cc))
 
       -- where the other lists are what they were
       keeps_apart : ((p : OwnerName) → o ≢ p → names_of R p ≡ names_of S p)
           → Becomes S (names_of S o) (names_of R o) → AreApart R
       keeps_apart others own = record {
-        once = λ p. ⊎_elim (λ e. subst (λ x. IsDistinct is_name (names_of R x)) e (once_after own))
-            (λ ne. subst (IsDistinct is_name) (sym (others p ne)) (a.once p)) (owner_cases o p);
+        once = λ p. ⊎_elim (λ e. rw (← e) (once_after own)) (λ ne. rw (others p ne) (a.once p))
+            (owner_cases o p);
         apart = λ p q n ne there. ⊎_elim
             (λ e. let other : o ≢ q = λ is. ne (sym e ∙ is) in
-            ap (λ xs. among xs n) (others q other) ∙ apart_from q n other own
-            (subst (λ x. among (names_of R x) n ≡ true) (sym e) there))
-            (λ first. let was = sym (ap (λ xs. among xs n) (others p first)) ∙ there in ⊎_elim
-            (λ e. subst (λ x. among (names_of R x) n ≡ false) e (apart_after p n first own was))
-            (λ second. ap (λ xs. among xs n) (others q second) ∙ a.apart p q n ne was)
-            (owner_cases o q)) (owner_cases o p);
+            rw (others q other) (apart_from q n other own (rw e there)))
+            (λ first. let was = rw (others p first) at there in
+            ⊎_elim (λ e. rw (← e) (apart_after p n first own was))
+            (λ second. rw (others q second) (a.apart p q n ne was)) (owner_cases o q))
+            (owner_cases o p);
       }
 
     -- where all lists are
     all_kept : ((o : OwnerName) → names_of R o ≡ names_of S o) → AreApart R
     all_kept still = record {
-      once = λ o. subst (IsDistinct is_name) (sym (still o)) (a.once o);
-      apart = λ o p n ne there. ap (λ xs. among xs n) (still p)
-          ∙ a.apart o p n ne (sym (ap (λ xs. among xs n) (still o)) ∙ there);
+      once = λ o. rw (still o) (a.once o);
+      apart = λ o p n ne there. rw (still p) (a.apart o p n ne (rw (still o) at there));
     }
 
     module _ (call : Action T) (answer : Answer T) (m : Meets S call answer R) where
       -- a call that goes by an owner leaves the lists so, if the machine's outcome does
-      by_owner : (o : OwnerName) → ((p : OwnerName) → o ≢ p → ownership R p ≡ ownership S p)
+      by_owner : (o : OwnerName)
+          → ((p : OwnerName) → o ≢ p → LeavesOwner call p × GivesOtherOwner call answer p)
           → ((f : NewNames) → AreNew S call f → Follows S o (act S call f)) → AreApart R
-      by_owner o others follows = keeps_apart o (λ p ne. ap names_in (others p ne)) (⊎_elim
+      by_owner o others follows = keeps_apart o (λ p ne. ap names_in
+          (keeps_record call answer m p (others p ne).0 (others p ne).1)) (⊎_elim
           (λ refused. same (ap (λ (X : State T). names_of X o) refused.1))
           (λ acts. subst (Follows S o) (sym acts.2) (follows acts.0 acts.1))
           (meets_cases S R call answer m))
@@ -228,24 +225,20 @@ module _ {T : Type 0} where
   calls_apart : {S R : State T} → IsSound S → AreApart S → (call : Action T) (answer : Answer T)
       → Meets S call answer R → AreApart R
   calls_apart {S} {R} s a (Make (Some o) v l) answer m = by_owner S R s a _ answer m o
-      (λ p ne. keeps_record (Make (Some o) v l) answer m p ne tt) (λ f new.
-      by_cond (Follows S o) (is_known S (Some o))
+      (λ p ne. (ne, tt)) (λ f new. by_cond (Follows S o) (is_known S (Some o))
       (λ _. listed S o S.owners (nat_eq o.store S.number) f.first new.ungiven) (λ _. same refl))
   calls_apart {S} {R} s a (MakeShared (Some o) v l) answer m = by_owner S R s a _ answer m o
-      (λ p ne. keeps_record (MakeShared (Some o) v l) answer m p ne tt) (λ f new.
-      by_cond (Follows S o) (is_known S (Some o))
+      (λ p ne. (ne, tt)) (λ f new. by_cond (Follows S o) (is_known S (Some o))
       (λ _. listed S o S.owners (nat_eq o.store S.number) f.second
       (new_fresh S (MakeShared (Some o) v l) f new).1) (λ _. same refl))
   calls_apart {S} {R} s a (Refer (Some o) b) answer m = by_owner S R s a _ answer m o
-      (λ p ne. keeps_record (Refer (Some o) b) answer m p ne tt) (λ f new.
-      by_cond (Follows S o) (is_known S (Some o))
+      (λ p ne. (ne, tt)) (λ f new. by_cond (Follows S o) (is_known S (Some o))
       (λ _. unless_follows S o (refusal_to_read S b) _
       (referred S o b (reach S b) (cell_at S (reach S b)) f.first new.ungiven)) (λ _. same refl))
   calls_apart {S} {R} s a (CloneOwner o) answer m = by_owner S R s a _ answer m o
-      (λ p ne. keeps_record (CloneOwner o) answer m p ne tt) (λ f _. cloned S o (ownership S o) refl)
+      (λ p ne. (ne, tt)) (λ f _. cloned S o (ownership S o) refl)
   calls_apart {S} {R} s a (ReleaseOwner o) answer m = by_owner S R s a _ answer m o
-      (λ p ne. keeps_record (ReleaseOwner o) answer m p ne tt)
-      (λ f _. released S o (ownership S o) refl)
+      (λ p ne. (ne, tt)) (λ f _. released S o (ownership S o) refl)
   calls_apart {S} {R} s a NewOwner answer m = ⊎_elim
       (λ refused. subst AreApart (sym refused.1) a)
       (λ acts. let new : OwnerName = record { store = S.number; key = S.next } in
@@ -287,15 +280,12 @@ module _ {T : Type 0} where
   pub session_listed : (s r : SessionState T) (c : Call T) (x : SessionReply T) → IsSound s.state
       → AreListedOnce s.state → SessionStep s c x r → AreListedOnce r.state
   session_listed s r c x sound l step = (by_step s r c x (λ S. IsSound S × AreListedOnce S)
-      (λ S R action answer h meets. (
-        meets_sound S R action answer h.0 meets,
-        stays_listed action answer h.0 meets h.1,
-      )) step (sound, l)).1
+      (λ S R action answer h meets. let kept = meets_sound S R action answer h.0 meets in
+      (kept, stays_listed action answer h.0 meets h.1)) step (sound, l)).1
 
   pub run_listed : (calls : List (Call T)) (replies : List (SessionReply T)) (s r : SessionState T)
       → IsSoundSession s → AreListedOnce s.state → Run s calls replies r → AreListedOnce r.state
   run_listed calls replies s r kept l run = (by_run
-      (λ s. IsSoundSession s × AreListedOnce s.state) (λ s r c x h step. (
-        session_kept s r c x h.0 step,
-        session_listed s r c x h.0.sound h.1 step,
-      )) calls replies s r (kept, l) run).1
+      (λ s. IsSoundSession s × AreListedOnce s.state) (λ s r c x h step.
+      (session_kept s r c x h.0 step, session_listed s r c x h.0.sound h.1 step))
+      calls replies s r (kept, l) run).1

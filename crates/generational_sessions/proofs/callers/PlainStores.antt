@@ -5,9 +5,8 @@ use Rattle.generational_core.proofs.machine.{Seeing.reaches, Soundness.keep_each
 use proofs.{act_start, Action, add_cell, add_to_list, Answer, ap, by_cond, by_name, Cell, Content}
 use proofs.{false, fresh, GenerationalPointer, get-insert_apart, get-insert_here, Here, is_known}
 use proofs.{is_making, leads_to, Location, Make, MakeShared, Meets, meets_cases, Name, name_cases}
-use proofs.{name_cmp, name_of, NameMap, None, none≢some, Option, Outcome, OwnerName, reach, Ref}
-use proofs.{Refer, refill, refl, same_Some, Shared, Some, State, subst, sym, true≢false, Value, ℕ}
-use proofs.{[], ⊎_elim, ◌∙◌, ◌≡◌}
+use proofs.{name_cmp, name_of, NameMap, None, Option, Outcome, OwnerName, reach, Ref, Refer, refill}
+use proofs.{refl, Some, State, subst, sym, Value, ℕ, [], ⊎_elim, ◌∙◌, ◌≡◌}
 use Rattle.generational_sessions.specs.PlainStores.{IsPlain, MakesNoReference}
 use Rattle.std.specs.FinMap as map
 use Rattle.std.specs.FinSet as set
@@ -21,10 +20,8 @@ module _ {T : Type 0} where
     where
       at : (c : Option (Cell T)) → map.get S.cells (name_of b) ≡ c
           → leads_to c (name_of b) ≡ Some m → m ≡ name_of b
-      at None is e = absurd (none≢some {A = Name} None m refl e)
-      at (Some (Value c l)) is e = sym (same_Some _ _ e)
-      at (Some (Shared c l)) is e = absurd (none≢some {A = Name} None m refl e)
       at (Some (Ref n l)) is e = absurd (plain.none (name_of b) n l is)
+      at _ is e = cc
 
   -- so boxes that reach the same have one name
   pub reach_apart : (S : State T) → IsPlain S → (a b : GenerationalPointer) (m : Name)
@@ -39,22 +36,21 @@ module _ {T : Type 0} where
 
   pub fresh_plain : (number start next : ℕ) → IsPlain (fresh {T = T} number start next)
   fresh_plain number start next = record {
-    none = λ n m l is. none≢some _ (Ref m l) (map.get-empty name_cmp n) is;
+    none = λ n m l is. cc (map.get-empty name_cmp n);
   }
 
   inserted_plain : (cells : NameMap (Cell T)) (k : Name) (c : Content T) (l : Location)
       → ((n : Name) → IsNoRef (map.get cells n))
       → (n : Name) → IsNoRef (map.get (map.insert cells k (Value c l)) n)
   inserted_plain cells k c l plain n m j is = ⊎_elim
-      (λ same. let here = sym (get-insert_here by_name cells k (Value c l))
-      ∙ (ap (map.get (map.insert cells k (Value c l))) (sym same) ∙ is) in absurd cc)
-      (λ ne. plain n m j (sym (get-insert_apart by_name cells k (Value c l) n ne) ∙ is))
+      (λ same. cc (get-insert_here by_name cells k (Value c l)))
+      (λ ne. plain n m j (rw (get-insert_apart by_name cells k (Value c l) n ne) at is))
       (name_cases n k)
 
   made_plain : {S R : State T} (o : Option OwnerName) (v : T) (l : Location) (answer : Answer T)
       → Meets S (Make o v l) answer R → IsPlain S → IsPlain R
   made_plain {S} {R} o v l answer m plain = ⊎_elim
-      (λ refused. subst IsPlain (sym refused.1) plain)
+      (λ refused. rw refused.1 plain)
       (λ acts. subst (λ (out : Outcome T). IsPlain out.1) (sym acts.2)
       (by_cond (λ (out : Outcome T). IsPlain out.1) (is_known S o)
       (λ _. listed o acts.0.first (record {
@@ -70,17 +66,15 @@ module _ {T : Type 0} where
 
   refilled : (d : Content T) (c : Cell T) (m : Name) (l : Location)
       → IsNoRef (Some c) → Some (refill d c) ≡ Some (Ref m l) → ⊥
-  refilled d (Value k j) m l plain is = absurd cc
-  refilled d (Shared k j) m l plain is = absurd cc
   refilled d (Ref n j) m l plain is = plain n j refl
+  refilled d _ m l plain is = cc
 
   kept_plain : {S R : State T} (call : Action T) (answer : Answer T) → Meets S call answer R
       → is_making call ≡ false → IsPlain S → IsPlain R
   kept_plain {S} {R} call answer meets other plain = record {
     none = λ n. keep_each (meets_follows S R call answer meets) n (λ x y. IsNoRef x → IsNoRef y)
-        (λ x h. h) (λ free h m l is. none≢some _ (Ref m l) refl is)
-        (λ new is quiet h. absurd (true≢false
-        (sym is ∙ (ap (λ names. set.contains names n) given ∙ new))))
+        (λ x h. h) (λ free h m l is. cc)
+        (λ new is quiet h. cc (ap (λ names. set.contains names n) given))
         (λ k c here law had has h m l is. refilled (new_content S k) c m l h is)
         (λ m j l h. absurd (h m l refl)) (plain.none n);
   }

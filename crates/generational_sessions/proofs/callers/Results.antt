@@ -2,7 +2,7 @@
 use Rattle.std.{proofs.lemmas.Result.IfOk-at_ok, specs.Result.IsErrAnd, specs.Result.result_ok}
 use Rattle.std.specs.Prelude.{IfErr, IfNone, IfOk, IfSome, OnErr, OnSome}
 use Rattle.generational_sessions.proofs.{ap, Err, None, none-some, Ok, OnOk, Option, Result}
-use Rattle.generational_sessions.proofs.{same_Some, Some, subst, sym, ◌∙◌, ◌≡◌}
+use Rattle.generational_sessions.proofs.{same_Some, Some, sym, ◌∙◌, ◌≡◌}
 
 module _ {X : Type 0} where
   -- where `?` goes on, the value is that of the result
@@ -35,13 +35,13 @@ module _ {X : Type 0} where
   -- what follows of the option into which a result was made
   pub some_so : {E : Type 0} {P Q : X → Type 0} (r : Result X E) (o : Option X) → o ≡ result_ok r
       → ((x : X) → P x → Q x) → IfOk r P → IfSome o Q
-  some_so {P = P} {Q = Q} (Ok y) o is so p = subst (λ s. IfSome s Q) (sym is) (so y p)
-  some_so {P = P} {Q = Q} (Err e) o is so p = subst (λ s. IfSome s Q) (sym is) tt
+  some_so {P = P} {Q = Q} (Ok y) o is so p = rw is (so y p)
+  some_so {P = P} {Q = Q} (Err e) o is so p = rw is tt
 
   pub none_so : {E : Type 0} (Q : Type 0) (r : Result X E) (o : Option X) → o ≡ result_ok r
       → OnErr r Q → IfNone o Q
-  none_so Q (Ok y) o is q = subst (λ s. IfNone s Q) (sym is) tt
-  none_so Q (Err e) o is q = subst (λ s. IfNone s Q) (sym is) q
+  none_so Q (Ok y) o is q = rw is tt
+  none_so Q (Err e) o is q = rw is q
 
   -- an option that has a known value, and one whose value is known to be what something has
   pub has : (r : Option X) (v : X) → r ≡ Some v → IfSome r (λ s. s ≡ v)

@@ -3,9 +3,9 @@ use Rattle.generational_sessions.proofs
 use Rattle.std.specs.Prelude.{slice_index_or}
 use proofs.{Answer, ap, arith, can_write, Done, End, free_sees, GenerationalBox}
 use proofs.{GenerationalPointer, IsSound, keeps, keeps_free, length, Location, Made, made}
-use proofs.{made_apart, made_free, Make, map-append, map-set, Meets, None, none-some, Ok, Option}
-use proofs.{OwnerName, pointer_of, reach, refl, refusal_to_write, same_Some, slice_set, Some, State}
-use proofs.{subst, suc, sym, true, value_in, zero, ℕ, [], ◌++◌, ◌+◌, ◌<◌, ◌∙◌, ◌∷◌, ◌≡◌}
+use proofs.{made_apart, made_free, Make, map-append, map-set, Meets, None, Ok, Option, OwnerName}
+use proofs.{pointer_of, reach, refl, refusal_to_write, same_Some, slice_set, Some, State, subst}
+use proofs.{suc, sym, true, value_in, zero, ℕ, [], ◌++◌, ◌+◌, ◌<◌, ◌∙◌, ◌∷◌, ◌≡◌}
 use Rattle.generational_sessions.specs.BoxRows.{AreApart, AreKept, EachBox, HasOtherName, IsFree}
 use Rattle.generational_sessions.specs.BoxRows.{Rows, shown_in, values_in}
 
@@ -36,12 +36,10 @@ module _ {T : Type 0} where
 
   pub each_at : (P : GenerationalPointer → Type 0) (rows : Rows T) (row : ℕ) (a : GenerationalBox T)
       → EachBox P rows → slice_index_or rows row None ≡ Some a → P (pointer_of a)
-  each_at P [] row a all is = absurd (none-some a is)
-  each_at P (None ∷ rows) zero a all is = absurd (none-some a is)
-  each_at P (Some b ∷ rows) zero a all is =
-      let same = same_Some b a is in subst (λ x. P (pointer_of x)) same all.0
+  each_at P (Some b ∷ rows) zero a all is = rw (same_Some b a is) at all.0
   each_at P (None ∷ rows) (suc row) a all is = each_at P rows row a all is
   each_at P (Some b ∷ rows) (suc row) a all is = each_at P rows row a all.1 is
+  each_at P rows row a all is = cc
 
   -- ---- names
 
@@ -69,11 +67,9 @@ module _ {T : Type 0} where
   others : (rows : Rows T) (row : ℕ) (a : GenerationalBox T) → AreApart rows
       → slice_index_or rows row None ≡ Some a
       → EachBox (HasOtherName (pointer_of a)) (slice_set rows row None)
-  others [] row a apart is = absurd (none-some a is)
-  others (None ∷ rows) zero a apart is = absurd (none-some a is)
-  others (Some b ∷ rows) zero a apart is =
-      let same = same_Some b a is in
-      subst (λ x. EachBox (HasOtherName (pointer_of x)) rows) same apart.0
+  others [] row a apart is = tt
+  others (None ∷ rows) zero a apart is = cc
+  others (Some b ∷ rows) zero a apart is = rw (same_Some b a is) at apart.0
   others (None ∷ rows) (suc row) a apart is = others rows row a apart is
   others (Some b ∷ rows) (suc row) a apart is = (
     λ e. each_at (HasOtherName (pointer_of b)) rows row a apart.0 is (sym e),
@@ -99,7 +95,7 @@ module _ {T : Type 0} where
   -- the row of a box is one of the rows
   pub within : (rows : Rows T) (row : ℕ) (a : GenerationalBox T)
       → slice_index_or rows row None ≡ Some a → row < length rows
-  within [] row a is = absurd (none-some a is)
+  within [] row a is = cc
   within (r ∷ rows) zero a is = omega arith
   within (r ∷ rows) (suc row) a is = omega (arith, within rows row a is)
 

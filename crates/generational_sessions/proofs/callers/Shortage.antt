@@ -11,14 +11,14 @@ use proofs.{box_of, by_cond, by_name, by_number, can_read, can_write, Cell, cond
 use proofs.{content_at, end_refused, eqb-true, false, free, free_reads, GenerationalBox}
 use proofs.{GenerationalPointer, get-insert_apart, get-insert_here, given_other, Here, inl, inr}
 use proofs.{is_free, is_none, is_shared, is_some, IsGiven, IsSound, keep_view, keeps_free}
-use proofs.{key_cases, last_name, last_ticket, lasts_insert, leaves, Lent, limit_tickets, Location}
-use proofs.{Made, Make, MakeShared, may_lack, Meets, meets_cases, meets_sound, Name, name_of}
-use proofs.{nat_cmp, nat_cmp_total, nat_eq, nat_lt, needs_memory, new_fresh, NewNames, no_names}
-use proofs.{None, none≢some, not, NumbersExhausted, Ok, Option, Outcome, OutOfMemory, OwnerName}
-use proofs.{pointer_of, reach, Read, Reads, Ref, ref_reaches, Refer, refer, referred_together, refl}
-use proofs.{refusal_to_read, refusal_to_write, Refused, rests, rests_free, Shared, slots_of, Some}
-use proofs.{State, StoreError, subst, sym, takes_ticket, true, true≢false, unwrap_or, Write}
-use proofs.{write_refusal, Writes, ℕ, [], ⊎_elim, ◌&&◌, ◌+◌, ◌<◌, ◌∙◌, ◌∷◌, ◌≡◌, ◌≢◌, ◌≤◌}
+use proofs.{key_cases, last_name, last_ticket, lasts_insert, leaves, limit_tickets, Location, Made}
+use proofs.{Make, MakeShared, may_lack, Meets, meets_cases, meets_sound, Name, name_of, nat_cmp}
+use proofs.{nat_cmp_total, nat_eq, nat_lt, needs_memory, new_fresh, NewNames, no_names, None, not}
+use proofs.{NumbersExhausted, Ok, Option, Outcome, OutOfMemory, OwnerName, pointer_of, reach, Read}
+use proofs.{Reads, Ref, ref_reaches, Refer, refer, referred_together, refl, refusal_to_read}
+use proofs.{refusal_to_write, Refused, rests, rests_free, Shared, slots_of, Some, State, StoreError}
+use proofs.{subst, sym, takes_ticket, true, true≢false, unwrap_or, Write, write_refusal, Writes, ℕ}
+use proofs.{[], ⊎_elim, ◌&&◌, ◌+◌, ◌<◌, ◌∙◌, ◌≡◌, ◌≢◌, ◌≤◌}
 use proofs.callers.Lacking.{first_reader, next_stays}
 use Rattle.generational_sessions.specs.Lacking.{IsReference, IsShort, IsShortage}
 use Rattle.std.specs.FinMap as map
@@ -28,7 +28,7 @@ use Rattle.generational_errors.specs.declared.error.Refused.TheVariants as refus
 
 none_there : {A : Type 0} (o : Option A) → is_none o ≡ true → o ≡ None
 none_there None h = refl
-none_there (Some x) h = absurd (true≢false (sym h))
+none_there (Some x) h = cc
 
 -- a map with one more entry, or another one, has one key more at most
 one_longer : {X : Type 0} (m : map.FinMap nat_cmp X) (k : ℕ) (v : X)
@@ -74,7 +74,7 @@ module _ {T : Type 0} where
           ap is_some (get-insert_apart by_number left n.slot 0 s ne)
           ∙ kept_key by_number (slots_of R) (is_free R) s
           (ap is_some slot ∙ (sym (ap is_some kept.0) ∙ h)) (still ∙ kept.1))
-          (λ gone. absurd (true≢false (sym h ∙ ap is_some gone.0)))
+          (λ gone. cc (ap is_some gone.0))
           (keep_view by_number (slots_of S) (is_free S) s)
 
   -- ---- makings by no owner
@@ -98,15 +98,13 @@ module _ {T : Type 0} where
         → (e ≡ OutOfMemory) × (free S ≡ 0)
     unfolding may_lack
     make_short v l e (inr m) = (cc, eqb-true (free S) 0 m.0)
-    make_short v l e (inl m) =
-        absurd (true≢false (sym (ap (λ (out : Outcome T). is_box out.0) m.2)))
+    make_short v l e (inl m) = let box = ap (λ (out : Outcome T). is_box out.0) m.2 in cc
 
     pub share_short : (v : T) (l : Location) (e : StoreError)
         → Meets S (MakeShared None v l) (Refused e) R → (e ≡ OutOfMemory) × (free S < 2)
     unfolding may_lack
     share_short v l e (inr m) = (cc, ltb-true (free S) 2 m.0)
-    share_short v l e (inl m) =
-        absurd (true≢false (sym (ap (λ (out : Outcome T). is_box out.0) m.2)))
+    share_short v l e (inl m) = let box = ap (λ (out : Outcome T). is_box out.0) m.2 in cc
 
   -- a shared value takes two slots at most and no ticket; its box is that of a reference to a new
   -- cell
@@ -152,16 +150,15 @@ module _ {T : Type 0} where
       let was = leaves S R (MakeShared None v l) (Made b) s m c tt
       (given_other S R (MakeShared None v l) (Made b) c m given) in
       let reached = sym was.reached ∙ (sym same ∙ to.0) in
-      true≢false (sym (s.given it.reference.shared (reached_live S c it.reference.shared s reached))
-      ∙ it.new)
+      let old = s.given it.reference.shared (reached_live S c it.reference.shared s reached) in
+      cc (it.new)
 
   -- ---- a reference, where no writer has the value
 
   shared_cell : (x : Option (Cell T)) → is_shared x ≡ true
       → (c : Content T) × (l : Location) × (x ≡ Some (Shared c l))
   shared_cell (Some (Shared c l)) h = (c, l, refl)
-  shared_cell None h = absurd (true≢false (sym h))
-  shared_cell (Some _) h = absurd (true≢false (sym h))
+  shared_cell _ h = cc
 
   -- the machine gives a box of one
   refers : (S : State T) (b : GenerationalPointer) → IsSound S → IsReference S b
@@ -173,12 +170,12 @@ module _ {T : Type 0} where
 
   limited : (S : State T) (out : Outcome T) → is_box out.0 ≡ true → limit_tickets S out ≡ out
   limited S (Made b, R) h = refl
-  limited S (_, R) h = absurd (true≢false (sym h))
+  limited S (_, R) h = cc
 
   reference_needs : (S : State T) (b : GenerationalPointer) (answer : Answer T) → is_box answer ≡ true
       → needs_memory S answer (Refer None b) ≡ nat_eq (free S) 0
   reference_needs S b (Made c) h = refl
-  reference_needs S b _ h = absurd (true≢false (sym h))
+  reference_needs S b _ h = cc
 
   pub refer_short : {S R : State T} (b : GenerationalPointer) (e : error.Refused BorrowError)
       → IsSound S → IsReference S b → can_read S b ≡ true
@@ -210,9 +207,7 @@ module _ {T : Type 0} where
   here_alone : (c : Option (Content T)) → is_some c ≡ true → write_refusal c ≡ None
       → (v : T) × (c ≡ Some (Here v []))
   here_alone (Some (Here v [])) there alone = (v, refl)
-  here_alone (Some (Here v (r ∷ rs))) there alone = absurd (none≢some _ _ alone refl)
-  here_alone (Some (Lent w)) there alone = absurd (none≢some _ _ alone refl)
-  here_alone None there alone = absurd (true≢false (sym there))
+  here_alone _ there alone = cc
 
   -- the machine begins one
   reads : (S : State T) (b : GenerationalPointer) (l : Location) → IsSound S → can_write S b ≡ true
@@ -233,7 +228,7 @@ module _ {T : Type 0} where
   loan_short : {S R : State T} (call : Action T) (answer : Answer T) → is_loan answer ≡ false
       → ((f : NewNames) → is_loan (act S call f).0 ≡ true) → may_lack S call ≡ false
       → Meets S call answer R → (answer ≡ Refused NumbersExhausted) × (S.next ≡ last_ticket)
-  loan_short call answer other goes never (inr m) = absurd (true≢false (sym m.0 ∙ never))
+  loan_short call answer other goes never (inr m) = cc
   loan_short {S} {R} call answer other goes never (inl m) =
       at (takes_ticket (act S call m.0).0 && nat_eq S.next last_ticket) refl m.2
     where
@@ -244,8 +239,7 @@ module _ {T : Type 0} where
         ap (λ (out : Outcome T). out.0) told,
         eqb-true S.next last_ticket (and_parts _ _ both).1,
       )
-      at false both told = absurd (true≢false
-          (sym (ap (λ (out : Outcome T). is_loan out.0) told ∙ goes m.0) ∙ other))
+      at false both told = cc (ap (λ (out : Outcome T). is_loan out.0) told, goes m.0)
 
   -- a write where no borrow stands needs no memory
   loan_needs : (S : State T) (b : GenerationalPointer) (l : Location) (out : Outcome T)
@@ -256,7 +250,7 @@ module _ {T : Type 0} where
   loan_needs S b l (Writes g v, R) h = by_cond
       (λ (out : Outcome T). needs_memory S out.0 (Write b l) ≡ false)
       (nat_eq S.next last_ticket) (λ _. refl) (λ _. refl)
-  loan_needs S b l (_, R) h = absurd (true≢false (sym h))
+  loan_needs S b l (_, R) h = cc
 
   module _ {S R : State T} (b : GenerationalPointer) (l : Location) (s : IsSound S)
       (alone : can_write S b ≡ true) where
@@ -326,5 +320,4 @@ module _ {T : Type 0} where
   pub short_refusal : {E : Type 0} (S : State T) (slots tickets : ℕ) (e : error.Refused E)
       (cause : StoreError) → e ≡ refused.Store cause → IsShort S slots tickets cause
       → IsShortage S slots tickets e
-  short_refusal S slots tickets e cause is short =
-      subst (λ x. IsShortage S slots tickets x) (sym is) short
+  short_refusal S slots tickets e cause is short = rw is short

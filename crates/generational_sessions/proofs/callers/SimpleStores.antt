@@ -1,32 +1,17 @@
 -- What a table or a tree keeps of its store, after each of its calls: no borrow, no reference, and
 -- slots that are bounded.
-use Rattle.std.proofs.Common.{◌≡◌, ℕ, Bool, true, false, Option, None, Some, [], refl, sym, ap, subst}
-use Rattle.std.proofs.Common.{◌∙◌, ⊎_elim}
-use Rattle.std.proofs.lemmas.Bool.{true≢false}
-use Rattle.std.specs.Prelude.{is_some}
+use Rattle.generational_sessions.proofs
+use proofs.{Action, add_cell, Answer, ap, Bool, can_write, false, free_sees, fresh, fresh_bounded}
+use proofs.{GenerationalPointer, Here, is_some, IsSound, Location, Made, Make, Meets, meets_bounded}
+use proofs.{meets_cases, meets_sound, Name, name_of, None, Old, Option, Outcome, reach, refl, Some}
+use proofs.{State, subst, sym, true, true≢false, unseen, Value, value_in, ℕ, [], ⊎_elim, ◌∙◌, ◌≡◌}
 use Rattle.std.specs.FinMap as map
-use Rattle.generational_core.specs.Borrowing.{can_write, reach}
-use Rattle.generational_core.specs.Boxes.{name_of}
-use Rattle.generational_core.specs.Cells.Cell.{Value}
-use Rattle.generational_core.specs.Cells.Content.{Here}
-use Rattle.generational_core.specs.Conditions.{fresh}
 use Rattle.generational_core.specs.Leaving.{BeginsNoBorrow, IsUnborrowed}
-use Rattle.generational_core.specs.Machine.{Action, Answer, Outcome, add_cell}
-use Rattle.generational_core.specs.Machine.Action.{Make, SetValue}
-use Rattle.generational_core.specs.Machine.Answer.{Made, Old}
-use Rattle.generational_core.specs.Names.{Name}
-use Rattle.generational_core.specs.Seeing.{value_in}
+use Rattle.generational_core.specs.Machine.Action.{SetValue}
 use Rattle.generational_core.specs.Slots.{Fits}
-use Rattle.generational_core.specs.State.{State, IsSound}
-use Rattle.generational_core.specs.Steps.{Meets}
-use Rattle.generational_core.specs.declared.boxes.GenerationalPointer.{GenerationalPointer}
-use Rattle.generational_errors.specs.declared.error.Location.{Location}
-use Rattle.generational_core.proofs.machine.Bounding.{fresh_bounded, meets_bounded}
-use Rattle.generational_core.proofs.machine.Calling.{unseen}
 use Rattle.generational_core.proofs.machine.Leaving.{same_reach}
-use Rattle.generational_core.proofs.machine.Resting.{free_sees}
-use Rattle.generational_core.proofs.machine.Stepping.{meets_cases, meets_sound}
-use Rattle.generational_core.proofs.machine.Unborrowed.{quiet_free, quiet_fresh, quiet_sees, quiet_stays}
+use Rattle.generational_core.proofs.machine.Unborrowed.{quiet_free, quiet_fresh, quiet_sees}
+use Rattle.generational_core.proofs.machine.Unborrowed.{quiet_stays}
 use Rattle.generational_sessions.specs.PlainStores.{IsSimple, MakesNoReference}
 use Rattle.generational_sessions.proofs.callers.Ids.{IsSeen, seen_cell}
 use Rattle.generational_sessions.proofs.callers.PlainStores.{fresh_plain, stays_plain}
@@ -70,8 +55,7 @@ module _ {T : Type 0} where
     where
       at : (v : Option T) → value_in S b ≡ v → value_in S b ≡ None
       at None e = e
-      at (Some v) e = absurd (true≢false
-          (sym (ap is_some e) ∙ (sym (quiet_sees S k.unborrowed b s) ∙ (sym is ∙ cannot))))
+      at (Some v) e = cc (ap is_some e, quiet_sees S k.unborrowed b s)
 
   -- and what a box reaches does
   pub reached_alike : (S R : State T) (b : GenerationalPointer) → IsSound S → IsSound R

@@ -1,22 +1,11 @@
 -- Which ticket comes next: a new owner uses one, and the other calls of owners and sets use none.
-use Rattle.std.proofs.Common.{◌≡◌, Option, None, Some, [], refl, sym, ap, ◌∙◌, ⊎_elim}
-use Rattle.std.proofs.lemmas.Bool.{true≢false}
-use Rattle.std.specs.Prelude.{◌+◌, nat_lt}
-use Rattle.generational_core.specs.Borrowing.{BorrowRefusal, reach}
-use Rattle.generational_core.specs.Cells.{Content, content_of}
-use Rattle.generational_core.specs.Cells.Content.{Here}
-use Rattle.generational_core.specs.Ending.{hindrance_to}
-use Rattle.generational_core.specs.Machine.{Answer, Outcome, OwnerName, cell_at, is_known, ownership}
-use Rattle.generational_core.specs.Machine.{release_owner, set_at, unless}
-use Rattle.generational_core.specs.Machine.Action.{Make, NewOwner, ReleaseOwner, SetValue}
-use Rattle.generational_core.specs.Machine.Answer.{Owned}
-use Rattle.generational_core.specs.Names.{Name}
-use Rattle.generational_core.specs.State.{Ownership, State}
-use Rattle.generational_core.specs.Steps.{Meets}
-use Rattle.generational_core.specs.declared.boxes.GenerationalPointer.{GenerationalPointer}
-use Rattle.generational_errors.specs.declared.error.Location.{Location}
-use Rattle.generational_core.proofs.machine.Ends.{by_cond}
-use Rattle.generational_core.proofs.machine.Stepping.{meets_cases}
+use Rattle.generational_sessions.proofs
+use proofs.{Answer, ap, BorrowRefusal, by_cond, cell_at, Content, content_of, GenerationalPointer}
+use proofs.{Here, hindrance_to, is_known, Location, Make, Meets, meets_cases, Name, nat_lt}
+use proofs.{NewOwner, None, Option, Outcome, Owned, OwnerName, Ownership, ownership, reach, refl}
+use proofs.{release_owner, ReleaseOwner, set_at, Some, State, sym, true≢false, unless, [], ⊎_elim}
+use proofs.{◌+◌, ◌∙◌, ◌≡◌}
+use Rattle.generational_core.specs.Machine.Action.{SetValue}
 
 module _ {T : Type 0} (S R : State T) where
   -- a new owner uses one, and these calls use none

@@ -1,18 +1,19 @@
 -- A call is answered alike where one state carries another, and the states after it carry again.
 use Rattle.generational_sessions.proofs.sessions
-use sessions.{◌≡◌, eq_by_cmp, cond-true, content_at, has_reader, has_writer, KnowsNewNames, rename_box}
-use sessions.{ℕ, UnknownOwner, refusal_to_read, hindrance_to, CarriesCells, shift_borrow, rename_new_names}
-use sessions.{◌+◌, ◌-◌, ◌≤◌, ◌∷◌, Some, refl, Name, Cell, Here, Lent, fill, make, Done, Flag, Back}
-use sessions.{Bool, Location, leads_to, can_read, is_known, add_cell, write_at, own_cell, by_number}
-use sessions.{true, cond, ◌&&◌, List, ◌++◌, None, State, reach, close, NewNames, refer, point, Owned}
-use sessions.{false, subst, arith, Value, Shared, Owners, box_of, Action, Answer, unless, set_at}
-use sessions.{[], sym, ap, ◌∙◌, inl, inr, max, not, ◌⊎◌, Ref, act}
-use sessions.{Option, ⊎_elim, nat_eq, nat_lt, filter, eq-eqb, Outcome, read_at, Refused, Carries}
-use sessions.{unwrap_or, nat_cmp_total, refusal_to_write, set_ownership, release_owner, rename_content}
-use sessions.{is_some, has_same_id, take_ticket, add_to_list, clone_owner, next_borrow, KnowsAnswer}
-use sessions.{option_map, true≢false, cases_Bool, map-append, content_of, shift_owner, rename_cell}
-use sessions.{list_map, AllByRecursion, GenerationalPointer, rename_ownership, contains-insert_name}
-use sessions.{nat_cmp, NameMap, Content, name_of, BorrowRefusal, Dropped, BorrowRefused, KnowsBox, key_same}
+use sessions.{one_listed, ◌≡◌, eq_by_cmp, cond-true, content_at, has_reader, has_writer}
+use sessions.{KnowsNewNames, rename_box, ℕ, UnknownOwner, refusal_to_read, hindrance_to}
+use sessions.{CarriesCells, shift_borrow, rename_new_names, ◌+◌, ◌-◌, ◌≤◌, ◌∷◌, Some, refl, Name}
+use sessions.{Cell, Here, Lent, fill, make, Done, Flag, Back, Bool, Location, leads_to, can_read}
+use sessions.{is_known, add_cell, write_at, own_cell, by_number, true, cond, ◌&&◌, List, ◌++◌, None}
+use sessions.{State, reach, close, NewNames, refer, point, Owned, false, subst, arith, Value}
+use sessions.{Shared, Owners, box_of, Action, Answer, unless, set_at, [], sym, ap, ◌∙◌, inl, inr}
+use sessions.{max, not, ◌⊎◌, Ref, act, Option, ⊎_elim, nat_eq, nat_lt, filter, eq-eqb, Outcome}
+use sessions.{read_at, Refused, Carries, unwrap_or, nat_cmp_total, refusal_to_write, set_ownership}
+use sessions.{release_owner, rename_content, is_none, is_some, has_same_id, take_ticket}
+use sessions.{add_to_list, clone_owner, next_borrow, KnowsAnswer, option_map, cases_Bool}
+use sessions.{map-append, content_of, shift_owner, rename_cell, list_map, AllByRecursion}
+use sessions.{GenerationalPointer, rename_ownership, contains-insert_name, nat_cmp, NameMap}
+use sessions.{Content, name_of, BorrowRefusal, Dropped, BorrowRefused, KnowsBox, key_same}
 use sessions.{nat_eq_equiv, location_of, remove_reader, rename_action, rename_answer, changed_there}
 use sessions.{eqb-true, cond_both, Ownership, can_write, OwnerName, ownership, KnowsCall, name_test}
 use Rattle.generational_sessions.proofs.carrying.CarriedCells
@@ -41,20 +42,20 @@ pub same_box_moved : (f : Name → Name) (d : ℕ) {Knows : Name → Type 0}
     (number : ℕ) (a b : GenerationalPointer) → KnowsBox Knows number a → KnowsBox Knows number b
     → has_same_id (rename_box f d number a) (rename_box f d number b) ≡ has_same_id a b
 same_box_moved f d apart number a b ka kb =
-    let own_a = box_of number (f (name_of a)) a.created_at in
-    let own_b = box_of number (f (name_of b)) b.created_at in
-    cond_both _ own_a a (λ x. has_same_id x (rename_box f d number b) ≡ has_same_id a b)
-    (λ own. let e = eqb-true a.id.store number own in
-    cond_both _ own_b b (λ y. has_same_id own_a y ≡ has_same_id a b)
-    (λ mine. let h = eqb-true b.id.store number mine in
-    let names = sym (name_test (f (name_of a)) (f (name_of b))) ∙ (same_test apart (name_of a)
-    (name_of b) (ka own) (kb mine) ∙ name_test (name_of a) (name_of b)) in
-    λ i. nat_eq (sym e i) (sym h i) && names i)
-    (λ strange. let other = nat_eq_equiv.symm number b.id.store ∙ strange in
-    let apart = ap (λ n. nat_eq n b.id.store) e ∙ other in rw (other, apart) refl))
-    (λ strange. cond_both _ own_b b (λ y. has_same_id a y ≡ has_same_id a b)
-    (λ mine. let apart = ap (nat_eq a.id.store) (eqb-true b.id.store number mine) ∙ strange in
-    rw (strange, apart) refl) (λ _. refl))
+    at (nat_eq a.id.store number) (nat_eq b.id.store number) refl refl
+  where
+    at : (own mine : Bool) → nat_eq a.id.store number ≡ own → nat_eq b.id.store number ≡ mine
+        → has_same_id (cond own (box_of number (f (name_of a)) a.created_at) a)
+        (cond mine (box_of number (f (name_of b)) b.created_at) b) ≡ has_same_id a b
+    at true true own mine =
+        rw (eqb-true a.id.store number own, eqb-true b.id.store number mine)
+        (ap (λ same. nat_eq number number && same) (sym (name_test (f (name_of a)) (f (name_of b)))
+        ∙ (same_test apart (name_of a) (name_of b) (ka own) (kb mine)
+        ∙ name_test (name_of a) (name_of b))))
+    at true false own other =
+        rw (eqb-true a.id.store number own, nat_eq_equiv.symm number b.id.store ∙ other)
+    at false true other mine = rw (eqb-true b.id.store number mine, other)
+    at false false _ _ = refl
 
 module _ {T U : Type 0} {f : Name → Name} {d : ℕ} {g : T → U}
     {Knows : Name → Type 0} {S : State U} {A : State T} (c : Carries f d g Knows S A) where
@@ -93,14 +94,13 @@ module _ {T U : Type 0} {f : Name → Name} {d : ℕ} {g : T → U}
   -- two outcomes by the same test, and by the same refusal
   if_alike : {b e : Bool} {x y : Outcome U} {v w : Outcome T}
       → b ≡ e → (e ≡ true → Alike x v) → Alike y w → Alike (cond b x y) (cond e v w)
-  if_alike {e = e} {x = x} {y = y} {v = v} {w = w} is h k =
-      rw is ((elim e as (λ e. (e ≡ true → Alike x v) → Alike (cond e x y) (cond e v w))
-      [ true ↦ λ h. h refl | false ↦ λ h. k ]) h)
+  if_alike {e = true} is h k = rw is (h refl)
+  if_alike {e = false} is h k = rw is k
 
   unless_alike : {t u : Option BorrowRefusal} {x : Outcome U} {v : Outcome T}
       → t ≡ u → Alike x v → Alike (unless t S x) (unless u A v)
-  unless_alike {u = u} {x = x} {v = v} e h = rw e (elim u as
-      (λ u. Alike (unless u S x) (unless u A v)) [ None ↦ h | Some t ↦ stays (BorrowRefused t) refl tt ])
+  unless_alike {u = None} e h = rw e h
+  unless_alike {u = Some t} e h = rw e (stays (BorrowRefused t) refl tt)
 
   -- what is of this store has its number in both states, and what is of another in neither
   own_number : nat_eq A.number S.number ≡ true
@@ -159,8 +159,8 @@ module _ {T U : Type 0} {f : Name → Name} {d : ℕ} {g : T → U}
 
   -- a ticket more in both
   next_moved : Carries f d g Knows (take_ticket S) (take_ticket A)
-  next_moved = let next : S.next + 1 ≡ A.next + 1 + d = (let e = c.next in omega arith) in
-      assumption (next, c)
+  next_moved =
+      let next : S.next + 1 ≡ A.next + 1 + d = omega (arith, c.next) in assumption (next, c)
 
   -- another content in a known cell
   with_content : (n : Name) (x : Content U) (y : Content T)
@@ -201,11 +201,11 @@ module _ {T U : Type 0} {f : Name → Name} {d : ℕ} {g : T → U}
         (cond_map (option_map owner_record) (eq_by_cmp nat_cmp q key) h (map.get A.owners q));
     keys = λ q live. cond_both (eq_by_cmp nat_cmp q (key + d)) _ _ (λ o. is_some o ≡ true → d ≤ q)
         (λ e _. let is = key_same by_number q (key + d) e in omega arith) (λ _. c.keys q)
-        (sym (ap is_some (s q)) ∙ live);
+        (rw (s q) at live);
     listed = λ q x is. cond_both (eq_by_cmp nat_cmp q key) h (map.get A.owners q)
         (λ o. o ≡ Some x → AllByRecursion Knows x.names)
         (λ _ e. subst (λ o. IfThere o (λ (h : Ownership). AllByRecursion Knows h.names)) e k)
-        (λ _. c.listed q x) (sym (a q) ∙ is);
+        (λ _. c.listed q x) (rw (a q) at is);
   }
 
   record_put : (key : ℕ) (h : Ownership) → AllByRecursion Knows h.names
@@ -220,16 +220,14 @@ module _ {T U : Type 0} {f : Name → Name} {d : ℕ} {g : T → U}
   listed_alike None n live k = (c, refl)
   listed_alike (Some o) n live k = (
     by_owner o (λ x y z. is_some z ≡ true → Carries f d g Knows (add_to_list S (Some x) (f n))
-        (add_to_list A (Some o) n)) (λ x e. absurd (true≢false (sym e))) (λ h is _ _.
-        let mine = changed_there by_number A.owners o.key (grow n) h is in let other = changed_there
-        by_number S.owners (o.key + d) (grow (f n)) (owner_record h) (c.owners o.key
-        ∙ ap (option_map owner_record) is) in rw (mine, other, sym (map-append f h.names (n ∷ [])))
-        (record_put o.key (grow n h) (all_push Knows h.names n (c.listed o.key h is) k))) live,
+        (add_to_list A (Some o) n)) (λ x e. cc) (λ h is _ _.
+        let mine = changed_there by_number A.owners o.key (one_listed n) h is in
+        let other = changed_there by_number S.owners (o.key + d) (one_listed (f n)) (owner_record h)
+        (rw (c.owners o.key, is)) in rw (mine, other, ← map-append f h.names (n ∷ []))
+        (record_put o.key (one_listed n h)
+        (all_push Knows h.names n (c.listed o.key h is) k))) live,
     refl,
   )
-    where
-      grow : Name → Ownership → Ownership
-      grow m h = record h { names = h.names ++ m ∷ [] }
 
   -- known names end, and are hindered alike
   end_names : (names : List Name) → AllByRecursion Knows names
@@ -245,8 +243,7 @@ module _ {T U : Type 0} {f : Name → Name} {d : ℕ} {g : T → U}
   -- a box whose value is gone is told its own location in both
   drop_alike : (b : GenerationalPointer)
       → Alike (BorrowRefused (Dropped (box b).created_at), S) (BorrowRefused (Dropped b.created_at), A)
-  drop_alike b = stays (BorrowRefused (Dropped b.created_at))
-      (ap (λ l. BorrowRefused (Dropped l)) (created_moved b)) tt
+  drop_alike b = stays (BorrowRefused (Dropped b.created_at)) (rw (created_moved b)) tt
 
   end_alike : (names : List Name) → AllByRecursion Knows names
       → Alike (unless (hindrance_to S (list_map f names)) S (Done, close S (list_map f names)))
@@ -332,22 +329,14 @@ module _ {T U : Type 0} {f : Name → Name} {d : ℕ} {g : T → U}
   pub read_moved : (b : GenerationalPointer) → KnowsBox Knows A.number b
       → can_read S (rename_box f d A.number b) ≡ can_read A b
   unfolding refusal_to_read
-  read_moved b k = ⊎_elim (λ e. rw (e.0, e.1) refl) (λ e. rw (
-    e.2,
-    e.3,
-    content_there c e.0 e.1,
-    (refusals_moved f d g (content_at A e.0)).0,
-  ) refl) (reach_cases c b k)
+  read_moved b k = ⊎_elim (λ e. rw (e.0, e.1)) (λ e. rw (e.2, e.3, content_there c e.0 e.1)
+      (ap is_none (refusals_moved f d g (content_at A e.0)).0)) (reach_cases c b k)
 
   pub write_moved : (b : GenerationalPointer) → KnowsBox Knows A.number b
       → can_write S (rename_box f d A.number b) ≡ can_write A b
   unfolding refusal_to_write
-  write_moved b k = ⊎_elim (λ e. rw (e.0, e.1) refl) (λ e. rw (
-    e.2,
-    e.3,
-    content_there c e.0 e.1,
-    (refusals_moved f d g (content_at A e.0)).1,
-  ) refl) (reach_cases c b k)
+  write_moved b k = ⊎_elim (λ e. rw (e.0, e.1)) (λ e. rw (e.2, e.3, content_there c e.0 e.1)
+      (ap is_none (refusals_moved f d g (content_at A e.0)).1)) (reach_cases c b k)
 
   -- each call of a carried state matches the call of the state that carries it
   pub act_matched : (call : Action T) (new : NewNames)
@@ -406,7 +395,5 @@ module _ {T U : Type 0} {f : Name → Name} {d : ℕ} {g : T → U}
       (⊎_elim (λ e. rw (e.0, e.1) (drop_alike c b)) (λ e. rw (e.2, e.3, c.cells.at e.0 e.1)
       (unless_alike c ((cell_moved f d g (map.get A.cells e.0)).3)
       (point_alike c a b e.0 (map.get A.cells e.0) k.0 e.1))) (reach_cases c b k.1))
-  act_matched (Action.CanRead b) new k kn =
-      rw (read_moved b k) (stays c (Flag (can_read A b)) refl tt)
-  act_matched (Action.CanWrite b) new k kn =
-      rw (write_moved b k) (stays c (Flag (can_write A b)) refl tt)
+  act_matched (Action.CanRead b) new k kn = stays c (Flag _) (ap Flag (read_moved b k)) tt
+  act_matched (Action.CanWrite b) new k kn = stays c (Flag _) (ap Flag (write_moved b k)) tt

@@ -1,15 +1,15 @@
 -- What is asked of cells that are carried is answered alike, and what is done to them is carried.
 use Rattle.generational_sessions.proofs.sessions
 use sessions.{◌≡◌, location_of, cells_after, hindrance_at, hindrance_of, CarriesCells, shift_borrow}
-use sessions.{ℕ, [], sym, ap, ◌∙◌, inl, inr, ◌+◌, ◌≤◌, ◌⊎◌, Ref, Here, Lent}
-use sessions.{Bool, change_if, is_shared, take_away, name_total, keys_apart, named_from, true≢false}
-use sessions.{true, cond, ◌||◌, List, ◌∷◌, None, Some, refl, false, Name, among, Cell, Value, sweep}
-use sessions.{not, is_some, is_name, NameMap, Content, BorrowRefusal, by_name, nat_cmp, or_left, cases_eq}
-use sessions.{Option, ⊎_elim, arith, length, nat_eq, filter, change, refill, Shared, eq-eqb, Borrow}
-use sessions.{subst, Location, name_cmp, is_named, get-keep, key_here, len_keys, eqb-true, or_right}
+use sessions.{◌≢◌, ℕ, [], sym, ap, ◌∙◌, inl, inr, ◌+◌, ◌≤◌, ◌⊎◌, Ref, Here, Lent, Bool, change_if}
+use sessions.{is_shared, take_away, name_total, keys_apart, named_from, true, cond, ◌||◌, List, ◌∷◌}
+use sessions.{None, Some, refl, false, Name, among, Cell, Value, sweep, not, is_some, is_name}
+use sessions.{NameMap, Content, BorrowRefusal, by_name, nat_cmp, or_left, cases_eq, Option, ⊎_elim}
+use sessions.{arith, length, nat_eq, filter, change, refill, Shared, eq-eqb, Borrow, subst}
+use sessions.{Location, name_cmp, is_named, get-keep, key_here, len_keys, eqb-true, or_right}
 use sessions.{option_map, IsDistinct, content_of, rename_cell, name_cases, name_apart, named_gives}
-use sessions.{list_map, list_any, name_here, keep_view, none≢some, some_live, eq_by_cmp, cond-true}
-use sessions.{both_ways, unsigned_tied, AllByRecursion, write_refusal, read_refusal, rename_content}
+use sessions.{list_map, list_any, name_here, keep_view, some_live, eq_by_cmp, cond-true, both_ways}
+use sessions.{unsigned_tied, AllByRecursion, write_refusal, read_refusal, rename_content}
 use sessions.{first_hindrance, get-insert_name, get-insert_here, get-insert_apart, get-remove_apart}
 use Rattle.std.specs.FinMap as map
 
@@ -64,15 +64,13 @@ module _ {T U : Type 0} (f : Name → Name) (d : ℕ) (g : T → U) where
       → filter (λ r. not (nat_eq r.ticket (t + d))) (list_map (shift_borrow f d) readers)
       ≡ list_map (shift_borrow f d) (filter (λ r. not (nat_eq r.ticket t)) readers)
   others_moved [] t = refl
-  others_moved (r ∷ readers) t = let rest = filter (λ r. not (nat_eq r.ticket t)) readers in
-      (λ i. cond (not (ticket_moved d r.ticket t i))
-      (shift_borrow f d r ∷ others_moved readers t i) (others_moved readers t i))
-      ∙ cond_map (list_map (shift_borrow f d)) (not (nat_eq r.ticket t)) (r ∷ rest) rest
+  others_moved (r ∷ readers) t = rw (ticket_moved d r.ticket t, others_moved readers t)
+      (cond_map (list_map (shift_borrow f d)) (not (nat_eq r.ticket t)) _ _)
 
   -- a Ref comes from a Ref
   pub was_ref : (o : Option (Cell T)) (n : Name) (l : Location) → option_map
       (rename_cell f d g) o ≡ Some (Ref n l) → (m : Name) × (o ≡ Some (Ref m l)) × (f m ≡ n)
-  was_ref (Some (Ref m k)) n l h = (m, (let e : k ≡ l = cc in ap (λ x. Some (Ref m x)) e), cc)
+  was_ref (Some (Ref m k)) n l h = (m, cc, cc)
   was_ref _ n l h = cc
 
 not_among : (n : Name) (names : List Name) → AllByRecursion
@@ -95,16 +93,13 @@ no_larger {Y = Y} R one S A h = let apart = keys_apart name_cmp S in
     go [] A d h = omega arith
     go (n ∷ names) A d h =
         let it = h n (or_left _ _ (key_here by_name n)) in
-        let le = go names (map.remove A it.0) d.1 (λ q e. let k = h q (or_right _ _ e) in (
-          k.0,
-          k.1,
-          ap is_some (get-remove_apart by_name A it.0 k.0 (λ is. true≢false
-              (sym (subst (λ x. list_any (eq_by_cmp name_cmp x) names ≡ true)
-              (one q n it.0 (subst (R q) is k.1) it.1) e) ∙ not_among n names d.0))) ∙ k.2,
-        )) in let fewer = map.len-remove name_total A it.0 ∙ cond-true _ _ _ it.2 in let some : 1 ≤
-        map.len A = ⊎_elim (λ e. absurd (true≢false (sym it.2 ∙ (ap (λ m. is_some (map.get m it.0))
-        (map.empty_of_len A e) ∙ ap is_some (map.get-empty name_cmp it.0)))))
-        (λ ne. omega arith) (cases_eq (map.len A) 0) in omega arith
+        let le = go names (map.remove A it.0) d.1 (λ q e. let k = h q (or_right _ _ e) in
+        let other : k.0 ≢ it.0 = λ is. let same = one q n it.0 (rw is at k.1) it.1 in
+        let among = rw same at e in let out = not_among n names d.0 in cc in
+        (k.0, k.1, rw (get-remove_apart by_name A it.0 k.0 other) k.2)) in
+        let fewer = map.len-remove name_total A it.0 ∙ cond-true _ _ _ it.2 in
+        ⊎_elim (λ e. let live = rw (map.empty_of_len A e) at it.2 in
+        cc (map.get-empty name_cmp it.0)) (λ ne. omega arith) (cases_eq (map.len A) 0)
 
 -- P of what is there
 abbrev pub IfThere : {A : Type 0} → Option A → (A → Type 0) → Type 0
@@ -124,8 +119,7 @@ known_target _ leads = tt
 -- what is there after a cut was there before it
 kept_cell : {X : Type 0} (m : NameMap X) (p : Name → Bool) (n : Name) (x : X)
     → map.get (map.retain_keys m p) n ≡ Some x → map.get m n ≡ Some x
-kept_cell m p n x h = ⊎_elim (λ e. sym e.0 ∙ h)
-    (λ e. absurd (none≢some _ x e.0 h)) (keep_view by_name m p n)
+kept_cell m p n x h = ⊎_elim (λ e. sym e.0 ∙ h) (λ e. cc) (keep_view by_name m p n)
 
 kept_live : {X : Type 0} (m : NameMap X) (p : Name → Bool) (n : Name)
     → is_some (map.get (map.retain_keys m p) n) ≡ true → is_some (map.get m n) ≡ true
@@ -135,11 +129,8 @@ kept_live m p n h = let it = some_live _ h in ap is_some (kept_cell m p n it.0 i
 insert_view : {X : Type 0} (m : NameMap X) (n : Name) (x : X) (q : Name)
     → ((q ≡ n) × (map.get (map.insert m n x) q ≡ Some x))
     ⊎ (map.get (map.insert m n x) q ≡ map.get m q)
-insert_view m n x q = ⊎_elim (λ is. inl (
-  is,
-  ap (map.get (map.insert m n x)) is ∙ get-insert_here
-      by_name m n x,
-)) (λ ne. inr (get-insert_apart by_name m n x q ne)) (name_cases q n)
+insert_view m n x q = ⊎_elim (λ is. inl (is, rw is (get-insert_here by_name m n x)))
+    (λ ne. inr (get-insert_apart by_name m n x q ne)) (name_cases q n)
 
 module _ {f : Name → Name} {Knows : Name → Type 0}
     (apart : (j k : Name) → Knows j → Knows k → f j ≡ f k → j ≡ k) where
@@ -166,8 +157,7 @@ module _ {T U : Type 0} {f : Name → Name} {d : ℕ} {g : T → U} {Knows : Nam
     pub same_size : map.len S ≡ map.len A
     same_size =
         let less = no_larger (λ q k. f k ≡ q) (λ p q k a b. sym a ∙ b) S A (λ q live.
-        let it = c.from q live in
-        (it.0, it.2, sym (live_at it.0 it.1) ∙ (ap (λ n. is_some (map.get S n)) it.2 ∙ live))) in
+        let it = c.from q live in (it.0, it.2, rw (← live_at it.0 it.1, it.2) live)) in
         let more = no_larger (λ k q. Knows k × (f k ≡ q))
         (λ j k q a b. apart j k a.0 b.0 (a.1 ∙ sym b.1)) A S (λ k live.
         let kk = c.known k live in (f k, (kk, refl), live_at k kk ∙ live)) in omega arith
@@ -176,16 +166,12 @@ module _ {T U : Type 0} {f : Name → Name} {d : ℕ} {g : T → U} {Knows : Nam
     shared_at k kk = ap is_shared (c.at k kk) ∙ (cell_moved f d g (map.get A k)).1
 
     pub named_moved : (m : Name) → Knows m → is_named S (f m) ≡ is_named A m
-    named_moved m km = both_ways (is_named S (f m)) (is_named A m) (λ h. let it = named_gives S
-        (f m) h in let k = c.from it.0 (ap is_some it.2) in let was = was_ref f d g (map.get A k.0)
-        (f m) it.1 (sym (c.at k.0 k.1) ∙ (ap (map.get S) k.2 ∙ it.2)) in let same = apart
-        was.0 m (c.leads k.0 was.0 it.1 was.1) km was.2 in named_from A m (
-          k.0,
-          it.1,
-          was.1
-              ∙ ap (λ x. Some (Ref x it.1)) same,
-        )) (λ h. let it = named_gives A m h in named_from S (f m)
-        (f it.0, it.1, c.at it.0 (c.known it.0 (ap is_some it.2)) ∙ ap (option_map cell) it.2))
+    named_moved m km = both_ways (is_named S (f m)) (is_named A m) (λ h.
+        let it = named_gives S (f m) h in let k = c.from it.0 (ap is_some it.2) in
+        let was = was_ref f d g (map.get A k.0) (f m) it.1 (rw (← c.at k.0 k.1, k.2) it.2) in
+        let same = apart was.0 m (c.leads k.0 was.0 it.1 was.1) km was.2 in
+        named_from A m (k.0, it.1, rw same at was.1)) (λ h. let it = named_gives A m h in
+        named_from S (f m) (f it.0, it.1, rw (c.at it.0 (c.known it.0 (ap is_some it.2)), it.2)))
 
     cells_keep : (p q : Name → Bool) → ((k : Name) → Knows k → p (f k) ≡ q k)
         → CarriesCells f d g Knows (map.retain_keys S p) (map.retain_keys A q)
@@ -214,12 +200,13 @@ module _ {T U : Type 0} {f : Name → Name} {d : ℕ} {g : T → U} {Knows : Nam
       at = λ k kk. let after = get-insert_name S (f n) (cell x) (f k) in
           rw (after, get-insert_name A n x k, same_test apart k n kk kn, c.at k kk)
           (cond_map (option_map cell) (is_name k n) (Some x) (map.get A k));
-      from = λ q h. ⊎_elim (λ e. (n, kn, sym e.0))
-          (λ e. c.from q (sym (ap is_some e) ∙ h)) (insert_view S (f n) (cell x) q);
-      known = λ k h. ⊎_elim (λ e. subst Knows (sym e.0) kn)
-          (λ e. c.known k (sym (ap is_some e) ∙ h)) (insert_view A n x k);
-      leads = λ k m l h. ⊎_elim (λ e. subst (λ o. IfThere o (KnowsTarget Knows))
-          (sym e.1 ∙ h) target) (λ e. c.leads k m l (sym e ∙ h)) (insert_view A n x k);
+      from = λ q h. ⊎_elim
+          (λ e. (n, kn, sym e.0)) (λ e. c.from q (rw e at h)) (insert_view S (f n) (cell x) q);
+      known = λ k h. ⊎_elim
+          (λ e. rw e.0 kn) (λ e. c.known k (rw e at h)) (insert_view A n x k);
+      leads = λ k m l h. ⊎_elim
+          (λ e. subst (λ o. IfThere o (KnowsTarget Knows)) (sym e.1 ∙ h) target)
+          (λ e. c.leads k m l (rw e at h)) (insert_view A n x k);
     }
 
     -- another content in a known cell

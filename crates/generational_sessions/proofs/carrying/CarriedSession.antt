@@ -1,21 +1,21 @@
 -- Sessions that carry others: calls come to the same, ids aside, and new names are numbered behind
 -- the old ones.
 use Rattle.generational_sessions.proofs.sessions
-use sessions.{zero, AllByRecursion, list_any-append, rename_action, CarriesSession, AreNumbersBelow}
-use sessions.{Bool, is_name, name_of, Outcome, Request, release, replace, Reading, Writing, Nothing}
-use sessions.{true, subst, arith, BoxAt, Place, Names, among, Guard, settle, Owning, NoSuch, number}
-use sessions.{false, get_or_append_left, GenerationalPointer, rename_ownership, contains-insert_old}
-use sessions.{cond, ◌||◌, List, ◌++◌, None, Some, refl, gives, spend, Boxed, Tells, Swaps, erase}
-use sessions.{length, Option, ⊎_elim, ◌≡◌, nat_eq, box_of, Action, Answer, box_in, Created, by_name}
-use sessions.{◌≢◌, suc, ◌+◌, ◌∷◌, sym, ◌∙◌, ap, Call, Name, Cell, ask, Held, swap, Asks, Yes}
-use sessions.{ℕ, KnowsGuard, rename_box, owner_held, with_owner, refusal_in, name_total, name_cases}
-use sessions.{[], cases_lt, Location, NewOwner, KnowsBox, at_place, KnowsHeld, AreListed, name_here}
-use sessions.{is_some, length_push, get_or_push, list_any_at, KnowsAnswer, shift_owner, rename_cell}
-use sessions.{option_map, true≢false, cond-false, map-append, pointer_of, CloneOwner, rename_held}
-use sessions.{slice_set, list_map, cond_both, Ownership, OwnerName, LeakOwner, KnowsCall, add_place}
-use sessions.{or_comm, map-set, Foreign, box_held, owner_in, with_box, if_ready, reply_of, named_by}
+use sessions.{not_there, zero, AllByRecursion, list_any-append, rename_action, CarriesSession}
+use sessions.{AreNumbersBelow, Bool, is_name, name_of, Outcome, Request, release, replace, Reading}
+use sessions.{Writing, Nothing, true, arith, BoxAt, Place, Names, among, Guard, settle, Owning}
+use sessions.{NoSuch, number, false, get_or_append_left, GenerationalPointer, rename_ownership}
+use sessions.{contains-insert_old, cond, ◌||◌, List, ◌++◌, None, Some, refl, gives, spend, Boxed}
+use sessions.{Tells, Swaps, erase, length, Option, ⊎_elim, ◌≡◌, nat_eq, box_of, Action, Answer}
+use sessions.{box_in, by_name, ◌≢◌, suc, ◌+◌, ◌∷◌, sym, ◌∙◌, ap, Call, Name, Cell, ask, Held, swap}
+use sessions.{Asks, ℕ, KnowsGuard, rename_box, owner_held, with_owner, refusal_in, name_total}
+use sessions.{name_cases, [], cases_lt, Location, KnowsBox, at_place, KnowsHeld, AreListed}
+use sessions.{name_here, length_push, get_or_push, list_any_at, KnowsAnswer, shift_owner}
+use sessions.{rename_cell, option_map, true≢false, map-append, pointer_of, rename_held, slice_set}
+use sessions.{list_map, cond_both, Ownership, OwnerName, KnowsCall, add_place, or_comm, map-set}
+use sessions.{Foreign, box_held, owner_in, with_box, if_ready, reply_of, named_by}
 use sessions.{false_from_ne_true, contains-insert_here, contains-insert_apart, contains-insert_name}
-use sessions.{ReleaseOwner, rename_answer, rename_guard, SessionState, SessionReply, IsNumberBelow}
+use sessions.{rename_answer, rename_guard, SessionState, SessionReply, IsNumberBelow}
 use Rattle.generational_sessions.proofs.carrying.CarriedCalls
 use CarriedCalls.{Matched, same_box_moved, all_push, created_moved, read_moved, write_moved}
 use Rattle.std.specs.FinMap as map
@@ -25,7 +25,7 @@ use Rattle.generational_sessions.specs.declared.calls.Call.TheVariants as call
 -- what the calls of two sessions come to
 pub data AskedAlike {T : Type 0} (f : Name → Name)
     (d : ℕ) (Knows : Name → Type 0) (number : ℕ) : Request T → Request T → Type 0 where
-  both_ask : (x : Action T) → KnowsCall Knows number x
+  both_ask : {x : Action T} → KnowsCall Knows number x
       → AskedAlike f d Knows number (Asks (rename_action f d (λ (v : T). v) number x)) (Asks x)
   both_tell : (x y : SessionReply T)
       → erase x ≡ erase y → refusal_in x ≡ None → AskedAlike f d Knows number (Tells x) (Tells y)
@@ -69,9 +69,7 @@ module _ {T : Type 0} (f : Name → Name) (d : ℕ) (Knows : Name → Type 0) (s
   tables_give : (t u : List (Held T)) (answer : Answer T) → Tables t u → KnowsAnswer
       Knows store answer → Tables (t ++ gives (rename_reply answer) ∷ []) (u ++ gives answer ∷ [])
   tables_give t u (Answer.Made b) h k = tables_push t u (Boxed b) h k
-  tables_give t u (Answer.Reads g) h k = tables_push t u (Reading g) h k
-  tables_give t u (Answer.Writes g v) h k = tables_push t u (Writing g v) h k
-  tables_give t u answer h k = tables_push t u (gives answer) h tt
+  tables_give t u answer h k = tables_push t u (gives answer) h k
 
   tables_spend : (t u : List (Held T)) (x : Call T) (answer : Answer T)
       → Tables t u → Tables (spend x (rename_reply answer) t) (spend x answer u)
@@ -107,8 +105,7 @@ module _ {T : Type 0} {f : Name → Name} {d : ℕ} {Knows : Name → Type 0} {s
     where
       at : (u : List (Held T)) (p : ℕ) → AllByRecursion (KnowsHeld Knows store) u
           → Alike (x (at_place (list_map (rename_held f d store) u) p)) (y (at_place u p))
-      at [] zero k = alike Nothing tt
-      at [] (suc p) k = alike Nothing tt
+      at [] p k = alike Nothing tt
       at (h ∷ u) zero k = alike h k.0
       at (h ∷ u) (suc p) k = at u p k.1
 
@@ -117,29 +114,22 @@ module _ {T : Type 0} {f : Name → Name} {d : ℕ} {Knows : Name → Type 0} {s
       → ((b : GenerationalPointer) → KnowsBox Knows store b
       → Alike (x (rename_box f d store b)) (y b))
       → Alike (with_box (box_in s b) back x) (with_box (box_in a b) back y)
-  with_box_alike (Place p) back x y alike = place_alike (λ h. with_box (box_held h) back x) _ at p
-    where
-      at : (h : Held T) → KnowsHeld Knows store h → Alike
-          (with_box (box_held (rename_held f d store h)) back x) (with_box (box_held h) back y)
-      at (Boxed b) k = alike b k
-      at _ k = no_such back
+  with_box_alike (Place p) back x y alike = place_alike
+      (λ h. with_box (box_held h) back x) (λ h. with_box (box_held h) back y)
+      (elim [ Boxed b ↦ alike b | _ ↦ λ k. no_such back ]) p
   with_box_alike (Foreign foreign) back x y alike =
       let b = pointer_of foreign in let own = nat_eq b.id.store store in
-      rw c.state.number (cond_both own None
-      (Some b) (λ o. Alike (with_box o back x) (with_box o back y)) (λ _. no_such back) (λ e. subst
-      (λ z. Alike (x z) (y b)) (cond-false own (box_of store (f (name_of b)) b.created_at) b e)
-      (alike b (λ k. absurd (true≢false (sym k ∙ e))))))
+      rw c.state.number (cond_both own None (Some b)
+      (λ o. Alike (with_box o back x) (with_box o back y)) (λ _. no_such back)
+      (λ e. rw e at (alike b (λ k. cc))))
 
   -- a call of an owner
   with_owner_alike : (p : ℕ) (back : Option T) (x y : OwnerName → Request T)
       → ((o : OwnerName) → Alike (x (shift_owner f d store o)) (y o))
       → Alike (with_owner (owner_in s p) back x) (with_owner (owner_in a p) back y)
-  with_owner_alike p back x y alike = place_alike (λ h. with_owner (owner_held h) back x) _ at p
-    where
-      at : (h : Held T) → KnowsHeld Knows store h → Alike (with_owner
-          (owner_held (rename_held f d store h)) back x) (with_owner (owner_held h) back y)
-      at (Owning o) k = alike o
-      at _ k = no_such back
+  with_owner_alike p back x y alike = place_alike
+      (λ h. with_owner (owner_held h) back x) (λ h. with_owner (owner_held h) back y)
+      (elim [ Owning o ↦ λ k. alike o | _ ↦ λ k. no_such back ]) p
 
   -- a call with a condition, where it holds in both or in none
   ready_alike : {p q : Bool} (back : Option T) (x y : Request T)
@@ -147,56 +137,22 @@ module _ {T : Type 0} {f : Name → Name} {d : ℕ} {Knows : Name → Type 0} {s
   ready_alike {q = true} back x y same alike = rw same alike
   ready_alike {q = false} back x y same alike = rw same (both_tell _ _ refl refl)
 
-  released_alike : (h : Held T)
-      → KnowsHeld Knows store h → Alike (release (rename_held f d store h)) (release h)
-  released_alike (Reading g) k = both_ask (Action.ReleaseReader g) k
-  released_alike (Writing g v) k = both_ask (Action.ReleaseWriter g v) k
-  released_alike _ k = no_such None
+  asks_alike : {x y : Action T} → y ≡ rename_action f d (λ (v : T). v) store x
+      → KnowsCall Knows store x → Alike (Asks y) (Asks x)
+  asks_alike same k = rw same (both_ask k)
 
-  replaced_alike : (p : ℕ) (v : T) (h : Held T)
-      → KnowsHeld Knows store h → Alike (replace p (rename_held f d store h) v) (replace p h v)
-  replaced_alike p v (Writing g old) k = both_swap p g v old k
-  replaced_alike p v _ k = no_such (Some v)
+  -- what is asked of a box is answered as before, so calls come to the same
+  ruleset moves = (read_moved, write_moved, created_moved, same_box_moved)
+
+  ruleset alike = (with_box_alike, with_owner_alike, ready_alike, asks_alike, both_tell, moves)
 
   -- each call comes to the same
   pub asked_alike : (x : Call T) → Alike (ask s x) (ask a x)
-  asked_alike (call.Leak v l) = both_ask (Action.Make None v l) tt
-  asked_alike (call.LeakRc v l) = both_ask (Action.MakeShared None v l) tt
-  asked_alike (call.LeakReference b) =
-      with_box_alike b None _ _ (λ b k. both_ask (Action.Refer None b) k)
-  asked_alike (call.Insert p v l) =
-      with_owner_alike p (Some v) _ _ (λ o. both_ask (Action.Make (Some o) v l) tt)
-  asked_alike (call.InsertRc p v l) =
-      with_owner_alike p (Some v) _ _ (λ o. both_ask (Action.MakeShared (Some o) v l) tt)
-  asked_alike (call.InsertReference p b) = with_owner_alike p None _ _
-      (λ o. with_box_alike b None _ _ (λ b k. both_ask (Action.Refer (Some o) b) k))
-  asked_alike call.Owner = both_ask NewOwner tt
-  asked_alike (call.CloneOwner p) = with_owner_alike p None _ _ (λ o. both_ask (CloneOwner o) tt)
-  asked_alike (call.ReleaseOwner p) =
-      with_owner_alike p None _ _ (λ o. both_ask (ReleaseOwner o) tt)
-  asked_alike (call.LeakOwner p) = with_owner_alike p None _ _ (λ o. both_ask (LeakOwner o) tt)
-  asked_alike (call.TryRead b l) = with_box_alike b None _ _ (λ b k. both_ask (Action.Read b l) k)
-  asked_alike (call.TryWrite b l) = with_box_alike b None _ _ (λ b k. both_ask (Action.Write b l) k)
-  asked_alike (call.Read b l) = with_box_alike b None _ _ (λ b k. ready_alike None _ _
-      (read_moved c.state b k) (both_ask (Action.Read b l) k))
-  asked_alike (call.Write b l) = with_box_alike b None _ _ (λ b k. ready_alike None _ _
-      (write_moved c.state b k) (both_ask (Action.Write b l) k))
-  asked_alike (call.Set b v) = with_box_alike b (Some v) _ _ (λ b k. ready_alike (Some v) _ _
-      (write_moved c.state b k) (both_ask (Action.SetValue b v) k))
-  asked_alike (call.CanRead b) = with_box_alike b None _ _ (λ b k. both_ask (Action.CanRead b) k)
-  asked_alike (call.CanWrite b) = with_box_alike b None _ _ (λ b k. both_ask (Action.CanWrite b) k)
-  asked_alike (call.Replace p v) =
-      place_alike (λ h. replace p h v) (λ h. replace p h v) (replaced_alike p v) p
-  asked_alike (call.Release p) = place_alike release release released_alike p
-  asked_alike (call.ManuallyDrop b) = with_box_alike b None _ _ (λ b k. both_ask (Action.End b) k)
-  asked_alike (call.PointTo a b) = with_box_alike a None _ _
-      (λ a h. with_box_alike b None _ _ (λ b k. both_ask (Action.Point a b) (h, k)))
-  asked_alike (call.PtrEq b e) = with_box_alike b None _ _ (λ b k. with_box_alike e None _ _
-      (λ e h. both_tell _ _ (ap Yes (same_box_moved f d c.state.apart store b e k h)) refl))
-  asked_alike (call.Id b) = with_box_alike b None _ _ (λ b k. both_tell _ _ refl refl)
-  asked_alike (call.RawPtr b) = with_box_alike b None _ _ (λ b k. both_tell _ _ refl refl)
-  asked_alike (call.CreatedAt b) = with_box_alike b None _ _
-      (λ b k. both_tell _ _ (ap Created (created_moved c.state b)) refl)
+  asked_alike (call.Replace p v) = place_alike (λ h. replace p h v) (λ h. replace p h v)
+      (elim [ Writing g old ↦ both_swap p g v old | _ ↦ λ k. no_such (Some v) ]) p
+  asked_alike (call.Release p) = place_alike release release
+      (elim [ Reading g ↦ both_ask | Writing g v ↦ both_ask | _ ↦ λ k. no_such None ]) p
+  asked_alike _ = search alike
 
   -- ---- after a call
 
@@ -270,32 +226,18 @@ module _ (f h : Name → Name) (d n : ℕ) (Knows More : Name → Type 0)
 -- ---- one more name
 
 module _ (order : List Name) (y : Name) {n : ℕ} (is : n ≡ length order) where
-  -- what holds of the numbers below n and of n holds of those below the next one
-  each : (P : Name → Type 0) → ((k : Name) → IsNumberBelow (length order) k → P k)
-      → P (number n) → (k : Name) → IsNumberBelow (length (order ++ y ∷ [])) k → P k
-  each P old last k b = ⊎_elim (λ lt. old k (b.0, lt))
-      (λ ge. let at : k.slot ≡ n = (let lt = b.1 in let long = length_push order y in
-      omega arith) in subst P (λ i. record { slot = sym at i; generation = sym b.0 i }) last)
-      (cases_lt k.slot (length order))
-
   -- the names before keep their numbers, and the last number stands for the new name
   pub older : (k : Name) → IsNumberBelow (length order) k
       → (named_by (order ++ y ∷ []) k ≡ named_by order k)
       × IsNumberBelow (length (order ++ y ∷ [])) k
-  older k b = (
-    get_or_append_left order (y ∷ []) k k.slot b.1,
-    (b.0, let lt = b.1 in let long = length_push order y in omega arith),
-  )
+  older k b =
+      (get_or_append_left order (y ∷ []) k k.slot b.1, (b.0, omega (arith, length_push order y)))
 
   pub back : named_by (order ++ y ∷ []) (number n) ≡ y
   back = get_or_push order y (number n) n (sym is)
 
   pub last_known : IsNumberBelow (length (order ++ y ∷ [])) (number n)
-  last_known = (refl, let long = length_push order y in omega arith)
-
-not_there : {X : Type 0} (o : Option X) → (is_some o ≡ true → ⊥) → o ≡ None
-not_there None h = refl
-not_there (Some x) h = absurd (h refl)
+  last_known = (refl, omega (arith, length_push order y))
 
 -- a list carries one session into another; its names are those given, and some not given yet
 pub record Reserves {T : Type 0} (s a : SessionState T)
@@ -321,8 +263,15 @@ module _ {T : Type 0} {s a : SessionState T} {d : ℕ} {order : List Name} {give
       ∙ list_any_at (is_name (named_by order k)) order k.slot k b.1 (name_here (named_by order k)))
       ∙ (ap (set.contains given_s) e ∙ new))
 
+  -- a number below the next one is below n, or n
+  by_last : {X : Type 0} (k : Name) → IsNumberBelow (length (order ++ y ∷ [])) k
+      → (IsBelow k → X) → (k ≡ number n → X) → X
+  by_last k b old last = ⊎_elim (λ lt. old (b.0, lt)) (λ ge.
+      let at : k.slot ≡ n = omega (arith, length_push order y) in
+      last (λ i. record { slot = at i; generation = b.0 i })) (cases_lt k.slot (length order))
+
   not_below : IsBelow (number n) → ⊥
-  not_below b = let low = b.1 in absurd (omega arith)
+  not_below b = omega arith
 
   -- a name more, which was never given, at the end of the list
   pub reserve : Reserves s a d
@@ -347,22 +296,17 @@ module _ {T : Type 0} {s a : SessionState T} {d : ℕ} {order : List Name} {give
             next = c.next;
             peak = c.peak;
             cells = record {
-              at = each order y is
-                  (λ k. map.get s.state.cells (renamed k) ≡ moved (map.get a.state.cells k))
-                  (λ k b. ap (map.get s.state.cells) (old k b).0
-                  ∙ (c.cells.at k b ∙ sym (cell_agrees (named_by order) renamed d n IsBelow _
-                  old (map.get a.state.cells k) (c.cells.leads k))))
-                  (ap (map.get s.state.cells) last ∙ (unborn_s ∙ sym (ap moved unborn_a)));
+              at = λ k b. by_last k b (λ lt. rw ((old k lt).0, c.cells.at k lt)
+                  (sym (cell_agrees (named_by order) renamed d n IsBelow _ old
+                  (map.get a.state.cells k) (c.cells.leads k))))
+                  (λ e. rw (e, last, unborn_s, unborn_a));
               from = λ m e. let it = c.cells.from m e in
                   (it.0, (old it.0 it.1).1, (old it.0 it.1).0 ∙ it.2);
               known = λ k e. (old k (c.cells.known k e)).1;
               leads = λ k m l e. (old m (c.cells.leads k m l e)).1;
             };
-            given = each order y is
-                (λ k. set.contains s.state.given (renamed k) ≡ set.contains a.state.given k)
-                (λ k b. ap (set.contains s.state.given) (old k b).0 ∙ c.given k b)
-                (ap (set.contains s.state.given) last ∙ (false_from_ne_true _
-                (λ e. true≢false (sym (r.more_s y e) ∙ new))
+            given = λ k b. by_last k b (λ lt. rw (old k lt).0 (c.given k lt))
+                (λ e. rw (e, last) (false_from_ne_true _ (λ e. let more = r.more_s y e in cc)
                 ∙ sym (false_from_ne_true _
                 (λ e. not_below (r.numbers.only (number n) (r.more_a (number n) e))))));
             owners = λ key. c.owners key ∙ sym (holding_agrees (named_by order) renamed d n
@@ -370,12 +314,12 @@ module _ {T : Type 0} {s a : SessionState T} {d : ℕ} {order : List Name} {give
             keys = c.keys;
             listed = λ key x e. (all_agree IsBelow _ renamed (named_by order)
                 old x.names (c.listed key x e)).1;
-            apart = λ j k bj bk. each order y is (λ j. renamed j ≡ renamed k → j ≡ k)
-                (λ j bj. each order y is (λ k. renamed j ≡ renamed k → j ≡ k)
-                (λ k bk e. c.apart j k bj bk (sym (old j bj).0 ∙ (e ∙ (old k bk).0)))
-                (λ e. absurd (other j bj (sym (old j bj).0 ∙ (e ∙ last)))) k bk) (each order y is
-                (λ k. renamed (number n) ≡ renamed k → number n ≡ k) (λ k bk e. absurd
-                (other k bk (sym (old k bk).0 ∙ (sym e ∙ last)))) (λ e. refl) k bk) j bj;
+            apart = λ j k bj bk e. by_last j bj (λ lj. by_last k bk
+                (λ lk. c.apart j k lj lk (rw ((old j lj).0, (old k lk).0) at e))
+                (λ at. absurd (other j lj (rw ((old j lj).0, at, last) at e))))
+                (λ here. by_last k bk
+                (λ lk. absurd (other k lk (sym (rw (here, last, (old k lk).0) at e))))
+                (λ at. here ∙ sym at));
           };
           table = r.carries.table ∙ sym held.0;
           known = held.1;
@@ -390,12 +334,11 @@ module _ {T : Type 0} {s a : SessionState T} {d : ℕ} {order : List Name} {give
         numbers = record {
           count = rw (set.len-insert name_total given_a (number n), fresh_a, r.numbers.count)
               (sym (length_push order y));
-          all = each order y is (λ k. set.contains (set.insert given_a (number n)) k ≡ true)
-              (λ k b. contains-insert_old by_name given_a (number n) k (r.numbers.all k b))
-              (contains-insert_here by_name given_a (number n));
-          only = λ k e. ⊎_elim (λ at. subst (IsNumberBelow (length (order ++ y ∷ []))) (sym at)
-              (last_known order y is)) (λ ne. (old k (r.numbers.only k
-              (sym (contains-insert_apart by_name given_a (number n) k ne) ∙ e))).1)
+          all = λ k b. by_last k b
+              (λ lt. contains-insert_old by_name given_a (number n) k (r.numbers.all k lt))
+              (λ e. rw e (contains-insert_here by_name given_a (number n)));
+          only = λ k e. ⊎_elim (λ at. rw at (last_known order y is)) (λ ne. (old k (r.numbers.only k
+              (rw (contains-insert_apart by_name given_a (number n) k ne) at e))).1)
               (name_cases k (number n));
         };
         more_s = λ m e. contains-insert_old by_name given_s y m (r.more_s m e);

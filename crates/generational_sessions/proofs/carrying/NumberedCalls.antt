@@ -1,22 +1,23 @@
 -- Each call of a session, and each run, is answered as the numbered machine does it, ids aside.
 use Rattle.generational_sessions.proofs.sessions
-use sessions.{Bool, ap, State, fresh, reach, NewNames, refer, Refer, Meets, Takes, Tells, Swaps, erase}
-use sessions.{true, cond, List, ◌++◌, None, Some, refl, ◌&&◌, Call, Name, Cell, Make, Made, Held}
-use sessions.{false, subst, arith, [], nat_eq, Thing, Names, Action, Answer, unless, settle, number}
-use sessions.{length, Option, ⊎_elim, Refused, Request, Settles, refusal, Matches, by_name, unspent}
-use sessions.{◌≡◌, false_from_ne_true, GenerationalPointer, rename_ownership, contains-insert_apart}
-use sessions.{◌≢◌, length_push, add_to_list, SessionReply, next_numbers, numbered_act, refusal_told}
-use sessions.{◌+◌, cond_both, StoreError, OwnerName, MakeShared, session_in, refusal_in, is_refusal}
-use sessions.{◌-◌, or_cases, name_cmp, is_known, BorrowRefused, named_by, numbered, act_start, takes_new}
-use sessions.{◌≤◌, ◌<◌, ◌∷◌, sym, ◌∙◌, inl, inr, act, Run, ask, swap, Asks, want, tell}
-use sessions.{ℕ, nat_cmp, IsSound, IsFresh, BorrowRefusal, Outcome, cell_at, key_same, AreFresh, act_says}
-use sessions.{is_some, rename_action, rename_answer, IsNumberBelow, AreNumbersBelow, CarriesSession}
-use sessions.{option_map, eq_by_cmp, true≢false, last_ticket, KnowsAnswer, shift_owner, SessionStep}
-use sessions.{list_any, KnowsCall, add_place, AreListed, AnswersAs, none≢some, new_fresh, is_making}
-use sessions.{refusal_to_read, takes_ticket, rename_guard, SessionState, empty_session, session_sound}
+use sessions.{Bool, ap, State, fresh, reach, NewNames, refer, Refer, Meets, Takes, Tells, Swaps}
+use sessions.{erase, KnowsNewNames, rename_new_names, true, cond, List, ◌++◌, None, Some, refl}
+use sessions.{◌&&◌, Call, Name, Cell, Make, Made, Held, false, subst, arith, [], nat_eq, Thing}
+use sessions.{Names, Action, Answer, unless, settle, number, length, Option, ⊎_elim, Refused}
+use sessions.{Request, Settles, refusal, Matches, by_name, unspent, ◌≡◌, false_from_ne_true}
+use sessions.{GenerationalPointer, contains-insert_apart, ◌≢◌, length_push, add_to_list}
+use sessions.{SessionReply, next_numbers, numbered_act, refusal_told, ◌+◌, cond_both, StoreError}
+use sessions.{OwnerName, MakeShared, session_in, refusal_in, is_refusal, ◌-◌, or_cases, name_cmp}
+use sessions.{is_known, BorrowRefused, named_by, numbered, act_start, takes_new, ◌≤◌, ◌<◌, ◌∷◌, sym}
+use sessions.{◌∙◌, inl, inr, act, Run, ask, Asks, want, tell, ℕ, nat_cmp, IsSound, IsFresh}
+use sessions.{BorrowRefusal, Outcome, cell_at, key_same, AreFresh, act_says, is_some, rename_action}
+use sessions.{rename_answer, IsNumberBelow, AreNumbersBelow, CarriesSession, eq_by_cmp, last_ticket}
+use sessions.{KnowsAnswer, SessionStep, list_any, KnowsCall, add_place, AreListed, AnswersAs}
+use sessions.{new_fresh, is_making, refusal_to_read, takes_ticket, SessionState, empty_session}
+use sessions.{session_sound}
 use Rattle.generational_sessions.proofs.carrying.{some_map, last_known, back, both_tell, both_swap}
-use Rattle.generational_sessions.proofs.carrying.{Matched, Reserves, reserve, both_ask}
-use Rattle.generational_sessions.proofs.carrying.{act_matched, AskedAlike, asked_alike, box_agrees}
+use Rattle.generational_sessions.proofs.carrying.{Matched, Reserves, reserve, both_ask, act_matched}
+use Rattle.generational_sessions.proofs.carrying.{AskedAlike, asked_alike, box_agrees}
 use Rattle.generational_sessions.proofs.carrying.{swapped_alike, settled_alike, placed_alike, older}
 use Rattle.std.specs.FinMap as map
 use Rattle.std.specs.FinSet as set
@@ -25,7 +26,7 @@ use Rattle.generational_errors.specs.declared.error.StoreError.TheVariants as er
 -- a slot behind those of all names in a list
 slot_behind : (names : List Name)
     → (s : ℕ) × ((n : Name) → list_any (eq_by_cmp name_cmp n) names ≡ true → n.slot < s)
-slot_behind [] = (0, λ n h. absurd (true≢false (sym h)))
+slot_behind [] = (0, λ n h. cc)
 slot_behind (m ∷ names) =
     let rest = slot_behind names in (
       m.slot + rest.0 + 1,
@@ -39,8 +40,8 @@ module _ {T : Type 0} where
   fresh_names S call =
       let behind = slot_behind (set.items S.given) in
       let new : (n : Name) → behind.0 ≤ n.slot → set.contains S.given n ≡ false =
-      λ n from. false_from_ne_true _ (λ h.
-      let below = behind.1 n (sym (set.contains-items S.given n) ∙ h) in omega arith) in
+      λ n from. false_from_ne_true _
+      (λ h. omega (arith, behind.1 n (sym (set.contains-items S.given n) ∙ h))) in
       let both : NewNames = record { first = number behind.0; second = number (behind.0 + 1) } in (
         both,
         are_fresh call both (new both.first (omega arith)) (new both.second (omega arith))
@@ -50,9 +51,7 @@ module _ {T : Type 0} where
       are_fresh : (call : Action T) (new : NewNames) → set.contains S.given new.first ≡ false
           → set.contains S.given new.second ≡ false → new.first ≢ new.second → AreFresh S call new
       are_fresh (Make o v l) new one two apart = one
-      are_fresh (MakeShared o v l) new one two apart = (one, two, apart)
-      are_fresh (Refer o b) new one two apart = one
-      are_fresh _ new one two apart = tt
+      are_fresh _ new one two apart = assumption (one, two, apart, tt)
 
   -- nothing changes, or names were given
   abbrev Left : Bool → State T → Names → State T → Type 0
@@ -99,7 +98,7 @@ module _ {T : Type 0} where
       (record { left = λ new. listed_given _ o _; unnamed = λ f h k. cc })
   making S (Refer o b) h = making_if (is_known S o) (making_unless
       (refusal_to_read S b) (making_referred S o b (reach S b) (cell_at S (reach S b))))
-  making S _ h = absurd (true≢false (sym h))
+  making S _ h = cc
 
   -- a call that is refused doesn't depend on the names
   unnamed : (S : State T) (call : Action T) (f h : NewNames)
@@ -134,7 +133,7 @@ module _ {T : Type 0} where
       × (rename_answer h d (λ (v : T). v) n answer ≡ rename_answer f d (λ (v : T). v) n answer)
   refusal_same f h d n Knows (BorrowRefused t) r = (tt, refl)
   refusal_same f h d n Knows (Refused e) r = (tt, refl)
-  refusal_same f h d n Knows _ r = absurd (true≢false (sym r))
+  refusal_same f h d n Knows _ r = cc
 
   -- the replies are the same, ids aside, and the sessions after them match
   record StepMatches (s a : SessionReply T × SessionState T) : Type 0 where
@@ -173,19 +172,32 @@ module _ {T : Type 0} {s a : SessionState T} (m : Matches s a) where
   }
 
   -- a making, once the new names are numbered behind the others
-  making_step : (x : Call T) {order : List Name} {given_s given_a : Names}
-      {moved out was : Outcome T} → Reserves s a m.difference order given_s given_a
-      → moved ≡ out → Alike order moved was → Left (is_refusal out.0) s.state given_s out.1
-      → Left (is_refusal was.0) a.state given_a was.1 → Settled x out was
-  making_step x {order} {given_s} {given_a} {out = out} {was} r e alike left_s left_a =
-      at (is_refusal was.0) refl (subst (λ b. Left b s.state given_s out.1) (ap is_refusal h.answer
-      ∙ refusal_moved (named_by order) m.difference a.state.number was.0) left_s) left_a
+  making_step : (x : Call T) (call : Action T) (new : NewNames) (order : List Name)
+      → is_making call ≡ true → is_making (mine call) ≡ true
+      → Reserves s a m.difference order (given_after s.state (mine call) new)
+      (given_after a.state call (next_numbers a))
+      → KnowsCall (IsNumberBelow (length order)) a.state.number call
+      → KnowsNewNames (IsNumberBelow (length order)) call (next_numbers a)
+      → act s.state (rename_action (named_by order) m.difference (λ (v : T). v) a.state.number call)
+      (rename_new_names (named_by order) (next_numbers a)) ≡ act s.state (mine call) new
+      → Settled x (act s.state (mine call) new) (act a.state call (next_numbers a))
+  making_step x call new order makes made r k kn e = at (is_refusal was.0) refl
+      (rw (ap is_refusal h.answer
+      ∙ refusal_moved (named_by order) m.difference a.state.number was.0)
+      at ((making s.state (mine call) made).left new)) ((making a.state call makes).left _)
     where
-      h : Alike order out was
-      h = subst (λ o. Alike order o was) e alike
+      out : Outcome T
+      out = act s.state (mine call) new
 
-      at : (b : Bool) → is_refusal was.0 ≡ b → Left b s.state given_s out.1
-          → Left b a.state given_a was.1 → Settled x out was
+      was : Outcome T
+      was = act a.state call (next_numbers a)
+
+      h : Alike order out was
+      h = rw e at (act_matched r.carries.state call (next_numbers a) k kn)
+
+      at : (b : Bool) → is_refusal was.0 ≡ b
+          → Left b s.state (given_after s.state (mine call) new) out.1
+          → Left b a.state (given_after a.state call (next_numbers a)) was.1 → Settled x out was
       at false is kept_s kept_a = matched r (settled_alike r.carries x out was h) kept_s kept_a
       at true is kept_s kept_a =
           let same = refusal_same (named_by m.order)
@@ -195,44 +207,31 @@ module _ {T : Type 0} {s a : SessionState T} (m : Matches s a) where
             state = rw (kept_s, kept_a) m.carries.state;
             same = h.same;
             known = same.0;
-          })) (ap (λ (R : State T). R.given) kept_s) (ap (λ (R : State T). R.given) kept_a)
+          })) (rw kept_s refl) (rw kept_a refl)
 
   asks_step : (x : Call T) (action : Action T) (new : NewNames) → KnowsCall
       (IsNumberBelow (length m.order)) a.state.number action → AreFresh s.state (mine action) new
       → Settled x (act s.state (mine action) new) (act a.state action (next_numbers a))
-  asks_step x (Make o v l) new k unused =
-      let is = m.numbers.count in let r = reserve start new.first unused is in
-      making_step x r (ap (λ y. act s.state (mine (Make o v l)) (record new { first = y }))
-      (back m.order new.first is)) (act_matched r.carries.state (Make o v l) (next_numbers a) tt
-      (last_known m.order new.first is)) ((making s.state (mine (Make o v l)) refl).left new)
-      ((making a.state (Make o v l) refl).left (next_numbers a))
+  asks_step x (Make o v l) new k unused = let is = m.numbers.count in
+      making_step x (Make o v l) new _ refl refl (reserve start new.first unused is) tt
+      (last_known m.order new.first is) (rw (back m.order new.first is))
   asks_step x (Refer o b) new k unused =
-      let is = m.numbers.count in let r = reserve start new.first unused is in
-      let owner = option_map (shift_owner (named_by m.order) m.difference a.state.number) o in
-      let same = box_agrees (named_by m.order) (named_by (m.order ++ new.first ∷ []))
-      m.difference a.state.number _ _ (older m.order new.first is) b k in
-      making_step x r (λ i. act s.state
-      (Refer owner (same i)) (record new { first = back m.order new.first is i })) (act_matched
-      r.carries.state (Refer o b) (next_numbers a) (λ own. (older m.order new.first is _ (k own)).1)
-      (last_known m.order new.first is)) ((making s.state (mine (Refer o b)) refl).left new)
-      ((making a.state (Refer o b) refl).left (next_numbers a))
+      let is = m.numbers.count in let old = older m.order new.first is in
+      let same = box_agrees (named_by m.order) _ m.difference a.state.number _ _ old b k in
+      making_step x (Refer o b) new _ refl refl (reserve start new.first unused is)
+      (λ own. (old _ (k own)).1) (last_known m.order new.first is)
+      (rw (same, back m.order new.first is))
   asks_step x (MakeShared o v l) new k unused =
       let is = m.numbers.count in
       let one = m.order ++ new.first ∷ [] in
       let two : set.len a.state.given + 1 ≡ length one =
-      let long = length_push m.order new.first in omega arith in
+      omega (arith, length_push m.order new.first) in
       let r = reserve (reserve start new.first unused.0 is) new.second
       (contains-insert_apart by_name s.state.given new.first new.second
       (λ e. unused.2 (sym e)) ∙ unused.1) two in
       let old = older one new.second two _ (last_known m.order new.first is) in
-      making_step x r (λ i. act s.state (mine (MakeShared o v l)) (record {
-        first = (old.0 ∙ back m.order new.first is) i;
-        second = back one new.second two i;
-      })) (act_matched r.carries.state (MakeShared o v l) (next_numbers a) tt (
-        old.1,
-        last_known one new.second two,
-      )) ((making s.state (mine (MakeShared o v l)) refl).left new)
-      ((making a.state (MakeShared o v l) refl).left (next_numbers a))
+      making_step x (MakeShared o v l) new _ refl refl r tt (old.1, last_known one new.second two)
+      (rw (old.0, back m.order new.first is, back one new.second two))
   asks_step x action new k unused = matched start (settled_alike m.carries x _ _
       (act_matched m.carries.state action (next_numbers a) k tt)) ((act_start s.state
       (mine action) new).given refl) ((act_start a.state action (next_numbers a)).given refl)
@@ -247,7 +246,7 @@ module _ {T : Type 0} {s a : SessionState T} (m : Matches s a) where
   settles_step : (c : Call T) (x : SessionReply T) (r : SessionState T) (p q : Request T)
       → ask s c ≡ p → AskedAlike (named_by m.order) m.difference (IsNumberBelow (length m.order))
       a.state.number p q → Settles s c p x r → StepMatches (x, r) (numbered a c q (refusal_in x))
-  settles_step c x r p q asked (both_ask action k) step =
+  settles_step c x r p q asked (both_ask {x = action} k) step =
       meets_fresh s.state step.1 (mine action) step.0 (λ e is same.
       let after : List (Held T) → SessionReply T × SessionState T =
       λ table. (refusal c e, add_place (record s { table = table }) Held.Nothing) in
@@ -261,34 +260,20 @@ module _ {T : Type 0} {s a : SessionState T} (m : Matches s a) where
       ((tell c out.0).0 ∙ (act_says s.state (mine action) new unused).able)
       (asks_step c action new k unused)) step.2
   settles_step c x r p q asked (both_tell y z e able) step =
-      answered c (Tells z) (y, add_place s Held.Nothing) (λ i. (step.0 i, step.1 i)) able
+      answered c (Tells z) _ (λ i. (step.0 i, step.1 i)) able
       (matched start (e, placed_alike m.carries) refl refl)
   settles_step c x r p q asked (both_swap place g v old known) step =
-      let guard = rename_guard (named_by m.order) m.difference a.state.number g in
-      answered c (Swaps place g v old) (
-        SessionReply.TheOld old,
-        add_place (swap s place guard v) Held.Nothing,
-      ) (λ i. (step.0 i, step.1 i))
-      refl (matched start (refl, placed_alike (swapped_alike m.carries place g v known)) refl refl)
-
-  -- whichever names are taken, the numbered machine answers the same, ids aside
-  step_matches : (c : Call T) (x : SessionReply T) (r : SessionState T)
-      → SessionStep s c x r → StepMatches (x, r) (numbered_act a c (refusal_in x))
-  step_matches c x r step =
-      settles_step c x r (ask s c) (ask a c) refl (asked_alike m.carries c) step
-
-dead : {X : Type 0} {o : Option X} → o ≡ None → is_some o ≡ true → ⊥
-dead none live = true≢false (sym live ∙ ap is_some none)
+      answered c (Swaps place g v old) _ (λ i. (step.0 i, step.1 i)) refl
+      (matched start (refl, placed_alike (swapped_alike m.carries place g v known)) refl refl)
 
 module _ {T : Type 0} where
   -- so a run is answered as by the numbered machine, ids aside, and the sessions left match
   pub run_answers : (calls : List (Call T)) (replies : List (SessionReply T))
       (s r a : SessionState T)
       → Matches s a → IsSound s.state → Run s calls replies r → AnswersAs a calls replies r
-  run_answers [] [] s r a m sound run =
-      record { same = refl; matches = subst (λ r. Matches r a) (sym run) m }
+  run_answers [] [] s r a m sound run = record { same = refl; matches = rw run m }
   run_answers (c ∷ calls) (x ∷ replies) s r a m sound run =
-      let one = step_matches m c x run.0 run.1 in
+      let one = settles_step m c x run.0 _ _ refl (asked_alike m.carries c) run.1 in
       let rest = run_answers calls replies run.0 r (numbered_act a c (refusal_in x)).1
       one.after (session_sound s run.0 c x sound run.1) run.2 in
       record { same = λ i. one.said i ∷ rest.same i; matches = rest.matches }
@@ -307,12 +292,8 @@ module _ {T : Type 0} where
       let low = m.carries.state.keys key live in
       let next = m.carries.state.next in
       let k = key - m.difference in
-      let same : key ≡ k + m.difference = omega arith in (
-        k,
-        omega arith,
-        sym (some_map (rename_ownership (named_by m.order) m.difference) _)
-            ∙ (sym (ap is_some (m.carries.state.owners k)) ∙ rw (sym same) live),
-      )
+      let same : key ≡ k + m.difference = omega arith in
+      (k, omega arith, rw (same, m.carries.state.owners k, some_map) at live)
 
   -- a fresh store matches the numbered machine where nothing was called
   pub fresh_matches : (store start next : ℕ)
@@ -327,16 +308,16 @@ module _ {T : Type 0} where
         next = omega arith;
         peak = refl;
         cells = record {
-          at = λ k b. let lt = b.1 in absurd (omega arith);
-          from = λ n live. absurd (dead (map.get-empty name_cmp n) live);
-          known = λ k live. absurd (dead (map.get-empty name_cmp k) live);
-          leads = λ k m l is. absurd (none≢some _ _ (map.get-empty name_cmp k) is);
+          at = λ k b. absurd (omega arith);
+          from = λ n live. cc (map.get-empty name_cmp n);
+          known = λ k live. cc (map.get-empty name_cmp k);
+          leads = λ k m l is. cc (map.get-empty name_cmp k);
         };
-        given = λ k b. let lt = b.1 in absurd (omega arith);
+        given = λ k b. absurd (omega arith);
         owners = λ key. rw (map.get-empty nat_cmp (key + next), map.get-empty nat_cmp key) refl;
-        keys = λ key live. absurd (dead (map.get-empty nat_cmp key) live);
-        listed = λ key h is. absurd (none≢some _ h (map.get-empty nat_cmp key) is);
-        apart = λ j k b. let lt = b.1 in absurd (omega arith);
+        keys = λ key live. cc (map.get-empty nat_cmp key);
+        listed = λ key h is. cc (map.get-empty nat_cmp key);
+        apart = λ j k b. absurd (omega arith);
       };
       table = refl;
       known = tt;
@@ -344,13 +325,12 @@ module _ {T : Type 0} where
     names = record { count = set.len-empty name_cmp; all = λ n. set.contains-empty name_cmp n };
     numbers = record {
       count = set.len-empty name_cmp;
-      all = λ k b. let lt = b.1 in absurd (omega arith);
-      only = λ k h. absurd (true≢false (sym h ∙ set.contains-empty name_cmp k));
+      all = λ k b. absurd (omega arith);
+      only = λ k h. cc (set.contains-empty name_cmp k);
     };
   }
 
   -- so a session of a fresh store matches it
   pub new_matches : (S : State T) (items : List (Thing T))
       → IsFresh S → items ≡ [] → Matches (session_in S items) (empty_session S.number)
-  new_matches S items f none = rw none (subst (λ X. Matches (record { state = X; table = [] })
-      (empty_session S.number)) (sym f) (fresh_matches S.number S.start S.next))
+  new_matches S items f none = rw (none, f) (fresh_matches S.number S.start S.next)

@@ -1,8 +1,8 @@
 -- A call does the same to a state without its values, and is answered the same without values.
 use Rattle.generational_sessions.proofs.sessions.Common
 use Rattle.generational_core.proofs.machine.Rows.{get_bare_cell}
-use Rattle.generational_core.specs.{Plain.bare_cell, Plain.bare_content, Slots.Fits}
-use Rattle.generational_sessions.proofs.carrying.CarriedCalls.{act_matched, content_there, Matched}
+use Rattle.generational_core.specs.{Plain.bare_cell, Slots.Fits}
+use Rattle.generational_sessions.proofs.carrying.CarriedCalls.{act_matched, content_there}
 use Rattle.generational_sessions.proofs.carrying.CarriedCalls.{reach_cases, with_born}
 use Rattle.generational_sessions.proofs.carrying.CarriedCells.{cond_map, refusals_moved, some_map}
 use Common.{act, act_start, Action, add_cell, AllByRecursion, Answer, answer_to, ap, AreNew, arith}
@@ -10,13 +10,13 @@ use Common.{bare, bare_cells, Borrow, BorrowRefusal, BorrowRefused, Carries, Cel
 use Common.{cond_both, Content, content_at, content_of, Done, eqb-true, free, fresh}
 use Common.{GenerationalPointer, Guard, Here, inl, inr, is_free, is_some, IsNew, KnowsCall}
 use Common.{KnowsNewNames, last_name, last_ticket, Lent, limit_tickets, List, list_map, Made}
-use Common.{map-id, map_action, map_answer, may_lack, Meets, Name, name_cmp, name_exact, name_total}
-use Common.{NameMap, nat_cmp_total, nat_eq, nat_lt, needs_memory, NewNames, no_names, None}
-use Common.{NumbersExhausted, Option, option_map, Outcome, Owned, OwnerName, Ownership, plain}
-use Common.{plain_answer, plain_call, reach, Reads, Ref, refl, Refused, rename_box, rename_cell}
-use Common.{rename_content, rename_guard, rename_ownership, renaming, Shared, shift_borrow}
-use Common.{shift_owner, slots_of, Some, State, subst, sym, Takes, takes_ticket, Value}
-use Common.{without_values, write_refusal, ℕ, [], ⊎_elim, ◌&&◌, ◌+◌, ◌∙◌, ◌∷◌, ◌≡◌}
+use Common.{map-id, may_lack, Meets, Name, name_cmp, name_exact, name_total, NameMap, nat_cmp_total}
+use Common.{nat_eq, nat_lt, needs_memory, NewNames, no_names, None, NumbersExhausted, Option}
+use Common.{option_map, Outcome, Owned, OwnerName, Ownership, plain, plain_answer, plain_call}
+use Common.{reach, Reads, refl, Refused, rename_box, rename_cell, rename_guard, rename_ownership}
+use Common.{renaming, Shared, shift_borrow, shift_owner, slots_of, Some, State, sym, Takes}
+use Common.{takes_ticket, Value, without_values, write_refusal, ℕ, [], ⊎_elim, ◌&&◌, ◌∙◌, ◌∷◌, ◌≡◌}
+use Rattle.std.proofs.Math.Nat.{add-zero}
 use Rattle.std.specs.FinMap as map
 use Rattle.std.specs.FinSet as set
 
@@ -45,17 +45,15 @@ same_box : (number : ℕ) (b : GenerationalPointer) → rename_box same_name 0 n
 same_box number b = if_same b.id.store number _ b (λ own. rw (sym own) refl)
 
 same_guard : (number : ℕ) (guard : Guard) → rename_guard same_name 0 number guard ≡ guard
-same_guard number guard = let stays : guard.ticket + 0 ≡ guard.ticket = omega arith in
-    if_same guard.store number _ guard (λ own. rw (sym own, stays) refl)
+same_guard number guard = if_same guard.store number _ guard (λ own. rw (sym own, add-zero))
 
 same_owner : (number : ℕ) (o : OwnerName) → shift_owner same_name 0 number o ≡ o
-same_owner number o = let stays : o.key + 0 ≡ o.key = omega arith in
-    if_same o.store number _ o (λ own. rw (sym own, stays) refl)
+same_owner number o = if_same o.store number _ o (λ own. rw (sym own, add-zero))
 
 -- ---- a cell that keeps its names and its tickets loses its value alone
 
 same_borrow : (b : Borrow) → shift_borrow same_name 0 b ≡ b
-same_borrow b = let stays : b.ticket + 0 ≡ b.ticket = omega arith in rw stays refl
+same_borrow b = rw add-zero
 
 same_borrows : (bs : List Borrow) → list_map (shift_borrow same_name 0) bs ≡ bs
 same_borrows [] = refl
@@ -66,19 +64,13 @@ module _ {T : Type 0} where
       → map.get (bare_cells cells) n ≡ option_map (rename_cell same_name 0 bare) (map.get cells n)
   get_bare cells n = get_bare_cell cells n ∙ renamed (map.get cells n)
     where
-      content : (c : Content T) → bare_content c ≡ rename_content same_name 0 bare c
-      content (Here v readers) = ap (Here tt) (sym (same_borrows readers))
-      content (Lent w) = ap Lent (sym (same_borrow w))
-
-      cell : (c : Cell T) → bare_cell c ≡ rename_cell same_name 0 bare c
-      cell (Value c l) = ap (λ d. Value d l) (content c)
-      cell (Shared c l) = ap (λ d. Shared d l) (content c)
-      cell (Ref m l) = refl
-
       renamed : (o : Option (Cell T))
           → option_map bare_cell o ≡ option_map (rename_cell same_name 0 bare) o
-      renamed None = refl
-      renamed (Some c) = ap Some (cell c)
+      renamed (Some (Value (Here v readers) l)) = rw (same_borrows readers)
+      renamed (Some (Value (Lent w) l)) = rw (same_borrow w)
+      renamed (Some (Shared (Here v readers) l)) = rw (same_borrows readers)
+      renamed (Some (Shared (Lent w) l)) = rw (same_borrow w)
+      renamed _ = refl
 
   carries_plain : (S : State T) → Carries same_name 0 bare Any (plain S) S
   carries_plain S = record {
@@ -92,8 +84,7 @@ module _ {T : Type 0} where
       leads = λ k m l _. tt;
     };
     given = λ k _. refl;
-    owners = λ key. ap (map.get S.owners) (let e : key + 0 ≡ key = omega arith in e)
-        ∙ sym (same_ownership (map.get S.owners key));
+    owners = λ key. rw (add-zero, same_ownership (map.get S.owners key));
     keys = λ key _. omega arith;
     listed = λ key h _. any_listed h.names;
     apart = λ j k _ _ e. e;
@@ -108,9 +99,9 @@ module _ {T : Type 0} where
       let given : P.given ≡ S.given =
       set.same_set name_total name_exact P.given S.given (λ q. c.given q tt) in
       let owners : P.owners ≡ S.owners = map.same_map nat_cmp_total map.nat_cmp-IsAntisymmetric
-      P.owners S.owners (λ key. ap (map.get P.owners) (let e : key ≡ key + 0 = omega arith in e)
-      ∙ (c.owners key ∙ same_ownership (map.get S.owners key))) in
-      let next : P.next ≡ S.next = c.next ∙ omega arith in
+      P.owners S.owners
+      (λ key. rw (add-zero, same_ownership (map.get S.owners key)) at (c.owners key)) in
+      let next : P.next ≡ S.next = rw add-zero at c.next in
       rw (sym c.number, sym cells, sym given, sym owners, sym next, sym c.peak, sym start) refl
 
   all_calls : (number : ℕ) (call : Action T) → KnowsCall Any number call
@@ -138,10 +129,9 @@ module _ {T : Type 0} where
   pub plain_act : (S : State T) (call : Action T) (new : NewNames)
       → act (plain S) (plain_call call) new ≡ plain_out (act S call new)
   plain_act S call new = let same = same_mapping S.number in
-      let out = subst (λ m. Matched
-      same_name 0 bare Any S.number (act (plain S) (map_action m call) new) (act S call new)) same
+      let out = rw same at
       (act_matched (carries_plain S) call new (all_calls S.number call) (all_fresh call new)) in
-      let answer = out.answer ∙ ap (λ m. map_answer m (act S call new).0) same in
+      let answer = rw same at out.answer in
       let state = plain_from (act (plain S) (plain_call call) new).1
       (act S call new).1 out.state ((act_start (plain S) (plain_call call) new).start
       ∙ sym (act_start S call new).start) in λ i. (answer i, state i)
@@ -179,8 +169,7 @@ module _ {T : Type 0} where
       let cell : Cell T = Cell.Shared (Content.Here v []) l in
       let born = plain_from (add_cell (plain S) f.first (rename_cell same_name 0 bare cell))
       (add_cell S f.first cell) (with_born (carries_plain S) f.first cell tt tt) refl in
-      let second = plain_new (add_cell S f.first cell) f.second new.1 in
-      (plain_new S f.first new.0, subst (λ R. IsNew R f.second) (sym born) second)
+      (plain_new S f.first new.0, rw born (plain_new (add_cell S f.first cell) f.second new.1))
   plain_are_new S (Action.Refer o b) f new = plain_new S f.first new
   plain_are_new S _ f new = tt
 
@@ -194,12 +183,11 @@ module _ {T : Type 0} where
   plain_reached : (S : State T) (b : GenerationalPointer)
       → is_some (write_refusal (content_of (cell_at (plain S) (reach (plain S) b))))
       ≡ is_some (write_refusal (content_of (cell_at S (reach S b))))
-  plain_reached S b = subst
-      (λ x. is_some (write_refusal (content_of (cell_at (plain S) (reach (plain S) x)))) ≡ is_some
-      (write_refusal (content_of (cell_at S (reach S b))))) (same_box S.number b)
-      (⊎_elim (λ e. rw (e.0, e.1) refl) (λ e. rw (e.2, e.3, content_there (carries_plain S) e.0 e.1)
+  plain_reached S b = let same = same_box S.number b in
+      ⊎_elim (λ e. rw (rw same at e.0, e.1)) (λ e. rw
+      (rw same at e.2, e.3, content_there (carries_plain S) e.0 e.1)
       (ap is_some (refusals_moved same_name 0 bare (content_at S e.0)).1))
-      (reach_cases (carries_plain S) b (λ _. tt)))
+      (reach_cases (carries_plain S) b (λ _. tt))
 
   plain_needs : (S : State T) (answer : Answer T) (call : Action T)
       → needs_memory (plain S) (plain_answer answer) (plain_call call) ≡ needs_memory S answer call
@@ -211,19 +199,16 @@ module _ {T : Type 0} where
   plain_needs S (BorrowRefused (BorrowRefusal.BeingRead readers)) call = refl
   plain_needs S _ _ = refl
 
-  plain_lacks : (S : State T) (call : Action T)
-      → may_lack (plain S) (plain_call call) ≡ may_lack S call
-  unfolding may_lack
-  plain_lacks S call = ap (λ (o : Outcome (Unit {0})). needs_memory (plain S) o.0 (plain_call call))
-      (plain_limited S call no_names) ∙ plain_needs S (answer_to S call) call
-
   -- each call of a store is one of the store without values
   pub plain_meets : (S R : State T) (call : Action T) (answer : Answer T)
       → Meets S call answer R → Meets (plain S) (plain_call call) (plain_answer answer) (plain R)
+  unfolding may_lack
   plain_meets S R call answer (inl m) = inl
       (m.0, plain_takes S call answer m.0 m.1, ap plain_out m.2 ∙ sym (plain_limited S call m.0))
   plain_meets S R call answer (inr m) =
-      inr (plain_lacks S call ∙ m.0, ap plain_answer m.1, ap plain m.2)
+      let needs = ap (λ (out : Outcome (Unit {0})). needs_memory (plain S) out.0 (plain_call call))
+      (plain_limited S call no_names) ∙ plain_needs S (answer_to S call) call in
+      inr (needs ∙ m.0, ap plain_answer m.1, ap plain m.2)
 
 -- a fresh state has no values
 pub plain_fresh : (T : Type 0) (number start next : ℕ)

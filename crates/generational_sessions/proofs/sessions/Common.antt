@@ -12,8 +12,8 @@ pub use Rattle.std.proofs.lemmas.List.{map-append, map-id, map-set, reverse-appe
 pub use Rattle.std.proofs.lemmas.List.{Folds.list_any_at, Sums.sum_by-cons, Sums.sum_by_push}
 pub use Rattle.std.specs.{Cmp.unsigned_tied, List.count_by, Prelude.is_err, Prelude.map}
 pub use machine.{Leaving.given_other, Leaving.leaves, Leaving.release_leaves, Stepping.writes_known}
-pub use machine.{Guarding.writes_back, Releasing.shared_ends, Releasing.shared_stays}
-pub use machine.{Ends.by_cond, Ends.none≢some, Ends.some_live, Owning.keeps_record, Owning.unlisted}
+pub use machine.{Guarding.writes_back, Releasing.shared_ends, Releasing.shared_stays, Ends.by_cond}
+pub use machine.{Ends.none≢some, Ends.some_live, Owning.keeps_record, Owning.unlisted}
 pub use machine.Bounding.{fresh_bounded, lasts_insert, meets_bounded, no_slots}
 pub use machine.Boxing.{boxed_stays, made_boxed}
 pub use machine.Calling.{ends, ends_free, ends_owned, keeps, keeps_free, keeps_reach, keeps_unowned}
@@ -54,8 +54,8 @@ pub use machine.Stepping.{meets_next, meets_number, meets_says, meets_sound, mee
 pub use machine.Stepping.{meets_value, reader_stays, reads_known, takes_new, writer_stays}
 pub use Rattle.generational_core.proofs.maps.Maps.{changed_there, contains-insert_apart}
 pub use Rattle.generational_core.proofs.maps.Maps.{get-insert_name, name_test}
-pub use Rattle.generational_core.specs.{Machine.own_cell, Machine.turn, Names.change_if}
-pub use Rattle.generational_core.specs.{Boxes.name_in, Leaving.IsLeft, Steps.answer_to}
+pub use Rattle.generational_core.specs.{Machine.own_cell, Names.change_if, Leaving.IsLeft}
+pub use Rattle.generational_core.specs.{Steps.answer_to}
 pub use Rattle.generational_core.specs.Answers.{back_answer, end_refused, pointer_of}
 pub use Rattle.generational_core.specs.Conditions.{count_in, count_under, IsFresh}
 pub use Rattle.generational_core.specs.Machine.{Action.LeakOwner, Answer.Back}
@@ -64,31 +64,32 @@ pub use Rattle.generational_core.specs.declared.boxes.GenerationalBox.{Generatio
 pub use Rattle.generational_errors.specs.declared.error.StoreError.TheVariants.{OutOfMemory}
 pub use specs.{Places.session_in, SoundSession.holds_owner, SoundSession.IsSoundSession}
 pub use specs.Carrying.{Carries, CarriesCells, KnowsAnswer, KnowsBox, KnowsCall, KnowsGuard}
-pub use specs.Carrying.{KnowsNewNames, map_action, map_answer, rename_action, rename_answer}
-pub use specs.Carrying.{rename_box, rename_cell, rename_content, rename_guard, rename_new_names}
-pub use specs.Carrying.{rename_ownership, renaming, shift_borrow, shift_owner}
+pub use specs.Carrying.{KnowsNewNames, rename_action, rename_answer, rename_box, rename_cell}
+pub use specs.Carrying.{rename_content, rename_guard, rename_new_names, rename_ownership, renaming}
+pub use specs.Carrying.{shift_borrow, shift_owner}
 pub use specs.Disturbance.{AskedSets, IsUndisturbed, Undisturbed}
 pub use specs.History.{bare, plain, plain_answer, plain_call, without_values}
 pub use specs.Numbered.{answers, AnswersAs, AreListed, AreNumbersBelow, CarriesSession}
 pub use specs.Numbered.{empty_session, erase, IsNumberBelow, KnowsHeld, Matches, named_by}
 pub use specs.Numbered.{next_numbers, number, numbered, numbered_act, refusal_in, rename_held}
 pub use specs.Places.{as_held, as_refusal, as_replies, as_reply, exchange, Gives, GivesAsked}
-pub use specs.Replies.{AllKeepPromises, AllTellEnds, ended_reply, EndsOwned, GiveBoxesApart}
-pub use specs.Replies.{GivesNewBox, KeepBoxes, NeedsBox, RefusalLeavesAll, refuses, TellsEnds}
-pub use specs.Replies.{TellsExhaustion, TellsLack}
+pub use specs.Replies.{AllKeepPromises, AllTellEnds, EndsOwned, GiveBoxesApart, GivesNewBox}
+pub use specs.Replies.{KeepBoxes, NeedsBox, RefusalLeavesAll, refuses, TellsEnds, TellsExhaustion}
+pub use specs.Replies.{TellsLack}
 pub use specs.Session.{add_place, ask, at_place, box_held, box_in, gives, Held, if_ready}
 pub use specs.Session.{is_release, owner_held, owner_in, refusal, release, release_all, replace}
 pub use specs.Session.{reply_of, Request, Run, SessionReply, SessionState, SessionStep, settle}
 pub use specs.Session.{Settles, spend, swap, with_box, with_owner}
 pub use specs.Session.Held.{Boxed, Nothing, Owning, Reading, Writing}
 pub use specs.Session.Request.{Asks, Swaps, Tells}
-pub use specs.Session.SessionReply.{ABox, Created, Error, IsDone, NoSuch, Unready, Yes}
+pub use specs.Session.SessionReply.{ABox, Error, IsDone, NoSuch}
 pub use specs.declared.{calls.Call.Call, calls.Reply.Reply, places.Thing.Thing}
 pub use specs.declared.calls.{BoxAt.BoxAt, BoxAt.TheVariants.Foreign, BoxAt.TheVariants.Place}
 pub use specs.declared.places.Thing.TheVariants.{Owner, Reader, Writer}
 use Rattle.generational_core.proofs
 unfoldable pub use proofs.machine.Common.{change, hindrance_to, IsDistinct, may_lack, reach}
-unfoldable pub use proofs.machine.Common.{is_name, refusal_to_read, refusal_to_write, sweep, take_away}
+unfoldable pub use proofs.machine.Common.{is_name, refusal_to_read, refusal_to_write, sweep}
+unfoldable pub use proofs.machine.Common.{take_away}
 unfoldable pub use Rattle.generational_core.specs.{Seeing.value_in, Slots.lasts}
 unfoldable pub use Rattle.generational_sessions.specs.History.{bare_cells}
 unfoldable pub use Rattle.generational_sessions.specs.SoundSession.{AreOne, IsOwn}

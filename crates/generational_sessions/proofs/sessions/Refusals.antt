@@ -1,19 +1,18 @@
 -- What a reply tells of refusals: where memory or a ticket may lack, and that nothing has changed.
 use Rattle.generational_sessions.proofs.sessions.Common
 use Rattle.generational_core.proofs.machine.Refusing.{act_answered, answered_still, IsAnswered}
-use Rattle.generational_core.proofs.machine.Refusing.IsAnswered.{back, goes, troubled, unknown}
-use Common.{act, Action, add_place, and_parts, Answer, answer_to, ap, ask, Asks, at_place, Back}
-use Common.{Bool, BorrowRefusal, BorrowRefused, Call, Cell, cell_at, cond, cond_both, Done, eq-eqb}
-use Common.{eqb-true, false, Flag, GenerationalPointer, gives, Held, inl, inr, is_known, is_making}
-use Common.{is_refusal, is_release, knows_reader, knows_writer, last_ticket, LeakOwner}
-use Common.{limit_tickets, Make, MakeShared, may_lack, Meets, Name, nat_eq, needs_memory, NewNames}
-use Common.{no_names, None, none-some, Nothing, NumbersExhausted, Option, Outcome, OutOfMemory}
-use Common.{owner_in, OwnerName, reach, Refer, refer, refl, refusal, refusal_in, refusal_to_read}
-use Common.{RefusalLeavesAll, Refused, refuses, release, reply_of, Request, SessionReply}
-use Common.{SessionState, SessionStep, settle, Settles, Shared, Some, spend, State, StoreError}
-use Common.{subst, sym, takes_ticket, TellsExhaustion, TellsLack, true, true≢false, UnknownOwner}
-use Common.{unless, want, wants, with_owner, ◌&&◌, ◌∙◌, ◌≡◌}
-use Rattle.generational_sessions.proofs.sessions.Sessions.{comes_to, ComesTo, is_own}
+use Rattle.generational_core.proofs.machine.Refusing.IsAnswered.{goes}
+use Common.{act, Action, and_parts, Answer, ap, ask, Asks, at_place, Bool, BorrowRefusal, Call}
+use Common.{Cell, cell_at, cond, cond_both, Done, eq-eqb, eqb-true, false, Flag}
+use Common.{GenerationalPointer, gives, Held, inl, inr, is_known, is_refusal, is_release}
+use Common.{knows_reader, knows_writer, last_ticket, LeakOwner, limit_tickets, Make, MakeShared}
+use Common.{may_lack, Meets, Name, nat_eq, needs_memory, NewNames, no_names, None, Nothing}
+use Common.{NumbersExhausted, Option, Outcome, OutOfMemory, owner_in, OwnerName, reach, Refer}
+use Common.{refer, refl, refusal, refusal_in, refusal_to_read, RefusalLeavesAll, Refused, refuses}
+use Common.{release, reply_of, Request, SessionReply, SessionState, SessionStep, Settles, Shared}
+use Common.{Some, spend, State, StoreError, subst, sym, takes_ticket, TellsExhaustion, TellsLack}
+use Common.{true, true≢false, unless, want, wants, with_owner, ◌&&◌, ◌∙◌, ◌≡◌}
+use Rattle.generational_sessions.proofs.sessions.Sessions.{comes_to, ComesTo, is_own, settled}
 use Rattle.generational_sessions.proofs.sessions.Sessions.ComesTo.{asks, swaps, tells}
 use Rattle.generational_core.specs.Leaving.{refuses as is_refused}
 use Rattle.generational_sessions.specs.declared.calls.Call.TheVariants as call
@@ -21,56 +20,45 @@ use Rattle.generational_sessions.specs.declared.calls.Call.TheVariants as call
 module _ {T : Type 0} where
   -- ---- calls that are never refused
 
-  -- the answers of a call that always goes
-  data Goes : Answer T → Type 0 where
-    done : Goes Done
-    flag : (b : Bool) → Goes (Flag b)
-    back_given : (v : T) → Goes (Back v)
+  -- an outcome is no refusal, and needs no memory; and so is each outcome of a call
+  abbrev Goes : State T → Action T → Outcome T → Type 0
+  Goes S action out = let answer = (limit_tickets S out).0 in
+      (is_refusal answer ≡ false) × (needs_memory S answer action ≡ false)
 
   abbrev AlwaysGoes : State T → Request T → Type 0
-  AlwaysGoes S (Asks action) = (new : NewNames) → Goes (limit_tickets S (act S action new)).0
+  AlwaysGoes S (Asks action) = (new : NewNames) → Goes S action (act S action new)
   AlwaysGoes S _ = Unit {0}
-
-  needs_nothing : (S : State T) (action : Action T) (answer : Answer T)
-      → Goes answer → needs_memory S answer action ≡ false
-  needs_nothing S action answer done = refl
-  needs_nothing S action answer _ = refl
-
-  goes_on : (answer : Answer T) → Goes answer → is_refusal answer ≡ false
-  goes_on answer done = refl
-  goes_on answer _ = refl
 
   never_refused : (S R : State T) (action : Action T) (answer : Answer T)
       → AlwaysGoes S (Asks action) → Meets S action answer R → is_refusal answer ≡ false
   unfolding may_lack
-  never_refused S R action answer h (inl m) = goes_on answer
-      (subst Goes (sym (ap (λ (out : Outcome T). out.0) m.2)) (h m.0))
-  never_refused S R action answer h (inr m) = absurd
-      (true≢false (sym m.0 ∙ needs_nothing S action (answer_to S action) (h no_names)))
+  never_refused S R action answer h (inl m) =
+      ap (λ (out : Outcome T). is_refusal out.0) m.2 ∙ (h m.0).0
+  never_refused S R action answer h (inr m) = absurd (true≢false (sym m.0 ∙ (h no_names).1))
 
   release_goes : (S : State T) (h : Held T) → AlwaysGoes S (release h)
   release_goes S (Held.Reading g) = λ new. cond_both (knows_reader S g) _ _
-      (λ out. Goes (limit_tickets S out).0) (λ _. flag true) (λ _. flag false)
+      (Goes S (Action.ReleaseReader g)) (λ _. (refl, refl)) (λ _. (refl, refl))
   release_goes S (Held.Writing g v) = λ new. cond_both (knows_writer S g) _ _
-      (λ out. Goes (limit_tickets S out).0) (λ _. done) (λ _. back_given v)
+      (Goes S (Action.ReleaseWriter g v)) (λ _. (refl, refl)) (λ _. (refl, refl))
   release_goes S _ = tt
 
   leak_goes : (S : State T) (o : Option OwnerName)
       → AlwaysGoes S (with_owner o None (λ o. Asks (LeakOwner o)))
   leak_goes S None = tt
-  leak_goes S (Some o) = λ new. done
+  leak_goes S (Some o) = λ new. (refl, refl)
 
   -- releases of guards and leaks are never refused, and what is refused else spends nothing
   pub unspent : (s : SessionState T) (c : Call T) (action : Action T) (answer : Answer T)
       (R : State T) → ask s c ≡ Asks action → Meets s.state action answer R
       → is_refusal answer ≡ true → spend c answer s.table ≡ s.table
   unspent s (call.Release p) action answer R is m refused =
-      absurd (true≢false (sym refused ∙ never_refused s.state R action answer
-      (subst (AlwaysGoes s.state) is (release_goes s.state (at_place s.table p))) m))
+      let goes = rw is at (release_goes s.state (at_place s.table p)) in
+      let never = never_refused s.state R action answer goes m in cc
   unspent s (call.LeakOwner p) action answer R is m refused =
-      absurd (true≢false (sym refused ∙ never_refused s.state R action answer
-      (subst (AlwaysGoes s.state) is (leak_goes s.state (owner_in s p))) m))
-  unspent s (call.ReleaseOwner p) action Done R is m refused = absurd (true≢false (sym refused))
+      let goes = rw is at (leak_goes s.state (owner_in s p)) in
+      let never = never_refused s.state R action answer goes m in cc
+  unspent s (call.ReleaseOwner p) action Done R is m refused = cc
   unspent s _ action answer R is m refused = refl
 
   -- ---- what a reply says of its answer
@@ -79,9 +67,6 @@ module _ {T : Type 0} where
   pub refusal_told : (c : Call T) (e : StoreError)
       → (refusal_in (refusal c e) ≡ want e) × (refuses (refusal c e) ≡ true)
   refusal_told (call.Leak v l) e = (refl, refl)
-  refusal_told (call.LeakRc v l) e = (refl, refl)
-  refusal_told (call.Insert p v l) e = (refl, refl)
-  refusal_told (call.InsertRc p v l) e = (refl, refl)
   refusal_told _ e = (refl, refl)
 
   pub tell : (c : Call T) (answer : Answer T) → (refusal_in (reply_of c answer) ≡ wants answer)
@@ -92,14 +77,12 @@ module _ {T : Type 0} where
   tell c _ = (refl, refl)
 
   gives_nothing : (answer : Answer T) → is_refusal answer ≡ true → gives answer ≡ Nothing
-  gives_nothing (BorrowRefused t) refused = refl
   gives_nothing (Refused e) refused = refl
-  gives_nothing _ refused = absurd (true≢false (sym refused))
+  gives_nothing _ refused = cc
 
   own_wants_none : (x : SessionReply T) → is_own x ≡ true → refusal_in x ≡ None
-  own_wants_none (SessionReply.Lacking e) own = absurd (true≢false (sym own))
-  own_wants_none (SessionReply.HandedBack v e) own = absurd (true≢false (sym own))
-  own_wants_none _ own = refl
+  own_wants_none (SessionReply.Lacking e) own = cc
+  own_wants_none _ own = cc
 
   -- ---- how the machine refuses
 
@@ -108,53 +91,41 @@ module _ {T : Type 0} where
   still S out how refused = answered_still S out how (told out.0 refused)
     where
       told : (answer : Answer T) → is_refusal answer ≡ true → is_refused answer ≡ true
-      told (BorrowRefused t) h = refl
       told (Refused e) h = refl
-      told _ h = absurd (true≢false (sym h))
+      told _ h = cc
 
   wants_none : (S : State T) (out : Outcome T) → IsAnswered S out → wants out.0 ≡ None
-  wants_none S out (troubled t) = refl
-  wants_none S out unknown = refl
-  wants_none S out (back v) = refl
   wants_none S out (goes o on) =
       (elim out.0 as (λ answer. is_refused answer ≡ false → wants answer ≡ None)
-      [ Refused e ↦ λ on. absurd (true≢false on) | _ ↦ λ on. refl ]) on
+      [ Refused e ↦ λ on. cc | _ ↦ λ on. refl ]) on
+  wants_none S out _ = refl
 
   -- ---- tickets
 
-  -- no making takes a ticket
-  refer_ticket : (S : State T) (o : Option OwnerName) (b : GenerationalPointer) (m : Option Name)
-      (c : Option (Cell T)) (n : Name) → takes_ticket (refer S o b m c n).0 ≡ false
-  refer_ticket S o b (Some m) (Some (Shared c l)) n = refl
-  refer_ticket S o b m c n = refl
-
-  unless_ticket : (S : State T) (t : Option BorrowRefusal) (x : Outcome T)
-      → takes_ticket x.0 ≡ false → takes_ticket (unless t S x).0 ≡ false
-  unless_ticket S None x h = h
-  unless_ticket S (Some t) x h = refl
-
-  known_ticket : (S : State T) (known : Bool) (x : Outcome T) → takes_ticket x.0 ≡ false
-      → takes_ticket (cond known x (Refused UnknownOwner, S)).0 ≡ false
-  known_ticket S true x h = h
-  known_ticket S false x h = refl
-
-  making_ticket : (S : State T) (action : Action T) (f : NewNames) → is_making action ≡ true
-      → takes_ticket (act S action f).0 ≡ false
-  making_ticket S (Make o v l) f making = known_ticket S (is_known S o) _ refl
-  making_ticket S (MakeShared o v l) f making = known_ticket S (is_known S o) _ refl
-  making_ticket S (Refer o b) f making = known_ticket S (is_known S o) _ (unless_ticket S
-      (refusal_to_read S b) _ (refer_ticket S o b (reach S b) (cell_at S (reach S b)) f.first))
-  making_ticket S _ f making = absurd (true≢false (sym making))
-
   -- whether a call takes a ticket doesn't depend on the names that it takes
+  refer_ticket : (S : State T) (o : Option OwnerName) (b : GenerationalPointer) (m : Option Name)
+      (c : Option (Cell T)) (n k : Name)
+      → takes_ticket (refer S o b m c n).0 ≡ takes_ticket (refer S o b m c k).0
+  refer_ticket S o b (Some m) (Some (Shared c l)) n k = refl
+  refer_ticket S o b m c n k = refl
+
+  unless_ticket : (S : State T) (t : Option BorrowRefusal) (x y : Outcome T)
+      → takes_ticket x.0 ≡ takes_ticket y.0
+      → takes_ticket (unless t S x).0 ≡ takes_ticket (unless t S y).0
+  unless_ticket S None x y h = h
+  unless_ticket S (Some t) x y h = refl
+
+  known_ticket : (known : Bool) (x y z : Outcome T) → takes_ticket x.0 ≡ takes_ticket y.0
+      → takes_ticket (cond known x z).0 ≡ takes_ticket (cond known y z).0
+  known_ticket true x y z h = h
+  known_ticket false x y z h = refl
+
   same_ticket : (S : State T) (action : Action T) (f : NewNames)
       → takes_ticket (act S action f).0 ≡ takes_ticket (act S action no_names).0
-  same_ticket S (Make o v l) f =
-      making_ticket S (Make o v l) f refl ∙ sym (making_ticket S (Make o v l) no_names refl)
-  same_ticket S (MakeShared o v l) f = making_ticket S (MakeShared o v l) f refl
-      ∙ sym (making_ticket S (MakeShared o v l) no_names refl)
-  same_ticket S (Refer o b) f =
-      making_ticket S (Refer o b) f refl ∙ sym (making_ticket S (Refer o b) no_names refl)
+  same_ticket S (Make o v l) f = known_ticket (is_known S o) _ _ _ refl
+  same_ticket S (MakeShared o v l) f = known_ticket (is_known S o) _ _ _ refl
+  same_ticket S (Refer o b) f = known_ticket (is_known S o) _ _ _ (unless_ticket S
+      (refusal_to_read S b) _ _ (refer_ticket S o b (reach S b) (cell_at S (reach S b)) f.first _))
   same_ticket S _ f = refl
 
   -- a call takes a ticket, and none is left
@@ -182,15 +153,6 @@ module _ {T : Type 0} where
     last : wants out.0 ≡ Some NumbersExhausted → IsLast S action
     still : is_refusal out.0 ≡ true → out.1 ≡ S
 
-  acting : (S : State T) (action : Action T) (out : Outcome T)
-      → IsAnswered S out → Refusing S action out
-  acting S action out how =
-      let none = sym (wants_none S out how) in record {
-        lacks = λ told. absurd (none-some _ (none ∙ told));
-        last = λ told. absurd (none-some _ (none ∙ told));
-        still = still S out how;
-      }
-
   meets_refusing : (S : State T) (action : Action T) (out : Outcome T)
       → Meets S action out.0 out.1 → Refusing S action out
   meets_refusing S action out (inl m) = subst (Refusing S action) (sym m.2)
@@ -199,12 +161,10 @@ module _ {T : Type 0} where
         lacks = λ told. cc;
         last = λ _. (sym (same_ticket S action m.0) ∙ are.0, eqb-true S.next last_ticket are.1);
         still = λ _. refl;
-      }) (λ _. acting S action (act S action m.0) (act_answered S action m.0)))
-  meets_refusing S action out (inr m) = record {
-    lacks = λ _. m.0;
-    last = λ told. let e = sym (ap wants m.1) ∙ told in cc;
-    still = λ _. m.2;
-  }
+      }) (λ _. let how = act_answered S action m.0 in let none = wants_none S _ how in
+      record { lacks = λ told. cc; last = λ told. cc; still = still S _ how }))
+  meets_refusing S action out (inr m) =
+      record { lacks = λ _. m.0; last = λ told. cc; still = λ _. m.2 }
 
   -- ---- the replies of a session
 
@@ -216,38 +176,30 @@ module _ {T : Type 0} where
     pub leaves_all : RefusalLeavesAll s x r
 
   module _ (s r : SessionState T) (c : Call T) (x : SessionReply T) where
-    by_machine : (action : Action T) (answer : Answer T) (R : State T) → ask s c ≡ Asks action
-        → Meets s.state action answer R → (x, r) ≡ settle s c (answer, R) → Refuses s c x r
-    by_machine action answer R asked meets settles =
-        let refusing = meets_refusing s.state action (answer, R) meets in
-        let said = ap (λ (out : SessionReply T × SessionState T). out.0) settles in
-        let wanted = ap refusal_in said ∙ (tell c answer).0 in record {
+    by_machine : (action : Action T) → ask s c ≡ Asks action → Settles s c (Asks action) x r
+        → Refuses s c x r
+    by_machine action asked step =
+        let after = settled s r c x action step in
+        let refusing = meets_refusing s.state action (step.0, step.1) step.2 in
+        let says = tell c step.0 in rw (after.0, after.1) (record {
           lack = λ told. record
-              { action = action; asks = asked; lacks = refusing.lacks (sym wanted ∙ told) };
+              { action = action; asks = asked; lacks = refusing.lacks (rw says.0 at told) };
           exhaustion = (
-            λ told. let at = refusing.last (sym wanted ∙ told) in
+            λ told. let at = refusing.last (rw says.0 at told) in
                 record { action = action; asks = asked; takes = at.0; last = at.1 },
-            λ h. let same : h.action ≡ action = cc in
-                wanted ∙ ap wants (exhausted s.state R action answer
-                (subst (λ a. takes_ticket (act s.state a no_names).0 ≡ true) same h.takes, h.last)
-                meets),
+            λ h. let same : h.action ≡ action = cc in says.0 ∙ ap wants (exhausted
+                s.state step.1 action step.0 (rw same at h.takes, h.last) step.2),
           );
-          leaves_all = λ told.
-              let refused = sym (tell c answer).1 ∙ (ap refuses (sym said) ∙ told) in
-              let spent = unspent s c action answer R asked meets refused in
-              ap (λ (out : SessionReply T × SessionState T). out.1) settles
-              ∙ (λ i. add_place (record { state = refusing.still refused i; table = spent i })
-              (gives_nothing answer refused i));
-        }
+          leaves_all = λ told. let refused = rw says.1 at told in
+              let spent = unspent s c action step.0 step.1 asked step.2 refused in
+              rw (spent, refusing.still refused, gives_nothing step.0 refused);
+        })
 
     by_itself : refusal_in x ≡ None → ((action : Action T) → ask s c ≡ Asks action → ⊥)
         → RefusalLeavesAll s x r → Refuses s c x r
     by_itself none unasked leaves = record {
-      lack = λ told. absurd (none-some _ (sym none ∙ told));
-      exhaustion = (
-        λ told. absurd (none-some _ (sym none ∙ told)),
-        λ h. absurd (unasked h.action h.asks),
-      );
+      lack = λ told. cc;
+      exhaustion = (λ told. cc, λ h. absurd (unasked h.action h.asks));
       leaves_all = leaves;
     }
 
@@ -255,9 +207,8 @@ module _ {T : Type 0} where
     refusals step = at (ask s c) refl (comes_to s c) step
       where
         at : (q : Request T) → ask s c ≡ q → ComesTo s c q → Settles s c q x r → Refuses s c x r
-        at q is (asks action empties) step = by_machine action step.0 step.1 is step.2 step.3
-        at q is (tells y own) step = by_itself (ap refusal_in step.0 ∙ own_wants_none y own)
-            (λ action asked. let e = sym is ∙ asked in cc) (λ _. step.1)
-        at q is (swaps p g v old there) step = by_itself (ap refusal_in step.0)
-            (λ action asked. let e = sym is ∙ asked in cc)
-            (λ told. absurd (true≢false (sym told ∙ ap refuses step.0)))
+        at q is (asks {action} empties) step = by_machine action is step
+        at q is (tells y own) step =
+            by_itself (rw step.0 (own_wants_none y own)) (λ action asked. cc) (λ _. step.1)
+        at q is (swaps p g v old there) step =
+            by_itself (rw step.0 refl) (λ action asked. cc) (λ told. cc (ap refuses step.0))

@@ -1,29 +1,25 @@
 -- What each call of a session leaves and promises, in the code and in the machine.
-use Rattle.generational_sessions.proofs.sessions.Common
+use Rattle.generational_sessions.proofs.sessions
+use sessions.{ABox, act, Action, add_place, AllKeepPromises, AllTellEnds, Answer, ap, append-nil}
+use sessions.{append_assoc, arith, as_held, as_refusal, as_replies, as_reply, ask, asks, at_place}
+use sessions.{back_answer, Bool, BorrowMutError, BorrowRefusal, BorrowRefused, box_ends, box_held}
+use sessions.{box_in, box_stays, BoxAt, Boxed, by_run, by_step, Call, comes_to, ComesTo, cond, Done}
+use sessions.{Dropped, end_refused, ended_read, ended_write, EndsOwned, Err, Error, exchange, false}
+use sessions.{Flag, Foreign, fresh_kept, GenerationalPointer, GiveBoxesApart, Gives, gives}
+use sessions.{GivesAsked, GivesNewBox, Held, held_changed, held_pushed, hindrance_to, inl, inr}
+use sessions.{is_err, is_own, IsDone, IsFresh, IsGiven, IsNewBox, IsReleased, IsSound}
+use sessions.{IsSoundSession, KeepBoxes, last_cells, limit_tickets, List, list_map, listed_boxed}
+use sessions.{Location, Made, map-append, map-set, may_lack, Meets, meets_given, meets_number}
+use sessions.{meets_says, name_of, nat_lt, needs_memory, NeedsBox, NewNames, no_names, None}
+use sessions.{none-some, Nothing, Ok, OnOk, Option, Outcome, OwnerName, Ownership, ownership}
+use sessions.{Owning, Place, refl, refusals, Refused as refuses, release_owner, replace, Reply}
+use sessions.{reply_of, Request, Result, reverse, reverse-append, reverse-reverse, Run}
+use sessions.{session_ended, session_in, session_kept, SessionReply, SessionState, SessionStep}
+use sessions.{set-get_or, settled, Settles, shared_ends, shared_stays, slice_get, slice_set, Some}
+use sessions.{spend, State, suc, swaps, sym, takes_no_box, tells, TellsEnds, Thing, true≢false}
+use sessions.{unless, Writing, zero, ℕ, [], ⊎_elim, ◌++◌, ◌∙◌, ◌∷◌, ◌≡◌, ◌≢◌}
 use Rattle.generational_errors.specs.declared.error.Refused.{Refused}
-use Rattle.generational_sessions.proofs.sessions.{asks, swaps, tells}
-use Rattle.generational_sessions.proofs.sessions.{Refusals.refusals, Sessions.takes_no_box}
-use Common.{ABox, act, Action, add_place, AllKeepPromises, AllTellEnds, Answer, ap, append-nil}
-use Common.{append_assoc, as_held, as_refusal, as_replies, as_reply, ask, at_place, back_answer}
-use Common.{Bool, BorrowMutError, BorrowRefusal, BorrowRefused, box_ends, box_held, box_in}
-use Common.{box_stays, BoxAt, Boxed, Call, can_read, can_write, cond, Done, end_refused, ended_read}
-use Common.{ended_reply, ended_write, EndsOwned, Err, Error, exchange, false, Flag, Foreign}
-use Common.{GenerationalPointer, GiveBoxesApart, Gives, gives, GivesAsked, GivesNewBox, Held}
-use Common.{hindrance_to, if_ready, inl, inr, is_err, is_none, IsDone, IsFresh, IsGiven, IsNewBox}
-use Common.{IsReleased, IsSound, IsSoundSession, KeepBoxes, last_cells, limit_tickets, List}
-use Common.{list_map, listed_boxed, Made, map-append, map-set, may_lack, Meets, meets_given}
-use Common.{meets_number, meets_says, name_in, name_of, nat_eq, nat_lt, needs_memory, NeedsBox}
-use Common.{NewNames, no_names, None, none-some, Nothing, Ok, OnOk, Option, Outcome, owner_held}
-use Common.{OwnerName, Ownership, ownership, Owning, Place, pointer_of, refl, release_owner}
-use Common.{replace, Reply, reply_of, Request, Result, reverse, reverse-append, reverse-reverse}
-use Common.{Run, session_in, SessionReply, SessionState, SessionStep, set-get_or, Settles}
-use Common.{shared_ends, shared_stays, slice_get, slice_set, Some, spend, State, subst, suc, sym}
-use Common.{TellsEnds, Thing, true, true≢false, unless, Unready, with_box, with_owner, Writing}
-use Common.{zero, ℕ, [], ⊎_elim, ◌++◌, ◌∙◌, ◌∷◌, ◌≡◌, ◌≢◌}
-use Rattle.generational_sessions.proofs.sessions.Sessions.{by_run, by_step, comes_to, ComesTo}
-use Rattle.generational_sessions.proofs.sessions.Sessions.{fresh_kept, held_changed, is_own}
-use Rattle.generational_sessions.proofs.sessions.Sessions.{session_ended, session_kept}
-use Rattle.generational_sessions.proofs.sessions.{Refused as refuses}
+use Rattle.std.proofs.lemmas.List.{get_or_past}
 use Rattle.generational_sessions.specs.declared.calls.Call.TheVariants as call
 use Rattle.generational_errors.specs.declared.error.Refused.TheVariants as refused
 
@@ -37,200 +33,63 @@ set_back (z ∷ xs) (suc p) x y h = ap (λ xs. z ∷ xs) (set_back xs p x y h)
 pub put_back : {X : Type 0} {xs taken after : List X} (p : ℕ) {x z : X} (y : X) → slice_get xs p
     ≡ Some x → taken ≡ slice_set xs p y → after ≡ slice_set taken p z → z ≡ x → after ≡ xs
 put_back {xs = xs} p {x} y there takes puts is =
-    puts ∙ ((λ i. slice_set (takes i) p (is i)) ∙ set_back xs p x y there)
+    rw (puts, takes, is) (set_back xs p x y there)
 
 -- what holds of a result that is no error
 pub went : {A E P : Type 0} (r : Result A E) → false ≡ is_err r → OnOk r P → P
 went (Ok a) ok p = p
-went (Err e) ok p = absurd (true≢false (sym ok))
+went (Err e) ok p = cc
 
 module _ {T : Type 0} where
-  -- the reply to a call that is asked of the machine
-  reply_is : (s r : SessionState T) (c : Call T) (x : SessionReply T) (action : Action T)
-      (answer : Answer T) (step : Settles s c (Request.Asks action) x r)
-      → step.0 ≡ answer → x ≡ reply_of c answer
-  reply_is s r c x action answer step is =
-      ap (λ (out : SessionReply T × SessionState T). out.0) step.3 ∙ ap (reply_of c) is
-
   -- a call of an ended box is answered so, whatever names it takes
-  answers_ended : (s r : SessionState T) (c : Call T) (x : SessionReply T)
-      (o : Option GenerationalPointer) (action : GenerationalPointer → Action T)
-      (b : GenerationalPointer)
-      → ((new : NewNames)
-      → act s.state (action b) new ≡ (BorrowRefused (BorrowRefusal.Dropped b.created_at), s.state))
-      → o ≡ Some b → Settles s c (with_box o None (λ b. Request.Asks (action b))) x r
-      → x ≡ Error (BorrowRefusal.Dropped b.created_at)
+  told_ended : (s r : SessionState T) (c : Call T) (x : SessionReply T) (action : Action T)
+      (l : Location)
+      → ((new : NewNames) → act s.state action new ≡ (BorrowRefused (Dropped l), s.state))
+      → Settles s c (Request.Asks action) x r → x ≡ Error (Dropped l)
   unfolding may_lack
-  answers_ended s r c x o action b acts is step =
-      let it : Settles s c (Request.Asks (action b)) x r =
-      subst (λ o. Settles s c (with_box o None (λ b. Request.Asks (action b))) x r) is step in
-      reply_is s r c x (action b) _ it (answer_is it.0 it.1 it.2)
-    where
-      answer_is : (answer : Answer T) (R : State T) → Meets s.state (action b) answer R
-          → answer ≡ BorrowRefused (BorrowRefusal.Dropped b.created_at)
-      answer_is answer R (inl m) =
-          ap (λ (out : Outcome T). out.0) (m.2 ∙ ap (limit_tickets s.state) (acts m.0))
-      answer_is answer R (inr m) = absurd (true≢false (sym m.0 ∙ ap (λ (out : Outcome T).
-          needs_memory s.state (limit_tickets s.state out).0 (action b)) (acts no_names)))
-
-  -- a call whose condition doesn't hold is told so
-  told_unready : (s r : SessionState T) (c : Call T) (x : SessionReply T)
-      (o : Option GenerationalPointer) (ready : GenerationalPointer → Bool) (back : Option T)
-      (next : GenerationalPointer → Request T) (b : GenerationalPointer) → ready b ≡ false
-      → o ≡ Some b → Settles s c (with_box o back (λ b. if_ready (ready b) back (next b))) x r
-      → x ≡ Unready back
-  told_unready s r c x o ready back next b unready is step =
-      let it : Settles s c (if_ready (ready b) back (next b)) x r =
-      subst (λ o. Settles s c (with_box o back (λ b. if_ready (ready b) back (next b))) x r) is step
-      in (subst (λ q. Settles s c (if_ready q back (next b)) x r) unready it).0
+  told_ended s r c x action l acts (answer, R, inl m, is) =
+      ap (λ (out : SessionReply T × SessionState T). out.0) is
+      ∙ ap (λ (out : Outcome T). reply_of c out.0) (rw (acts m.0) at m.2)
+  told_ended s r c x action l acts (answer, R, inr m, is) = absurd
+      (true≢false (sym m.0 ∙ ap (λ (out : Outcome T).
+      needs_memory s.state (limit_tickets s.state out).0 action) (acts no_names)))
 
   pub tells_ends : (s r : SessionState T) (c : Call T) (x : SessionReply T)
       → SessionStep s c x r → TellsEnds s c x
   tells_ends s r (call.LeakReference p) x step b needed ended =
-      answers_ended s r (call.LeakReference p) x (box_in s p) (λ b. Action.Refer None b) b
-      (λ new. rw (ended_read s.state b ended, unless) refl) needed step
-  tells_ends s r (call.TryRead p l) x step b needed ended =
-      answers_ended s r (call.TryRead p l) x (box_in s p) (λ b. Action.Read b l) b
-      (λ new. rw (ended_read s.state b ended, unless) refl) needed step
-  tells_ends s r (call.TryWrite p l) x step b needed ended =
-      answers_ended s r (call.TryWrite p l) x (box_in s p) (λ b. Action.Write b l) b
-      (λ new. rw (ended_write s.state b ended, unless) refl) needed step
-  tells_ends s r (call.Read p l) x step b needed ended = told_unready s r (call.Read p l) x
-      (box_in s p) (can_read s.state) None (λ b. Request.Asks (Action.Read b l)) b
-      (ap is_none (ended_read s.state b ended)) needed step
-  tells_ends s r (call.Write p l) x step b needed ended = told_unready s r (call.Write p l) x
-      (box_in s p) (can_write s.state) None (λ b. Request.Asks (Action.Write b l)) b
-      (ap is_none (ended_write s.state b ended)) needed step
-  tells_ends s r (call.Set p v) x step b needed ended = told_unready s r (call.Set p v) x
-      (box_in s p) (can_write s.state) (Some v) (λ b. Request.Asks (Action.SetValue b v)) b
-      (ap is_none (ended_write s.state b ended)) needed step
+      told_ended s r (call.LeakReference p) x (Action.Refer None b) _
+      (λ new. rw (ended_read s.state b ended, unless)) (rw needed at step)
+  tells_ends s r (call.TryRead p l) x step b needed ended = told_ended s r (call.TryRead p l) x
+      (Action.Read b l) _ (λ new. rw (ended_read s.state b ended, unless)) (rw needed at step)
+  tells_ends s r (call.TryWrite p l) x step b needed ended = told_ended s r (call.TryWrite p l) x
+      (Action.Write b l) _ (λ new. rw (ended_write s.state b ended, unless)) (rw needed at step)
+  tells_ends s r (call.Read p l) x step b needed ended =
+      (rw (needed, ended_read s.state b ended) at step).0
+  tells_ends s r (call.Write p l) x step b needed ended =
+      (rw (needed, ended_write s.state b ended) at step).0
+  tells_ends s r (call.Set p v) x step b needed ended =
+      (rw (needed, ended_write s.state b ended) at step).0
   tells_ends s r c x step b needed ended = absurd needed
 
   -- a reply gives the box that the machine made
   made_by : (answer : Answer T) (c : Call T) (b : GenerationalPointer)
       → reply_of c answer ≡ ABox b → answer ≡ Made b
   made_by (refuses e) (call.Leak v l) b h = cc
-  made_by (refuses e) (call.LeakRc v l) b h = cc
-  made_by (refuses e) (call.Insert p v l) b h = cc
-  made_by (refuses e) (call.InsertRc p v l) b h = cc
   made_by (Flag f) (call.Release p) b h = cc
   made_by answer c b h = cc
-
-  -- a box that is given was never given before, and is given from then on
-  session_new : (s r : SessionState T) (c : Call T) (x : SessionReply T) → SessionStep s c x r
-      → (b : GenerationalPointer) → x ≡ ABox b → IsNewBox s.state r.state b
-  session_new s r c x step b is = at (ask s c) (comes_to s c) step
-    where
-      at : (q : Request T) → ComesTo s c q → Settles s c q x r → IsNewBox s.state r.state b
-      at q (asks action empties) step =
-          let made = made_by step.0 c b (sym (reply_is s r c x action step.0 step refl) ∙ is) in
-          let after = ap (λ (out : SessionReply T × SessionState T). out.1.state) step.3 in
-          subst (λ (S : State T). IsNewBox s.state S b) (sym after) (meets_says s.state
-          step.1 action (Made b) (subst (λ a. Meets s.state action a step.1) made step.2))
-      at q (tells y own) step = absurd (true≢false (sym own ∙ ap is_own (sym step.0 ∙ is)))
-      at q (swaps p g v old there) step = let e = sym step.0 ∙ is in cc
-
-  pub gives_new_box : (s r : SessionState T) (c : Call T) (x : SessionReply T)
-      → SessionStep s c x r → GivesNewBox s x
-  gives_new_box s r c x step b is =
-      let it = session_new s r c x step b is in record { number = it.number; ungiven = it.ungiven }
-
-  -- no reply gives a box of a name that was given before the run
-  run_new : (calls : List (Call T)) (replies : List (SessionReply T)) (s r : SessionState T)
-      → Run s calls replies r → (i : ℕ) (b : GenerationalPointer)
-      → slice_get replies i ≡ Some (ABox b) → IsGiven s.state (name_of b) → ⊥
-  run_new [] [] s r run i b is given = cc
-  run_new (c ∷ calls) (x ∷ replies) s r run zero b is given =
-      true≢false (sym given ∙ (session_new s run.0 c x run.1 b cc).ungiven)
-  run_new (c ∷ calls) (x ∷ replies) s r run (suc i) b is given =
-      run_new calls replies run.0 r run.2 i b is (by_step s run.0 c x (λ S. IsGiven S (name_of b))
-      (λ S R action answer h meets. meets_given S R action answer meets (name_of b) h) run.1 given)
-  run_new calls replies s r run i b is given = absurd run
-
-  pub boxes_apart : (calls : List (Call T)) (replies : List (SessionReply T)) (s r : SessionState T)
-      → Run s calls replies r → GiveBoxesApart replies
-  boxes_apart [] [] s r run i j b c is at same = cc
-  boxes_apart (k ∷ calls) (x ∷ replies) s r run zero zero b c is at same = refl
-  boxes_apart (k ∷ calls) (x ∷ replies) s r run zero (suc j) b c is at same =
-      absurd (run_new calls replies run.0 r run.2 j c at
-      (subst (λ id. IsGiven run.0.state (name_in id)) same
-      (session_new s run.0 k x run.1 b cc).boxed.0))
-  boxes_apart (k ∷ calls) (x ∷ replies) s r run (suc i) zero b c is at same =
-      absurd (run_new calls replies run.0 r run.2 i b is
-      (subst (λ id. IsGiven run.0.state (name_in id)) (sym same)
-      (session_new s run.0 k x run.1 c cc).boxed.0))
-  boxes_apart (k ∷ calls) (x ∷ replies) s r run (suc i) (suc j) b c is at same =
-      ap suc (boxes_apart calls replies run.0 r run.2 i j b c is at same)
-  boxes_apart calls replies s r run i j b c is at same = absurd run
 
   -- a place more leaves what stands before it
   held_before : (table : List (Held T)) (y : Held T) (p : ℕ) (b : GenerationalPointer)
       → at_place table p ≡ Boxed b → at_place (table ++ y ∷ []) p ≡ Boxed b
-  held_before [] y p b is = cc
-  held_before (x ∷ table) y zero b is = is
-  held_before (x ∷ table) y (suc p) b is = held_before table y p b is
+  held_before table y p b is = ⊎_elim (λ e. e ∙ is)
+      (λ e. let none = get_or_past table p Nothing (omega arith) in cc) (held_pushed table y p)
 
   -- another thing at a place that held no box
   held_beside : (table : List (Held T)) (q : ℕ) (y : Held T) (p : ℕ) (b : GenerationalPointer)
       → at_place table q ≢ Boxed b → at_place table p ≡ Boxed b
       → at_place (slice_set table q y) p ≡ Boxed b
   held_beside table q y p b other is = ⊎_elim (λ e. e ∙ is)
-      (λ e. absurd (other (sym (ap (at_place table) e.0) ∙ is))) (held_changed table q y p)
-
-  -- each call, and so each run, leaves the boxes at their places
-  pub keep_boxes : (s r : SessionState T) (c : Call T) (x : SessionReply T)
-      → SessionStep s c x r → KeepBoxes s r
-  keep_boxes s r c x step p b is = at (ask s c) (comes_to s c) step
-    where
-      at : (q : Request T) → ComesTo s c q → Settles s c q x r → at_place r.table p ≡ Boxed b
-      at q (asks action empties) step = let it = empties step.0 in
-          ap (λ (out : SessionReply T × SessionState T). at_place out.1.table p) step.3
-          ∙ held_before (spend c step.0 s.table)
-          (gives step.0) p b (ap (λ table. at_place table p) it.1 ∙ held_beside
-          s.table it.0 Nothing p b (λ e. takes_no_box action step.0 b (sym it.2 ∙ e)) is)
-      at q (tells y own) step =
-          ap (λ (s : SessionState T). at_place s.table p) step.1 ∙ held_before s.table _ p b is
-      at q (swaps k g v old there) step = ap (λ (r : SessionState T). at_place r.table p) step.1
-          ∙ held_before (slice_set s.table k (Writing g v)) Nothing p b
-          (held_beside s.table k (Writing g v) p b (λ e. let x = sym there ∙ e in cc) is)
-
-  pub run_keep_boxes : (calls : List (Call T)) (replies : List (SessionReply T))
-      (s r : SessionState T) → Run s calls replies r → KeepBoxes s r
-  run_keep_boxes calls replies s r run p b is = by_run (λ s. at_place s.table p ≡ Boxed b)
-      (λ s r c x h step. keep_boxes s r c x step p b h) calls replies s r is run
-
-  -- so a call names the same box after another call
-  box_in_kept : (s r : SessionState T) (c : Call T) (x : SessionReply T) → SessionStep s c x r
-      → (a : BoxAt T) (b : GenerationalPointer) → box_in s a ≡ Some b → box_in r a ≡ Some b
-  box_in_kept s r c x step (Place p) b is =
-      ap box_held (keep_boxes s r c x step p b ((elim (at_place s.table p) as (λ h. box_held h
-      ≡ Some b → h ≡ Boxed b)
-      [ Boxed d ↦ λ e. let same : d ≡ b = cc in ap Boxed same | h ↦ λ e. cc ]) is))
-  box_in_kept s r c x step (Foreign d) b is = ap (λ n. cond (nat_eq (pointer_of d).id.store n)
-      None (Some (pointer_of d))) (by_step s r c x (λ S. S.number ≡ s.state.number)
-      (λ S R action answer e meets. meets_number S R action answer meets ∙ e) step refl) ∙ is
-
-  need_kept : (s r : SessionState T) (c : Call T) (x : SessionReply T) → SessionStep s c x r
-      → (k : Call T) (b : GenerationalPointer) → NeedsBox s k b → NeedsBox r k b
-  need_kept s r c x step (call.LeakReference a) b is = box_in_kept s r c x step a b is
-  need_kept s r c x step (call.TryRead a l) b is = box_in_kept s r c x step a b is
-  need_kept s r c x step (call.TryWrite a l) b is = box_in_kept s r c x step a b is
-  need_kept s r c x step (call.Read a l) b is = box_in_kept s r c x step a b is
-  need_kept s r c x step (call.Write a l) b is = box_in_kept s r c x step a b is
-  need_kept s r c x step (call.Set a v) b is = box_in_kept s r c x step a b is
-  need_kept s r c x step k b is = absurd is
-
-  pub all_tell_ends : (calls : List (Call T)) (replies : List (SessionReply T))
-      (s r : SessionState T) → Run s calls replies r → AllTellEnds s calls replies
-  all_tell_ends [] [] s r run i k b there needed ended = cc
-  all_tell_ends (c ∷ calls) (x ∷ replies) s r run zero k b there needed ended =
-      let same : k ≡ c = cc in
-      ap Some (tells_ends s run.0 c x run.1 b (subst (λ k. NeedsBox s k b) same needed) ended
-      ∙ ap (λ c. ended_reply c b) (sym same))
-  all_tell_ends (c ∷ calls) (x ∷ replies) s r run (suc i) k b there needed ended =
-      all_tell_ends calls replies run.0 r run.2 i k b there
-      (need_kept s run.0 c x run.1 k b needed) (session_ended s run.0 c x run.1 (name_of b) ended)
-  all_tell_ends calls replies s r run i k b there needed ended = absurd run
+      (λ e. absurd (other (rw e.0 at is))) (held_changed table q y p)
 
   -- an owner's release that is told as done is done
   release_done : (S : State T) (o : OwnerName) (h : Option Ownership) (p : ℕ)
@@ -242,50 +101,125 @@ module _ {T : Type 0} where
       split : (b : Bool) (t : Option BorrowRefusal) (less left : State T)
           → let out = limit_tickets S (cond b (Done, less) (unless t S (Done, left))) in
           reply_of (call.ReleaseOwner p) out.0 ≡ IsDone → out.0 ≡ Done
-      split true t less left e = refl
-      split false None less left e = refl
       split false (Some t) less left e = cc
+      split _ _ less left e = cc
 
   -- an owner at a place whose release is answered done was released by the store
   pub session_released : (s r : SessionState T) (p : ℕ) (o : OwnerName) (h : Ownership)
       → SessionStep s (call.ReleaseOwner p) IsDone r → at_place s.table p ≡ Owning o
       → ownership s.state o ≡ Some h → IsReleased s.state o h r.state
-  session_released s r p o h step is there = record {
+  session_released s r p o h step is there = let release = rw is at step in record {
     held = there;
-    done = subst (Meets s.state (Action.ReleaseOwner o) Done)
-        (sym (ap (λ (out : SessionReply T × SessionState T). out.1.state) release.3))
-        (subst (λ answer. Meets s.state (Action.ReleaseOwner o) answer release.1)
-        (answer_is release.0 release.1 release.2 (sym (reply_is s r (call.ReleaseOwner p) IsDone
-        (Action.ReleaseOwner o) _ release refl))) release.2);
+    done = let after = settled s r (call.ReleaseOwner p) IsDone _ release in
+        rw after.1 (rw (answer_is release.0 release.1 release.2 (sym after.0)) at release.2);
   }
     where
-      release : Settles s (call.ReleaseOwner p) (Request.Asks (Action.ReleaseOwner o)) IsDone r
-      release = subst (λ x. Settles s (call.ReleaseOwner p) (with_owner (owner_held x)
-          None (λ o. Request.Asks (Action.ReleaseOwner o))) IsDone r) is step
-
       answer_is : (answer : Answer T) (R : State T) → Meets s.state (Action.ReleaseOwner o) answer R
           → reply_of (call.ReleaseOwner p) answer ≡ IsDone → answer ≡ Done
       answer_is answer R (inl m) told = let e = ap (λ (out : Outcome T). out.0) m.2 in
-          e ∙ release_done s.state o (ownership s.state o) p
-          (sym (ap (reply_of (call.ReleaseOwner p)) e) ∙ told)
-      answer_is answer R (inr m) told =
-          let e = sym (ap (reply_of (call.ReleaseOwner p)) m.1) ∙ told in cc
+          e ∙ release_done s.state o (ownership s.state o) p (rw e at told)
+      answer_is answer R (inr m) told = cc
 
-  pub lasts_end : (s r : SessionState T) (c : Call T) (x : SessionReply T)
-      → IsSound s.state → SessionStep s c x r → EndsOwned s c x r
-  lasts_end s r c x sound step h it done =
-      let cells = s.state.cells in
-      let release = session_released s r it.place it.owner h
-      (subst (λ c. SessionStep s c IsDone r) it.releases
-      (subst (λ x. SessionStep s c x r) done step)) it.there it.known in
-      let left = last_cells release it.last in
-      record {
-        boxes = λ n there. rw left (box_ends cells h.names n
-            (listed_boxed s.state it.owner h n sound release.held there) there);
-        others = λ n apart box. rw left (box_stays cells h.names n box apart);
-        unnamed = λ n shared. rw left (shared_ends cells h.names n shared);
-        named = λ n shared. rw left (shared_stays cells h.names n shared);
-      }
+  module _ (s r : SessionState T) (c : Call T) (x : SessionReply T)
+      (step : SessionStep s c x r) where
+    -- a box that is given was never given before, and is given from then on
+    session_new : (b : GenerationalPointer) → x ≡ ABox b → IsNewBox s.state r.state b
+    session_new b is = at (ask s c) (comes_to s c) step
+      where
+        at : (q : Request T) → ComesTo s c q → Settles s c q x r → IsNewBox s.state r.state b
+        at q (asks {action} empties) step =
+            let after = settled s r c x action step in
+            rw after.1 (meets_says s.state step.1 action (Made b)
+            (rw (made_by step.0 c b (rw after.0 at is)) at step.2))
+        at q (tells y own) step = cc (ap is_own step.0, ap is_own is)
+        at q (swaps p g v old there) step = cc
+
+    pub gives_new_box : GivesNewBox s x
+    gives_new_box b is = assumption (session_new b is)
+
+    -- each call, and so each run, leaves the boxes at their places
+    pub keep_boxes : KeepBoxes s r
+    keep_boxes p b is = at (ask s c) (comes_to s c) step
+      where
+        at : (q : Request T) → ComesTo s c q → Settles s c q x r → at_place r.table p ≡ Boxed b
+        at q (asks {action} empties) step = let it = empties step.0 in
+            rw ((settled s r c x action step).1, it.1) (held_before _ (gives step.0) p b
+            (held_beside s.table it.0 Nothing p b
+            (λ e. takes_no_box action step.0 b (rw it.2 at e)) is))
+        at q (tells y own) step = rw step.1 (held_before s.table _ p b is)
+        at q (swaps k g v old there) step = rw step.1
+            (held_before _ Nothing p b (held_beside s.table k (Writing g v) p b (λ e. cc) is))
+
+    -- so a call names the same box after another call
+    box_in_kept : (a : BoxAt T) (b : GenerationalPointer)
+        → box_in s a ≡ Some b → box_in r a ≡ Some b
+    box_in_kept (Place p) b is = ap box_held (keep_boxes p b ((elim (at_place s.table p) as
+        (λ h. box_held h ≡ Some b → h ≡ Boxed b) [ Boxed d ↦ λ e. cc | h ↦ λ e. cc ]) is))
+    box_in_kept (Foreign d) b is = rw (by_step s r c x (λ S. S.number ≡ s.state.number)
+        (λ S R action answer e meets. meets_number S R action answer meets ∙ e) step refl) is
+
+    ruleset kept_boxes = (box_in_kept)
+
+    need_kept : (k : Call T) (b : GenerationalPointer) → NeedsBox s k b → NeedsBox r k b
+    need_kept (call.LeakReference a) b is = box_in_kept a b is
+    need_kept _ b is = search kept_boxes
+
+    -- the last release of an owner that is done ends its boxes
+    pub lasts_end : IsSound s.state → EndsOwned s c x r
+    lasts_end sound h it done =
+        let cells = s.state.cells in
+        let release = session_released s r it.place it.owner h
+        (rw (done, it.releases) at step) it.there it.known in
+        let left = last_cells release it.last in
+        record {
+          boxes = λ n there. rw left (box_ends cells h.names n
+              (listed_boxed s.state it.owner h n sound release.held there) there);
+          others = λ n apart box. rw left (box_stays cells h.names n box apart);
+          unnamed = λ n shared. rw left (shared_ends cells h.names n shared);
+          named = λ n shared. rw left (shared_stays cells h.names n shared);
+        }
+
+  -- no reply gives a box of a name that was given before the run
+  run_new : (calls : List (Call T)) (replies : List (SessionReply T)) (s r : SessionState T)
+      → Run s calls replies r → (i : ℕ) (b : GenerationalPointer)
+      → slice_get replies i ≡ Some (ABox b) → IsGiven s.state (name_of b) → ⊥
+  run_new [] [] s r run i b is given = cc
+  run_new (c ∷ calls) (x ∷ replies) s r run zero b is given =
+      let e = (session_new s run.0 c x run.1 b cc).ungiven in cc
+  run_new (c ∷ calls) (x ∷ replies) s r run (suc i) b is given =
+      run_new calls replies run.0 r run.2 i b is (by_step s run.0 c x (λ S. IsGiven S (name_of b))
+      (λ S R action answer h meets. meets_given S R action answer meets (name_of b) h) run.1 given)
+  run_new calls replies s r run i b is given = absurd run
+
+  pub boxes_apart : (calls : List (Call T)) (replies : List (SessionReply T)) (s r : SessionState T)
+      → Run s calls replies r → GiveBoxesApart replies
+  boxes_apart [] [] s r run i j b c is at same = cc
+  boxes_apart (k ∷ calls) (x ∷ replies) s r run zero zero b c is at same = refl
+  boxes_apart (k ∷ calls) (x ∷ replies) s r run zero (suc j) b c is at same =
+      absurd (run_new calls replies run.0 r run.2 j c at
+      (rw same at ((session_new s run.0 k x run.1 b cc).boxed.0)))
+  boxes_apart (k ∷ calls) (x ∷ replies) s r run (suc i) zero b c is at same =
+      absurd (run_new calls replies run.0 r run.2 i b is
+      (rw (← same) at ((session_new s run.0 k x run.1 c cc).boxed.0)))
+  boxes_apart (k ∷ calls) (x ∷ replies) s r run (suc i) (suc j) b c is at same =
+      ap suc (boxes_apart calls replies run.0 r run.2 i j b c is at same)
+  boxes_apart calls replies s r run i j b c is at same = absurd run
+
+  pub run_keep_boxes : (calls : List (Call T)) (replies : List (SessionReply T))
+      (s r : SessionState T) → Run s calls replies r → KeepBoxes s r
+  run_keep_boxes calls replies s r run p b is = by_run (λ s. at_place s.table p ≡ Boxed b)
+      (λ s r c x h step. keep_boxes s r c x step p b h) calls replies s r is run
+
+  pub all_tell_ends : (calls : List (Call T)) (replies : List (SessionReply T))
+      (s r : SessionState T) → Run s calls replies r → AllTellEnds s calls replies
+  all_tell_ends [] [] s r run i k b there needed ended = cc
+  all_tell_ends (c ∷ calls) (x ∷ replies) s r run zero k b there needed ended =
+      let same : k ≡ c = cc in
+      rw same (ap Some (tells_ends s run.0 c x run.1 b (rw same at needed) ended))
+  all_tell_ends (c ∷ calls) (x ∷ replies) s r run (suc i) k b there needed ended =
+      all_tell_ends calls replies run.0 r run.2 i k b there
+      (need_kept s run.0 c x run.1 k b needed) (session_ended s run.0 c x run.1 (name_of b) ended)
+  all_tell_ends calls replies s r run i k b there needed ended = absurd run
 
   pub all_keep_promises : (calls : List (Call T)) (replies : List (SessionReply T))
       (s r : SessionState T) → IsSoundSession s → (run : Run s calls replies r)
@@ -297,7 +231,7 @@ module _ {T : Type 0} where
         record {
           tells_ends = tells_ends s run.0 c x run.1;
           new_box = gives_new_box s run.0 c x run.1;
-          ends_owned = lasts_end s run.0 c x kept.sound run.1;
+          ends_owned = lasts_end s run.0 c x run.1 kept.sound;
           tells_lack = told.lack;
           tells_exhaustion = told.exhaustion;
           refusal_leaves_all = told.leaves_all;
@@ -311,8 +245,7 @@ module _ {T : Type 0} where
   -- a session over a fresh store
   pub new_kept : (S : State T) (items : List (Thing T))
       → IsFresh S → items ≡ [] → IsSoundSession (session_in S items)
-  new_kept S items f none = rw none (subst (λ X. IsSoundSession (record { state = X; table = [] }))
-      (sym f) (fresh_kept S.number S.start S.next))
+  new_kept S items f none = rw (none, f) (fresh_kept S.number S.start S.next)
 
   -- what a call gives, once it has its place, is a step of the session
   asked_step : (s m : SessionState T) (c : Call T) (a : Request T) (x : SessionReply T) (h : Held T)
@@ -326,11 +259,8 @@ module _ {T : Type 0} where
       → session_in S items ≡ s → Gives (session_in S items) c x (as_held t) (session_in R kept)
       → after ≡ kept ++ t ∷ [] → SessionStep s c x (session_in R after)
   call_step {s} S R items kept after c x t view gives more =
-      subst (λ q. SessionStep q c x (session_in R after)) view
-      (subst (λ table. SessionStep (session_in S items) c x (record { state = R; table = table }))
-      (sym (ap (list_map as_held) more ∙ map-append as_held kept (t ∷ [])))
-      (asked_step (session_in S items) (session_in R kept) c (ask (session_in S items) c) x
-      (as_held t) gives))
+      rw (← view, more, map-append as_held kept (t ∷ [])) (asked_step (session_in S items)
+      (session_in R kept) c (ask (session_in S items) c) x (as_held t) gives)
 
   -- what stands at a place, and what is put there
   pub held_there : (items : List (Thing T)) (p : ℕ) (t : Thing T) → slice_get items p ≡ Some t
@@ -365,11 +295,9 @@ module _ {T : Type 0} where
       → x ≡ (exchange h v).0 → as_held u ≡ (exchange h v).1 → GivesAsked
       (session_in S items) (call.Replace p v) (replace p h v) x Nothing (session_in S after)
   exchange_gives S items after p v x u (Writing g old) is set reply put =
-      let now = set ∙ ap (slice_set (list_map as_held items) p) put in
-      (reply, refl, λ i. record { state = S; table = now i })
+      (reply, refl, rw (set, put))
   exchange_gives S items after p v x u h is set reply put =
-      let now = set ∙ (ap (slice_set (list_map as_held items) p) (put ∙ sym is) ∙ set-get_or
-      (list_map as_held items) p Nothing) in (reply, refl, λ i. record { state = S; table = now i })
+      (reply, refl, rw (set, put ∙ sym is, set-get_or (list_map as_held items) p Nothing))
 
   -- a run of the calls that are left, behind the replies so far, is a run of all
   abbrev Continues : SessionState T → List (Call T) → State T → List (Thing T) → List (Call T)

@@ -1,23 +1,23 @@
 -- Each call of a session keeps what holds of every session, and so does a whole run.
 use Rattle.generational_sessions.proofs.sessions.Common
 use Rattle.generational_core.proofs.machine.Guarding.{reader_stands, writer_stands}
+use Rattle.generational_core.specs.Keeping.{IsUnwritten}
 use Common.{Action, add_place, and_parts, Answer, ap, AreOne, arith, ask, AskedSets, at_place, Bool}
-use Common.{box_in, Boxed, boxed_stays, Call, can_read, can_write, Cell, cond, content_at, count_by}
-use Common.{count_in, count_under, Done, ends_reader, ends_writer, eq-eqb, eqb-true, false}
-use Common.{false_from_ne_true, fresh, fresh_bounded, fresh_sound, GenerationalPointer, gives}
-use Common.{Guard, Held, holds_owner, if_ready, inl, inr, is_known, is_shared, is_some, IsBounded}
-use Common.{IsEnded, IsOwn, IsSound, IsSoundSession, IsUndisturbed, knows_reader, knows_writer}
-use Common.{length, List, Location, Made, made_boxed, made_new, Meets, meets_bounded, meets_ended}
-use Common.{meets_number, meets_sound, meets_value, Name, name_of, nat_eq_equiv, None, Nothing}
-use Common.{Option, Owned, owner_held, owner_in, OwnerName, Ownership, Owning, reach, reader_stays}
-use Common.{Reading, Reads, reads_known, ref_reaches, refl, release, replace, Request, Run}
-use Common.{SessionReply, SessionState, SessionStep, Settles, slice_set, Some, spend, State, subst}
-use Common.{suc, sum_by-cons, sum_by_push, swap, sym, true, true≢false, Undisturbed, value_at}
-use Common.{with_box, with_owner, writer_stays, Writes, writes_known, Writing, zero, ℕ, [], ⊎_elim}
-use Common.{◌++◌, ◌+◌, ◌<◌, ◌∙◌, ◌∷◌, ◌≡◌, ◌≢◌, ◌≤◌, ◌⊎◌}
-use Rattle.generational_sessions.proofs.sessions.OwnerValues.{meets_counts, owners_in, takes}
+use Common.{box_in, BoxAt, Boxed, boxed_stays, Call, Cell, count_by, count_in, count_under, Done}
+use Common.{ends_reader, ends_writer, eq-eqb, eqb-true, false, false_from_ne_true, fresh}
+use Common.{fresh_bounded, fresh_sound, GenerationalPointer, gives, Guard, Held, holds_owner}
+use Common.{if_ready, inl, inr, is_known, is_shared, is_some, IsBounded, IsEnded, IsOwn, IsSound}
+use Common.{IsSoundSession, IsUndisturbed, length, List, Location, Made, made_boxed, made_new}
+use Common.{Meets, meets_bounded, meets_ended, meets_number, meets_sound, meets_value, Name}
+use Common.{name_of, nat_eq, None, Nothing, Option, Owned, owner_held, owner_in, OwnerName}
+use Common.{Ownership, Owning, reach, reader_stays, Reading, Reads, reads_known, ref_reaches, refl}
+use Common.{release, replace, Request, Run, SessionReply, SessionState, SessionStep, settle}
+use Common.{Settles, slice_set, Some, spend, State, suc, sum_by-cons, sum_by_push, swap, sym, true}
+use Common.{Undisturbed, value_at, with_box, with_owner, writer_stays, Writes, writes_known}
+use Common.{Writing, zero, ℕ, [], ⊎_elim, ◌++◌, ◌+◌, ◌<◌, ◌∙◌, ◌∷◌, ◌≡◌, ◌≢◌, ◌≤◌, ◌⊎◌}
+use Rattle.generational_sessions.proofs.sessions.OwnerValues.{itself, meets_counts, owners_in}
+use Rattle.generational_sessions.proofs.sessions.OwnerValues.{takes}
 use Rattle.std.specs.FinMap as map
-use Rattle.std.specs.FinSet as set
 use Rattle.generational_sessions.specs.declared.calls.Call.TheVariants as call
 
 module _ {T : Type 0} where
@@ -28,32 +28,28 @@ module _ {T : Type 0} where
       → (at_place (table ++ x ∷ []) p ≡ at_place table p)
       ⊎ ((p ≡ length table) × (at_place (table ++ x ∷ []) p ≡ x))
   held_pushed [] x zero = inr (refl, refl)
-  held_pushed [] x (suc p) = inl refl
-  held_pushed (h ∷ table) x zero = inl refl
   held_pushed (h ∷ table) x (suc p) =
       ⊎_elim inl (λ e. inr (ap suc e.0, e.1)) (held_pushed table x p)
+  held_pushed table x p = inl refl
 
   -- a place that holds another thing, and the others
   pub held_changed : (table : List (Held T)) (p : ℕ) (x : Held T) (q : ℕ)
       → (at_place (slice_set table p x) q ≡ at_place table q)
       ⊎ ((q ≡ p) × (at_place (slice_set table p x) q ≡ x))
-  held_changed [] p x q = inl refl
   held_changed (h ∷ table) zero x zero = inr (refl, refl)
-  held_changed (h ∷ table) zero x (suc q) = inl refl
-  held_changed (h ∷ table) (suc p) x zero = inl refl
   held_changed (h ∷ table) (suc p) x (suc q) =
       ⊎_elim inl (λ e. inr (ap suc e.0, e.1)) (held_changed table p x q)
+  held_changed table p x q = inl refl
 
   -- a place that was emptied, and the others
   held_emptied : (table : List (Held T)) (p q : ℕ)
       → (at_place (slice_set table p Nothing) q ≡ Nothing)
       ⊎ ((at_place (slice_set table p Nothing) q ≡ at_place table q) × (q ≢ p))
-  held_emptied [] p q = inl refl
-  held_emptied (h ∷ table) zero zero = inl refl
   held_emptied (h ∷ table) zero (suc q) = inr (refl, λ e. cc)
   held_emptied (h ∷ table) (suc p) zero = inr (refl, λ e. cc)
   held_emptied (h ∷ table) (suc p) (suc q) =
       ⊎_elim inl (λ e. inr (e.0, λ same. e.1 cc)) (held_emptied table p q)
+  held_emptied table p q = inl refl
 
   -- a place that isn't given yet is empty already
   beyond : (table : List (Held T))
@@ -66,17 +62,16 @@ module _ {T : Type 0} where
       → count_by (holds_owner key) (slice_set table i x) + owners_in key (at_place table i)
       ≤ count_by (holds_owner key) table + owners_in key x
   count_changed key [] i x = omega arith
-  count_changed key (h ∷ table) zero x = let new = sum_by-cons (owners_in key) x table in
-      let old = sum_by-cons (owners_in key) h table in omega arith
+  count_changed key (h ∷ table) zero x =
+      omega (arith, sum_by-cons (owners_in key) x table, sum_by-cons (owners_in key) h table)
   count_changed key (h ∷ table) (suc i) x =
       let new = sum_by-cons (owners_in key) h (slice_set table i x) in
-      let old = sum_by-cons (owners_in key) h table in
-      let rest = count_changed key table i x in omega arith
+      omega (arith, new, sum_by-cons (owners_in key) h table, count_changed key table i x)
 
   -- ---- things that are one
 
   same_as : {a b x y : Held T} → a ≡ x → b ≡ y → AreOne a b → AreOne x y
-  same_as {a} {b} {x} {y} e k one = subst (λ z. AreOne z y) e (subst (AreOne a) k one)
+  same_as e k one = rw (← e) (rw k at one)
 
   same_turned : (x y : Held T) → AreOne x y → AreOne y x
   unfolding AreOne
@@ -84,11 +79,6 @@ module _ {T : Type 0} where
   same_turned (Reading g) (Reading h) one = sym one
   same_turned (Writing g v) (Writing h w) one = sym one
   same_turned x y one = absurd one
-
-  none_one : (x : Held T) → AreOne x Nothing → ⊥
-  unfolding AreOne
-  none_one (Boxed b) one = one
-  none_one x one = one
 
   -- no two places of a table hold one thing
   abbrev AreApart : List (Held T) → Type 0
@@ -114,18 +104,16 @@ module _ {T : Type 0} where
   kept_pushed s x kept own new room = record {
     sound = kept.sound;
     bounded = kept.bounded;
-    own = λ p. ⊎_elim (λ e. subst (IsOwn s.state) (sym e) (kept.own p))
-        (λ e. subst (IsOwn s.state) (sym e.1) own) (held_pushed s.table x p);
+    own = λ p. ⊎_elim (λ e. rw e (kept.own p)) (λ e. rw e.1 own) (held_pushed s.table x p);
     apart = still_apart s.table (s.table ++ x ∷ []) (length s.table) x kept.apart
         (held_pushed s.table x) (λ q one. absurd (new q one));
-    counted = λ key. let pushed = sum_by_push (owners_in key) s.table x in
-        let before = room key in omega arith;
+    counted = λ key. omega (arith, sum_by_push (owners_in key) s.table x, room key);
   }
 
   kept_told : (s : SessionState T) → IsSoundSession s → IsSoundSession (add_place s Nothing)
   unfolding AreOne IsOwn
-  kept_told s kept = kept_pushed s Nothing kept tt (λ q one. one)
-      (λ key. let before = kept.counted key in omega arith)
+  kept_told s kept =
+      kept_pushed s Nothing kept tt (λ q one. one) (λ key. omega (arith, kept.counted key))
 
   -- a writer that owns another value
   kept_swapped : (s : SessionState T) (p : ℕ) (g : Guard) (v old : T)
@@ -134,14 +122,12 @@ module _ {T : Type 0} where
   kept_swapped s p g v old kept there = record {
     sound = kept.sound;
     bounded = kept.bounded;
-    own = λ q. ⊎_elim (λ e. subst (IsOwn s.state) (sym e) (kept.own q))
-        (λ e. subst (IsOwn s.state) (sym e.1) (subst (IsOwn s.state) there (kept.own p)))
+    own = λ q. ⊎_elim (λ e. rw e (kept.own q)) (λ e. rw e.1 (rw there at (kept.own p)))
         (held_changed s.table p (Writing g v) q);
     apart = still_apart s.table (swap s p g v).table p (Writing g v) kept.apart
         (held_changed s.table p (Writing g v))
-        (λ q one. kept.apart p q (same_as (sym there) refl (writer (at_place s.table q) one)));
-    counted = λ key. let change = count_changed key s.table p (Writing g v) in
-        let before = kept.counted key in omega arith;
+        (λ q one. kept.apart p q (rw there (writer (at_place s.table q) one)));
+    counted = λ key. omega (arith, count_changed key s.table p (Writing g v), kept.counted key);
   }
     where
       writer : (y : Held T) → AreOne (Writing g v) y → AreOne (Writing g old) y
@@ -150,27 +136,14 @@ module _ {T : Type 0} where
 
   -- ---- what a call of the machine leaves
 
-  -- tickets of known guards are below the next one
-  reader_below : (S : State T) (g : Guard) → IsSound S → knows_reader S g ≡ true → g.ticket < S.next
-  reader_below S g sound known = sound.below g.cell g.ticket
-      (reader_stands (content_at S g.cell) g.ticket (and_parts _ _ known).1)
-
-  writer_below : (S : State T) (g : Guard) → IsSound S → knows_writer S g ≡ true → g.ticket < S.next
-  writer_below S g sound known = sound.below g.cell g.ticket
-      (writer_stands (content_at S g.cell) g.ticket (and_parts _ _ known).1)
-
   -- what is taken of guards and boxes
-  takes_reader : (action : Action T) (answer : Answer T) (g : Guard)
-      → ends_reader action g.ticket ≡ true → AreOne (takes action answer) (Reading g)
+  takes_guard : (action : Action T) (answer : Answer T) (g : Guard)
+      → (ends_reader action g.ticket ≡ true → AreOne (takes action answer) (Reading g))
+      × ((v : T) → ends_writer action g.ticket ≡ true → AreOne (takes action answer) (Writing g v))
   unfolding AreOne
-  takes_reader (Action.ReleaseReader h) answer g e = eqb-true h.ticket g.ticket e
-  takes_reader action answer g e = absurd (true≢false (sym e))
-
-  takes_writer : (action : Action T) (answer : Answer T) (g : Guard) (v : T)
-      → ends_writer action g.ticket ≡ true → AreOne (takes action answer) (Writing g v)
-  unfolding AreOne
-  takes_writer (Action.ReleaseWriter h w) answer g v e = eqb-true h.ticket g.ticket e
-  takes_writer action answer g v e = absurd (true≢false (sym e))
+  takes_guard (Action.ReleaseReader h) answer g = (eqb-true h.ticket g.ticket, λ v e. cc)
+  takes_guard (Action.ReleaseWriter h w) answer g = (λ e. cc, λ v. eqb-true h.ticket g.ticket)
+  takes_guard action answer g = (λ e. cc, λ v e. cc)
 
   pub takes_no_box : (action : Action T) (answer : Answer T) (b : GenerationalPointer)
       → takes action answer ≢ Boxed b
@@ -183,12 +156,10 @@ module _ {T : Type 0} where
     -- what is given is the store's own
     given_own : (a : Answer T) → Meets s.state action a R → IsOwn R (gives a)
     unfolding IsOwn
-    given_own (Made b) m = (
-      (made_new s.state R action b m).0 ∙ sym (meets_number s.state R action (Made b) m),
-      made_boxed s.state R action b m,
-    )
-    given_own (Owned o) m = (meets_counts s.state R action (Owned o) kept.sound m).own o refl
-        ∙ sym (meets_number s.state R action (Owned o) m)
+    given_own (Made b) m = rw (meets_number s.state R action (Made b) m)
+        ((made_new s.state R action b m).0, made_boxed s.state R action b m)
+    given_own (Owned o) m = rw (meets_number s.state R action (Owned o) m)
+        ((meets_counts s.state R action (Owned o) kept.sound m).own o refl)
     given_own (Reads g) m = (reads_known s.state R action g m).0
     given_own (Writes g v) m = (writes_known s.state R action g v m).0
     given_own a m = tt
@@ -197,13 +168,16 @@ module _ {T : Type 0} where
     given_new : (a : Answer T) → Meets s.state action a R → (x : Held T) → IsOwn s.state x
         → AreOne (gives a) x → ⊥
     unfolding IsOwn AreOne
-    given_new (Made b) m (Boxed c) own one = true≢false (sym own.1.0
-        ∙ (ap (set.contains s.state.given) (sym one) ∙ (made_new s.state R action b m).1))
-    given_new (Reads g) m (Reading h) own one = let new = (reads_known s.state R action g m).1 in
-        let low = reader_below s.state h kept.sound own in omega arith
+    given_new (Made b) m (Boxed c) own one =
+        let new = (made_new s.state R action b m).1 in let e = rw (← one) at own.1.0 in cc
+    given_new (Reads g) m (Reading h) own one =
+        let low : h.ticket < s.state.next = kept.sound.below h.cell h.ticket
+        (reader_stands _ h.ticket (and_parts (nat_eq h.store s.state.number) _ own).1) in
+        omega (arith, (reads_known s.state R action g m).1)
     given_new (Writes g v) m (Writing h w) own one =
-        let new = (writes_known s.state R action g v m).1 in
-        let low = writer_below s.state h kept.sound own in omega arith
+        let low : h.ticket < s.state.next = kept.sound.below h.cell h.ticket
+        (writer_stands _ h.ticket (and_parts (nat_eq h.store s.state.number) _ own).1) in
+        omega (arith, (writes_known s.state R action g v m).1)
     given_new a m x own one = one
 
     module _ (answer : Answer T) (meets : Meets s.state action answer R)
@@ -211,14 +185,12 @@ module _ {T : Type 0} where
       -- what isn't taken stays the store's own
       stays_own : (y : Held T) → (AreOne (takes action answer) y → ⊥) → IsOwn s.state y → IsOwn R y
       unfolding IsOwn
-      stays_own (Boxed b) other own = (
-        own.0 ∙ sym (meets_number s.state R action answer meets),
-        boxed_stays s.state R action answer (name_of b) kept.sound meets own.1,
-      )
+      stays_own (Boxed b) other own = rw (meets_number s.state R action answer meets)
+          (own.0, boxed_stays s.state R action answer (name_of b) kept.sound meets own.1)
       stays_own (Reading g) other own = reader_stays s.state R action answer kept.sound meets g own
-          (false_from_ne_true _ (λ e. other (takes_reader action answer g e)))
+          (false_from_ne_true _ (λ e. other ((takes_guard action answer g).0 e)))
       stays_own (Writing g v) other own = writer_stays s.state R action answer kept.sound
-          meets g own (false_from_ne_true _ (λ e. other (takes_writer action answer g v e)))
+          meets g own (false_from_ne_true _ (λ e. other ((takes_guard action answer g).1 v e)))
       stays_own (Owning o) other own = own ∙ sym (meets_number s.state R action answer meets)
       stays_own Nothing other own = tt
 
@@ -227,29 +199,28 @@ module _ {T : Type 0} where
 
       room : (key : ℕ) → count_by (holds_owner key) left.table + owners_in key (gives answer)
           ≤ count_under R.owners key
-      room key = let emptied = count_changed key s.table p Nothing in
-          let takes = ap (owners_in key) there in let before = kept.counted key in
-          let by = (meets_counts s.state R action answer kept.sound meets).counted key in
-          omega arith
+      room key = let by = (meets_counts s.state R action answer kept.sound meets).counted key in
+          let takes = ap (owners_in key) there in
+          omega (arith, count_changed key s.table p Nothing, kept.counted key)
 
       left_kept : IsSoundSession left
       unfolding IsOwn AreOne
       left_kept = record {
         sound = meets_sound s.state R action answer kept.sound meets;
         bounded = meets_bounded s.state R action answer kept.sound kept.bounded meets;
-        own = λ q. ⊎_elim (λ e. subst (IsOwn R) (sym e) tt) (λ e. subst (IsOwn R) (sym e.0)
-            (stays_own (at_place s.table q)
-            (λ one. e.1 (sym (kept.apart p q (same_as (sym there) refl one)))) (kept.own q)))
+        own = λ q. ⊎_elim (λ e. rw e tt) (λ e. rw e.0 (stays_own (at_place s.table q)
+            (λ one. e.1 (sym (kept.apart p q (rw there one)))) (kept.own q)))
             (held_emptied s.table p q);
         apart = still_apart s.table left.table p Nothing kept.apart
             (held_changed s.table p Nothing) (λ q one. absurd one);
-        counted = λ key. let here = room key in omega arith;
+        counted = λ key. omega (arith, room key);
       }
 
       kept_after : IsSoundSession (add_place left (gives answer))
+      unfolding AreOne
       kept_after = kept_pushed left (gives answer) left_kept (given_own answer meets)
-          (λ q one. ⊎_elim (λ e. none_one (gives answer) (same_as refl e one))
-          (λ e. given_new answer meets (at_place s.table q) (kept.own q) (same_as refl e.0 one))
+          (λ q one. ⊎_elim (λ e. same_turned (gives answer) Nothing (rw e at one))
+          (λ e. given_new answer meets (at_place s.table q) (kept.own q) (rw e.0 at one))
           (held_emptied s.table p q)) room
 
   -- a call empties a place of what it takes
@@ -270,23 +241,26 @@ module _ {T : Type 0} where
     tells : (x : SessionReply T) → is_own x ≡ true → ComesTo s c (Request.Tells x)
     swaps : (p : ℕ) (g : Guard) (v old : T) → at_place s.table p ≡ Writing g old
         → ComesTo s c (Request.Swaps p g v old)
-    asks : (action : Action T)
+    asks : {action : Action T}
         → ((answer : Answer T) → Empties s c action answer) → ComesTo s c (Request.Asks action)
 
-  comes_box : {s : SessionState T} {c : Call T} (o : Option GenerationalPointer) (back : Option T)
+  comes_box : {s : SessionState T} {c : Call T} (a : BoxAt T) (back : Option T)
       (next : GenerationalPointer → Request T) → ((b : GenerationalPointer) → ComesTo s c (next b))
-      → ComesTo s c (with_box o back next)
-  comes_box None back next h = tells _ refl
-  comes_box (Some b) back next h = h b
+      → ComesTo s c (with_box (box_in s a) back next)
+  comes_box {s} {c} a back next h = (elim (box_in s a) as (λ o. ComesTo s c (with_box o back next))
+      [ None ↦ tells _ refl | Some b ↦ h b ])
+
+  -- a call that goes by what a place holds
+  comes_held : {s : SessionState T} {c : Call T} (p : ℕ) (next : Held T → Request T)
+      → ((x : Held T) → at_place s.table p ≡ x → ComesTo s c (next x))
+      → ComesTo s c (next (at_place s.table p))
+  comes_held p next h = h _ refl
 
   comes_owner : {s : SessionState T} {c : Call T} (p : ℕ) (back : Option T)
       (next : OwnerName → Request T) → ((o : OwnerName) → at_place s.table p ≡ Owning o
       → ComesTo s c (next o)) → ComesTo s c (with_owner (owner_in s p) back next)
-  comes_owner {s} {c} p back next h = at (at_place s.table p) refl
-    where
-      at : (x : Held T) → at_place s.table p ≡ x → ComesTo s c (with_owner (owner_held x) back next)
-      at (Owning o) is = h o is
-      at x is = tells _ refl
+  comes_owner p back next h = comes_held p (λ x. with_owner (owner_held x) back next)
+      (elim [ Owning o ↦ h o | _ ↦ λ is. tells _ refl ])
 
   comes_ready : {s : SessionState T} {c : Call T} (ready : Bool) (back : Option T)
       (next : Request T) → ComesTo s c next → ComesTo s c (if_ready ready back next)
@@ -295,64 +269,28 @@ module _ {T : Type 0} where
 
   comes_release : (s : SessionState T) (p : ℕ) (x : Held T) → at_place s.table p ≡ x
       → ComesTo s (call.Release p) (release x)
-  comes_release s p (Reading g) is = asks (Action.ReleaseReader g) (λ answer. (p, refl, is))
-  comes_release s p (Writing g v) is = asks (Action.ReleaseWriter g v) (λ answer. (p, refl, is))
+  comes_release s p (Reading g) is = asks (λ answer. (p, refl, is))
+  comes_release s p (Writing g v) is = asks (λ answer. (p, refl, is))
   comes_release s p x is = tells _ refl
 
-  comes_replace : (s : SessionState T) (p : ℕ) (v : T) (x : Held T) → at_place s.table p ≡ x
-      → ComesTo s (call.Replace p v) (replace p x v)
-  comes_replace s p v (Writing g old) is = swaps p g v old is
-  comes_replace s p v x is = tells _ refl
+  -- the ways by which a call of a box or of an owner comes to something
+  ruleset ways = (comes_box, comes_owner, comes_ready, asks, tells, beyond)
 
   -- what each call comes to
   pub comes_to : (s : SessionState T) (c : Call T) → ComesTo s c (ask s c)
-  comes_to s (call.Leak v l) = asks (Action.Make None v l) (λ a. beyond s.table)
-  comes_to s (call.LeakRc v l) = asks (Action.MakeShared None v l) (λ a. beyond s.table)
-  comes_to s (call.LeakReference b) =
-      comes_box (box_in s b) None _ (λ b. asks (Action.Refer None b) (λ a. beyond s.table))
-  comes_to s (call.Insert p v l) =
-      comes_owner p (Some v) _ (λ o is. asks (Action.Make (Some o) v l) (λ a. beyond s.table))
-  comes_to s (call.InsertRc p v l) =
-      comes_owner p (Some v) _ (λ o is. asks (Action.MakeShared (Some o) v l) (λ a. beyond s.table))
-  comes_to s (call.InsertReference p b) = comes_owner p None _ (λ o is.
-      comes_box (box_in s b) None _ (λ b. asks (Action.Refer (Some o) b) (λ a. beyond s.table)))
-  comes_to s call.Owner = asks Action.NewOwner (λ a. beyond s.table)
-  comes_to s (call.CloneOwner p) =
-      comes_owner p None _ (λ o is. asks (Action.CloneOwner o) (λ a. beyond s.table))
-  comes_to s (call.ReleaseOwner p) =
-      comes_owner p None _ (λ o is. asks (Action.ReleaseOwner o) (released o is))
-    where
-      released : (o : OwnerName) → at_place s.table p ≡ Owning o → (answer : Answer T)
-          → Empties s (call.ReleaseOwner p) (Action.ReleaseOwner o) answer
-      released o is Done = (p, refl, is)
-      released o is answer = beyond s.table
-  comes_to s (call.LeakOwner p) =
-      comes_owner p None _ (λ o is. asks (Action.LeakOwner o) (λ answer. (p, refl, is)))
-  comes_to s (call.TryRead b l) =
-      comes_box (box_in s b) None _ (λ b. asks (Action.Read b l) (λ a. beyond s.table))
-  comes_to s (call.TryWrite b l) =
-      comes_box (box_in s b) None _ (λ b. asks (Action.Write b l) (λ a. beyond s.table))
-  comes_to s (call.Read b l) = comes_box (box_in s b) None _ (λ b. comes_ready
-      (can_read s.state b) None _ (asks (Action.Read b l) (λ a. beyond s.table)))
-  comes_to s (call.Write b l) = comes_box (box_in s b) None _ (λ b. comes_ready
-      (can_write s.state b) None _ (asks (Action.Write b l) (λ a. beyond s.table)))
-  comes_to s (call.Set b v) = comes_box (box_in s b) (Some v) _ (λ b. comes_ready
-      (can_write s.state b) (Some v) _ (asks (Action.SetValue b v) (λ a. beyond s.table)))
-  comes_to s (call.CanRead b) =
-      comes_box (box_in s b) None _ (λ b. asks (Action.CanRead b) (λ a. beyond s.table))
-  comes_to s (call.CanWrite b) =
-      comes_box (box_in s b) None _ (λ b. asks (Action.CanWrite b) (λ a. beyond s.table))
-  comes_to s (call.Replace p v) = comes_replace s p v (at_place s.table p) refl
-  comes_to s (call.Release p) = comes_release s p (at_place s.table p) refl
-  comes_to s (call.ManuallyDrop b) =
-      comes_box (box_in s b) None _ (λ b. asks (Action.End b) (λ a. beyond s.table))
-  comes_to s (call.PointTo a b) = comes_box (box_in s a) None _ (λ x.
-      comes_box (box_in s b) None _ (λ y. asks (Action.Point x y) (λ a. beyond s.table)))
-  comes_to s (call.PtrEq a b) = comes_box (box_in s a) None _
-      (λ x. comes_box (box_in s b) None _ (λ y. tells _ refl))
-  comes_to s (call.Id b) = comes_box (box_in s b) None _ (λ b. tells _ refl)
-  comes_to s (call.RawPtr b) = comes_box (box_in s b) None _ (λ b. tells _ refl)
-  comes_to s (call.CreatedAt b) = comes_box (box_in s b) None _ (λ b. tells _ refl)
+  comes_to s (call.ReleaseOwner p) = comes_owner p _ _
+      (λ o is. asks (elim [ Done ↦ (p, refl, is) | _ ↦ beyond s.table ]))
+  comes_to s (call.LeakOwner p) = comes_owner p _ _ (λ o is. asks (λ answer. (p, refl, is)))
+  comes_to s (call.Replace p v) = comes_held p (λ x. replace p x v)
+      (elim [ Writing g old ↦ swaps p g v old | _ ↦ λ is. tells _ refl ])
+  comes_to s (call.Release p) = comes_held p release (comes_release s p)
+  comes_to s _ = search ways
+
+  -- the reply to a call of the machine, and the session after it
+  pub settled : (s r : SessionState T) (c : Call T) (x : SessionReply T) (action : Action T)
+      (step : Settles s c (Request.Asks action) x r) → let out = settle s c (step.0, step.1) in
+      (x ≡ out.0) × (r ≡ out.1)
+  settled s r c x action step = (λ i. (step.3 i).0, λ i. (step.3 i).1)
 
   module _ (s r : SessionState T) (c : Call T) (x : SessionReply T) where
     -- each call of a session keeps what holds of every session
@@ -360,14 +298,12 @@ module _ {T : Type 0} where
     session_kept kept step = at (ask s c) (comes_to s c) step
       where
         at : (q : Request T) → ComesTo s c q → Settles s c q x r → IsSoundSession r
-        at q (asks action spends) step = let it = spends step.0 in
-            subst (λ (o : SessionReply T × SessionState T). IsSoundSession o.1)
-            (sym step.3) (subst (λ table. IsSoundSession
-            (add_place (record { state = step.1; table = table }) (gives step.0)))
-            (sym it.1) (kept_after s action step.1 it.0 kept step.0 step.2 it.2))
-        at q (tells y own) step = subst IsSoundSession (sym step.1) (kept_told s kept)
-        at q (swaps p g v old there) step = subst IsSoundSession
-            (sym step.1) (kept_told (swap s p g v) (kept_swapped s p g v old kept there))
+        at q (asks {action} spends) step = let it = spends step.0 in rw
+            ((settled s r c x action step).1, it.1)
+            (kept_after s action step.1 it.0 kept step.0 step.2 it.2)
+        at q (tells y own) step = rw step.1 (kept_told s kept)
+        at q (swaps p g v old there) step =
+            rw step.1 (kept_told (swap s p g v) (kept_swapped s p g v old kept there))
 
     -- what each call of the machine keeps, each call of a session keeps
     pub by_step : (P : State T → Type 0) → ((S R : State T) (action : Action T) (answer : Answer T)
@@ -375,9 +311,9 @@ module _ {T : Type 0} where
     by_step P each step h = at (ask s c) step
       where
         at : (q : Request T) → Settles s c q x r → P r.state
-        at (Request.Asks action) step = subst (λ (o : SessionReply T × SessionState T). P o.1.state)
-            (sym step.3) (each s.state step.1 action step.0 h step.2)
-        at q step = subst (λ (r : SessionState T). P r.state) (sym step.1) h
+        at (Request.Asks action) step =
+            rw (settled s r c x action step).1 (each s.state step.1 action step.0 h step.2)
+        at q step = rw step.1 h
 
     -- an ended name is never live again
     pub session_ended : SessionStep s c x r → (n : Name) → IsEnded s.state n → IsEnded r.state n
@@ -391,40 +327,32 @@ module _ {T : Type 0} where
     pub session_bounded : IsSound s.state → IsBounded s.state → SessionStep s c x r
         → IsBounded r.state
     session_bounded sound bounded step = (by_step (λ S. IsSound S × IsBounded S)
-        (λ S R action answer h meets. (
-          meets_sound S R action answer h.0 meets,
-          meets_bounded S R action answer h.0 h.1 meets,
-        )) step (sound, bounded)).1
+        (λ S R action answer h meets. let kept = meets_sound S R action answer h.0 meets in
+        (kept, meets_bounded S R action answer h.0 h.1 meets)) step (sound, bounded)).1
 
     -- a value that nothing disturbs stays
-    settles_value : (a : Request T) (m : Name) → IsSound s.state → Settles s c a x r
-        → (AskedSets s.state a m → ⊥) → is_some (value_at s.state m) ≡ true
-        → is_some (value_at r.state m) ≡ true → value_at r.state m ≡ value_at s.state m
-    settles_value (Request.Asks action) m sound step unset here after =
-        let same = ap (λ (o : SessionReply T × SessionState T). o.1.state) step.3 in
-        meets_value s.state r.state action step.0 m sound
-        (subst (Meets s.state action step.0) (sym same) step.2) unset here after
-    settles_value a m sound step unset here after =
-        ap (λ (r : SessionState T). value_at r.state m) step.1
-
     pub session_value : (b : GenerationalPointer) (m : Name) → IsSound s.state
         → SessionStep s c x r → IsUndisturbed b m s c r → value_at r.state m ≡ value_at s.state m
-    session_value b m sound step u =
-        settles_value (ask s c) m sound step u.unset u.before.here u.after.here
+    session_value b m sound step u = at (ask s c) step u.unset
+      where
+        at : (a : Request T) → Settles s c a x r → (AskedSets s.state a m → ⊥)
+            → value_at r.state m ≡ value_at s.state m
+        at (Request.Asks action) step unset = meets_value s.state r.state action step.0 m sound
+            (rw (settled s r c x action step).1 step.2) unset u.before.here u.after.here
+        at a step unset = rw step.1 refl
 
   -- a store knows the owners that are held
   pub owner_known : (s : SessionState T) (p : ℕ) (o : OwnerName) → IsSoundSession s
       → at_place s.table p ≡ Owning o → is_known s.state (Some o) ≡ true
   unfolding IsOwn
-  owner_known s p o kept is = ap (λ b. is_some (cond b (map.get s.state.owners o.key) None))
-      (eq-eqb o.store s.state.number (subst (IsOwn s.state) is (kept.own p)))
-      ∙ recorded (map.get s.state.owners o.key) refl
+  owner_known s p o kept is = rw (eq-eqb o.store s.state.number (rw is at (kept.own p)))
+      (recorded (map.get s.state.owners o.key) refl)
     where
       recorded : (h : Option Ownership) → map.get s.state.owners o.key ≡ h → is_some h ≡ true
       recorded None e =
           let none = ap count_in e in let without = count_changed o.key s.table p Nothing in
-          let here = ap (owners_in o.key) is ∙ ap (λ (b : Bool). cond {A = ℕ} b 1 0)
-          (nat_eq_equiv.refl o.key) in let counted = kept.counted o.key in absurd (omega arith)
+          let here = ap (owners_in o.key) is ∙ itself o.key in
+          let counted = kept.counted o.key in absurd (omega arith)
       recorded (Some h) e = refl
 
   -- a box that a place holds, and whose cell is a Ref, reaches a live Shared cell
@@ -434,13 +362,13 @@ module _ {T : Type 0} where
       → (reach s.state b ≡ Some m) × (is_shared (map.get s.state.cells m) ≡ true)
   unfolding IsOwn
   held_reaches s p b m l kept is =
-      ref_reaches s.state b m l kept.sound (subst (IsOwn s.state) is (kept.own p)).0
+      ref_reaches s.state b m l kept.sound (rw is at (kept.own p)).0
 
   -- and its name is no Shared cell's
   pub held_boxed : (s : SessionState T) (p : ℕ) (b : GenerationalPointer) → IsSoundSession s
       → at_place s.table p ≡ Boxed b → is_shared (map.get s.state.cells (name_of b)) ≡ false
   unfolding IsOwn
-  held_boxed s p b kept is = (subst (IsOwn s.state) is (kept.own p)).1.1
+  held_boxed s p b kept is = (rw is at (kept.own p)).1.1
 
   -- a session of a fresh store, in which nothing was called
   pub fresh_kept : (number start next : ℕ) → IsSoundSession
@@ -459,7 +387,7 @@ module _ {T : Type 0} where
       → ((s r : SessionState T) (c : Call T) (x : SessionReply T) → P s → SessionStep s c x r → P r)
       → (calls : List (Call T)) (replies : List (SessionReply T)) (s r : SessionState T)
       → P s → Run s calls replies r → P r
-  by_run P each [] [] s r h run = subst P (sym run) h
+  by_run P each [] [] s r h run = rw run h
   by_run P each (c ∷ calls) (x ∷ replies) s r h run =
       by_run P each calls replies run.0 r (each s run.0 c x h run.1) run.2
   by_run P each calls replies s r h run = absurd run
@@ -478,15 +406,16 @@ module _ {T : Type 0} where
   pub run_value : (calls : List (Call T)) (replies : List (SessionReply T)) (s r : SessionState T)
       (b : GenerationalPointer) (m : Name) → IsSound s.state → (run : Run s calls replies r)
       → Undisturbed b m s calls replies r run → value_at r.state m ≡ value_at s.state m
-  run_value [] [] s r b m sound run u = ap (λ (r : SessionState T). value_at r.state m) run
-  run_value (c ∷ calls) (x ∷ replies) s r b m sound run u = run_value
-      calls replies run.0 r b m (session_sound s run.0 c x sound run.1) run.2 u.2 ∙ settles_value s
-      run.0 c x (ask s c) m sound run.1 u.1 u.0.here (first_here calls replies run.0 run.2 u.2)
+  run_value [] [] s r b m sound run u = rw run refl
+  run_value (c ∷ calls) (x ∷ replies) s r b m sound run u =
+      run_value calls replies run.0 r b m (session_sound s run.0 c x sound run.1) run.2 u.2
+      ∙ session_value s run.0 c x b m sound run.1
+      (record { before = u.0; after = first calls replies run.0 run.2 u.2; unset = u.1 })
     where
-      first_here : (calls : List (Call T)) (replies : List (SessionReply T)) (s : SessionState T)
+      first : (calls : List (Call T)) (replies : List (SessionReply T)) (s : SessionState T)
           (run : Run s calls replies r) → Undisturbed b m s calls replies r run
-          → is_some (value_at s.state m) ≡ true
-      first_here [] [] s run u = u.here
-      first_here (c ∷ calls) (x ∷ replies) s run u = u.0.here
-      first_here calls replies s run u = absurd u
+          → IsUnwritten b m s.state
+      first [] [] s run u = u
+      first (c ∷ calls) (x ∷ replies) s run u = u.0
+      first calls replies s run u = absurd u
   run_value calls replies s r b m sound run u = absurd u

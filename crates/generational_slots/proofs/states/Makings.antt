@@ -1,17 +1,16 @@
 -- A cell more: in a free slot, or in a new one.
 use Rattle.generational_slots.proofs.Common
-use Common.{add_cell, and_parts, ap, AreReferred, arith, Cell, cell_in, cell_of, cells_of}
-use Common.{cond_same, contains-remove_at, Count, count_of, Empty, Entry, false, false≢true, free}
-use Common.{given_in, HasTargets, how_many, IfSome, is_live, is_reusable, is_shared, is_some}
-use Common.{is_spent, IsNew, IsSlotTable, IsUnborrowed, IsWritten, Kept, kept_data, last_generation}
-use Common.{leb, length, length-append, length-set, List, Live, Location, ltb-true, max, nat_cmp}
-use Common.{nat_cmp_total, nat_eq, nat_lt, nat_tests, None, not, not_left, Option, passes}
-use Common.{push_written, put_back, Refers, refl, Retirements, set_written, slice_get}
-use Common.{slice_get_past, slice_get_within, slice_set, SlotTable, Some, State, state_of}
-use Common.{StorageEntryData, subst, sym, target_of, true, ℕ, [], ◌&&◌, ◌++◌, ◌+◌, ◌-◌, ◌<◌, ◌||◌}
-use Common.{◌∙◌, ◌∷◌, ◌≡◌, ◌≤◌}
+use Common.{add_cell, ap, AreReferred, arith, Cell, cell_in, cell_of, cells_of, cond_same}
+use Common.{contains-remove_at, Count, count_of, Empty, Entry, false, free, given_in, HasTargets}
+use Common.{how_many, IfSome, is_live, is_reusable, is_shared, is_some, is_spent, IsNew}
+use Common.{IsSlotTable, IsUnborrowed, IsWritten, Kept, kept_data, last_generation, leb, length}
+use Common.{length-append, length-set, List, Location, max, nat_cmp, nat_cmp_total, nat_eq, nat_lt}
+use Common.{nat_tests, None, not, not_left, Option, passes, push_written, put_back, refl}
+use Common.{Retirements, set_written, slice_get, slice_get_past, slice_get_within, slice_set}
+use Common.{SlotTable, Some, State, state_of, StorageEntryData, sym, target_of, true, ℕ, [], ◌&&◌}
+use Common.{◌++◌, ◌+◌, ◌<◌, ◌||◌, ◌∙◌, ◌∷◌, ◌≡◌, ◌≤◌}
 use Rattle.generational_slots.proofs.states.Changes.{cells_put, given_put, slotted}
-use Rattle.generational_slots.proofs.states.Counting.{IsMaking, unborrowed_cell}
+use Rattle.generational_slots.proofs.states.Counting.{IsUncounted, unborrowed_cell, uncounted_made}
 use Rattle.generational_slots.proofs.states.States.{free_are, len_cells, live_cell, new_first}
 use Rattle.generational_slots.proofs.states.States.{new_next}
 use Rattle.std.specs.FinMap as map
@@ -23,11 +22,15 @@ pub one_made : (r : Retirements) (made : ℕ) → r.retired ≤ made → count_o
       usable = (count_of r made).usable + 1;
       peak = max (count_of r made).peak ((count_of r made).usable + 1);
     }
-one_made r made few =
-    let one : (count_of r (made + 1)).usable ≡ (count_of r made).usable + 1 = omega arith in
-    let most : (count_of r (made + 1)).peak
-    ≡ max (count_of r made).peak ((count_of r made).usable + 1) = omega arith in
-    λ j. record { usable = one j; peak = most j }
+one_made r made few = grind arith
+
+-- the entry of a free slot
+record IsFreeSlot {T : Type 0} (slots : List (Entry T)) (i : ℕ) : Type 0 where
+  last : ℕ
+  references : ℕ
+  there : slice_get slots i
+      ≡ Some (record { generation = last; kept = Empty; references = references })
+  spent : nat_lt last last_generation ≡ true
 
 module _ {T : Type 0} {p : SlotTable T} (s : IsSlotTable p) where
   -- the state for which the slots stand
@@ -48,47 +51,42 @@ module _ {T : Type 0} {p : SlotTable T} (s : IsSlotTable p) where
   -- ---- a slot that is free
 
   module _ (i : ℕ) (member : set.contains p.free i ≡ true) where
-    free_entry : (e : Entry T) × (slice_get p.slots i ≡ Some e) × (is_spent e ≡ true)
-        × (e.kept ≡ Empty) × (e.generation < last_generation)
-    free_entry = at (slice_get p.slots i) refl (sym (s.pooled i) ∙ member)
+    free_slot : IsFreeSlot p.slots i
+    free_slot = at (slice_get p.slots i) refl (sym (s.pooled i) ∙ member)
       where
-        dead : (k : Kept T) → not (is_live k) ≡ true → k ≡ Empty
-        dead Empty h = refl
-        dead (Live kd c l) h = absurd (false≢true h)
-        dead (Refers m l) h = absurd (false≢true h)
+        own : (k : Kept T) {g r : ℕ} → slice_get p.slots i
+            ≡ Some (record { generation = g; kept = k; references = r })
+            → (not (is_live k) && nat_lt g last_generation) ≡ true → IsFreeSlot p.slots i
+        own Empty {g} {r} there h = record { last = g; references = r; there = there; spent = h }
+        own _ there h = cc
 
         at : (o : Option (Entry T)) → slice_get p.slots i ≡ o → is_reusable o ≡ true
-            → (e : Entry T) × (slice_get p.slots i ≡ Some e) × (is_spent e ≡ true)
-            × (e.kept ≡ Empty) × (e.generation < last_generation)
-        at None there h = absurd (false≢true h)
-        at (Some e) there h =
-            let parts = and_parts (not (is_live e.kept)) (nat_lt e.generation last_generation) h in
-            (e, there, h, dead e.kept parts.0, ltb-true e.generation last_generation parts.1)
+            → IsFreeSlot p.slots i
+        at None there h = cc
+        at (Some e) there h = own e.kept there h
 
     pub taken_within : i < length p.slots
-    taken_within = slice_get_within p.slots i free_entry.0 free_entry.1
+    taken_within = slice_get_within p.slots i _ free_slot.there
 
     -- one free slot less
     pub taken_less : set.len (set.remove p.free i) + 1 ≡ set.len p.free
     taken_less =
-        let less : set.len (set.remove p.free i) ≡ set.len p.free - 1 =
-        set.len-remove nat_cmp_total p.free i ∙ rw member refl in
         let more : set.len (set.insert (set.remove p.free i) i)
         ≡ set.len (set.remove p.free i) + 1 =
         set.len-insert nat_cmp_total (set.remove p.free i) i
         ∙ rw (not_left p.free i member) refl in
-        let same = ap set.len (put_back p.free i member) in omega arith
+        sym more ∙ ap set.len (put_back p.free i member)
 
     -- a free slot is none of the live ones
     pub peak_stays : max p.counts.peak (many + 1) ≡ p.counts.peak
     peak_stays =
         let less = taken_less in let counted = s.counted in let few = s.few in omega arith
 
-    -- the generation that is told before is the one that is given
-    pub same_generation : (g h : ℕ) → IfSome (slice_get p.slots i) (λ e. g ≡ e.generation + 1)
-        → IfSome (slice_get p.slots i) (λ e. h ≡ e.generation + 1) → h ≡ g
-    same_generation g h is are =
-        let a = rw free_entry.1 at is in let b = rw free_entry.1 at are in b ∙ sym a
+    -- the generation that is given is the next one to that which is told before
+    pub next_generation : (g h : ℕ) → IfSome (slice_get p.slots i) (λ e. g ≡ e.generation)
+        → IfSome (slice_get p.slots i) (λ e. h ≡ e.generation + 1) → h ≡ g + 1
+    next_generation g h is are =
+        rw (rw free_slot.there at is) (rw free_slot.there at are)
 
   -- ---- a cell more
 
@@ -115,33 +113,36 @@ module _ {T : Type 0} {p : SlotTable T} (s : IsSlotTable p) where
     -- in a slot that is used again
     module _ (i : ℕ) (member : set.contains p.free i ≡ true)
         (g : ℕ) (is : IfSome (slice_get p.slots i) (λ e. g ≡ e.generation + 1)) where
-      next_is : g ≡ (free_entry i member).0.generation + 1
-      next_is = rw (free_entry i member).1 at is
+      abbrev own : IsFreeSlot p.slots i
+      own = free_slot i member
+
+      next_is : g ≡ own.last + 1
+      next_is = rw own.there at is
 
       abbrev next_entry : Entry T
       next_entry = record { generation = g; kept = kept; references = 0 }
 
       pub reused : IsWritten p.slots (slice_set p.slots i next_entry) i next_entry
-      reused =
-          set_written p.slots i next_entry (free_entry i member).0 (free_entry i member).1
+      reused = set_written p.slots i next_entry _ own.there
+
+      -- the slot had no cell
+      pub none_before : passes (λ e. is_live e.kept) (slice_get p.slots i) ≡ false
+      none_before = rw own.there refl
 
       since : p.start ≤ g
-      since =
-          let le = rw (free_entry i member).1 at (s.begun i) in let n = next_is in omega arith
+      since = let le = rw own.there at (s.begun i) in let n = next_is in omega arith
 
       pub new_reused : IsNew before (record { slot = i; generation = g })
-      new_reused = rw next_is
-          (new_next s i (free_entry i member).0 (free_entry i member).1 (free_entry i member).2)
+      new_reused = rw next_is (new_next s i _ own.there own.spent)
 
       pub state_reused : state_of p.start p.counts.peak (slice_set p.slots i next_entry)
           ≡ add_cell before (record { slot = i; generation = g }) c
       state_reused =
-          let f = free_entry i member in
           ap (λ most. state_of p.start most (slice_set p.slots i next_entry))
           (sym (peak_stays i member))
           ∙ with_cell (slice_set p.slots i next_entry) i g reused
-          (λ h. rw (f.1, f.3) (cond_same _ None)) (rw (f.1, f.3) refl)
-          (λ h. rw f.1 (at_next h f.0.generation g next_is since))
+          (λ h. rw own.there (cond_same _ None)) none_before
+          (λ h. rw own.there (at_next h own.last g next_is since))
         where
           at_next : (h last g : ℕ) → g ≡ last + 1 → p.start ≤ g
               → (leb p.start h && leb h g) ≡ (nat_eq h g || (leb p.start h && leb h last))
@@ -152,24 +153,23 @@ module _ {T : Type 0} {p : SlotTable T} (s : IsSlotTable p) where
         slots = slice_set p.slots i next_entry;
       })
       slotted_reused =
-          let f = free_entry i member in
           let same : length (slice_set p.slots i next_entry) ≡ length p.slots =
           length-set p.slots i next_entry in
           let less = taken_less i member in
-          let some = rw (f.1, f.2, lives) at (reused.count is_spent) in
+          let some = rw (own.there, own.spent, lives) at (reused.count is_spent) in
           let stocked = s.stocked in let b = s.bounded in let r = s.roomy in
           slotted s reused (set.remove p.free i) p.rooms p.counts
-          (λ k. rw lives (contains-remove_at p.free i k)) (rw (f.1, f.2, lives) (omega arith))
-          (rw (f.1, f.2, f.3, lives) (omega arith)) (omega arith) since s.few (omega arith)
-
-      -- the slot had no cell
-      pub none_before : passes (λ e. is_live e.kept) (slice_get p.slots i) ≡ false
-      none_before = rw ((free_entry i member).1, (free_entry i member).3) refl
+          (λ k. rw lives (contains-remove_at p.free i k))
+          (rw (own.there, own.spent, lives) (omega arith))
+          (rw (own.there, own.spent, lives) (omega arith)) (omega arith) since s.few (omega arith)
 
     -- in a slot more
     module _ (none : p.free ≡ set.empty) where
+      empty : set.len p.free ≡ 0
+      empty = ap set.len none ∙ set.len-empty nat_cmp
+
       none_free : free before ≡ 0
-      none_free = sym (free_are s) ∙ (ap set.len none ∙ set.len-empty nat_cmp)
+      none_free = sym (free_are s) ∙ empty
 
       abbrev first_entry : Entry T
       first_entry = record { generation = p.start; kept = kept; references = 0 }
@@ -184,9 +184,7 @@ module _ {T : Type 0} {p : SlotTable T} (s : IsSlotTable p) where
       pushed = push_written p.slots first_entry
 
       all_live : p.counts.usable ≡ many
-      all_live =
-          let empty : set.len p.free ≡ 0 = ap set.len none ∙ set.len-empty nat_cmp in
-          let counted = s.counted in omega arith
+      all_live = let unused = empty in let counted = s.counted in omega arith
 
       pub state_pushed : state_of p.start raised.peak (p.slots ++ first_entry ∷ [])
           ≡ add_cell before (record { slot = length p.slots; generation = p.start }) c
@@ -208,8 +206,7 @@ module _ {T : Type 0} {p : SlotTable T} (s : IsSlotTable p) where
           let one : length (p.slots ++ first_entry ∷ []) ≡ length p.slots + 1 =
           length-append p.slots _ in
           let few = s.few in let b = s.bounded in
-          let empty : set.len p.free ≡ 0 = ap set.len none ∙ set.len-empty nat_cmp in
-          let counted = s.counted in
+          let unused = empty in let counted = s.counted in
           slotted s pushed p.free more raised
           (λ k. rw (lives, none, set.contains-empty nat_cmp k)
           (sym (cond_same (nat_eq k (length p.slots)) false))) (rw (past, lives) refl)
@@ -225,32 +222,25 @@ module _ {T : Type 0} {p : SlotTable T} (s : IsSlotTable p) where
       (r : AreReferred (λ m. 0) p.slots) (linked : HasTargets S.cells) (d : StorageEntryData T)
       (l : Location) (free : IsUnborrowed d)
       (target : IfSome (target_of d) (λ m. is_shared (map.get S.cells m) ≡ true)) where
-    making : {after : List (Entry T)} {i g : ℕ} → IsWritten p.slots after i
+    uncounted : {after : List (Entry T)} {i g : ℕ} → IsWritten p.slots after i
         (record { generation = g; kept = kept_data [] l d; references = 0 })
         → passes (λ e. is_live e.kept) (slice_get p.slots i) ≡ false
-        → IsMaking p.slots after i g d l
-    making w dead = record {
-      written = w;
-      dead = dead;
-      counted = r;
-      linked = subst (λ S. HasTargets S.cells) (sym view) linked;
-      free = free;
-      target = subst (λ S. IfSome (target_of d) (λ m. is_shared (map.get S.cells m) ≡ true))
-          (sym view) target;
-    }
+        → IsUncounted after (target_of d)
+    uncounted w dead =
+        uncounted_made d l w dead r (rw (← view) at linked) (rw (← view) at target)
 
     abbrev cell : (c : Cell T) × (cell_of (kept_data [] l d) ≡ Some c)
     cell = unborrowed_cell d l free
 
-    pub made_reused : (i : ℕ) → set.contains p.free i ≡ true → (g : ℕ)
-        → IfSome (slice_get p.slots i) (λ e. g ≡ e.generation + 1) → IsMaking p.slots
+    pub uncounted_reused : (i : ℕ) → set.contains p.free i ≡ true → (g : ℕ)
+        → IfSome (slice_get p.slots i) (λ e. g ≡ e.generation + 1) → IsUncounted
         (slice_set p.slots i (record { generation = g; kept = kept_data [] l d; references = 0 }))
-        i g d l
-    made_reused i member g is = making (reused _ cell.0 cell.1 i member g is)
+        (target_of d)
+    uncounted_reused i member g is = uncounted (reused _ cell.0 cell.1 i member g is)
         (none_before (kept_data [] l d) cell.0 cell.1 i member g is)
 
-    pub made_pushed : p.free ≡ set.empty → IsMaking p.slots (p.slots
+    pub uncounted_pushed : p.free ≡ set.empty → IsUncounted (p.slots
         ++ record { generation = p.start; kept = kept_data [] l d; references = 0 } ∷ [])
-        (length p.slots) p.start d l
-    made_pushed none =
-        making (pushed _ cell.0 cell.1 none) (none_after (kept_data [] l d) cell.0 cell.1 none)
+        (target_of d)
+    uncounted_pushed none =
+        uncounted (pushed _ cell.0 cell.1 none) (none_after (kept_data [] l d) cell.0 cell.1 none)

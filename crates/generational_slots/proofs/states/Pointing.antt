@@ -1,9 +1,8 @@
 -- What is answered where a name should name another value, as the machine says it.
 use Rattle.generational_slots.proofs.Common
-use Common.{BorrowMutError, box_of, Cell, content_of, Err, false, false≢true, GenerationalPointer}
-use Common.{IfSome, is_shared, is_some, IsTurned, Location, location_of, Name, None, Option, point}
-use Common.{Ref, refl, Refused, Result, Shared, Some, State, target_in, true, true≢false, turn}
-use Common.{Value, ◌≡◌}
+use Common.{BorrowMutError, box_of, Cell, content_of, Err, false, GenerationalPointer, IfSome}
+use Common.{is_shared, is_some, IsTurned, Location, location_of, Name, None, Option, point, Ref}
+use Common.{refl, Refused, Result, Shared, Some, State, target_in, true, turn, Value, ◌≡◌}
 use Rattle.generational_errors.specs.declared.error.BorrowMutError.TheVariants as writes
 use Rattle.generational_errors.specs.declared.error.Refused.TheVariants as refused
 
@@ -18,19 +17,17 @@ module _ {T : Type 0} where
         → false ≡ is_some (content_of own)
         → IsTurned S S (dropped_answer k) (point S (box_of 0 n k) b own (Some m) target)
     points_gone None target none gone = (refl, refl)
-    points_gone (Some (Value c l)) target none gone = absurd (false≢true gone)
-    points_gone (Some (Shared c l)) target none gone = absurd (false≢true gone)
     points_gone (Some (Ref q l)) target none gone = absurd cc
+    points_gone _ target none gone = absurd cc
 
     module _ (l : Location) where
       -- a value is there, which is no reference
       pub points_value : (own target : Option (Cell T)) → location_of target ≡ Some l
           → None ≡ target_in own → true ≡ is_some (content_of own)
           → IsTurned S S (dropped_answer l) (point S (box_of 0 n k) b own (Some m) target)
-      points_value None target at none there = absurd (true≢false there)
       points_value (Some (Value c i)) target at none there = rw at (refl, refl)
       points_value (Some (Shared c i)) target at none there = rw at (refl, refl)
-      points_value (Some (Ref q i)) target at none there = absurd cc
+      points_value _ target at none there = absurd cc
 
       -- a reference is there, but the other value isn't shared
       pub points_plain : (own target : Option (Cell T)) (old : Name)
@@ -40,12 +37,7 @@ module _ {T : Type 0} where
           let same : j ≡ l = cc in rw same (refl, refl)
       points_plain (Some (Ref q i)) (Some (Ref p j)) old at refers plain =
           let same : j ≡ l = cc in rw same (refl, refl)
-      points_plain (Some (Ref q i)) None old at refers plain = absurd cc
-      points_plain (Some (Ref q i)) (Some (Shared c j)) old at refers plain =
-          absurd (false≢true plain)
-      points_plain None target old at refers plain = absurd cc
-      points_plain (Some (Value c i)) target old at refers plain = absurd cc
-      points_plain (Some (Shared c i)) target old at refers plain = absurd cc
+      points_plain _ _ old at refers plain = absurd cc
 
     -- a reference is there that turns to a shared value
     pub points_turn : (own target : Option (Cell T)) (old : Name) (R : State T)
@@ -55,11 +47,4 @@ module _ {T : Type 0} where
         → IsTurned S R result (point S (box_of 0 n k) b own (Some m) target)
     points_turn (Some (Ref q l)) (Some (Shared c i)) old R result refers shared turns =
         let same : old ≡ q = cc in rw same at turns
-    points_turn (Some (Ref q l)) None old R result refers shared turns = absurd (true≢false shared)
-    points_turn (Some (Ref q l)) (Some (Value c i)) old R result refers shared turns =
-        absurd (true≢false shared)
-    points_turn (Some (Ref q l)) (Some (Ref p i)) old R result refers shared turns =
-        absurd (true≢false shared)
-    points_turn None target old R result refers shared turns = absurd cc
-    points_turn (Some (Value c i)) target old R result refers shared turns = absurd cc
-    points_turn (Some (Shared c i)) target old R result refers shared turns = absurd cc
+    points_turn _ _ old R result refers shared turns = absurd cc

@@ -1,13 +1,11 @@
 -- What the box of a name reaches, as the slots tell it and as the state sees it.
 use Rattle.generational_slots.proofs.Common
-use Common.{ap, Bool, BorrowMutError, Cell, cell_at, cond, Content, content_at, content_in}
-use Common.{content_of, content_reached, doomed_by, Dropped, Entry, false, false≢true}
-use Common.{FoundBorrowed, has_no_borrow, Here, IfSome, is_named, is_none, is_shared, is_some}
-use Common.{is_unborrowed_value, IsLinked, leads_to, Lent, List, Location, Name, None, not, Option}
-use Common.{option_map, reached, read_refusal, Ref, refl, refusal_at, refusal_to_read_at}
-use Common.{refusal_to_refer_at, refusal_to_write_at, Refused, Result, Shared, slice_get, Some}
-use Common.{State, state_of, sym, tells_of_borrow, true, Value, write_refusal, ℕ, [], ◌∙◌, ◌∷◌, ◌≡◌}
-use Rattle.generational_slots.proofs.states.Changes.{cell_seen, held_in, IsHeld, seen_in}
+use Common.{arith, Bool, Cell, cell_at, cond, Content, content_at, content_of, doomed_by, Entry}
+use Common.{false, Here, is_named, is_none, is_shared, is_some, is_unborrowed_value, IsLinked}
+use Common.{leads_to, List, Location, Name, None, not, Option, option_map, reached, read_refusal}
+use Common.{Ref, refl, SlotsState, Some, State, state_of, sym, tells_of_borrow, true, Value}
+use Common.{write_refusal, ℕ, [], ◌∙◌, ◌≡◌}
+use Rattle.generational_slots.proofs.states.Changes.{cell_seen, held_in, IsSeen}
 use Rattle.std.specs.FinMap as map
 
 -- nothing is found of what isn't there
@@ -21,65 +19,31 @@ pub some_map : {A B : Type 0} (f : A → B) (o : Option A) → is_some o ≡ is_
 some_map f None = refl
 some_map f (Some x) = refl
 
+-- whether a name has a target, as the store tells it
+pub has_target : {A B : Type 0} (f : A → B) (o : Option A) {p : Option B} {b : Bool}
+    → option_map f o ≡ p → is_some o ≡ b → is_some p ≡ b
+has_target f o same h = rw (← same, ← some_map f o) h
+
 pub none_there : {A : Type 0} (o : Option A) → is_none o ≡ true → o ≡ None
 none_there None h = refl
-none_there (Some x) h = absurd (false≢true h)
+none_there (Some x) h = cc
+
+-- the slot of a content that the box of a name reaches
+pub record IsReached {T : Type 0} (slots : List (Entry T)) (S : State T) (n m : Name) : Type 0
+  where
+    pub place : IsSeen slots S m
+    pub open place use *
+    pub leads : reached S n ≡ Some m
 
 module _ {T : Type 0} where
   -- a shared cell has a content
   pub shared_content : (o : Option (Cell T)) → is_shared o ≡ true → is_some (content_of o) ≡ true
-  shared_content (Some (Shared c l)) h = refl
-  shared_content None h = absurd (false≢true h)
-  shared_content (Some (Value c l)) h = absurd (false≢true h)
-  shared_content (Some (Ref m l)) h = absurd (false≢true h)
+  shared_content o h = grind arith
 
   -- what stands in the way of a read tells of a borrow
   pub read_tells : (c : Option (Content T))
       → is_none (read_refusal c) ≡ not (tells_of_borrow (read_refusal c))
-  read_tells None = refl
-  read_tells (Some (Here v rs)) = refl
-  read_tells (Some (Lent w)) = refl
-
-  module _ (S : State T) where
-    -- a reached value without borrows
-    pub reached_free : {m : Name} {r : Option Name} → Some m ≡ r
-        → has_no_borrow (content_reached S r) ≡ true → has_no_borrow (content_at S m) ≡ true
-    reached_free to free = ap (λ o. has_no_borrow (content_reached S o)) to ∙ free
-
-    module _ (n : Name) (l : Location) where
-      -- how a call of a box is refused that reaches a cell
-      module _ {m : Name} (to : Some m ≡ reached S n) where
-        pub read_to : refusal_to_read_at S n l ≡ read_refusal (content_at S m)
-        read_to = ap (λ o. refusal_at o l (λ m. read_refusal (content_at S m))) (sym to)
-
-        pub write_to : refusal_to_write_at S n l ≡ write_refusal (content_at S m)
-        write_to = ap (λ o. refusal_at o l (λ m. write_refusal (content_at S m))) (sym to)
-
-      pub refer_plain : {m : Name} → reached S n ≡ Some m → read_refusal (content_at S m) ≡ None
-          → false ≡ is_shared (map.get S.cells m) → refusal_to_refer_at S n l ≡ Some (Dropped l)
-      refer_plain to free plain = rw (to, free, ← plain) refl
-
-      -- and of one that reaches nothing
-      module _ (none : None ≡ reached S n) where
-        pub read_none : refusal_to_read_at S n l ≡ Some (Dropped l)
-        read_none = ap (λ o. refusal_at o l (λ m. read_refusal (content_at S m))) (sym none)
-
-        pub write_none : refusal_to_write_at S n l ≡ Some (Dropped l)
-        write_none = ap (λ o. refusal_at o l (λ m. write_refusal (content_at S m))) (sym none)
-
-  -- where the slots lead is what the state sees reached
-  pub reached_seen : {S : State T} {start peak : ℕ} (slots : List (Entry T))
-      → state_of start peak slots ≡ S → (n : Name) {o : Option Name}
-      → o ≡ leads_to (cell_at slots n) n → o ≡ reached S n
-  reached_seen slots view n to = to ∙ ap (λ o. leads_to o n) (cell_seen slots view n)
-
-  -- a value without borrows that isn't shared is the state's
-  pub unborrowed_told : {S : State T} {start peak : ℕ} (slots : List (Entry T))
-      → state_of start peak slots ≡ S → (n : Name) {b : Bool}
-      → b ≡ is_unborrowed_value (cell_at slots n) → b ≡ true
-      → is_unborrowed_value (map.get S.cells n) ≡ true
-  unborrowed_told slots view n is free =
-      ap is_unborrowed_value (sym (cell_seen slots view n)) ∙ (sym is ∙ free)
+  read_tells c = grind arith
 
   module _ (S : State T) (linked : IsLinked S.cells) (n m : Name) where
     named_there : (l : Location) → map.get S.cells n ≡ Some (Ref m l)
@@ -87,16 +51,14 @@ module _ {T : Type 0} where
     named_there l is = shared_content (map.get S.cells m) (linked.targets n m l is)
 
     -- in linked cells something stands where a name leads
-    pub reached_there : Some m ≡ reached S n → is_some (content_at S m) ≡ true
+    reached_there : Some m ≡ reached S n → is_some (content_at S m) ≡ true
     reached_there to = at (map.get S.cells n) refl to
       where
         at : (o : Option (Cell T)) → map.get S.cells n ≡ o → Some m ≡ leads_to o n
             → is_some (content_at S m) ≡ true
         at (Some (Value c l)) is to = let same : m ≡ n = cc in rw (same, is) refl
-        at (Some (Ref q l)) is to =
-            let same : q ≡ m = cc in named_there l (is ∙ ap (λ x. Some (Ref x l)) same)
-        at (Some (Shared c l)) is to = absurd cc
-        at None is to = absurd cc
+        at (Some (Ref q l)) is to = let same : q ≡ m = cc in named_there l (rw same at is)
+        at _ is to = cc
 
     -- and what goes with a name
     doomed_there : Some m ≡ doomed_by (is_named (map.remove S.cells n)) (map.get S.cells n) n
@@ -105,35 +67,43 @@ module _ {T : Type 0} where
       where
         by : (q : Name) (l : Location) → map.get S.cells n ≡ Some (Ref q l) → (b : Bool)
             → Some m ≡ cond b None (Some q) → is_some (content_at S m) ≡ true
-        by q l is true to = absurd cc
-        by q l is false to =
-            let same : q ≡ m = cc in named_there l (is ∙ ap (λ x. Some (Ref x l)) same)
+        by q l is true to = cc
+        by q l is false to = let same : q ≡ m = cc in named_there l (rw same at is)
 
         at : (o : Option (Cell T)) → map.get S.cells n ≡ o
             → Some m ≡ doomed_by (is_named (map.remove S.cells n)) o n
             → is_some (content_at S m) ≡ true
         at (Some (Value c l)) is to = let same : m ≡ n = cc in rw (same, is) refl
         at (Some (Ref q l)) is to = by q l is (is_named (map.remove S.cells n) q) to
-        at (Some (Shared c l)) is to = absurd cc
-        at None is to = absurd cc
+        at _ is to = cc
 
-  module _ {S : State T} {start peak : ℕ} (slots : List (Entry T))
-      (view : state_of start peak slots ≡ S) (linked : IsLinked S.cells) (n m : Name) where
-    -- so its slot holds it
-    pub reached_held : Some m ≡ leads_to (cell_at slots n) n → IsHeld slots m
-    reached_held to = held_in view m (reached_there S linked n m (reached_seen slots view n to))
+  module _ {now : SlotsState T} {start peak spare : ℕ} (slots : List (Entry T))
+      (view : record { state = state_of start peak slots; spare = spare } ≡ now) where
+    -- where the slots lead is what the state sees reached
+    pub reached_seen : (n : Name) {o : Option Name} → o ≡ leads_to (cell_at slots n) n
+        → o ≡ reached now.state n
+    reached_seen n to = rw (cell_seen slots view n) at to
 
-    module _ (to : Some m ≡ doomed_by (is_named (map.remove S.cells n)) (map.get S.cells n) n) where
-      pub doomed_held : IsHeld slots m
-      doomed_held = held_in view m (doomed_there S linked n m to)
+    -- a value without borrows that isn't shared is the state's
+    pub unborrowed_told : (n : Name) {b : Bool} → b ≡ is_unborrowed_value (cell_at slots n)
+        → b ≡ true → is_unborrowed_value (map.get now.state.cells n) ≡ true
+    unborrowed_told n is free = sym (rw (cell_seen slots view n) at is) ∙ free
 
-      -- what the slots find in its way is what the state sees
-      pub doomed_told : (result : Result (Unit {0}) (Refused BorrowMutError))
-          → IfSome (slice_get slots m.slot)
-          (λ e. FoundBorrowed (write_refusal (content_in e.kept)) result)
-          → FoundBorrowed (write_refusal (content_at S m)) result
-      doomed_told result found =
-          seen_in view m doomed_held write_refusal (λ t. FoundBorrowed t result) found
+  module _ {now : SlotsState T} {start peak spare : ℕ} {slots : List (Entry T)}
+      (view : record { state = state_of start peak slots; spare = spare } ≡ now) where
+    -- what a box of a name reaches, a slot holds
+    pub reached_in : IsLinked now.state.cells → (n m : Name) → Some m ≡ leads_to (cell_at slots n) n
+        → IsReached slots now.state n m
+    reached_in linked n m to =
+        let leads = reached_seen slots view n to in
+        let there = reached_there now.state linked n m leads in
+        record { place = held_in view m there; leads = sym leads }
+
+    -- and what goes with a name
+    pub doomed_in : IsLinked now.state.cells → (n m : Name) → Some m
+        ≡ doomed_by (is_named (map.remove now.state.cells n)) (map.get now.state.cells n) n
+        → IsSeen slots now.state m
+    doomed_in linked n m to = held_in view m (doomed_there now.state linked n m to)
 
   -- a value without borrows that isn't shared is reached by its own box
   pub unborrowed_reached : (S : State T) (n : Name)
@@ -146,8 +116,4 @@ module _ {T : Type 0} where
           → (leads_to o n ≡ Some n) × (read_refusal (content_of o) ≡ None)
           × (write_refusal (content_of o) ≡ None)
       at (Some (Value (Here v []) l)) h = (refl, refl, refl)
-      at (Some (Value (Here v (r ∷ rs)) l)) h = absurd (false≢true h)
-      at (Some (Value (Lent w) l)) h = absurd (false≢true h)
-      at (Some (Shared c l)) h = absurd (false≢true h)
-      at (Some (Ref m l)) h = absurd (false≢true h)
-      at None h = absurd (false≢true h)
+      at _ h = cc

@@ -1,11 +1,10 @@
 -- Which calls no borrow hinders, as the machine answers them.
 use Rattle.generational_slots.proofs.Common
-use Common.{Action, ap, Bool, BorrowRefusal, Cell, cond, Content, content_at, content_of}
-use Common.{content_reached, Done, doomed_by, false, false≢true, GenerationalPointer, Here}
-use Common.{hindrance_at, hindrance_to, is_hindered, is_name, is_named, is_none, is_shared, is_some}
-use Common.{IsLinked, Lent, Location, may_set, Name, name_of, None, not, Option, point, Ref, refl}
-use Common.{Shared, Some, State, sym, target_in, tells_of_borrow, true, true≢false, turn, unless}
-use Common.{Value, write_refusal, [], ◌∙◌, ◌∷◌, ◌≡◌}
+use Common.{Action, ap, arith, Bool, BorrowRefusal, Cell, cond, Content, content_of, Done}
+use Common.{doomed_by, false, GenerationalPointer, hindrance_at, hindrance_to, is_hindered, is_name}
+use Common.{is_named, is_none, is_shared, is_some, IsLinked, Location, may_set, Name, name_of, None}
+use Common.{not, Option, point, Ref, refl, Shared, Some, State, sym, target_in, tells_of_borrow}
+use Common.{true, turn, unless, write_refusal, [], ◌∙◌, ◌∷◌, ◌≡◌}
 use Rattle.generational_slots.proofs.states.Endings.{doomed_hinders}
 use Rattle.generational_slots.proofs.states.Turns.{hinders, IsReference, left}
 use Rattle.std.specs.FinMap as map
@@ -14,31 +13,12 @@ module _ {T : Type 0} where
   -- what stands in the way of a write tells of a borrow
   pub write_tells : (c : Option (Content T))
       → is_none (write_refusal c) ≡ not (tells_of_borrow (write_refusal c))
-  write_tells None = refl
-  write_tells (Some (Here v [])) = refl
-  write_tells (Some (Here v (r ∷ rs))) = refl
-  write_tells (Some (Lent w)) = refl
+  write_tells c = grind arith
 
   -- and in the way of another value
-  set_tells : (m : Name) (c : Option (Content T)) → is_some c ≡ true
+  pub set_tells : (m : Name) (c : Option (Content T)) → is_some c ≡ true
       → is_none (write_refusal c) ≡ may_set (Some m) c
-  set_tells m None there = absurd (false≢true there)
-  set_tells m (Some (Here v [])) there = refl
-  set_tells m (Some (Here v (r ∷ rs))) there = refl
-  set_tells m (Some (Lent w)) there = refl
-
-  pub set_reached : (S : State T) (m : Name) (o : Option Name) → Some m ≡ o
-      → is_some (content_at S m) ≡ true
-      → is_none (write_refusal (content_at S m)) ≡ may_set o (content_reached S o)
-  set_reached S m (Some k) to there =
-      let same : m ≡ k = cc in
-      set_tells m (content_at S m) there ∙ ap (λ j. may_set (Some j) (content_at S j)) same
-  set_reached S m None to there = absurd cc
-
-  pub set_nothing : (S : State T) (o : Option Name) → None ≡ o
-      → true ≡ may_set o (content_reached S o)
-  set_nothing S None to = refl
-  set_nothing S (Some m) to = absurd cc
+  set_tells m c there = grind arith
 
   -- an answer is free where nothing refuses it, or what was dropped
   free_unless : (S : State T) (a : Action T) (t : Option BorrowRefusal) (R : State T)
@@ -71,33 +51,21 @@ module _ {T : Type 0} where
 
     -- what is no reference is told of as dropped
     pub plain_free : (own target : Option (Cell T)) → None ≡ target_in own → IsFree own target true
-    plain_free None target none = refl
-    plain_free (Some (Value c l)) target none = refl
-    plain_free (Some (Shared c l)) target none = refl
-    plain_free (Some (Ref q l)) target none = absurd cc
+    plain_free (Some (Ref q l)) target none = cc
+    plain_free _ target none = refl
 
     -- and so is what isn't shared
     pub unshared_free : (own target : Option (Cell T)) → false ≡ is_shared target
         → IsFree own target true
-    unshared_free None target plain = refl
-    unshared_free (Some (Value c l)) target plain = refl
-    unshared_free (Some (Shared c l)) target plain = refl
-    unshared_free (Some (Ref q l)) None plain = refl
-    unshared_free (Some (Ref q l)) (Some (Value c k)) plain = refl
-    unshared_free (Some (Ref q l)) (Some (Ref p k)) plain = refl
-    unshared_free (Some (Ref q l)) (Some (Shared c k)) plain = absurd (false≢true plain)
+    unshared_free (Some (Ref q l)) (Some (Shared c k)) plain = cc
+    unshared_free _ _ plain = refl
 
     -- a reference that names the value already stays
     pub same_free : (own target : Option (Cell T)) (old : Name) → Some old ≡ target_in own
         → is_name old m ≡ true → IsFree own target true
     same_free (Some (Ref q l)) (Some (Shared c k)) old refers same =
-        let is : old ≡ q = cc in rw (ap (λ x. is_name x m) (sym is) ∙ same) refl
-    same_free (Some (Ref q l)) (Some (Value c k)) old refers same = refl
-    same_free (Some (Ref q l)) (Some (Ref p k)) old refers same = refl
-    same_free (Some (Ref q l)) None old refers same = refl
-    same_free (Some (Value c l)) target old refers same = refl
-    same_free (Some (Shared c l)) target old refers same = refl
-    same_free None target old refers same = refl
+        let is : old ≡ q = cc in rw (← is, same) refl
+    same_free _ _ old refers same = refl
 
     -- else what hinders its end hinders it
     pub turned_free : (own target : Option (Cell T)) (old : Name)
@@ -106,14 +74,5 @@ module _ {T : Type 0} where
         → IsFree own target (is_none (hindrance_to S (name_of a ∷ [])))
     turned_free (Some (Ref q l)) (Some (Shared c k)) old there linked refers shared other =
         let is : old ≡ q = cc in
-        turn_free S (name_of a) q m l (Action.Point a b) linked there
-        (ap (λ x. is_name x m) (sym is) ∙ other)
-    turned_free (Some (Ref q l)) (Some (Value c k)) old there linked refers shared other =
-        absurd (true≢false shared)
-    turned_free (Some (Ref q l)) (Some (Ref p k)) old there linked refers shared other =
-        absurd (true≢false shared)
-    turned_free (Some (Ref q l)) None old there linked refers shared other =
-        absurd (true≢false shared)
-    turned_free (Some (Value c l)) target old there linked refers shared other = absurd cc
-    turned_free (Some (Shared c l)) target old there linked refers shared other = absurd cc
-    turned_free None target old there linked refers shared other = absurd cc
+        turn_free S (name_of a) q m l (Action.Point a b) linked there (rw is at other)
+    turned_free _ _ old there linked refers shared other = absurd cc

@@ -2,24 +2,18 @@
 -- back.
 use Rattle.generational_slots.proofs.Common
 use Common.{all_slot_rows, ap, append-nil, append_assoc, AreApart, arith, bare_cell, bare_cells}
-use Common.{bare_entry, BaseRow, Bool, by_name, Cell, cell_in, cell_of, cell_read, cell_rows}
-use Common.{cells_of, cond, contains_up_to, Entry, entry_rows, eq-eqb, eq_by_cmp, false, find_bare}
-use Common.{get_bare_cell, give_up_to, given_from, given_of, IfSome, IsSlotTable, length, List}
-use Common.{list_any, live_from, lt-ltb, Name, name_cmp, name_exact, name_total, Names, nat_cmp}
-use Common.{nat_cmp_total, ne_eqb, None, none-some, number_test, Option, option_map, or-false}
-use Common.{Plain, put, put_new, read_append, read_rows, refl, rows_from, slice_get, slot_rows}
-use Common.{slots_of, SlotTable, Some, State, state_of, suc, sym, T, take, true, unwrap_or}
-use Common.{with_cell, zero, ℕ, [], ◌&&◌, ◌++◌, ◌+◌, ◌<◌, ◌||◌, ◌∙◌, ◌∷◌, ◌≡◌}
+use Common.{bare_entry, BaseRow, Bool, by_name, Cell, cell_of, cell_read, cell_rows, cells_of}
+use Common.{contains_up_to, Entry, entry_rows, eq-eqb, eq_by_cmp, false, find_bare, get_bare_cell}
+use Common.{give_up_to, given_from, given_of, IfSome, inl, inr, IsSlotTable, length, List, list_any}
+use Common.{live_from, lt-ltb, Name, name_cmp, name_exact, name_total, Names, nat_cmp}
+use Common.{nat_cmp_total, ne_eqb, None, number_test, Option, option_map, or-false, Plain, put}
+use Common.{put_new, read_append, read_rows, refl, rows_from, slice_get, slice_get_cases, slot_rows}
+use Common.{slots_of, SlotTable, Some, State, state_of, suc, sym, T, take, true, with_cell, zero, ℕ}
+use Common.{[], ◌&&◌, ◌++◌, ◌+◌, ◌<◌, ◌||◌, ◌∙◌, ◌∷◌, ◌≡◌}
 use Rattle.generational_slots.proofs.states.States.{any_of, find_below, get_cells, get_last}
 use Rattle.std.proofs.Common.{map as list_map}
 use Rattle.std.specs.FinMap as map
 use Rattle.std.specs.FinSet as set
-use Rattle.generational_core.specs.declared.rows.BaseRow.TheVariants as row
-
-within_some : {A : Type 0} (xs : List A) (k : ℕ) → k < length xs → slice_get xs k ≡ None → ⊥
-within_some [] k within none = absurd (omega arith)
-within_some (x ∷ xs) zero within none = none-some x (sym none)
-within_some (x ∷ xs) (suc k) within none = within_some xs k (omega arith) none
 
 module _ {A : Type 0} where
   -- ---- one slot after the other
@@ -27,41 +21,27 @@ module _ {A : Type 0} where
   rows_more : (number i k : ℕ) (es : List (Entry A)) (e : Entry A) → slice_get es k ≡ Some e
       → rows_from number i (take (suc k) es)
       ≡ rows_from number i (take k es) ++ entry_rows number (i + k) e
-  rows_more number i k [] e there = absurd (none-some e there)
+  rows_more number i k [] e there = cc
   rows_more number i zero (x ∷ es) e there =
-      append-nil (entry_rows number i x)
-      ∙ (λ j. entry_rows number (at j) (same j))
-    where
-      at : i ≡ i + 0
-      at = omega arith
-
-      same : x ≡ e
-      same = ap (λ o. unwrap_or o x) there
+      let at : i ≡ i + 0 = omega arith in
+      let same : x ≡ e = cc in rw (append-nil (entry_rows number i x), same, ← at) refl
   rows_more number i (suc k) (x ∷ es) e there =
-      ap (λ rows. entry_rows number i x ++ rows) (rows_more number (i + 1) k es e there)
-      ∙ sym (append_assoc (entry_rows number i x) (rows_from number (i + 1) (take k es)) _)
-      ∙ ap (λ j. (entry_rows number i x ++ rows_from number (i + 1) (take k es))
-      ++ entry_rows number j e) (let at : (i + 1) + k ≡ i + suc k = omega arith in at)
+      let at : (i + 1) + k ≡ i + suc k = omega arith in
+      rw (rows_more number (i + 1) k es e there, at)
+      (sym (append_assoc (entry_rows number i x) (rows_from number (i + 1) (take k es)) _))
 
   pub rows_step : (number k : ℕ) (es : List (Entry A)) (before rows after : List BaseRow)
       → k < length es → rows ≡ before ++ rows_from number 0 (take k es)
       → IfSome (slice_get es k) (λ e. after ≡ rows ++ entry_rows number k e)
       → after ≡ before ++ rows_from number 0 (take (k + 1) es)
-  rows_step number k es before rows after within is pushed = at (slice_get es k) refl pushed
-    where
-      at : (o : Option (Entry A)) → slice_get es k ≡ o
-          → IfSome o (λ e. after ≡ rows ++ entry_rows number k e)
-          → after ≡ before ++ rows_from number 0 (take (k + 1) es)
-      at None past pushed = absurd (within_some es k within past)
-      at (Some e) there pushed =
-          pushed ∙ ap (λ xs. xs ++ entry_rows number k e) is
-          ∙ append_assoc before (rows_from number 0 (take k es)) (entry_rows number k e)
-          ∙ ap (λ xs. before ++ xs)
-          (ap (λ j. rows_from number 0 (take k es) ++ entry_rows number j e)
-          (let at : k ≡ 0 + k = omega arith in at)
-          ∙ sym (rows_more number 0 k es e there)
-          ∙ ap (λ n. rows_from number 0 (take n es))
-          (let more : suc k ≡ k + 1 = omega arith in more))
+  rows_step number k es before rows after within is pushed = elim (slice_get_cases es k).1 [
+    | inl w ↦
+        let at : 0 + k ≡ k = omega arith in
+        let more : k + 1 ≡ suc k = omega arith in
+        rw (rw w.2 at pushed, is, more, rows_more number 0 k es w.0 w.2, at)
+        (append_assoc before (rows_from number 0 (take k es)) (entry_rows number k w.0))
+    | inr w ↦ absurd (omega (arith, w.0))
+  ]
 
   -- ---- the machine's slots
 
@@ -73,13 +53,10 @@ module _ {A : Type 0} where
       → map.find nat_cmp q (numbered i es) ≡ option_map (λ e. e.generation) (slice_get es k)
   unfolding numbered
   find_numbered i [] q k is = refl
-  find_numbered i (e ∷ es) q zero is =
-      ap (λ b. cond b (Some e.generation) (map.find nat_cmp q (numbered (i + 1) es)))
-      (number_test q i ∙ eq-eqb q i (omega arith))
+  find_numbered i (e ∷ es) q zero is = rw (number_test q i, eq-eqb q i (omega arith)) refl
   find_numbered i (e ∷ es) q (suc k) is =
-      ap (λ b. cond b (Some e.generation) (map.find nat_cmp q (numbered (i + 1) es)))
-      (number_test q i ∙ ne_eqb q i (λ same. omega arith))
-      ∙ find_numbered (i + 1) es q k (omega arith)
+      rw (number_test q i, ne_eqb q i (λ same. omega arith))
+      (find_numbered (i + 1) es q k (omega arith))
 
   below_numbered : (x i : ℕ) (es : List (Entry A)) → x < i
       → T (map.Entries.below_all nat_cmp x (numbered i es))
@@ -103,22 +80,17 @@ module _ {A : Type 0} where
   unfolding numbered
   rows_numbered number slots i [] same = refl
   rows_numbered number slots i (e ∷ es) same =
-      λ j. (row.Slot i e.generation ∷ cell_rows number (record { slot = i; generation = e.generation }) (cell j))
-      ++ rows_numbered number slots (i + 1) es rest j
+      let at : i ≡ i + 0 = omega arith in
+      let there : slice_get slots i ≡ Some e = ap (slice_get slots) at ∙ same 0 in
+      rw (
+        get_cells slots (record { slot = i; generation = e.generation }),
+        there,
+        eq-eqb e.generation e.generation refl,
+        rows_numbered number slots (i + 1) es rest,
+      ) refl
     where
-      there : slice_get slots i ≡ Some e
-      there = ap (slice_get slots) (let at : i ≡ i + 0 = omega arith in at) ∙ same 0
-
-      cell : map.get (cells_of slots) (record { slot = i; generation = e.generation })
-          ≡ cell_of e.kept
-      cell =
-          get_cells slots (record { slot = i; generation = e.generation })
-          ∙ (ap (λ o. cell_in o e.generation) there
-          ∙ ap (λ b. cond b (cell_of e.kept) None) (eq-eqb e.generation e.generation refl))
-
       rest : (k : ℕ) → slice_get slots ((i + 1) + k) ≡ slice_get es k
-      rest k = ap (slice_get slots) (let at : (i + 1) + k ≡ i + suc k = omega arith in at)
-          ∙ same (suc k)
+      rest k = let at : (i + 1) + k ≡ i + suc k = omega arith in rw at (same (suc k))
 
   -- ---- reading back
 
@@ -189,26 +161,23 @@ module _ {A : Type 0} where
   unfolding give_all
   contains_given i [] given q = refl
   contains_given i (e ∷ es) given q =
-      contains_given (i + 1) es (give_up_to i e.generation given) q
-      ∙ ap (λ b. list_any (eq_by_cmp name_cmp q) (given_from 1 (i + 1) es) || b)
-      (contains_up_to i e.generation given q)
-      ∙ turned (list_any (eq_by_cmp name_cmp q) (given_from 1 (i + 1) es)) _ (set.contains given q)
-      ∙ ap (λ b. b || set.contains given q) (sym (any_of 1 i e es q))
+      rw (
+        contains_given (i + 1) es (give_up_to i e.generation given) q,
+        contains_up_to i e.generation given q,
+        any_of 1 i e es q,
+      ) (turned (list_any (eq_by_cmp name_cmp q) (given_from 1 (i + 1) es)) _ _)
     where
       turned : (r a c : Bool) → (r || (a || c)) ≡ ((a || r) || c)
-      turned true true c = refl
-      turned true false c = refl
-      turned false true c = refl
-      turned false false c = refl
+      turned r a c = grind arith
 
   given_read : (slots : List (Entry A)) → give_all 0 slots set.empty ≡ given_of 1 slots
   unfolding given_of
   given_read slots = set.same_set name_total name_exact _ _ (λ q.
-      contains_given 0 slots set.empty q
-      ∙ ap (λ b. list_any (eq_by_cmp name_cmp q) (given_from 1 0 slots) || b)
-      (set.contains-empty name_cmp q)
-      ∙ or-false _
-      ∙ sym (set.contains-from_list name_total (given_from 1 0 slots) q))
+      rw (
+        contains_given 0 slots set.empty q,
+        set.contains-empty name_cmp q,
+        set.contains-from_list name_total (given_from 1 0 slots) q,
+      ) (or-false _))
 
 module _ {A : Type 0} {p : SlotTable A} (s : IsSlotTable p) {S : State A}
     (view : state_of p.start p.counts.peak p.slots ≡ S) where
@@ -224,28 +193,14 @@ module _ {A : Type 0} {p : SlotTable A} (s : IsSlotTable p) {S : State A}
   -- the rows stand in the order of the machine's slots
   pub rows_seen : (number : ℕ) → rows_from number 0 p.slots ≡ all_slot_rows number S
   rows_seen number =
-      sym (rows_numbered number p.slots 0 p.slots (λ k. ap (slice_get p.slots) (omega arith)))
-      ∙ ap (slot_rows number (cells_of p.slots)) (sym entries_are)
-      ∙ ap (all_slot_rows number) view
+      rw (← view, entries_are)
+      (sym (rows_numbered number p.slots 0 p.slots (λ k. ap (slice_get p.slots) (omega arith))))
 
   -- and are read back
   pub rows_back : (number : ℕ) (P : Plain) → S.start ≡ 1 → P.cells ≡ map.empty
       → P.given ≡ set.empty → read_rows P (all_slot_rows number S)
       ≡ record P { cells = bare_cells S.cells; given = S.given }
   rows_back number P first no_cells none_given =
-      ap (read_rows P) (sym (rows_seen number))
-      ∙ slots_read number 0 p.slots P
-      ∙ (λ j. record P { cells = cells j; given = given j })
-    where
-      cells : put P.cells (list_map bare_entry (live_from 0 p.slots)) ≡ bare_cells S.cells
-      cells =
-          ap (λ m. put m (list_map bare_entry (live_from 0 p.slots))) no_cells
-          ∙ cells_read p.slots ∙ ap (λ (X : State A). bare_cells X.cells) view
-
-      start : p.start ≡ 1
-      start = ap (λ (X : State A). X.start) view ∙ first
-
-      given : give_all 0 p.slots P.given ≡ S.given
-      given =
-          ap (give_all 0 p.slots) none_given ∙ given_read p.slots
-          ∙ ap (λ n. given_of n p.slots) (sym start) ∙ ap (λ (X : State A). X.given) view
+      let start : p.start ≡ 1 = rw (← view) at first in
+      rw (← rows_seen number, ← view) (slots_read number 0 p.slots P
+      ∙ rw (no_cells, none_given, cells_read p.slots, given_read p.slots, start) refl)

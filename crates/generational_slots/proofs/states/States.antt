@@ -2,19 +2,21 @@
 -- many slots are live, free and retired.
 use Rattle.generational_slots.proofs.Common
 use Common.{and_from, and_parts, ap, arith, bit, Bool, by_number, Cell, cell_at, cell_in, cell_of}
-use Common.{cells_of, cond, cond_same, count_all, Empty, Entry, eq-eqb, eq_by_cmp, false, free}
-use Common.{fresh, get-keep, get_lasts, given_from, given_in, given_of, HasBegun, how_many, inl}
-use Common.{inr, is_free, is_live, is_name, is_retired, is_some, is_spent, IsFresh, IsLast, IsNew}
+use Common.{cells_of, cond, cond_same, count_all, Entry, eq-eqb, eq_by_cmp, false, free, fresh}
+use Common.{get-keep, get_lasts, given_from, given_in, given_of, HasBegun, how_many, inl, inr}
+use Common.{is_free, is_live, is_name, is_retired, is_some, is_spent, IsFresh, IsLast, IsNew}
 use Common.{IsSlotTable, Kept, last_generation, last_name, le-leb, leb, leb-true, len_passing}
-use Common.{length, List, list_any, list_any-append, Live, live_from, ltb, Name, name_cmp}
-use Common.{name_test, name_total, names_up, nat_cmp, nat_eq, nat_lt, nat_tests, ne_eqb}
-use Common.{nil_from_length, None, not, one_last, Option, option_map, or-false, passes, Refers}
-use Common.{refl, retired, slice_get, slice_get_past, slots, slots_of, SlotTable, Some, State}
-use Common.{state_of, suc, sym, true, true≢false, unwrap_or, with_cell, zero, ℕ, [], ◌&&◌, ◌+◌, ◌-◌}
-use Common.{◌<◌, ◌||◌, ◌∙◌, ◌∷◌, ◌≡◌, ◌≤◌}
+use Common.{length, List, list_any, list_any-append, live_from, ltb, Name, name_cmp, name_test}
+use Common.{name_total, names_up, nat_cmp, nat_eq, nat_lt, nat_tests, ne_eqb, nil_from_length, None}
+use Common.{not, one_last, Option, option_map, or-false, passes, refl, retired, slice_get}
+use Common.{slice_get_past, slots, slots_of, SlotTable, Some, State, state_of, suc, sym, true}
+use Common.{unwrap_or, with_cell, zero, ℕ, [], ◌&&◌, ◌+◌, ◌-◌, ◌<◌, ◌||◌, ◌∙◌, ◌∷◌, ◌≡◌, ◌≢◌, ◌≤◌}
 use Rattle.std.specs.FinMap as map
 use Rattle.std.specs.FinSet as set
-use Rattle.generational_entries.specs.declared.entry.Kind.TheVariants as kind
+
+-- names of two slots differ
+pub not_named : (q m : Name) → q.slot ≢ m.slot → is_name q m ≡ false
+not_named q m other = rw (name_test q m, ne_eqb q.slot m.slot other) refl
 
 module _ {T : Type 0} where
   -- the list of live cells at a name that isn't, and that may be, its first one's
@@ -26,19 +28,18 @@ module _ {T : Type 0} where
   find_apart n here (Some c) rest is = rw is refl
 
   find_here : (n here : Name) (c : Option (Cell T)) (rest : List (Name × Cell T))
-      → is_name n here ≡ true → map.find name_cmp n rest ≡ None
-      → map.find name_cmp n (with_cell here c rest) ≡ c
+      → map.find name_cmp n rest ≡ None
+      → map.find name_cmp n (with_cell here c rest) ≡ cond (is_name n here) c None
   unfolding is_name
-  find_here n here None rest is none = none
-  find_here n here (Some c) rest is none = rw is refl
+  find_here n here None rest none = none ∙ sym (cond_same _ None)
+  find_here n here (Some c) rest none = rw none refl
 
   pub find_below : (i : ℕ) (slots : List (Entry T)) (n : Name) → n.slot < i
       → map.find name_cmp n (live_from i slots) ≡ None
   find_below i [] n h = refl
   find_below i (e ∷ slots) n h =
       let here : Name = record { slot = i; generation = e.generation } in
-      find_apart n here (cell_of e.kept) _
-      (name_test n here ∙ rw (ne_eqb n.slot i (λ same. omega arith)) refl)
+      find_apart n here (cell_of e.kept) _ (not_named n here (λ same. omega arith))
       ∙ find_below (i + 1) slots n (omega arith)
 
   find_at : (i : ℕ) (slots : List (Entry T)) (n : Name) (k : ℕ) → n.slot ≡ i + k
@@ -46,22 +47,12 @@ module _ {T : Type 0} where
   find_at i [] n k is = refl
   find_at i (e ∷ slots) n (suc k) is =
       let here : Name = record { slot = i; generation = e.generation } in
-      find_apart n here (cell_of e.kept) _
-      (name_test n here ∙ rw (ne_eqb n.slot i (λ same. omega arith)) refl)
+      find_apart n here (cell_of e.kept) _ (not_named n here (λ same. omega arith))
       ∙ find_at (i + 1) slots n k (omega arith)
   find_at i (e ∷ slots) n zero is =
-      at (record { slot = i; generation = e.generation }) refl
-      (find_below (i + 1) slots n (omega arith)) (nat_eq n.generation e.generation) refl
-    where
-      at : (here : Name) → here ≡ record { slot = i; generation = e.generation }
-          → map.find name_cmp n (live_from (i + 1) slots) ≡ None
-          → (b : Bool) → nat_eq n.generation e.generation ≡ b
-          → map.find name_cmp n (with_cell here (cell_of e.kept) (live_from (i + 1) slots))
-          ≡ cond b (cell_of e.kept) None
-      at here own none true same = find_here n here (cell_of e.kept) _
-          (name_test n here ∙ rw (own, eq-eqb n.slot i (omega arith), same) refl) none
-      at here own none false other = find_apart n here (cell_of e.kept) _
-          (name_test n here ∙ rw (own, eq-eqb n.slot i (omega arith), other) refl) ∙ none
+      let here : Name = record { slot = i; generation = e.generation } in
+      find_here n here (cell_of e.kept) _ (find_below (i + 1) slots n (omega arith))
+      ∙ rw (name_test n here, eq-eqb n.slot i (omega arith)) refl
 
   -- what the machine's map has at a name
   pub get_cells : (slots : List (Entry T)) (n : Name)
@@ -73,10 +64,7 @@ module _ {T : Type 0} where
 
   -- a slot has a live cell where the machine has one
   pub live_cell : (k : Kept T) → is_some (cell_of k) ≡ is_live k
-  live_cell Empty = refl
-  live_cell (Live kind.Value c l) = refl
-  live_cell (Live kind.Shared c l) = refl
-  live_cell (Refers m l) = refl
+  live_cell k = grind arith
 
   pub len_cells : (slots : List (Entry T))
       → map.len (cells_of slots) ≡ how_many (λ e. is_live e.kept) slots
@@ -109,8 +97,7 @@ unfolding is_name
 any_up q slot from zero = none (nat_eq q.slot slot) from q.generation
   where
     none : (a : Bool) (from g : ℕ) → false ≡ (a && (leb from g && ltb g (from + 0)))
-    none true from g = grind (arith, nat_tests)
-    none false from g = refl
+    none a from g = grind (arith, nat_tests)
 any_up q slot from (suc k) =
     (λ i. name_test q (record { slot = slot; generation = from + k }) i || any_up q slot from k i)
     ∙ one (nat_eq q.slot slot) from k q.generation
@@ -118,8 +105,7 @@ any_up q slot from (suc k) =
     one : (a : Bool) (from k g : ℕ)
         → ((a && nat_eq g (from + k)) || (a && (leb from g && ltb g (from + k))))
         ≡ (a && (leb from g && ltb g (from + suc k)))
-    one true from k g = grind (arith, nat_tests)
-    one false from k g = refl
+    one a from k g = grind (arith, nat_tests)
 
 up_to : (start last g : ℕ)
     → (leb start g && ltb g (start + (last + 1 - start))) ≡ (leb start g && leb g last)
@@ -163,21 +149,21 @@ module _ {T : Type 0} {p : SlotTable T} (s : IsSlotTable p) where
   abbrev here : State T
   here = state_of p.start p.counts.peak p.slots
 
+  given_is : (n : Name) → list_any (eq_by_cmp name_cmp n) (set.items here.given)
+      ≡ given_in p.start (slice_get p.slots n.slot) n.generation
+  given_is n = sym (set.contains-items here.given n) ∙ get_given p.start p.slots n
+
   last_of : (k : ℕ) (o : Option (Entry T)) → slice_get p.slots k ≡ o
       → IsLast (set.items here.given) k (option_map (λ e. e.generation) o)
-  last_of k None none = λ n h is. true≢false
-      (sym h ∙ (sym (set.contains-items here.given n) ∙ get_given p.start p.slots n
-      ∙ rw (is, none) refl))
+  last_of k None none = λ n h is. let no = rw (given_is n, is, none) at h in cc
   last_of k (Some e) there = (
-    sym (set.contains-items here.given (record { slot = k; generation = e.generation }))
-        ∙ get_given p.start p.slots (record { slot = k; generation = e.generation })
-        ∙ rw there (and_from _ _ (le-leb p.start e.generation (rw there at (s.begun k)))
+    rw (given_is (record { slot = k; generation = e.generation }), there)
+        (and_from _ _ (le-leb p.start e.generation (rw there at (s.begun k)))
         (le-leb e.generation e.generation (omega arith))),
     λ n h is.
-        let given = sym h ∙ (sym (set.contains-items here.given n)
-        ∙ (get_given p.start p.slots n ∙ rw (is, there) refl)) in
+        let given = rw (given_is n, is, there) at h in
         leb-true n.generation e.generation
-        (and_parts (leb p.start n.generation) (leb n.generation e.generation) (sym given)).1,
+        (and_parts (leb p.start n.generation) (leb n.generation e.generation) given).1,
   )
 
   pub get_last : (k : ℕ)
@@ -213,10 +199,12 @@ module _ {T : Type 0} {p : SlotTable T} (s : IsSlotTable p) where
 
   live_is : (k : ℕ) (e : Entry T) → slice_get p.slots k ≡ Some e
       → is_some (map.get here.cells (last_name here k)) ≡ is_live e.kept
-  live_is k e there =
-      ap (λ n. is_some (map.get here.cells n)) (is_own k e there)
-      ∙ ap is_some (get_cells p.slots (record { slot = k; generation = e.generation }))
-      ∙ rw (there, eq-eqb e.generation e.generation refl) (live_cell e.kept)
+  live_is k e there = rw (
+    is_own k e there,
+    get_cells p.slots (record { slot = k; generation = e.generation }),
+    there,
+    eq-eqb e.generation e.generation refl,
+  ) (live_cell e.kept)
 
   free_is : (k : ℕ) (e : Entry T) → slice_get p.slots k ≡ Some e → is_free here k ≡ is_spent e
   free_is k e there =
@@ -245,9 +233,7 @@ module _ {T : Type 0} {p : SlotTable T} (s : IsSlotTable p) where
       let counted = s.counted in let stocked = s.stocked in let all = parts p.slots in omega arith
     where
       one : (a b : Bool) → 1 ≡ bit a + bit (not a && b) + bit (not a && not b)
-      one true b = refl
-      one false true = refl
-      one false false = refl
+      one a b = grind arith
 
       parts : (es : List (Entry T)) → length es ≡ how_many (λ e. is_live e.kept) es
           + how_many is_spent es
@@ -340,5 +326,5 @@ module _ {T : Type 0} where
             → given_in start (slice_get xs 0) start ≡ false → length xs ≡ 0
         at [] b g = refl
         at (e ∷ es) b g =
-            absurd (true≢false (sym (and_from _ _ (le-leb start start (omega arith))
-            (le-leb start e.generation b)) ∙ g))
+            let given = and_from _ _ (le-leb start start (omega arith))
+            (le-leb start e.generation b) in absurd cc

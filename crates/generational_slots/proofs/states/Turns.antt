@@ -1,11 +1,12 @@
 -- What becomes of a reference's old target where it names another, as the machine says it.
 use Rattle.generational_slots.proofs.Common
-use Rattle.generational_slots.proofs.{Common.◌∙◌, Common.◌≡◌, states.Endings.without}
-use Common.{ap, Bool, BorrowMutError, BorrowRefusal, by_name, Cell, cond, content_of, doomed_by}
-use Common.{Err, false, false≢true, FoundBorrowed, get-insert_apart, hindrance_at, is_name}
-use Common.{is_named, is_shared, is_some, IsLinked, IsTurned, Location, Name, NameMap, None, Ok}
-use Common.{Option, OutOfMemory, Ref, refl, refusal_of, Refused, Shared, Some, State, subst, sweep}
-use Common.{sym, target_in, true, true≢false, turn, turn_hindered, turn_sweep, Value, write_refusal}
+use Rattle.generational_slots.proofs.{Common.◌∙◌, Common.◌≡◌, Common.◌≢◌, states.Endings.without}
+use Common.{Bool, BorrowMutError, BorrowRefusal, by_name, Cell, cond, doomed_by, Err, false}
+use Common.{FoundBorrowed, get-insert_apart, hindrance_at, is_name, is_named, is_shared, is_some}
+use Common.{IsLinked, IsTurned, Location, Name, NameMap, None, Ok, Option, OutOfMemory, Ref, refl}
+use Common.{refusal_of, Refused, Shared, Some, State, subst, sweep, sym, target_in, true, turn}
+use Common.{turn_hindered, turn_sweep}
+use Rattle.generational_slots.proofs.states.{Endings.borrowed_doomed, References.reference_to}
 use Rattle.std.specs.FinMap as map
 use Rattle.generational_errors.specs.declared.error.Refused.TheVariants as refused
 
@@ -13,26 +14,19 @@ use Rattle.generational_errors.specs.declared.error.Refused.TheVariants as refus
 troubled : (t : Option BorrowRefusal) (e : Refused BorrowMutError) → FoundBorrowed t (Err e)
     → (x : BorrowRefusal) × (t ≡ Some x)
 troubled (Some x) e found = (x, refl)
-troubled None (refused.Borrow e) found = absurd cc
+troubled None (refused.Borrow e) found = cc
 troubled None (refused.Store OutOfMemory) found = absurd found
-troubled None (refused.Store _) found = absurd found
+troubled None _ found = absurd found
 
 module _ {T : Type 0} where
   -- the cell of a reference
-  reference_cell : (c : Option (Cell T)) (m : Name) → target_in c ≡ Some m
-      → (l : Location) × (c ≡ Some (Ref m l))
-  reference_cell (Some (Ref k l)) m h = let same : k ≡ m = cc in (l, ap (λ x. Some (Ref x l)) same)
-  reference_cell None m h = absurd cc
-  reference_cell (Some (Value c l)) m h = absurd cc
-  reference_cell (Some (Shared c l)) m h = absurd cc
-
   pub record IsReference (S : State T) (n m : Name) : Type 0 where
     pub created : Location
     pub there : map.get S.cells n ≡ Some (Ref m created)
 
   pub reference_is : (S : State T) {n m : Name} → target_in (map.get S.cells n) ≡ Some m
       → IsReference S n m
-  reference_is S h = let r = reference_cell _ _ h in record { created = r.0; there = r.1 }
+  reference_is S h = let r = reference_to _ _ h in record { created = r.0; there = r.1 }
 
   module _ {S : State T} {n old : Name} (r : IsReference S n old) (new : Name)
       (linked : IsLinked S.cells) where
@@ -51,15 +45,13 @@ module _ {T : Type 0} where
     module _ (other : is_name old new ≡ false) (d : Option Name)
         (doomed : d ≡ doomed_by (is_named (map.remove S.cells n)) (map.get S.cells n) n) where
       target_doomed : d ≡ cond (is_named (map.remove S.cells n) old) None (Some old)
-      target_doomed = doomed ∙ ap (λ c. doomed_by (is_named (map.remove S.cells n)) c n) there
+      target_doomed = rw there at doomed
 
       -- the old target hinders it where it would go
       pub hinders : hindrance_at S.cells left old ≡ refusal_of S.cells d
       hinders =
-          turn_hindered S.cells n old new l linked there other
-          ∙ ((elim (is_named (map.remove S.cells n) old) as (λ b. cond b None (write_refusal
-          (content_of (map.get S.cells old))) ≡ refusal_of S.cells (cond b None (Some old)))
-          [ true ↦ refl | false ↦ refl ]) ∙ ap (refusal_of S.cells) (sym target_doomed))
+          rw target_doomed (turn_hindered S.cells n old new l linked there other
+          ∙ borrowed_doomed S.cells (is_named (map.remove S.cells n)) n (Some (Ref old l)) there)
 
       -- it's there still when the reference has turned, and names nothing
       pub doomed_left : (x : Name) → d ≡ Some x
@@ -67,30 +59,25 @@ module _ {T : Type 0} where
           × (None ≡ target_in (map.get (map.insert S.cells n (Ref new l)) x))
       doomed_left x is = at (is_named (map.remove S.cells n) old) (sym is ∙ target_doomed)
         where
-          apart : old ≡ n → ⊥
-          apart z = true≢false (sym (linked.targets n old l there)
-              ∙ (ap (λ x. is_shared (map.get S.cells x)) z ∙ ap is_shared there))
+          apart : old ≢ n
+          apart z = let no = rw (z, there) at (linked.targets n old l there) in cc
 
           value : (c : Option (Cell T)) → is_shared c ≡ true
               → (is_some c ≡ true) × (None ≡ target_in c)
           value (Some (Shared c l)) h = (refl, refl)
-          value None h = absurd (false≢true h)
-          value (Some (Value c l)) h = absurd (false≢true h)
-          value (Some (Ref m l)) h = absurd (false≢true h)
+          value _ h = cc
 
           at : (b : Bool) → Some x ≡ cond b None (Some old)
               → (is_some (map.get (map.insert S.cells n (Ref new l)) x) ≡ true)
               × (None ≡ target_in (map.get (map.insert S.cells n (Ref new l)) x))
-          at true is = absurd cc
+          at true is = cc
           at false is =
               let same : x ≡ old = cc in
-              let kept = ap (map.get (map.insert S.cells n (Ref new l))) same
-              ∙ get-insert_apart by_name S.cells n (Ref new l) old apart in
-              let v = value (map.get S.cells old) (linked.targets n old l there) in
-              (ap is_some kept ∙ v.0, v.1 ∙ ap target_in (sym kept))
+              rw (same, get-insert_apart by_name S.cells n (Ref new l) old apart)
+              (value (map.get S.cells old) (linked.targets n old l there))
 
-      pub turns_refused : (e : Refused BorrowMutError) → FoundBorrowed (refusal_of S.cells d) (Err e)
-          → IsTurned S S (Err e) (turn S n old new l)
+      pub turns_refused : (e : Refused BorrowMutError)
+          → FoundBorrowed (refusal_of S.cells d) (Err e) → IsTurned S S (Err e) (turn S n old new l)
       turns_refused e found =
           let t = troubled (refusal_of S.cells d) e found in
           rw (other, hinders ∙ t.1) (subst (λ x. FoundBorrowed x (Err e)) t.1 found, refl)
@@ -101,11 +88,10 @@ module _ {T : Type 0} where
       turns_done R free after =
           rw (other, hinders ∙ free) (
             refl,
-            after
-                ∙ (ap (without (record S { cells = map.insert S.cells n (Ref new l) })) target_doomed
-                ∙ (at (is_named (map.remove S.cells n) old)
-                ∙ ap (λ cells. record S { cells = cells })
-                (sym (turn_sweep S.cells n old new l linked there other)))),
+            after ∙ rw (
+              target_doomed,
+              turn_sweep S.cells n old new l linked there other,
+            ) (at (is_named (map.remove S.cells n) old)),
           )
         where
           at : (b : Bool)

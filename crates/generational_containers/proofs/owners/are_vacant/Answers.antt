@@ -1,4 +1,4 @@
-use Rattle.generational_containers.proofs.{arith, false≢true, length, not_empty, owners_vacant}
+use Rattle.generational_containers.proofs.{arith, length, not_empty, owners_vacant}
 use Rattle.generational_containers.proofs.{refl, slice_get_read, sym, vacant_through, ◌∙◌}
 use Rattle.generational_containers.proofs.owners.are_vacant.Goals as goal
 
@@ -12,7 +12,7 @@ loop-place-preserved c =
 
 pub returns-then-is_some : goal.returns-then-is_some
 returns-then-is_some c = (
-  λ t. absurd (false≢true t),
+  λ t. absurd cc,
   λ empty. absurd (not_empty c.args.places.now c.loop-place.place-index c.place-item.result
       (slice_get_read c.args.places.now (length c.args.places.now) c.loop-place.place-index
       c.place-item.result refl c.loop-place-test.true c.place-item.is)

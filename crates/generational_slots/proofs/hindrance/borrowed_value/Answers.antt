@@ -1,5 +1,5 @@
-use Rattle.generational_slots.proofs.{ap, cond, name_of_cell, None, reached_borrow, reached_free}
-use Rattle.generational_slots.proofs.{reached_live, slice_get_within, Some, sym, ◌∙◌}
+use Rattle.generational_slots.proofs.{found_within, name_of_cell, reached_borrow, reached_free}
+use Rattle.generational_slots.proofs.{reached_live, refl, sym, ◌∙◌}
 use Rattle.generational_slots.proofs.hindrance.borrowed_value.Goals as goal
 
 pub returns-then-has_unborrowed_value : goal.returns-then-has_unborrowed_value
@@ -11,7 +11,7 @@ pub is_unborrowed-requires : goal.is_unborrowed-requires
 is_unborrowed-requires g c =
     let s = reached_live c.args.entries.now.slots c.requires.targets (name_of_cell c.args.name)
     (name_of_cell c.in-Some.value) (rw c.in-Some.is at c.reach.ensures) in
-    slice_get_within _ _ s.entry s.there
+    found_within s
 
 pub returns-then-is_unborrowed : goal.returns-then-is_unborrowed
 returns-then-is_unborrowed g c =
@@ -19,8 +19,12 @@ returns-then-is_unborrowed g c =
     let m = name_of_cell c.in-Some.value in
     let leads = rw c.in-Some.is at c.reach.ensures in
     let s = reached_live slots c.requires.targets (name_of_cell c.args.name) m leads in
-    ap (λ b. cond b None (Some m)) (sym c.if-is_unborrowed.true ∙ (rw s.there at c.is_unborrowed.ensures))
-    ∙ reached_borrow slots (name_of_cell c.args.name) m leads s
+    let free = rw s.there at c.is_unborrowed.ensures in
+    rw (
+      ← reached_borrow slots (name_of_cell c.args.name) m leads s,
+      ← free,
+      c.if-is_unborrowed.true,
+    ) refl
 
 pub returns : goal.returns
 returns g c =
@@ -28,5 +32,9 @@ returns g c =
     let m = name_of_cell c.in-Some.value in
     let leads = rw c.in-Some.is at c.reach.ensures in
     let s = reached_live slots c.requires.targets (name_of_cell c.args.name) m leads in
-    ap (λ b. cond b None (Some m)) (sym c.if-is_unborrowed.false ∙ (rw s.there at c.is_unborrowed.ensures))
-    ∙ reached_borrow slots (name_of_cell c.args.name) m leads s
+    let free = rw s.there at c.is_unborrowed.ensures in
+    rw (
+      ← reached_borrow slots (name_of_cell c.args.name) m leads s,
+      ← free,
+      c.if-is_unborrowed.false,
+    ) refl

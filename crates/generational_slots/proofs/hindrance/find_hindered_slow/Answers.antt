@@ -1,8 +1,8 @@
 use Rattle.generational_slots.proofs
-use proofs.{all, and_parts, ap, arith, as_listed, at_drop_all, Bool, borrowed_leads, cell_at}
-use proofs.{CellName, cells_of, doomed_own, eqb-true, false≢true, free_own, IfSome, is_named}
-use proofs.{is_shared, length, length-map, Name, name_of_cell, None, Option, option_eq, passed}
-use proofs.{slice_index_or, Some, spared_own, stopped, sym, take_away, true, ◌&&◌, ◌∙◌, ◌≡◌, ◌≤◌}
+use proofs.{all, and_parts, ap, arith, as_listed, at_drop_all, Bool, cell_at, CellName, cells_of}
+use proofs.{eqb-true, IfSome, is_named, is_shared, length, length-map, Name, name_of_cell, None}
+use proofs.{Option, option_eq, passed_free, passed_spared, Some, stopped, sym, take_away, true}
+use proofs.{◌&&◌, ◌∙◌, ◌≡◌, ◌≤◌}
 use Rattle.std.proofs.Common.{map as list_map}
 use Rattle.generational_slots.proofs.hindrance.find_hindered_slow.Goals as goal
 
@@ -15,17 +15,16 @@ spared_same : (same : CellName → CellName → Bool)
     → (lives : Name → Bool) (o : Option CellName) (v : CellName)
     → IfSome o (λ k. lives (name_of_cell k) ≡ true) → option_eq same o (Some v) ≡ true
     → lives (name_of_cell v) ≡ true
-spared_same same is lives None v known e = absurd (false≢true e)
+spared_same same is lives None v known e = cc
 spared_same same is lives (Some k) v known e = ap lives (sym (is k v e)) ∙ known
 
 pub loop-name-preserved-in_default : goal.loop-name-preserved-in_default
 loop-name-preserved-in_default g c =
     let slots = c.args.entries.now.slots in
     let items = c.args.names.now in
-    let i = c.loop-name.name-index in
     let named = is_named (take_away (cells_of slots) (list_map name_of_cell items)) in (
-      passed slots named items i none c.loop-name-test.true
-          (free_own slots named _ (rw c.in_default.is at c.borrowed_value.ensures))
+      passed_free slots named items _ none c.loop-name-test.true
+          (rw c.in_default.is at c.borrowed_value.ensures)
           ∙ c.loop-name.invariant.0,
       c.loop-name.invariant.1,
     )
@@ -34,18 +33,14 @@ pub loop-name-preserved-then-eq : goal.loop-name-preserved-then-eq
 loop-name-preserved-then-eq g c =
     let slots = c.args.entries.now.slots in
     let items = c.args.names.now in
-    let i = c.loop-name.name-index in
     let named = is_named (take_away (cells_of slots) (list_map name_of_cell items)) in
-    let n = name_of_cell (slice_index_or items i none) in
-    let m = name_of_cell c.in-Some.value in
-    let leads = borrowed_leads slots named _ m (rw c.in-Some.is at c.borrowed_value.ensures) in
     let lives = spared_same _ (λ a b e. let both = and_parts _ _ e in λ j. record {
       slot = eqb-true a.slot b.slot both.0 j;
       generation = eqb-true a.generation b.generation both.1 j;
     }) (λ m. is_shared (cell_at slots m) && named m) c.loop-name.spared c.in-Some.value
     c.loop-name.invariant.1 (sym c.eq.ensures ∙ c.if-eq.true) in (
-      passed slots named items i none c.loop-name-test.true
-          (spared_own slots named n m leads.0 lives)
+      passed_spared slots named items _ none c.loop-name-test.true _
+          (rw c.in-Some.is at c.borrowed_value.ensures) lives
           ∙ c.loop-name.invariant.0,
       c.loop-name.invariant.1,
     )
@@ -54,29 +49,21 @@ pub returns-then-not-lives_on-clause-hindrance : goal.returns-then-not-lives_on-
 returns-then-not-lives_on-clause-hindrance g c =
     let slots = c.args.entries.now.slots in
     let items = c.args.names.now in
-    let i = c.loop-name.name-index in
-    let named = is_named (take_away (cells_of slots) (list_map name_of_cell items)) in
-    let n = name_of_cell (slice_index_or items i none) in
-    let m = name_of_cell c.in-Some.value in
-    let leads = borrowed_leads slots named _ m (rw c.in-Some.is at c.borrowed_value.ensures) in
-    as_listed (cells_of slots) (list_map name_of_cell items) c.requires.linked
-    ∙ (sym c.loop-name.invariant.0
-    ∙ stopped slots named items i none m c.loop-name-test.true
-    (doomed_own slots named c.requires.linked.targets n m leads.0
-    (sym c.lives_on.ensures ∙ c.if-not-lives_on.true)) leads.1)
+    let names = list_map name_of_cell items in
+    rw (as_listed (cells_of slots) names c.requires.linked, ← c.loop-name.invariant.0)
+    (stopped slots (is_named (take_away (cells_of slots) names)) items _ none
+    c.loop-name-test.true c.requires.linked.targets _
+    (rw c.in-Some.is at c.borrowed_value.ensures)
+    (sym c.lives_on.ensures ∙ c.if-not-lives_on.true))
 
 pub loop-name-preserved : goal.loop-name-preserved
 loop-name-preserved g c =
     let slots = c.args.entries.now.slots in
     let items = c.args.names.now in
-    let i = c.loop-name.name-index in
     let named = is_named (take_away (cells_of slots) (list_map name_of_cell items)) in
-    let n = name_of_cell (slice_index_or items i none) in
-    let m = name_of_cell c.in-Some.value in
-    let leads = borrowed_leads slots named _ m (rw c.in-Some.is at c.borrowed_value.ensures) in
     let lives = sym c.lives_on.ensures ∙ c.if-not-lives_on.false in (
-      passed slots named items i none c.loop-name-test.true
-          (spared_own slots named n m leads.0 lives)
+      passed_spared slots named items _ none c.loop-name-test.true _
+          (rw c.in-Some.is at c.borrowed_value.ensures) lives
           ∙ c.loop-name.invariant.0,
       lives,
     )

@@ -1,12 +1,12 @@
-use Rattle.generational_slots.proofs.{FoundBorrowed, name_of_cell, refusal_there, refused_live}
-use Rattle.generational_slots.proofs.{slice_get_within, subst, sym, ◌∙◌}
+use Rattle.generational_slots.proofs.{found_within, FoundBorrowed, name_of_cell, refusal_there}
+use Rattle.generational_slots.proofs.{refused_live, subst, sym, ◌∙◌}
 use Rattle.generational_slots.proofs.hindrance.find_hindrance.Goals as goal
 
 pub borrow_mut_error-requires : goal.borrow_mut_error-requires
 borrow_mut_error-requires g c =
     let s = refused_live c.args.entries.now.slots (name_of_cell c.in-Some.value)
     (rw c.in-Some.is at c.find_hindered.ensures.borrowed) in
-    slice_get_within _ _ s.entry s.there
+    found_within s
 
 pub returns-in-Some : goal.returns-in-Some
 returns-in-Some g c =

@@ -1,14 +1,11 @@
-use Rattle.generational_box.proofs.{arith, content_at, has_content, meets_kept, name_of_cell, None}
-use Rattle.generational_box.proofs.{reaches, Read, read_begins, read_exhausted, read_lacks}
-use Rattle.generational_box.proofs.{read_refusal, readers_below, refl, state_is, subst, sym, ◌≡◌}
+use Rattle.generational_box.proofs.{arith, has_content, meets_kept, reaches, Read, read_begins}
+use Rattle.generational_box.proofs.{read_exhausted, read_lacks, readers_below, refl, state_is, sym}
 use Rattle.generational_box.proofs.unsync.Store.begin_read.Goals as goal
 
 pub returns-then-ticket : goal.returns-then-ticket
 returns-then-ticket g c =
     read_exhausted c.args.pointer c.args.location c.self.inside.slots.state (state_is c.self.view_is)
-    (reaches (state_is c.self.view_is) c.args.self.now.sound (sym c.requires.to))
-    (subst (λ S. None ≡ read_refusal (content_at S (name_of_cell c.args.name))) (sym (state_is c.self.view_is))
-    (sym c.requires.free)) (omega arith)
+    c.args.self.now.sound c.requires.to c.requires.free (omega arith)
 
 pub begin_read-requires-clause-there : goal.begin_read-requires-clause-there
 begin_read-requires-clause-there g c =
@@ -17,29 +14,23 @@ begin_read-requires-clause-there g c =
 pub begin_read-requires-clause-ascends : goal.begin_read-requires-clause-ascends
 begin_read-requires-clause-ascends g c =
     readers_below c.args.pointer c.args.location c.self.inside.slots.state (state_is c.self.view_is)
-    (reaches (state_is c.self.view_is) c.args.self.now.sound (sym c.requires.to)) c.args.self.now.sound
+    c.args.self.now.sound c.requires.to
 
 pub returns-in-Ok : goal.returns-in-Ok
 returns-in-Ok g c =
     read_begins c.args.pointer c.args.location c.self.inside.slots.state (state_is c.self.view_is)
-    (reaches (state_is c.self.view_is) c.args.self.now.sound (sym c.requires.to))
-    (subst (λ S. None ≡ read_refusal (content_at S (name_of_cell c.args.name))) (sym (state_is c.self.view_is))
-    (sym c.requires.free)) _ _ _
-    (omega arith) c.in-Ok.ensures.ok c.id_in.ensures c.reader_at.ensures
+    c.args.self.now.sound c.requires.to c.requires.free _ _ _ (omega arith)
+    c.in-Ok.ensures.ok c.id_in.ensures c.reader_at.ensures
 
 pub returns-in-Err : goal.returns-in-Err
 returns-in-Err g c =
     read_lacks c.args.pointer c.args.location c.self.inside.slots.state (state_is c.self.view_is)
-    (reaches (state_is c.self.view_is) c.args.self.now.sound (sym c.requires.to))
-    (subst (λ S. None ≡ read_refusal (content_at S (name_of_cell c.args.name))) (sym (state_is c.self.view_is))
-    (sym c.requires.free)) _
-    (omega arith) c.in-Err.ensures.err c.in-Err.ensures.beside
+    c.args.self.now.sound c.requires.to c.requires.free _ (omega arith)
+    c.in-Err.ensures.err c.in-Err.ensures.beside
 
 pub invariant_of-self-inside : goal.invariant_of-self-inside
 invariant_of-self-inside g c =
     meets_kept _ _ (Read c.args.pointer c.args.location) _ c.args.self.now.sound c.args.self.now.bounded
     (read_begins c.args.pointer c.args.location c.self.inside.slots.state (state_is c.self.view_is)
-    (reaches (state_is c.self.view_is) c.args.self.now.sound (sym c.requires.to))
-    (subst (λ S. None ≡ read_refusal (content_at S (name_of_cell c.args.name))) (sym (state_is c.self.view_is))
-    (sym c.requires.free)) _ _ _
-    (omega arith) c.in-Ok.ensures.ok refl refl)
+    c.args.self.now.sound c.requires.to c.requires.free _ _ _ (omega arith)
+    c.in-Ok.ensures.ok refl refl)

@@ -20,14 +20,14 @@ pub returns : goal.returns
 returns g c =
     clone_made (state_is c.self.view_is) c.args.owner.now (sym c.knows.ensures ∙ c.if-not-knows.false)
     c.owner_at.result _ (omega arith) (rw (← ap (λ i. i.key) c.id.ensures) c.owner_at.ensures)
-    (rw c.count_up-place.ensures.counted refl)
+    (rw c.count_up-place.ensures.counted)
 
 pub invariant_of-self-inside-2 : goal.invariant_of-self-inside-2
 invariant_of-self-inside-2 g c =
     meets_kept _ _ (CloneOwner c.args.owner.now) _ c.args.self.now.sound c.args.self.now.bounded
     (clone_made (state_is c.self.view_is) c.args.owner.now (sym c.knows.ensures ∙ c.if-not-knows.false)
     _ _ (omega arith) refl
-    (rw c.count_up-place.ensures.counted refl))
+    (rw c.count_up-place.ensures.counted))
 
 pub same-self : goal.same-self
 same-self g c = both (λ s b. record c.self.inside { sound = s; bounded = b })

@@ -1,4 +1,4 @@
-use Rattle.generational_box.proofs.{false≢true, fresh_with, refl, state_is}
+use Rattle.generational_box.proofs.{fresh_with, refl, state_is}
 use Rattle.generational_box.proofs.unsync.StoreAnyStorage.is_fresh.Goals as goal
 
 pub returns-then-is_fresh : goal.returns-then-is_fresh
@@ -11,6 +11,6 @@ returns-then-is_fresh g c =
 pub returns-else-is_fresh : goal.returns-else-is_fresh
 returns-else-is_fresh g c =
     let fresh = fresh_with c.self.inside.slots.state (state_is c.self.view_is) in (
-      λ t. absurd (false≢true (rw c.if-is_fresh.false at t)),
+      λ t. absurd (cc c.if-is_fresh.false),
       λ f. c.is_fresh.ensures.1 (fresh.1 f).0,
     )

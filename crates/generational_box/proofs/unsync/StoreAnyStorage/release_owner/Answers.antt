@@ -1,5 +1,5 @@
 use Rattle.generational_box.proofs.{ap, are_linked, arith, both, counted_down, counted_remove}
-use Rattle.generational_box.proofs.{is_some, last_done, last_refused, meets_kept, record_held, refl}
+use Rattle.generational_box.proofs.{is_some, last_done, last_refused, meets_kept, record_held}
 use Rattle.generational_box.proofs.{release_one, release_unknown, ReleaseOwner, state_is, sym}
 use Rattle.generational_box.proofs.unsync.StoreAnyStorage.release_owner.Goals as goal
 
@@ -16,7 +16,7 @@ invariant_of-self g c =
 pub returns-in-Some-clause-step : goal.returns-in-Some-clause-step
 returns-in-Some-clause-step g c =
     release_one (state_is c.self.view_is) c.args.owner _ c.in-Some.ensures _
-    (omega (arith, c.count.ensures, c.if-count-gt1.true)) (rw c.count_down.ensures refl)
+    (omega (arith, c.count.ensures, c.if-count-gt1.true)) (rw c.count_down.ensures)
 
 pub end_all-requires-clause-linked : goal.end_all-requires-clause-linked
 end_all-requires-clause-linked g c =
@@ -42,7 +42,7 @@ pub invariant_of-self-inside-in-Some : goal.invariant_of-self-inside-in-Some
 invariant_of-self-inside-in-Some g c =
     meets_kept _ _ (ReleaseOwner c.args.owner) _ c.args.self.now.sound c.args.self.now.bounded
     (release_one (state_is c.self.view_is) c.args.owner _ c.in-Some.ensures _
-    (omega (arith, c.count.ensures, c.if-count-gt1.true)) (rw c.count_down.ensures refl))
+    (omega (arith, c.count.ensures, c.if-count-gt1.true)) (rw c.count_down.ensures))
 
 pub invariant_of-self-inside-2 : goal.invariant_of-self-inside-2
 invariant_of-self-inside-2 g c =

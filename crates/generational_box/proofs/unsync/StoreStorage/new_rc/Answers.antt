@@ -1,38 +1,34 @@
-use Rattle.generational_box.proofs.{add_to_list_in, ap, MakeShared, meets_kept, name_of_cell}
-use Rattle.generational_box.proofs.{option_copied, pair_counted, pair_some, pair_target}
-use Rattle.generational_box.proofs.{pair_targets, refl, reserved_room, shared_full, shared_made}
-use Rattle.generational_box.proofs.{shared_refused, state_is, ◌∙◌}
+use Rattle.generational_box.proofs.{MakeShared, meets_kept, option_copied, pair_counted, pair_some}
+use Rattle.generational_box.proofs.{pair_target, pair_targets, refl, reserved_room, shared_full}
+use Rattle.generational_box.proofs.{shared_made, shared_refused, state_is}
 use Rattle.generational_box.proofs.unsync.StoreStorage.new_rc.Goals as goal
 
 pub returns-in-Err-clause-step : goal.returns-in-Err-clause-step
 returns-in-Err-clause-step g c =
     shared_refused c.self.inside.slots (state_is c.self.view_is) (option_copied c.args.owner)
-    c.args.value c.args.location _ _ refl c.reserve.ensures.same _ c.in-Err.ensures.refused
+    c.args.value c.args.location refl c.reserve.ensures.same _ c.in-Err.ensures.refused
 
 pub returns-in-Err-reserve_two-clause-step : goal.returns-in-Err-reserve_two-clause-step
 returns-in-Err-reserve_two-clause-step g c =
     rw c.in-Err-reserve_two.ensures.cause
     (shared_full c.self.inside.slots (state_is c.self.view_is) (option_copied c.args.owner)
-    c.args.value c.args.location _ _ c.reserve_two.ensures.state c.reserve.ensures.same
+    c.args.value c.args.location c.reserve_two.ensures.state c.reserve.ensures.same
     c.in-Ok.ensures.known c.in-Err-reserve_two.ensures.needed)
 
 pub reference_to-content-requires : goal.reference_to-content-requires
 reference_to-content-requires g c =
     pair_some c.self.inside.slots (state_is c.self.view_is) (option_copied c.args.owner)
-    c.reserve_two.new.self c.make_reserved-shared.new.slots c.reserve_two.ensures.state _ _ _
-    c.make_reserved-shared.ensures
+    c.reserve_two.ensures.state c.make_reserved-shared.ensures
 
 pub make_reserved-reference-requires-clause-target : goal.make_reserved-reference-requires-clause-target
 make_reserved-reference-requires-clause-target g c =
     pair_target c.self.inside.slots (state_is c.self.view_is) (option_copied c.args.owner)
-    c.reserve_two.new.self c.make_reserved-shared.new.slots c.reserve_two.ensures.state _ _ _
-    c.make_reserved-shared.ensures _ c.reference_to-content.ensures
+    c.reserve_two.ensures.state c.make_reserved-shared.ensures _ c.reference_to-content.ensures
 
 pub make_reserved-reference-requires-clause-linked : goal.make_reserved-reference-requires-clause-linked
 make_reserved-reference-requires-clause-linked g c =
     pair_targets c.self.inside.slots (state_is c.self.view_is) (option_copied c.args.owner)
-    c.reserve_two.new.self c.make_reserved-shared.new.slots c.reserve_two.ensures.state _ _ _
-    c.make_reserved-shared.ensures c.args.self.now.sound
+    c.reserve_two.ensures.state c.make_reserved-shared.ensures c.args.self.now.sound
 
 pub list-requires : goal.list-requires
 list-requires g c =
@@ -41,37 +37,25 @@ list-requires g c =
 pub invariant_of-self-2 : goal.invariant_of-self-2
 invariant_of-self-2 g c =
     let o = option_copied c.args.owner in
-    let n = name_of_cell c.make_reserved-reference.result in
-    pair_counted c.self.inside.slots (state_is c.self.view_is) o c.reserve_two.new.self
-    c.make_reserved-shared.new.slots c.reserve_two.ensures.state _ _ _
-    c.make_reserved-shared.ensures c.make_reserved-reference.new.slots
-    c.reference_to-content.result n _ c.reference_to-content.ensures
-    c.make_reserved-reference.ensures
-    (c.list.ensures o c.in-Ok.ensures.ok ∙ ap (λ x. add_to_list_in x o n) c.reserve.ensures.same)
+    pair_counted c.self.inside.slots (state_is c.self.view_is) o c.reserve_two.ensures.state
+    c.make_reserved-shared.ensures c.reference_to-content.ensures c.make_reserved-reference.ensures
+    (rw (← c.reserve.ensures.same) (c.list.ensures o c.in-Ok.ensures.ok))
     c.self.invariant c.args.self.now.sound
 
 pub returns-clause-step : goal.returns-clause-step
 returns-clause-step g c =
     let o = option_copied c.args.owner in
-    let n = name_of_cell c.make_reserved-reference.result in
-    shared_made c.self.inside.slots (state_is c.self.view_is) o c.reserve_two.new.self
-    c.make_reserved-shared.new.slots c.reserve_two.ensures.state _ _ _
-    c.make_reserved-shared.ensures c.make_reserved-reference.new.slots
-    c.reference_to-content.result n _ c.reference_to-content.ensures
-    c.make_reserved-reference.ensures
-    (c.list.ensures o c.in-Ok.ensures.ok ∙ ap (λ x. add_to_list_in x o n) c.reserve.ensures.same)
+    shared_made c.self.inside.slots (state_is c.self.view_is) o c.reserve_two.ensures.state
+    c.make_reserved-shared.ensures c.reference_to-content.ensures c.make_reserved-reference.ensures
+    (rw (← c.reserve.ensures.same) (c.list.ensures o c.in-Ok.ensures.ok))
     c.pointer_in.result c.in-Ok.ensures.known c.pointer_in.ensures
 
 pub invariant_of-self-inside-2 : goal.invariant_of-self-inside-2
 invariant_of-self-inside-2 g c =
     let o = option_copied c.args.owner in
-    let n = name_of_cell c.make_reserved-reference.result in
     meets_kept _ _ (MakeShared o c.args.value c.args.location) _ c.args.self.now.sound
     c.args.self.now.bounded
-    (shared_made c.self.inside.slots (state_is c.self.view_is) o c.reserve_two.new.self
-    c.make_reserved-shared.new.slots c.reserve_two.ensures.state _ _ _
-    c.make_reserved-shared.ensures c.make_reserved-reference.new.slots
-    c.reference_to-content.result n _ c.reference_to-content.ensures
-    c.make_reserved-reference.ensures
-    (c.list.ensures o c.in-Ok.ensures.ok ∙ ap (λ x. add_to_list_in x o n) c.reserve.ensures.same)
+    (shared_made c.self.inside.slots (state_is c.self.view_is) o c.reserve_two.ensures.state
+    c.make_reserved-shared.ensures c.reference_to-content.ensures c.make_reserved-reference.ensures
+    (rw (← c.reserve.ensures.same) (c.list.ensures o c.in-Ok.ensures.ok))
     _ c.in-Ok.ensures.known refl)

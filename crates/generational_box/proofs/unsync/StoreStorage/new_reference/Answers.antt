@@ -1,8 +1,7 @@
-use Rattle.generational_box.proofs.{add_to_list_in, ap, are_linked, made_counted, meets_kept}
-use Rattle.generational_box.proofs.{name_of_cell, option_copied, reach_strange, reaches_shared}
-use Rattle.generational_box.proofs.{Refer, refer_gone, refer_hindered, refer_strange}
-use Rattle.generational_box.proofs.{reference_full, reference_made, reference_refused, refl}
-use Rattle.generational_box.proofs.{reserved_room, state_is, sym, ◌∙◌}
+use Rattle.generational_box.proofs.{are_linked, made_counted, meets_kept, name_of_cell}
+use Rattle.generational_box.proofs.{option_copied, reach_strange, reaches_shared, Refer, refer_gone}
+use Rattle.generational_box.proofs.{refer_hindered, refer_strange, reference_full, reference_made}
+use Rattle.generational_box.proofs.{reference_refused, refl, reserved_room, state_is, sym, ◌∙◌}
 use Rattle.generational_box.proofs.unsync.StoreStorage.new_reference.Goals as goal
 
 pub returns-then-not-knows : goal.returns-then-not-knows
@@ -30,15 +29,14 @@ returns-in-Err g c =
 pub returns-in-Err-reserve : goal.returns-in-Err-reserve
 returns-in-Err-reserve g c =
     reference_refused c.self.inside.slots (state_is c.self.view_is) (option_copied c.args.owner)
-    c.args.inner (name_of_cell c.in-Ok.shared) _ _ refl c.reserve.ensures.same
+    c.args.inner (name_of_cell c.in-Ok.shared) refl c.reserve.ensures.same
     (reaches_shared c.self.inside.slots.state (state_is c.self.view_is) c.args.inner
     c.cell_name.ensures c.if-inner-self.false c.in-Ok.ensures.ok) _ c.in-Err-reserve.ensures.refused
 
 pub returns-in-Err-make : goal.returns-in-Err-make
 returns-in-Err-make g c =
     reference_full c.self.inside.slots (state_is c.self.view_is) (option_copied c.args.owner)
-    c.args.inner (name_of_cell c.in-Ok.shared) _ _ c.in-Err-make.ensures.err
-    c.reserve.ensures.same
+    c.args.inner (name_of_cell c.in-Ok.shared) c.in-Err-make.ensures.err c.reserve.ensures.same
     (reaches_shared c.self.inside.slots.state (state_is c.self.view_is) c.args.inner
     c.cell_name.ensures c.if-inner-self.false c.in-Ok.ensures.ok)
     c.in-Ok-reserve.ensures.known c.in-Err-make.ensures.needed.0
@@ -51,37 +49,29 @@ list-requires g c =
 pub invariant_of-self-2 : goal.invariant_of-self-2
 invariant_of-self-2 g c =
     let o = option_copied c.args.owner in
-    let n = name_of_cell c.in-Ok-make.name in
     made_counted c.self.inside.slots (state_is c.self.view_is) o c.self.invariant
-    c.args.self.now.sound n _ c.in-Ok-make.ensures.ok.fits.ungiven
-    (c.list.ensures o c.in-Ok-reserve.ensures.ok
-    ∙ ap (λ x. add_to_list_in x o n) c.reserve.ensures.same)
+    c.args.self.now.sound (name_of_cell c.in-Ok-make.name) _ c.in-Ok-make.ensures.ok.fits.ungiven
+    (rw (← c.reserve.ensures.same) (c.list.ensures o c.in-Ok-reserve.ensures.ok))
 
 pub returns : goal.returns
 returns g c =
     let o = option_copied c.args.owner in
-    let n = name_of_cell c.in-Ok-make.name in
-    reference_made c.self.inside.slots (state_is c.self.view_is) o c.args.inner
-    c.created_at-created_at.result c.make.new.self _ _ n _ c.reference_to-content.result
+    reference_made c.self.inside.slots (state_is c.self.view_is) o c.args.inner _ _
     (reaches_shared c.self.inside.slots.state (state_is c.self.view_is) c.args.inner
     c.cell_name.ensures c.if-inner-self.false c.in-Ok.ensures.ok)
     c.created_at-created_at.ensures c.reference_to-content.ensures c.in-Ok-make.ensures.ok (
       c.in-Ok-reserve.ensures.known,
-      c.list.ensures o c.in-Ok-reserve.ensures.ok
-          ∙ ap (λ x. add_to_list_in x o n) c.reserve.ensures.same,
+      rw (← c.reserve.ensures.same) (c.list.ensures o c.in-Ok-reserve.ensures.ok),
     ) c.pointer_in.ensures
 
 pub invariant_of-self-inside-2 : goal.invariant_of-self-inside-2
 invariant_of-self-inside-2 g c =
     let o = option_copied c.args.owner in
-    let n = name_of_cell c.in-Ok-make.name in
     meets_kept _ _ (Refer o c.args.inner) _ c.args.self.now.sound c.args.self.now.bounded
-    (reference_made c.self.inside.slots (state_is c.self.view_is) o c.args.inner
-    c.created_at-created_at.result c.make.new.self _ _ n _ c.reference_to-content.result
+    (reference_made c.self.inside.slots (state_is c.self.view_is) o c.args.inner _ _
     (reaches_shared c.self.inside.slots.state (state_is c.self.view_is) c.args.inner
     c.cell_name.ensures c.if-inner-self.false c.in-Ok.ensures.ok)
     c.created_at-created_at.ensures c.reference_to-content.ensures c.in-Ok-make.ensures.ok (
       c.in-Ok-reserve.ensures.known,
-      c.list.ensures o c.in-Ok-reserve.ensures.ok
-          ∙ ap (λ x. add_to_list_in x o n) c.reserve.ensures.same,
+      rw (← c.reserve.ensures.same) (c.list.ensures o c.in-Ok-reserve.ensures.ok),
     ) refl)

@@ -1,12 +1,10 @@
-use Rattle.generational_box.proofs.{ap, are_linked, Meets, reach_own, reach_strange, Read}
-use Rattle.generational_box.proofs.{read_gone, read_hindered, read_own, refl, SlotsState, state_is}
-use Rattle.generational_box.proofs.{subst, sym, with_records, ◌∙◌}
+use Rattle.generational_box.proofs.{are_linked, Meets, reach_own, reach_strange, Read, read_gone}
+use Rattle.generational_box.proofs.{read_hindered, read_own, refl, state_is, subst, sym, ◌∙◌}
 use Rattle.generational_box.proofs.unsync.StoreStorage.try_read.Goals as goal
 
 pub returns-then-pointer-self : goal.returns-then-pointer-self
 returns-then-pointer-self g c =
-    let view = ap (λ (x : SlotsState _). with_records x.state c.self.inside.number
-    c.self.inside.owners.owners c.self.inside.next) c.settle.ensures ∙ state_is c.self.view_is in
+    let view = rw (← c.settle.ensures) at (state_is c.self.view_is) in
     rw c.dropped.ensures (subst (Meets c.args.self.now.state
     (Read c.args.pointer c.args.location) _) (sym view)
     (read_gone c.args.pointer c.args.location
@@ -24,8 +22,7 @@ begin_read-requires-clause-to g c =
 
 pub returns-in-Err : goal.returns-in-Err
 returns-in-Err g c =
-    let view = ap (λ (x : SlotsState _). with_records x.state c.self.inside.number
-    c.self.inside.owners.owners c.self.inside.next) c.settle.ensures ∙ state_is c.self.view_is in
+    let view = rw (← c.settle.ensures) at (state_is c.self.view_is) in
     subst (Meets c.args.self.now.state (Read c.args.pointer c.args.location) _) (sym view)
     (read_hindered c.args.pointer c.args.location _
     (read_own c.settle.new.self.state view c.args.pointer c.cell_name.ensures

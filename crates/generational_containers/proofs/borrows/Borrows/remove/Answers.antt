@@ -1,5 +1,5 @@
 -- The ticket's own borrow is taken away, where another stands.
-use Rattle.std.proofs.Common.{◌≢◌, ◌∙◌, refl, sym, length, []}
+use Rattle.std.proofs.Common.{◌∙◌, refl, sym}
 use Rattle.generational_containers.proofs.lists.Tickets.{none_left, left_some, two_of_some}
 use Rattle.generational_containers.proofs.borrows.Borrows.remove.Goals as goal
 
@@ -30,11 +30,11 @@ invariant_of-self-else-len-eq1 c =
     let stand = rw c.in-Several.is at c.self.invariant in
     let after = rw c.deref_mut.ensures.value at c.remove_among.ensures.after in
     let len = rw c.deref.ensures at c.len.ensures in
-    let left = c.remove_among.new.borrows in
-    let some : left.items ≢ [] = λ e.
-    left_some c.args.ticket _ stand.1 stand.0 (sym after ∙ e) in
-    let more : length left.items ≢ 1 = λ e. c.if-len-eq1.false (len ∙ (left.ok.0 ∙ e)) in
-    (two_of_some left.items some more, c.remove_among.ensures.well)
+    let left = c.remove_among.new.borrows in (
+      two_of_some left.items (λ e. left_some c.args.ticket _ stand.1 stand.0 (sym after ∙ e))
+          (λ e. c.if-len-eq1.false (len ∙ (left.ok.0 ∙ e))),
+      c.remove_among.ensures.well,
+    )
 
 pub returns-else-len-eq1 : goal.returns-else-len-eq1
 returns-else-len-eq1 c =

@@ -14,22 +14,19 @@ index_mut-requires c =
 pub overflow_add-self : goal.overflow_add-self
 overflow_add-self c =
     let l = c.self.inside in
-    let room = rw (← c.self.view_is) at c.requires.room in
-    let absent = rw (← c.self.view_is) at c.requires.absent in
-    let more = chain_room l.links.items l.first l.count _ c.self.invariant.0 room absent in
+    let r = rw (← c.self.view_is) at c.requires in
+    let more = chain_room l.links.items l.first l.count _ c.self.invariant.0 r.room r.absent in
     omega (arith, more, l.links.ok.0, l.links.small)
 
 pub invariant_of-self : goal.invariant_of-self
 invariant_of-self c =
     let l = c.self.inside in
     let some : 0 < l.count = omega (arith, c.if-self-eq0.false) in
-    let room = rw (← c.self.view_is) at c.requires.room in
-    let absent = rw (← c.self.view_is) at c.requires.absent in
-    let ends = rw (← c.self.view_is) at c.requires.last in
+    let r = rw (← c.self.view_is) at c.requires in
     rw (
-      chain_put_last l.links.items l.first l.count _ c.args.slot some c.self.invariant.0 ends,
+      chain_put_last l.links.items l.first l.count _ c.args.slot some c.self.invariant.0 r.last,
       length-set l.links.items c.args.last c.args.slot,
-    ) (pool_push c.self.invariant.0 room absent, c.self.invariant.1)
+    ) (pool_push c.self.invariant.0 r.room r.absent, c.self.invariant.1)
 
 pub returns : goal.returns
 returns c =

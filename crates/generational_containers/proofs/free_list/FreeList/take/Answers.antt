@@ -1,6 +1,6 @@
 use Rattle.generational_containers.proofs.{arith, chain, chain_read, contains-insert_at, eq-eqb}
 use Rattle.generational_containers.proofs.{first_within, IsPool, length, members_take, pool_take}
-use Rattle.generational_containers.proofs.{refl, ◌-◌, ◌<◌, ◌∙◌, ◌∷◌, ◌≡◌, ◌≤◌}
+use Rattle.generational_containers.proofs.{refl, ◌-◌, ◌<◌, ◌∷◌, ◌≡◌, ◌≤◌}
 use Rattle.generational_containers.proofs.free_list.FreeList.take.Goals as goal
 use Rattle.generational_containers.proofs.free_list.FreeList.take.Goals.{else-self-gt1}
 use Rattle.generational_containers.proofs.free_list.FreeList.take.Goals.{then-self-gt1}
@@ -51,6 +51,6 @@ returns c =
       first = refl;
       rest = refl;
       rooms = rw begins.1 refl;
-      member = contains-insert_at _ _ _ ∙ rw (eq-eqb l.first l.first refl) refl;
+      member = rw (contains-insert_at, eq-eqb l.first l.first refl);
       taken = members_take (rw begins.0 at c.self.invariant.0);
     })

@@ -4,8 +4,8 @@ use Rattle.generational_containers.proofs.indexes.FreeIndexes.put.Goals as goal
 
 pub push_reserved-requires : goal.push_reserved-requires
 push_reserved-requires c =
-    let p = pool_put c.self.invariant.0 (rw (← c.self.view_is) at c.requires.room)
-    (rw (← c.self.view_is) at c.requires.absent) in
+    let r = rw (← c.self.view_is) at c.requires in
+    let p = pool_put c.self.invariant.0 r.room r.absent in
     omega (
       arith,
       pool_length p,
@@ -16,8 +16,6 @@ push_reserved-requires c =
 
 pub invariant_of-self : goal.invariant_of-self
 invariant_of-self c =
-    rw (c.push_reserved.ensures.capacity, reverse_pushed _ _ _ c.push_reserved.ensures.items) (
-      pool_put c.self.invariant.0 (rw (← c.self.view_is) at c.requires.room)
-          (rw (← c.self.view_is) at c.requires.absent),
-      c.self.invariant.1,
-    )
+    let r = rw (← c.self.view_is) at c.requires in
+    rw (c.push_reserved.ensures.capacity, reverse_pushed _ _ _ c.push_reserved.ensures.items)
+    (pool_put c.self.invariant.0 r.room r.absent, c.self.invariant.1)

@@ -1,5 +1,5 @@
 use Rattle.generational_containers.proofs.{contains-insert_at, eq-eqb, members_take, pool_take}
-use Rattle.generational_containers.proofs.{refl, reverse_pushed, ◌∙◌}
+use Rattle.generational_containers.proofs.{refl, reverse_pushed}
 use Rattle.generational_containers.proofs.indexes.FreeIndexes.take.Goals as goal
 
 pub invariant_of-self-2 : goal.invariant_of-self-2
@@ -10,7 +10,7 @@ invariant_of-self-2 c =
 pub returns-clause-member : goal.returns-clause-member
 returns-clause-member c =
     rw (← c.self.view_is, reverse_pushed _ _ _ c.in_ok-index.ensures.items)
-    (contains-insert_at _ _ _ ∙ rw (eq-eqb c.in_ok-index.index c.in_ok-index.index refl) refl)
+    (rw (contains-insert_at, eq-eqb c.in_ok-index.index c.in_ok-index.index refl))
 
 pub returns-clause-taken : goal.returns-clause-taken
 returns-clause-taken c =

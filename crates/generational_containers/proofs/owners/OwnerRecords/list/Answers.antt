@@ -1,26 +1,20 @@
-use Rattle.generational_containers.proofs.{arith, changed_placed, HasRoom, IsReserved}
+use Rattle.generational_containers.proofs.{arith, changed_placed}
 use Rattle.generational_containers.proofs.{listed_owners, name_of_cell, one_listed, places_is}
-use Rattle.generational_containers.proofs.{room_record, room_within, slice_get, subst, sym}
+use Rattle.generational_containers.proofs.{room_record, room_within, slice_get}
 use Rattle.generational_containers.proofs.owners.OwnerRecords.list.Goals as goal
 
 pub list_at-requires-clause-within : goal.list_at-requires-clause-within
 list_at-requires-clause-within c =
-    let room : HasRoom (slice_get c.self.inside.places.items c.in-Some.place) =
-    subst (λ xs. HasRoom (slice_get xs c.in-Some.place)) (sym (places_is c.self.view_is))
-    (rw c.in-Some.is at c.requires) in
+    let room = rw (c.in-Some.is, ← places_is c.self.view_is) at c.requires in
     let within = room_within c.self.inside.places.items c.in-Some.place room in
     omega (arith, within, c.self.inside.places.ok.0)
 
 pub list_at-requires-clause-room : goal.list_at-requires-clause-room
-list_at-requires-clause-room c =
-    subst (λ xs. HasRoom (slice_get xs c.in-Some.place)) (sym (places_is c.self.view_is))
-    (rw c.in-Some.is at c.requires)
+list_at-requires-clause-room c = rw (c.in-Some.is, ← places_is c.self.view_is) at c.requires
 
 pub invariant_of-self : goal.invariant_of-self
 invariant_of-self c =
-    let room : HasRoom (slice_get c.self.inside.places.items c.in-Some.place) =
-    subst (λ xs. HasRoom (slice_get xs c.in-Some.place)) (sym (places_is c.self.view_is))
-    (rw c.in-Some.is at c.requires) in
+    let room = rw (c.in-Some.is, ← places_is c.self.view_is) at c.requires in
     let held = room_record (slice_get c.self.inside.places.items c.in-Some.place) room in
     rw c.list_at.ensures (changed_placed c.self.invariant held.0 c.in-Some.place held.1
     (one_listed (name_of_cell c.args.name)))
@@ -29,4 +23,4 @@ pub returns-in-Some : goal.returns-in-Some
 returns-in-Some c o reserved =
     rw c.list_at.ensures (listed_owners c.self.invariant c.args.self.now c.self.view_is o
     c.in-Some.place (name_of_cell c.args.name)
-    (subst (IsReserved c.args.self.now o) c.in-Some.is reserved))
+    (rw c.in-Some.is at reserved))

@@ -1,7 +1,6 @@
-use Rattle.generational_containers.proofs.{ap, ArePlaced, arith, has_room, HasRecord, known_found}
-use Rattle.generational_containers.proofs.{known_missing, owners_is, owners_of, record_within, refl}
-use Rattle.generational_containers.proofs.{roomed_owners, roomed_placed, roomed_there, slice_get}
-use Rattle.generational_containers.proofs.{subst, sym, ◌∙◌}
+use Rattle.generational_containers.proofs.{arith, has_room, known_found, known_missing, owners_is}
+use Rattle.generational_containers.proofs.{record_within, refl, roomed_owners, roomed_placed}
+use Rattle.generational_containers.proofs.{roomed_there, sym, ◌∙◌}
 use Rattle.generational_containers.proofs.owners.OwnerRecords.reserve_for.Goals as goal
 
 pub reserve_at-requires : goal.reserve_at-requires
@@ -11,23 +10,21 @@ reserve_at-requires c =
 
 pub invariant_of-self : goal.invariant_of-self
 invariant_of-self c =
-    subst (ArePlaced _ _) (sym c.reserve_at.ensures.same)
-    (roomed_placed c.self.invariant _ _ c.in-Some.ensures.found _)
+    rw c.reserve_at.ensures.same (roomed_placed c.self.invariant _ _ c.in-Some.ensures.found _)
 
 pub invariant_of-self-2 : goal.invariant_of-self-2
 invariant_of-self-2 c =
-    subst (ArePlaced _ _) (sym c.reserve_at.ensures.same)
-    (roomed_placed c.self.invariant _ _ c.in-Some.ensures.found _)
+    rw c.reserve_at.ensures.same (roomed_placed c.self.invariant _ _ c.in-Some.ensures.found _)
 
 pub returns-clause-same : goal.returns-clause-same
 returns-clause-same c =
-    ap owners_of c.reserve_at.ensures.same
-    ∙ (roomed_owners c.self.invariant _ _ c.in-Some.ensures.found _ ∙ owners_is c.self.view_is)
+    rw (c.reserve_at.ensures.same, ← owners_is c.self.view_is)
+    (roomed_owners c.self.invariant _ _ c.in-Some.ensures.found _)
 
 pub returns-in-Err-clause-same : goal.returns-in-Err-clause-same
 returns-in-Err-clause-same c =
-    ap owners_of c.reserve_at.ensures.same
-    ∙ (roomed_owners c.self.invariant _ _ c.in-Some.ensures.found _ ∙ owners_is c.self.view_is)
+    rw (c.reserve_at.ensures.same, ← owners_is c.self.view_is)
+    (roomed_owners c.self.invariant _ _ c.in-Some.ensures.found _)
 
 pub returns-clause-known : goal.returns-clause-known
 returns-clause-known c =
@@ -37,10 +34,9 @@ returns-clause-known c =
 
 pub returns-clause-ok : goal.returns-clause-ok
 returns-clause-ok c =
-    let there = subst (λ ys. HasRecord c.args.owner.now.key (slice_get ys c.in-Some.place))
-    (sym c.reserve_at.ensures.same)
-    (roomed_there c.self.invariant _ _ c.in-Some.ensures.found _) in
-    (there, has_room _ _ there c.in-Ok.ensures.ok)
+    let there = roomed_there c.self.invariant _ _ c.in-Some.ensures.found _ in
+    let same = c.reserve_at.ensures.same in
+    rw same (there, has_room _ _ there (rw same at c.in-Ok.ensures.ok))
 
 pub returns-in-Err-clause-refused : goal.returns-in-Err-clause-refused
 returns-in-Err-clause-refused c = (

@@ -1,5 +1,5 @@
 -- A list begins at an index.
-use Rattle.generational_containers.proofs.{remove_none, sym, table_opened, ◌∙◌}
+use Rattle.generational_containers.proofs.{remove_none, table_opened}
 use Rattle.generational_containers.proofs.table.BorrowTable.open.Goals as goal
 
 pub invariant_of-self : goal.invariant_of-self
@@ -9,5 +9,4 @@ invariant_of-self c =
 
 pub returns-in-None-clause-free : goal.returns-in-None-clause-free
 returns-in-None-clause-free c =
-    rw (← c.self.view_is)
-    (c.in-None.ensures.unchanged ∙ sym (remove_none _ _ c.in-None.ensures.none))
+    rw (← c.self.view_is, remove_none _ _ c.in-None.ensures.none) c.in-None.ensures.unchanged

@@ -1,7 +1,6 @@
 -- A reader that begins is noted, and listed first where it isn't alone.
-use Rattle.generational_entries.proofs.{ap, change_entry, EntryList, first_apart, first_noted}
-use Rattle.generational_entries.proofs.{IsAlone, IsReadable, listed_apart, listed_noted, slice_get}
-use Rattle.generational_entries.proofs.{subst, sym, with_reader, ◌∙◌, ◌≡◌}
+use Rattle.generational_entries.proofs.{ap, EntryList, first_apart, first_noted, listed_apart}
+use Rattle.generational_entries.proofs.{listed_noted, ◌∙◌, ◌≡◌}
 use Rattle.generational_entries.proofs.entries.Entries.begin_read.Goals as goal
 use goal.{else-not-is_alone, then-not-is_alone+in_ok-list_reader}
 
@@ -15,12 +14,10 @@ invariant_of-self-2 g c =
     elim c.if-not-is_alone.branch [
       | then-not-is_alone+in_ok-list_reader w ↦
           rw (w.self-inside-is, w.in_ok-list_reader.ensures.ok)
-          (listed_apart slots i generation c.args.borrow
-          (subst (λ s. IsReadable generation (slice_get s i)) (sym same) c.requires.there))
+          (listed_apart slots i generation c.args.borrow (rw same c.requires.there))
       | else-not-is_alone w ↦
           rw w.self-inside-is (first_apart slots i generation c.args.borrow
-          (subst (λ s. IsAlone generation (slice_get s i)) (sym same)
-          (c.requires.alone w.if-not-is_alone.false)))
+          (rw same (c.requires.alone w.if-not-is_alone.false)))
     ]
 
 pub returns-clause-ok : goal.returns-clause-ok
@@ -30,14 +27,11 @@ returns-clause-ok g c =
     c.settle.ensures.slots ∙ ap (λ (x : EntryList _). x.slots) c.self.view_is in
     let i = c.args.name.slot in
     let generation = c.args.name.generation in
-    let after = ap (λ s. change_entry s i
-    (λ e. record e { kept = with_reader c.args.borrow e.kept })) same in
     elim c.if-not-is_alone.branch [
       | then-not-is_alone+in_ok-list_reader w ↦
-          rw (w.self-inside-is, w.in_ok-list_reader.ensures.ok)
-          (listed_noted slots i c.args.borrow ∙ after)
+          rw (w.self-inside-is, w.in_ok-list_reader.ensures.ok, ← same)
+          (listed_noted slots i c.args.borrow)
       | else-not-is_alone w ↦
-          rw w.self-inside-is (first_noted slots i generation c.args.borrow
-          (subst (λ s. IsAlone generation (slice_get s i)) (sym same)
-          (c.requires.alone w.if-not-is_alone.false)) ∙ after)
+          rw (w.self-inside-is, ← same) (first_noted slots i generation c.args.borrow
+          (rw same (c.requires.alone w.if-not-is_alone.false)))
     ]

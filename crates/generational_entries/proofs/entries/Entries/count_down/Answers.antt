@@ -5,25 +5,22 @@ use Rattle.generational_entries.proofs.entries.Entries.count_down.Goals as goal
 
 pub overflow_sub-index_mut : goal.overflow_sub-index_mut
 overflow_sub-index_mut g c =
-    let o = seen c.self.inside.last c.self.inside.settled c.self.view_is c.self.invariant
-    (ap (λ x. x.settled) c.self-inside.view_is) c.self-inside.invariant in
+    let o = seen c.self.view_is c.self.invariant c.self-inside.view_is c.self-inside.invariant in
     let a = seen_details o c.requires.within c.index_mut.ensures.value in
-    let few = hears_of a.1 a.2 (λ e. 0 < e.references)
+    let few = hears_of a.1 a.2 _
     (seen_hears o c.args.slot (λ e. 0 < e.references) (λ e h. h) c.requires.some) in
     omega (arith, few)
 
 pub invariant_of-self : goal.invariant_of-self
 invariant_of-self g c =
-    let o = seen c.self.inside.last c.self.inside.settled c.self.view_is c.self.invariant
-    (ap (λ x. x.settled) c.self-inside.view_is) c.self-inside.invariant in
+    let o = seen c.self.view_is c.self.invariant c.self-inside.view_is c.self-inside.invariant in
     let a = seen_details o c.requires.within c.index_mut.ensures.value in
     (details_noted o (ap (λ x. x.last) c.self-inside.view_is) a.1 a.2 _
     (λ e. record e { references = e.references - 1 }) refl (λ e. refl) (λ e has. has)).0
 
 pub returns-clause-slots : goal.returns-clause-slots
 returns-clause-slots g c =
-    let o = seen c.self.inside.last c.self.inside.settled c.self.view_is c.self.invariant
-    (ap (λ x. x.settled) c.self-inside.view_is) c.self-inside.invariant in
+    let o = seen c.self.view_is c.self.invariant c.self-inside.view_is c.self-inside.invariant in
     let a = seen_details o c.requires.within c.index_mut.ensures.value in
     (details_noted o (ap (λ x. x.last) c.self-inside.view_is) a.1 a.2 _
     (λ e. record e { references = e.references - 1 }) refl (λ e. refl) (λ e has. has)).1

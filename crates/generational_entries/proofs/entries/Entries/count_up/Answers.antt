@@ -5,27 +5,22 @@ use Rattle.generational_entries.proofs.entries.Entries.count_up.Goals as goal
 
 pub overflow_add-index_mut : goal.overflow_add-index_mut
 overflow_add-index_mut g c =
-    let o = seen c.self.inside.last c.self.inside.settled c.self.view_is c.self.invariant
-    (ap (λ x. x.settled) c.self-inside.view_is) c.self-inside.invariant in
+    let o = seen c.self.view_is c.self.invariant c.self-inside.view_is c.self-inside.invariant in
     let a = seen_details o c.requires.within c.index_mut.ensures.value in
-    let long = seen_many o in let small = o.store.small in
-    let few = hears_of a.1 a.2 (λ e. e.references < length c.args.self.now.slots)
-    (seen_hears o c.args.slot (λ e. e.references < length c.args.self.now.slots) (λ e h. h)
-    c.requires.few) in
-    omega (arith, few)
+    let few = hears_of a.1 a.2 _ (seen_hears o c.args.slot
+    (λ e. e.references < length c.args.self.now.slots) (λ e h. h) c.requires.few) in
+    omega (arith, few, seen_many o, o.store.small)
 
 pub invariant_of-self : goal.invariant_of-self
 invariant_of-self g c =
-    let o = seen c.self.inside.last c.self.inside.settled c.self.view_is c.self.invariant
-    (ap (λ x. x.settled) c.self-inside.view_is) c.self-inside.invariant in
+    let o = seen c.self.view_is c.self.invariant c.self-inside.view_is c.self-inside.invariant in
     let a = seen_details o c.requires.within c.index_mut.ensures.value in
     (details_noted o (ap (λ x. x.last) c.self-inside.view_is) a.1 a.2 _
     (λ e. record e { references = e.references + 1 }) refl (λ e. refl) (λ e has. has)).0
 
 pub returns-clause-slots : goal.returns-clause-slots
 returns-clause-slots g c =
-    let o = seen c.self.inside.last c.self.inside.settled c.self.view_is c.self.invariant
-    (ap (λ x. x.settled) c.self-inside.view_is) c.self-inside.invariant in
+    let o = seen c.self.view_is c.self.invariant c.self-inside.view_is c.self-inside.invariant in
     let a = seen_details o c.requires.within c.index_mut.ensures.value in
     (details_noted o (ap (λ x. x.last) c.self-inside.view_is) a.1 a.2 _
     (λ e. record e { references = e.references + 1 }) refl (λ e. refl) (λ e has. has)).1

@@ -1,14 +1,12 @@
 -- Whether the value of a name is its own and has no borrow.
-use Rattle.generational_entries.proofs.{ap, arith, cell_at, cell_in, EntryList, false≢true, here}
-use Rattle.generational_entries.proofs.{is_noted, is_unborrowed_value, name_of_cell, noted_away}
-use Rattle.generational_entries.proofs.{refl, seen, seen_past, slice_get_read, sym, value_test, ◌∙◌}
+use Rattle.generational_entries.proofs.{ap, arith, here, noted_away, refl, seen, seen_past}
+use Rattle.generational_entries.proofs.{slice_get_read, value_test, ◌∙◌}
 use Rattle.generational_entries.proofs.entries.Entries.has_unborrowed_value.Goals as goal
 use goal.{else-is_noted-via-else-is_noted, else-is_noted-via-then-is_noted+else-self-name}
 
 pub returns-in-Some : goal.returns-in-Some
 returns-in-Some g c =
-    let o = seen c.self.inside.last c.self.inside.settled c.self.view_is c.self.invariant
-    (ap (λ x. x.settled) c.self-inside.view_is) c.self-inside.invariant in
+    let o = seen c.self.view_is c.self.invariant c.self-inside.view_is c.self-inside.invariant in
     let found = rw c.deref.ensures.value at c.in-Some.ensures.lookup in
     let a = here o.store (slice_get_read c.self-inside.inside.0.0.entries.items _ c.args.name.slot
     c.in-Some.entry.now refl found.3.0 found.1) in
@@ -18,18 +16,13 @@ returns-in-Some g c =
       | else-is_noted-via-then-is_noted+else-self-name w ↦ λ is at.
           w.if-self-name.false (ap (λ l. l.slot) same ∙ at)
       | else-is_noted-via-else-is_noted w ↦
-          λ is at. absurd (false≢true (sym w.if-is_noted.false
-          ∙ (c.is_noted.ensures ∙ (ap (λ l. is_noted l.standing) same ∙ is))))
+          λ is at. cc (w.if-is_noted.false, c.is_noted.ensures)
     ]) in
-    let n = name_of_cell c.args.name in
-    c.has_unborrowed_value.ensures
-    ∙ (value_test a c.args.name.generation
-    ∙ (ap (λ o. is_unborrowed_value (cell_in o n.generation)) (sym away)
-    ∙ ap (λ (x : EntryList _). is_unborrowed_value (cell_at x.slots n)) c.self.view_is))
+    rw (← c.self.view_is, away)
+    (c.has_unborrowed_value.ensures ∙ value_test a c.args.name.generation)
 
 pub returns-in-None : goal.returns-in-None
 returns-in-None g c =
-    let o = seen c.self.inside.last c.self.inside.settled c.self.view_is c.self.invariant
-    (ap (λ x. x.settled) c.self-inside.view_is) c.self-inside.invariant in
+    let o = seen c.self.view_is c.self.invariant c.self-inside.view_is c.self-inside.invariant in
     let found = rw c.deref.ensures.value at c.in-None.ensures.lookup in
     rw (seen_past o c.args.name.slot (omega (arith, found.3))) refl

@@ -1,5 +1,5 @@
-use Rattle.generational_entries.proofs.{ap, change_entry, each_some, joined, joined_says, noted}
-use Rattle.generational_entries.proofs.{noted_order, refer_order, referring, slice_get, ◌∙◌, ◌≡◌}
+use Rattle.generational_entries.proofs.{change_entry, IfSome_then, joined, joined_says, noted}
+use Rattle.generational_entries.proofs.{noted_order, refer_order, referring, slice_get, ◌≡◌}
 use Rattle.generational_entries.proofs.entries.Entries.redirect.Goals as goal
 
 pub returns-clause-slots : goal.returns-clause-slots
@@ -12,11 +12,7 @@ returns-clause-slots g c =
       kept = referring (record { slot = c.args.target; generation = t.generation }) e.kept;
     }))
     (λ apart at e fits h. h)
-    (each_some (slice_get slots c.args.target) (λ t is.
-    ap (noted last) is ∙ noted_order last slots c.args.slot
-    (λ e. record e {
-      kept = referring (record { slot = c.args.target; generation = t.generation }) e.kept;
-    })
-    (λ e. ap (λ k. record e { kept = k }) (refer_order
+    (IfSome_then (slice_get slots c.args.target) c.redirect.ensures.slots (λ t is.
+    rw is (noted_order last slots c.args.slot _ (λ e. rw (refer_order
     (record { slot = c.args.target; generation = t.generation })
-    (joined last.standing last.borrow) e.kept))) c.redirect.ensures.slots))
+    (joined last.standing last.borrow) e.kept))))))

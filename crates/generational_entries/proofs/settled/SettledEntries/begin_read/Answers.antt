@@ -9,7 +9,7 @@ use Rattle.generational_entries.proofs.settled.SettledEntries.begin_read.Goals a
 pub open-requires-clause-room : goal.open-requires-clause-room
 open-requires-clause-room g c =
     let a = found c.self.view_is c.self.invariant c.requires.within c.index_mut.ensures.value in
-    room_left a (rw c.in-Data.is refl)
+    room_left a (rw c.in-Data.is)
     (let r = c.self.invariant.2 in let a = r.filled in let b = r.borrows in omega arith)
 
 pub invariant_of-self : goal.invariant_of-self
@@ -17,8 +17,8 @@ invariant_of-self g c =
     let a = found c.self.view_is c.self.invariant c.requires.within c.index_mut.ensures.value in
     let o = opens_one c.self.inside.borrows c.open.new.self c.open.ensures.vacant
     c.open.ensures.lists c.open.ensures.free in
-    still a c.self.invariant _ (open_indexed a (rw c.in-Data.is refl) o _
-    (rw (c.list.ensures, c.in-Data.is) refl)) c.open.ensures.rooms
+    still a c.self.invariant _ (open_indexed a (rw c.in-Data.is) o _
+    (rw (c.list.ensures, c.in-Data.is))) c.open.ensures.rooms
 
 pub returns-in-Data-clause-ok : goal.returns-in-Data-clause-ok
 returns-in-Data-clause-ok g c =
@@ -26,8 +26,8 @@ returns-in-Data-clause-ok g c =
     let o = opens_one c.self.inside.borrows c.open.new.self c.open.ensures.vacant
     c.open.ensures.lists c.open.ensures.free in
     view_changed a _ _ _ (open_lists a
-    (rw c.in-Data.is refl) o)
-    (λ l. rw (c.list.ensures, c.in-Data.is, opened_list o) refl)
+    (rw c.in-Data.is) o)
+    (λ l. rw (c.list.ensures, c.in-Data.is, opened_list o))
 
 pub push-requires-clause-within : goal.push-requires-clause-within
 push-requires-clause-within g c =
@@ -49,14 +49,14 @@ returns-in-Read-clause-ok g c =
     let a = found c.self.view_is c.self.invariant c.requires.within c.index_mut.ensures.value in
     let u = used_at a c.in-Read.is in
     ok_then c.push.result (λ now. view_changed a _ _ _
-    (list_lists a _ (rw c.in-Read.is refl) (has_place a c.in-Read.is) _ (not_empty _ _)
+    (list_lists a _ (rw c.in-Read.is) (has_place a c.in-Read.is) _ (not_empty _ _)
     now)
     (λ l. rw (
       c.in-Read.is,
       now,
       get_or-set_same c.self.inside.borrows.lists c.in-Read.index _ []
           u.within,
-    ) refl))
+    )))
     c.push.ensures.ok
 
 pub returns-in-Read-clause-beside : goal.returns-in-Read-clause-beside
@@ -70,8 +70,8 @@ returns-in_default g c =
     let a = found c.self.view_is c.self.invariant c.requires.within c.index_mut.ensures.value in
     record {
       ok = cell_changed a _ _ (with_reader c.args.borrow) (λ k other. refl) (λ l. reader_kept
-          (list_at c.self.inside.borrows.lists (index_of c.index_mut.result.now.content)) l
-          c.index_mut.result.now.content c.args.borrow c.in_default.not-Data c.in_default.not-Read);
+          c.self.inside.borrows.lists c.index_mut.result.now l c.args.borrow
+          c.in_default.not-Data c.in_default.not-Read);
       err = tt;
       beside = tt;
       rooms = ap (λ (x : EntryList _). x.rooms) c.self.view_is;

@@ -1,6 +1,5 @@
 -- The writer that stands in the way of a read.
-use Rattle.generational_entries.proofs.{found, index_of, lent_used, list_at, not_lent, read_details}
-use Rattle.generational_entries.proofs.{refl, says, says_of}
+use Rattle.generational_entries.proofs.{found, lent_used, not_lent, read_details, says, says_of}
 use Rattle.generational_entries.proofs.settled.SettledEntries.borrow_error.Goals as goal
 
 pub writer_at-writer-requires-clause-within : goal.writer_at-writer-requires-clause-within
@@ -13,11 +12,11 @@ returns-in-Lent g c =
     let a = found c.self.view_is c.self.invariant c.requires c.index.ensures in
     says_of a
     (read_details a.store c.requires c.index-in-Lent.ensures) _
-    (rw (c.in-Lent.is, c.new.ensures, c.writer_at-writer.ensures) refl)
+    (rw (c.in-Lent.is, c.new.ensures, c.writer_at-writer.ensures))
 
 pub returns-in_default : goal.returns-in_default
 returns-in_default g c =
     let a = found c.self.view_is c.self.invariant c.requires c.index.ensures in
     says a _
-    (λ l. not_lent (list_at c.self.inside.borrows.lists (index_of c.index.result.now.content))
-    l.created_at c.index.result.now.content c.in_default.not-Lent)
+    (λ l. not_lent c.self.inside.borrows.lists c.index.result.now l.created_at
+    c.in_default.not-Lent)

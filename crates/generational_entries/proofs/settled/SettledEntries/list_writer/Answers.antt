@@ -36,14 +36,14 @@ returns-then-index-clause-slots g c =
     c.open.ensures.lists c.open.ensures.free in
     view_changed a _ _ _
     (open_lists a (rw c.in-Lent.is c.if-index.true) o)
-    (λ l. rw (c.in-Lent.is, opened_list o) refl)
+    (λ l. rw (c.in-Lent.is, opened_list o))
 
 pub returns-else-index-clause-slots : goal.returns-else-index-clause-slots
 returns-else-index-clause-slots g c =
     let a = found c.self.view_is c.self.invariant c.requires.within c.index_mut.ensures.value in
     let used = lent_used a c.in-Lent.is c.if-index.false in
     view_changed a _ _ _
-    (list_lists a _ (rw c.in-Lent.is refl) c.if-index.false
+    (list_lists a _ (rw c.in-Lent.is) c.if-index.false
     (c.args.writer ∷ []) (none_some _ []) c.set_only.ensures)
     (λ l. rw (
       c.in-Lent.is,

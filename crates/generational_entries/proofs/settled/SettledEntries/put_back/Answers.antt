@@ -12,9 +12,9 @@ pub invariant_of-self : goal.invariant_of-self
 invariant_of-self g c =
     let a = found c.self.view_is c.self.invariant c.requires.within c.index_mut.ensures.value in
     let done = c.give_back.ensures in
-    still a c.self.invariant _ (given_indexed a (rw c.in-Lent.is refl) done.none done.some _ tt
+    still a c.self.invariant _ (given_indexed a (rw c.in-Lent.is) done.none done.some _ tt
     refl)
-    (given_rooms a (rw c.in-Lent.is refl) done.none done.some)
+    (given_rooms a (rw c.in-Lent.is) done.none done.some)
 
 pub unreachable-requires : goal.unreachable-requires
 unreachable-requires g c =
@@ -25,5 +25,5 @@ pub returns-clause-slots : goal.returns-clause-slots
 returns-clause-slots g c =
     let a = found c.self.view_is c.self.invariant c.requires.within c.index_mut.ensures.value in
     let done = c.give_back.ensures in
-    view_changed a _ _ _ (given_lists a (rw c.in-Lent.is refl) done.none done.some)
-    (λ l. rw c.in-Lent.is refl)
+    view_changed a _ _ _ (given_lists a (rw c.in-Lent.is) done.none done.some)
+    (λ l. rw c.in-Lent.is)

@@ -1,4 +1,4 @@
-use Rattle.generational_entries.proofs.{ap, cell_changed, EntryList, found, index_of, list_at}
+use Rattle.generational_entries.proofs.{ap, cell_changed, EntryList, found}
 use Rattle.generational_entries.proofs.{no_reader, reader_left, refl, release_indexed, release_kept}
 use Rattle.generational_entries.proofs.{release_lists, release_rooms, says, still, used_at}
 use Rattle.generational_entries.proofs.{view_changed, without_reader_in}
@@ -30,18 +30,17 @@ returns-in-Read-clause-after g c =
       c.unlist.ensures,
       release_kept a c.in-Read.is _ _ _ r l.created_at,
       c.in-Read.is,
-    ) refl)
+    ))
 
 pub returns-in_default : goal.returns-in_default
 returns-in_default g c =
     let a = found c.self.view_is c.self.invariant c.requires c.index_mut.ensures.value in
     record {
       known = says a _ (λ l. no_reader
-          (list_at c.self.inside.borrows.lists (index_of c.index_mut.result.now.content))
-          l.created_at c.index_mut.result.now.content c.args.ticket c.in_default.not-Read);
+          c.self.inside.borrows.lists c.index_mut.result.now l.created_at c.args.ticket
+          c.in_default.not-Read);
       after = cell_changed a _ _ (without_reader_in c.args.ticket) (λ k other. refl)
           (λ l. reader_left
-          (list_at c.self.inside.borrows.lists (index_of c.index_mut.result.now.content)) l
-          c.index_mut.result.now.content c.args.ticket c.in_default.not-Read);
+          c.self.inside.borrows.lists c.index_mut.result.now l c.args.ticket c.in_default.not-Read);
       rooms = ap (λ (x : EntryList _). x.rooms) c.self.view_is;
     }

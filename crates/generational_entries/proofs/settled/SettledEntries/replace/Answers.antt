@@ -11,15 +11,15 @@ unreachable-requires g c =
 pub invariant_of-self : goal.invariant_of-self
 invariant_of-self g c =
     let a = found c.self.view_is c.self.invariant c.requires.within c.index_mut.ensures.value in
-    still a c.self.invariant _ (free_indexed a (rw c.in-Data.is refl) _ tt refl) refl
+    still a c.self.invariant _ (free_indexed a (rw c.in-Data.is) _ tt refl) refl
 
 pub returns-clause-value : goal.returns-clause-value
 returns-clause-value g c =
     let a = found c.self.view_is c.self.invariant c.requires.within c.index_mut.ensures.value in
-    says a _ (λ l. rw (c.in-Data.is, c.replace.ensures.value) refl)
+    says a _ (λ l. rw (c.in-Data.is, c.replace.ensures.value))
 
 pub returns-clause-after : goal.returns-clause-after
 returns-clause-after g c =
     let a = found c.self.view_is c.self.invariant c.requires.within c.index_mut.ensures.value in
     view_changed a _ _ _ (λ k other. refl)
-    (λ l. rw (c.in-Data.is, c.replace.ensures.after) refl)
+    (λ l. rw (c.in-Data.is, c.replace.ensures.after))

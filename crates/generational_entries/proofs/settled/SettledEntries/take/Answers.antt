@@ -1,7 +1,6 @@
 -- A value that is taken out.
-use Rattle.generational_entries.proofs.{alone, ap, content_in, found, free_indexed, Here, list_none}
-use Rattle.generational_entries.proofs.{refl, says, Some, still, sym, unread_in, view_changed, []}
-use Rattle.generational_entries.proofs.{◌∙◌, ◌≡◌}
+use Rattle.generational_entries.proofs.{alone, ap, found, free_indexed, list_none, refl, says, Some}
+use Rattle.generational_entries.proofs.{still, sym, unread_in, view_changed, ◌∙◌, ◌≡◌}
 use Rattle.generational_entries.proofs.settled.SettledEntries.take.Goals as goal
 
 pub lend-requires : goal.lend-requires
@@ -14,8 +13,8 @@ pub invariant_of-self : goal.invariant_of-self
 invariant_of-self g c =
     let a = found c.self.view_is c.self.invariant c.requires.within c.index_mut.ensures.value in
     let own = alone a c.requires.free in
-    still a c.self.invariant _ (free_indexed a (rw own.2 refl) _
-    (rw (c.lend.ensures.lent, own.2) tt) (rw (c.lend.ensures.lent, own.2) refl)) refl
+    still a c.self.invariant _ (free_indexed a (rw own.2) _
+    (rw (c.lend.ensures.lent, own.2) tt) (rw (c.lend.ensures.lent, own.2))) refl
 
 pub returns-clause-value : goal.returns-clause-value
 returns-clause-value g c =
@@ -23,12 +22,12 @@ returns-clause-value g c =
     let own = alone a c.requires.free in
     let same : Some own.1 ≡ Some c.lend.result = sym (ap unread_in own.2) ∙ c.lend.ensures.value in
     let value : c.lend.result ≡ own.1 = cc in
-    says a (λ e. content_in e.kept ≡ Some (Here c.lend.result []))
-    (λ l. rw (own.2, value) refl)
+    says a _
+    (λ l. rw (own.2, value))
 
 pub returns-clause-after : goal.returns-clause-after
 returns-clause-after g c =
     let a = found c.self.view_is c.self.invariant c.requires.within c.index_mut.ensures.value in
     let own = alone a c.requires.free in
     view_changed a _ _ _ (λ k other. refl)
-    (λ l. rw (c.lend.ensures.lent, own.2, list_none a.store) refl)
+    (λ l. rw (c.lend.ensures.lent, own.2, list_none a.store))

@@ -9,14 +9,8 @@ loop-call-init g c =
     let room = went c.reserve_more.result c.if-is_err.ensures.value c.reserve_more.ensures.ok in record {
       run = run_starts _ _ _ _ _ _ c.self.view_is c.reserve_more.ensures.items c.reverse.ensures.items
           c.in-Ok.ensures.items;
-      things = omega (arith, room, c.reverse.ensures.len, c.len-count.ensures);
-      replies = omega (
-        arith,
-        c.in-Ok.ensures.len,
-        c.in-Ok.ensures.capacity,
-        c.reverse.ensures.len,
-        c.len-count.ensures,
-      );
+      things = omega arith;
+      replies = omega (arith, c.in-Ok.ensures.len, c.in-Ok.ensures.capacity);
     }
 
 pub loop-call-preserved : goal.loop-call-preserved

@@ -3,7 +3,8 @@ use Rattle.generational_slots.proofs.{◌∙◌}
 use Rattle.generational_slots.proofs.slots.Slots.counts.Goals as goal
 
 pub returns-clause-slots : goal.returns-clause-slots
-returns-clause-slots g c = c.len-made.ensures ∙ slots_seen c.self.invariant.0 (state_is c.self.view_is)
+returns-clause-slots g c =
+    c.len-made.ensures ∙ slots_seen c.self.invariant.0 (state_is c.self.view_is)
 
 pub returns-clause-free : goal.returns-clause-free
 returns-clause-free g c = c.free.ensures ∙ free_seen c.self.invariant.0 (state_is c.self.view_is)

@@ -1,29 +1,30 @@
 -- The end of a name, unless a borrow stands in the way.
 use Rattle.generational_slots.proofs.{free_alone, free_closes, free_hindrance, free_names_none}
-use Rattle.generational_slots.proofs.{free_there, name_of_cell, state_is, unborrowed_told, ◌∙◌}
+use Rattle.generational_slots.proofs.{free_there, name_of_cell, unborrowed_told, ◌∙◌}
 use Rattle.generational_slots.proofs.slots.Slots.end.Goals as goal
 
 pub remove-requires : goal.remove-requires
 remove-requires g c =
     let S = c.args.self.now.state in
-    let free = unborrowed_told c.self.inside.entries.slots (state_is c.self.view_is) (name_of_cell c.args.name)
-    c.has_unborrowed_value.ensures c.if-has_unborrowed_value.true in
+    let n = name_of_cell c.args.name in
+    let free = unborrowed_told _ c.self.view_is n c.has_unborrowed_value.ensures
+    c.if-has_unborrowed_value.true in
     record {
-      there = free_there S (name_of_cell c.args.name) c.requires free;
-      target = free_names_none S (name_of_cell c.args.name) c.requires free;
-      alone = λ _. free_alone S (name_of_cell c.args.name) c.requires free;
+      there = free_there S n c.requires free;
+      target = free_names_none S n c.requires free;
+      alone = λ _. free_alone S n c.requires free;
     }
 
 pub returns-then-has_unborrowed_value-clause-found : goal.returns-then-has_unborrowed_value-clause-found
 returns-then-has_unborrowed_value-clause-found g c =
-    let S = c.args.self.now.state in
-    let free = unborrowed_told c.self.inside.entries.slots (state_is c.self.view_is) (name_of_cell c.args.name)
-    c.has_unborrowed_value.ensures c.if-has_unborrowed_value.true in
-    free_hindrance S (name_of_cell c.args.name) c.requires free
+    let n = name_of_cell c.args.name in
+    let free = unborrowed_told _ c.self.view_is n c.has_unborrowed_value.ensures
+    c.if-has_unborrowed_value.true in
+    free_hindrance c.args.self.now.state n c.requires free
 
 pub returns-then-has_unborrowed_value-clause-ok : goal.returns-then-has_unborrowed_value-clause-ok
 returns-then-has_unborrowed_value-clause-ok g c =
-    let S = c.args.self.now.state in
-    let free = unborrowed_told c.self.inside.entries.slots (state_is c.self.view_is) (name_of_cell c.args.name)
-    c.has_unborrowed_value.ensures c.if-has_unborrowed_value.true in
-    c.remove.ensures ∙ free_closes S (name_of_cell c.args.name) c.requires free
+    let n = name_of_cell c.args.name in
+    let free = unborrowed_told _ c.self.view_is n c.has_unborrowed_value.ensures
+    c.if-has_unborrowed_value.true in
+    c.remove.ensures ∙ free_closes c.args.self.now.state n c.requires free

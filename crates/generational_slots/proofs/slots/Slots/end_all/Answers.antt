@@ -1,9 +1,9 @@
 -- The end of a list of names.
 use Rattle.generational_slots.proofs.{ap, at_drop_all, at_drop_more, Cell, CellName, cells_after}
 use Rattle.generational_slots.proofs.{close, close_each, close_nothing, closing_linked, drop, Err}
-use Rattle.generational_slots.proofs.{first_hindrance, FoundBorrowed, hindrance_is, IsLinked, List}
+use Rattle.generational_slots.proofs.{first_hindrance, FoundBorrowed, hindrance_is, List}
 use Rattle.generational_slots.proofs.{name_of_cell, NameMap, slice_index_or, state_is, subst, sym}
-use Rattle.generational_slots.proofs.{[], ◌+◌, ◌∙◌, ◌∷◌, ◌≡◌}
+use Rattle.generational_slots.proofs.{[], ◌+◌, ◌∙◌, ◌∷◌}
 use Rattle.std.proofs.Common.{map as list_map}
 use Rattle.generational_slots.proofs.slots.Slots.end_all.Goals as goal
 
@@ -25,22 +25,17 @@ loop-name-preserved g c =
     let n = name_of_cell (slice_index_or names i none) in
     let rest = list_map name_of_cell (drop (i + 1) names) in
     let closed = λ (names : List CellName). close S (list_map name_of_cell names) in
-    let ended : c.close.new.self.state ≡ close S (n ∷ []) = c.close.ensures in (
-      subst (λ R. IsLinked R.cells) (sym ended) (closing_linked S.cells (n ∷ []) linked),
-      ap (λ R. close R rest) ended
-          ∙ (ap (λ (cells : NameMap (Cell _)). record S { cells = cells })
-          (sym (close_each S.cells n rest))
-          ∙ (sym (at_drop_more closed names i none c.loop-name-test.true)
-          ∙ c.loop-name.invariant.1)),
+    let here = at_drop_more closed names i none c.loop-name-test.true in
+    rw c.close.ensures (
+      closing_linked S.cells (n ∷ []) linked,
+      rw (← close_each S.cells n rest) (sym here ∙ c.loop-name.invariant.1),
     )
 
 pub returns-clause-found : goal.returns-clause-found
 returns-clause-found g c =
     let S = c.args.self.now.state in
     let names = list_map name_of_cell c.args.names.now in
-    hindrance_is S names
-    ∙ (sym (ap (λ X. first_hindrance X.cells (cells_after X.cells names) names)
-    (state_is c.self.view_is)) ∙ c.in-Ok.ensures)
+    rw (hindrance_is S names, ← state_is c.self.view_is) c.in-Ok.ensures
 
 pub returns-clause-ok : goal.returns-clause-ok
 returns-clause-ok g c =

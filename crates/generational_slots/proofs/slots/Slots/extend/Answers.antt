@@ -1,9 +1,9 @@
 -- A cell in a new slot.
-use Rattle.generational_slots.proofs.{ap, arith, free_seen, if_named, IfSome, kept_data, length}
-use Rattle.generational_slots.proofs.{length-append, made_few, made_pushed, made_referred}
-use Rattle.generational_slots.proofs.{made_within, more_length, more_slotted, more_state}
-use Rattle.generational_slots.proofs.{new_pushed, one_made, slice_get, slotted_pushed, state_is}
-use Rattle.generational_slots.proofs.{state_pushed, target_of, unborrowed_cell, [], ◌<◌, ◌∙◌}
+use Rattle.generational_slots.proofs.{ap, arith, counted_more, free_seen, kept_data, length}
+use Rattle.generational_slots.proofs.{length-append, may_rise, more_length, more_slotted}
+use Rattle.generational_slots.proofs.{more_state, new_pushed, one_made, slotted_pushed, state_is}
+use Rattle.generational_slots.proofs.{state_pushed, target_of, unborrowed_cell, uncounted_pushed}
+use Rattle.generational_slots.proofs.{[], ◌∙◌}
 use Rattle.std.specs.FinSet as set
 use Rattle.generational_slots.proofs.slots.Slots.extend.Goals as goal
 
@@ -19,17 +19,11 @@ pub refer-requires : goal.refer-requires
 refer-requires g c =
     let inv = c.self.invariant in
     let view = state_is c.self.view_is in
-    let made = made_pushed inv.0 view inv.2 c.requires.linked c.args.content c.args.created_at
+    let made = uncounted_pushed inv.0 view inv.2 c.requires.linked c.args.content c.args.created_at
     c.requires.unborrowed c.requires.target
     (set.empty_of_len _ (free_seen inv.0 view ∙ c.requires.none)) in
-    let slots = c.push.new.self.slots in
-    record {
-      within = if_named c.target-target.result (λ m. m.slot < length slots)
-          (rw (c.target-target.ensures, c.push.ensures.pushed) (made_within made));
-      few = if_named c.target-target.result
-          (λ m. IfSome (slice_get slots m.slot) (λ e. e.references < length slots))
-          (rw (c.target-target.ensures, c.push.ensures.pushed) (made_few made));
-    }
+    let rise = may_rise c.target-target.result (rw c.target-target.ensures made) in
+    rw c.push.ensures.pushed (record { within = rise.0; few = rise.1 })
 
 pub invariant_of-self : goal.invariant_of-self
 invariant_of-self g c =
@@ -50,8 +44,8 @@ invariant_of-self g c =
       more_slotted (slotted_pushed inv.0 (kept_data [] l d) cell.0 cell.1 none _
           (omega (arith, c.requires.room, c.requires.none))) (target_of d),
       rw (c.refer.ensures.rooms, c.push.ensures.rooms) inv.1,
-      made_referred (made_pushed inv.0 view inv.2 c.requires.linked d l c.requires.unborrowed
-          c.requires.target none),
+      counted_more _ (uncounted_pushed inv.0 view inv.2 c.requires.linked d l
+          c.requires.unborrowed c.requires.target none),
       omega (arith, inv.3),
     )
 

@@ -1,10 +1,9 @@
 -- A cell in a slot that is free, or in a new one.
 use Rattle.generational_slots.proofs
-use proofs.{ap, arith, err_holds, free, free_are, free_seen, HasTargets, if_named, IfSome}
-use proofs.{kept_data, length, length-set, made_few, made_referred, made_reused, made_within}
-use proofs.{more_length, more_slotted, more_state, nat_cmp, new_reused, next_told, same_generation}
-use proofs.{slice_get, slotted_reused, state_is, state_reused, subst, sym, taken_less, taken_within}
-use proofs.{target_of, unborrowed_cell, [], ◌+◌, ◌<◌, ◌∙◌}
+use proofs.{ap, arith, counted_more, err_holds, free, free_are, free_seen, kept_data, length}
+use proofs.{length-set, may_rise, more_length, more_slotted, more_state, nat_cmp, new_reused}
+use proofs.{next_generation, slotted_reused, state_is, state_reused, sym, taken_less, taken_within}
+use proofs.{target_of, unborrowed_cell, uncounted_reused, [], ◌∙◌}
 use Rattle.std.specs.FinSet as set
 use Rattle.generational_slots.proofs.slots.Slots.make.Goals as goal
 
@@ -27,8 +26,7 @@ extend-requires-clause-none g c =
 
 pub extend-requires-clause-linked : goal.extend-requires-clause-linked
 extend-requires-clause-linked g c =
-    subst (λ S. HasTargets S.cells)
-    (sym (c.reserve_one.ensures.state ∙ state_is c.self.view_is)) c.requires.linked
+    rw c.reserve_one.ensures.state (rw (← state_is c.self.view_is) at c.requires.linked)
 
 pub generation-requires : goal.generation-requires
 generation-requires g c = taken_within c.self.invariant.0 _ c.in-Some.ensures.member
@@ -39,17 +37,11 @@ refill-requires-clause-within g c = taken_within c.self.invariant.0 _ c.in-Some.
 pub refer-requires : goal.refer-requires
 refer-requires g c =
     let inv = c.self.invariant in
-    let made = made_reused inv.0 (state_is c.self.view_is) inv.2 c.requires.linked c.args.content
-    c.args.created_at c.requires.unborrowed c.requires.target _ c.in-Some.ensures.member _
-    c.refill.ensures.generation in
-    let slots = c.refill.new.self.slots in
-    record {
-      within = if_named c.target-target.result (λ m. m.slot < length slots)
-          (rw (c.target-target.ensures, c.refill.ensures.filled) (made_within made));
-      few = if_named c.target-target.result
-          (λ m. IfSome (slice_get slots m.slot) (λ e. e.references < length slots))
-          (rw (c.target-target.ensures, c.refill.ensures.filled) (made_few made));
-    }
+    let made = uncounted_reused inv.0 (state_is c.self.view_is) inv.2 c.requires.linked
+    c.args.content c.args.created_at c.requires.unborrowed c.requires.target _
+    c.in-Some.ensures.member _ c.refill.ensures.generation in
+    let rise = may_rise c.target-target.result (rw c.target-target.ensures made) in
+    rw c.refill.ensures.filled (record { within = rise.0; few = rise.1 })
 
 pub invariant_of-self-2 : goal.invariant_of-self-2
 invariant_of-self-2 g c =
@@ -72,7 +64,7 @@ invariant_of-self-2 g c =
       more_slotted (slotted_reused inv.0 (kept_data [] l d) cell.0 cell.1 _ m _
           c.refill.ensures.generation) (target_of d),
       rw (c.refer.ensures.rooms, c.refill.ensures.rooms) inv.1,
-      made_referred (made_reused inv.0 (state_is c.self.view_is) inv.2 c.requires.linked d l
+      counted_more _ (uncounted_reused inv.0 (state_is c.self.view_is) inv.2 c.requires.linked d l
           c.requires.unborrowed c.requires.target _ m _ c.refill.ensures.generation),
       inv.3,
     )
@@ -86,22 +78,17 @@ returns-clause-ok g c =
     let slots = c.self.inside.entries.slots in
     let cell = unborrowed_cell d l c.requires.unborrowed in
     let m = c.in-Some.ensures.member in
-    let next = next_told c.generation.result _ c.generation.ensures in
-    let same = same_generation inv.0 _ m _ _ next c.refill.ensures.generation in
+    let next = next_generation inv.0 _ m _ _ c.generation.ensures c.refill.ensures.generation in
     let spare = ap (λ x. x.spare) c.self.view_is in
     let less = taken_less inv.0 _ m in
     let free = ap set.len c.in-Some.ensures.taken in
     let long = ap length c.refer.ensures.slots ∙ (more_length c.refill.new.self.slots _
     ∙ (ap length c.refill.ensures.filled ∙ length-set slots c.in-Some.slot _)) in
-    record {
-      fits = rw (← view)
-          (new_reused inv.0 (kept_data [] l d) cell.0 cell.1 _ m (c.generation.result + 1) next);
-      added = rw cell.1 (rw (
-        long,
-        c.refer.ensures.slots,
-        c.refill.ensures.filled,
-        same,
-        ← view,
-      ) (more_state _ _ _ _ ∙ state_reused inv.0 (kept_data [] l d) cell.0 cell.1 _ m _ next));
+    rw (← next) (record {
+      fits = rw (← view) (new_reused inv.0 (kept_data [] l d) cell.0 cell.1 _ m _
+          c.refill.ensures.generation);
+      added = rw (cell.1, long, c.refer.ensures.slots, c.refill.ensures.filled, ← view)
+          (more_state _ _ _ _ ∙ state_reused inv.0 (kept_data [] l d) cell.0 cell.1 _ m _
+          c.refill.ensures.generation);
       room = omega (arith, spare, less, free, long, c.take.ensures.rooms);
-    }
+    })

@@ -1,44 +1,30 @@
-use Rattle.generational_slots.proofs.{BeingWritten, held_within, is_none, name_of_cell, None}
-use Rattle.generational_slots.proofs.{none_there, reached_held, reached_seen, read_none}
-use Rattle.generational_slots.proofs.{read_refusal, read_to, seen_in, Some, state_is, sym}
-use Rattle.generational_slots.proofs.{write_refusal, ◌∙◌, ◌≡◌}
+use Rattle.generational_slots.proofs.{held_within, name_of_cell, none_there, reached_in}
+use Rattle.generational_slots.proofs.{reached_seen, refl, sym, ◌∙◌}
 use Rattle.generational_slots.proofs.slots.Slots.readable_slow.Goals as goal
 
 pub returns-in_default-clause-err : goal.returns-in_default-clause-err
-returns-in_default-clause-err g c =
-    let n = name_of_cell c.args.name in
-    rw c.dropped.ensures (read_none c.args.self.now.state n _
-    (reached_seen c.self.inside.entries.slots (state_is c.self.view_is) n c.in_default.ensures))
+returns-in_default-clause-err g c = rw (
+  c.dropped.ensures,
+  ← reached_seen _ c.self.view_is (name_of_cell c.args.name) c.in_default.ensures,
+) refl
 
 pub borrow_error-requires : goal.borrow_error-requires
-borrow_error-requires g c =
-    held_within (reached_held c.self.inside.entries.slots (state_is c.self.view_is) c.requires
-    (name_of_cell c.args.name) _ c.in-Some.ensures)
+borrow_error-requires g c = held_within
+    (reached_in c.self.view_is c.requires (name_of_cell c.args.name) _ c.in-Some.ensures).held
 
 pub is_unborrowed-requires : goal.is_unborrowed-requires
-is_unborrowed-requires g c =
-    held_within (reached_held c.self.inside.entries.slots (state_is c.self.view_is) c.requires
-    (name_of_cell c.args.name) _ c.in-Some.ensures)
+is_unborrowed-requires g c = held_within
+    (reached_in c.self.view_is c.requires (name_of_cell c.args.name) _ c.in-Some.ensures).held
 
 pub returns-in-None-clause-ok : goal.returns-in-None-clause-ok
 returns-in-None-clause-ok g c =
-    let view = state_is c.self.view_is in
-    let n = name_of_cell c.args.name in
-    let slots = c.self.inside.entries.slots in
-    let f = reached_held slots view c.requires n _ c.in-Some.ensures in (
-      sym (reached_seen slots view n c.in-Some.ensures),
-      sym (seen_in view _ f read_refusal (λ t. None ≡ t) c.in-None.ensures),
-      λ alone. none_there _ (sym (seen_in view _ f (λ o. is_none (write_refusal o))
-          (λ b. c.is_unborrowed.result ≡ b) c.is_unborrowed.ensures) ∙ alone),
+    let r = reached_in c.self.view_is c.requires (name_of_cell c.args.name) _ c.in-Some.ensures in (
+      r.leads,
+      rw r.seen (sym (rw r.there at c.in-None.ensures)),
+      λ alone. rw r.seen (none_there _ (sym (rw r.there at c.is_unborrowed.ensures) ∙ alone)),
     )
 
 pub returns-in-Some-borrow_error-clause-err : goal.returns-in-Some-borrow_error-clause-err
 returns-in-Some-borrow_error-clause-err g c =
-    let view = state_is c.self.view_is in
-    let n = name_of_cell c.args.name in
-    let slots = c.self.inside.entries.slots in
-    let f = reached_held slots view c.requires n _ c.in-Some.ensures in
-    read_to c.args.self.now.state n _ (reached_seen slots view n c.in-Some.ensures)
-    ∙ sym (seen_in view _ f read_refusal
-    (λ t. Some (BeingWritten c.in-Some-borrow_error.writer.borrowed_mut_at) ≡ t)
-    c.in-Some-borrow_error.ensures)
+    let r = reached_in c.self.view_is c.requires (name_of_cell c.args.name) _ c.in-Some.ensures in
+    rw (r.leads, r.seen) (sym (rw r.there at c.in-Some-borrow_error.ensures))

@@ -1,9 +1,9 @@
-use Rattle.generational_slots.proofs.{name_of_cell, state_is, unborrowed_reached, unborrowed_told}
+use Rattle.generational_slots.proofs.{name_of_cell, unborrowed_reached, unborrowed_told}
 use Rattle.generational_slots.proofs.slots.Slots.writable.Goals as goal
 
 pub returns-then-has_unborrowed_value-clause-ok : goal.returns-then-has_unborrowed_value-clause-ok
 returns-then-has_unborrowed_value-clause-ok g c =
     let n = name_of_cell c.args.name in
-    let u = unborrowed_reached c.args.self.now.state n (unborrowed_told c.self.inside.entries.slots (state_is c.self.view_is) n
+    let u = unborrowed_reached c.args.self.now.state n (unborrowed_told _ c.self.view_is n
     c.has_unborrowed_value.ensures c.if-has_unborrowed_value.true) in
     (u.0, u.2)

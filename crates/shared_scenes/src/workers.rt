@@ -10,7 +10,7 @@ use generational_sync::{Base, Count, Step, SyncStorage, Tally};
 use std::sync::Wait;
 
 /// A worker of a store of texts. Each call is the store's of the same name.
-pub(crate) trait Worker: Drop + Send {
+pub trait Worker: Drop + Send {
     /// Which worker it is, from 0.
     fn number(&self) -> usize;
 
@@ -143,13 +143,15 @@ pub(crate) trait Worker: Drop + Send {
 }
 
 /// What a making answers: a box, or the value back.
-pub(crate) type MadeOrBack = Result<GenerationalBox<String>, Refusal<String>>;
+pub type MadeOrBack = Result<GenerationalBox<String>, Refusal<String>>;
 
 /// A handle of the store with number 7, and a tally.
 #[derive(Drop)]
-pub(crate) struct Handle<A: Count, B: Count, C: Count, D: Count> {
-    pub(crate) store: SyncStorage<String, 7, A, B, C, D>,
-    pub(crate) tally: Tally<A, B, C, D>,
+pub struct Handle<A: Count, B: Count, C: Count, D: Count> {
+    /// The worker's own handle of the store.
+    pub store: SyncStorage<String, 7, A, B, C, D>,
+    /// What counts the worker's steps.
+    pub tally: Tally<A, B, C, D>,
 }
 
 impl<

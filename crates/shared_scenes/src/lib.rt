@@ -1,0 +1,19 @@
+//! Scenarios of a store that threads share, over workers and their stores: what calls answer, what
+//! the audited history has, and that each call that waits is answered. The expected values are
+//! worked out by hand. `shared_scenarios` plays them.
+#![tactic(auto)]
+
+mod beside;
+mod gates;
+mod places;
+mod recorder;
+mod rows;
+mod scenes;
+mod unshared;
+mod waking;
+mod workers;
+
+pub use crate::scenes::{Scenario, play};
+pub use crate::unshared::live;
+pub use crate::waking::Freeing;
+pub use crate::workers::{Handle, Worker};
