@@ -6,6 +6,8 @@
 #[cfg(test)]
 mod beside;
 #[cfg(test)]
+mod judging;
+#[cfg(test)]
 mod memory;
 #[cfg(test)]
 mod rows;

@@ -2,6 +2,7 @@
 
 ghost use Rattle.std.specs.Prelude.{◌≡◌, ◌<◌};
 
+use crate::judging::Judging;
 use generational_box::StoreError;
 use generational_sync::{Count, SyncStorage};
 use shared_scenes::{Handle, Scenario};
@@ -101,5 +102,5 @@ fn play_with<
             return Err(StoreError::OutOfMemory);
         }
     }
-    shared_scenes::play(rt, alloc, all, scenario)
+    shared_scenes::play(&Judging(rt), alloc, all, scenario)
 }

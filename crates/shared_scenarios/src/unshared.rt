@@ -2,6 +2,7 @@
 
 ghost use Rattle.std.specs.Prelude.{◌≡◌};
 
+use crate::judging::Judging;
 use generational_sync::{Count, SyncState};
 use shared_scenes::live;
 use std::alloc::Global;
@@ -31,7 +32,7 @@ fn one_by_one<A: Count, B: Count, C: Count, D: Count>(
     let state = SyncState::<String, 7, A, B, C, D>::new(alloc, 1, made, lent, changed, refused);
     let (mut state, mut tallies) = state.expect(rt, "a store");
     let mut tally = tallies.pop().expect(rt, "a tally");
-    live(rt, alloc, &mut state, &mut tally);
+    live(&Judging(rt), alloc, &mut state, &mut tally);
     assert_eq!(rt; tally.worker(), 0);
     assert!(rt; tally.is_whole());
 }

@@ -1,20 +1,20 @@
 //! Two workers in threads: what they read beside each other, and a reader that waits for a writer.
 
 use crate::gates::Gate;
+use crate::judge::{Judge, present};
 use crate::places::{made, made_later, read, read_later};
 use crate::recorder::Recorder;
 use crate::rows::strange_box;
 use crate::workers::Worker;
 use generational_box::{GenerationalBox, GenerationalRefMut, Location, UnsyncStorage};
 use std::alloc::Global;
-use std::process::Abort;
 use std::sync::Wait;
 use std::thread;
 use std::thread::Threads;
 
 // Opens the value, says so, waits until the other worker has too, and releases.
 fn reads_beside<W: Worker>(
-    rt: &(impl Wait + Abort),
+    rt: &(impl Wait + Judge),
     one: &mut Recorder<W>,
     asked: GenerationalBox<String>,
     at: Location,
@@ -24,13 +24,13 @@ fn reads_beside<W: Worker>(
     let guard = one.begin(rt, asked, at);
     one.assert_opens(rt, &guard, "hello");
     opened.arrive();
-    assert!(rt; other.passes(), "the other worker did not open it");
+    rt.demand(other.passes(), "the other worker did not open it");
     one.assert_opens(rt, &guard, "hello");
     one.release(rt, guard);
 }
 
 /// Two workers read one value beside each other, and one of them a box of another store.
-pub(crate) fn read_beside<W: Worker, H: Threads + Wait + Abort + Sync>(
+pub(crate) fn read_beside<W: Worker, H: Threads + Wait + Judge + Sync>(
     rt: &H,
     alloc: Global,
     mut first: Recorder<W>,
@@ -69,11 +69,11 @@ struct Gates {
 
 // Holds a guard of the changed and one of the shared value. Ends the reference while its reader
 // waits, and then exchanges the changed value, for which the same worker waits next.
-fn writes<W: Worker>(rt: &(impl Wait + Abort), one: &mut Recorder<W>, boxes: Boxes, gates: &Gates) {
+fn writes<W: Worker>(rt: &(impl Wait + Judge), one: &mut Recorder<W>, boxes: Boxes, gates: &Gates) {
     let changed = one.begin_write(rt, boxes.changed, read());
     let shared = one.begin_write(rt, boxes.shared, read_later());
     gates.written.arrive();
-    assert!(rt; gates.calm.passes(), "the calm value was not read");
+    rt.demand(gates.calm.passes(), "the calm value was not read");
     one.waits_for(rt, 1);
     one.end(rt, boxes.reference);
     exchanges(rt, one, changed);
@@ -81,7 +81,7 @@ fn writes<W: Worker>(rt: &(impl Wait + Abort), one: &mut Recorder<W>, boxes: Box
 }
 
 fn exchanges<W: Worker>(
-    rt: &(impl Wait + Abort),
+    rt: &(impl Wait + Judge),
     one: &mut Recorder<W>,
     changed: GenerationalRefMut<String>,
 ) {
@@ -91,12 +91,12 @@ fn exchanges<W: Worker>(
 
 // Reads what isn't written, then the reference, which ends meanwhile, and then the changed value.
 fn reads_after<W: Worker>(
-    rt: &(impl Wait + Abort),
+    rt: &(impl Wait + Judge),
     two: &mut Recorder<W>,
     boxes: Boxes,
     gates: &Gates,
 ) {
-    assert!(rt; gates.written.passes(), "nothing was written");
+    rt.demand(gates.written.passes(), "nothing was written");
     two.reads(rt, boxes.calm, read(), "calm");
     gates.calm.arrive();
     two.finds_dropped(rt, boxes.reference, read(), made());
@@ -105,7 +105,7 @@ fn reads_after<W: Worker>(
 
 /// A worker writes two values, while the other reads: what isn't written at once, and what is once
 /// it has ended or was released.
-pub(crate) fn write_beside<W: Worker, H: Threads + Wait + Abort + Sync>(
+pub(crate) fn write_beside<W: Worker, H: Threads + Wait + Judge + Sync>(
     rt: &H,
     mut first: Recorder<W>,
     mut second: Recorder<W>,
@@ -137,7 +137,7 @@ pub(crate) fn write_beside<W: Worker, H: Threads + Wait + Abort + Sync>(
 const ROUNDS: u64 = 157;
 
 // Makes box after box, reads and ends each.
-fn makes_and_ends<W: Worker>(rt: &(impl Wait + Abort), one: &mut Recorder<W>) {
+fn makes_and_ends<W: Worker>(rt: &(impl Wait + Judge), one: &mut Recorder<W>) {
     for _ in 0..ROUNDS {
         let made = one.leak(rt, "one of many", made());
         one.reads(rt, made, read(), "one of many");
@@ -146,7 +146,7 @@ fn makes_and_ends<W: Worker>(rt: &(impl Wait + Abort), one: &mut Recorder<W>) {
 }
 
 /// All workers make, read and end boxes of their own beside each other.
-pub(crate) fn crowd<W: Worker, H: Threads + Wait + Abort + Sync>(
+pub(crate) fn crowd<W: Worker, H: Threads + Wait + Judge + Sync>(
     rt: &H,
     workers: Vec<Recorder<W>>,
 ) {
@@ -155,8 +155,8 @@ pub(crate) fn crowd<W: Worker, H: Threads + Wait + Abort + Sync>(
         makes_and_ends(rt, &mut one);
         one
     };
-    let mut workers = thread::map_vec(rt, workers, act).expect(rt, "memory");
-    let mut first = workers.pop().expect(rt, "a worker");
+    let mut workers = rt.expect(thread::map_vec(rt, workers, act), "memory");
+    let mut first = present(rt, workers.pop(), "a worker");
     for other in workers {
         first.take_over(rt, other);
     }

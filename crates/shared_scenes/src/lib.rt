@@ -5,6 +5,7 @@
 
 mod beside;
 mod gates;
+mod judge;
 mod places;
 mod recorder;
 mod rows;
@@ -13,6 +14,7 @@ mod unshared;
 mod waking;
 mod workers;
 
+pub use crate::judge::Judge;
 pub use crate::scenes::{Scenario, play};
 pub use crate::unshared::live;
 pub use crate::waking::Freeing;

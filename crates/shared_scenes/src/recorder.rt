@@ -1,6 +1,7 @@
 //! Workers that know what the history must have of them. Each call is answered as its scenario
 //! says, or the test ends; where memory lacks, it is called a second time.
 
+use crate::judge::{Judge, present};
 use crate::workers::{MadeOrBack, Worker};
 use generational_box::{
     BaseRow, BorrowError, BorrowMutError, BorrowMutResult, BorrowResult, GenerationalBox,
@@ -9,8 +10,6 @@ use generational_box::{
 };
 use generational_sync::{Base, Kind, Step, StepReply};
 use std::alloc::Global;
-use std::fmt::Debug;
-use std::process::Abort;
 use std::sync::Wait;
 use std::thread;
 
@@ -43,31 +42,31 @@ impl<W: Worker> Recorder<W> {
     }
 
     // That a call is this step.
-    fn record(&mut self, rt: &impl Abort, call: StepCall, reply: StepReply) {
+    fn record(&mut self, rt: &impl Judge, call: StepCall, reply: StepReply) {
         let step = Step {
             worker: self.worker.number(),
             call,
             reply,
         };
         if self.steps.push(step).is_err() {
-            assert!(rt; self.steps.push(step).is_ok());
+            rt.demand(self.steps.push(step).is_ok(), "no memory for a step");
         }
     }
 
     // That a call found no memory, and is called again.
-    fn lacks(&mut self, rt: &impl Abort, cause: StoreError) {
-        assert_same(rt, &cause, &StoreError::OutOfMemory);
+    fn lacks(&mut self, rt: &impl Judge, cause: StoreError) {
+        rt.compare(&cause, &StoreError::OutOfMemory);
         self.lacks = self.lacks.wrapping_add(1);
     }
 
     // The box that was made.
     fn made(
         &mut self,
-        rt: &impl Abort,
+        rt: &impl Judge,
         call: StepCall,
         answer: MadeOrBack,
     ) -> GenerationalBox<String> {
-        let made = answer.map_err(|refusal| refusal.cause).expect(rt, "a box");
+        let made = rt.expect(answer.map_err(|refusal| refusal.cause), "a box");
         self.record(rt, call, StepReply::Made(made.pointer()));
         made
     }
@@ -76,11 +75,11 @@ impl<W: Worker> Recorder<W> {
     // scenarios make shared values where no slot is free.
     fn made_shared(
         &mut self,
-        rt: &impl Abort,
+        rt: &impl Judge,
         call: StepCall,
         answer: MadeOrBack,
     ) -> GenerationalBox<String> {
-        let made = answer.map_err(|refusal| refusal.cause).expect(rt, "a box");
+        let made = rt.expect(answer.map_err(|refusal| refusal.cause), "a box");
         let mut cell: GenerationalBoxId = made.id();
         cell.slot = cell.slot.wrapping_sub(1);
         self.record(rt, call, StepReply::MadeShared(cell, made.pointer()));
@@ -89,7 +88,7 @@ impl<W: Worker> Recorder<W> {
 
     pub(crate) fn leak(
         &mut self,
-        rt: &(impl Wait + Abort),
+        rt: &(impl Wait + Judge),
         value: &str,
         at: Location,
     ) -> GenerationalBox<String> {
@@ -106,7 +105,7 @@ impl<W: Worker> Recorder<W> {
 
     pub(crate) fn leak_rc(
         &mut self,
-        rt: &(impl Wait + Abort),
+        rt: &(impl Wait + Judge),
         value: &str,
         at: Location,
     ) -> GenerationalBox<String> {
@@ -117,16 +116,16 @@ impl<W: Worker> Recorder<W> {
 
     pub(crate) fn leak_reference(
         &mut self,
-        rt: &(impl Wait + Abort),
+        rt: &(impl Wait + Judge),
         of: GenerationalBox<String>,
     ) -> GenerationalBox<String> {
-        let made = self.worker.leak_reference(rt, of).expect(rt, "a reference");
+        let made = rt.expect(self.worker.leak_reference(rt, of), "a reference");
         let call = StepCall::LeakReference(of.pointer());
         self.record(rt, call, StepReply::Made(made.pointer()));
         made
     }
 
-    pub(crate) fn owner(&mut self, rt: &(impl Wait + Abort)) -> Owner {
+    pub(crate) fn owner(&mut self, rt: &(impl Wait + Judge)) -> Owner {
         let answer = match self.worker.owner(rt) {
             Err(cause) => {
                 self.lacks(rt, cause);
@@ -134,12 +133,12 @@ impl<W: Worker> Recorder<W> {
             }
             owner => owner,
         };
-        let owner = answer.expect(rt, "an owner");
+        let owner = rt.expect(answer, "an owner");
         self.record(rt, StepCall::Owner, StepReply::Owner(owner.id()));
         owner
     }
 
-    pub(crate) fn clone_owner(&mut self, rt: &(impl Wait + Abort), owner: &Owner) -> Owner {
+    pub(crate) fn clone_owner(&mut self, rt: &(impl Wait + Judge), owner: &Owner) -> Owner {
         let answer = match self.worker.clone_owner(rt, owner) {
             Err(cause) => {
                 self.lacks(rt, cause);
@@ -149,12 +148,12 @@ impl<W: Worker> Recorder<W> {
         };
         let call = StepCall::CloneOwner(owner.id());
         self.record(rt, call, StepReply::Owner(owner.id()));
-        answer.expect(rt, "an owner")
+        rt.expect(answer, "an owner")
     }
 
     pub(crate) fn insert(
         &mut self,
-        rt: &(impl Wait + Abort),
+        rt: &(impl Wait + Judge),
         owner: &Owner,
         value: &str,
         at: Location,
@@ -172,7 +171,7 @@ impl<W: Worker> Recorder<W> {
 
     pub(crate) fn insert_rc(
         &mut self,
-        rt: &(impl Wait + Abort),
+        rt: &(impl Wait + Judge),
         owner: &Owner,
         value: &str,
         at: Location,
@@ -184,12 +183,12 @@ impl<W: Worker> Recorder<W> {
 
     pub(crate) fn insert_reference(
         &mut self,
-        rt: &(impl Wait + Abort),
+        rt: &(impl Wait + Judge),
         owner: &Owner,
         of: GenerationalBox<String>,
     ) -> GenerationalBox<String> {
         let answer = self.worker.insert_reference(rt, owner, of);
-        let made = answer.expect(rt, "a reference");
+        let made = rt.expect(answer, "a reference");
         let call = StepCall::InsertReference(owner.id(), of.pointer());
         self.record(rt, call, StepReply::Made(made.pointer()));
         made
@@ -198,7 +197,7 @@ impl<W: Worker> Recorder<W> {
     // What a read answers that found memory, called by either name.
     fn asks_to_read(
         &mut self,
-        rt: &(impl Wait + Abort),
+        rt: &(impl Wait + Judge),
         asked: GenerationalBox<String>,
         at: Location,
     ) -> BorrowResult<GenerationalRef<String>> {
@@ -214,12 +213,12 @@ impl<W: Worker> Recorder<W> {
     // The guard that a read gave.
     fn reader(
         &mut self,
-        rt: &impl Abort,
+        rt: &impl Judge,
         asked: GenerationalBox<String>,
         at: Location,
         answer: BorrowResult<GenerationalRef<String>>,
     ) -> GenerationalRef<String> {
-        let guard = answer.expect(rt, "a guard");
+        let guard = rt.expect(answer, "a guard");
         let call = StepCall::Read(asked.pointer(), at);
         self.record(rt, call, StepReply::Reader(guard.ticket()));
         guard
@@ -228,7 +227,7 @@ impl<W: Worker> Recorder<W> {
     /// Begins a read, which is released by `release`.
     pub(crate) fn begin(
         &mut self,
-        rt: &(impl Wait + Abort),
+        rt: &(impl Wait + Judge),
         asked: GenerationalBox<String>,
         at: Location,
     ) -> GenerationalRef<String> {
@@ -237,16 +236,16 @@ impl<W: Worker> Recorder<W> {
     }
 
     /// Ends a read.
-    pub(crate) fn release(&mut self, rt: &(impl Wait + Abort), guard: GenerationalRef<String>) {
+    pub(crate) fn release(&mut self, rt: &(impl Wait + Judge), guard: GenerationalRef<String>) {
         let call = StepCall::ReleaseRead(guard.ticket());
-        assert!(rt; self.worker.release_read(rt, guard));
+        rt.demand(self.worker.release_read(rt, guard), "an unknown reader");
         self.record(rt, call, StepReply::Done);
     }
 
     /// Reads a value, and releases the guard.
     pub(crate) fn reads(
         &mut self,
-        rt: &(impl Wait + Abort),
+        rt: &(impl Wait + Judge),
         asked: GenerationalBox<String>,
         at: Location,
         value: &str,
@@ -259,7 +258,7 @@ impl<W: Worker> Recorder<W> {
     /// The same, by the other name.
     pub(crate) fn reads_by_name(
         &mut self,
-        rt: &(impl Wait + Abort),
+        rt: &(impl Wait + Judge),
         asked: GenerationalBox<String>,
         at: Location,
         value: &str,
@@ -273,29 +272,29 @@ impl<W: Worker> Recorder<W> {
     /// Asserts that a guard opens this value.
     pub(crate) fn assert_opens(
         &self,
-        rt: &(impl Wait + Abort),
+        rt: &(impl Wait + Judge),
         guard: &GenerationalRef<String>,
         value: &str,
     ) {
-        assert!(rt; self.worker.opens(rt, guard, value));
+        rt.demand(self.worker.opens(rt, guard, value), "another value");
     }
 
     /// A read of a box that reaches nothing, and was made at this location.
     pub(crate) fn finds_dropped(
         &mut self,
-        rt: &(impl Wait + Abort),
+        rt: &(impl Wait + Judge),
         asked: GenerationalBox<String>,
         at: Location,
         made: Location,
     ) {
         match self.asks_to_read(rt, asked, at) {
             Err(Refused::Borrow(BorrowError::Dropped(error))) => {
-                assert_same(rt, &error.created_at(), &made);
+                rt.compare(&error.created_at(), &made);
             }
-            Err(_) => rt.abort(),
+            Err(_) => rt.stop("another refusal"),
             Ok(guard) => {
                 self.worker.release_read(rt, guard);
-                rt.abort()
+                rt.stop("a value that is read")
             }
         }
         let call = StepCall::Read(asked.pointer(), at);
@@ -305,12 +304,12 @@ impl<W: Worker> Recorder<W> {
     // The guard that a write gave.
     fn writer(
         &mut self,
-        rt: &impl Abort,
+        rt: &impl Judge,
         asked: GenerationalBox<String>,
         at: Location,
         answer: BorrowMutResult<GenerationalRefMut<String>>,
     ) -> GenerationalRefMut<String> {
-        let guard = answer.expect(rt, "a guard");
+        let guard = rt.expect(answer, "a guard");
         let call = StepCall::Write(asked.pointer(), at);
         self.record(rt, call, StepReply::Writer(guard.ticket()));
         guard
@@ -319,7 +318,7 @@ impl<W: Worker> Recorder<W> {
     /// Begins a write, which is released by `release_over`.
     pub(crate) fn begin_write(
         &mut self,
-        rt: &(impl Wait + Abort),
+        rt: &(impl Wait + Judge),
         asked: GenerationalBox<String>,
         at: Location,
     ) -> GenerationalRefMut<String> {
@@ -330,7 +329,7 @@ impl<W: Worker> Recorder<W> {
     /// The same, by the other name.
     pub(crate) fn begin_write_by_name(
         &mut self,
-        rt: &(impl Wait + Abort),
+        rt: &(impl Wait + Judge),
         asked: GenerationalBox<String>,
         at: Location,
     ) -> GenerationalRefMut<String> {
@@ -341,83 +340,91 @@ impl<W: Worker> Recorder<W> {
     /// Puts another value in the place of one, and ends the write.
     pub(crate) fn release_over(
         &mut self,
-        rt: &(impl Wait + Abort),
+        rt: &(impl Wait + Judge),
         mut guard: GenerationalRefMut<String>,
         old: &str,
         new: &str,
     ) {
         let before = guard.replace(text(rt, self.alloc, new));
-        assert!(rt; before.as_str() == old);
+        rt.demand(before.as_str() == old, "another value before");
         let call = StepCall::ReleaseWrite(guard.ticket());
-        assert!(rt; self.worker.release_write(rt, guard).is_ok());
+        rt.expect(self.worker.release_write(rt, guard), "a write that ends");
         self.record(rt, call, StepReply::Done);
     }
 
     pub(crate) fn set(
         &mut self,
-        rt: &(impl Wait + Abort),
+        rt: &(impl Wait + Judge),
         asked: GenerationalBox<String>,
         value: &str,
     ) {
         let value = text(rt, self.alloc, value);
-        assert!(rt; self.worker.set(rt, asked, value).is_ok());
+        let answer = self.worker.set(rt, asked, value);
+        rt.expect(
+            answer.map_err(|(_, refused)| refused),
+            "a value that is set",
+        );
         self.record(rt, StepCall::Set(asked.pointer()), StepReply::Done);
     }
 
     /// Sets a box that reaches nothing, and was made at this location. The value comes back.
     pub(crate) fn sets_dropped(
         &mut self,
-        rt: &(impl Wait + Abort),
+        rt: &(impl Wait + Judge),
         asked: GenerationalBox<String>,
         value: &str,
         made: Location,
     ) {
         let handed = text(rt, self.alloc, value);
-        let Err((mut back, mut refused)) = self.worker.set(rt, asked, handed) else {
-            rt.abort()
+        let answer = match self.worker.set(rt, asked, handed) {
+            Err((back, Refused::Store(cause))) => {
+                self.lacks(rt, cause);
+                self.worker.set(rt, asked, back)
+            }
+            answer => answer,
         };
-        if let Refused::Store(cause) = refused {
-            self.lacks(rt, cause);
-            let Err(again) = self.worker.set(rt, asked, back) else {
-                rt.abort()
-            };
-            (back, refused) = again;
-        }
-        assert!(rt; back.as_str() == value);
+        let (back, refused) = match answer {
+            Err(refusal) => refusal,
+            Ok(()) => rt.stop("a value that is set"),
+        };
+        rt.demand(back.as_str() == value, "another value back");
         let gone = BorrowMutError::Dropped(ValueDroppedError::new(made));
-        assert_same(rt, &refused, &Refused::Borrow(gone));
+        rt.compare(&refused, &Refused::Borrow(gone));
         let call = StepCall::Set(asked.pointer());
         self.record(rt, call, StepReply::Dropped(made));
     }
 
     /// Ends a box.
-    pub(crate) fn end(&mut self, rt: &(impl Wait + Abort), asked: GenerationalBox<String>) {
-        assert!(rt; self.worker.manually_drop(rt, asked).is_ok());
+    pub(crate) fn end(&mut self, rt: &(impl Wait + Judge), asked: GenerationalBox<String>) {
+        rt.expect(self.worker.manually_drop(rt, asked), "a box that ends");
         let call = StepCall::ManuallyDrop(asked.pointer());
         self.record(rt, call, StepReply::Done);
     }
 
     pub(crate) fn point_to(
         &mut self,
-        rt: &(impl Wait + Abort),
+        rt: &(impl Wait + Judge),
         asked: GenerationalBox<String>,
         other: GenerationalBox<String>,
     ) {
-        assert!(rt; self.worker.point_to(rt, asked, other).is_ok());
+        rt.expect(
+            self.worker.point_to(rt, asked, other),
+            "a box that is pointed",
+        );
         let call = StepCall::PointTo(asked.pointer(), other.pointer());
         self.record(rt, call, StepReply::Done);
     }
 
-    pub(crate) fn release_owner(&mut self, rt: &(impl Wait + Abort), owner: Owner) {
+    pub(crate) fn release_owner(&mut self, rt: &(impl Wait + Judge), owner: Owner) {
         let call = StepCall::ReleaseOwner(owner.id());
         if let Err((back, refused)) = self.worker.release_owner(rt, owner) {
             match refused {
                 Refused::Store(cause) => self.lacks(rt, cause),
-                Refused::Borrow(_) => rt.abort(),
+                Refused::Borrow(_) => rt.stop("a borrow in the way"),
             }
             if let Err((back, _)) = self.worker.release_owner(rt, back) {
                 back.leak();
-                rt.abort();
+                rt.stop("an owner refused twice")
             }
         }
         self.record(rt, call, StepReply::Done);
@@ -426,40 +433,46 @@ impl<W: Worker> Recorder<W> {
     /// A reader of another store, which isn't released, and opens nothing.
     pub(crate) fn refuses_reader(
         &mut self,
-        rt: &(impl Wait + Abort),
+        rt: &(impl Wait + Judge),
         guard: GenerationalRef<String>,
         value: &str,
     ) {
-        assert!(rt; !self.worker.opens(rt, &guard, value));
-        assert!(rt; !self.worker.release_read(rt, guard));
+        rt.demand(
+            !self.worker.opens(rt, &guard, value),
+            "a stranger that is opened",
+        );
+        rt.demand(
+            !self.worker.release_read(rt, guard),
+            "a stranger that is released",
+        );
     }
 
     /// A writer of another store, whose value comes back.
     pub(crate) fn refuses_writer(
         &mut self,
-        rt: &(impl Wait + Abort),
+        rt: &(impl Wait + Judge),
         guard: GenerationalRefMut<String>,
         value: &str,
     ) {
         match self.worker.release_write(rt, guard) {
-            Err(back) => assert!(rt; back.as_str() == value),
-            Ok(()) => rt.abort(),
+            Err(back) => rt.demand(back.as_str() == value, "another value back"),
+            Ok(()) => rt.stop("a stranger that is released"),
         }
     }
 
     /// Waits, for a bounded number of turns, until so many calls of the store wait.
-    pub(crate) fn waits_for(&self, rt: &(impl Wait + Abort), calls: usize) {
+    pub(crate) fn waits_for(&self, rt: &(impl Wait + Judge), calls: usize) {
         for _ in 0..TURNS {
             if self.worker.waiting(rt) == calls {
                 return;
             }
             thread::yield_now();
         }
-        assert!(rt; false, "no call waits");
+        rt.stop("no call waits")
     }
 
     /// Lets the history go, which had so many steps in all, and the steps of this worker with it.
-    pub(crate) fn trim(&mut self, rt: &(impl Wait + Abort), trimmed: u64) {
+    pub(crate) fn trim(&mut self, rt: &(impl Wait + Judge), trimmed: u64) {
         let answer = match self.worker.checkpoint(rt) {
             Err(cause) => {
                 self.lacks(rt, cause);
@@ -467,21 +480,21 @@ impl<W: Worker> Recorder<W> {
             }
             trimmed => trimmed,
         };
-        assert_same(rt, &answer, &Ok(trimmed));
+        rt.compare(&answer, &Ok(trimmed));
         self.steps.clear();
         self.trimmed = trimmed;
     }
 
     // The base and the history, once all other workers' counts were taken over.
-    fn history(&mut self, rt: &(impl Wait + Abort)) -> (Base, Vec<Step>) {
+    fn history(&mut self, rt: &(impl Wait + Judge)) -> (Base, Vec<Step>) {
         let (base, steps) = match self.worker.audit(rt) {
             Some(audit) => audit,
             None => {
                 self.lacks = self.lacks.wrapping_add(1);
-                self.worker.audit(rt).expect(rt, "an audit")
+                present(rt, self.worker.audit(rt), "an audit")
             }
         };
-        assert_same(rt, &base.trimmed(), &self.trimmed);
+        rt.compare(&base.trimmed(), &self.trimmed);
         (base, steps)
     }
 
@@ -489,35 +502,35 @@ impl<W: Worker> Recorder<W> {
     /// these rows, and that both have so many steps of each kind.
     pub(crate) fn assert_base(
         &mut self,
-        rt: &(impl Wait + Abort),
+        rt: &(impl Wait + Judge),
         (next, peak): (u64, usize),
         rows: &[BaseRow],
         kinds: [u64; 4],
     ) {
         let (base, steps) = self.history(rt);
-        assert_same(rt, &base.number(), &7);
-        assert_same(rt, &(base.next(), base.peak()), &(next, peak));
-        assert!(rt; base.rows() == rows);
+        rt.compare(&base.number(), &7);
+        rt.compare(&(base.next(), base.peak()), &(next, peak));
+        rt.demand(base.rows() == rows, "other rows");
         for (kind, wanted) in KINDS.into_iter().zip(kinds) {
             let later = steps.iter().filter(|step| step.kind() == kind).count();
-            assert_same(rt, &base.count(kind).wrapping_add(later as u64), &wanted);
+            rt.compare(&base.count(kind).wrapping_add(later as u64), &wanted);
         }
     }
 
     /// Takes over what another worker has counted, and its steps.
-    pub(crate) fn take_over(&mut self, rt: &impl Abort, other: Self) {
+    pub(crate) fn take_over(&mut self, rt: &impl Judge, other: Self) {
         let Recorder { worker, steps, .. } = other;
-        assert!(rt; self.worker.take_over(worker));
+        rt.demand(self.worker.take_over(worker), "counts of another store");
         for step in steps.iter() {
-            assert!(rt; self.steps.push(*step).is_ok());
+            rt.demand(self.steps.push(*step).is_ok(), "no memory for a step");
         }
     }
 
     /// Asserts that the history has each worker's steps in order, and no others. All workers'
     /// counts and steps were taken over.
-    pub(crate) fn audit(&mut self, rt: &(impl Wait + Abort), workers: usize) {
+    pub(crate) fn audit(&mut self, rt: &(impl Wait + Judge), workers: usize) {
         let (_, history) = self.history(rt);
-        assert_same(rt, &history.len(), &self.steps.len());
+        rt.compare(&history.len(), &self.steps.len());
         for worker in 0..workers {
             assert_recorded(rt, worker, history.as_slice(), self.steps.as_slice());
         }
@@ -525,7 +538,7 @@ impl<W: Worker> Recorder<W> {
 
     /// Asserts that too, and of each worker so many steps that made, lent, changed and were
     /// refused. Answers how often memory lacked.
-    pub(crate) fn finish(mut self, rt: &(impl Wait + Abort), kinds: &[[usize; 4]]) -> u64 {
+    pub(crate) fn finish(mut self, rt: &(impl Wait + Judge), kinds: &[[usize; 4]]) -> u64 {
         self.audit(rt, kinds.len());
         for (worker, counts) in kinds.iter().enumerate() {
             assert_kinds(rt, worker, self.steps.as_slice(), *counts);
@@ -535,34 +548,29 @@ impl<W: Worker> Recorder<W> {
 }
 
 // Asserts that a worker's steps in the history are those that are wanted, in order.
-fn assert_recorded(rt: &impl Abort, worker: usize, history: &[Step], wanted: &[Step]) {
+fn assert_recorded(rt: &impl Judge, worker: usize, history: &[Step], wanted: &[Step]) {
     let own = history.iter().filter(|step| step.worker == worker);
     let mut wanted = wanted.iter().filter(|step| step.worker == worker);
     for step in own {
-        assert_same(rt, &Some(step), &wanted.next());
+        rt.compare(&Some(step), &wanted.next());
     }
-    assert!(rt; wanted.next().is_none());
+    rt.demand(wanted.next().is_none(), "a step that lacks");
 }
 
 // Asserts that so many steps of a worker are of each kind: made, lent, changed, refused.
-fn assert_kinds(rt: &impl Abort, worker: usize, steps: &[Step], counts: [usize; 4]) {
+fn assert_kinds(rt: &impl Judge, worker: usize, steps: &[Step], counts: [usize; 4]) {
     for (kind, wanted) in KINDS.into_iter().zip(counts) {
         let found = steps
             .iter()
             .filter(|step| step.worker == worker && step.kind() == kind);
-        assert_same(rt, &found.count(), &wanted);
+        rt.compare(&found.count(), &wanted);
     }
 }
 
-/// Asserts that two values are the same. It is proved once for all types.
-pub(crate) fn assert_same<T: PartialEq + Debug>(rt: &impl Abort, found: &T, wanted: &T) {
-    assert_eq!(rt; *found, *wanted);
-}
-
 /// A text. Where memory lacks, it is asked for a second time.
-pub(crate) fn text(rt: &impl Abort, alloc: Global, letters: &str) -> String {
+pub(crate) fn text(rt: &impl Judge, alloc: Global, letters: &str) -> String {
     match String::from_str(alloc, letters) {
         Ok(text) => text,
-        Err(_) => String::from_str(alloc, letters).expect(rt, "a text"),
+        Err(_) => rt.expect(String::from_str(alloc, letters), "a text"),
     }
 }

@@ -1,23 +1,23 @@
 //! What one worker asks of a new store, and is answered; the history is the calls that it made, in
 //! order.
 
+use crate::judge::Judge;
 use crate::places::{made, made_later, read, read_later};
-use crate::recorder::{Recorder, assert_same, text};
+use crate::recorder::{Recorder, text};
 use crate::workers::Worker;
 use generational_box::{BaseRow, GenerationalBox, Storage, UnsyncStorage};
 use std::alloc::Global;
-use std::process::Abort;
 use std::sync::Wait;
 
 /// An owner's box ends with the last owner of its list, and is then neither read nor set.
-pub(crate) fn owners_end<W: Worker>(rt: &(impl Wait + Abort), mut one: Recorder<W>) -> u64 {
+pub(crate) fn owners_end<W: Worker>(rt: &(impl Wait + Judge), mut one: Recorder<W>) -> u64 {
     owners_box_ends(rt, &mut one);
     one.finish(rt, &[[4, 1, 3, 2]])
 }
 
 // The calls of that row; the box that is answered has another value, which stays.
 fn owners_box_ends<W: Worker>(
-    rt: &(impl Wait + Abort),
+    rt: &(impl Wait + Judge),
     one: &mut Recorder<W>,
 ) -> GenerationalBox<String> {
     let kept = one.leak(rt, "x", made());
@@ -34,14 +34,14 @@ fn owners_box_ends<W: Worker>(
 
 /// The same, with a read of the other value. Whichever one allocation is refused, each call is
 /// answered so when it is called again, and the history has no step of the refused call.
-pub(crate) fn memory_lacks<W: Worker>(rt: &(impl Wait + Abort), mut one: Recorder<W>) -> u64 {
+pub(crate) fn memory_lacks<W: Worker>(rt: &(impl Wait + Judge), mut one: Recorder<W>) -> u64 {
     let kept = owners_box_ends(rt, &mut one);
     one.reads(rt, kept, read_later(), "x");
     one.finish(rt, &[[4, 2, 4, 2]])
 }
 
 /// A reference is pointed elsewhere, and what it leads to is written through either box.
-pub(crate) fn references_turn<W: Worker>(rt: &(impl Wait + Abort), mut one: Recorder<W>) -> u64 {
+pub(crate) fn references_turn<W: Worker>(rt: &(impl Wait + Judge), mut one: Recorder<W>) -> u64 {
     let owner = one.owner(rt);
     let shared = one.insert_rc(rt, &owner, "a", made());
     let turned = one.insert_reference(rt, &owner, shared);
@@ -58,7 +58,7 @@ pub(crate) fn references_turn<W: Worker>(rt: &(impl Wait + Abort), mut one: Reco
 }
 
 /// A value of an owner is read.
-pub(crate) fn value_is_read<W: Worker>(rt: &(impl Wait + Abort), mut one: Recorder<W>) -> u64 {
+pub(crate) fn value_is_read<W: Worker>(rt: &(impl Wait + Judge), mut one: Recorder<W>) -> u64 {
     let owner = one.owner(rt);
     let owned = one.insert(rt, &owner, "1", made());
     one.reads(rt, owned, read(), "1");
@@ -67,7 +67,7 @@ pub(crate) fn value_is_read<W: Worker>(rt: &(impl Wait + Abort), mut one: Record
 }
 
 /// A value outlives its owner where the owner is leaked.
-pub(crate) fn owner_leaks<W: Worker>(rt: &(impl Wait + Abort), mut one: Recorder<W>) -> u64 {
+pub(crate) fn owner_leaks<W: Worker>(rt: &(impl Wait + Judge), mut one: Recorder<W>) -> u64 {
     let owner = one.owner(rt);
     let owned = one.insert(rt, &owner, "hello world", made());
     owner.leak();
@@ -76,7 +76,7 @@ pub(crate) fn owner_leaks<W: Worker>(rt: &(impl Wait + Abort), mut one: Recorder
 }
 
 /// A value ends with its owner.
-pub(crate) fn value_ends<W: Worker>(rt: &(impl Wait + Abort), mut one: Recorder<W>) -> u64 {
+pub(crate) fn value_ends<W: Worker>(rt: &(impl Wait + Judge), mut one: Recorder<W>) -> u64 {
     let owner = one.owner(rt);
     let owned = one.insert(rt, &owner, "1", made());
     one.release_owner(rt, owner);
@@ -85,30 +85,26 @@ pub(crate) fn value_ends<W: Worker>(rt: &(impl Wait + Abort), mut one: Recorder<
 }
 
 /// A slot is used again at its next generation.
-pub(crate) fn slot_is_reused<W: Worker>(rt: &(impl Wait + Abort), mut one: Recorder<W>) -> u64 {
+pub(crate) fn slot_is_reused<W: Worker>(rt: &(impl Wait + Judge), mut one: Recorder<W>) -> u64 {
     let owner = one.owner(rt);
     let first = one.insert(rt, &owner, "1", made());
     one.release_owner(rt, owner);
     let owner = one.owner(rt);
     let second = one.insert(rt, &owner, "1234", made());
-    assert_same(rt, &(first.raw_ptr(), second.raw_ptr()), &(0, 0));
-    assert_same(
-        rt,
-        &(first.id().generation, second.id().generation),
-        &(1, 2),
-    );
-    assert!(rt; !first.ptr_eq(&second));
+    rt.compare(&(first.raw_ptr(), second.raw_ptr()), &(0, 0));
+    rt.compare(&(first.id().generation, second.id().generation), &(1, 2));
+    rt.demand(!first.ptr_eq(&second), "the same box");
     one.release_owner(rt, owner);
     one.finish(rt, &[[4, 0, 2, 0]])
 }
 
 /// A shared value outlives the owner by which it was made, and ends with its last reference.
-pub(crate) fn references_count<W: Worker>(rt: &(impl Wait + Abort), mut one: Recorder<W>) -> u64 {
+pub(crate) fn references_count<W: Worker>(rt: &(impl Wait + Judge), mut one: Recorder<W>) -> u64 {
     let outer = one.owner(rt);
     let inner = one.owner(rt);
     let shared = one.insert_rc(rt, &inner, "hello world", made());
     let reference = one.insert_reference(rt, &outer, shared);
-    assert_same(rt, &reference.created_at(), &made());
+    rt.compare(&reference.created_at(), &made());
     one.release_owner(rt, inner);
     one.reads(rt, reference, read(), "hello world");
     one.release_owner(rt, outer);
@@ -117,7 +113,7 @@ pub(crate) fn references_count<W: Worker>(rt: &(impl Wait + Abort), mut one: Rec
 }
 
 /// A reference that is pointed elsewhere reads the other value, and ends with its own owner.
-pub(crate) fn reference_moves<W: Worker>(rt: &(impl Wait + Abort), mut one: Recorder<W>) -> u64 {
+pub(crate) fn reference_moves<W: Worker>(rt: &(impl Wait + Judge), mut one: Recorder<W>) -> u64 {
     let first = one.owner(rt);
     let original = one.insert_rc(rt, &first, "hello world", made());
     let reference = one.insert_reference(rt, &first, original);
@@ -136,7 +132,7 @@ pub(crate) fn reference_moves<W: Worker>(rt: &(impl Wait + Abort), mut one: Reco
 
 /// A guard opens its value while another is made by the same owner.
 pub(crate) fn value_is_made_beside<W: Worker>(
-    rt: &(impl Wait + Abort),
+    rt: &(impl Wait + Judge),
     mut one: Recorder<W>,
 ) -> u64 {
     let owner = one.owner(rt);
@@ -151,7 +147,7 @@ pub(crate) fn value_is_made_beside<W: Worker>(
 }
 
 /// A base has what stands, a reader or a writer too, and nothing else.
-pub(crate) fn bases_have_borrows<W: Worker>(rt: &(impl Wait + Abort), mut one: Recorder<W>) -> u64 {
+pub(crate) fn bases_have_borrows<W: Worker>(rt: &(impl Wait + Judge), mut one: Recorder<W>) -> u64 {
     one.assert_base(rt, (0, 0), &[], [0, 0, 0, 0]);
     let kept = one.leak(rt, "x", made());
     let id = kept.id();
@@ -172,7 +168,7 @@ pub(crate) fn bases_have_borrows<W: Worker>(rt: &(impl Wait + Abort), mut one: R
 
 /// A history is let go while a reader stands. The guard opens the value still, and the history has
 /// what comes later.
-pub(crate) fn history_is_trimmed<W: Worker>(rt: &(impl Wait + Abort), mut one: Recorder<W>) -> u64 {
+pub(crate) fn history_is_trimmed<W: Worker>(rt: &(impl Wait + Judge), mut one: Recorder<W>) -> u64 {
     let kept = one.leak(rt, "x", made());
     let owner = one.owner(rt);
     let guard = one.begin(rt, kept, read());
@@ -187,7 +183,7 @@ pub(crate) fn history_is_trimmed<W: Worker>(rt: &(impl Wait + Abort), mut one: R
 /// Boxes and guards of another store are strangers here, also where the slot, the generation and
 /// the ticket are those of a reader of this one.
 pub(crate) fn strangers_come<W: Worker>(
-    rt: &(impl Wait + Abort),
+    rt: &(impl Wait + Judge),
     alloc: Global,
     mut one: Recorder<W>,
 ) -> u64 {
@@ -198,11 +194,11 @@ pub(crate) fn strangers_come<W: Worker>(
     one.finds_dropped(rt, strange, read(), made_later());
     one.end(rt, strange);
     one.sets_dropped(rt, strange, "v", made_later());
-    let reader = strange.try_read(&mut other, read()).expect(rt, "a guard");
-    assert_same(rt, &reader.ticket(), &guard.ticket());
+    let reader = rt.expect(strange.try_read(&mut other, read()), "a guard");
+    rt.compare(&reader.ticket(), &guard.ticket());
     one.refuses_reader(rt, reader, "own");
     let written = strange_box(rt, alloc, &mut other);
-    let writer = written.try_write(&mut other, read()).expect(rt, "a guard");
+    let writer = rt.expect(written.try_write(&mut other, read()), "a guard");
     one.refuses_writer(rt, writer, "strange");
     one.assert_opens(rt, &guard, "own");
     one.release(rt, guard);
@@ -211,11 +207,11 @@ pub(crate) fn strangers_come<W: Worker>(
 
 /// A box of the store with number 8.
 pub(crate) fn strange_box(
-    rt: &impl Abort,
+    rt: &impl Judge,
     alloc: Global,
     store: &mut UnsyncStorage<String>,
 ) -> GenerationalBox<String> {
     let value = text(rt, alloc, "strange");
     let made = GenerationalBox::leak(store, value, made_later());
-    made.map_err(|refusal| refusal.cause).expect(rt, "a box")
+    rt.expect(made.map_err(|refusal| refusal.cause), "a box")
 }

@@ -1,13 +1,13 @@
 //! What the workers of a new store do.
 
 use crate::beside::{crowd, read_beside, write_beside};
+use crate::judge::{Judge, present};
 use crate::recorder::Recorder;
 use crate::rows::*;
 use crate::waking::{Freeing, trim_beside, wake_after, wake_all};
 use crate::workers::Worker;
 use generational_box::StoreError;
 use std::alloc::Global;
-use std::process::Abort;
 use std::sync::Wait;
 use std::thread::Threads;
 
@@ -37,7 +37,7 @@ pub enum Scenario {
 }
 
 /// Lets the workers act, each of which records its steps. Answers how often memory lacked.
-pub fn play<W: Worker, H: Threads + Wait + Abort + Sync>(
+pub fn play<W: Worker, H: Threads + Wait + Judge + Sync>(
     rt: &H,
     alloc: Global,
     workers: Vec<W>,
@@ -53,7 +53,7 @@ pub fn play<W: Worker, H: Threads + Wait + Abort + Sync>(
 }
 
 // Lets the workers act, and answers how often memory lacked for one alone.
-fn act<W: Worker, H: Threads + Wait + Abort + Sync>(
+fn act<W: Worker, H: Threads + Wait + Judge + Sync>(
     rt: &H,
     alloc: Global,
     mut workers: Vec<Recorder<W>>,
@@ -63,7 +63,7 @@ fn act<W: Worker, H: Threads + Wait + Abort + Sync>(
         crowd(rt, workers);
         return 0;
     }
-    let last = workers.pop().expect(rt, "a worker");
+    let last = present(rt, workers.pop(), "a worker");
     match scenario {
         Scenario::OwnersEnd => owners_end(rt, last),
         Scenario::MemoryLacks => memory_lacks(rt, last),
@@ -86,20 +86,20 @@ fn act<W: Worker, H: Threads + Wait + Abort + Sync>(
 }
 
 // Lets several workers act in threads.
-fn act_beside<W: Worker, H: Threads + Wait + Abort + Sync>(
+fn act_beside<W: Worker, H: Threads + Wait + Judge + Sync>(
     rt: &H,
     alloc: Global,
     mut workers: Vec<Recorder<W>>,
     last: Recorder<W>,
     scenario: Scenario,
 ) {
-    let before = workers.pop().expect(rt, "two workers");
+    let before = present(rt, workers.pop(), "two workers");
     match scenario {
         Scenario::ReadBeside => read_beside(rt, alloc, before, last),
         Scenario::WriteBeside => write_beside(rt, before, last),
         Scenario::TrimBeside => trim_beside(rt, before, last),
         _ => {
-            let first = workers.pop().expect(rt, "three workers");
+            let first = present(rt, workers.pop(), "three workers");
             match scenario {
                 Scenario::Wake(step) => wake_after(rt, alloc, first, before, last, step),
                 _ => wake_all(rt, first, before, last),

@@ -1,61 +1,63 @@
 //! What lies under the lock, called without threads.
 
+use crate::judge::Judge;
 use crate::places::{made as leaked_at, read as read_at};
 use crate::recorder::text;
 use generational_box::{GenerationalBox, GenerationalRef, StepCall};
 use generational_sync::{Count, SyncState, Tally};
 use std::alloc::Global;
-use std::process::Abort;
 
 // Makes a box of `hello`.
 fn leak<A: Count, B: Count, C: Count, D: Count>(
-    rt: &impl Abort,
+    rt: &impl Judge,
     alloc: Global,
     state: &mut SyncState<String, 7, A, B, C, D>,
     tally: &mut Tally<A, B, C, D>,
 ) -> GenerationalBox<String> {
     let made = state.leak(text(rt, alloc, "hello"), leaked_at(), tally);
-    made.map_err(|refusal| refusal.cause).expect(rt, "a box")
+    rt.expect(made.map_err(|refusal| refusal.cause), "a box")
 }
 
 // Begins a read, which nothing hinders.
 fn begin<A: Count, B: Count, C: Count, D: Count>(
-    rt: &impl Abort,
+    rt: &impl Judge,
     state: &mut SyncState<String, 7, A, B, C, D>,
     tally: &mut Tally<A, B, C, D>,
     asked: GenerationalBox<String>,
 ) -> GenerationalRef<String> {
-    assert!(rt; state.ready(&StepCall::Read(asked.pointer(), read_at())));
+    let call = StepCall::Read(asked.pointer(), read_at());
+    rt.demand(state.ready(&call), "a read that waits");
     let guard = state.try_read(asked, read_at(), tally);
-    guard.expect(rt, "a guard")
+    rt.expect(guard, "a guard")
 }
 
 // Ends a box, which nothing hinders.
 fn end<A: Count, B: Count, C: Count, D: Count>(
-    rt: &impl Abort,
+    rt: &impl Judge,
     state: &mut SyncState<String, 7, A, B, C, D>,
     tally: &mut Tally<A, B, C, D>,
     asked: GenerationalBox<String>,
 ) {
-    assert!(rt; state.ready(&StepCall::ManuallyDrop(asked.pointer())));
-    let ended = state.manually_drop(asked, tally);
-    assert!(rt; ended.is_ok());
+    let call = StepCall::ManuallyDrop(asked.pointer());
+    rt.demand(state.ready(&call), "an end that waits");
+    rt.expect(state.manually_drop(asked, tally), "a box that ends");
 }
 
 // Asserts that a guard opens `hello`.
 fn assert_opens<A: Count, B: Count, C: Count, D: Count>(
-    rt: &impl Abort,
+    rt: &impl Judge,
     state: &SyncState<String, 7, A, B, C, D>,
     guard: &GenerationalRef<String>,
 ) {
     let opened = state.open(guard);
-    assert!(rt; opened.is_some_and(|text| text.as_str() == "hello"));
+    let opens = opened.is_some_and(|text| text.as_str() == "hello");
+    rt.demand(opens, "another value");
 }
 
 /// Makes a box, reads it twice and ends it, by the calls that lie under the lock. A reader hinders
 /// the end.
 pub fn live<A: Count, B: Count, C: Count, D: Count>(
-    rt: &impl Abort,
+    rt: &impl Judge,
     alloc: Global,
     state: &mut SyncState<String, 7, A, B, C, D>,
     tally: &mut Tally<A, B, C, D>,
@@ -64,8 +66,9 @@ pub fn live<A: Count, B: Count, C: Count, D: Count>(
     let guard = begin(rt, state, tally, made);
     let beside = begin(rt, state, tally, made);
     assert_opens(rt, state, &guard);
-    assert!(rt; state.release_read(beside, tally));
-    assert!(rt; !state.ready(&StepCall::ManuallyDrop(made.pointer())));
-    assert!(rt; state.release_read(guard, tally));
+    rt.demand(state.release_read(beside, tally), "an unknown reader");
+    let call = StepCall::ManuallyDrop(made.pointer());
+    rt.demand(!state.ready(&call), "an end that waits for nobody");
+    rt.demand(state.release_read(guard, tally), "an unknown reader");
     end(rt, state, tally, made);
 }

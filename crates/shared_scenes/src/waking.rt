@@ -6,12 +6,12 @@
 //! the step is soon one that comes too early.
 
 use crate::gates::Gate;
+use crate::judge::{Judge, present};
 use crate::places::{made, made_later, read, read_later};
 use crate::recorder::Recorder;
 use crate::workers::Worker;
 use generational_box::GenerationalBox;
 use std::alloc::Global;
-use std::process::Abort;
 use std::sync::{Mutex, Wait};
 use std::thread;
 use std::thread::Threads;
@@ -56,7 +56,7 @@ impl Rounds {
     // Lets the other worker call something of this box, and goes on once that call waits.
     fn send_to_sleep<W: Worker>(
         &self,
-        rt: &(impl Wait + Abort),
+        rt: &(impl Wait + Judge),
         one: &Recorder<W>,
         asked: GenerationalBox<String>,
     ) {
@@ -66,14 +66,14 @@ impl Rounds {
     }
 
     // The box to call something of.
-    fn asked(&self, rt: &(impl Wait + Abort)) -> GenerationalBox<String> {
-        assert!(rt; self.begun.passes(), "not begun");
-        self.asked.lock(rt).take().expect(rt, "a box")
+    fn asked(&self, rt: &(impl Wait + Judge)) -> GenerationalBox<String> {
+        rt.demand(self.begun.passes(), "not begun");
+        present(rt, self.asked.lock(rt).take(), "a box is asked for")
     }
 
     // Goes on once the call that waited was answered.
-    fn assert_answered(&self, rt: &impl Abort) {
-        assert!(rt; self.answered.passes(), "the call was not woken");
+    fn assert_answered(&self, rt: &impl Judge) {
+        rt.demand(self.answered.passes(), "the call was not woken");
     }
 }
 
@@ -86,7 +86,7 @@ struct Values {
 
 // Writes a shared value, while the other worker waits to read a reference to it.
 fn frees_a_read<W: Worker>(
-    rt: &(impl Wait + Abort),
+    rt: &(impl Wait + Judge),
     one: &mut Recorder<W>,
     values: Values,
     step: Freeing,
@@ -119,7 +119,7 @@ fn frees_a_read<W: Worker>(
 
 // Reads a shared value by its only reference, while the other worker waits to end that.
 fn frees_an_end<W: Worker>(
-    rt: &(impl Wait + Abort),
+    rt: &(impl Wait + Judge),
     one: &mut Recorder<W>,
     values: Values,
     step: Freeing,
@@ -151,7 +151,7 @@ fn frees_an_end<W: Worker>(
 
 // Takes the step that frees the call in each round.
 fn frees_each<W: Worker>(
-    rt: &(impl Wait + Abort),
+    rt: &(impl Wait + Judge),
     one: &mut Recorder<W>,
     values: &[Values],
     step: Freeing,
@@ -170,7 +170,7 @@ fn frees_each<W: Worker>(
 
 // Makes the call that waits in each round.
 fn waits_in_each<W: Worker>(
-    rt: &(impl Wait + Abort),
+    rt: &(impl Wait + Judge),
     two: &mut Recorder<W>,
     step: Freeing,
     rounds: &Rounds,
@@ -191,7 +191,7 @@ fn waits_in_each<W: Worker>(
 
 // Takes the lock again and again.
 fn crowds<W: Worker>(
-    rt: &(impl Wait + Abort),
+    rt: &(impl Wait + Judge),
     three: &mut Recorder<W>,
     calm: GenerationalBox<String>,
     rounds: &Rounds,
@@ -207,7 +207,7 @@ fn crowds<W: Worker>(
 }
 
 /// Each round a call waits until one step frees it.
-pub(crate) fn wake_after<W: Worker, H: Threads + Wait + Abort + Sync>(
+pub(crate) fn wake_after<W: Worker, H: Threads + Wait + Judge + Sync>(
     rt: &H,
     alloc: Global,
     mut first: Recorder<W>,
@@ -220,7 +220,7 @@ pub(crate) fn wake_after<W: Worker, H: Threads + Wait + Abort + Sync>(
     for _ in 0..ROUNDS {
         let shared = first.leak_rc(rt, "shared", made());
         let other = first.leak_rc(rt, "other", made_later());
-        assert!(rt; values.push(Values { shared, other }).is_ok());
+        rt.demand(values.push(Values { shared, other }).is_ok(), "no memory");
     }
     let values = values.as_slice();
     let rounds = Rounds::new();
@@ -240,7 +240,7 @@ pub(crate) fn wake_after<W: Worker, H: Threads + Wait + Abort + Sync>(
 
 // Writes the value until two calls wait, and releases it.
 fn frees_two_reads<W: Worker>(
-    rt: &(impl Wait + Abort),
+    rt: &(impl Wait + Judge),
     one: &mut Recorder<W>,
     asked: GenerationalBox<String>,
     rounds: &Rounds,
@@ -258,21 +258,21 @@ fn frees_two_reads<W: Worker>(
 
 // Reads the value once it isn't written any more, and until the other read was answered too.
 fn reads_once_released<W: Worker>(
-    rt: &(impl Wait + Abort),
+    rt: &(impl Wait + Judge),
     one: &mut Recorder<W>,
     asked: GenerationalBox<String>,
     rounds: &Rounds,
 ) {
-    assert!(rt; rounds.begun.passes(), "not begun");
+    rt.demand(rounds.begun.passes(), "not begun");
     let guard = one.begin(rt, asked, read_later());
     one.assert_opens(rt, &guard, "new");
     rounds.answered.arrive();
-    assert!(rt; rounds.over.passes(), "not over");
+    rt.demand(rounds.over.passes(), "not over");
     one.release(rt, guard);
 }
 
 /// Two reads wait for one writer, and its release wakes both.
-pub(crate) fn wake_all<W: Worker, H: Threads + Wait + Abort + Sync>(
+pub(crate) fn wake_all<W: Worker, H: Threads + Wait + Judge + Sync>(
     rt: &H,
     mut first: Recorder<W>,
     mut second: Recorder<W>,
@@ -296,7 +296,7 @@ pub(crate) fn wake_all<W: Worker, H: Threads + Wait + Abort + Sync>(
 
 // Lets the history go while a call waits, which goes on to wait, and releases the value.
 fn trims_while_written<W: Worker>(
-    rt: &(impl Wait + Abort),
+    rt: &(impl Wait + Judge),
     one: &mut Recorder<W>,
     asked: GenerationalBox<String>,
     rounds: &Rounds,
@@ -312,7 +312,7 @@ fn trims_while_written<W: Worker>(
 }
 
 /// A read waits while the history is let go, and is answered once the writer is released.
-pub(crate) fn trim_beside<W: Worker, H: Threads + Wait + Abort + Sync>(
+pub(crate) fn trim_beside<W: Worker, H: Threads + Wait + Judge + Sync>(
     rt: &H,
     mut first: Recorder<W>,
     mut second: Recorder<W>,
