@@ -367,6 +367,19 @@ impl<W: Worker> Recorder<W> {
         self.record(rt, StepCall::Set(asked.pointer()), StepReply::Done);
     }
 
+    // The value back that wasn't set, and why.
+    fn refused_set(
+        &mut self,
+        rt: &(impl Wait + Judge),
+        asked: GenerationalBox<String>,
+        value: String,
+    ) -> (String, Refused<BorrowMutError>) {
+        match self.worker.set(rt, asked, value) {
+            Err(refusal) => refusal,
+            Ok(()) => rt.stop("a value that is set"),
+        }
+    }
+
     /// Sets a box that reaches nothing, and was made at this location. The value comes back.
     pub(crate) fn sets_dropped(
         &mut self,
@@ -376,17 +389,11 @@ impl<W: Worker> Recorder<W> {
         made: Location,
     ) {
         let handed = text(rt, self.alloc, value);
-        let answer = match self.worker.set(rt, asked, handed) {
-            Err((back, Refused::Store(cause))) => {
-                self.lacks(rt, cause);
-                self.worker.set(rt, asked, back)
-            }
-            answer => answer,
-        };
-        let (back, refused) = match answer {
-            Err(refusal) => refusal,
-            Ok(()) => rt.stop("a value that is set"),
-        };
+        let (mut back, mut refused) = self.refused_set(rt, asked, handed);
+        if let Refused::Store(cause) = refused {
+            self.lacks(rt, cause);
+            (back, refused) = self.refused_set(rt, asked, back);
+        }
         rt.demand(back.as_str() == value, "another value back");
         let gone = BorrowMutError::Dropped(ValueDroppedError::new(made));
         rt.compare(&refused, &Refused::Borrow(gone));

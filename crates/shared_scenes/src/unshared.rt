@@ -26,7 +26,9 @@ fn begin<A: Count, B: Count, C: Count, D: Count>(
     asked: GenerationalBox<String>,
 ) -> GenerationalRef<String> {
     let call = StepCall::Read(asked.pointer(), read_at());
-    rt.demand(state.ready(&call), "a read that waits");
+    if !state.ready(&call) {
+        return rt.stop("a read that waits");
+    }
     let guard = state.try_read(asked, read_at(), tally);
     rt.expect(guard, "a guard")
 }
@@ -39,7 +41,9 @@ fn end<A: Count, B: Count, C: Count, D: Count>(
     asked: GenerationalBox<String>,
 ) {
     let call = StepCall::ManuallyDrop(asked.pointer());
-    rt.demand(state.ready(&call), "an end that waits");
+    if !state.ready(&call) {
+        return rt.stop("an end that waits");
+    }
     rt.expect(state.manually_drop(asked, tally), "a box that ends");
 }
 
