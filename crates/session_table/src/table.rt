@@ -70,10 +70,11 @@ impl<T, S: Storage<T>> SessionTable<T, S> {
     /// Begins a session of an id, which was last used now and keeps nothing yet. Every entry shows
     /// what it showed, and every other session is as it was.
     ///
-    /// Refused, in this order: `IdInUse`, where the id has a session; `Store`, of `OutOfMemory` or,
-    /// where the store gave all its tickets, of `NumbersExhausted`: a login uses one. The table stays
-    /// as it was then. Takes memory where the rows have no room, and for the session's owner. O(n)
-    /// for n sessions.
+    /// Refused, in this order: `IdInUse`, where the id has a session; `Store` of `OutOfMemory`, where
+    /// the rows find no room; of `NumbersExhausted`, where the store gave all its tickets, of which a
+    /// login uses one; of `OutOfMemory`, where the session's owner finds no room. The table stays as
+    /// it was then. Takes memory where the rows have no room, and for the session's owner. O(n) for n
+    /// sessions.
     pub fn login(&mut self, id: u64, now: u64) -> Result<(), LoginError>
         ensures sessions { OnOk result (self.new.sessions ≡ self.old.sessions
             ++ record { id = id; used_at = now; entries = [] } ∷ []) }
