@@ -2,15 +2,16 @@
    allocation, the read of standard input or the write to a stream that REFUSE_ALLOCATION,
    REFUSE_READ or REFUSE_WRITE counts to, from 1. Zero, or nothing, refuses none. Where REFUSE_LESS
    is set, what is asked for next is refused too, as long as it is less each time and nothing is
-   read. REFUSE_BEYOND is how many bytes may be allocated at once: what would be more is refused.
-   Where it isn't set, a read of standard input gives one line at most. At the end, also by _exit,
-   the file REFUSE_REPORT is written: how many of each were asked for, whether one was refused, how
-   many bytes weren't given back, and how many there were at once. Threads may ask beside each
-   other. */
+   read; where REFUSE_ALL is, all that is asked for next. REFUSE_BEYOND is how many bytes may be
+   allocated at once: what would be more is refused. Where it isn't set, a read of standard input
+   gives one line at most. At the end, also by _exit, the file REFUSE_REPORT is written: how many of
+   each were asked for, whether one was refused, how many bytes weren't given back, and how many
+   there were at once. Threads may ask beside each other. */
 #define _GNU_SOURCE
 #include <errno.h>
 #include <fcntl.h>
 #include <malloc.h>
+#include <stdint.h>
 #include <stdio.h>
 #include <stdlib.h>
 #include <sys/syscall.h>
@@ -44,9 +45,10 @@ static int refuses(struct counter *counter, int cause) {
 }
 
 /* How many bytes are allocated now, how many were at once, how many may be, and how many the last
-   refusal was of, if nothing was given since and what is less is refused too. */
+   refusal was of, if nothing was given since and what is less is refused too. Where all is refused
+   from the first refusal on, the last counts for the largest. */
 static size_t live = 0, peak = 0, most = 0, last = 0;
-static int goes_on = 0;
+static int goes_on = 0, to_the_end = 0;
 
 /* Whether so many bytes are refused, where so many may be had beside those that are live. */
 static int has_no_room(size_t size, size_t beside) {
@@ -55,13 +57,14 @@ static int has_no_room(size_t size, size_t beside) {
     const char *beyond = getenv("REFUSE_BEYOND");
     most = beyond ? strtoull(beyond, NULL, 10) : 0;
     goes_on = getenv("REFUSE_LESS") != NULL;
+    to_the_end = getenv("REFUSE_ALL") != NULL;
     asked = 1;
   }
   if (!refuses(&allocations, ENOMEM) && size >= last && (!most || live + beside <= most)) {
     last = 0;
     return 0;
   }
-  last = goes_on ? size : 0;
+  last = to_the_end ? SIZE_MAX : goes_on ? size : 0;
   refused = 1;
   errno = ENOMEM;
   return 1;
@@ -109,7 +112,7 @@ int posix_memalign(void **made, size_t align, size_t size) {
 ssize_t read(int file, void *bytes, size_t room) {
   if (file != 0) return syscall(SYS_read, file, bytes, room);
   if (refuses(&reads, EIO)) return -1;
-  last = 0;
+  if (!to_the_end) last = 0;
   if (most) return syscall(SYS_read, file, bytes, room);
   char *at = bytes;
   size_t got = 0;

@@ -11,13 +11,19 @@ mark is `!` where the reply has memory of its own to ask for, so that one run or
 there, and a space where none is. For each N the row is run with the N-th allocation refused, and
 again with what is asked for next refused too, as long as it is less each time:
 
-- A command that is refused says so, and only a marked one may. Asked again in the next line it
+- A command that is refused says so, and only a marked one may. The lines after it are answered as
+  where it is no command: those that name it find no such thing. Asked again in the next line it
   gives the row's reply, and so does every other line: the refusal left nothing behind.
 - Where a line finds no memory before it is a command, the run ends with status 3 and its text,
   after the replies to all lines before.
 - Each marked command was refused in some run. How often each row is, the file `counts` says.
 - Where what is less is given, only readers beside others are refused, and refusals with a list: who
   is refused a step of room takes a smaller one.
+
+Then all that is asked for from the N-th allocation on is refused, for each N, and what is more than
+so many bytes at once, from as many as the row takes down to too few for a reply. More than one line
+may be refused so, and the others are answered as where all those are no commands. Some rows have
+replies that are wanted of one of these runs.
 
 Then each read and each write fails in turn: status 1, its text, and the replies to all lines before
 a read that failed; what was written is a beginning of the replies.
@@ -38,8 +44,9 @@ with status 0 or 3, and makes nearly as many values as fit.
 Long scripts of one kind of line ask for memory a limited number of times, and have so many bytes at once
 at most. Either limit is three times what they take: room grows by leaps, and by few at first.
 
-At the end a few wrong rows are made of one of these, and a program that is refused nothing, and one
-that keeps a byte, and more values are wanted than fit, and lower limits: all are found out.
+At the end a few wrong rows are made of one of these, and a program that is refused nothing, one to
+which a refused line gave something, and one that keeps a byte, and more values are wanted than fit,
+and lower limits: all are found out.
 """
 
 import os
@@ -47,7 +54,8 @@ import subprocess
 import sys
 import tempfile
 from dataclasses import dataclass
-from itertools import count
+from functools import cached_property
+from itertools import count, takewhile
 
 HERE = os.path.dirname(os.path.abspath(__file__))
 COUNTS = os.path.join(HERE, "counts")
@@ -93,6 +101,17 @@ FRUGAL_TESTS = {
 }
 MODULES = ("memory", "scarcity", "shortage")
 WRONG = "every_command.row"
+# A line that is no command, and in what steps a row has less and less memory, in bytes.
+BAD_LINE = "leek"
+STEP = 32
+# What a row is answered in some run with all memory refused from one allocation on: a reader beside another lacks it,
+# and none that is a value's only one.
+WITH_NONE = {
+    "first_readers.row": ["box 0@1", *["reader", "ok"] * 3, "reader", "false", REFUSED, "ok", "no such", "reader", "ok",
+                          "reader", "value a"],
+}
+# What a row is answered in some run with less memory than it takes: the second value finds no slot.
+WITH_LITTLE = {"two_values.row": ["box 0@1", REFUSED, "reader", "no such"]}
 # The C library keeps a thread's stack for the next one, with the vector of its own variables; and how many threads.
 OF_A_THREAD, THREADS = 296, 8
 
@@ -167,15 +186,62 @@ def script_of(lines):
     return "".join(line.command + "\n" for line in lines)
 
 
+def named(words):
+    """Where among the words of a command the numbers of lines stand."""
+    return range(1, 1 + NAMES.get(words[0], 0))
+
+
 def moved(line, at):
     """The line where those from the at-th on, counted from 1, stand two lines lower."""
     words, parts = line.command.split(" "), line.reply.split("script:")
-    for i in range(1, 1 + NAMES.get(words[0], 0)):
+    for i in named(words):
         words[i] = str(int(words[i]) + 2 * (int(words[i]) >= at))
     for i in range(1, len(parts)):
         number, rest = parts[i].split(":", 1)
         parts[i] = f"{int(number) + 2 * (int(number) >= at)}:{rest}"
     return Line(line.may_lack, " ".join(words), "script:".join(parts))
+
+
+def names_one_of(line, numbers):
+    words = line.command.split(" ")
+    return any(int(words[i]) in numbers for i in named(words))
+
+
+class Expected:
+    """The replies to a row's lines, by the numbers of those that are refused, from 1. A refused line gives nothing.
+    So the others are answered as where a line that is no command stands in its place, and there is no such thing as
+    it names."""
+
+    def __init__(self, program, row):
+        self.program, self.row = program, row
+        self.known = {frozenset(): [it.reply for it in row]}
+
+    def replies(self, refused):
+        if refused not in self.known:
+            lines = [Line(False, BAD_LINE, "") if i in refused else it for i, it in enumerate(self.row, start=1)]
+            output = self.program.run(script=script_of(lines)).output
+            self.known[refused] = [REFUSED if i in refused else it for i, it in enumerate(output, start=1)]
+        return self.known[refused]
+
+    def refused_by(self, run):
+        """The lines that were refused in a run, which may have ended for want of memory. Its replies are as expected."""
+        wanted((run.status, run.faults) in [(0, ""), (3, "boxes: out of memory\n")], f"its end: {run}")
+        wanted(run.status == 3 or len(run.output) == len(self.row), f"the number of replies: {run}")
+        refused = [i for i, it in enumerate(run.output, start=1) if it == REFUSED]
+        replies = self.replies(frozenset(refused))
+        wanted(run.output == replies[:len(run.output)], f"where lines {refused} are refused: {run}, and not {replies}")
+        for line, reply in zip(self.row, run.output):
+            wanted(reply in (REFUSED, "no such") or not names_one_of(line, refused), f"{line.command}: {run}")
+        return refused
+
+    def run(self, **refusals):
+        return self.program.run(script=script_of(self.row), **refusals)
+
+    @cached_property
+    def rest(self):
+        """The runs with all memory refused from one allocation on."""
+        runs = (self.run(allocation=n, all=1) for n in count(1))
+        return [*takewhile(lambda run: run.refused, runs)]
 
 
 def ask_again(program, row, at, refusal):
@@ -188,47 +254,64 @@ def ask_again(program, row, at, refusal):
     wanted((run.status, run.output) == (0, [it.reply for it in lines]), f"asked again after line {at}: {run}")
 
 
-def refuse_in_row(program, row, **refusal):
+def refuse_in_row(expected, **refusal):
     """Which line the refusal refused: 0 where it refused none, and None where there is no such allocation."""
-    run, n = program.run(script=script_of(row), **refusal), refusal["allocation"]
-    replies = [it.reply for it in row]
+    program, row = expected.program, expected.row
+    run = expected.run(**refusal)
     if not run.refused:
-        wanted((run.status, run.output, run.faults) == (0, replies, ""), f"undisturbed: {run}")
+        undisturbed = run.status, run.output, run.faults
+        wanted(undisturbed == (0, [it.reply for it in row], ""), f"undisturbed: {run}")
         return None
-    if run.status == 3:
-        wanted(run.faults == "boxes: out of memory\n", f"its text: {run.faults}")
-        wanted(run.output == replies[:len(run.output)], f"status 3 after {run.output}")
-        return 0
-    wanted((run.status, run.faults, len(run.output)) == (0, "", len(row)), f"{n}: {run}")
-    lost = [i + 1 for i, it in enumerate(row) if run.output[i] == REFUSED]
+    lost = expected.refused_by(run)
     if not lost:
-        wanted(run.output == replies, f"{n}: {run}")
         return 0
     at = lost[0]
-    wanted(run.output[:at - 1] == replies[:at - 1], f"before line {at}: {run}")
+    wanted((run.status, lost) == (0, [at]), f"more than line {at} is refused: {run}")
     wanted(row[at - 1].may_lack, f"line {at} asks for no memory, and was refused: {row[at - 1].command}")
     ask_again(program, row, at, refusal)
     return at
 
 
-def refused_lines(program, row, **how):
+def refused_lines(expected, **how):
     """The lines that were refused, one for each run where one was."""
     found = []
     for n in count(1):
-        at = refuse_in_row(program, row, allocation=n, **how)
+        at = refuse_in_row(expected, allocation=n, **how)
         if at is None:
             return found
         found += [at] * (at > 0)
 
 
-def refuse_memory(program, row):
-    """How many runs met a refusal: of one allocation, and of what is less too."""
-    once, refused = refused_lines(program, row), refused_lines(program, row, less=1)
-    never = [i + 1 for i, it in enumerate(row) if it.may_lack and i + 1 not in refused]
+def refuse_memory(expected):
+    """How many runs met a refusal: of one allocation, of what is less too, and of all from one on."""
+    row, once, less = expected.row, refused_lines(expected), refused_lines(expected, less=1)
+    rest = [lost[0] for lost in map(expected.refused_by, expected.rest) if lost]
+    never = [i + 1 for i, it in enumerate(row) if it.may_lack and i + 1 not in less + rest]
     wanted(not never, f"marked, and never refused: lines {never}")
+    others = [at for at in rest if not row[at - 1].may_lack]
+    wanted(not others, f"the first that is refused, and not marked: lines {others}")
     stiff = [at for at in once if not row[at - 1].reply.startswith(("reader", ERRORS["read: "]))]
     wanted(not stiff, f"refused, though there was memory for less: lines {stiff}")
-    return len(once), len(refused)
+    return len(once), len(less), len(rest)
+
+
+def refuse_by_size(expected):
+    """The runs with less and less memory, to where there is no reply."""
+    for size in range(expected.run().peak, 0, -STEP):
+        run = expected.run(beyond=size)
+        yield run
+        if not run.output:
+            return
+
+
+def refuse_several(expected, name):
+    """How many runs refused lines, and answered all, where all memory is refused or there is little."""
+    several = 0
+    for runs, replies in (expected.rest, WITH_NONE.get(name)), ([*refuse_by_size(expected)], WITH_LITTLE.get(name)):
+        found = [run.output for run in runs if expected.refused_by(run) and run.status == 0]
+        wanted(replies is None or replies in found, f"{name}: never answered by {replies}")
+        several += len(found)
+    return several
 
 
 def fail_each(program, row, what, times):
@@ -349,11 +432,34 @@ def find_out(what, act, *given):
     raise Failure(f"{what} passed")
 
 
+class Forgetful(Program):
+    """The program, which carries out what is asked of a line that was refused."""
+
+    def run(self, words=(), script="", **refusals):
+        run = super().run(words, script, **refusals)
+        if REFUSED in run.output:
+            run.output = ["reader" if it == "no such" else it for it in run.output]
+        return run
+
+
 class Generous(Program):
     """The program, refused nothing."""
 
     def run(self, words=(), script="", **refusals):
         return super().run(words, script)
+
+
+def find_out_wrong_rows(program):
+    row, others = dict(rows())[WRONG], (program.path, program.library, os.path.dirname(program.report))
+    for at, wrong in wrong_rows(row):
+        find_out(f"a row that is wrong at line {at}", refuse_memory, Expected(program, wrong))
+    generous, forgetful = Generous(*others), Forgetful(*others)
+    find_out("a program that is refused nothing", refuse_memory, Expected(generous, row))
+    for name in WITH_NONE | WITH_LITTLE:
+        row = dict(rows())[name]
+        find_out(f"{name}: memory for all", refuse_several, Expected(generous, row), name)
+        find_out(f"{name}: a refused line that gave something", refuse_several, Expected(forgetful, row), "")
+    find_out("a refused line that gave something", refuse_memory, Expected(forgetful, row))
 
 
 def made_library(room):
@@ -376,22 +482,25 @@ def rows():
 
 
 def counts_of_rows():
-    """How often each row's calls are refused: alone, and with what is less."""
+    """How often each row's calls are refused: alone, with what is less, and with all from there on."""
     with open(COUNTS, encoding="utf-8") as lines:
         words = [line.split() for line in lines if not line.startswith("#")]
-    return {f"{name}.row": (int(alone), int(less)) for alone, less, name in words}
+    return {f"{name}.row": (int(alone), int(less), int(rest)) for alone, less, rest, name in words}
 
 
 def refuse_in_rows(program):
     counts = counts_of_rows()
     wanted(sorted(counts) == [name for name, _ in rows()], "there are other rows than counts")
     for name, row in rows():
-        met = refuse_memory(program, row)
+        expected = Expected(program, row)
+        met = refuse_memory(expected)
         wanted(met == counts[name], f"{name}: {met} allocations of calls were refused, and not {counts[name]}")
+        several = refuse_several(expected, name)
         # A read for each line and one at the end, and a write for each line.
         reads = fail_each(program, row, "read", len(row) + 1)
         writes = fail_each(program, row, "write", len(row))
-        print(f"{name}: {met[0]} allocations of calls, {met[1]} with what is less, {reads} reads, {writes} writes refused")
+        print(f"{name}: {met[0]} allocations of calls, {met[1]} with what is less, {met[2]} with all from there on, "
+              f"{several} runs with little memory, {reads} reads, {writes} writes refused")
 
 
 def refuse_in_drawn_lists(program):
@@ -417,10 +526,7 @@ def drive(path, *tests):
         print(f"{LEAKS} leaks: nearly as many values as fit into {MEGABYTES[0]} to {MEGABYTES[-1]} megabytes")
         for name in FRUGAL:
             print(is_frugal_script(program, name))
-        row = dict(rows())[WRONG]
-        for at, wrong in wrong_rows(row):
-            find_out(f"a row that is wrong at line {at}", refuse_memory, program, wrong)
-        find_out("a program that is refused nothing", refuse_memory, Generous(program.path, library, room), row)
+        find_out_wrong_rows(program)
         find_out("a program that keeps a byte", Program(made_hoarder(room), library, room).run)
         find_out("a size at which more fit", refuse_beyond, program, LEAK // 2)
         find_out("tests within lower limits", are_frugal_tests, runs, 4)
