@@ -101,6 +101,22 @@ fn a_stale_entry_reads_no_later_value(rt: HostRuntime) {
     play_both(&rt, rt.alloc(), &lines);
 }
 
+// A clock may go back: the time of the last call counts, whichever is later.
+#[test]
+fn a_time_goes_back(rt: HostRuntime) {
+    let lines = [
+        line(Act::Login(1, 20), Reply::Done, &[(1, 20)], &[]),
+        line(Act::Login(2, 15), Reply::Done, &[(1, 20), (2, 15)], &[]),
+        line(Act::Touch(1, 10), Reply::Done, &[(1, 10), (2, 15)], &[]),
+        line(Act::Touch(2, 14), Reply::Done, &[(1, 10), (2, 14)], &[]),
+        line(Act::Touch(2, 0), Reply::Done, &[(1, 10), (2, 0)], &[]),
+        line(Act::Touch(2, 12), Reply::Done, &[(1, 10), (2, 12)], &[]),
+        line(Act::Expire(12), Reply::Ended(1), &[(2, 12)], &[]),
+        line(Act::Expire(13), Reply::Ended(1), &[], &[]),
+    ];
+    play_both(&rt, rt.alloc(), &lines);
+}
+
 #[test]
 fn old_sessions_expire(rt: HostRuntime) {
     let lines = [

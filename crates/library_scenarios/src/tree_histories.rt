@@ -209,6 +209,97 @@ fn a_node_moves_with_all_below_it(rt: HostRuntime) {
     play_both(&rt, rt.alloc(), &lines);
 }
 
+// Five children, of which the one in the middle goes, then the first, then the last.
+#[test]
+fn children_that_are_left_keep_their_order(rt: HostRuntime) {
+    let lines = [
+        done(Act::Root(0), &[Some((0, None))], &[]),
+        done(
+            Act::Child(0, 1),
+            &[Some((0, None)), Some((1, Some(0)))],
+            &[1],
+        ),
+        done(
+            Act::Child(0, 2),
+            &[Some((0, None)), Some((1, Some(0))), Some((2, Some(0)))],
+            &[1, 2],
+        ),
+        done(
+            Act::Child(0, 3),
+            &[
+                Some((0, None)),
+                Some((1, Some(0))),
+                Some((2, Some(0))),
+                Some((3, Some(0))),
+            ],
+            &[1, 2, 3],
+        ),
+        done(
+            Act::Child(0, 4),
+            &[
+                Some((0, None)),
+                Some((1, Some(0))),
+                Some((2, Some(0))),
+                Some((3, Some(0))),
+                Some((4, Some(0))),
+            ],
+            &[1, 2, 3, 4],
+        ),
+        done(
+            Act::Child(0, 5),
+            &[
+                Some((0, None)),
+                Some((1, Some(0))),
+                Some((2, Some(0))),
+                Some((3, Some(0))),
+                Some((4, Some(0))),
+                Some((5, Some(0))),
+            ],
+            &[1, 2, 3, 4, 5],
+        ),
+        removed(
+            3,
+            &[3],
+            &[
+                Some((0, None)),
+                Some((1, Some(0))),
+                Some((2, Some(0))),
+                None,
+                Some((4, Some(0))),
+                Some((5, Some(0))),
+            ],
+            &[1, 2, 4, 5],
+        ),
+        removed(
+            1,
+            &[1],
+            &[
+                Some((0, None)),
+                None,
+                Some((2, Some(0))),
+                None,
+                Some((4, Some(0))),
+                Some((5, Some(0))),
+            ],
+            &[2, 4, 5],
+        ),
+        removed(
+            5,
+            &[5],
+            &[
+                Some((0, None)),
+                None,
+                Some((2, Some(0))),
+                None,
+                Some((4, Some(0))),
+                None,
+            ],
+            &[2, 4],
+        ),
+    ];
+    play_both(&rt, rt.alloc(), &lines);
+}
+
 #[test]
 fn a_node_moves_behind_its_siblings(rt: HostRuntime) {
     let lines = [
