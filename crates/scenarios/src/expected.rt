@@ -170,6 +170,19 @@ pub(crate) fn assert_unread<T: Drop, S: Storage<T>>(
     }
 }
 
+/// Asserts that a write is refused so.
+pub(crate) fn assert_unwritten<T, S: Storage<T>>(
+    rt: &impl Abort,
+    store: &mut S,
+    asked: GenerationalBox<T>,
+    refusal: Refused<BorrowMutError>,
+) {
+    match asked.try_write(store, written()) {
+        Ok(_) => panic!(rt; "the write was given"),
+        Err(found) => assert_same(rt, &found, &refusal),
+    }
+}
+
 /// Asserts that a guard opens this number, or nothing.
 pub(crate) fn assert_opens<S: Storage<u32>>(
     rt: &impl Abort,

@@ -27,6 +27,8 @@ mod many_names;
 #[cfg(test)]
 mod memory;
 #[cfg(test)]
+mod peeks;
+#[cfg(test)]
 mod plenty;
 #[cfg(test)]
 mod rounds;

@@ -57,6 +57,28 @@ fn a_session_ends_with_no_reader_left(rt: HostRuntime) {
     let _store = readers_of_two(&rt, Session::new(rt.alloc(), store));
 }
 
+/// A session that holds a reader of one box, and an owner of another.
+fn reader_and_owner<S: Storage<u32>>(rt: &impl Abort, mut session: Session<u32, S>) -> S {
+    let lent = box_of(rt, &mut session, Call::Leak(1, made()));
+    begin_at(rt, &mut session, 0);
+    let reply = call(rt, &mut session, Call::Owner);
+    assert!(rt; matches!(&reply, Reply::Owner));
+    let owned = box_of(rt, &mut session, Call::Insert(2, 2, made()));
+    assert_same(rt, &lent.can_write(session.store()), &false);
+    let store = session.finish();
+    assert_same(rt, &lent.can_write(&store), &true);
+    assert_same(rt, &owned.can_write(&store), &true);
+    store
+}
+
+// Once a session has ended nothing stands in the way of a write, of what was read and of what an
+// owner made.
+#[test]
+fn a_session_ends_with_its_boxes_free_to_write(rt: HostRuntime) {
+    let store: UnsyncStorage<u32> = Store::new(rt.alloc(), 7);
+    let _store = reader_and_owner(&rt, Session::new(rt.alloc(), store));
+}
+
 fn box_of_an_owner<S: Storage<u32>>(rt: &impl Abort, mut session: Session<u32, S>) -> S {
     let reply = call(rt, &mut session, Call::Owner);
     assert!(rt; matches!(&reply, Reply::Owner));

@@ -3,8 +3,8 @@
 
 use crate::expected::{
     assert_kept, assert_opens, assert_reads, assert_released, assert_same, assert_shows,
-    assert_stays, assert_unread, begin, begin_write, borrowed, counts_of, dropped, end, insert,
-    leak, made, made_later, new_owner, read, release, written,
+    assert_stays, assert_unread, assert_unwritten, begin, begin_write, borrowed, counts_of,
+    dropped, end, insert, leak, made, made_later, new_owner, read, release, written,
 };
 use crate::fresh::{TwoStoreScenario, play_in_twins, play_in_two_stores};
 use crate::sharing::{insert_rc, leak_rc};
@@ -32,7 +32,7 @@ impl TwoStoreScenario<u32> for GuardsOfTwo {
         assert_opens(rt, seven, &guard, Some(70));
         assert_released(rt, seven, guard, true);
         end(rt, seven, own);
-        assert_stays(rt, eight, foreign, borrowed(rt, alloc, &[read()]));
+        assert_unwritten(rt, eight, foreign, borrowed(rt, alloc, &[read()]));
     }
 }
 
@@ -41,6 +41,31 @@ impl TwoStoreScenario<u32> for GuardsOfTwo {
 #[test]
 fn guards_of_another_store_are_unknown(rt: HostRuntime) {
     play_in_two_stores::<u32, GuardsOfTwo>(&rt, rt.alloc());
+}
+
+struct GuardHandedOver;
+
+impl TwoStoreScenario<u32> for GuardHandedOver {
+    fn play<R: Abort, S: Storage<u32>>(rt: &R, alloc: Global, seven: &mut S, eight: &mut S) {
+        let foreign = leak(rt, seven, 70, made());
+        let own = leak(rt, eight, 80, made());
+        let stranger = begin(rt, seven, foreign, made_later());
+        let guard = begin(rt, eight, own, read());
+        let before = counts_of(eight);
+
+        assert_released(rt, eight, stranger, false);
+        assert_same(rt, &counts_of(eight), &before);
+        assert_unwritten(rt, eight, own, borrowed(rt, alloc, &[read()]));
+        assert_opens(rt, eight, &guard, Some(80));
+        assert_released(rt, eight, guard, true);
+        assert_unwritten(rt, seven, foreign, borrowed(rt, alloc, &[made_later()]));
+    }
+}
+
+// The same with the guard of the first store, which is handed to the second.
+#[test]
+fn a_guard_handed_over_is_unknown(rt: HostRuntime) {
+    play_in_two_stores::<u32, GuardHandedOver>(&rt, rt.alloc());
 }
 
 /// Asserts that a store doesn't know a writer, and hands its value back.

@@ -1,11 +1,11 @@
 //! Views: their parts, clones and texts, and what is written through parts.
 
 use crate::expected::{
-    assert_prints, assert_same, assert_shows, begin, begin_write, borrowed, leak, made, read,
-    written,
+    assert_prints, assert_same, assert_shows, assert_unwritten, begin, begin_write, borrowed, leak,
+    made, read, written,
 };
 use crate::fresh::{Scenario, play};
-use generational_box::{GenerationalBox, GenerationalRef, GenerationalRefMut, Ref, Storage};
+use generational_box::{GenerationalRef, GenerationalRefMut, Ref, Storage};
 use std::alloc::Global;
 use std::process::Abort;
 
@@ -37,19 +37,6 @@ fn assert_parts<S: Storage<(u32, u32)>>(
     assert!(rt; none.is_none());
 }
 
-/// Asserts that a write meets a reader that began where values are read.
-fn assert_read<S: Storage<(u32, u32)>>(
-    rt: &impl Abort,
-    alloc: Global,
-    store: &mut S,
-    asked: GenerationalBox<(u32, u32)>,
-) {
-    match asked.try_write(store, written()) {
-        Ok(_) => panic!(rt; "the write was given"),
-        Err(found) => assert_same(rt, &found, &borrowed(rt, alloc, &[read()])),
-    }
-}
-
 struct PartsOfAPair;
 
 impl Scenario<(u32, u32)> for PartsOfAPair {
@@ -57,7 +44,7 @@ impl Scenario<(u32, u32)> for PartsOfAPair {
         let pair = leak(rt, store, (1, 2), made());
         let guard = begin(rt, store, pair, read());
         assert_parts(rt, alloc, store, &guard);
-        assert_read(rt, alloc, store, pair);
+        assert_unwritten(rt, store, pair, borrowed(rt, alloc, &[read()]));
         assert!(rt; guard.release(store));
     }
 }
