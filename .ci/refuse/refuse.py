@@ -29,10 +29,12 @@ Then each read and each write fails in turn: status 1, its text, and the replies
 a read that failed; what was written is a beginning of the replies.
 
 Drawn lists are run so as `fuzz SEED 200`, for the seeds 1 to 4: they say `refused at N`, or nothing
-where it wasn't a call that lacked memory, and `same` where none did.
+where it wasn't a call that lacked memory, and `same` where none did. As no replies are printed, tests
+in `drawn_memory` run the same lists, and compare all replies before the refusal with those of a run
+that is refused nothing.
 
-The tests in the modules `memory`, `scarcity` and `shortage`, and in `entity_memory` and its like, are run so. They ask again
-what lacked memory, and pass.
+The tests in the modules `memory`, `scarcity` and `shortage`, and in `entity_memory` and its like, are run so.
+They ask again what lacked memory, and pass.
 
 Whatever is refused, at its end a run has given back all memory. So has each of the tests where nothing is refused, but
 for what the C library keeps of each thread for the next one. Those that show how something grows, and a

@@ -15,6 +15,8 @@ mod drawn;
 #[cfg(test)]
 mod drawn_counts;
 #[cfg(test)]
+mod drawn_memory;
+#[cfg(test)]
 mod drawn_words;
 #[cfg(test)]
 mod ending;
