@@ -1,12 +1,14 @@
 #!/usr/bin/env python3
 """Runs the program `boxes` with long scripts: many readers, tickets, owners, slots and places.
 
-    .ci/long_scripts.py PROGRAM
+    .ci/long_scripts.py PROGRAM TESTS
 
-PROGRAM is `boxes`, as `rt ci` leaves it in its crate's out/. Each script is made with its replies, all of
-which are compared. Each has so much processor time, which is more than three times what it takes, and
-far less than it would take if a call went over all that there is: the readers of a cell, the records of
-owners, the slots. At the end a slower program, and one whose last reply is another, are found out.
+PROGRAM is `boxes`, and TESTS are those of `library_scenarios`, as `rt ci` leaves them in their crates' out/.
+Each script is made with its replies, all of which are compared. Each has so much processor time, which is
+more than three times what it takes, and far less than it would take if a call went over all that there is:
+the readers of a cell, the records of owners, the slots, what a session holds at its end. So have those of
+the tests that add many things to the libraries. At the end a slower program, and one whose last reply is
+another, are found out.
 """
 import os
 import resource
@@ -155,6 +157,19 @@ def slots():
     return script
 
 
+def held_at_the_end():
+    """A session that ends with 50,000 readers of one cell, and 50,000 writers: each is released without a look at the
+    others."""
+    script, count = Script(), 50_000
+    box = script.call("leak a", "box 0@1")
+    for _ in range(count):
+        script.call(f"try_read {box}", "reader")
+    for slot in range(1, count + 1):
+        script.call(f"try_write {script.call('leak b', f'box {slot}@1')}", "writer")
+    script.call(f"can_write {box}", "false")
+    return script
+
+
 # The scripts, with the seconds of processor time that each has.
 SCRIPTS = [
     (readers_beside_each_other, 2),
@@ -165,26 +180,47 @@ SCRIPTS = [
     (owners, 2),
     (clones_of_owners, 2),
     (slots, 2),
+    (held_at_the_end, 2),
+]
+# Tests of the libraries, with the same.
+TESTS = [
+    ("growth::entities", 1),
+    ("growth::logins", 2),
+    ("growth::entries", 1),
+    ("growth::children", 1),
+    ("growth::parts", 1),
 ]
 
 
-def run(program, script, limit):
-    """Compares all replies, and answers how many seconds of processor time they took."""
+def measured(program, given, limit):
+    """How a program ended that had so many seconds of processor time, and how many it took."""
 
     def set_limit():
         resource.setrlimit(resource.RLIMIT_CPU, (limit, limit))
 
+    before = resource.getrusage(resource.RUSAGE_CHILDREN)
+    ended = subprocess.run(program, stdin=given, capture_output=True, preexec_fn=set_limit, check=False)
+    after = resource.getrusage(resource.RUSAGE_CHILDREN)
+    return ended, after.ru_utime - before.ru_utime + after.ru_stime - before.ru_stime
+
+
+def run_test(tests, name, limit):
+    ended, seconds = measured([tests, name], subprocess.DEVNULL, limit)
+    wanted(ended.returncode == 0, f"{name}: status {ended.returncode}: {ended.stderr.decode()}")
+    print(f"{name}: {seconds:.1f} seconds")
+
+
+def run(program, script, limit):
+    """Compares all replies, and answers how many seconds of processor time they took."""
     with tempfile.TemporaryFile() as given:
         given.write("".join(command + "\n" for command in script.commands).encode())
         given.seek(0)
-        before = resource.getrusage(resource.RUSAGE_CHILDREN)
-        ended = subprocess.run(program, stdin=given, capture_output=True, preexec_fn=set_limit, check=False)
-        after = resource.getrusage(resource.RUSAGE_CHILDREN)
+        ended, seconds = measured(program, given, limit)
     replies = ended.stdout.decode().splitlines()
     for line, (reply, want) in enumerate(zip(replies, script.replies), start=1):
         wanted(reply == want, f"line {line}: {script.commands[line - 1]}: {reply[:200]!r} in place of {want[:200]!r}")
     wanted((ended.returncode, len(replies)) == (0, len(script.replies)), f"status {ended.returncode}, {len(replies)} replies")
-    return after.ru_utime - before.ru_utime + after.ru_stime - before.ru_stime
+    return seconds
 
 
 def find_out(what, program, script):
@@ -195,7 +231,7 @@ def find_out(what, program, script):
     raise Failure(f"{what} passed")
 
 
-def main(path):
+def main(path, tests):
     program = [os.path.abspath(path)]
     for make, limit in SCRIPTS:
         script = make()
@@ -204,6 +240,8 @@ def main(path):
         except Failure as failure:
             raise Failure(f"{make.__name__}: {failure}") from failure
         print(f"{make.__name__}: {len(script.commands)} lines, {seconds:.1f} seconds")
+    for name, limit in TESTS:
+        run_test(os.path.abspath(tests), name, limit)
     wrong = tickets()
     wrong.replies[-1] = "value a"
     find_out("another reply", program, wrong)

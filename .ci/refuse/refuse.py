@@ -92,12 +92,18 @@ FRUGAL = {
     "owners of a box": ("".join(f"owner\ninsert {2 * i + 1} \n" for i in range(1000)), 3_200, 1_400_000),
     "boxes of two readers": ("".join("leak \n" + f"try_read {3 * i + 1}\n" * 2 for i in range(1000)), 6_200, 1_900_000),
 }
-# Tests with the same. Those of `growth` read a file each time they look.
+# Tests with the same. Some of `growth` read a file each time they look.
 FRUGAL_TESTS = {
     "growth::slots": (3_200, 46_000_000),
     "growth::references": (3_200, 46_000_000),
     "growth::an_owners_list": (3_200, 52_000_000),
     "growth::places": (3_200, 22_000_000),
+    "growth::a_scopes_signals": (200, 48_000_000),
+    "growth::entities": (370, 39_000_000),
+    "growth::logins": (130, 9_100_000),
+    "growth::entries": (210, 53_000_000),
+    "growth::children": (210, 27_000_000),
+    "growth::parts": (280, 75_000_000),
     "beside::a_crowd_of_workers": (4_200, 9_300_000),
     "unshared::calls_without_threads": (33, 8_000),
 }

@@ -8,13 +8,17 @@ use std::alloc::Global;
 use std::process::Abort;
 
 /// A table of entities over a store.
-fn entities_over<S: Storage<u64>>(rt: &impl Abort, alloc: Global, store: S) -> EntityTable<u64, S> {
+pub(crate) fn entities_over<S: Storage<u64>>(
+    rt: &impl Abort,
+    alloc: Global,
+    store: S,
+) -> EntityTable<u64, S> {
     assert!(rt; store.is_fresh());
     EntityTable::new(alloc, store)
 }
 
 /// A table of components over a store.
-fn components_over<S: Storage<u64>>(
+pub(crate) fn components_over<S: Storage<u64>>(
     rt: &impl Abort,
     alloc: Global,
     store: S,
@@ -24,7 +28,7 @@ fn components_over<S: Storage<u64>>(
 }
 
 /// Spawns an entity.
-fn spawn<S: Storage<u64>>(
+pub(crate) fn spawn<S: Storage<u64>>(
     rt: &impl Abort,
     table: &mut EntityTable<u64, S>,
     number: usize,
@@ -36,7 +40,7 @@ fn spawn<S: Storage<u64>>(
 }
 
 /// Gives an entity a component.
-fn give<S: Storage<u64>>(
+pub(crate) fn give<S: Storage<u64>>(
     rt: &impl Abort,
     table: &mut ComponentTable<u64, u64, S>,
     entity: Entity<u64>,

@@ -12,18 +12,22 @@ use std::rc::Rc;
 type Counted = Rc<u64>;
 
 /// A table of sessions over a store.
-fn sessions_over<T, S: Storage<T>>(rt: &impl Abort, alloc: Global, store: S) -> SessionTable<T, S> {
+pub(crate) fn sessions_over<T, S: Storage<T>>(
+    rt: &impl Abort,
+    alloc: Global,
+    store: S,
+) -> SessionTable<T, S> {
     assert!(rt; store.is_fresh());
     SessionTable::new(alloc, store)
 }
 
 /// Begins a session.
-fn log_in<T, S: Storage<T>>(rt: &impl Abort, table: &mut SessionTable<T, S>, id: u64) {
+pub(crate) fn log_in<T, S: Storage<T>>(rt: &impl Abort, table: &mut SessionTable<T, S>, id: u64) {
     assert!(rt; table.login(id, 0).is_ok());
 }
 
 /// Puts a value.
-fn put<T: Drop, S: Storage<T>>(
+pub(crate) fn put<T: Drop, S: Storage<T>>(
     rt: &impl Abort,
     table: &mut SessionTable<T, S>,
     id: u64,

@@ -14,7 +14,10 @@ const MANY: u64 = 12;
 const LACKING: TreeError = TreeError::Store(StoreError::OutOfMemory);
 
 /// Makes a root. One that lacks memory leaves the tree as it was.
-fn root_or_again<S: Storage<u64>>(rt: &impl Abort, tree: &mut SceneTree<u64, S>) -> Node<u64> {
+pub(crate) fn root_or_again<S: Storage<u64>>(
+    rt: &impl Abort,
+    tree: &mut SceneTree<u64, S>,
+) -> Node<u64> {
     let made = match tree.add_root(0, made_at(0)) {
         Ok(root) => Ok(root),
         Err(refusal) => {
@@ -26,7 +29,7 @@ fn root_or_again<S: Storage<u64>>(rt: &impl Abort, tree: &mut SceneTree<u64, S>)
 }
 
 /// Makes a child. One that lacks memory leaves the parent's children as they were.
-fn child_or_again<S: Storage<u64>>(
+pub(crate) fn child_or_again<S: Storage<u64>>(
     rt: &impl Abort,
     tree: &mut SceneTree<u64, S>,
     parent: Node<u64>,
@@ -67,7 +70,7 @@ fn move_or_again<S: Storage<u64>>(
 
 /// Removes a subtree. A removal that lacks memory leaves it, and is tried again: its list begins with
 /// little room, and may lack memory for that too.
-fn remove_or_again<S: Storage<u64>>(
+pub(crate) fn remove_or_again<S: Storage<u64>>(
     rt: &impl Abort,
     tree: &mut SceneTree<u64, S>,
     node: Node<u64>,
@@ -103,16 +106,20 @@ fn grow_and_cut<S: Storage<u64>>(rt: &impl Abort, tree: &mut SceneTree<u64, S>) 
     assert_same(rt, &count_of(rt, tree, root), &0);
 }
 
-/// The same over a store.
-fn grow_over<S: Storage<u64> + Drop>(rt: &impl Abort, alloc: Global, store: S) {
+/// A tree over a store.
+pub(crate) fn tree_over<S: Storage<u64>>(
+    rt: &impl Abort,
+    alloc: Global,
+    store: S,
+) -> SceneTree<u64, S> {
     assert!(rt; store.is_fresh());
-    let mut tree = SceneTree::new(alloc, store);
-    grow_and_cut(rt, &mut tree);
+    SceneTree::new(alloc, store)
 }
 
 #[test]
 fn trees_that_lack_memory_stay(rt: HostRuntime) {
     let alloc = rt.alloc();
     let store: Store<u64, LastFirst> = Store::new(alloc, 1);
-    grow_over(&rt, alloc, store);
+    let mut tree = tree_over(&rt, alloc, store);
+    grow_and_cut(&rt, &mut tree);
 }

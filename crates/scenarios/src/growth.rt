@@ -8,7 +8,9 @@
 use crate::expected::{insert, leak, made, new_owner};
 use crate::sessions::call;
 use crate::sharing::{leak_rc, leak_reference};
+use crate::signal_calls::{end, scope, signal};
 use generational_box::{BoxAt, Call, Owner, Session, Storage, Store, UnsyncStorage};
+use signals::Scope;
 use std::fs;
 use std::process::Abort;
 use std::rt::Files;
@@ -154,6 +156,23 @@ fn an_owners_list(rt: HostRuntime) -> Result<(), Fail> {
     looked?;
     gauge.assert_grew(&rt, 12_000);
     Ok(())
+}
+
+/// Makes signals of a scope.
+fn signal_all<S: Storage<u64>>(rt: &impl Abort, store: &mut S, scope: &Scope) {
+    for value in 0..20_000 {
+        signal(rt, store, scope, value, made());
+    }
+}
+
+// A scope of twenty thousand signals. It doesn't look how the memory grows: whoever counts what is
+// asked for finds that it isn't asked for often.
+#[test]
+fn a_scopes_signals(rt: HostRuntime) {
+    let mut store: UnsyncStorage<u64> = Store::new(rt.alloc(), 7);
+    let signals = scope(&rt, &mut store);
+    signal_all(&rt, &mut store, &signals);
+    end(&rt, &mut store, signals);
 }
 
 /// Makes a hundred calls of a session that take no slot.
