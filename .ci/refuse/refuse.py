@@ -107,6 +107,10 @@ FRUGAL_TESTS = {
     "beside::a_crowd_of_workers": (4_200, 9_300_000),
     "unshared::calls_without_threads": (33, 8_000),
 }
+# Tests that ask for room beyond what they need, and how many bytes that is: they pass with so many less than they have
+# at once, and not with more than these less.
+TIGHT_TESTS = {"tight::room_for_what_is_needed": 3_000 * 8}
+LITTLE_MORE = 64
 MODULES = ("memory", "scarcity", "shortage")
 WRONG = "every_command.row"
 # A line that is no command, and in what steps a row has less and less memory, in bytes.
@@ -401,6 +405,23 @@ def are_frugal_tests(runs, share=1):
         print(is_frugal(name, runs[name], times, size, share))
 
 
+def needs_no_more(tests, name, beside):
+    """A test passes where there are so many bytes less than it has at once, and not where there are a few less than these."""
+    peak = tests.run([name]).peak
+    wanted(tests.run([name], beyond=peak - beside).status == 0, f"{name}: refused, though what it needs was there")
+    wanted(tests.run([name], beyond=peak - beside - LITTLE_MORE).status != 0, f"{name}: it needs less")
+    return f"{name}: {peak - beside} bytes are enough, of {peak} that it has where there are more"
+
+
+def refuse_in_tight_tests(tests):
+    listed = {name: it for it in tests for name in names_of(it)}
+    for name, beside in TIGHT_TESTS.items():
+        wanted(name in listed, f"no test is listed as {name}")
+        print(needs_no_more(listed[name], name, beside))
+        find_out(f"{name} with less than it needs", needs_no_more, listed[name], name, beside + LITTLE_MORE)
+        find_out(f"{name} with more than it needs", needs_no_more, listed[name], name, beside - LITTLE_MORE)
+
+
 def refuse_beyond(program, size):
     """Runs the leaks with less memory than they take, where size is what one takes."""
     script = "leak a\n" * LEAKS
@@ -530,6 +551,7 @@ def drive(path, *tests):
         for it in tests:
             runs |= refuse_nothing_in(it)
         are_frugal_tests(runs)
+        refuse_in_tight_tests(tests)
         refuse_beyond(program, LEAK + MOVED)
         print(f"{LEAKS} leaks: nearly as many values as fit into {MEGABYTES[0]} to {MEGABYTES[-1]} megabytes")
         for name in FRUGAL:
