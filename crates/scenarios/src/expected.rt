@@ -171,7 +171,7 @@ pub(crate) fn assert_unread<T: Drop, S: Storage<T>>(
 }
 
 /// Asserts that a write is refused so.
-pub(crate) fn assert_unwritten<T, S: Storage<T>>(
+pub(crate) fn assert_unwritten<T: Drop, S: Storage<T>>(
     rt: &impl Abort,
     store: &mut S,
     asked: GenerationalBox<T>,

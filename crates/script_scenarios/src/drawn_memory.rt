@@ -40,6 +40,7 @@ fn answers<S: Storage<String> + Drop>(
     store: S,
     seed: u64,
 ) -> Vec<Reply<String>> {
+    assert!(rt; store.is_fresh());
     let mut session = Session::new(alloc, store);
     let replies = replies_or_again(rt, &mut session, list_or_again(rt, alloc, seed));
     let _store = session.finish();
