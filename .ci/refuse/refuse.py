@@ -37,8 +37,8 @@ The tests in the modules `memory`, `scarcity` and `shortage`, and in `entity_mem
 They ask again what lacked memory, and pass.
 
 Whatever is refused, at its end a run has given back all memory. So has each of the tests where nothing is refused, but
-for what the C library keeps of each thread for the next one. Those that show how something grows, and a
-short one, have such limits too.
+for what the C library keeps of each thread for the next one. Those that show how something grows, one that
+reserves room, and a short one, have such limits too. One passes with just what it needs, where it asks for more first.
 
 A script of 100,000 leaks is run with less memory than it takes, from 3 to 40 megabytes. It ends
 with status 0 or 3, and makes nearly as many values as fit.
@@ -104,6 +104,7 @@ FRUGAL_TESTS = {
     "growth::entries": (210, 53_000_000),
     "growth::children": (210, 27_000_000),
     "growth::parts": (280, 75_000_000),
+    "memory::makings_in_reserved_room": (60, 50_000),
     "beside::a_crowd_of_workers": (4_200, 9_300_000),
     "unshared::calls_without_threads": (33, 8_000),
 }
