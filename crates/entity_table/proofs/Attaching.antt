@@ -2,12 +2,13 @@
 use Rattle.std.proofs.Common.{◌≡◌, ◌≢◌, ℕ, zero, suc, Bool, true, false, cond, Option, None, Some, List}
 use Rattle.std.proofs.Common.{[], ◌∷◌, ◌<◌, Ok, inl, inr, refl, sym, ap, subst, ◌∙◌, ⊎_elim, arith}
 use Rattle.std.proofs.Common.{length}
-use Rattle.std.proofs.lemmas.Bool.{false_from_ne_true}
+use Rattle.std.proofs.lemmas.Bool.{eq-eqb, eqb-true, false_from_ne_true, true≢false}
+use Rattle.std.specs.FinMap as map
 use Rattle.std.proofs.lemmas.List.{get_or-set_other, get_or-set_same}
 use Rattle.std.proofs.lemmas.Option.{none-some, same_Some}
 use Rattle.std.specs.Prelude.{◌⊎◌, Err, OnErr, Result, is_some, slice_set}
 use Rattle.generational_core.specs.Answers.{pointer_of}
-use Rattle.generational_core.specs.Borrowing.{can_write}
+use Rattle.generational_core.specs.Borrowing.{can_write, leads_to}
 use Rattle.generational_core.specs.Boxes.{has_same_id, name_of}
 use Rattle.generational_core.specs.Conditions.{fresh}
 use Rattle.generational_core.specs.Leaving.{IsUnborrowed}
@@ -20,17 +21,19 @@ use Rattle.generational_core.specs.Steps.{Meets}
 use Rattle.generational_core.specs.declared.boxes.GenerationalBox.{GenerationalBox}
 use Rattle.generational_core.specs.declared.boxes.GenerationalPointer.{GenerationalPointer}
 use Rattle.generational_errors.specs.declared.error.Location.{Location}
-use Rattle.generational_core.proofs.machine.Calling.{made, made_apart, seen_reached, sets}
+use Rattle.generational_core.proofs.machine.Calling.{ends, made, made_apart, seen_reached, sets}
 use Rattle.generational_core.proofs.machine.Ends.{some_live}
 use Rattle.generational_core.proofs.machine.Leaving.{same_value}
+use Rattle.generational_core.proofs.machine.Seeing.{reach_by, reaches}
+use Rattle.generational_core.proofs.machine.Stepping.{meets_number}
 use Rattle.generational_core.proofs.machine.Unborrowed.{quiet_fresh, quiet_sees, quiet_stays}
-use Rattle.generational_core.proofs.maps.Maps.{by_number, key_cases, same_ids}
+use Rattle.generational_core.proofs.maps.Maps.{by_number, key_cases, name_cases, same_ids}
 use Rattle.generational_sessions.proofs.callers.PlainStores.{fresh_plain, reach_apart, stays_plain}
 use Rattle.entity_table.specs.declared.components.Part.{Part}
 use Rattle.entity_table.specs.declared.entity.Entity.{Entity}
 use Rattle.entity_table.specs.Components.{AreAttached, part_at, part_if, part_of, shown_by}
 use Rattle.entity_table.specs.Entities.{pointer_in, slot_in, IsOther}
-use Rattle.generational_sessions.proofs.callers.SimpleStores.{set_seen}
+use Rattle.generational_sessions.proofs.callers.SimpleStores.{fresh_sees, set_seen}
 
 -- a box that sees a value may be written, where no borrow stands
 pub seen_free : {C : Type 0} {S : State C} (b : GenerationalPointer) → IsSound S → IsUnborrowed S
@@ -153,6 +156,7 @@ module _ {T C : Type 0} where
     plain = fresh_plain number start next;
     seen = λ slot p is. absurd (none-some p is);
     apart = λ i j p q ne is. absurd (none-some p is);
+    listed = λ b seen. absurd (true≢false (sym seen ∙ ap is_some (fresh_sees number start next b)));
   }
 
   -- more slots change nothing
@@ -164,6 +168,7 @@ module _ {T C : Type 0} where
     plain = k.plain;
     seen = λ slot p is. k.seen slot p (sym (same slot) ∙ is);
     apart = λ i j p q ne is at. k.apart i j p q ne (sym (same i) ∙ is) (sym (same j) ∙ at);
+    listed = λ b seen. let it = k.listed b seen in (it.0, it.1, same it.0 ∙ it.2, it.3);
   }
 
   module _ {S R : State C} (s : IsSound S) {parts : List (Option (Part T C))}
@@ -192,6 +197,18 @@ module _ {T C : Type 0} where
               subst (λ x. name_of (pointer_of x) ≢ name_of (pointer_of r.raw)) a.2
               (subst (λ x. name_of (pointer_of a.0.raw) ≢ name_of (pointer_of x)) b.2
               (k.apart i j a.0 b.0 ne a.1 b.1));
+          listed = λ b seen. let was = k.listed b
+              (sym (set_seen s k.unborrowed (pointer_of p.raw) v old m b) ∙ seen) in ⊎_elim
+              (λ here. (
+                slot,
+                record { entity = e; raw = p.raw },
+                get_or-set_same parts slot _ None (part_within parts slot p is),
+                ap (λ (x : Part T C). name_of (pointer_of x.raw))
+                    (same_Some p was.1 (sym is ∙ (ap (part_at parts) (sym here) ∙ was.2)))
+                    ∙ was.3,
+              ))
+              (λ ne. (was.0, was.1, get_or-set_other parts slot was.0 _ None ne ∙ was.2, was.3))
+              (key_cases by_number was.0 slot);
         }
       where
         -- the box that stands at a slot stood there
@@ -222,9 +239,10 @@ module _ {T C : Type 0} where
             made_apart None v l (Ok a) s m (pointer_of q.raw) saw.0 saw.1
 
     pub attached_new : (slot : ℕ) (e : Entity T) (v : C) (l : Location) (a : GenerationalBox C)
-        → slot < length parts → Meets S (Make None v l) (Made (pointer_of a)) R
+        → slot < length parts → part_at parts slot ≡ None
+        → Meets S (Make None v l) (Made (pointer_of a)) R
         → AreAttached R (slice_set parts slot (Some (record { entity = e; raw = a })))
-    attached_new slot e v l a lt m = record {
+    attached_new slot e v l a lt none m = record {
       unborrowed = quiet_stays (Make None v l) (Made (pointer_of a)) m tt k.unborrowed;
       plain = stays_plain (Make None v l) (Made (pointer_of a)) m tt k.plain;
       seen = λ i q at. ⊎_elim
@@ -244,6 +262,18 @@ module _ {T C : Type 0} where
           (λ too. k.apart i j q r ne old.1 too.1)
           (set_cases parts slot j (Some part) r lt there))
           (set_cases parts slot i (Some part) q lt at);
+      listed = λ b seen. ⊎_elim
+          (λ same. (slot, part, get_or-set_same parts slot (Some part) None lt, same))
+          (λ ne. let was = k.listed b (sym (ap is_some
+          (same_value S R (Make None v l) (Made (pointer_of a)) s m b tt ne)) ∙ seen) in (
+            was.0,
+            was.1,
+            get_or-set_other parts slot was.0 (Some part) None
+                (λ here. none-some was.1 (sym none ∙ (ap (part_at parts) (sym here) ∙ was.2)))
+                ∙ was.2,
+            was.3,
+          ))
+          (name_cases (name_of (pointer_of a)) (name_of b));
     }
       where
         part : Part T C
@@ -271,8 +301,37 @@ module _ {T C : Type 0} where
       seen = λ i q at. let old = left i q at in
           ap is_some (gone_beside slot p is m i q old.0 old.1) ∙ k.seen i q old.1;
       apart = λ i j q r ne at there. k.apart i j q r ne (left i q at).1 (left j r there).1;
+      listed = λ b seen. ⊎_elim (λ same. absurd (ended b same seen))
+          (λ ne. let was = k.listed b (sym (ap is_some
+          (same_value S R (End (pointer_of p.raw)) Done s m b ne tt)) ∙ seen) in (
+            was.0,
+            was.1,
+            get_or-set_other parts slot was.0 None None
+                (λ here. ne (ap (λ (x : Part T C). name_of (pointer_of x.raw))
+                (same_Some p was.1 (sym is ∙ (ap (part_at parts) (sym here) ∙ was.2))) ∙ was.3))
+                ∙ was.2,
+            was.3,
+          ))
+          (name_cases (name_of (pointer_of p.raw)) (name_of b));
     }
       where
+        -- no box of this name sees a value any more
+        ended : (b : GenerationalPointer) → name_of (pointer_of p.raw) ≡ name_of b
+            → is_some (value_in R b) ≡ true → ⊥
+        ended b same seen =
+            let saw = some_live (value_in R b) seen in
+            let to = seen_reached R b saw.0 saw.1 in
+            let had = some_live (value_in S (pointer_of p.raw)) (k.seen slot p is) in
+            let from = seen_reached S (pointer_of p.raw) had.0 had.1 in
+            let own = eqb-true (pointer_of p.raw).id.store S.number
+            (reaches S (pointer_of p.raw) from.0 from.1).number in
+            none-some to.0 (sym (ends (pointer_of p.raw) {U = Unit {0}} (Ok tt) m)
+            ∙ reach_by R (pointer_of p.raw) to.0 (record {
+              number = eq-eqb (pointer_of p.raw).id.store R.number
+                  (own ∙ sym (meets_number S R (End (pointer_of p.raw)) Done m));
+              leads = ap (λ n. leads_to (map.get R.cells n) n) same ∙ (reaches R b to.0 to.1).leads;
+            }))
+
         left : (i : ℕ) (q : Part T C) → part_at (slice_set parts slot None) i ≡ Some q
             → (i ≢ slot) × (part_at parts i ≡ Some q)
         left i q at = ⊎_elim (λ here. absurd (none-some q here.1)) (λ old. old)

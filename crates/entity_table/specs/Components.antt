@@ -6,6 +6,7 @@ use Rattle.generational_core.specs.Boxes.{has_same_id, name_of}
 use Rattle.generational_core.specs.Leaving.{IsUnborrowed}
 use Rattle.generational_core.specs.Seeing.{value_in}
 use Rattle.generational_core.specs.State.{State}
+use Rattle.generational_core.specs.declared.boxes.GenerationalPointer.{GenerationalPointer}
 use Rattle.generational_sessions.specs.PlainStores.{IsPlain}
 use Rattle.entity_table.specs.declared.components.Part.{Part}
 use Rattle.entity_table.specs.declared.entity.Entity.{Entity}
@@ -38,8 +39,13 @@ module _ {T C : Type 0} where
   abbrev pub component_in : ComponentState T C → Entity T → Option C
   component_in t e = shown_by t.state (part_of t.parts e)
 
-  -- no borrow stands and no cell is a reference; each part's box sees a value, and those of two slots
-  -- have two names
+  -- each component that the store has is that of a slot
+  abbrev pub AreListed : State C → List (Option (Part T C)) → Type 0
+  AreListed S parts = (b : GenerationalPointer) → is_some (value_in S b) ≡ true → (slot : ℕ)
+      × (p : Part T C) × (part_at parts slot ≡ Some p) × (name_of (pointer_of p.raw) ≡ name_of b)
+
+  -- no borrow stands and no cell is a reference; each part's box sees a value, those of two slots have
+  -- two names, and no other box sees one
   pub record AreAttached (S : State C) (parts : List (Option (Part T C))) : Type 0 where
     pub unborrowed : IsUnborrowed S
     pub plain : IsPlain S
@@ -47,3 +53,4 @@ module _ {T C : Type 0} where
         → is_some (value_in S (pointer_of p.raw)) ≡ true
     pub apart : (i j : ℕ) (p q : Part T C) → i ≢ j → part_at parts i ≡ Some p
         → part_at parts j ≡ Some q → name_of (pointer_of p.raw) ≢ name_of (pointer_of q.raw)
+    pub listed : AreListed S parts

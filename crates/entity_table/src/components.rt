@@ -6,7 +6,7 @@ ghost use Rattle.generational_core.specs.Conditions.{IsFresh};
 ghost use Rattle.generational_errors.specs.declared.error.StoreError.TheVariants.{OutOfMemory};
 ghost use Rattle.entity_table.specs.declared.entity.Entity.{Entity};
 ghost use Rattle.entity_table.specs.Entities.{slot_in, IsOther};
-ghost use Rattle.entity_table.specs.Components.{part_at, part_of, component_in};
+ghost use Rattle.entity_table.specs.Components.{part_at, part_of, component_in, AreListed};
 
 use crate::entity::Entity;
 use generational_core::{GenerationalBox, Location, Refusal, Storage, StoreError};
@@ -73,8 +73,8 @@ impl<T, C, S: Storage<C>> ComponentTable<T, C, S> {
         }
     }
 
-    /// Gives an entity a component, in the place of the one that it has. Every entity of another slot
-    /// keeps its own; one that had this slot before loses its.
+    /// Gives an entity a component, in the place of the one that its slot has, which goes. Every entity
+    /// of another slot keeps its own; one that had this slot before loses its.
     ///
     /// Refused by `OutOfMemory` alone, where the slot has no component yet: the component comes back,
     /// and nothing changes. O(1), but for finding room, and for letting the old one go.
@@ -96,6 +96,7 @@ impl<T, C, S: Storage<C>> ComponentTable<T, C, S> {
         ensures back { IfErr result (λ refusal. refusal.value ≡ component) }
         ensures cause { IfErr result (λ refusal. refusal.cause ≡ OutOfMemory) }
         ensures short { IfErr result (λ _. part_at self.old.parts (slot_in entity) ≡ None) }
+        ensures listed { AreListed self.new.state self.new.parts }
     {
         let slot = entity.raw.raw_ptr();
         if let Some(part) = part_in(&self.parts, slot) {
@@ -125,13 +126,14 @@ impl<T, C, S: Storage<C>> ComponentTable<T, C, S> {
         part.raw.peek(&self.store)
     }
 
-    /// Ends an entity's component. Answers whether it had one. Every other entity keeps its own.
-    /// Never refused; takes no memory, and is O(1).
+    /// Ends an entity's component: it goes from the store too. Answers whether it had one. Every other
+    /// entity keeps its own. Never refused; takes no memory, and is O(1).
     pub fn remove(&mut self, entity: Entity<T>) -> bool
         ensures had { result ≡ is_some (component_in self.old entity) }
         ensures gone { component_in self.new entity ≡ None }
         ensures others { (e : Entity T) → IsOther entity e →
             component_in self.new e ≡ component_in self.old e }
+        ensures listed { AreListed self.new.state self.new.parts }
     {
         let Some(part) = part_for(&self.parts, entity) else {
             return false;

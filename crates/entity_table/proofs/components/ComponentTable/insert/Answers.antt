@@ -39,7 +39,9 @@ returns-in_err-raw-clause-refused g c =
 pub invariant_of-self-2 : goal.invariant_of-self-2
 invariant_of-self-2 g c = attached_new (g.met.S.AnyStorage.sound _)
     (attached_more c.self.invariant _ c.reserve_part.ensures.same) _ c.args.entity _ _
-    c.in_ok-raw.raw (c.reserve_part.ensures.within (grind arith)) c.in_ok-raw.ensures.step
+    c.in_ok-raw.raw (c.reserve_part.ensures.within (grind arith))
+    (c.reserve_part.ensures.same _ ∙ (sym c.part_in.ensures ∙ c.in_default.is))
+    c.in_ok-raw.ensures.step
 
 pub returns-clause-shown : goal.returns-clause-shown
 returns-clause-shown g c =
@@ -53,3 +55,18 @@ returns-clause-others g c e other =
     (λ p at. new_beside (g.met.S.AnyStorage.sound _)
     (attached_more c.self.invariant _ c.reserve_part.ensures.same) _ _ c.in_ok-raw.raw
     c.in_ok-raw.ensures.step _ p at) ∙ kept_shown _ _ e refl c.reserve_part.ensures.same)
+
+pub returns-in-Some-clause-listed : goal.returns-in-Some-clause-listed
+returns-in-Some-clause-listed g c = (attached_set (g.met.S.AnyStorage.sound _) c.self.invariant _
+    c.in-Some.part c.args.entity _ _ (sym c.part_in.ensures ∙ c.in-Some.is) c.set.ensures.1).listed
+
+pub returns-then-not-reserve_part-clause-listed : goal.returns-then-not-reserve_part-clause-listed
+returns-then-not-reserve_part-clause-listed g c =
+    (attached_more c.self.invariant _ c.reserve_part.ensures.same).listed
+
+pub returns-clause-listed : goal.returns-clause-listed
+returns-clause-listed g c = (attached_new (g.met.S.AnyStorage.sound _)
+    (attached_more c.self.invariant _ c.reserve_part.ensures.same) _ c.args.entity _ _
+    c.in_ok-raw.raw (c.reserve_part.ensures.within (grind arith))
+    (c.reserve_part.ensures.same _ ∙ (sym c.part_in.ensures ∙ c.in_default.is))
+    c.in_ok-raw.ensures.step).listed

@@ -29,3 +29,9 @@ returns-clause-others g c e other =
     (λ ne. written_apart _ _ _ _ None e ne (λ p at. gone_beside (g.met.S.AnyStorage.sound _)
     c.self.invariant _ _ there.0 c.in-Ok.ensures _ p (λ back. ne (sym back)) at))
     (key_cases by_number (slot_in c.args.entity) (slot_in e)))
+
+pub returns-clause-listed : goal.returns-clause-listed
+returns-clause-listed g c =
+    let there = part_there _ c.args.entity c.in-Some.part (sym c.part_for.ensures ∙ c.in-Some.is) in
+    rw c.raw_ptr.ensures (attached_gone (g.met.S.AnyStorage.sound _) c.self.invariant _ _ there.0
+    c.in-Ok.ensures).listed
