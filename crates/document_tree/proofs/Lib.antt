@@ -1,2 +1,4 @@
+pub mod Ending
 pub mod Keeping
+pub mod Outlining
 pub mod Showing

@@ -1,19 +1,21 @@
 -- What places show after each call of their document.
 use Rattle.std.specs.FinMap as map
-use Rattle.std.proofs.Common.{suc, List, ℕ, ◌≡◌, ◌≢◌, ℕ, true, cond, Option, None, Some, refl, sym, ap, subst}
+use Rattle.std.proofs.Common.{ℕ, ◌≡◌, ◌≢◌, true, Option, None, Some, refl, sym, ap, subst}
 use Rattle.std.proofs.Common.{◌∙◌, ⊎_elim}
-use Rattle.std.proofs.lemmas.Bool.{true≢false, eqb-true}
+use Rattle.std.proofs.lemmas.Bool.{true≢false}
 use Rattle.std.proofs.lemmas.Option.{same_Some}
-use Rattle.std.specs.Prelude.{is_some, nat_eq, slice_get}
-use Rattle.generational_core.specs.Borrowing.{reach, leads_to}
+use Rattle.std.specs.Prelude.{is_some}
+use Rattle.generational_core.specs.Borrowing.{BorrowRefusal, reach, refusal_to_read}
 use Rattle.generational_core.specs.Boxes.{name_of}
 use Rattle.generational_core.specs.Conditions.{fresh}
 use Rattle.generational_core.specs.Leaving.{IsLeft, LeavesContent}
-use Rattle.generational_core.specs.Machine.{Action, Answer}
-use Rattle.generational_core.specs.Machine.Action.{SetValue}
-use Rattle.generational_core.specs.Machine.Answer.{Old}
+use Rattle.generational_core.specs.Cells.{Cell, location_of}
+use Rattle.generational_core.specs.Cells.Cell.{Shared}
+use Rattle.generational_core.specs.Machine.{Action, Answer, Outcome, cell_at, refer, unless}
+use Rattle.generational_core.specs.Machine.Action.{Refer, SetValue}
+use Rattle.generational_core.specs.Machine.Answer.{Made, Old}
 use Rattle.generational_core.specs.Names.{Name, name_cmp}
-use Rattle.generational_core.specs.Seeing.{value_in, value_reached}
+use Rattle.generational_core.specs.Seeing.{value_in}
 use Rattle.generational_core.specs.State.{State, IsSound}
 use Rattle.generational_core.specs.Steps.{Meets}
 use Rattle.generational_core.specs.declared.boxes.GenerationalPointer.{GenerationalPointer}
@@ -23,12 +25,11 @@ use Rattle.generational_core.proofs.machine.Calling.{sets, unseen}
 use Rattle.generational_core.proofs.machine.Ends.{none≢some, some_live}
 use Rattle.generational_core.proofs.machine.Leaving.{given_other, leaves}
 use Rattle.generational_core.proofs.machine.Seeing.{led_box, reaches}
-use Rattle.generational_core.proofs.machine.Stepping.{meets_given, meets_number}
+use Rattle.generational_core.proofs.machine.Stepping.{meets_cases, meets_given, meets_number}
 use Rattle.document_tree.specs.declared.part.Part.{Part}
 use Rattle.document_tree.specs.declared.place.Place.{Place}
-use Rattle.document_tree.specs.Documents.{Shown, children_of, shown_by, shown_of, shown_in, part_in, WasMade, Leaves, Changes}
+use Rattle.document_tree.specs.Documents.{Shown, shown_by, shown_of, shown_in, part_in, WasMade, Leaves, Changes}
 use Rattle.generational_sessions.proofs.callers.Ids.{same_id_reach, same_value_there, unreached}
-use Rattle.document_tree.specs.Outlines.{IsBelow, IsChild}
 use Rattle.document_tree.specs.Places.{IsSame}
 
 fresh_none : (C : Type 0) (number start next : ℕ) (b : GenerationalPointer)
@@ -174,12 +175,22 @@ module _ {T : Type 0} where
   put_back {D} {E} {F} {p} first second same =
       unchanged (subst (λ shown. Changes D p shown F) same (changed_twice first second))
 
-  -- ---- what stands below a place
+  -- ---- where a part was added
 
-  pub child_below : {D : State (Part T)} {top p : Place} {children : List Place} (at : ℕ) (q : Place)
-      → IsBelow D top p → children_of (shown_in D p) ≡ Some children
-      → slice_get children at ≡ Some q → IsBelow D top q
-  child_below {D} {p = p} {children} at q below shown there =
-      let child : IsChild D p q =
-      record { children = children; shown = shown; at = at; there = there } in
-      (suc below.0, (p, below.1, child))
+  -- a box that is made of a reference tells where what it reaches was made
+  pub refers_from : {D E : State (Part T)} (b a : GenerationalPointer) → Meets D (Refer None b) (Made a) E
+      → location_of (cell_at D (reach D b)) ≡ Some a.created_at
+  refers_from {D} {E} b a m = ⊎_elim (λ refused. absurd (true≢false (sym refused.0)))
+      (λ acts. at acts.0.first (refusal_to_read D b) (reach D b) (cell_at D (reach D b))
+      (ap (λ (out : Outcome (Part T)). out.0) acts.2))
+      (meets_cases D E (Refer None b) (Made a) m)
+    where
+      box_in : Answer (Part T) → GenerationalPointer
+      box_in (Made c) = c
+      box_in _ = a
+
+      at : (n : Name) (t : Option BorrowRefusal) (to : Option Name) (x : Option (Cell (Part T)))
+          → Made a ≡ (unless t D (refer D None b to x n)).0 → location_of x ≡ Some a.created_at
+      at n (Some t) to x is = absurd cc
+      at n None (Some m) (Some (Shared c l)) is = ap (λ o. Some (box_in o).created_at) (sym is)
+      at n None to x is = absurd cc

@@ -1,14 +1,17 @@
 -- What a caller sees of a document: to which part each place leads, and what it shows.
 use Rattle.std.specs.Prelude.{◌≡◌, ◌≢◌, ◌++◌, ◌∷◌, [], List, Option, None, Some}
+use Rattle.std.specs.FinMap as map
 use Rattle.generational_core.specs.Borrowing.{reach}
 use Rattle.generational_core.specs.Boxes.{name_of}
+use Rattle.generational_core.specs.Cells.{location_of}
+use Rattle.generational_core.specs.Machine.{cell_at}
 use Rattle.generational_core.specs.Names.{Name}
 use Rattle.generational_core.specs.Seeing.{value_in}
 use Rattle.generational_core.specs.State.{State, IsGiven}
 use Rattle.document_tree.specs.declared.part.Body.{Body}
 use Rattle.document_tree.specs.declared.part.Part.{Part}
 use Rattle.document_tree.specs.declared.place.Place.{Place}
-use Rattle.document_tree.specs.Places.{made_at}
+use Rattle.document_tree.specs.Places.{made_at, IsOther}
 use Rattle.generational_errors.specs.declared.error.Location.{Location}
 
 -- what a place shows: the content of its part, and that part's children
@@ -32,6 +35,10 @@ module _ {T : Type 0} where
   -- the part to which a place leads, by its name
   abbrev pub part_in : State (Part T) → Place → Option Name
   part_in D p = reach D p.raw
+
+  -- where the part was added to which a place leads
+  abbrev pub added_in : State (Part T) → Place → Option Location
+  added_in D p = location_of (cell_at D (part_in D p))
 
   -- the content that a place shows, and the children
   abbrev pub content_of : Option (Shown T) → Option T
@@ -67,6 +74,14 @@ module _ {T : Type 0} where
     pub others : (q : Place) → part_in D q ≢ part_in D p → Leaves D q E
     pub parts : (q : Place) → part_in E q ≡ part_in D q
     pub kept : (q : Place) → WasMade D q → WasMade E q
+
+  -- no other place leads to a place's part
+  abbrev pub IsOnlyPlace : State (Part T) → Place → Type 0
+  IsOnlyPlace D p = (q : Place) → IsOther p q → part_in D q ≢ part_in D p
+
+  -- from D to E a place's part has ended
+  abbrev pub EndsPart : State (Part T) → Place → State (Part T) → Type 0
+  EndsPart D p E = (n : Name) → part_in D p ≡ Some n → map.get E.cells n ≡ None
 
   -- where the first of two places was made that is gone, by what the first shows
   abbrev pub first_gone : Option (Shown T) → Place → Place → Location

@@ -1,22 +1,27 @@
--- Which places stand below a place.
-use Rattle.std.specs.Prelude.{◌≡◌, ℕ, zero, suc, List, Some, slice_get}
+-- Outlines: the places in the order in which a document is read.
+use Rattle.std.specs.Prelude.{◌≡◌, ℕ, zero, suc, List, [], ◌∷◌, ◌++◌, unwrap_or}
+use Rattle.std.specs.List.{Contains}
 use Rattle.generational_core.specs.State.{State}
 use Rattle.document_tree.specs.declared.part.Part.{Part}
 use Rattle.document_tree.specs.declared.place.Place.{Place}
 use Rattle.document_tree.specs.Documents.{children_of, shown_in}
 
 module _ {T : Type 0} where
-  -- a place has another among its children
-  pub record IsChild (D : State (Part T)) (p q : Place) : Type 0 where
-    pub children : List Place
-    pub shown : children_of (shown_in D p) ≡ Some children
-    pub at : ℕ
-    pub there : slice_get children at ≡ Some q
+  -- the children of a place's part, or none where the place is gone
+  abbrev pub children_in : State (Part T) → Place → List Place
+  children_in D p = unwrap_or (children_of (shown_in D p)) []
+
+  -- what is read of the places that wait, up to a limit: the first of them, and then its children
+  -- and the others that wait
+  unfoldable pub outline_of : State (Part T) → ℕ → List Place → List Place
+  outline_of D zero waiting = []
+  outline_of D (suc limit) [] = []
+  outline_of D (suc limit) (p ∷ waiting) = p ∷ outline_of D limit (children_in D p ++ waiting)
 
   -- a place is one that stands so many steps below another; at any number of steps
   abbrev pub IsBelowBy : State (Part T) → ℕ → Place → Place → Type 0
   IsBelowBy D zero top q = top ≡ q
-  IsBelowBy D (suc n) top q = (p : Place) × IsBelowBy D n top p × IsChild D p q
+  IsBelowBy D (suc n) top q = (p : Place) × IsBelowBy D n top p × Contains (children_in D p) q
 
   abbrev pub IsBelow : State (Part T) → Place → Place → Type 0
   IsBelow D top q = (n : ℕ) × IsBelowBy D n top q

@@ -1,17 +1,16 @@
 //! Documents.
 
 ghost use Rattle.std.specs.Prelude.{◌≡◌, ◌≢◌, ◌↔◌, ◌⊎◌, [], None, Some, true, is_some, option_copied};
-ghost use Rattle.std.specs.Prelude.{Err, IfOk, OnOk, IfErr, OnErr, IsErr, IsTrue, IsFalse, ◌++◌, ◌∷◌, ◌≤◌, ◌<◌, length, slice_get};
+ghost use Rattle.std.specs.Prelude.{Err, IfOk, OnOk, IfErr, OnErr, IsErr, IsTrue, IsFalse, ◌++◌, ◌∷◌, ◌<◌, reverse};
 ghost use Rattle.generational_core.specs.Slots.{free};
-ghost use Rattle.std.specs.List.{All};
 ghost use Rattle.generational_core.specs.Conditions.{IsFresh};
 ghost use Rattle.generational_errors.specs.declared.error.StoreError.TheVariants.{OutOfMemory};
 ghost use Rattle.document_tree.specs.declared.place.Place.{Place};
 ghost use Rattle.document_tree.specs.Documents.{shown_by, shown_in, part_in, content_of, children_of};
 ghost use Rattle.document_tree.specs.Documents.{with_content, with_child, WasMade, Leaves, Changes};
-ghost use Rattle.document_tree.specs.Documents.{first_gone};
+ghost use Rattle.document_tree.specs.Documents.{added_in, first_gone, EndsPart, IsOnlyPlace};
 ghost use Rattle.document_tree.specs.declared.place.PlaceError.TheVariants as errors;
-ghost use Rattle.document_tree.specs.Outlines.{IsBelow};
+ghost use Rattle.document_tree.specs.Outlines.{children_in, outline_of};
 ghost use Rattle.document_tree.specs.Places.{made_at, IsSame, IsOther};
 
 use crate::part::{Body, Part};
@@ -90,8 +89,8 @@ impl<T, S: Storage<Part<T>>> Document<T, S> {
         Ok(Place { raw })
     }
 
-    /// Another place that leads to the same part. It is none that was ever given, and every other
-    /// place shows what it showed.
+    /// Another place that leads to the same part, and tells where that was added. It is none that was
+    /// ever given, and every other place shows what it showed.
     ///
     /// Refused, in this order: `Gone`, where the place is gone, or is another document's;
     /// `OutOfMemory`. The document stays as it was then. Takes memory where no slot is free. O(1), but
@@ -99,6 +98,7 @@ impl<T, S: Storage<Part<T>>> Document<T, S> {
     pub fn repeat(&mut self, place: Place) -> Result<Place, PlaceError>
         ensures part { IfOk result (λ p. part_in self.new p ≡ part_in self.old place) }
         ensures shown { IfOk result (λ p. shown_in self.new p ≡ shown_in self.old place) }
+        ensures here { IfOk result (λ p. added_in self.old place ≡ Some (made_at p)) }
         ensures others { IfOk result (λ p. (q : Place) → IsOther p q →
             Leaves self.old q self.new) }
         ensures left { (q : Place) → WasMade self.old q → Leaves self.old q self.new }
@@ -162,9 +162,7 @@ impl<T, S: Storage<Part<T>>> Document<T, S> {
     /// Refused for want of memory alone. Takes memory for the list, and for the places that wait. O(n)
     /// for n places that are answered and their children.
     pub fn outline(&self, place: Place, limit: usize) -> Result<Vec<Place>, AllocError>
-        ensures below { IfOk result (λ places. All (IsBelow self.now place) places.items) }
-        ensures within { IfOk result (λ places. length places.items ≤ limit) }
-        ensures first { IfOk result (λ places. 0 < limit → slice_get places.items 0 ≡ Some place) }
+        ensures { IfOk result (λ places. places.items ≡ outline_of self.now limit (place ∷ [])) }
     {
         let mut places = Vec::new(self.alloc);
         let mut waiting = vec![in self.alloc; place]?;
@@ -261,6 +259,8 @@ impl<T, S: Storage<Part<T>>> Document<T, S> {
         ensures shown { OnOk result ((q : Place) → IsSame place q →
             shown_in self.new q ≡ shown_in self.old other) }
         ensures others { (q : Place) → IsOther place q → Leaves self.old q self.new }
+        ensures ends { OnOk result (IsOther place other → IsOnlyPlace self.old place →
+            EndsPart self.old place self.new) }
         ensures kept { (q : Place) → WasMade self.old q → WasMade self.new q }
         ensures gone { IsErr result ↔
             (shown_in self.old place ≡ None) ⊎ (shown_in self.old other ≡ None) }
@@ -282,6 +282,8 @@ impl<T, S: Storage<Part<T>>> Document<T, S> {
     pub fn remove(&mut self, place: Place) -> Result<(), Gone>
         ensures ended { (q : Place) → IsSame place q → shown_in self.new q ≡ None }
         ensures others { (q : Place) → IsOther place q → Leaves self.old q self.new }
+        ensures ends { OnOk result (IsOnlyPlace self.old place →
+            EndsPart self.old place self.new) }
         ensures kept { (q : Place) → WasMade self.old q → WasMade self.new q }
         ensures gone { IsErr result ↔ shown_in self.old place ≡ None }
         ensures told { IfErr result (λ gone. gone.made_at ≡ made_at place) }
@@ -296,19 +298,13 @@ impl<T, S: Storage<Part<T>>> Document<T, S> {
 
     // Puts the children of a place at the end of a list, the first one last.
     fn put_children(&self, places: &mut Vec<Place>, place: Place) -> Result<(), AllocError>
-        ensures { OnOk result ((top : Place) → IsBelow self.now top place →
-            All (IsBelow self.now top) places.old.items →
-            All (IsBelow self.now top) places.new.items) }
+        ensures { OnOk result (
+            places.new.items ≡ places.old.items ++ reverse (children_in self.now place)) }
     {
-        let Ok(children) = self.children(place) else {
-            return Ok(());
-        };
-        let mut left = children.len();
-        while left > 0 {
-            left -= 1;
-            places.push(children[left])?;
+        match self.children(place) {
+            Ok(children) => places.extend(children.iter().rev().copied()),
+            Err(_) => Ok(()),
         }
-        Ok(())
     }
 
     // Lets a place lead to the part to which another leads.
@@ -320,6 +316,8 @@ impl<T, S: Storage<Part<T>>> Document<T, S> {
         ensures shown { (q : Place) → IsSame place q →
             shown_in self.new q ≡ shown_in self.old other }
         ensures others { (q : Place) → IsOther place q → Leaves self.old q self.new }
+        ensures ends { IsOther place other → IsOnlyPlace self.old place →
+            EndsPart self.old place self.new }
         ensures kept { (q : Place) → WasMade self.old q → WasMade self.new q }
     {
         match self.store.change_reference(place.raw, other.raw) {

@@ -6,9 +6,11 @@
 #![tactic(auto)]
 
 mod document;
+mod laws;
 mod part;
 mod place;
 
 pub use crate::document::Document;
+pub use crate::laws::outlines_stay_below;
 pub use crate::part::Part;
 pub use crate::place::{Gone, Place, PlaceError};

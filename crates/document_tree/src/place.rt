@@ -20,7 +20,8 @@ impl Place {
         self.raw.id
     }
 
-    /// Where the place's part was added.
+    /// Where the part was added to which the place was made. An exchange leaves it as it is: it tells
+    /// of the first part to which the place led.
     pub fn made_at(self) -> Location
         ensures { result ≡ made_at self }
     {

@@ -1,16 +1,13 @@
-use Rattle.std.proofs.Common.{◌≡◌, ◌≤◌, ◌<◌, ◌-◌, ◌∷◌, [], Some, length, slice_get}
-use Rattle.std.specs.List.{All}
-use Rattle.document_tree.specs.Outlines.{IsBelow}
+use Rattle.std.proofs.Common.{◌≡◌, ◌≤◌, ◌-◌, ◌∷◌, ◌++◌, [], length, reverse}
+use Rattle.document_tree.specs.Outlines.{outline_of}
 use Rattle.document_tree.proofs.document.Document.outline.Given as goal
 
--- what was found stands below the place, and so does what waits; the place is the first of both
+-- what was read, and then what is read of the places that wait, the last of them first
 abbrev pub invariant-loop-waiting : goal.invariant-loop-waiting
 invariant-loop-waiting g l = record {
   within : length l.places.items ≤ l.limit;
-  found : All (IsBelow l.self l.place) l.places.items;
-  waiting : All (IsBelow l.self l.place) l.waiting.items;
-  begins : length l.places.items ≡ 0 → l.waiting.items ≡ l.place ∷ [];
-  first : 0 < length l.places.items → slice_get l.places.items 0 ≡ Some l.place;
+  read : l.places.items ++ outline_of l.self (l.limit - length l.places.items) (reverse l.waiting.items)
+      ≡ outline_of l.self l.limit (l.place ∷ []);
 }
 
 abbrev pub decreases-loop-waiting : goal.decreases-loop-waiting

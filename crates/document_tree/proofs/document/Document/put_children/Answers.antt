@@ -1,19 +1,19 @@
-use Rattle.std.proofs.Common.{◌<◌, ◌-◌, arith, length, subst, sym}
-use Rattle.std.specs.List.{All}
-use Rattle.std.proofs.lemmas.List.Elements.{All-push}
-use Rattle.std.proofs.lemmas.Option.{slice_get-get_or}
-use Rattle.document_tree.specs.Outlines.{IsBelow}
-use Rattle.document_tree.proofs.Showing.{child_below}
+use Rattle.std.proofs.Common.{◌≡◌, ◌++◌, [], Ok, Err, ap, reverse, sym, ◌∙◌}
+use Rattle.std.specs.Prelude.{OnOk, Result, unwrap_or}
+use Rattle.std.proofs.lemmas.Iterator.Adapters.{YieldsList-from_rev_slice, items_from_extend}
+use Rattle.std.proofs.lemmas.Iterator.Consumers.{YieldsList-from_copied}
+use Rattle.document_tree.specs.Outlines.{children_in}
 use Rattle.document_tree.proofs.document.Document.put_children.Goals as goal
 
-pub loop-left-preserved : goal.loop-left-preserved
-loop-left-preserved g c =
-    let within : c.loop-left.left - 1 < length c.in-Ok.children.now = grind arith in
-    record {
-      within = omega (arith, c.loop-left.invariant.within);
-      shown = c.loop-left.invariant.shown;
-      below = λ top below all. subst (All (IsBelow c.args.self.now top)) (sym c.in_ok-push.ensures.items)
-          (All-push (IsBelow c.args.self.now top) _ _ (c.loop-left.invariant.below top below all)
-          (child_below (c.loop-left.left - 1) _ below c.loop-left.invariant.shown
-          (slice_get-get_or c.in-Ok.children.now (c.loop-left.left - 1) _ within)));
-    }
+on_ok : {X E P Q : Type 0} (r : Result X E) → OnOk r P → (P → Q) → OnOk r Q
+on_ok (Ok x) p goes = goes p
+on_ok (Err e) p goes = tt
+
+pub returns-in-Ok : goal.returns-in-Ok
+returns-in-Ok g c =
+    let children = c.in-Ok.children.now in
+    let is : children_in c.args.self.now c.args.place ≡ children =
+    ap (λ o. unwrap_or o []) c.in-Ok.ensures.seen in
+    on_ok c.extend.result (items_from_extend c.extend.result c.extend.ensures.ran
+    (YieldsList-from_copied (YieldsList-from_rev_slice children cc)))
+    (λ held. held.0 ∙ ap (λ l. c.args.places.now.items ++ reverse l) (sym is))

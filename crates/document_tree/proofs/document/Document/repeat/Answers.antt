@@ -7,7 +7,7 @@ use Rattle.generational_core.proofs.machine.Leaving.{leaves}
 use Rattle.generational_core.proofs.machine.Stepping.{made_new, meets_given}
 use Rattle.generational_core.proofs.machine.Telling.{meets_tells}
 use Rattle.document_tree.proofs.Keeping.{refer_lacks, stays_kept}
-use Rattle.document_tree.proofs.Showing.{left_made, left_other, left_place, some_shown}
+use Rattle.document_tree.proofs.Showing.{left_made, left_other, left_place, refers_from, some_shown}
 use Rattle.document_tree.specs.Documents.{shown_of, WasMade}
 use Rattle.document_tree.proofs.document.Document.repeat.Goals as goal
 
@@ -27,6 +27,9 @@ returns-clause-part g c = rw (← c.self.view_is) (meets_tells _ _ _ _ c.in-Ok.e
 pub returns-clause-shown : goal.returns-clause-shown
 returns-clause-shown g c = rw (← c.self.view_is)
     (ap shown_of ((meets_tells _ _ _ _ c.in-Ok.ensures).1 (g.met.S.AnyStorage.sound _)))
+
+pub returns-clause-here : goal.returns-clause-here
+returns-clause-here g c = rw (← c.self.view_is) (refers_from _ _ c.in-Ok.ensures)
 
 pub returns-clause-others : goal.returns-clause-others
 returns-clause-others g c q other =

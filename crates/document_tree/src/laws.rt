@@ -1,0 +1,17 @@
+//! Laws of outlines. Each is the contract of a function that does nothing.
+
+ghost use Rattle.std.specs.Prelude.{◌∷◌, ◌≤◌, ℕ, [], List, length};
+ghost use Rattle.std.specs.List.{All};
+ghost use Rattle.generational_core.specs.State.{State};
+ghost use Rattle.document_tree.specs.declared.part.Part.{Part};
+ghost use Rattle.document_tree.specs.declared.place.Place.{Place};
+ghost use Rattle.document_tree.specs.Outlines.{IsBelow, outline_of};
+
+/// An outline has no more places than its limit says, and none but its first place and those that
+/// stand below it.
+pub fn outlines_stay_below<T>()
+    ensures within { (D : State (Part T)) (limit : ℕ) (waiting : List Place) →
+        length (outline_of D limit waiting) ≤ limit }
+    ensures below { (D : State (Part T)) (limit : ℕ) (top : Place) →
+        All (IsBelow D top) (outline_of D limit (top ∷ [])) }
+{}
