@@ -68,6 +68,30 @@ fn page_is_read<S: Storage<Part<u64>>>(rt: &impl Abort, document: &mut Document<
     reads(rt, document, page, 5, &[0, 1, 2, 0, 1]);
 }
 
+/// A page with a place that is gone: it is read where it stood.
+fn gone_place_is_read<S: Storage<Part<u64>>>(rt: &impl Abort, document: &mut Document<u64, S>) {
+    let page = add_or_again(rt, document, 0);
+    let first = add_or_again(rt, document, 1);
+    let second = add_or_again(rt, document, 2);
+    append_or_again(rt, document, page, first);
+    append_or_again(rt, document, page, second);
+    assert!(rt; document.remove(first).is_ok());
+    let places = document.outline(page, 9).expect(rt, "an outline");
+    let ids = [page.id(), first.id(), second.id()];
+    assert_eq!(rt; places.len(), ids.len());
+    for (place, id) in places.iter().zip(ids.as_slice()) {
+        assert_eq!(rt; place.id(), *id);
+    }
+}
+
+#[test]
+fn a_place_that_is_gone_is_in_the_outline(rt: HostRuntime) {
+    let alloc = rt.alloc();
+    let store: Store<Part<u64>, OldestFirst> = Store::new(alloc, 1);
+    let mut document = document_over(&rt, alloc, store);
+    gone_place_is_read(&rt, &mut document);
+}
+
 #[test]
 fn an_outline_is_in_the_order_of_reading(rt: HostRuntime) {
     let alloc = rt.alloc();

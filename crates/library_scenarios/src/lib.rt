@@ -21,6 +21,8 @@ mod entity_memory;
 #[cfg(test)]
 mod growth;
 #[cfg(test)]
+mod let_go;
+#[cfg(test)]
 mod session_acts;
 #[cfg(test)]
 mod session_histories;
