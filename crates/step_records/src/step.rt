@@ -22,7 +22,9 @@ pub enum StepReply {
     Writer(u64),
     /// The call was carried out.
     Done,
-    /// The box reached nothing. It was made at this location.
+    /// The call was refused as `Dropped`, with this location: the asked box's own, which reaches no
+    /// value, or none that is shared where a reference is made. Of `point_to` it may also be that
+    /// of the other box, or of the value which the other reaches.
     Dropped(Location),
     /// The store refused the call. `OutOfMemory` never stands here: such a call is no step.
     Store(StoreError),
@@ -49,7 +51,7 @@ pub enum Kind {
     /// A value was set, a box was ended or pointed elsewhere, or a guard or an owner was released.
     /// The end of a box that reached nothing counts too.
     Changed,
-    /// A box reached nothing, or the store refused the call for another reason than memory.
+    /// `Dropped`, or the store refused the call for another reason than memory.
     Refused,
 }
 
