@@ -42,11 +42,11 @@ abbrev pub Does : {T : Type 0} → SharedState T → Action T → Answer T → S
 Does s call answer r =
     Meets s.state call answer r.state ⊎ ((answer ≡ refuses OutOfMemory) × (r.state ≡ s.state))
 
--- the history replays, from the state that its base tells of this store, to the state without its
--- values
+-- the history replays, from the sound state that its base tells of this store, to the state without
+-- its values
 abbrev pub Replays : {T : Type 0} → ℕ → SharedState T → Type 0
 Replays number s =
-    (s.base.number ≡ number)
+    (s.base.number ≡ number) × IsSound (plain_of s.base)
     × (replay_from (plain_of s.base) s.history ≡ Some (plain s.state))
 
 -- the step of a call of the tally's worker is appended, if its answer is recorded, on the same base
@@ -64,10 +64,11 @@ Raises old answer new = new ≡ raised_by (kind_in answer) old
 abbrev pub IsBoxOf : ℕ → Location → GenerationalPointer → Type 0
 IsBoxOf number l b = (b.id.store ≡ number) × (b.created_at ≡ l)
 
--- a list that replays from the state that a base tells of the store with this number
+-- a list that replays from the sound state that a base tells of the store with this number
 abbrev pub IsHistory : ℕ → BaseState → List Step → Type 0
 IsHistory number base steps =
-    (base.number ≡ number) × (is_some (replay_from (plain_of base) steps) ≡ true)
+    (base.number ≡ number) × IsSound (plain_of base)
+    × (is_some (replay_from (plain_of base) steps) ≡ true)
 
 -- a checkpoint: the base tells the state without its values and counts all steps so far, none is
 -- left in the history, and the state stays

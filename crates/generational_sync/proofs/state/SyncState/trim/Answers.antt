@@ -67,4 +67,4 @@ returns-clause-replays g c =
     (ap (λ (b : BaseState). b.peak) base ∙ c.peak_live.ensures)
     (subst (ReadBack S) (sym (ap (λ (b : BaseState). b.rows) base)) c.in-Ok.ensures.back)
     c.in_ok-outdated.ensures.steps c.in_ok-outdated.ensures.standing in
-    (own, kept.1.0)
+    (own, kept.1.2, kept.1.0)
