@@ -63,7 +63,7 @@ impl<T: Drop + Send, const NUMBER: u64, M: Count, L: Count, C: Count, R: Count> 
     /// A new store, and a tally for each worker, numbered from 0. Each tally counts nothing.
     ///
     /// Each blank is of its kind's ledger and has a part for each worker. Refused by `OutOfMemory`
-    /// at most, and the blanks are spent then.
+    /// at most, also for 2^32 workers or more, and the blanks are spent then.
     pub fn new(
         alloc: Global,
         workers: usize,
