@@ -2,7 +2,7 @@
 use Rattle.std.proofs.Common.{◌≡◌, ℕ, ◌+◌, ◌≤◌, ◌<◌, Bool, true, false, cond, List, [], ◌∷◌, ◌++◌}
 use Rattle.std.proofs.Common.{length, Option, None, Some, Result, Ok, Err, refl, sym, ap, subst, ◌∙◌}
 use Rattle.std.proofs.Common.{arith, inl, inr, IfSome}
-use Rattle.std.specs.Prelude.{option_to_list}
+use Rattle.std.specs.Prelude.{OnOk, option_to_list}
 use Rattle.std.proofs.lemmas.Bool.{true≢false}
 use Rattle.std.specs.FinMap as map
 use Rattle.generational_errors.specs.declared.error.Location.{Location}
@@ -17,22 +17,23 @@ use Rattle.generational_core.specs.Machine.{Action, Answer, Outcome, OwnerName, 
 use Rattle.generational_core.specs.Machine.Action.{Make, MakeShared, ReleaseReader, ReleaseWriter}
 use Rattle.generational_core.specs.Machine.Answer.{Back, Done, Flag}
 use Rattle.generational_core.specs.Steps.{Meets, limit_tickets}
-use Rattle.generational_core.specs.Answers.{back_answer}
+use Rattle.generational_core.specs.Answers.{back_answer, value_behind}
 use Rattle.generational_core.specs.StepCalls.{is_ready, recorded_as}
 use Rattle.generational_sessions.specs.History.{plain}
 use Rattle.step_records.specs.declared.step.Step.{Step}
 use Rattle.step_records.specs.declared.step.StepReply.{StepReply}
 use Rattle.step_records.specs.Kinds.{step_of}
 use Rattle.step_records.specs.Records.{HasRecord}
-use Rattle.generational_sync.specs.Refusals.{MayRefuse}
+use Rattle.generational_sync.specs.Answering.{MayAnswer}
 use Rattle.shared_history.specs.Replies.{recorded, reply_of}
 use Rattle.shared_history.specs.History.{Plain, start, plain_step, replay_from}
 use Rattle.shared_history.specs.Standing.{borrows, borrows_in, given_by, leaves, lent_in}
 use Rattle.shared_history.specs.Bases.{BaseState, new_base, plain_of}
-use Rattle.generational_sync.specs.Shared.{IsKept}
+use Rattle.generational_sync.specs.Shared.{IsKept, Replays, SharedState}
 use Rattle.shared_history.specs.Logs.{LogState}
 use Rattle.generational_core.specs.Rows.{ReadBack, told_by}
 use Rattle.generational_sync.proofs.Trimming.{told_number, told_start}
+use Rattle.generational_sync.proofs.Answering.{answers_so, opened_own}
 use Rattle.generational_sync.proofs.Counting.{meets_fine, written_stand}
 use Rattle.generational_sync.proofs.Replaying.{replays_on}
 use Rattle.generational_sync.proofs.Standings.{release_stand}
@@ -65,11 +66,11 @@ Numbered P Q = Q.number ≡ P.number
 abbrev Started : Plain → Plain → Type 0
 Started P Q = Q.start ≡ P.start
 
--- a call is refused as it may be
-abbrev FreeRefusals : Type 0 → Type 0
-FreeRefusals T = (S R : State T) (a : Action T) (c : StepCall) (answer : Answer T)
+-- a call is answered as it may be
+abbrev FreeAnswers : Type 0 → Type 0
+FreeAnswers T = (S R : State T) (a : Action T) (c : StepCall) (answer : Answer T)
     → recorded_as a ≡ Some c → is_ready S c ≡ true → Meets S a answer R
-    → MayRefuse S.number a answer
+    → MayAnswer S.number a answer
 
 -- what is known of each recorded step
 abbrev KnownRecords : Type 0 → Type 0
@@ -231,6 +232,15 @@ module _ {T : Type 0} where
   shared_ready S None v l c e = subst (λ x. IfSome x (λ d. is_ready S d ≡ true)) e refl
   shared_ready S (Some o) v l c e = subst (λ x. IfSome x (λ d. is_ready S d ≡ true)) e refl
 
+  -- a guard that opens something is of the store
+  pub opened_by : ((base : BaseState) (steps : List Step) (Q : Plain) → IsSound (plain_of base)
+      → replay_from (plain_of base) steps ≡ Some Q → Q.number ≡ base.number)
+      → (number : ℕ) (s : SharedState T) (g : Guard) (v : T) → Some v ≡ value_behind s.state g
+      → Replays number s → g.store ≡ number
+  opened_by lead number s g v e replays =
+      opened_own s.state g v e
+      ∙ (lead s.base s.history (plain s.state) replays.1 replays.2 ∙ replays.0)
+
   module _ (number : ℕ) (S R : State T) (log : LogState) (kept : IsKept number S log) where
     -- the store has the number of its history's start
     numbered_so : LeadTo Numbered → S.number ≡ number
@@ -238,22 +248,22 @@ module _ {T : Type 0} where
         numbered (plain_of log.base) log.steps (plain S) kept.2 kept.0
         ∙ told_number log.base ∙ kept.3
 
-    -- a call that is ready where the state is seen so is refused as it may be
-    pub refused_as : FreeRefusals T → LeadTo Numbered → (seen : State T) (a : Action T) (c : StepCall)
+    -- a call that is ready where the state is seen so is answered as it may be
+    pub answered_as : FreeAnswers T → LeadTo Numbered → (seen : State T) (a : Action T) (c : StepCall)
         (answer : Answer T) → S ≡ seen → recorded_as a ≡ Some c → is_ready seen c ≡ true
-        → Meets S a answer R → MayRefuse number a answer
-    refused_as refuses numbered seen a c answer same e ready m =
-        subst (λ n. MayRefuse n a answer) (numbered_so numbered)
-        (refuses S R a c answer e (ap (λ s. is_ready s c) same ∙ ready) m)
+        → Meets S a answer R → MayAnswer number a answer
+    answered_as answers numbered seen a c answer same e ready m =
+        subst (λ n. MayAnswer n a answer) (numbered_so numbered)
+        (answers S R a c answer e (ap (λ s. is_ready s c) same ∙ ready) m)
 
     -- the same of a call that asks for what is known by another name
-    pub refused_by : FreeRefusals T → LeadTo Numbered → {X : Type 0} (seen : State T) (x asked : X)
+    pub answered_by : FreeAnswers T → LeadTo Numbered → {X : Type 0} (seen : State T) (x asked : X)
         (a : X → Action T) (c : X → StepCall) (answer : Answer T) → S ≡ seen → x ≡ asked
         → ((y : X) → recorded_as (a y) ≡ Some (c y)) → is_ready seen (c asked) ≡ true
-        → Meets S (a x) answer R → MayRefuse number (a asked) answer
-    refused_by refuses numbered seen x asked a c answer same is e ready m =
-        subst (λ y. MayRefuse number (a y) answer) is
-        (refused_as refuses numbered seen (a x) (c x) answer same (e x)
+        → Meets S (a x) answer R → MayAnswer number (a asked) answer
+    answered_by answers numbered seen x asked a c answer same is e ready m =
+        subst (λ y. MayAnswer number (a y) answer) is
+        (answered_as answers numbered seen (a x) (c x) answer same (e x)
         (ap (λ y. is_ready seen (c y)) is ∙ ready) m)
 
     -- and what is known of its step, if it is recorded
@@ -264,6 +274,19 @@ module _ {T : Type 0} where
     known_as records numbered seen a c answer reply same e ready m is =
         records number S R a c answer reply (numbered_so numbered) e
         (ap (λ s. is_ready s c) same ∙ ready) m is
+
+    -- a guard that was known is of the store
+    pub reader_own : LeadTo Numbered → (g : Guard) (b : Bool) → Meets S (ReleaseReader g) (Flag b) R
+        → b ≡ true → g.store ≡ number
+    reader_own numbered g true m known =
+        answers_so S R (ReleaseReader g) (Flag true) m refl ∙ numbered_so numbered
+    reader_own numbered g false m known = absurd (true≢false (sym known))
+
+    pub writer_own : {U : Type 0} → LeadTo Numbered → (g : Guard) (v : T) (r : Result U T)
+        → Meets S (ReleaseWriter g v) (back_answer r) R → OnOk r (g.store ≡ number)
+    writer_own numbered g v (Ok u) m =
+        answers_so S R (ReleaseWriter g v) Done m refl ∙ numbered_so numbered
+    writer_own numbered g v (Err back) m = tt
 
     pub end_counts : (reply : Option StepReply) → IfSome reply (λ r. borrows R + 1 ≤ borrows S)
         → IfSome reply (λ r. 0 < log.standing)

@@ -27,7 +27,7 @@ use Rattle.generational_core.specs.StepCalls.{id_of_owner, recorded_as, target_i
 use Rattle.step_records.specs.declared.step.StepReply.{StepReply}
 use Rattle.step_records.specs.declared.step.StepReply.TheVariants as reply
 use Rattle.step_records.specs.Records.{HasDropped, HasRecord, IsShort}
-use Rattle.generational_sync.specs.Refusals.{MayRefuse, needs_ticket}
+use Rattle.generational_sync.specs.Answering.{MayAnswer, needs_ticket}
 use Rattle.shared_history.specs.Replies.{made_reply, reply_of}
 
 dropped_short : (number : ℕ) (c : StepCall) (l : Location) → IsShort c → HasDropped number c l
@@ -74,7 +74,7 @@ module _ {T : Type 0} (number : ℕ) (R : State T) where
   short_known a c (Refused UnknownOwner) short made = tt
 
   -- of one that points a box at another
-  point_known : (a b : GenerationalPointer) (answer : Answer T) → MayRefuse number (Point a b) answer
+  point_known : (a b : GenerationalPointer) (answer : Answer T) → MayAnswer number (Point a b) answer
       → (takes_ticket answer ≡ true → false ≡ true) → Known (Point a b) (call.PointTo a b) answer
   point_known a b (Made c) may none = tt
   point_known a b (Owned o) may none = absurd (true≢false (sym (none refl)))
@@ -117,7 +117,7 @@ module _ {T : Type 0} (number : ℕ) (R : State T) where
   -- of each call, where a box that it gives is of the store
   known : (a : Action T) (answer : Answer T) → R.number ≡ number
       → ((b : GenerationalPointer) → answer ≡ Made b → b.id.store ≡ number)
-      → MayRefuse number a answer → (takes_ticket answer ≡ true → needs_ticket a ≡ true)
+      → MayAnswer number a answer → (takes_ticket answer ≡ true → needs_ticket a ≡ true)
       → IfSome (recorded_as a) (λ c. Known a c answer)
   known (Make None v l) answer same here may ticket =
       short_known (Make None v l) (call.Leak l) answer tt here
@@ -159,7 +159,7 @@ module _ {T : Type 0} (number : ℕ) (R : State T) where
   -- and so of each recorded step
   pub has_record : (a : Action T) (c : StepCall) (answer : Answer T) (r : Option StepReply)
       → R.number ≡ number → ((b : GenerationalPointer) → answer ≡ Made b → b.id.store ≡ number)
-      → MayRefuse number a answer → (takes_ticket answer ≡ true → needs_ticket a ≡ true)
+      → MayAnswer number a answer → (takes_ticket answer ≡ true → needs_ticket a ≡ true)
       → recorded_as a ≡ Some c → r ≡ reply_of R a answer
       → IfSome r (λ x. HasRecord number c x)
   has_record a c answer r same here may ticket e is =

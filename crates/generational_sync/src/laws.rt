@@ -8,7 +8,7 @@ ghost use Rattle.generational_core.specs.Machine.{Action, Answer};
 ghost use Rattle.generational_core.specs.Steps.{Meets};
 ghost use Rattle.generational_core.specs.StepCalls.{is_ready, recorded_as};
 ghost use Rattle.step_records.specs.Records.{HasRecord};
-ghost use Rattle.generational_sync.specs.Refusals.{MayRefuse};
+ghost use Rattle.generational_sync.specs.Answering.{MayAnswer};
 ghost use Rattle.generational_sessions.specs.History.{plain};
 ghost use Rattle.step_records.specs.declared.step.Step.{Step};
 ghost use Rattle.step_records.specs.declared.step.StepReply.{StepReply};
@@ -65,12 +65,13 @@ pub fn histories_lead_to_sound_states()
     laws::steps_keep_the_store::<()>();
 }
 
-/// A call in whose way no borrow stands is refused, if it is, as `Dropped`, for the last ticket, for
+/// A call in whose way no borrow stands is granted only where the owner, the boxes and the guard by
+/// which it goes are of this store. It is refused, if it is, as `Dropped`, for the last ticket, for
 /// an owner that the store doesn't know, or for want of memory; each only where such a call may be.
-pub fn free_calls_are_refused_so<T>()
+pub fn free_calls_are_answered_so<T>()
     ensures { (S R : State T) (action : Action T) (call : StepCall) (answer : Answer T) →
         recorded_as action ≡ Some call → is_ready S call ≡ true → Meets S action answer R →
-        MayRefuse S.number action answer }
+        MayAnswer S.number action answer }
 {
     laws::calls_are_ready_where_no_borrow_is_told::<T>();
 }
@@ -83,7 +84,7 @@ pub(crate) fn steps_have_records<T>()
         Meets S action answer R → reply ≡ reply_of R action answer →
         IfSome reply (λ r. HasRecord number call r) }
 {
-    free_calls_are_refused_so::<T>();
+    free_calls_are_answered_so::<T>();
     laws::boxes_and_guards_are_new::<T>();
     laws::steps_keep_the_store::<T>();
 }

@@ -1,6 +1,6 @@
 //! The store that threads share.
 
-ghost use Rattle.std.specs.Prelude.{◌≡◌, ◌<◌, true, IfOk, IfErr, IfSome};
+ghost use Rattle.std.specs.Prelude.{◌≡◌, ◌<◌, true, IfOk, IfErr, IfSome, OnSome};
 ghost use Rattle.std.specs.Sync.Mutex.{mutex_guard_value};
 ghost use Rattle.generational_errors.specs.declared.error.StoreError.TheVariants.{OutOfMemory};
 ghost use Rattle.generational_core.specs.declared.steps.StepCall.TheVariants as call;
@@ -13,6 +13,7 @@ mod borrowing;
 mod ending;
 mod making;
 
+use crate::laws::histories_lead_to_sound_states;
 use crate::state::SyncState;
 use generational_box::{GenerationalRef, Owner, StepCall, StoreError};
 use shared_history::{Base, Count, Tally};
@@ -183,8 +184,10 @@ impl<T: Drop + Send, const NUMBER: u64, M: Count, L: Count, C: Count, R: Count> 
         f: F,
     ) -> Option<A>
         requires { F.IsAlwaysCallable f }
-        ensures { IfSome result (λ answer. (value : _) × F.post f value answer) }
+        ensures answer { IfSome result (λ answer. (value : _) × F.post f value answer) }
+        ensures own { OnSome result (guard.now.store ≡ NUMBER) }
     {
+        histories_lead_to_sound_states();
         let held = self.shared.held.lock(rt);
         let value = held.state.open(guard)?;
         Some(f(value))

@@ -1,6 +1,6 @@
 //! Calls that begin and end borrows, and that set a value.
 
-ghost use Rattle.std.specs.Prelude.{◌≡◌, true, IfOk, IfErr};
+ghost use Rattle.std.specs.Prelude.{◌≡◌, true, IfOk, IfErr, IsTrue, OnOk};
 ghost use Rattle.std.specs.Result.{is_ok};
 ghost use Rattle.generational_core.specs.declared.boxes.GenerationalPointer.{GenerationalPointer};
 ghost use Rattle.generational_core.specs.declared.steps.StepCall.TheVariants as call;
@@ -12,13 +12,13 @@ ghost use Rattle.generational_core.specs.Machine.Action.{SetValue, Write};
 ghost use Rattle.generational_core.specs.Machine.Answer.{Flag};
 ghost use Rattle.generational_core.specs.StepCalls.{is_ready};
 ghost use Rattle.generational_core.specs.Steps.{Meets};
-ghost use Rattle.generational_sync.specs.Refusals.{MayRefuse};
+ghost use Rattle.generational_sync.specs.Answering.{MayAnswer};
 ghost use Rattle.generational_sync.specs.Shared.{Does, Raises, Records};
 ghost use Rattle.shared_history.specs.Replies.{set_answer};
 
 use super::SyncState;
 use crate::laws::{
-    free_calls_are_refused_so, histories_lead_to_sound_states, recorded_calls_are_lawful,
+    free_calls_are_answered_so, histories_lead_to_sound_states, recorded_calls_are_lawful,
     steps_have_records,
 };
 use generational_box::laws::boxes_and_guards_are_new;
@@ -56,7 +56,7 @@ impl<T: Drop, const NUMBER: u64, M: Count, L: Count, C: Count, R: Count> SyncSta
         ensures step { Does self.old (Read (pointer_of asked) location) (read_answer result)
             self.new }
         ensures guard { IfOk result (λ guard. guard.store ≡ NUMBER) }
-        ensures refusal { MayRefuse {T = T} NUMBER (Read (pointer_of asked) location)
+        ensures answer { MayAnswer {T = T} NUMBER (Read (pointer_of asked) location)
             (read_answer result) }
         ensures recorded { Records self.old tally.old (call.Read (pointer_of asked) location)
             (Read (pointer_of asked) location) (read_answer result) self.new }
@@ -65,7 +65,7 @@ impl<T: Drop, const NUMBER: u64, M: Count, L: Count, C: Count, R: Count> SyncSta
         recorded_calls_are_lawful::<T>();
         histories_lead_to_sound_states();
         steps_have_records::<T>();
-        free_calls_are_refused_so::<T>();
+        free_calls_are_answered_so::<T>();
         boxes_and_guards_are_new::<T>();
         if self.log.reserve(2).is_err() {
             return Err(Refused::Store(StoreError::OutOfMemory));
@@ -87,7 +87,7 @@ impl<T: Drop, const NUMBER: u64, M: Count, L: Count, C: Count, R: Count> SyncSta
         ensures step { Does self.old (Read (pointer_of asked) location) (read_answer result)
             self.new }
         ensures guard { IfOk result (λ guard. guard.store ≡ NUMBER) }
-        ensures refusal { MayRefuse {T = T} NUMBER (Read (pointer_of asked) location)
+        ensures answer { MayAnswer {T = T} NUMBER (Read (pointer_of asked) location)
             (read_answer result) }
         ensures recorded { Records self.old tally.old (call.Read (pointer_of asked) location)
             (Read (pointer_of asked) location) (read_answer result) self.new }
@@ -113,7 +113,7 @@ impl<T: Drop, const NUMBER: u64, M: Count, L: Count, C: Count, R: Count> SyncSta
         ensures step { Does self.old (Write (pointer_of asked) location) (write_answer result)
             self.new }
         ensures guard { IfOk result (λ writer. writer.guard.store ≡ NUMBER) }
-        ensures refusal { MayRefuse NUMBER (Write (pointer_of asked) location)
+        ensures answer { MayAnswer NUMBER (Write (pointer_of asked) location)
             (write_answer result) }
         ensures recorded { Records self.old tally.old (call.Write (pointer_of asked) location)
             (Write (pointer_of asked) location) (write_answer result) self.new }
@@ -122,7 +122,7 @@ impl<T: Drop, const NUMBER: u64, M: Count, L: Count, C: Count, R: Count> SyncSta
         recorded_calls_are_lawful::<T>();
         histories_lead_to_sound_states();
         steps_have_records::<T>();
-        free_calls_are_refused_so::<T>();
+        free_calls_are_answered_so::<T>();
         if self.log.reserve(2).is_err() {
             return Err(Refused::Store(StoreError::OutOfMemory));
         }
@@ -148,7 +148,7 @@ impl<T: Drop, const NUMBER: u64, M: Count, L: Count, C: Count, R: Count> SyncSta
         ensures step { Does self.old (Write (pointer_of asked) location) (write_answer result)
             self.new }
         ensures guard { IfOk result (λ writer. writer.guard.store ≡ NUMBER) }
-        ensures refusal { MayRefuse NUMBER (Write (pointer_of asked) location)
+        ensures answer { MayAnswer NUMBER (Write (pointer_of asked) location)
             (write_answer result) }
         ensures recorded { Records self.old tally.old (call.Write (pointer_of asked) location)
             (Write (pointer_of asked) location) (write_answer result) self.new }
@@ -163,6 +163,7 @@ impl<T: Drop, const NUMBER: u64, M: Count, L: Count, C: Count, R: Count> SyncSta
     pub fn release_read(&mut self, guard: GenerationalRef<T>, tally: &mut Tally<M, L, C, R>) -> bool
         ensures step { Meets self.old.state (ReleaseReader guard) (Flag result) self.new.state }
         ensures known { result ≡ knows_reader self.old.state guard }
+        ensures own { IsTrue result → guard.store ≡ NUMBER }
         ensures recorded { Records self.old tally.old (call.ReleaseRead guard.ticket)
             (ReleaseReader guard) (Flag result) self.new }
         ensures tallied { Raises {T = T} tally.old (Flag result) tally.new }
@@ -187,6 +188,7 @@ impl<T: Drop, const NUMBER: u64, M: Count, L: Count, C: Count, R: Count> SyncSta
         ensures step { Meets self.old.state (ReleaseWriter guard.guard guard.value)
             (back_answer result) self.new.state }
         ensures known { is_ok result ≡ knows_writer self.old.state guard.guard }
+        ensures own { OnOk result (guard.guard.store ≡ NUMBER) }
         ensures back { IfErr result (λ value. value ≡ guard.value) }
         ensures recorded { Records self.old tally.old (call.ReleaseWrite guard.guard.ticket)
             (ReleaseWriter guard.guard guard.value) (back_answer result) self.new }
@@ -219,7 +221,7 @@ impl<T: Drop, const NUMBER: u64, M: Count, L: Count, C: Count, R: Count> SyncSta
         ensures step { (old : T) × Does self.old (SetValue (pointer_of asked) value)
             (set_answer old result) self.new }
         ensures back { IfErr result (λ e. e.0 ≡ value) }
-        ensures refusal { MayRefuse NUMBER (SetValue (pointer_of asked) value)
+        ensures answer { MayAnswer NUMBER (SetValue (pointer_of asked) value)
             (set_answer value result) }
         ensures recorded { Records self.old tally.old (call.Set (pointer_of asked))
             (SetValue (pointer_of asked) value) (set_answer value result) self.new }
@@ -228,7 +230,7 @@ impl<T: Drop, const NUMBER: u64, M: Count, L: Count, C: Count, R: Count> SyncSta
         recorded_calls_are_lawful::<T>();
         histories_lead_to_sound_states();
         steps_have_records::<T>();
-        free_calls_are_refused_so::<T>();
+        free_calls_are_answered_so::<T>();
         if self.log.reserve(2).is_err() {
             return Err((value, Refused::Store(StoreError::OutOfMemory)));
         }

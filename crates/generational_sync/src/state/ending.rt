@@ -7,12 +7,12 @@ ghost use Rattle.generational_core.specs.declared.steps.StepCall.TheVariants as 
 ghost use Rattle.generational_core.specs.Answers.{end_answer, pointer_of, release_answer};
 ghost use Rattle.generational_core.specs.Machine.Action.{End, Point, ReleaseOwner};
 ghost use Rattle.generational_core.specs.StepCalls.{id_of_owner, is_ready};
-ghost use Rattle.generational_sync.specs.Refusals.{MayRefuse};
+ghost use Rattle.generational_sync.specs.Answering.{MayAnswer};
 ghost use Rattle.generational_sync.specs.Shared.{Does, Raises, Records};
 
 use super::SyncState;
 use crate::laws::{
-    free_calls_are_refused_so, histories_lead_to_sound_states, recorded_calls_are_lawful,
+    free_calls_are_answered_so, histories_lead_to_sound_states, recorded_calls_are_lawful,
     steps_have_records,
 };
 use generational_box::{
@@ -50,7 +50,7 @@ impl<T: Drop, const NUMBER: u64, M: Count, L: Count, C: Count, R: Count> SyncSta
         recorded_calls_are_lawful::<T>();
         histories_lead_to_sound_states();
         steps_have_records::<T>();
-        free_calls_are_refused_so::<T>();
+        free_calls_are_answered_so::<T>();
         if self.log.reserve(2).is_err() {
             return Err(Refused::Store(StoreError::OutOfMemory));
         }
@@ -85,7 +85,7 @@ impl<T: Drop, const NUMBER: u64, M: Count, L: Count, C: Count, R: Count> SyncSta
             ≡ true }
         ensures step { Does self.old (Point (pointer_of asked) (pointer_of other))
             (end_answer result) self.new }
-        ensures refusal { MayRefuse {T = T} NUMBER (Point (pointer_of asked) (pointer_of other))
+        ensures answer { MayAnswer {T = T} NUMBER (Point (pointer_of asked) (pointer_of other))
             (end_answer result) }
         ensures recorded { Records self.old tally.old
             (call.PointTo (pointer_of asked) (pointer_of other))
@@ -95,7 +95,7 @@ impl<T: Drop, const NUMBER: u64, M: Count, L: Count, C: Count, R: Count> SyncSta
         recorded_calls_are_lawful::<T>();
         histories_lead_to_sound_states();
         steps_have_records::<T>();
-        free_calls_are_refused_so::<T>();
+        free_calls_are_answered_so::<T>();
         if self.log.reserve(2).is_err() {
             return Err(Refused::Store(StoreError::OutOfMemory));
         }
@@ -124,7 +124,7 @@ impl<T: Drop, const NUMBER: u64, M: Count, L: Count, C: Count, R: Count> SyncSta
         requires { is_ready self.old.state (call.ReleaseOwner (id_of_owner owner)) ≡ true }
         ensures step { Does self.old (ReleaseOwner owner) (release_answer result) self.new }
         ensures back { IfErr result (λ e. e.0 ≡ owner) }
-        ensures refusal { MayRefuse {T = T} NUMBER (ReleaseOwner owner) (release_answer result) }
+        ensures answer { MayAnswer {T = T} NUMBER (ReleaseOwner owner) (release_answer result) }
         ensures recorded { Records self.old tally.old (call.ReleaseOwner (id_of_owner owner))
             (ReleaseOwner owner) (release_answer result) self.new }
         ensures tallied { Raises {T = T} tally.old (release_answer result) tally.new }
@@ -132,7 +132,7 @@ impl<T: Drop, const NUMBER: u64, M: Count, L: Count, C: Count, R: Count> SyncSta
         recorded_calls_are_lawful::<T>();
         histories_lead_to_sound_states();
         steps_have_records::<T>();
-        free_calls_are_refused_so::<T>();
+        free_calls_are_answered_so::<T>();
         if self.log.reserve(2).is_err() {
             return Err((owner, Refused::Store(StoreError::OutOfMemory)));
         }

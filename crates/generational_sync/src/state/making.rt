@@ -9,12 +9,12 @@ ghost use Rattle.generational_core.specs.Machine.Action.{CloneOwner, Make, MakeS
 ghost use Rattle.generational_core.specs.Machine.Action.{Refer};
 ghost use Rattle.generational_core.specs.StepCalls.{id_of_owner, is_ready, recorded_as, target_of};
 ghost use Rattle.generational_core.specs.Steps.{Meets};
-ghost use Rattle.generational_sync.specs.Refusals.{MayRefuse};
+ghost use Rattle.generational_sync.specs.Answering.{MayAnswer};
 ghost use Rattle.generational_sync.specs.Shared.{Does, IsBoxOf, Raises, Records};
 
 use super::SyncState;
 use crate::laws::{
-    free_calls_are_refused_so, histories_lead_to_sound_states, recorded_calls_are_lawful,
+    free_calls_are_answered_so, histories_lead_to_sound_states, recorded_calls_are_lawful,
     steps_have_records,
 };
 use generational_box::laws::boxes_and_guards_are_new;
@@ -73,7 +73,7 @@ impl<T: Drop, const NUMBER: u64, M: Count, L: Count, C: Count, R: Count> SyncSta
         ensures step { Does self.old (Make (Some owner.now) value location) (box_answer result)
             self.new }
         ensures back { IfErr result (λ r. r.value ≡ value) }
-        ensures refusal { MayRefuse NUMBER (Make (Some owner.now) value location)
+        ensures answer { MayAnswer NUMBER (Make (Some owner.now) value location)
             (box_answer result) }
         ensures made { IfOk result (λ b. IsBoxOf NUMBER location (pointer_of b)) }
         ensures recorded { Records self.old tally.old (call.Insert (id_of_owner owner.now) location)
@@ -97,7 +97,7 @@ impl<T: Drop, const NUMBER: u64, M: Count, L: Count, C: Count, R: Count> SyncSta
         ensures step { Does self.old (Make (option_copied owner.entry) value location)
             (box_answer result) self.new }
         ensures back { IfErr result (λ r. r.value ≡ value) }
-        ensures refusal { MayRefuse NUMBER (Make (option_copied owner.entry) value location)
+        ensures answer { MayAnswer NUMBER (Make (option_copied owner.entry) value location)
             (box_answer result) }
         ensures made { IfOk result (λ b. IsBoxOf NUMBER location (pointer_of b)) }
         ensures recorded { Records self.old tally.old call
@@ -107,7 +107,7 @@ impl<T: Drop, const NUMBER: u64, M: Count, L: Count, C: Count, R: Count> SyncSta
         recorded_calls_are_lawful::<T>();
         histories_lead_to_sound_states();
         steps_have_records::<T>();
-        free_calls_are_refused_so::<T>();
+        free_calls_are_answered_so::<T>();
         boxes_and_guards_are_new::<T>();
         if self.log.reserve(2).is_err() {
             let cause = StoreError::OutOfMemory;
@@ -164,7 +164,7 @@ impl<T: Drop, const NUMBER: u64, M: Count, L: Count, C: Count, R: Count> SyncSta
         ensures step { Does self.old (MakeShared (Some owner.now) value location)
             (box_answer result) self.new }
         ensures back { IfErr result (λ r. r.value ≡ value) }
-        ensures refusal { MayRefuse NUMBER (MakeShared (Some owner.now) value location)
+        ensures answer { MayAnswer NUMBER (MakeShared (Some owner.now) value location)
             (box_answer result) }
         ensures made { IfOk result (λ b. IsBoxOf NUMBER location (pointer_of b)) }
         ensures recorded { Records self.old tally.old
@@ -190,7 +190,7 @@ impl<T: Drop, const NUMBER: u64, M: Count, L: Count, C: Count, R: Count> SyncSta
         ensures step { Does self.old (MakeShared (option_copied owner.entry) value location)
             (box_answer result) self.new }
         ensures back { IfErr result (λ r. r.value ≡ value) }
-        ensures refusal { MayRefuse NUMBER (MakeShared (option_copied owner.entry) value location)
+        ensures answer { MayAnswer NUMBER (MakeShared (option_copied owner.entry) value location)
             (box_answer result) }
         ensures made { IfOk result (λ b. IsBoxOf NUMBER location (pointer_of b)) }
         ensures recorded { Records self.old tally.old call
@@ -200,7 +200,7 @@ impl<T: Drop, const NUMBER: u64, M: Count, L: Count, C: Count, R: Count> SyncSta
         recorded_calls_are_lawful::<T>();
         histories_lead_to_sound_states();
         steps_have_records::<T>();
-        free_calls_are_refused_so::<T>();
+        free_calls_are_answered_so::<T>();
         boxes_and_guards_are_new::<T>();
         if self.log.reserve(2).is_err() {
             let cause = StoreError::OutOfMemory;
@@ -231,7 +231,7 @@ impl<T: Drop, const NUMBER: u64, M: Count, L: Count, C: Count, R: Count> SyncSta
         requires { is_ready self.old.state (call.LeakReference (pointer_of asked)) ≡ true }
         ensures step { Does self.old (Refer None (pointer_of asked)) (reference_box_answer result)
             self.new }
-        ensures refusal { MayRefuse {T = T} NUMBER (Refer None (pointer_of asked))
+        ensures answer { MayAnswer {T = T} NUMBER (Refer None (pointer_of asked))
             (reference_box_answer result) }
         ensures made { IfOk result (λ b. (pointer_of b).id.store ≡ NUMBER) }
         ensures recorded { Records self.old tally.old (call.LeakReference (pointer_of asked))
@@ -262,7 +262,7 @@ impl<T: Drop, const NUMBER: u64, M: Count, L: Count, C: Count, R: Count> SyncSta
             (call.InsertReference (id_of_owner owner.now) (pointer_of asked)) ≡ true }
         ensures step { Does self.old (Refer (Some owner.now) (pointer_of asked))
             (reference_box_answer result) self.new }
-        ensures refusal { MayRefuse {T = T} NUMBER (Refer (Some owner.now) (pointer_of asked))
+        ensures answer { MayAnswer {T = T} NUMBER (Refer (Some owner.now) (pointer_of asked))
             (reference_box_answer result) }
         ensures made { IfOk result (λ b. (pointer_of b).id.store ≡ NUMBER) }
         ensures recorded { Records self.old tally.old
@@ -288,7 +288,7 @@ impl<T: Drop, const NUMBER: u64, M: Count, L: Count, C: Count, R: Count> SyncSta
         requires ready { is_ready self.old.state call ≡ true }
         ensures step { Does self.old (Refer (option_copied owner.entry) asked)
             (reference_box_answer result) self.new }
-        ensures refusal { MayRefuse {T = T} NUMBER (Refer (option_copied owner.entry) asked)
+        ensures answer { MayAnswer {T = T} NUMBER (Refer (option_copied owner.entry) asked)
             (reference_box_answer result) }
         ensures made { IfOk result (λ b. (pointer_of b).id.store ≡ NUMBER) }
         ensures recorded { Records self.old tally.old call
@@ -298,7 +298,7 @@ impl<T: Drop, const NUMBER: u64, M: Count, L: Count, C: Count, R: Count> SyncSta
         recorded_calls_are_lawful::<T>();
         histories_lead_to_sound_states();
         steps_have_records::<T>();
-        free_calls_are_refused_so::<T>();
+        free_calls_are_answered_so::<T>();
         boxes_and_guards_are_new::<T>();
         if self.log.reserve(2).is_err() {
             return Err(Refused::Store(StoreError::OutOfMemory));
@@ -318,7 +318,7 @@ impl<T: Drop, const NUMBER: u64, M: Count, L: Count, C: Count, R: Count> SyncSta
     /// Memory is taken for the record and for the step.
     pub fn owner(&mut self, tally: &mut Tally<M, L, C, R>) -> Result<Owner, StoreError>
         ensures step { Does self.old NewOwner (owner_answer result) self.new }
-        ensures refusal { MayRefuse {T = T} NUMBER NewOwner (owner_answer result) }
+        ensures answer { MayAnswer {T = T} NUMBER NewOwner (owner_answer result) }
         ensures owner { IfOk result (λ owner. owner.store ≡ NUMBER) }
         ensures recorded { Records self.old tally.old call.Owner NewOwner (owner_answer result)
             self.new }
@@ -327,7 +327,7 @@ impl<T: Drop, const NUMBER: u64, M: Count, L: Count, C: Count, R: Count> SyncSta
         recorded_calls_are_lawful::<T>();
         histories_lead_to_sound_states();
         steps_have_records::<T>();
-        free_calls_are_refused_so::<T>();
+        free_calls_are_answered_so::<T>();
         if self.log.reserve(2).is_err() {
             return Err(StoreError::OutOfMemory);
         }
@@ -349,7 +349,7 @@ impl<T: Drop, const NUMBER: u64, M: Count, L: Count, C: Count, R: Count> SyncSta
         tally: &mut Tally<M, L, C, R>,
     ) -> Result<Owner, StoreError>
         ensures step { Does self.old (CloneOwner owner.now) (owner_answer result) self.new }
-        ensures refusal { MayRefuse {T = T} NUMBER (CloneOwner owner.now) (owner_answer result) }
+        ensures answer { MayAnswer {T = T} NUMBER (CloneOwner owner.now) (owner_answer result) }
         ensures owner { IfOk result (λ clone. clone ≡ owner.now) }
         ensures recorded { Records self.old tally.old (call.CloneOwner (id_of_owner owner.now))
             (CloneOwner owner.now) (owner_answer result) self.new }
@@ -358,7 +358,7 @@ impl<T: Drop, const NUMBER: u64, M: Count, L: Count, C: Count, R: Count> SyncSta
         recorded_calls_are_lawful::<T>();
         histories_lead_to_sound_states();
         steps_have_records::<T>();
-        free_calls_are_refused_so::<T>();
+        free_calls_are_answered_so::<T>();
         if self.log.reserve(2).is_err() {
             return Err(StoreError::OutOfMemory);
         }

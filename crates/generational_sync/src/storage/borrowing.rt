@@ -1,11 +1,11 @@
 //! Calls that begin and end borrows, and that set a value.
 
-ghost use Rattle.std.specs.Prelude.{◌≡◌, IfOk, IfErr};
+ghost use Rattle.std.specs.Prelude.{◌≡◌, IfOk, IfErr, IsTrue, OnOk};
 ghost use Rattle.generational_core.specs.Answers.{back_answer, pointer_of, read_answer};
 ghost use Rattle.generational_core.specs.Answers.{write_answer};
 ghost use Rattle.generational_core.specs.Machine.Action.{Read, SetValue, Write};
 ghost use Rattle.generational_core.specs.Machine.Answer.{Flag};
-ghost use Rattle.generational_sync.specs.Refusals.{MayRefuse};
+ghost use Rattle.generational_sync.specs.Answering.{MayAnswer};
 ghost use Rattle.generational_sync.specs.Shared.{Raises};
 ghost use Rattle.shared_history.specs.Replies.{set_answer};
 
@@ -41,7 +41,7 @@ impl<T: Drop + Send, const NUMBER: u64, M: Count, L: Count, C: Count, R: Count> 
         tally: &mut Tally<M, L, C, R>,
     ) -> BorrowResult<GenerationalRef<T>>
         ensures guard { IfOk result (λ guard. guard.store ≡ NUMBER) }
-        ensures refusal { MayRefuse {T = T} NUMBER (Read (pointer_of asked) location)
+        ensures answer { MayAnswer {T = T} NUMBER (Read (pointer_of asked) location)
             (read_answer result) }
         ensures tallied { Raises {T = T} tally.old (read_answer result) tally.new }
     {
@@ -59,7 +59,7 @@ impl<T: Drop + Send, const NUMBER: u64, M: Count, L: Count, C: Count, R: Count> 
         tally: &mut Tally<M, L, C, R>,
     ) -> BorrowResult<GenerationalRef<T>>
         ensures guard { IfOk result (λ guard. guard.store ≡ NUMBER) }
-        ensures refusal { MayRefuse {T = T} NUMBER (Read (pointer_of asked) location)
+        ensures answer { MayAnswer {T = T} NUMBER (Read (pointer_of asked) location)
             (read_answer result) }
         ensures tallied { Raises {T = T} tally.old (read_answer result) tally.new }
     {
@@ -81,7 +81,7 @@ impl<T: Drop + Send, const NUMBER: u64, M: Count, L: Count, C: Count, R: Count> 
         tally: &mut Tally<M, L, C, R>,
     ) -> BorrowMutResult<GenerationalRefMut<T>>
         ensures guard { IfOk result (λ writer. writer.guard.store ≡ NUMBER) }
-        ensures refusal { MayRefuse NUMBER (Write (pointer_of asked) location)
+        ensures answer { MayAnswer NUMBER (Write (pointer_of asked) location)
             (write_answer result) }
         ensures tallied { Raises tally.old (write_answer result) tally.new }
     {
@@ -100,7 +100,7 @@ impl<T: Drop + Send, const NUMBER: u64, M: Count, L: Count, C: Count, R: Count> 
         tally: &mut Tally<M, L, C, R>,
     ) -> BorrowMutResult<GenerationalRefMut<T>>
         ensures guard { IfOk result (λ writer. writer.guard.store ≡ NUMBER) }
-        ensures refusal { MayRefuse NUMBER (Write (pointer_of asked) location)
+        ensures answer { MayAnswer NUMBER (Write (pointer_of asked) location)
             (write_answer result) }
         ensures tallied { Raises tally.old (write_answer result) tally.new }
     {
@@ -116,6 +116,7 @@ impl<T: Drop + Send, const NUMBER: u64, M: Count, L: Count, C: Count, R: Count> 
         guard: GenerationalRef<T>,
         tally: &mut Tally<M, L, C, R>,
     ) -> bool
+        ensures own { IsTrue result → guard.store ≡ NUMBER }
         ensures tallied { Raises {T = T} tally.old (Flag result) tally.new }
     {
         let mut held = self.shared.held.lock(rt);
@@ -134,6 +135,7 @@ impl<T: Drop + Send, const NUMBER: u64, M: Count, L: Count, C: Count, R: Count> 
         tally: &mut Tally<M, L, C, R>,
     ) -> Result<(), T>
         ensures back { IfErr result (λ value. value ≡ guard.value) }
+        ensures own { OnOk result (guard.guard.store ≡ NUMBER) }
         ensures tallied { Raises tally.old (back_answer result) tally.new }
     {
         let mut held = self.shared.held.lock(rt);
@@ -158,7 +160,7 @@ impl<T: Drop + Send, const NUMBER: u64, M: Count, L: Count, C: Count, R: Count> 
         tally: &mut Tally<M, L, C, R>,
     ) -> Result<(), (T, Refused<BorrowMutError>)>
         ensures back { IfErr result (λ e. e.0 ≡ value) }
-        ensures refusal { MayRefuse NUMBER (SetValue (pointer_of asked) value)
+        ensures answer { MayAnswer NUMBER (SetValue (pointer_of asked) value)
             (set_answer value result) }
         ensures tallied { Raises tally.old (set_answer value result) tally.new }
     {

@@ -5,7 +5,7 @@ ghost use Rattle.generational_errors.specs.declared.error.Refused.TheVariants as
 ghost use Rattle.generational_errors.specs.declared.error.StoreError.TheVariants.{OutOfMemory};
 ghost use Rattle.generational_core.specs.Answers.{end_answer, pointer_of, release_answer};
 ghost use Rattle.generational_core.specs.Machine.Action.{Point, ReleaseOwner};
-ghost use Rattle.generational_sync.specs.Refusals.{MayRefuse};
+ghost use Rattle.generational_sync.specs.Answering.{MayAnswer};
 ghost use Rattle.generational_sync.specs.Shared.{Raises};
 
 use super::SyncStorage;
@@ -63,7 +63,7 @@ impl<T: Drop + Send, const NUMBER: u64, M: Count, L: Count, C: Count, R: Count> 
         other: GenerationalBox<T>,
         tally: &mut Tally<M, L, C, R>,
     ) -> BorrowMutResult<()>
-        ensures refusal { MayRefuse {T = T} NUMBER (Point (pointer_of asked) (pointer_of other))
+        ensures answer { MayAnswer {T = T} NUMBER (Point (pointer_of asked) (pointer_of other))
             (end_answer result) }
         ensures tallied { Raises {T = T} tally.old (end_answer result) tally.new }
     {
@@ -89,7 +89,7 @@ impl<T: Drop + Send, const NUMBER: u64, M: Count, L: Count, C: Count, R: Count> 
         tally: &mut Tally<M, L, C, R>,
     ) -> Result<(), (Owner, Refused<BorrowMutError>)>
         ensures back { IfErr result (λ e. e.0 ≡ owner) }
-        ensures refusal { MayRefuse {T = T} NUMBER (ReleaseOwner owner) (release_answer result) }
+        ensures answer { MayAnswer {T = T} NUMBER (ReleaseOwner owner) (release_answer result) }
         ensures tallied { Raises {T = T} tally.old (release_answer result) tally.new }
     {
         let mut held = self.lock_to_release(rt, &owner);

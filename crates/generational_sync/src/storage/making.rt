@@ -6,7 +6,7 @@ ghost use Rattle.generational_core.specs.Answers.{box_answer, owner_answer, poin
 ghost use Rattle.generational_core.specs.Answers.{reference_box_answer};
 ghost use Rattle.generational_core.specs.Machine.Action.{CloneOwner, Make, MakeShared, NewOwner};
 ghost use Rattle.generational_core.specs.Machine.Action.{Refer};
-ghost use Rattle.generational_sync.specs.Refusals.{MayRefuse};
+ghost use Rattle.generational_sync.specs.Answering.{MayAnswer};
 ghost use Rattle.generational_sync.specs.Shared.{IsBoxOf, Raises};
 
 use super::SyncStorage;
@@ -82,7 +82,7 @@ impl<T: Drop + Send, const NUMBER: u64, M: Count, L: Count, C: Count, R: Count> 
         asked: GenerationalBox<T>,
         tally: &mut Tally<M, L, C, R>,
     ) -> BorrowResult<GenerationalBox<T>>
-        ensures refusal { MayRefuse {T = T} NUMBER (Refer None (pointer_of asked))
+        ensures answer { MayAnswer {T = T} NUMBER (Refer None (pointer_of asked))
             (reference_box_answer result) }
         ensures made { IfOk result (λ b. (pointer_of b).id.store ≡ NUMBER) }
         ensures tallied { Raises {T = T} tally.old (reference_box_answer result) tally.new }
@@ -101,7 +101,7 @@ impl<T: Drop + Send, const NUMBER: u64, M: Count, L: Count, C: Count, R: Count> 
     /// which comes first where the history finds no room. A refused call leaves the store as it was.
     /// Memory is taken for the record and for the step.
     pub fn owner(&self, rt: &impl Wait, tally: &mut Tally<M, L, C, R>) -> Result<Owner, StoreError>
-        ensures refusal { MayRefuse {T = T} NUMBER NewOwner (owner_answer result) }
+        ensures answer { MayAnswer {T = T} NUMBER NewOwner (owner_answer result) }
         ensures owner { IfOk result (λ owner. owner.store ≡ NUMBER) }
         ensures tallied { Raises {T = T} tally.old (owner_answer result) tally.new }
     {
@@ -120,7 +120,7 @@ impl<T: Drop + Send, const NUMBER: u64, M: Count, L: Count, C: Count, R: Count> 
         owner: &Owner,
         tally: &mut Tally<M, L, C, R>,
     ) -> Result<Owner, StoreError>
-        ensures refusal { MayRefuse {T = T} NUMBER (CloneOwner owner.now) (owner_answer result) }
+        ensures answer { MayAnswer {T = T} NUMBER (CloneOwner owner.now) (owner_answer result) }
         ensures owner { IfOk result (λ clone. clone ≡ owner.now) }
         ensures tallied { Raises {T = T} tally.old (owner_answer result) tally.new }
     {
@@ -144,7 +144,7 @@ impl<T: Drop + Send, const NUMBER: u64, M: Count, L: Count, C: Count, R: Count> 
         tally: &mut Tally<M, L, C, R>,
     ) -> Result<GenerationalBox<T>, Refusal<T>>
         ensures back { IfErr result (λ r. r.value ≡ value) }
-        ensures refusal { MayRefuse NUMBER (Make (Some owner.now) value location)
+        ensures answer { MayAnswer NUMBER (Make (Some owner.now) value location)
             (box_answer result) }
         ensures made { IfOk result (λ b. IsBoxOf NUMBER location (pointer_of b)) }
         ensures tallied { Raises tally.old (box_answer result) tally.new }
@@ -174,7 +174,7 @@ impl<T: Drop + Send, const NUMBER: u64, M: Count, L: Count, C: Count, R: Count> 
         tally: &mut Tally<M, L, C, R>,
     ) -> Result<GenerationalBox<T>, Refusal<T>>
         ensures back { IfErr result (λ r. r.value ≡ value) }
-        ensures refusal { MayRefuse NUMBER (MakeShared (Some owner.now) value location)
+        ensures answer { MayAnswer NUMBER (MakeShared (Some owner.now) value location)
             (box_answer result) }
         ensures made { IfOk result (λ b. IsBoxOf NUMBER location (pointer_of b)) }
         ensures tallied { Raises tally.old (box_answer result) tally.new }
@@ -204,7 +204,7 @@ impl<T: Drop + Send, const NUMBER: u64, M: Count, L: Count, C: Count, R: Count> 
         asked: GenerationalBox<T>,
         tally: &mut Tally<M, L, C, R>,
     ) -> BorrowResult<GenerationalBox<T>>
-        ensures refusal { MayRefuse {T = T} NUMBER (Refer (Some owner.now) (pointer_of asked))
+        ensures answer { MayAnswer {T = T} NUMBER (Refer (Some owner.now) (pointer_of asked))
             (reference_box_answer result) }
         ensures made { IfOk result (λ b. (pointer_of b).id.store ≡ NUMBER) }
         ensures tallied { Raises {T = T} tally.old (reference_box_answer result) tally.new }

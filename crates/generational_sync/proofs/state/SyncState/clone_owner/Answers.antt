@@ -4,7 +4,7 @@ use Rattle.generational_core.specs.Machine.Action.{CloneOwner}
 use Rattle.generational_core.specs.declared.steps.StepCall.TheVariants as call
 use Rattle.generational_core.specs.StepCalls.{id_of_owner}
 use Rattle.generational_sync.specs.Shared.{SharedState}
-use Rattle.generational_sync.proofs.Keeping.{known_as, refused_as, settled}
+use Rattle.generational_sync.proofs.Keeping.{known_as, answered_as, settled}
 use Rattle.generational_sync.proofs.Making.{clone_kept}
 use Rattle.generational_sync.proofs.state.SyncState.clone_owner.Goals as goal
 
@@ -34,10 +34,10 @@ invariant_of-self-2 g c =
     c.owner_reply.ensures.lent c.owner_reply.ensures.left c.reserve.ensures.standing c.settle.ensures.steps
     c.settle.ensures.standing
 
-pub returns-clause-refusal : goal.returns-clause-refusal
-returns-clause-refusal g c =
-    refused_as g.row.NUMBER c.self.inside.store.state c.clone_owner-clone.new.self.state c.self.inside.log c.self.invariant
-    c.free_calls_are_refused_so.ensures c.histories_lead_to_sound_states.ensures.number
+pub returns-clause-answer : goal.returns-clause-answer
+returns-clause-answer g c =
+    answered_as g.row.NUMBER c.self.inside.store.state c.clone_owner-clone.new.self.state c.self.inside.log c.self.invariant
+    c.free_calls_are_answered_so.ensures c.histories_lead_to_sound_states.ensures.number
     c.args.self.now.state (CloneOwner c.args.owner.now) (call.CloneOwner (id_of_owner c.args.owner.now)) (owner_answer c.clone_owner-clone.result)
     (ap (λ (s : SharedState _). s.state) c.self.view_is) refl refl c.clone_owner-clone.ensures
 

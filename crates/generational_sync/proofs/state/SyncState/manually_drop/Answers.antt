@@ -4,8 +4,8 @@ use Rattle.generational_core.specs.Machine.Action.{End}
 use Rattle.generational_core.specs.declared.steps.StepCall.TheVariants as call
 use Rattle.generational_core.specs.StepCalls.{is_ready}
 use Rattle.generational_sync.specs.Shared.{SharedState}
-use Rattle.generational_sync.proofs.Keeping.{known_as, refused_by, settled}
-use Rattle.generational_sync.proofs.Refusing.{end_lacks}
+use Rattle.generational_sync.proofs.Keeping.{known_as, answered_by, settled}
+use Rattle.generational_sync.proofs.Answering.{end_lacks}
 use Rattle.generational_sync.proofs.state.SyncState.manually_drop.Goals as goal
 
 pub settle-requires : goal.settle-requires
@@ -36,8 +36,8 @@ invariant_of-self-2 g c =
 pub returns-clause-refusal : goal.returns-clause-refusal
 returns-clause-refusal g c =
     end_lacks _ g.row.NUMBER (pointer_of c.args.asked) c.recycle-ended.result (
-    refused_by g.row.NUMBER c.self.inside.store.state c.recycle-ended.new.self.state c.self.inside.log
-    c.self.invariant c.free_calls_are_refused_so.ensures
+    answered_by g.row.NUMBER c.self.inside.store.state c.recycle-ended.new.self.state c.self.inside.log
+    c.self.invariant c.free_calls_are_answered_so.ensures
     c.histories_lead_to_sound_states.ensures.number c.args.self.now.state
     c.pointer-pointer.result (pointer_of c.args.asked)
     End

@@ -5,7 +5,7 @@ use Rattle.generational_core.specs.declared.boxes.GenerationalPointer.{Generatio
 use Rattle.generational_core.specs.declared.steps.StepCall.TheVariants as call
 use Rattle.generational_core.specs.StepCalls.{is_ready}
 use Rattle.generational_sync.specs.Shared.{SharedState}
-use Rattle.generational_sync.proofs.Keeping.{known_as, refused_by, settled}
+use Rattle.generational_sync.proofs.Keeping.{known_as, answered_by, settled}
 use Rattle.generational_sync.proofs.state.SyncState.point_to.Goals as goal
 
 pub settle-requires : goal.settle-requires
@@ -34,10 +34,10 @@ invariant_of-self-2 g c =
     c.end_reply.ensures.lent c.end_reply.ensures.left c.reserve.ensures.standing c.settle.ensures.steps
     c.settle.ensures.standing
 
-pub returns-clause-refusal : goal.returns-clause-refusal
-returns-clause-refusal g c =
-    refused_by g.row.NUMBER c.self.inside.store.state c.change_reference-pointed.new.self.state c.self.inside.log
-    c.self.invariant c.free_calls_are_refused_so.ensures
+pub returns-clause-answer : goal.returns-clause-answer
+returns-clause-answer g c =
+    answered_by g.row.NUMBER c.self.inside.store.state c.change_reference-pointed.new.self.state c.self.inside.log
+    c.self.invariant c.free_calls_are_answered_so.ensures
     c.histories_lead_to_sound_states.ensures.number c.args.self.now.state
     (c.pointer-pointer.result, c.pointer-target.result) (pointer_of c.args.asked, pointer_of c.args.other)
     (λ (p : GenerationalPointer × GenerationalPointer). Point p.0 p.1)

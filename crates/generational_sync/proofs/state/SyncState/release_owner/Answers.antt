@@ -4,7 +4,7 @@ use Rattle.generational_core.specs.Machine.Action.{ReleaseOwner}
 use Rattle.generational_core.specs.declared.steps.StepCall.TheVariants as call
 use Rattle.generational_core.specs.StepCalls.{id_of_owner, is_ready}
 use Rattle.generational_sync.specs.Shared.{SharedState}
-use Rattle.generational_sync.proofs.Keeping.{known_as, refused_as, settled}
+use Rattle.generational_sync.proofs.Keeping.{known_as, answered_as, settled}
 use Rattle.generational_sync.proofs.state.SyncState.release_owner.Goals as goal
 
 pub settle-requires : goal.settle-requires
@@ -33,9 +33,9 @@ invariant_of-self-2 g c =
     c.release_reply.ensures.lent c.release_reply.ensures.left c.reserve.ensures.standing c.settle.ensures.steps
     c.settle.ensures.standing
 
-pub returns-clause-refusal : goal.returns-clause-refusal
-returns-clause-refusal g c =
-    refused_as g.row.NUMBER c.self.inside.store.state c.release_owner-released.new.self.state c.self.inside.log c.self.invariant
-    c.free_calls_are_refused_so.ensures c.histories_lead_to_sound_states.ensures.number
+pub returns-clause-answer : goal.returns-clause-answer
+returns-clause-answer g c =
+    answered_as g.row.NUMBER c.self.inside.store.state c.release_owner-released.new.self.state c.self.inside.log c.self.invariant
+    c.free_calls_are_answered_so.ensures c.histories_lead_to_sound_states.ensures.number
     c.args.self.now.state (ReleaseOwner c.args.owner) (call.ReleaseOwner (id_of_owner c.args.owner)) (release_answer c.release_owner-released.result)
     (ap (λ (s : SharedState _). s.state) c.self.view_is) refl c.requires c.release_owner-released.ensures.step

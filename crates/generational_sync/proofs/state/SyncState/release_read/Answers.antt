@@ -3,7 +3,7 @@ use Rattle.generational_core.specs.Machine.Action.{ReleaseReader}
 use Rattle.generational_core.specs.Machine.Answer.{Flag}
 use Rattle.generational_core.specs.declared.steps.StepCall.TheVariants as call
 use Rattle.generational_sync.specs.Shared.{SharedState}
-use Rattle.generational_sync.proofs.Keeping.{end_counts, known_as, released, settled_end}
+use Rattle.generational_sync.proofs.Keeping.{end_counts, known_as, reader_own, released, settled_end}
 use Rattle.generational_sync.proofs.state.SyncState.release_read.Goals as goal
 
 pub settle_end-requires : goal.settle_end-requires
@@ -37,3 +37,9 @@ invariant_of-self g c =
     (released c.self.inside.store.state c.release_read-known.new.self.state c.args.guard
     c.release_read-known.result c.flag_reply.result c.release_read-known.ensures reply)
     c.flag_reply.ensures.left refl c.settle_end.ensures.steps c.settle_end.ensures.standing
+
+pub returns-clause-own : goal.returns-clause-own
+returns-clause-own g c =
+    reader_own g.row.NUMBER c.self.inside.store.state c.release_read-known.new.self.state c.self.inside.log
+    c.self.invariant c.histories_lead_to_sound_states.ensures.number c.args.guard
+    c.release_read-known.result c.release_read-known.ensures

@@ -3,7 +3,8 @@ use Rattle.generational_core.specs.Answers.{back_answer}
 use Rattle.generational_core.specs.Machine.Action.{ReleaseWriter}
 use Rattle.generational_core.specs.declared.steps.StepCall.TheVariants as call
 use Rattle.generational_sync.specs.Shared.{SharedState}
-use Rattle.generational_sync.proofs.Keeping.{end_counts, known_as, settled_end, written_released}
+use Rattle.generational_sync.proofs.Keeping.{end_counts, known_as, settled_end, writer_own}
+use Rattle.generational_sync.proofs.Keeping.{written_released}
 use Rattle.generational_sync.proofs.state.SyncState.release_write.Goals as goal
 
 pub settle_end-requires : goal.settle_end-requires
@@ -42,3 +43,10 @@ invariant_of-self g c =
     c.args.guard.guard c.args.guard.value c.release_write-released.result c.back_reply.result
     c.release_write-released.ensures reply)
     c.back_reply.ensures.left refl c.settle_end.ensures.steps c.settle_end.ensures.standing
+
+pub returns-clause-own : goal.returns-clause-own
+returns-clause-own g c =
+    writer_own g.row.NUMBER c.self.inside.store.state c.release_write-released.new.self.state
+    c.self.inside.log c.self.invariant c.histories_lead_to_sound_states.ensures.number
+    c.args.guard.guard c.args.guard.value c.release_write-released.result
+    c.release_write-released.ensures

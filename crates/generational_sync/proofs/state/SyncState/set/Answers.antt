@@ -5,8 +5,8 @@ use Rattle.generational_core.specs.declared.steps.StepCall.TheVariants as call
 use Rattle.generational_core.specs.StepCalls.{is_ready}
 use Rattle.generational_sync.specs.Shared.{SharedState}
 use Rattle.shared_history.specs.Replies.{set_answer}
-use Rattle.generational_sync.proofs.Keeping.{known_as, refused_by, settled}
-use Rattle.generational_sync.proofs.Refusing.{set_may}
+use Rattle.generational_sync.proofs.Keeping.{known_as, answered_by, settled}
+use Rattle.generational_sync.proofs.Answering.{set_may}
 use Rattle.generational_sync.proofs.state.SyncState.set.Goals as goal
 
 pub settle-requires : goal.settle-requires
@@ -35,11 +35,11 @@ invariant_of-self-2 g c =
     (c.set_reply.ensures.left c.set_value-set.ensures.step.0) c.reserve.ensures.standing c.settle.ensures.steps
     c.settle.ensures.standing
 
-pub returns-clause-refusal : goal.returns-clause-refusal
-returns-clause-refusal g c =
+pub returns-clause-answer : goal.returns-clause-answer
+returns-clause-answer g c =
     set_may g.row.NUMBER (SetValue (pointer_of c.args.asked) c.args.value)
-    c.set_value-set.ensures.step.0 c.args.value c.set_value-set.result (refused_by g.row.NUMBER c.self.inside.store.state c.set_value-set.new.store.state c.self.inside.log
-    c.self.invariant c.free_calls_are_refused_so.ensures
+    c.set_value-set.ensures.step.0 c.args.value c.set_value-set.result (answered_by g.row.NUMBER c.self.inside.store.state c.set_value-set.new.store.state c.self.inside.log
+    c.self.invariant c.free_calls_are_answered_so.ensures
     c.histories_lead_to_sound_states.ensures.number c.args.self.now.state
     c.pointer-pointer.result (pointer_of c.args.asked)
     (λ b. SetValue b c.args.value)

@@ -4,7 +4,7 @@ use Rattle.generational_core.specs.Machine.Action.{Read}
 use Rattle.generational_core.specs.declared.steps.StepCall.TheVariants as call
 use Rattle.generational_core.specs.StepCalls.{is_ready}
 use Rattle.generational_sync.specs.Shared.{SharedState}
-use Rattle.generational_sync.proofs.Keeping.{known_as, refused_by, settled}
+use Rattle.generational_sync.proofs.Keeping.{known_as, answered_by, settled}
 use Rattle.generational_sync.proofs.state.SyncState.try_read.Goals as goal
 
 pub settle-requires : goal.settle-requires
@@ -32,10 +32,10 @@ invariant_of-self-2 g c =
     c.read_reply.ensures.lent c.read_reply.ensures.left c.reserve.ensures.standing c.settle.ensures.steps
     c.settle.ensures.standing
 
-pub returns-clause-refusal : goal.returns-clause-refusal
-returns-clause-refusal g c =
-    refused_by g.row.NUMBER c.self.inside.store.state c.begin_read-read.new.store.state c.self.inside.log
-    c.self.invariant c.free_calls_are_refused_so.ensures
+pub returns-clause-answer : goal.returns-clause-answer
+returns-clause-answer g c =
+    answered_by g.row.NUMBER c.self.inside.store.state c.begin_read-read.new.store.state c.self.inside.log
+    c.self.invariant c.free_calls_are_answered_so.ensures
     c.histories_lead_to_sound_states.ensures.number c.args.self.now.state
     c.pointer-pointer.result (pointer_of c.args.asked)
     (λ b. Read b c.args.location)

@@ -1,4 +1,4 @@
--- How a call that no borrow hinders is refused.
+-- How a call that no borrow hinders is answered.
 use Rattle.std.proofs.Common.{◌≡◌, ℕ, Bool, true, false, cond, not, ◌&&◌, [], ◌∷◌, Option, None, Some}
 use Rattle.std.proofs.Common.{List, refl, sym, ap, subst, ◌∙◌, inl, inr, Result, Ok, Err}
 use Rattle.std.specs.Prelude.{nat_eq, nat_lt, is_some, unwrap_or, IfErr}
@@ -16,15 +16,16 @@ use Rattle.generational_errors.specs.declared.error.StoreError.TheVariants.{Numb
 use Rattle.generational_errors.specs.declared.error.StoreError.TheVariants.{UnknownOwner}
 use Rattle.generational_core.specs.declared.boxes.GenerationalBoxId.{GenerationalBoxId}
 use Rattle.generational_core.specs.declared.boxes.GenerationalPointer.{GenerationalPointer}
-use Rattle.generational_core.specs.Answers.{end_answer}
+use Rattle.generational_core.specs.Answers.{end_answer, value_at, value_behind}
 use Rattle.generational_core.specs.Boxes.{has_same_id, name_in, name_of}
 use Rattle.generational_core.specs.Names.{Name, NameMap, is_name}
 use Rattle.generational_core.specs.Cells.{Content, Cell, content_of, location_of}
 use Rattle.generational_core.specs.Cells.Content.{Here, Lent}
 use Rattle.generational_core.specs.Cells.Cell.{Value, Shared, Ref}
 use Rattle.generational_core.specs.State.{State, Ownership, content_at, one_less}
-use Rattle.generational_core.specs.Borrowing.{BorrowRefusal, fill, leads_to, reach, read_refusal}
-use Rattle.generational_core.specs.Borrowing.{refusal_at, refusal_to_read, refusal_to_write}
+use Rattle.generational_core.specs.Borrowing.{BorrowRefusal, Guard, fill, leads_to, reach, read_refusal}
+use Rattle.generational_core.specs.Borrowing.{can_read, can_write, refusal_at, refusal_to_read}
+use Rattle.generational_core.specs.Borrowing.{refusal_to_write}
 use Rattle.generational_core.specs.Borrowing.{write_refusal}
 use Rattle.generational_core.specs.Borrowing.BorrowRefusal.{Dropped, BeingRead, BeingWritten}
 use Rattle.generational_core.specs.Ending.{hindrance_to, first_hindrance, hindrance_at, hindrance_of}
@@ -38,11 +39,13 @@ use Rattle.generational_core.specs.Machine.Action.{Make, MakeShared, Refer, NewO
 use Rattle.generational_core.specs.Machine.Action.{ReleaseOwner, LeakOwner, Read, Write}
 use Rattle.generational_core.specs.Machine.Action.{ReleaseReader, ReleaseWriter, SetValue, End}
 use Rattle.generational_core.specs.Machine.Action.{Point, CanRead, CanWrite}
-use Rattle.generational_core.specs.Machine.Answer.{Back, Done, Flag, BorrowRefused, Refused as refuses}
+use Rattle.generational_core.specs.Machine.Answer.{Made, Owned, Reads, Writes, Back, Done}
+use Rattle.generational_core.specs.Machine.Answer.{Old, Flag, BorrowRefused, Refused as refuses}
 use Rattle.generational_core.specs.Steps.{Meets, limit_tickets, takes_ticket, last_ticket}
 use Rattle.generational_core.specs.StepCalls.{is_hindered}
 use Rattle.shared_history.specs.Replies.{set_answer}
-use Rattle.generational_sync.specs.Refusals.{MayDrop, MayRefuse, needs_owner, needs_ticket}
+use Rattle.generational_sync.specs.Answering.{IsOwn, IsOwnList, MayDrop, MayAnswer}
+use Rattle.generational_sync.specs.Answering.{needs_owner, needs_ticket}
 
 -- what hinders an end is a borrow
 abbrev is_borrow : Option BorrowRefusal → Bool
@@ -148,42 +151,120 @@ module _ {T : Type 0} where
       at true own e = eqb-true _ _ own
       at false own e = absurd cc
 
-  -- ---- an outcome's answer refuses the call as it may, and takes no ticket but one that it needs
+  -- so are what may be read, and what may be written
+  readable_here : (S : State T) (b : GenerationalPointer) → refusal_to_read S b ≡ None
+      → b.id.store ≡ S.number
+  readable_here S b free = at (reach S b) refl
+    where
+      at : (o : Option Name) → reach S b ≡ o → b.id.store ≡ S.number
+      at None none = absurd (reaches_none S b free none)
+      at (Some n) reaches = reach_here S b n reaches
+
+  writable_here : (S : State T) (b : GenerationalPointer) → refusal_to_write S b ≡ None
+      → b.id.store ≡ S.number
+  unfolding refusal_to_write
+  writable_here S b free = at (reach S b) refl
+    where
+      at : (o : Option Name) → reach S b ≡ o → b.id.store ≡ S.number
+      at None none =
+          let dropped : Some (Dropped b.created_at) ≡ None =
+          sym (ap (λ o. refusal_at o b.created_at (λ n. write_refusal (content_at S n))) none)
+          ∙ free in
+          absurd cc
+      at (Some n) reaches = reach_here S b n reaches
+
+  -- an owner of which there is a record
+  owner_here : (S : State T) (o : OwnerName) (h : Ownership) → ownership S o ≡ Some h
+      → o.store ≡ S.number
+  owner_here S o h e = at (nat_eq o.store S.number) refl e
+    where
+      at : (b : Bool) → nat_eq o.store S.number ≡ b
+          → cond b (map.get S.owners o.key) None ≡ Some h → o.store ≡ S.number
+      at true own e = eqb-true _ _ own
+      at false own e = absurd cc
+
+  list_here : (S : State T) (o : Option OwnerName) → is_known S o ≡ true → IsOwnList S.number o
+  list_here S None known = tt
+  list_here S (Some o) known = at (ownership S o) refl known
+    where
+      at : (h : Option Ownership) → ownership S o ≡ h → is_some h ≡ true → o.store ≡ S.number
+      at None e some = absurd (true≢false (sym some))
+      at (Some h) e some = owner_here S o h e
+
+  -- and a guard that is known
+  reader_here : (S : State T) (g : Guard) → knows_reader S g ≡ true → g.store ≡ S.number
+  reader_here S g known = eqb-true _ _ (and_parts (nat_eq g.store S.number) _ known).0
+
+  writer_here : (S : State T) (g : Guard) → knows_writer S g ≡ true → g.store ≡ S.number
+  writer_here S g known = eqb-true _ _ (and_parts (nat_eq g.store S.number) _ known).0
+
+  -- ---- an outcome's answer grants or refuses the call as it may, and takes no ticket but one that
+  -- it needs
 
   abbrev Fits : State T → Action T → Outcome T → Type 0
-  Fits S a out = (is_hindered a out.0 ≡ false → MayRefuse S.number a out.0)
+  Fits S a out = (is_hindered a out.0 ≡ false → MayAnswer S.number a out.0)
       × (takes_ticket out.0 ≡ true → needs_ticket a ≡ true)
+
+  -- an answer that gives a ticket tells of no borrow, and grants the call
+  ticket_free : (a : Action T) (x : Answer T) → takes_ticket x ≡ true → is_hindered a x ≡ false
+  ticket_free a (Owned o) takes = refl
+  ticket_free a (Reads g) takes = refl
+  ticket_free a (Writes g v) takes = refl
+  ticket_free a (Made b) takes = never takes
+  ticket_free a Done takes = never takes
+  ticket_free a (Old v) takes = never takes
+  ticket_free a (Flag b) takes = never takes
+  ticket_free a (Back v) takes = never takes
+  ticket_free a (BorrowRefused t) takes = never takes
+  ticket_free a (refuses e) takes = never takes
+
+  ticket_own : (number : ℕ) (a : Action T) (x : Answer T) → takes_ticket x ≡ true
+      → MayAnswer number a x → IsOwn number a
+  ticket_own number a (Owned o) takes may = may
+  ticket_own number a (Reads g) takes may = may
+  ticket_own number a (Writes g v) takes may = may
+  ticket_own number a (Made b) takes may = never takes
+  ticket_own number a Done takes may = never takes
+  ticket_own number a (Old v) takes may = never takes
+  ticket_own number a (Flag b) takes may = never takes
+  ticket_own number a (Back v) takes may = never takes
+  ticket_own number a (BorrowRefused t) takes may = never takes
+  ticket_own number a (refuses e) takes may = never takes
 
   limited_fits : (S : State T) (a : Action T) (out : Outcome T) → Fits S a out
       → is_hindered a (limit_tickets S out).0 ≡ false
-      → MayRefuse S.number a (limit_tickets S out).0
+      → MayAnswer S.number a (limit_tickets S out).0
   limited_fits S a out h = at (takes_ticket out.0 && nat_eq S.next last_ticket) refl
     where
       at : (b : Bool) → (takes_ticket out.0 && nat_eq S.next last_ticket) ≡ b
           → let limited : Outcome T = cond b (refuses NumbersExhausted, S) out in
-          is_hindered a limited.0 ≡ false → MayRefuse S.number a limited.0
-      at true is free = h.1 (and_parts (takes_ticket out.0) _ is).0
+          is_hindered a limited.0 ≡ false → MayAnswer S.number a limited.0
+      at true is free =
+          let takes = (and_parts (takes_ticket out.0) _ is).0 in
+          (h.1 takes, ticket_own S.number a out.0 takes (h.0 (ticket_free a out.0 takes)))
       at false is free = h.0 free
 
   -- an answer that takes no ticket and may always come
   unlimited : (S : State T) (a : Action T) (out : Outcome T)
-      → takes_ticket out.0 ≡ false → MayRefuse S.number a out.0 → Fits S a out
+      → takes_ticket out.0 ≡ false → MayAnswer S.number a out.0 → Fits S a out
   unlimited S a out none may = (λ h. may, λ h. absurd (true≢false (sym h ∙ none)))
 
   made_fits : (S Q : State T) (a : Action T) (o : Option OwnerName) (n : Name) (cell : Cell T)
-      (l : Location) → Fits S a (make Q o n cell l)
-  made_fits S Q a o n cell l = (λ free. tt, never)
+      (l : Location) → IsOwn S.number a → Fits S a (make Q o n cell l)
+  made_fits S Q a o n cell l own = (λ free. own, never)
 
-  done_fits : (S : State T) (a : Action T) (R : State T) → Fits S a (Done, R)
-  done_fits S a R = (λ free. tt, never)
+  done_fits : (S : State T) (a : Action T) (R : State T) → IsOwn S.number a → Fits S a (Done, R)
+  done_fits S a R own = (λ free. own, never)
 
-  flag_fits : (S : State T) (a : Action T) (b : Bool) (R : State T) → Fits S a (Flag b, R)
-  flag_fits S a b R = (λ free. tt, never)
+  flag_fits : (S : State T) (a : Action T) (b : Bool) (R : State T) → IsOwn S.number a
+      → Fits S a (Flag b, R)
+  flag_fits S a true R own = (λ free. own, never)
+  flag_fits S a false R own = (λ free. tt, never)
 
   unless_fits : (S : State T) (a : Action T) (t : Option BorrowRefusal) (out : Outcome T)
       → ((k : Location) → t ≡ Some (Dropped k) → MayDrop S.number a k)
-      → Fits S a out → Fits S a (unless t S out)
-  unless_fits S a None out drops h = h
+      → (t ≡ None → Fits S a out) → Fits S a (unless t S out)
+  unless_fits S a None out drops h = h refl
   unless_fits S a (Some (Dropped k)) out drops h =
       unlimited S a (BorrowRefused (Dropped k), S) refl (drops k refl)
   unless_fits S a (Some (BeingRead ls)) out drops h =
@@ -194,90 +275,101 @@ module _ {T : Type 0} where
   -- what only a borrow hinders
   hinder_fits : (S : State T) (a : Action T) (t : Option BorrowRefusal) (out : Outcome T)
       → is_borrow t ≡ true → Fits S a out → Fits S a (unless t S out)
-  hinder_fits S a t out borrow = unless_fits S a t out
-      (λ k e. absurd (true≢false (sym borrow ∙ ap is_borrow e)))
+  hinder_fits S a t out borrow h = unless_fits S a t out
+      (λ k e. absurd (true≢false (sym borrow ∙ ap is_borrow e))) (λ none. h)
 
-  known_fits : (S : State T) (a : Action T) (b : Bool) (out : Outcome T)
-      → needs_owner a ≡ true → Fits S a out → Fits S a (cond b out (refuses UnknownOwner, S))
-  known_fits S a true out needs h = h
-  known_fits S a false out needs h = unlimited S a (refuses UnknownOwner, S) refl needs
+  -- what an owner that the store doesn't know refuses
+  known_fits : (S : State T) (a : Action T) (o : OwnerName) (out : Outcome T)
+      → needs_owner a ≡ true → (o.store ≡ S.number → Fits S a out)
+      → Fits S a (cond (is_known S (Some o)) out (refuses UnknownOwner, S))
+  known_fits S a o out needs h = at (is_known S (Some o)) refl
+    where
+      at : (b : Bool) → is_known S (Some o) ≡ b → Fits S a (cond b out (refuses UnknownOwner, S))
+      at true known = h (list_here S (Some o) known)
+      at false known = unlimited S a (refuses UnknownOwner, S) refl needs
 
   either_fits : (S : State T) (a : Action T) (b : Bool) (one other : Outcome T)
-      → Fits S a one → Fits S a other → Fits S a (cond b one other)
-  either_fits S a true one other h k = h
+      → (b ≡ true → Fits S a one) → Fits S a other → Fits S a (cond b one other)
+  either_fits S a true one other h k = h refl
   either_fits S a false one other h k = k
 
   -- ---- each call
 
   refer_fits : (S : State T) (o : Option OwnerName) (b : GenerationalPointer) (m : Option Name)
-      (c : Option (Cell T)) (n : Name) → Fits S (Refer o b) (refer S o b m c n)
-  refer_fits S o b (Some m) (Some (Shared c l)) n = (λ free. tt, never)
-  refer_fits S o b (Some m) (Some (Value c l)) n = (λ free. refl, never)
-  refer_fits S o b (Some m) (Some (Ref k l)) n = (λ free. refl, never)
-  refer_fits S o b (Some m) None n = (λ free. refl, never)
-  refer_fits S o b None c n = (λ free. refl, never)
+      (c : Option (Cell T)) (n : Name) → IsOwn {T = T} S.number (Refer o b)
+      → Fits S (Refer o b) (refer S o b m c n)
+  refer_fits S o b (Some m) (Some (Shared c l)) n own = (λ free. own, never)
+  refer_fits S o b (Some m) (Some (Value c l)) n own = (λ free. refl, never)
+  refer_fits S o b (Some m) (Some (Ref k l)) n own = (λ free. refl, never)
+  refer_fits S o b (Some m) None n own = (λ free. refl, never)
+  refer_fits S o b None c n own = (λ free. refl, never)
 
   referred_fits : (S : State T) (o : Option OwnerName) (b : GenerationalPointer) (n : Name)
-      → Fits S (Refer o b)
+      → IsOwnList S.number o → Fits S (Refer o b)
       (unless (refusal_to_read S b) S (refer S o b (reach S b) (cell_at S (reach S b)) n))
-  referred_fits S o b n = unless_fits S (Refer o b) (refusal_to_read S b) _ (read_dropped S b)
-      (refer_fits S o b (reach S b) (cell_at S (reach S b)) n)
+  referred_fits S o b n own = unless_fits S (Refer o b) (refusal_to_read S b) _ (read_dropped S b)
+      (λ free. refer_fits S o b (reach S b) (cell_at S (reach S b)) n
+      (own, readable_here S b free))
 
-  clone_fits : (S : State T) (o : OwnerName) (h : Option Ownership)
+  clone_fits : (S : State T) (o : OwnerName) (h : Option Ownership) → ownership S o ≡ h
       → Fits S (CloneOwner o) (clone_owner S o h)
-  clone_fits S o None = (λ free. refl, never)
-  clone_fits S o (Some h) = (λ free. tt, λ e. refl)
+  clone_fits S o None e = (λ free. refl, never)
+  clone_fits S o (Some h) e = (λ free. owner_here S o h e, λ takes. refl)
 
-  release_fits : (S : State T) (o : OwnerName) (h : Option Ownership)
+  release_fits : (S : State T) (o : OwnerName) (h : Option Ownership) → ownership S o ≡ h
       → Fits S (ReleaseOwner o) (release_owner S o h)
-  release_fits S o None = (λ free. refl, never)
-  release_fits S o (Some h) = at (nat_lt 1 h.count)
+  release_fits S o None e = (λ free. refl, never)
+  release_fits S o (Some h) e = at (nat_lt 1 h.count)
     where
       at : (b : Bool) → Fits S (ReleaseOwner o) (cond b (Done, set_ownership S o.key (one_less h))
           (unless (hindrance_to S h.names) S
           (Done, record (close S h.names) { owners = map.remove S.owners o.key })))
-      at true = (λ free. tt, never)
+      at true = done_fits S (ReleaseOwner o) (set_ownership S o.key (one_less h))
+          (owner_here S o h e)
       at false = hinder_fits S (ReleaseOwner o) (hindrance_to S h.names) _
           (hindered_borrow S h.names) (done_fits S (ReleaseOwner o)
-          (record (close S h.names) { owners = map.remove S.owners o.key }))
+          (record (close S h.names) { owners = map.remove S.owners o.key }) (owner_here S o h e))
 
   read_fits : (S : State T) (b : GenerationalPointer) (l : Location) (o : Option Name)
-      (c : Option (Content T)) → Fits S (Read b l) (read_at S l o c)
-  read_fits S b l None c = (λ free. tt, never)
-  read_fits S b l (Some m) None = (λ free. tt, never)
-  read_fits S b l (Some m) (Some (Lent w)) = (λ free. tt, never)
-  read_fits S b l (Some m) (Some (Here v rs)) = (λ free. tt, λ e. refl)
+      (c : Option (Content T)) → b.id.store ≡ S.number → Fits S (Read b l) (read_at S l o c)
+  read_fits S b l None c own = (λ free. own, never)
+  read_fits S b l (Some m) None own = (λ free. own, never)
+  read_fits S b l (Some m) (Some (Lent w)) own = (λ free. own, never)
+  read_fits S b l (Some m) (Some (Here v rs)) own = (λ free. own, λ e. refl)
 
   write_fits : (S : State T) (b : GenerationalPointer) (l : Location) (o : Option Name)
-      (c : Option (Content T)) → Fits S (Write b l) (write_at S l o c)
-  write_fits S b l None c = (λ free. tt, never)
-  write_fits S b l (Some m) None = (λ free. tt, never)
-  write_fits S b l (Some m) (Some (Lent w)) = (λ free. tt, never)
-  write_fits S b l (Some m) (Some (Here v rs)) = (λ free. tt, λ e. refl)
+      (c : Option (Content T)) → b.id.store ≡ S.number → Fits S (Write b l) (write_at S l o c)
+  write_fits S b l None c own = (λ free. own, never)
+  write_fits S b l (Some m) None own = (λ free. own, never)
+  write_fits S b l (Some m) (Some (Lent w)) own = (λ free. own, never)
+  write_fits S b l (Some m) (Some (Here v rs)) own = (λ free. own, λ e. refl)
 
   set_fits : (S : State T) (b : GenerationalPointer) (v : T) (o : Option Name)
-      (c : Option (Content T)) → Fits S (SetValue b v) (set_at S b v o c)
-  set_fits S b v None c = (λ free. refl, never)
-  set_fits S b v (Some m) (Some (Here old [])) = (λ free. tt, never)
-  set_fits S b v (Some m) (Some (Here old (r ∷ rs))) =
+      (c : Option (Content T)) → reach S b ≡ o → Fits S (SetValue b v) (set_at S b v o c)
+  set_fits S b v None c reaches = (λ free. refl, never)
+  set_fits S b v (Some m) (Some (Here old [])) reaches =
+      (λ free. reach_here S b m reaches, never)
+  set_fits S b v (Some m) (Some (Here old (r ∷ rs))) reaches =
       (λ free. never (sym free), never)
-  set_fits S b v (Some m) (Some (Lent w)) =
+  set_fits S b v (Some m) (Some (Lent w)) reaches =
       (λ free. never (sym free), never)
-  set_fits S b v (Some m) None =
+  set_fits S b v (Some m) None reaches =
       (λ free. never (sym free), never)
 
   turn_fits : (S : State T) (a b : GenerationalPointer) (old new : Name) (l : Location)
+      → (a.id.store ≡ S.number) × (b.id.store ≡ S.number)
       → Fits S (Point a b) (turn S (name_of a) old new l)
-  turn_fits S a b old new l = at (is_name old new)
+  turn_fits S a b old new l own = at (is_name old new)
     where
       left : NameMap (Cell T)
       left = sweep (map.insert S.cells (name_of a) (Ref new l))
 
       at : (same : Bool) → Fits S (Point a b) (cond same (Done, S)
           (unless (hindrance_at S.cells left old) S (Done, record S { cells = left })))
-      at true = (λ free. tt, never)
+      at true = done_fits S (Point a b) S (inr own)
       at false = hinder_fits S (Point a b) (hindrance_at S.cells left old) _
-          (borrow_left S.cells left old) (done_fits S (Point a b) (record S { cells = left }))
+          (borrow_left S.cells left old)
+          (done_fits S (Point a b) (record S { cells = left }) (inr own))
 
   -- a box that can't be pointed at another tells the location of what the other reaches, if anything
   other_drops : (S : State T) (a b : GenerationalPointer) (c : Cell T) (target : Option (Cell T))
@@ -295,7 +387,7 @@ module _ {T : Type 0} where
   point_fits S a b None (Some n) target own reaches is free =
       (λ h. inr (reach_here S b n reaches, inl refl), never)
   point_fits S a b (Some (Ref old l)) (Some new) (Some (Shared c k)) own reaches is free =
-      turn_fits S a b old new l
+      turn_fits S a b old new l (own_here S a.id (Ref old l) own, reach_here S b new reaches)
   point_fits S a b (Some (Ref old l)) (Some new) (Some (Value c k)) own reaches is free =
       (λ h. other_drops S a b (Ref old l) _ own _ reaches is, never)
   point_fits S a b (Some (Ref old l)) (Some new) (Some (Ref m k)) own reaches is free =
@@ -321,43 +413,47 @@ module _ {T : Type 0} where
 
   act_fits : (S : State T) (a : Action T) (f : NewNames) → Fits S a (act S a f)
   act_fits S (Make None v l) f = (λ free. tt, never)
-  act_fits S (Make (Some o) v l) f = known_fits S (Make (Some o) v l) (is_known S (Some o)) _ refl
+  act_fits S (Make (Some o) v l) f = known_fits S (Make (Some o) v l) o _ refl
       (made_fits S S (Make (Some o) v l) (Some o) f.first (Value (Here v []) l) l)
   act_fits S (MakeShared None v l) f = (λ free. tt, never)
-  act_fits S (MakeShared (Some o) v l) f =
-      known_fits S (MakeShared (Some o) v l) (is_known S (Some o)) _ refl
+  act_fits S (MakeShared (Some o) v l) f = known_fits S (MakeShared (Some o) v l) o _ refl
       (made_fits S (add_cell S f.first (Shared (Here v []) l)) (MakeShared (Some o) v l) (Some o)
       f.second (Ref f.first l) l)
-  act_fits S (Refer None b) f = referred_fits S None b f.first
-  act_fits S (Refer (Some o) b) f = known_fits S (Refer (Some o) b) (is_known S (Some o)) _ refl
-      (referred_fits S (Some o) b f.first)
+  act_fits S (Refer None b) f = referred_fits S None b f.first tt
+  act_fits S (Refer (Some o) b) f =
+      known_fits S (Refer (Some o) b) o _ refl (referred_fits S (Some o) b f.first)
   act_fits S NewOwner f = (λ free. tt, λ e. refl)
-  act_fits S (CloneOwner o) f = clone_fits S o (ownership S o)
-  act_fits S (ReleaseOwner o) f = release_fits S o (ownership S o)
-  act_fits S (LeakOwner o) f = done_fits S (LeakOwner o) S
+  act_fits S (CloneOwner o) f = clone_fits S o (ownership S o) refl
+  act_fits S (ReleaseOwner o) f = release_fits S o (ownership S o) refl
+  act_fits S (LeakOwner o) f = done_fits S (LeakOwner o) S tt
   act_fits S (Read b l) f = unless_fits S (Read b l) (refusal_to_read S b) _ (read_dropped S b)
-      (read_fits S b l (reach S b) (content_of (cell_at S (reach S b))))
+      (λ free. read_fits S b l (reach S b) (content_of (cell_at S (reach S b)))
+      (readable_here S b free))
   act_fits S (Write b l) f = unless_fits S (Write b l) (refusal_to_write S b) _ (write_dropped S b)
-      (write_fits S b l (reach S b) (content_of (cell_at S (reach S b))))
-  act_fits S (ReleaseReader g) f = either_fits S (ReleaseReader g) (knows_reader S g) _ _ (flag_fits S (ReleaseReader g) true
-      (remove_reader S g.cell g.ticket (content_at S g.cell))) (flag_fits S (ReleaseReader g) false S)
+      (λ free. write_fits S b l (reach S b) (content_of (cell_at S (reach S b)))
+      (writable_here S b free))
+  act_fits S (ReleaseReader g) f = either_fits S (ReleaseReader g) (knows_reader S g) _ _
+      (λ known. flag_fits S (ReleaseReader g) true
+      (remove_reader S g.cell g.ticket (content_at S g.cell)) (reader_here S g known))
+      (λ free. tt, never)
   act_fits S (ReleaseWriter g v) f = either_fits S (ReleaseWriter g v) (knows_writer S g) _ _
-      (done_fits S (ReleaseWriter g v) (fill S g.cell (Here v [])))
+      (λ known. done_fits S (ReleaseWriter g v) (fill S g.cell (Here v [])) (writer_here S g known))
       (unlimited S (ReleaseWriter g v) (Back v, S) refl refl)
-  act_fits S (SetValue b v) f = set_fits S b v (reach S b) (content_of (cell_at S (reach S b)))
+  act_fits S (SetValue b v) f =
+      set_fits S b v (reach S b) (content_of (cell_at S (reach S b))) refl
   act_fits S (End b) f = hinder_fits S (End b) (hindrance_to S (own_name S b)) _
-      (hindered_borrow S (own_name S b)) (done_fits S (End b) (close S (own_name S b)))
+      (hindered_borrow S (own_name S b)) (done_fits S (End b) (close S (own_name S b)) tt)
   act_fits S (Point a b) f = either_fits S (Point a b) (has_same_id a b) (Done, S) _
-      (done_fits S (Point a b) S) (pointed_fits S a b (refusal_to_read S b) refl)
-  act_fits S (CanRead b) f = (λ free. tt, never)
-  act_fits S (CanWrite b) f = (λ free. tt, never)
+      (λ same. done_fits S (Point a b) S (inl same)) (pointed_fits S a b (refusal_to_read S b) refl)
+  act_fits S (CanRead b) f = flag_fits S (CanRead b) (can_read S b) S tt
+  act_fits S (CanWrite b) f = flag_fits S (CanWrite b) (can_write S b) S tt
 
-  pub refuses_so : (S R : State T) (a : Action T) (answer : Answer T) → Meets S a answer R
-      → is_hindered a answer ≡ false → MayRefuse S.number a answer
-  refuses_so S R a answer (inl m) =
-      subst (λ (o : Outcome T). is_hindered a o.0 ≡ false → MayRefuse S.number a o.0) (sym m.2)
+  pub answers_so : (S R : State T) (a : Action T) (answer : Answer T) → Meets S a answer R
+      → is_hindered a answer ≡ false → MayAnswer S.number a answer
+  answers_so S R a answer (inl m) =
+      subst (λ (o : Outcome T). is_hindered a o.0 ≡ false → MayAnswer S.number a o.0) (sym m.2)
       (limited_fits S a _ (act_fits S a m.0))
-  refuses_so S R a answer (inr m) = λ free. subst (MayRefuse S.number a) (sym m.1) tt
+  answers_so S R a answer (inr m) = λ free. subst (MayAnswer S.number a) (sym m.1) tt
 
   limited_ticket : (S : State T) (a : Action T) (out : Outcome T) → Fits S a out
       → takes_ticket (limit_tickets S out).0 ≡ true → needs_ticket a ≡ true
@@ -379,23 +475,33 @@ module _ {T : Type 0} where
 
   -- ---- what of it the callers see
 
+  -- a guard that opens something is of the store
+  pub opened_own : (S : State T) (g : Guard) (v : T) → Some v ≡ value_behind S g
+      → g.store ≡ S.number
+  opened_own S g v e = at (knows_reader S g) refl e
+    where
+      at : (b : Bool) → knows_reader S g ≡ b → Some v ≡ cond b (value_at S g.cell) None
+          → g.store ≡ S.number
+      at true known e = reader_here S g known
+      at false known e = absurd cc
+
   -- a call that needs neither a ticket nor an owner is refused for want of memory alone
   lacks : (number : ℕ) (a : Action T) (e : StoreError) → needs_ticket a ≡ false
-      → needs_owner a ≡ false → MayRefuse number a (refuses e) → e ≡ OutOfMemory
+      → needs_owner a ≡ false → MayAnswer number a (refuses e) → e ≡ OutOfMemory
   lacks number a OutOfMemory ticket owner h = refl
-  lacks number a NumbersExhausted ticket owner h = absurd (true≢false (sym h ∙ ticket))
+  lacks number a NumbersExhausted ticket owner h = absurd (true≢false (sym h.0 ∙ ticket))
   lacks number a UnknownOwner ticket owner h = absurd (true≢false (sym h ∙ owner))
 
   -- which value was let go doesn't matter
   pub set_may : {U : Type 0} (number : ℕ) (a : Action T) (old other : T)
-      (r : Result U (T × Refused BorrowMutError)) → MayRefuse number a (set_answer old r)
-      → MayRefuse number a (set_answer other r)
-  set_may number a old other (Ok u) may = tt
+      (r : Result U (T × Refused BorrowMutError)) → MayAnswer number a (set_answer old r)
+      → MayAnswer number a (set_answer other r)
+  set_may number a old other (Ok u) may = may
   set_may number a old other (Err e) may = may
 
 -- and an end
 pub end_lacks : (T : Type 0) {U : Type 0} (number : ℕ) (b : GenerationalPointer)
-    (r : Result U (Refused BorrowMutError)) → MayRefuse {T = T} number (End b) (end_answer r)
+    (r : Result U (Refused BorrowMutError)) → MayAnswer {T = T} number (End b) (end_answer r)
     → IfErr r (λ e. e ≡ refused.Store OutOfMemory)
 end_lacks T number b (Ok u) may = tt
 end_lacks T number b (Err (refused.Store e)) may =
