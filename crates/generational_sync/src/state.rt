@@ -195,11 +195,12 @@ impl<T: Drop, const NUMBER: u64, M: Count, L: Count, C: Count, R: Count> SyncSta
         Ok((trimmed, outdated))
     }
 
-    // A copy of the base and of the history, which the whole tally has counted.
-    pub(crate) fn audit(
-        &mut self,
-        whole: &mut Tally<M, L, C, R>,
-    ) -> Result<(Base, Vec<Step>), StoreError>
+    /// A copy of the base and of the history, asked for with a whole tally (`is_whole` is the test):
+    /// of each kind both together count exactly as many steps as the tally counts. It isn't a step.
+    ///
+    /// Refused by `OutOfMemory` at most: nothing changes. It takes time and memory for each row of
+    /// the base and each step.
+    pub fn audit(&mut self, whole: &mut Tally<M, L, C, R>) -> Result<(Base, Vec<Step>), StoreError>
         requires { whole.old.parts ≡ M.workers }
         ensures base { IfOk result (λ r. r.0 ≡ self.old.base) }
         ensures steps { IfOk result (λ r. r.1.items ≡ self.old.history) }

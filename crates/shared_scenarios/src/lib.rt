@@ -8,6 +8,8 @@ mod beside;
 #[cfg(test)]
 mod judging;
 #[cfg(test)]
+mod kinds;
+#[cfg(test)]
 mod memory;
 #[cfg(test)]
 mod rows;

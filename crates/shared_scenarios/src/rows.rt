@@ -63,3 +63,8 @@ fn a_history_is_trimmed(rt: HostRuntime) {
 fn strangers_are_unknown(rt: HostRuntime) {
     plays(&rt, rt.alloc(), 1, Scenario::StrangersCome);
 }
+
+#[test]
+fn a_strange_owner_is_unknown(rt: HostRuntime) {
+    plays(&rt, rt.alloc(), 1, Scenario::StrangeOwnerComes);
+}

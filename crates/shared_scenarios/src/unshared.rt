@@ -4,17 +4,25 @@ ghost use Rattle.std.specs.Prelude.{◌≡◌};
 
 use crate::judging::Judging;
 use generational_sync::{Count, SyncState};
-use shared_scenes::live;
+use shared_scenes::{live, trim};
 use std::alloc::Global;
 use std::marker::Brand;
 use std::process::Abort;
 use std::sync::ledger::Blank;
 use std::test::*;
 
+// What the worker does.
+#[derive(Clone, Copy)]
+enum Course {
+    Live,
+    Trim,
+}
+
 // One worker calls what lies under the lock, and nothing waits.
 fn one_by_one<A: Count, B: Count, C: Count, D: Count>(
     rt: &impl Abort,
     alloc: Global,
+    course: Course,
     made: Blank,
     lent: Blank,
     changed: Blank,
@@ -32,7 +40,10 @@ fn one_by_one<A: Count, B: Count, C: Count, D: Count>(
     let state = SyncState::<String, 7, A, B, C, D>::new(alloc, 1, made, lent, changed, refused);
     let (mut state, mut tallies) = state.expect(rt, "a store");
     let mut tally = tallies.pop().expect(rt, "a tally");
-    live(&Judging(rt), alloc, &mut state, &mut tally);
+    match course {
+        Course::Live => live(&Judging(rt), alloc, &mut state, &mut tally),
+        Course::Trim => trim(&Judging(rt), alloc, &mut state, &mut tally),
+    }
     assert_eq!(rt; tally.worker(), 0);
     assert!(rt; tally.is_whole());
 }
@@ -42,6 +53,20 @@ fn calls_without_threads(rt: HostRuntime) {
     one_by_one::<Brand, Brand, Brand, Brand>(
         &rt,
         rt.alloc(),
+        Course::Live,
+        Blank::new(1),
+        Blank::new(1),
+        Blank::new(1),
+        Blank::new(1),
+    );
+}
+
+#[test]
+fn a_checkpoint_without_threads(rt: HostRuntime) {
+    one_by_one::<Brand, Brand, Brand, Brand>(
+        &rt,
+        rt.alloc(),
+        Course::Trim,
         Blank::new(1),
         Blank::new(1),
         Blank::new(1),

@@ -6,7 +6,9 @@
 mod beside;
 mod gates;
 mod judge;
+mod kinds;
 mod places;
+mod recorded;
 mod recorder;
 mod rows;
 mod scenes;
@@ -15,7 +17,8 @@ mod waking;
 mod workers;
 
 pub use crate::judge::Judge;
+pub use crate::kinds::{Entry, turn};
 pub use crate::scenes::{Scenario, play};
-pub use crate::unshared::live;
+pub use crate::unshared::{live, trim};
 pub use crate::waking::Freeing;
 pub use crate::workers::{Handle, Worker};

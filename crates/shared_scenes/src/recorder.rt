@@ -2,21 +2,20 @@
 //! says, or the test ends; where memory lacks, it is called a second time.
 
 use crate::judge::{Judge, present};
+use crate::recorded::{KINDS, assert_kinds, assert_recorded};
 use crate::workers::{MadeOrBack, Worker};
 use generational_box::{
     BaseRow, BorrowError, BorrowMutError, BorrowMutResult, BorrowResult, GenerationalBox,
     GenerationalBoxId, GenerationalRef, GenerationalRefMut, Location, Owner, Refused, StepCall,
     StoreError, ValueDroppedError,
 };
-use generational_sync::{Base, Kind, Step, StepReply};
+use generational_sync::{Base, Step, StepReply};
 use std::alloc::Global;
 use std::sync::Wait;
 use std::thread;
 
 // How often a worker looks whether calls wait before it gives up.
 const TURNS: u64 = 10_000_000;
-
-const KINDS: [Kind; 4] = [Kind::Made, Kind::Lent, Kind::Changed, Kind::Refused];
 
 /// A worker, and the steps that its calls are.
 #[derive(Drop)]
@@ -437,6 +436,58 @@ impl<W: Worker> Recorder<W> {
         self.record(rt, call, StepReply::Done);
     }
 
+    /// An owner of another store, by which nothing is made, and which comes back.
+    pub(crate) fn refuses_owner(
+        &mut self,
+        rt: &(impl Wait + Judge),
+        owner: Owner,
+        value: &str,
+        at: Location,
+    ) {
+        self.refuses_clone(rt, &owner);
+        self.refuses_insertion(rt, &owner, value, at);
+        let call = StepCall::ReleaseOwner(owner.id());
+        match self.worker.release_owner(rt, owner) {
+            Err((back, refused)) => {
+                back.leak();
+                rt.compare(&refused, &Refused::Store(StoreError::UnknownOwner));
+            }
+            Ok(()) => rt.stop("a stranger that is released"),
+        }
+        self.record(rt, call, StepReply::Store(StoreError::UnknownOwner));
+    }
+
+    fn refuses_clone(&mut self, rt: &(impl Wait + Judge), owner: &Owner) {
+        match self.worker.clone_owner(rt, owner) {
+            Err(cause) => rt.compare(&cause, &StoreError::UnknownOwner),
+            Ok(clone) => {
+                clone.leak();
+                rt.stop("a stranger that is cloned")
+            }
+        }
+        let call = StepCall::CloneOwner(owner.id());
+        self.record(rt, call, StepReply::Store(StoreError::UnknownOwner));
+    }
+
+    fn refuses_insertion(
+        &mut self,
+        rt: &(impl Wait + Judge),
+        owner: &Owner,
+        value: &str,
+        at: Location,
+    ) {
+        let handed = text(rt, self.alloc, value);
+        match self.worker.insert(rt, owner, handed, at) {
+            Err(back) => {
+                rt.compare(&back.cause, &StoreError::UnknownOwner);
+                rt.demand(back.value.as_str() == value, "another value back");
+            }
+            Ok(_) => rt.stop("a box of a stranger"),
+        }
+        let call = StepCall::Insert(owner.id(), at);
+        self.record(rt, call, StepReply::Store(StoreError::UnknownOwner));
+    }
+
     /// A reader of another store, which isn't released, and opens nothing.
     pub(crate) fn refuses_reader(
         &mut self,
@@ -533,7 +584,8 @@ impl<W: Worker> Recorder<W> {
         }
     }
 
-    /// Asserts that the history has each worker's steps in order, and no others. All workers'
+    /// Asserts that the history has each worker's steps in order, and no others, with the places at
+    /// which their boxes were made. All workers'
     /// counts and steps were taken over.
     pub(crate) fn audit(&mut self, rt: &(impl Wait + Judge), workers: usize) {
         let (_, history) = self.history(rt);
@@ -551,26 +603,6 @@ impl<W: Worker> Recorder<W> {
             assert_kinds(rt, worker, self.steps.as_slice(), *counts);
         }
         self.lacks
-    }
-}
-
-// Asserts that a worker's steps in the history are those that are wanted, in order.
-fn assert_recorded(rt: &impl Judge, worker: usize, history: &[Step], wanted: &[Step]) {
-    let own = history.iter().filter(|step| step.worker == worker);
-    let mut wanted = wanted.iter().filter(|step| step.worker == worker);
-    for step in own {
-        rt.compare(&Some(step), &wanted.next());
-    }
-    rt.demand(wanted.next().is_none(), "a step that lacks");
-}
-
-// Asserts that so many steps of a worker are of each kind: made, lent, changed, refused.
-fn assert_kinds(rt: &impl Judge, worker: usize, steps: &[Step], counts: [usize; 4]) {
-    for (kind, wanted) in KINDS.into_iter().zip(counts) {
-        let found = steps
-            .iter()
-            .filter(|step| step.worker == worker && step.kind() == kind);
-        rt.compare(&found.count(), &wanted);
     }
 }
 

@@ -5,7 +5,7 @@ use crate::judge::Judge;
 use crate::places::{made, made_later, read, read_later};
 use crate::recorder::{Recorder, text};
 use crate::workers::Worker;
-use generational_box::{BaseRow, GenerationalBox, Storage, UnsyncStorage};
+use generational_box::{AnyStorage, BaseRow, GenerationalBox, Storage, UnsyncStorage};
 use std::alloc::Global;
 use std::sync::Wait;
 
@@ -203,6 +203,22 @@ pub(crate) fn strangers_come<W: Worker>(
     one.assert_opens(rt, &guard, "own");
     one.release(rt, guard);
     one.finish(rt, &[[1, 1, 2, 2]])
+}
+
+/// An owner of another store is a stranger here, also where its key is that of an owner of this
+/// one.
+pub(crate) fn strange_owner_comes<W: Worker>(
+    rt: &(impl Wait + Judge),
+    alloc: Global,
+    mut one: Recorder<W>,
+) -> u64 {
+    let own = one.owner(rt);
+    let mut other: UnsyncStorage<String> = UnsyncStorage::new(alloc, 8);
+    let strange = rt.expect(other.owner(), "an owner");
+    rt.compare(&strange.id().key, &own.id().key);
+    one.refuses_owner(rt, strange, "v", made());
+    one.release_owner(rt, own);
+    one.finish(rt, &[[1, 0, 1, 3]])
 }
 
 /// A box of the store with number 8.

@@ -28,6 +28,7 @@ pub enum Scenario {
     BasesHaveBorrows,
     HistoryIsTrimmed,
     StrangersCome,
+    StrangeOwnerComes,
     ReadBeside,
     WriteBeside,
     TrimBeside,
@@ -78,6 +79,7 @@ fn act<W: Worker, H: Threads + Wait + Judge + Sync>(
         Scenario::BasesHaveBorrows => bases_have_borrows(rt, last),
         Scenario::HistoryIsTrimmed => history_is_trimmed(rt, last),
         Scenario::StrangersCome => strangers_come(rt, alloc, last),
+        Scenario::StrangeOwnerComes => strange_owner_comes(rt, alloc, last),
         _ => {
             act_beside(rt, alloc, workers, last, scenario);
             0

@@ -3,8 +3,8 @@
 use crate::judge::Judge;
 use crate::places::{made as leaked_at, read as read_at};
 use crate::recorder::text;
-use generational_box::{GenerationalBox, GenerationalRef, StepCall};
-use generational_sync::{Count, SyncState, Tally};
+use generational_box::{BaseRow, GenerationalBox, GenerationalRef, StepCall};
+use generational_sync::{Count, Step, StepReply, SyncState, Tally};
 use std::alloc::Global;
 
 // Makes a box of `hello`.
@@ -75,4 +75,52 @@ pub fn live<A: Count, B: Count, C: Count, D: Count>(
     rt.demand(!state.ready(&call), "an end that waits for nobody");
     rt.demand(state.release_read(guard, tally), "an unknown reader");
     end(rt, state, tally, made);
+}
+
+/// Lets the steps go while a reader stands, and goes on. The audit has a base of what stood then,
+/// and the later steps alone.
+pub fn trim<A: Count, B: Count, C: Count, D: Count>(
+    rt: &impl Judge,
+    alloc: Global,
+    state: &mut SyncState<String, 7, A, B, C, D>,
+    tally: &mut Tally<A, B, C, D>,
+) {
+    let made = leak(rt, alloc, state, tally);
+    let guard = begin(rt, state, tally, made);
+    rt.compare(&state.checkpoint(), &Ok(2));
+    rt.demand(state.release_read(guard, tally), "an unknown reader");
+    end(rt, state, tally, made);
+    assert_audited(rt, state, tally, made);
+}
+
+// Asserts that a box and its reader stand in the base, and that their ends came later.
+fn assert_audited<A: Count, B: Count, C: Count, D: Count>(
+    rt: &impl Judge,
+    state: &mut SyncState<String, 7, A, B, C, D>,
+    tally: &mut Tally<A, B, C, D>,
+    made: GenerationalBox<String>,
+) {
+    if !tally.is_whole() {
+        return rt.stop("a tally that lacks");
+    }
+    let (base, steps) = rt.expect(state.audit(tally), "an audit");
+    let id = made.id();
+    let value = BaseRow::Value(id, leaked_at());
+    let reader = BaseRow::Reader(id, 0, read_at());
+    rt.compare(&base.trimmed(), &2);
+    let rows = [BaseRow::Slot(0, 1), value, reader];
+    rt.demand(base.rows() == rows.as_slice(), "other rows");
+    let released = step(StepCall::ReleaseRead(0));
+    let ended = step(StepCall::ManuallyDrop(made.pointer()));
+    let wanted = [released, ended];
+    rt.demand(steps.as_slice() == wanted.as_slice(), "other steps");
+}
+
+// A step of worker 0 that was carried out.
+fn step(call: StepCall) -> Step {
+    Step {
+        worker: 0,
+        call,
+        reply: StepReply::Done,
+    }
 }
