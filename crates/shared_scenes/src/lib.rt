@@ -3,6 +3,7 @@
 //! worked out by hand. `shared_scenarios` plays them.
 #![tactic(auto)]
 
+mod audits;
 mod beside;
 mod gates;
 mod judge;
@@ -16,6 +17,7 @@ mod unshared;
 mod waking;
 mod workers;
 
+pub use crate::audits::audited;
 pub use crate::judge::Judge;
 pub use crate::kinds::{Entry, turn};
 pub use crate::scenes::{Scenario, play};

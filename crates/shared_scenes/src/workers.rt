@@ -1,6 +1,7 @@
 //! Workers of a store that threads share. Their calls have no contract here: the scenarios compare
 //! answers.
 
+use crate::audits::audited;
 use generational_box::{
     BorrowMutError, BorrowMutResult, BorrowResult, GenerationalBox, GenerationalRef,
     GenerationalRefMut, Location, Owner, Refusal, Refused, StoreError,
@@ -315,6 +316,6 @@ impl<
         if !self.tally.is_whole() {
             return None;
         }
-        self.store.audit(rt, &mut self.tally).ok()
+        audited(&self.store, rt, &mut self.tally).ok()
     }
 }
