@@ -2,7 +2,7 @@
 """Runs the gate and prints how many seconds of processor time each part of it took.
 
     python3 .ci/seconds.py                        runs `rt ci`
-    python3 .ci/seconds.py rt must-fail boxes     runs another command of rt
+    python3 .ci/seconds.py rt must-fail boxes     runs another command of rt, or .ci/wrong
 
 Parts are a crate's proofs, its tests and each of its edits; and, where it has several, its own
 check once more, before the first edit and after the last. The dearest twenty stand first, then the
@@ -109,6 +109,8 @@ def part_of(words, folder, rooms):
     crate = words[words.index("--crate-name") + 1]
     if "/rt-edit-" in folder:
         return crate, rooms.get(folder, "edits: the crate again")
+    if "/wrong-" in folder:
+        return crate, "edits of wrong/"
     return crate, "tests" if "--test" in words else "proofs"
 
 
