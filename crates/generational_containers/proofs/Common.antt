@@ -1,6 +1,7 @@
 -- The names of machine and store that most proofs here cite, passed on from one place.
 use Rattle.generational_containers.specs
 use Rattle.std.proofs
+pub use proofs.Common.{OnErr, option_to_list, Result}
 pub use proofs.Common.{All, ap, append-nil, arith, Bool, Bor, cond, drop, Err, false, get_or}
 pub use proofs.Common.{IfSome, if◌then◌else◌, inl, inr, is_some, IsSome, length}
 pub use proofs.Common.{length-append, Less, List, map, nat_cmp, nat_eq, None, not, Ok, OnSome}
@@ -11,6 +12,8 @@ pub use proofs.Math.{Seq.take-nil}
 pub use proofs.lemmas.{Bool.or_parts, Bool.Decides.nat_tests, List.Sorted.answers_always}
 pub use proofs.lemmas.Bool.{cases_Bool, cases_eq, cases_lt, eq-eqb, eqb-true, false≢true, ne_eqb}
 pub use proofs.lemmas.Cmp.{ranked}
+pub use proofs.lemmas.List.{length-map, map-append}
+pub use proofs.lemmas.List.{Elements.filter-append, Elements.filter_from_retain, Kept.AllPairs-filter}
 pub use proofs.lemmas.List.{get_or-set_other, get_or-set_same, get_or_append_left, get_or_read}
 pub use proofs.lemmas.List.{get_or_read_under, length-reverse, length-set, reverse-append, take_all}
 pub use proofs.lemmas.List.{Elements.recursion_from_All, Quantifiers.all_pairs_push}
@@ -24,13 +27,14 @@ pub use Rattle.std.specs.{Map.keys_of, Map.lookup, Option.option_or}
 pub use Rattle.std.specs.List.{AllByRecursion, filter, HoldsAt, list_any, remove}
 pub use Rattle.std.specs.List.Sorted.{IsBinarySearchResult, IsNonDecreasingBy, IsPartitionPoint}
 pub use Rattle.std.specs.declared.cmp.Ordering.TheVariants.{Equal, Greater}
-pub use specs.{Borrows.AreBelow, Borrows.Ascend, Borrows.IsOnly, declared.names.CellName.CellName}
+pub use specs.{Borrows.AreBelow, Borrows.IsOnly, declared.names.CellName.CellName}
 pub use specs.{CellNames.name_of_cell, Lists.how_many, Pools.chain, Pools.IsPool, Pools.last_of}
 pub use specs.OwnerPlaces.{ArePlaced, change_place, change_record, change_record_if}
 pub use specs.OwnerPlaces.{HasDistinctKeys, HasRecord, HasRoom, is_vacant, IsPlaceOf, IsReserved}
 pub use specs.OwnerPlaces.{keyed_ownerships, KeyedOwnership, Place, place_rows, record_at}
 pub use specs.OwnerPlaces.{record_in, Records, with_ownership, with_rooms}
 pub use specs.OwnerRecords.{add_to_list_in, knows, record_of}
+pub use specs.Queues.{HasTicketAt, IsKept, IsOwnPlace, IsQueue, standing_at, StandsAt, TicketsAscend}
 pub use specs.Table.{IsTable}
 pub use Rattle.generational_core.proofs.maps.Maps.{by_number, changed_there, get-changed_none}
 pub use Rattle.generational_core.proofs.maps.Maps.{get-remove_apart, insert_there, key_same}

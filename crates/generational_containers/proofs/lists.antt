@@ -1,4 +1,4 @@
 pub mod Chains
 pub mod Lists
+pub mod Queues
 pub mod Tables
-pub mod Tickets

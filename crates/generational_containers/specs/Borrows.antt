@@ -1,7 +1,7 @@
 -- What is said of the borrows that stand at a cell.
 use Rattle.std.specs.Prelude.{◌≡◌, ◌≢◌, ◌<◌, ◌≤◌, ℕ, Bool, true, false, not, nat_eq}
 use Rattle.std.specs.Prelude.{List, [], ◌∷◌, length}
-use Rattle.std.specs.List.{list_any, filter, AllPairs}
+use Rattle.std.specs.List.{list_any, filter}
 use Rattle.generational_core.specs.declared.borrow.Borrow.{Borrow}
 use Rattle.generational_containers.specs.declared.borrows.Removal.{Removal}
 use Rattle.generational_containers.specs.declared.borrows.Removal.TheVariants as removal
@@ -12,19 +12,15 @@ use Rattle.generational_containers.specs.declared.borrows.OneOrSeveral.TheVarian
 abbrev pub AreBelow : ℕ → List Borrow → Type 0
 AreBelow n bs = (t : ℕ) → list_any (λ b. nat_eq b.ticket t) bs ≡ true → t < n
 
--- each ticket is below those behind it
-abbrev pub Ascend : List Borrow → Type 0
-Ascend = AllPairs (λ a b. a.ticket < b.ticket)
-
 -- one borrow, or those of a queue
 abbrev pub borrows_in : OneOrSeveral → List Borrow
 borrows_in (One b) = b ∷ []
-borrows_in (Several queue) = queue.value.items
+borrows_in (Several queue) = queue.value
 
--- in a queue two borrows stand at least, and their tickets ascend
-abbrev pub IsOrdered : OneOrSeveral → Type 0
-IsOrdered (One b) = Unit {0}
-IsOrdered (Several queue) = (2 ≤ length queue.value.items) × Ascend queue.value.items
+-- in a queue two borrows stand at least
+abbrev pub IsFilled : OneOrSeveral → Type 0
+IsFilled (One b) = Unit {0}
+IsFilled (Several queue) = 2 ≤ length queue.value
 
 -- there is one borrow, and it has the ticket
 abbrev pub IsOnly : ℕ → List Borrow → Type 0

@@ -4,4 +4,5 @@ pub mod Lists
 pub mod OwnerPlaces
 pub mod OwnerRecords
 pub mod Pools
+pub mod Queues
 pub mod Table

@@ -1,26 +1,23 @@
 //! The borrows that stand at one cell.
 
-ghost use Rattle.std.specs.Prelude.{◌≡◌, ◌<◌, ◌∷◌, ◌++◌, [], IfOk, OnOk, OnErr, map, not, nat_eq};
+ghost use Rattle.std.specs.Prelude.{◌≡◌, ◌∷◌, ◌++◌, [], IfOk, OnOk, OnErr, map, nat_eq};
 ghost use Rattle.std.specs.Prelude.{slice_get, Some};
-ghost use Rattle.std.specs.VecDeque.{deque_len, deque_capacity};
-ghost use Rattle.std.specs.List.{list_any, filter};
+ghost use Rattle.std.specs.List.{list_any};
 ghost use Rattle.generational_core.specs.Rows.{reader_row};
-ghost use Rattle.generational_containers.specs.Borrows.{AreBelow, Ascend, IsRemoval};
+ghost use Rattle.generational_containers.specs.Borrows.{AreBelow, IsRemoval};
 
+use crate::queue::{Queue, reader_row};
 use generational_core::parts::Borrow;
 use generational_core::{BaseRow, GenerationalBoxId, Location};
 use reservation::push_more;
 use std::alloc::{AllocError, Global};
-use std::collections::VecDeque;
 use std::marker::Model;
 
 /// The borrows that stand at one cell, one at least, in the order in which they began: so their
 /// tickets ascend. Contracts see them as that list.
 ///
 /// One borrow stands in place, so that a cell's first borrow takes no memory. Where there are more,
-/// all stand in a queue apart. There the one with a ticket is found by binary search, and then
-/// taken away in constant time if it is the first or the last. Once one borrow is left, the queue's
-/// memory is given back.
+/// all stand in a queue apart. Once one borrow is left, the queue's memory is given back.
 #[derive(Drop)]
 pub struct Borrows {
     standing: OneOrSeveral,
@@ -30,7 +27,7 @@ pub struct Borrows {
 #[derive(Drop)]
 enum OneOrSeveral {
     One(Borrow),
-    Several(Box<VecDeque<Borrow>>),
+    Several(Box<Queue>),
 }
 
 /// What became of a borrow that was to be taken away: there was none, there are others beside it,
@@ -45,13 +42,13 @@ pub enum Removal {
 impl Model for Borrows {
     ghost use Rattle.std.specs.Prelude.{List};
     ghost use Rattle.generational_core.specs.declared.borrow.Borrow.{Borrow};
-    ghost use Rattle.generational_containers.specs.Borrows.{borrows_in, IsOrdered};
+    ghost use Rattle.generational_containers.specs.Borrows.{borrows_in, IsFilled};
 
     ghost Value = { List Borrow };
 
     ghost view = { λ b. borrows_in b.standing };
 
-    ghost invariant = { λ b. IsOrdered b.standing };
+    ghost invariant = { λ b. IsFilled b.standing };
 }
 
 impl Borrows {
@@ -72,7 +69,7 @@ impl Borrows {
     {
         match &self.standing {
             OneOrSeveral::One(borrow) => *borrow,
-            OneOrSeveral::Several(queue) => queue[0],
+            OneOrSeveral::Several(queue) => queue.first(),
         }
     }
 
@@ -86,10 +83,10 @@ impl Borrows {
     {
         match &mut self.standing {
             OneOrSeveral::One(first) => {
-                let queue = queue_of(alloc, *first, borrow)?;
+                let queue = Queue::of_two(alloc, *first, borrow)?;
                 self.standing = OneOrSeveral::Several(queue);
             }
-            OneOrSeveral::Several(queue) => push_behind(queue, borrow)?,
+            OneOrSeveral::Several(queue) => queue.push(borrow)?,
         }
         Ok(())
     }
@@ -102,7 +99,7 @@ impl Borrows {
     {
         match &self.standing {
             OneOrSeveral::One(borrow) => borrow.ticket == ticket,
-            OneOrSeveral::Several(queue) => has_ticket(queue, ticket),
+            OneOrSeveral::Several(queue) => queue.contains(ticket),
         }
     }
 
@@ -119,11 +116,11 @@ impl Borrows {
                 Removal::None
             }
             OneOrSeveral::Several(queue) => {
-                if !remove_among(queue, ticket) {
+                if !queue.remove(ticket) {
                     return Removal::None;
                 }
                 if queue.len() == 1 {
-                    self.standing = OneOrSeveral::One(queue[0]);
+                    self.standing = OneOrSeveral::One(queue.first());
                 }
                 Removal::One
             }
@@ -142,7 +139,7 @@ impl Borrows {
                 places.push_reserved(borrow.location);
                 Ok(places)
             }
-            OneOrSeveral::Several(queue) => locations_of(queue, alloc),
+            OneOrSeveral::Several(queue) => queue.locations(alloc),
         }
     }
 
@@ -156,110 +153,7 @@ impl Borrows {
     {
         match &self.standing {
             OneOrSeveral::One(borrow) => push_more(rows, reader_row(id, borrow)),
-            OneOrSeveral::Several(queue) => push_all(queue, id, rows),
+            OneOrSeveral::Several(queue) => queue.push_readers(id, rows),
         }
-    }
-}
-
-/// The row of a reader of the value with this id.
-pub fn reader_row(id: GenerationalBoxId, borrow: &Borrow) -> BaseRow
-    ensures { result ≡ reader_row id borrow.now }
-{
-    BaseRow::Reader(id, borrow.ticket, borrow.location)
-}
-
-// Appends a row for each of these readers.
-fn push_all(
-    readers: &VecDeque<Borrow>,
-    id: GenerationalBoxId,
-    rows: &mut Vec<BaseRow>,
-) -> Result<(), AllocError>
-    ensures { OnOk result
-        (rows.new.items ≡ rows.old.items ++ map (reader_row id) readers.now.items) }
-{
-    for reader in readers.iter() {
-        push_more(rows, reader_row(id, reader))?;
-    }
-    Ok(())
-}
-
-// A queue of two borrows, in order.
-fn queue_of(
-    alloc: Global,
-    first: Borrow,
-    second: Borrow,
-) -> Result<Box<VecDeque<Borrow>>, AllocError>
-    ensures { IfOk result (λ queue. queue.value.items ≡ first ∷ second ∷ []) }
-{
-    let mut queue = VecDeque::with_capacity(alloc, 2)?;
-    queue.push_back_reserved(first);
-    queue.push_back_reserved(second);
-    let queue = Box::new(alloc, queue)?;
-    Ok(queue)
-}
-
-// Puts a borrow behind these.
-fn push_behind(queue: &mut VecDeque<Borrow>, borrow: Borrow) -> Result<(), AllocError>
-    ensures ok { OnOk result (queue.new.items ≡ queue.old.items ++ borrow ∷ []) }
-    ensures err { OnErr result (queue.new.items ≡ queue.old.items) }
-{
-    if queue.reserve(1).is_err() {
-        let beside = queue.len().saturating_sub(1) / 2;
-        reserve_beside(queue, beside)?;
-    }
-    queue.push_back_reserved(borrow);
-    Ok(())
-}
-
-// Makes room for one borrow more, and for so many beside it, or for half of those and so on.
-#[cold]
-#[inline(never)]
-fn reserve_beside(queue: &mut VecDeque<Borrow>, beside: usize) -> Result<(), AllocError>
-    ensures items { queue.new.items ≡ queue.old.items }
-    ensures ok { OnOk result (deque_len queue.new < deque_capacity queue.new) }
-{
-    if queue.reserve_exact(beside.saturating_add(1)).is_ok() {
-        return Ok(());
-    }
-    if beside == 0 {
-        return Err(AllocError);
-    }
-    reserve_beside(queue, beside / 2)
-}
-
-// Where these began, in order.
-fn locations_of(borrows: &VecDeque<Borrow>, alloc: Global) -> Result<Vec<Location>, AllocError>
-    ensures { IfOk result (λ places. places.items ≡ map (λ b. b.location) borrows.now.items) }
-{
-    borrows.iter().map(|borrow| borrow.location).collect(alloc)
-}
-
-// Whether one of these has the ticket.
-fn has_ticket(borrows: &VecDeque<Borrow>, ticket: u64) -> bool
-    requires { Ascend borrows.now.items }
-    ensures { result ≡ list_any (λ b. nat_eq b.ticket ticket) borrows.now.items }
-{
-    match borrows.binary_search_by_key(&ticket, |borrow| borrow.ticket) {
-        Ok(_) => true,
-        Err(_) => false,
-    }
-}
-
-// Takes the ticket's own borrow away from these. The answer is whether there was one.
-#[cold]
-#[inline(never)]
-fn remove_among(borrows: &mut VecDeque<Borrow>, ticket: u64) -> bool
-    requires { Ascend borrows.old.items }
-    ensures known { result ≡ list_any (λ b. nat_eq b.ticket ticket) borrows.old.items }
-    ensures after { borrows.new.items ≡ filter (λ b. not (nat_eq b.ticket ticket))
-        borrows.old.items }
-    ensures well { Ascend borrows.new.items }
-{
-    match borrows.binary_search_by_key(&ticket, |borrow| borrow.ticket) {
-        Ok(index) => {
-            borrows.remove(index);
-            true
-        }
-        Err(_) => false,
     }
 }

@@ -12,5 +12,6 @@ pub mod indexes;
 pub mod names;
 pub mod owners;
 pub mod pool;
+pub mod queue;
 pub mod room;
 pub mod table;

@@ -36,8 +36,8 @@ ghost use Rattle.std.specs.Prelude.{false};
 use crate::entry::{EntryDetails, Kind, StorageEntryData};
 use crate::latest::{LastBorrow, Standing};
 use crate::settled::{SettledEntries, push_writer, reader_error, writer_error};
-use generational_containers::borrows::reader_row;
 use generational_containers::names::CellName;
+use generational_containers::queue::reader_row;
 use generational_core::parts::Borrow;
 use generational_core::{
     AlreadyBorrowedMutError, BaseRow, BorrowMutError, BorrowMutResult, GenerationalBoxId, Location,

@@ -1,51 +1,45 @@
 -- The ticket's own borrow is taken away, where another stands.
-use Rattle.std.proofs.Common.{◌∙◌, refl, sym}
-use Rattle.generational_containers.proofs.lists.Tickets.{none_left, left_some, two_of_some}
+use Rattle.std.proofs.Common.{◌≡◌, ◌∙◌, ◌∷◌, [], ap, length, List, refl, sym}
+use Rattle.generational_containers.proofs.lists.Queues.{left_some, none_left, none_some}
+use Rattle.generational_containers.proofs.lists.Queues.{only_first}
+use Rattle.generational_core.specs.declared.borrow.Borrow.{Borrow}
 use Rattle.generational_containers.proofs.borrows.Borrows.remove.Goals as goal
+use Rattle.generational_containers.proofs.borrows.Borrows.remove.Goals.{in-Several-1, in-One-1}
 
-pub invariant_of-self-then-not-remove_among : goal.invariant_of-self-then-not-remove_among
-invariant_of-self-then-not-remove_among c =
-    let stand = rw c.in-Several.is at c.self.invariant in
-    let known = rw c.deref_mut.ensures.value at c.remove_among.ensures.known in
-    let none = sym known ∙ c.if-not-remove_among.true in
-    rw (c.remove_among.ensures.after, c.deref_mut.ensures.value, none_left c.args.ticket _ none)
-    stand
+pub invariant_of-self-then-not-remove : goal.invariant_of-self-then-not-remove
+invariant_of-self-then-not-remove c =
+    let two = rw c.in-Several.is at c.self.invariant in
+    let known = rw c.deref_mut.ensures.value at c.remove.ensures.known in
+    let none = sym known ∙ c.if-not-remove.true in
+    rw (c.remove.ensures.after, c.deref_mut.ensures.value, none_left c.args.ticket _ none) two
 
-pub returns-then-not-remove_among : goal.returns-then-not-remove_among
-returns-then-not-remove_among c =
-    let stand = rw c.in-Several.is at c.self.invariant in
-    let known = rw c.deref_mut.ensures.value at c.remove_among.ensures.known in
+pub returns-then-not-remove : goal.returns-then-not-remove
+returns-then-not-remove c =
+    let two = rw c.in-Several.is at c.self.invariant in
+    let known = rw c.deref_mut.ensures.value at c.remove.ensures.known in
+    let others =
+    rw (c.remove.ensures.after, c.deref_mut.ensures.value) at c.remove.ensures.others in
     rw (
       ← c.self.view_is,
       c.in-Several.is,
-      c.remove_among.ensures.after,
+      c.remove.ensures.after,
       c.deref_mut.ensures.value,
     ) (
-      sym known ∙ c.if-not-remove_among.true,
-      (refl, left_some c.args.ticket _ stand.1 stand.0),
+      sym known ∙ c.if-not-remove.true,
+      (refl, left_some _ _ two others),
     )
 
-pub invariant_of-self-else-len-eq1 : goal.invariant_of-self-else-len-eq1
-invariant_of-self-else-len-eq1 c =
-    let stand = rw c.in-Several.is at c.self.invariant in
-    let after = rw c.deref_mut.ensures.value at c.remove_among.ensures.after in
-    let len = rw c.deref.ensures at c.len.ensures in
-    let left = c.remove_among.new.borrows in (
-      two_of_some left.items (λ e. left_some c.args.ticket _ stand.1 stand.0 (sym after ∙ e))
-          (λ e. c.if-len-eq1.false (len ∙ (left.ok.0 ∙ e))),
-      c.remove_among.ensures.well,
-    )
-
-pub returns-else-len-eq1 : goal.returns-else-len-eq1
-returns-else-len-eq1 c =
-    let stand = rw c.in-Several.is at c.self.invariant in
-    let known = rw c.deref_mut.ensures.value at c.remove_among.ensures.known in
-    rw (
-      ← c.self.view_is,
-      c.in-Several.is,
-      c.remove_among.ensures.after,
-      c.deref_mut.ensures.value,
-    ) (
-      sym known ∙ c.if-not-remove_among.false,
-      (refl, left_some c.args.ticket _ stand.1 stand.0),
+pub returns-then-len-eq1 : goal.returns-then-len-eq1
+returns-then-len-eq1 c =
+    let known = rw c.deref_mut.ensures.value at c.remove.ensures.known in
+    let after = rw c.deref_mut.ensures.value at c.remove.ensures.after in
+    let len = ap (λ (bs : List Borrow). length bs) c.deref.ensures in
+    let one : length c.remove.new.self ≡ 1 = sym len ∙ sym c.len.ensures ∙ c.if-len-eq1.true in
+    let first = rw c.deref-then-len-eq1.ensures at c.first.ensures in
+    let only = only_first c.remove.new.self c.first.result one first in
+    let told : c.match-self-2.self ≡ c.first.result ∷ [] =
+    elim c.match-self-2.branch [ in-Several-1 w ↦ w.self-is | in-One-1 w ↦ w.self-is ] in
+    rw (← c.self.view_is, c.in-Several.is) (
+      sym known ∙ c.if-not-remove.false,
+      (told ∙ only ∙ after, λ e. none_some c.first.result [] (sym told ∙ e)),
     )

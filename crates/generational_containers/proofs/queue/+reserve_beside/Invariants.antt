@@ -1,4 +1,4 @@
-use Rattle.generational_containers.proofs.borrows.+reserve_beside.Given as goal
+use Rattle.generational_containers.proofs.queue.+reserve_beside.Given as goal
 
 abbrev pub decreases-reserve_beside : goal.decreases-reserve_beside
 decreases-reserve_beside l = l.beside
