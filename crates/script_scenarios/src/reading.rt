@@ -67,6 +67,46 @@ fn the_second_reader_is_released(rt: HostRuntime) {
     );
 }
 
+// Readers end between others, until the first of them ends, or the last, or most have ended.
+#[test]
+fn readers_between_others_are_released(rt: HostRuntime) {
+    assert_answers(
+        &rt,
+        rt.alloc(),
+        &[
+            ("leak 5", "box 0@1"),
+            ("try_read 1", "reader"),
+            ("try_read 1", "reader"),
+            ("try_read 1", "reader"),
+            ("try_read 1", "reader"),
+            ("try_read 1", "reader"),
+            ("try_read 1", "reader"),
+            ("release 4", "ok"),
+            ("show 5", "value 5"),
+            (
+                "end 1",
+                "read:\tscript:2:1\tscript:3:1\tscript:5:1\tscript:6:1\tscript:7:1",
+            ),
+            ("release 3", "ok"),
+            ("release 2", "ok"),
+            ("end 1", "read:\tscript:5:1\tscript:6:1\tscript:7:1"),
+            ("try_read 1", "reader"),
+            ("try_read 1", "reader"),
+            ("release 6", "ok"),
+            ("release 7", "ok"),
+            ("end 1", "read:\tscript:5:1\tscript:14:1\tscript:15:1"),
+            ("try_read 1", "reader"),
+            ("release 14", "ok"),
+            ("release 15", "ok"),
+            ("end 1", "read:\tscript:5:1\tscript:19:1"),
+            ("show 19", "value 5"),
+            ("release 5", "ok"),
+            ("release 19", "ok"),
+            ("end 1", "ok"),
+        ],
+    );
+}
+
 // The guards began in the other order than the boxes, and one box ends while the other is read.
 #[test]
 fn guards_open_their_own_values(rt: HostRuntime) {
