@@ -107,7 +107,7 @@ def shown_readers():
 
 
 def readers_from_the_middle():
-    """Each moves at most half of the others."""
+    """Each moves none of the others, until more have ended than stand."""
     return many_readers(from_the_middle)
 
 
@@ -176,7 +176,7 @@ SCRIPTS = [
     (tickets, 2),
     (readers_from_the_last, 2),
     (shown_readers, 2),
-    (readers_from_the_middle, 15),
+    (readers_from_the_middle, 2),
     (owners, 2),
     (clones_of_owners, 2),
     (slots, 2),
