@@ -18,9 +18,8 @@ def rows(page):
     table = page.split("## Instructions a call")[1].split("\n\n")
     lines = next(part for part in table if part.startswith("| workload")).splitlines()[2:]
     for line in lines:
-        cells = [cell.strip(" *") for cell in line.strip("|").split("|")]
-        if cells[1] == "1000":
-            yield cells[0], [float(cell) for cell in cells[2:6]]
+        name, *cells = [cell.strip(" *") for cell in line.strip("|").split("|")]
+        yield name, [float(cell) for cell in cells[: len(SUBJECTS)]]
 
 
 def bar(x, y, length, color, text):
