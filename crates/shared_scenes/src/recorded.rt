@@ -13,11 +13,18 @@ pub(crate) fn assert_recorded(rt: &impl Judge, worker: usize, history: &[Step], 
     let own = history.iter().filter(|step| step.worker == worker);
     let mut wanted = wanted.iter().filter(|step| step.worker == worker);
     for step in own {
-        let next = wanted.next();
-        rt.compare(&Some(step), &next);
-        rt.compare(&Some(places(step)), &next.map(places));
+        match wanted.next() {
+            Some(next) => assert_step(rt, step, next),
+            None => rt.demand(false, "a step that wasn't made"),
+        }
     }
     rt.demand(wanted.next().is_none(), "a step that lacks");
+}
+
+// Asserts that a step is the one that is wanted, with boxes that were made at the same places.
+fn assert_step(rt: &impl Judge, step: &Step, wanted: &Step) {
+    rt.compare(step, wanted);
+    rt.compare(&places(step), &places(wanted));
 }
 
 // Where the boxes of a call and of its reply were made, which takes no part in their equality.

@@ -23,5 +23,7 @@ pub returns : goal.returns
 returns g c =
     let law = c.histories_lead_to_sound_states.ensures in
     when_ok _ _ c.audit.result (λ r history. reached (replay_from (plain_of r.0) r.1.items)
-    g.row.NUMBER history.2 (λ Q e. (law.sound _ _ Q history.1 e,
-      law.store r.0 r.1.items Q history.1 e ∙ history.0))) c.audit.ensures.replays
+    g.row.NUMBER history.2 (λ Q e. (
+      law.sound _ _ Q history.1 e,
+      law.store r.0 r.1.items Q history.1 e ∙ history.0,
+    ))) c.audit.ensures.replays
