@@ -87,17 +87,14 @@ fn document_over<S: Storage<Part<Counted>>>(
 }
 
 /// A part's content that is set twice.
-fn contents_go<S: Storage<Part<Counted>>>(
-    rt: &impl Abort,
-    alloc: Global,
-    document: &mut Document<Counted, S>,
-) {
+fn contents_go<S: Storage<Part<Counted>> + Drop>(rt: &impl Abort, alloc: Global, store: S) {
+    let mut document = document_over(rt, alloc, store);
     let first = counted(rt, alloc);
     let second = counted(rt, alloc);
-    let place = add(rt, document, another(rt, &first));
-    set(rt, document, place, another(rt, &second));
+    let place = add(rt, &mut document, another(rt, &first));
+    set(rt, &mut document, place, another(rt, &second));
     assert_count(rt, &first, 1);
-    set(rt, document, place, another(rt, &first));
+    set(rt, &mut document, place, another(rt, &first));
     assert_count(rt, &second, 1);
 }
 
@@ -105,29 +102,25 @@ fn contents_go<S: Storage<Part<Counted>>>(
 fn a_content_goes_when_another_is_set(rt: HostRuntime) {
     let alloc = rt.alloc();
     let store: Store<Part<Counted>, LastFirst> = Store::new(alloc, 1);
-    let mut document = document_over(&rt, alloc, store);
-    contents_go(&rt, alloc, &mut document);
+    contents_go(&rt, alloc, store);
 }
 
 /// A part whose places go, the last by an exchange, and another whose places are removed.
-fn parts_go<S: Storage<Part<Counted>>>(
-    rt: &impl Abort,
-    alloc: Global,
-    document: &mut Document<Counted, S>,
-) {
+fn parts_go<S: Storage<Part<Counted>> + Drop>(rt: &impl Abort, alloc: Global, store: S) {
+    let mut document = document_over(rt, alloc, store);
     let old = counted(rt, alloc);
     let new = counted(rt, alloc);
-    let first = add(rt, document, another(rt, &old));
-    let second = repeat(rt, document, first);
-    let third = add(rt, document, another(rt, &new));
-    exchange(rt, document, first, third);
+    let first = add(rt, &mut document, another(rt, &old));
+    let second = repeat(rt, &mut document, first);
+    let third = add(rt, &mut document, another(rt, &new));
+    exchange(rt, &mut document, first, third);
     assert_count(rt, &old, 2);
-    exchange(rt, document, second, third);
+    exchange(rt, &mut document, second, third);
     assert_count(rt, &old, 1);
-    remove(rt, document, third);
-    remove(rt, document, first);
+    remove(rt, &mut document, third);
+    remove(rt, &mut document, first);
     assert_count(rt, &new, 2);
-    remove(rt, document, second);
+    remove(rt, &mut document, second);
     assert_count(rt, &new, 1);
 }
 
@@ -135,8 +128,7 @@ fn parts_go<S: Storage<Part<Counted>>>(
 fn a_part_goes_with_its_last_place(rt: HostRuntime) {
     let alloc = rt.alloc();
     let store: Store<Part<Counted>, LastFirst> = Store::new(alloc, 1);
-    let mut document = document_over(&rt, alloc, store);
-    parts_go(&rt, alloc, &mut document);
+    parts_go(&rt, alloc, store);
 }
 
 /// Spawns an entity.
@@ -211,14 +203,24 @@ fn left_ones_go<S: Storage<u64>, C: Storage<Counted>>(
     assert_count(rt, &left, 1);
 }
 
+/// Both, of tables over these stores.
+fn both_go<S: Storage<u64> + Drop, C: Storage<Counted> + Drop>(
+    rt: &impl Abort,
+    alloc: Global,
+    store: S,
+    parts: C,
+) {
+    let mut entities = entities_over(rt, alloc, store);
+    let mut components = components_over(rt, alloc, parts);
+    let entity = spawn(rt, &mut entities, 2);
+    components_go(rt, alloc, &mut components, entity);
+    left_ones_go(rt, alloc, &mut entities, &mut components);
+}
+
 #[test]
 fn a_component_goes_with_its_end_or_the_next_of_its_slot(rt: HostRuntime) {
     let alloc = rt.alloc();
     let store: Store<u64, LastFirst> = Store::new(alloc, 1);
-    let mut entities = entities_over(&rt, alloc, store);
     let parts: Store<Counted, LastFirst> = Store::new(alloc, 2);
-    let mut components = components_over(&rt, alloc, parts);
-    let entity = spawn(&rt, &mut entities, 2);
-    components_go(&rt, alloc, &mut components, entity);
-    left_ones_go(&rt, alloc, &mut entities, &mut components);
+    both_go(&rt, alloc, store, parts);
 }
