@@ -14,7 +14,7 @@ pub use Rattle.std.proofs.lemmas.Bool.{eq-eqb, false_from_ne_true, false≢true,
 pub use Rattle.std.specs.{Cmp.IsEquivalence, Cmp.nat_cmp_total, Cmp.nat_eq_equiv, Option.option_or}
 pub use Rattle.std.specs.List.{AllByRecursion, list_any}
 pub use Rattle.std.specs.Ordering.{eq_by_cmp, nat_cmp}
-pub use Rattle.generational_containers.{proofs.lists.Tickets.none_left, specs.Borrows.AreBelow}
+pub use Rattle.generational_containers.{proofs.lists.Queues.none_left, specs.Borrows.AreBelow}
 pub use Rattle.generational_containers.proofs.records.Places.{reserved_room}
 pub use Rattle.generational_containers.specs.{CellNames.name_of_cell, OwnerRecords.record_of}
 pub use Rattle.generational_containers.specs.OwnerRecords.{add_to_list_in, AreCounted, IsCounted}
