@@ -19,6 +19,8 @@ mod entity_limits;
 #[cfg(test)]
 mod entity_memory;
 #[cfg(test)]
+mod expected;
+#[cfg(test)]
 mod growth;
 #[cfg(test)]
 mod let_go;

@@ -1,9 +1,9 @@
 //! What is done to a table of sessions, one act a line, with what must come of it.
 
+use crate::expected::assert_same;
 use generational_box::{Location, Storage};
 use session_table::{Entry, LoginError, PutError, SessionTable, Stale};
 use std::alloc::Global;
-use std::fmt::Debug;
 use std::process::Abort;
 
 /// An act. Sessions are named by their ids, and entries by the order in which they were put, from 0.
@@ -53,11 +53,6 @@ pub(crate) struct Line {
 /// Where a value is put: each at a line of its own, by its number.
 pub(crate) fn put_at(number: usize) -> Location {
     Location::new("p.rs", u32::try_from(number).unwrap_or(0), 1)
-}
-
-/// Asserts that a value is what it should be. It is proved once, for all types.
-pub(crate) fn assert_same<T: PartialEq + Debug>(rt: &impl Abort, found: &T, wanted: &T) {
-    assert_eq!(rt; *found, *wanted);
 }
 
 /// Does each line's act to a table, and sees what comes of it.

@@ -1,6 +1,7 @@
 //! Tables of sessions whose store has given all its tickets, values that are let go, and callers.
 
-use crate::session_acts::{assert_same, put_at};
+use crate::expected::assert_same;
+use crate::session_acts::put_at;
 use generational_box::{Numbers, Storage, Store, StoreError, UnsyncStorage};
 use library_uses::sessions::{one_visit, seen_beside, told_after_logout};
 use session_table::{Entry, LoginError, SessionTable, Stale};

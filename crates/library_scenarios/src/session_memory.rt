@@ -1,7 +1,8 @@
 //! Want of memory. The test passes whichever one allocation is refused: what lacks memory changes
 //! nothing, and is tried a second time.
 
-use crate::session_acts::{assert_same, put_at};
+use crate::expected::assert_same;
+use crate::session_acts::put_at;
 use generational_box::{LastFirst, OldestFirst, Storage, Store, StoreError};
 use session_table::{LoginError, PutError, SessionTable};
 use std::alloc::Global;

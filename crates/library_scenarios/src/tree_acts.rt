@@ -1,9 +1,9 @@
 //! What is done to a tree, one act a line, with what must come of it.
 
+use crate::expected::assert_same;
 use generational_box::{Location, Storage};
 use scene_tree::{Node, SceneTree, Stale, TreeError};
 use std::alloc::Global;
-use std::fmt::Debug;
 use std::process::Abort;
 
 /// An act. Nodes are named by the order in which they were made, from 0.
@@ -125,11 +125,6 @@ fn set<S: Storage<u64>>(
             Err(TreeError::Stale(stale.made_at))
         }
     }
-}
-
-/// Asserts that a value is what it should be: proved once for all types.
-pub(crate) fn assert_same<T: PartialEq + Debug>(rt: &impl Abort, found: &T, wanted: &T) {
-    assert_eq!(rt; *found, *wanted);
 }
 
 /// A node by its number.

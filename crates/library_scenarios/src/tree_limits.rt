@@ -1,6 +1,7 @@
 //! Trees of values that are let go, trees whose store has given all its tickets, and callers of trees.
 
-use crate::tree_acts::{assert_same, made_at};
+use crate::expected::assert_same;
+use crate::tree_acts::made_at;
 use generational_box::{Numbers, Storage, Store, UnsyncStorage};
 use library_uses::trees::{moved_round, told_after};
 use scene_tree::{Node, SceneTree, TreeError};

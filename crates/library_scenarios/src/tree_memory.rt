@@ -1,7 +1,8 @@
 //! Want of memory in trees. The test passes whichever one allocation is refused: what lacks memory
 //! changes nothing, and is tried again.
 
-use crate::tree_acts::{are_nodes, assert_same, made_at};
+use crate::expected::assert_same;
+use crate::tree_acts::{are_nodes, made_at};
 use generational_box::{LastFirst, Storage, Store, StoreError};
 use scene_tree::{Node, SceneTree, TreeError};
 use std::alloc::Global;
