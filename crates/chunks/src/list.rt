@@ -77,7 +77,8 @@ impl<X: Copy> Chunks<X> {
         self.grow(more)
     }
 
-    // The same, where the last chunk hasn't that room: a larger spare chunk, if that is needed.
+    // Makes room for so many items more, which the last chunk doesn't have: a larger spare chunk, if
+    // that is needed.
     #[cold]
     #[inline(never)]
     fn grow(&mut self, more: usize) -> Result<(), AllocError>

@@ -15,7 +15,7 @@ pub record KeyedOwnership : Type 0 where
   pub ownership : Ownership
   pub rooms : ℕ
 
--- the same with another record under the key, and with other room
+-- with another record under the key; with other room
 abbrev pub with_ownership : (Ownership → Ownership) → KeyedOwnership → KeyedOwnership
 with_ownership f r = record r { ownership = f r.ownership }
 
@@ -92,7 +92,7 @@ change_record_if places i f _ = places
 abbrev pub change_record : List Place → ℕ → (KeyedOwnership → KeyedOwnership) → List Place
 change_record places i f = change_record_if places i f (slice_get places i)
 
--- the same where its names or its count change
+-- the places with the names or the count of the record at one of them changed by f
 abbrev pub change_place : List Place → ℕ → (Ownership → Ownership) → List Place
 change_place places i f = change_record places i (with_ownership f)
 

@@ -19,7 +19,7 @@ record_of number owners o = if nat_eq o.store number then map.get owners o.key e
 abbrev pub knows : ℕ → Owners → OwnerName → Bool
 knows number owners o = is_some (record_of number owners o)
 
--- the same of an owner, if there is one
+-- whether a call that goes by this owner, or by none, may go on
 abbrev pub permits : ℕ → Owners → Option OwnerName → Bool
 permits number owners None = true
 permits number owners (Some o) = knows number owners o

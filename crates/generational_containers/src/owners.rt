@@ -219,7 +219,7 @@ impl OwnerRecords {
         self.find(number, owner).is_some()
     }
 
-    /// The same of an owner, if there is one.
+    /// Whether a call that goes by this owner, or by none, may go on.
     #[inline(always)]
     pub fn permits(&self, number: u64, owner: Option<&Owner>) -> bool
         ensures { result ≡ permits number self.now.owners (option_copied owner.entry) }
@@ -251,7 +251,7 @@ impl OwnerRecords {
         }
     }
 
-    // The same for an owner.
+    // Makes room for a name in the list of an owner, and answers the owner's place.
     fn reserve_for(&mut self, number: u64, owner: &Owner) -> Result<Option<usize>, StoreError>
         ensures same { self.new.owners ≡ self.old.owners }
         ensures known { OnOk result (knows number self.old.owners owner.now ≡ true) }

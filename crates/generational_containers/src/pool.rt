@@ -224,7 +224,7 @@ pub fn make_room<T, P: SlotPool>(slots: &mut Vec<T>, pool: &mut P) -> Result<(),
     grow(slots, pool)
 }
 
-// The same where there is no room.
+// Makes room for one element more at least, where there is none.
 #[cold]
 #[inline(never)]
 fn grow<T, P: SlotPool>(slots: &mut Vec<T>, pool: &mut P) -> Result<(), StoreError>

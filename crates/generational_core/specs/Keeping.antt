@@ -17,7 +17,7 @@ module _ {T : Type 0} where
   abbrev pub location_at : State T → Name → Option Location
   location_at S m = location_of (map.get S.cells m)
 
-  -- the same of a cell that has a box: a Shared one has none
+  -- the location of a cell that has a box: a Shared one has none
   abbrev pub boxed_at : Option (Cell T) → Option Location
   boxed_at cell = if is_shared cell then None else location_of cell
 

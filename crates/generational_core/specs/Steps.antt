@@ -75,7 +75,7 @@ module _ {T : Type 0} where
   needs_memory S (BorrowRefused (BeingRead readers)) call = true
   needs_memory S _ call = false
 
-  -- the same of a call; of what kind its answer is doesn't depend on the names that it takes
+  -- whether a call may lack memory; of what kind its answer is doesn't depend on the names that it takes
   unfoldable pub may_lack : State T → Action T → Bool
   may_lack S call = needs_memory S (answer_to S call) call
 

@@ -186,8 +186,8 @@ impl<'a, T> Ref<'a, T> {
         }
     }
 
-    /// The same where there may be no such part: None exactly where the closure answers so. Only
-    /// this view ends then, and the borrow stands until its guard is released.
+    /// A view of a part of the value, if there is such a part: None exactly where the closure answers
+    /// so. Only this view ends then, and the borrow stands until its guard is released.
     ///
     /// Upstream's `AnyStorage::try_map`.
     #[inline(always)]
@@ -400,8 +400,8 @@ impl<'a, T> Mut<'a, T> {
         }
     }
 
-    /// The same where there may be no such part: None where the closure answers so. Only this view
-    /// ends then, and the guard stays.
+    /// A view of a part of the value that may be written through, if there is such a part: None where
+    /// the closure answers so. Only this view ends then, and the guard stays.
     ///
     /// Upstream's `AnyStorage::try_map_mut`.
     #[inline(always)]
@@ -453,7 +453,7 @@ impl<'a, T> MutPart<'a, T> {
         MutPart { value: part(value) }
     }
 
-    /// The same where there may be no such part, as `Mut::try_map_mut` answers it.
+    /// A view of a part of this part, if there is one, as `Mut::try_map_mut` answers it.
     #[inline(always)]
     pub fn try_map_mut<U, F: FnOnce(&mut T) -> Option<&mut U>>(
         self,

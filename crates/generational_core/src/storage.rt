@@ -90,8 +90,8 @@ pub trait AnyStorage<T> {
     fn ready(&self, call: &StepCall) -> bool
         ensures { result ≡ is_ready (state self.now) call.now };
 
-    /// The same of an owner's release, whose record is found at once: `ready` has to look for it
-    /// among all records. Takes no memory.
+    /// Whether the owner's release would be answered without telling of a borrow in its way. Its record
+    /// is found at once: `ready` has to look for it among all records. Takes no memory.
     fn may_release(&self, owner: &Owner) -> bool
         ensures { result ≡ is_free (state self.now) (ReleaseOwner owner.now) };
 

@@ -20,7 +20,7 @@ use Rattle.generational_errors.specs.declared.error.Refused.TheVariants as refus
 abbrev pub location_text : Location → List ℕ
 location_text l = l.file.now ++ (58 ∷ (decimal l.line ++ (58 ∷ decimal l.column)))
 
--- the same text of the file, the same line and the same column
+-- equal texts of the file, equal lines and equal columns
 abbrev pub same_location : Location → Location → Bool
 same_location =
     eq_of_both
@@ -59,12 +59,12 @@ store_error_text OutOfMemory = codes "out of memory"
 store_error_text NumbersExhausted = codes "numbers exhausted"
 store_error_text UnknownOwner = codes "unknown owner"
 
--- the same variant with the same content
+-- a read's error as a write's: the variant of that name, with what it holds
 abbrev pub as_borrow_mut : BorrowError → BorrowMutError
 as_borrow_mut (reads.Dropped e) = writes.Dropped e
 as_borrow_mut (reads.AlreadyBorrowedMut e) = writes.AlreadyBorrowedMut e
 
--- the same refusal, of a write or an end
+-- a read's refusal as one of a write or an end
 abbrev pub as_refused_mut : Refused BorrowError → Refused BorrowMutError
 as_refused_mut (refused.Borrow e) = refused.Borrow (as_borrow_mut e)
 as_refused_mut (refused.Store e) = refused.Store e

@@ -29,7 +29,7 @@ module _ {T : Type 0} where
   IsShort S slots tickets error.NumbersExhausted = last_ticket < S.next + tickets
   IsShort S slots tickets error.UnknownOwner = ⊥
 
-  -- the same of a refusal, which no borrow has caused
+  -- a refusal that no borrow has caused, for want of so many slots or tickets
   abbrev pub IsShortage : {E : Type 0} → State T → ℕ → ℕ → Refused E → Type 0
   IsShortage S slots tickets (refused.Store cause) = IsShort S slots tickets cause
   IsShortage S slots tickets (refused.Borrow e) = ⊥

@@ -34,7 +34,7 @@ impl PlainForest {
         self.places.get(place)?.as_ref()
     }
 
-    /// The same, to be changed.
+    /// The node at a place, to be changed.
     fn at_mut(&mut self, place: usize) -> Option<&mut Plain> {
         self.places.get_mut(place)?.as_mut()
     }

@@ -24,7 +24,7 @@ pub fn reserve_more<X>(items: &mut Vec<X>, more: usize) -> Result<(), AllocError
     reserve_beside(items, more, beside)
 }
 
-// The same, with room for so many beside those, or for fewer.
+// Makes room for so many elements more and for so many beside these, or for fewer beside them.
 #[cold]
 #[inline(never)]
 fn reserve_beside<X>(items: &mut Vec<X>, more: usize, beside: usize) -> Result<(), AllocError>

@@ -96,7 +96,7 @@ impl Base {
         }
     }
 
-    // The same base once more.
+    // A copy of the base.
     pub fn copy(&self, alloc: Global) -> Result<Base, AllocError>
         ensures { IfOk result (λ base. base ≡ self.now) }
     {

@@ -176,7 +176,8 @@ impl<const NUMBER: u64, M: Count, L: Count, C: Count, R: Count> Log<NUMBER, M, L
         }
     }
 
-    // The same for the end of a borrow, which has room since the borrow began.
+    // Appends the step of a borrow's end, if it is one, and counts it. The step has room since the
+    // borrow began.
     #[inline(always)]
     pub fn settle_end(
         &mut self,

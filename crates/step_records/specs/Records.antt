@@ -82,7 +82,7 @@ HasMade number (call.Insert o l) b = b.id.store ≡ number
 HasMade number (call.InsertReference o a) b = b.id.store ≡ number
 HasMade number c b = ⊥
 
--- the same of a shared value, which is given with the box of its first reference
+-- what is known of a call that was answered with a shared value's id and the box of its first reference
 abbrev pub HasShared : ℕ → StepCall → GenerationalBoxId → GenerationalPointer → Type 0
 HasShared number (call.LeakRc l) id b = (id.store ≡ number) × (b.id.store ≡ number)
 HasShared number (call.InsertRc o l) id b = (id.store ≡ number) × (b.id.store ≡ number)

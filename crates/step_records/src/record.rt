@@ -281,8 +281,9 @@ fn pack_pointing(
     }
 }
 
-// The same where it was answered that a box reached nothing. A location's text can't be told from
-// another text of the same letters, so of the asked box's location the text is kept as it is.
+// The record of a call that points a box at another and was answered that a box reached nothing. A
+// location's text can't be told from another text of the same letters, so of the asked box's
+// location the text is kept as it is.
 fn pack_dropped(
     number: u64,
     worker: u32,

@@ -36,7 +36,8 @@ pub fn set_value<S: Storage<u64>>(store: &mut S, target: GenerationalBox<u64>, v
     true
 }
 
-/// The same in a store without references, where each box of another name is left as it was.
+/// Sets the value of a box of a store without references, where each box of another name keeps its
+/// value.
 pub fn set_plain<S: Storage<u64>>(store: &mut S, given: GenerationalBox<u64>, value: u64) -> bool
     requires { IsPlain (S.state store.old) }
     ensures plain { IsPlain (S.state store.new) }
