@@ -4,7 +4,5 @@ pub mod states
 unfoldable pub use Common.*
 unfoldable pub use lists.TableChanges.*
 unfoldable pub use states.Entries.*
-unfoldable pub use states.EntryChanges.*
 unfoldable pub use states.Indexes.*
-unfoldable pub use states.Latest.*
 unfoldable pub use states.SlotWrites.*

@@ -1,7 +1,7 @@
 -- The slots of a store with the table of their borrows, and what holds of the two.
-use Rattle.std.specs.Prelude.{◌≡◌, ◌≢◌, ◌≤◌, ◌<◌, ◌+◌, ℕ, List, [], ◌∷◌, Bool, not}
+use Rattle.std.specs.Prelude.{◌≡◌, ◌≢◌, ◌≤◌, ◌<◌, ◌+◌, ℕ, suc, List, [], ◌∷◌, Bool, not}
 use Rattle.std.specs.Prelude.{true, false, nat_eq, length, slice_get, Option, None, Some}
-use Rattle.std.specs.Prelude.{if◌then◌else◌}
+use Rattle.std.specs.Prelude.{if◌then◌else◌, slice_set, ◌++◌}
 use Rattle.std.specs.FinSet as set
 use Rattle.generational_core.specs.declared.borrow.Borrow.{Borrow}
 use Rattle.generational_errors.specs.declared.error.Location.{Location}
@@ -15,17 +15,10 @@ use Rattle.generational_entries.specs.declared.entry.EntryDetails.{EntryDetails}
 use Rattle.generational_core.specs.Names.{Name}
 use Rattle.generational_entries.specs.Entry.{Entry, Kept}
 use Rattle.generational_entries.specs.Entry.Kept.{Empty, Live, Refers}
+use Rattle.generational_entries.specs.Latest.{borrows_of, AreNoted}
+use Rattle.generational_entries.specs.declared.latest.LastBorrow.{LastBorrow}
 use Rattle.generational_containers.specs.Lists.{how_many}
 use Rattle.generational_containers.specs.Table.{Table, list_at, no_index, IsUsed}
-
--- nobody's borrow of a cell that was made at a location
-abbrev pub nobody : Location → Borrow
-nobody l = record { ticket = 0; location = l }
-
--- the writer that stands first, or nobody
-abbrev pub writer_in : List Borrow → Location → Borrow
-writer_in [] l = nobody l
-writer_in (w ∷ bs) l = w
 
 -- the slots, and for how many there is room
 pub record EntryList (T : Type 0) : Type 0 where
@@ -62,10 +55,19 @@ module _ {T : Type 0} where
   unread_in (slot.Data k v) = Some v
   unread_in _ = None
 
-  -- such a value, lent to nobody
+  -- such a value, lent without an index
   abbrev pub lent_data : StorageEntryData T → StorageEntryData T
   lent_data (slot.Data k v) = slot.Lent k no_index
   lent_data d = d
+
+  -- a lent value that is put back
+  abbrev pub full_data : T → StorageEntryData T → StorageEntryData T
+  full_data v (slot.Lent k i) = slot.Data k v
+  full_data v d = d
+
+  abbrev pub is_lent_data : StorageEntryData T → Bool
+  is_lent_data (slot.Lent k i) = true
+  is_lent_data _ = false
 
   -- such a value, with readers at an index
   abbrev pub read_data : ℕ → StorageEntryData T → StorageEntryData T
@@ -101,32 +103,41 @@ module _ {T : Type 0} where
   IsUnborrowed (slot.Reference s g) = Unit {0}
   IsUnborrowed _ = ⊥
 
-  -- what a slot has whose cell has these borrows; nobody stands for a writer who isn't among them
+  -- what a slot has whose cell has these borrows; no value is lent to nobody
+  abbrev pub lent_kept : Kind → List Borrow → Location → Kept T
+  lent_kept k [] l = Empty
+  lent_kept k (w ∷ bs) l = Live k (Lent w) l
+
   abbrev pub kept_data : List Borrow → Location → StorageEntryData T → Kept T
   kept_data bs l slot.Empty = Empty
-  kept_data bs l (slot.Data k v) = Live k (Here v []) l
+  kept_data bs l (slot.Data k v) = Live k (Here v bs) l
   kept_data bs l (slot.Read k i v) = Live k (Here v bs) l
-  kept_data bs l (slot.Lent k i) = Live k (Lent (writer_in bs l)) l
+  kept_data bs l (slot.Lent k i) = lent_kept k bs l
   kept_data bs l (slot.Reference s g) = Refers (record { slot = s; generation = g }) l
 
-  -- the cell with nobody as its writer
-  abbrev pub taken : Kept T → Kept T
-  taken (Live k c l) = Live k (Lent (nobody l)) l
-  taken kept = kept
-
-  abbrev pub entry_of : List (List Borrow) → StorageEntry T → EntryDetails → Entry T
-  entry_of lists e d =
+  -- a slot with these borrows
+  abbrev pub entry_with : List Borrow → StorageEntry T → EntryDetails → Entry T
+  entry_with bs e d =
       record {
         generation = e.generation;
-        kept = kept_data (list_at lists (index_of e.content)) d.created_at e.content;
+        kept = kept_data bs d.created_at e.content;
         references = d.references;
       }
 
-  -- the slots, each with its borrows and its details
-  unfoldable pub entries_of : List (List Borrow) → List (StorageEntry T) → List EntryDetails
-      → List (Entry T)
-  entries_of lists (e ∷ es) (d ∷ ds) = entry_of lists e d ∷ entries_of lists es ds
-  entries_of lists _ _ = []
+  abbrev pub entry_of : LastBorrow → List (List Borrow) → ℕ → StorageEntry T → EntryDetails
+      → Entry T
+  entry_of r lists k e d = entry_with (borrows_of r lists k (index_of e.content)) e d
+
+  -- the slots from the k-th on, each with its borrows and its details
+  unfoldable pub entries_from : LastBorrow → List (List Borrow) → ℕ → List (StorageEntry T)
+      → List EntryDetails → List (Entry T)
+  entries_from r lists k (e ∷ es) (d ∷ ds) =
+      entry_of r lists k e d ∷ entries_from r lists (suc k) es ds
+  entries_from r lists k _ _ = []
+
+  abbrev pub entries_of : LastBorrow → List (List Borrow) → List (StorageEntry T)
+      → List EntryDetails → List (Entry T)
+  entries_of r lists es ds = entries_from r lists 0 es ds
 
   -- the index of a slot, if there is one
   abbrev pub index_in : Option (StorageEntry T) → ℕ
@@ -151,6 +162,31 @@ pub record AreIndexed {T : Type 0} (t : Table) (es : List (StorageEntry T)) : Ty
   -- the indexes of slots and the free ones are all that there are, as many as slots at most
   pub counted : set.len t.free + how_many has_index es ≡ length t.lists
   pub few : length t.lists ≤ length es
+
+-- what it takes to list the noted borrow
+pub record IsListable {T : Type 0} (r : LastBorrow) (t : Table) (es : List (StorageEntry T)) : Type 0
+    where
+  pub indexed : AreIndexed t es
+  pub noted : AreNoted r t.lists es
+  pub room : length es ≤ t.rooms
+  pub small : length es < no_index
+
+-- the noted borrow is listed, and contracts see no change
+pub record IsListed {T : Type 0} (r r' : LastBorrow) (t t' : Table)
+    (es es' : List (StorageEntry T)) : Type 0 where
+  pub slots : (ds : List EntryDetails) → length ds ≡ length es
+      → entries_of r' t'.lists es' ds ≡ entries_of r t.lists es ds
+  pub indexed : AreIndexed t' es'
+  pub noted : AreNoted r' t'.lists es'
+  pub rooms : t'.rooms ≡ t.rooms
+  pub same : length es' ≡ length es
+
+-- a table where a reader is added to those at an index, if there is one
+abbrev pub listed_beside : Borrow → ℕ → Table → Table
+listed_beside b x t =
+    if nat_eq x no_index then t else record t {
+      lists = slice_set t.lists x (list_at t.lists x ++ b ∷ []);
+    }
 
 -- there is room for this many slots, but for no index beyond the last
 pub record AreRoomy (room count capacity detailed borrowed : ℕ) : Type 0 where

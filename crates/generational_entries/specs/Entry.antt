@@ -1,7 +1,7 @@
 -- A slot as contracts see it: its generation, and its live cell.
 use Rattle.std.specs.Prelude.{◌≡◌, ℕ, Bool, true, false, ◌&&◌, not, nat_eq, if◌then◌else◌, List, []}
 use Rattle.std.specs.Prelude.{◌∷◌, ◌++◌, Option, Some, None, Result, Ok, Err, map as list_map}
-use Rattle.std.specs.Prelude.{is_none, slice_get, slice_set}
+use Rattle.std.specs.Prelude.{is_none, is_some, slice_get, slice_set}
 use Rattle.std.specs.List.{filter}
 use Rattle.generational_errors.specs.declared.error.Location.{Location}
 use Rattle.generational_errors.specs.declared.error.BorrowMutError.{BorrowMutError}
@@ -136,6 +136,18 @@ module _ {T : Type 0} where
   -- a value without borrows
   abbrev pub with_value : T → Kept T → Kept T
   with_value v = with_content (λ c. Here v [])
+
+  -- a cell of this generation, without borrows
+  abbrev pub IsAlone : ℕ → Option (Entry T) → Type 0
+  IsAlone generation None = ⊥
+  IsAlone generation (Some e) =
+      (e.generation ≡ generation) × (has_no_borrow (content_in e.kept) ≡ true)
+
+  -- a cell of this generation with a value that isn't lent
+  abbrev pub IsReadable : ℕ → Option (Entry T) → Type 0
+  IsReadable generation None = ⊥
+  IsReadable generation (Some e) =
+      (e.generation ≡ generation) × (is_some (value_of (content_in e.kept)) ≡ true)
 
   -- the value, where the ticket is a reader's
   abbrev pub value_for : ℕ → Option (Content T) → Option T

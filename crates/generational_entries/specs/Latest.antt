@@ -1,68 +1,73 @@
--- A store's slots with the borrow that began last, which stands apart.
-use Rattle.std.specs.Prelude.{◌≡◌, ℕ, Bool, true, false, if◌then◌else◌, List, [], ◌∷◌, Option}
-use Rattle.std.specs.Prelude.{Some, None, is_some, slice_get}
-use Rattle.generational_core.specs.Answers.{value_of}
-use Rattle.generational_core.specs.Cells.{Content}
-use Rattle.generational_core.specs.Cells.Content.{Here, Lent}
-use Rattle.generational_core.specs.Machine.{has_reader}
+-- The borrow that began last, and what holds of the slots while it is noted.
+use Rattle.std.specs.Prelude.{◌≡◌, ℕ, Bool, true, false, ◌&&◌, nat_eq, if◌then◌else◌, List, []}
+use Rattle.std.specs.Prelude.{◌∷◌, Option, Some, None, slice_get}
+use Rattle.std.specs.List.{list_any}
 use Rattle.generational_core.specs.declared.borrow.Borrow.{Borrow}
+use Rattle.generational_containers.specs.Table.{list_at, no_index}
+use Rattle.generational_entries.specs.declared.entry.StorageEntry.{StorageEntry}
+use Rattle.generational_entries.specs.declared.entry.StorageEntryData.{StorageEntryData}
+use Rattle.generational_entries.specs.declared.entry.StorageEntryData.TheVariants as slot
 use Rattle.generational_entries.specs.declared.latest.LastBorrow.{LastBorrow}
-use Rattle.generational_entries.specs.declared.latest.Standing.{Standing}
-use Rattle.generational_entries.specs.declared.latest.Standing.TheVariants as standing
-use Rattle.generational_entries.specs.Entry.{Entry, content_in, has_no_borrow, is_lent}
-use Rattle.generational_entries.specs.Entry.{with_content}
-use Rattle.generational_entries.specs.Entry.{change_entry}
+use Rattle.generational_entries.specs.declared.latest.Noted.{Noted}
+use Rattle.generational_entries.specs.declared.latest.Noted.TheVariants as noted
 
--- whether a borrow stands apart, and which
-abbrev pub is_noted : Standing → Bool
-is_noted standing.Nobody = false
+abbrev pub is_noted : Noted → Bool
+is_noted noted.Nobody = false
 is_noted _ = true
 
-abbrev pub is_reader : Standing → Bool
-is_reader standing.Reader = true
+abbrev pub is_reader : Noted → Bool
+is_reader noted.Reader = true
 is_reader _ = false
 
-abbrev pub is_writer : Standing → Bool
-is_writer standing.Writer = true
+abbrev pub is_writer : Noted → Bool
+is_writer noted.Writer = true
 is_writer _ = false
 
+-- the note where no borrow is noted any more
+abbrev pub cleared : LastBorrow → LastBorrow
+cleared r = record r { noted = noted.Nobody }
+
+-- whether a borrow of the k-th slot's cell is noted
+abbrev pub is_noted_at : LastBorrow → ℕ → Bool
+is_noted_at r k = is_noted r.noted && nat_eq r.slot k
+
+-- that borrow, if there is one
+abbrev pub noted_at : LastBorrow → ℕ → List Borrow
+noted_at r k = if is_noted_at r k then r.borrow ∷ [] else []
+
+-- the borrows of the k-th slot's cell: those at its index in the table, or the noted one, where it
+-- has no index
+abbrev pub borrows_of : LastBorrow → List (List Borrow) → ℕ → ℕ → List Borrow
+borrows_of r lists k i = if nat_eq i no_index then noted_at r k else list_at lists i
+
 module _ {T : Type 0} where
-  -- a content with the borrow that stands apart; a reader beside others is listed among them
-  abbrev pub joined : Standing → Borrow → Content T → Content T
-  joined standing.Writer b c = Lent b
-  joined _ b (Here v []) = Here v (b ∷ [])
-  joined _ b c = c
+  -- whether a borrow of a slot with this content may be noted: a reader's, which is the only one or
+  -- listed among the others, or that of a writer that isn't listed
+  abbrev pub may_note : LastBorrow → List (List Borrow) → StorageEntryData T → Bool
+  may_note r lists (slot.Data c v) = is_reader r.noted
+  may_note r lists (slot.Read c i v) =
+      is_reader r.noted && list_any (λ b. nat_eq b.ticket r.borrow.ticket) (list_at lists i)
+  may_note r lists (slot.Lent c i) = is_writer r.noted && nat_eq i no_index
+  may_note r lists _ = false
 
-  -- where a reader stands apart its cell has no other borrow, or has it among them; and where a
-  -- writer does it is lent
-  abbrev pub may_join : Standing → ℕ → Option (Content T) → Bool
-  may_join standing.Writer t c = is_lent c
-  may_join _ t c = if has_no_borrow c then true else has_reader c t
+  abbrev pub IsNoted : LastBorrow → List (List Borrow) → Option (StorageEntry T) → Type 0
+  IsNoted r lists None = ⊥
+  IsNoted r lists (Some e) =
+      (e.generation ≡ r.generation) × (may_note r lists e.content ≡ true)
 
-  -- the slots with the borrow that stands apart, if there is one
-  abbrev pub noted : LastBorrow → List (Entry T) → List (Entry T)
-  noted r slots =
-      if is_noted r.standing then change_entry slots r.slot
-      (λ e. record e { kept = with_content (joined r.standing r.borrow) e.kept })
-      else slots
+  -- where the k-th slot's value is lent without an index, its writer is noted
+  abbrev pub HasWriter : LastBorrow → ℕ → StorageEntryData T → Type 0
+  HasWriter r k (slot.Lent c i) = i ≡ no_index → is_noted_at r k ≡ true
+  HasWriter r k _ = Unit {0}
 
-  -- a cell of this generation, without borrows
-  abbrev pub IsAlone : ℕ → Option (Entry T) → Type 0
-  IsAlone generation None = ⊥
-  IsAlone generation (Some e) =
-      (e.generation ≡ generation) × (has_no_borrow (content_in e.kept) ≡ true)
+  abbrev pub HasWriterAt : LastBorrow → ℕ → Option (StorageEntry T) → Type 0
+  HasWriterAt r k None = Unit {0}
+  HasWriterAt r k (Some e) = HasWriter r k e.content
 
-  -- a cell of this generation with a value that isn't lent
-  abbrev pub IsReadable : ℕ → Option (Entry T) → Type 0
-  IsReadable generation None = ⊥
-  IsReadable generation (Some e) =
-      (e.generation ≡ generation) × (is_some (value_of (content_in e.kept)) ≡ true)
-
-  -- the cell at which the borrow stands apart
-  abbrev pub HasApart : LastBorrow → Option (Entry T) → Type 0
-  HasApart r None = ⊥
-  HasApart r (Some e) =
-      (e.generation ≡ r.generation) × (may_join r.standing r.borrow.ticket (content_in e.kept) ≡ true)
-
-  abbrev pub IsNoted : LastBorrow → List (Entry T) → Type 0
-  IsNoted r slots = is_noted r.standing ≡ true → HasApart r (slice_get slots r.slot)
+-- What holds of a store's slots and the noted borrow.
+pub record AreNoted {T : Type 0} (r : LastBorrow) (lists : List (List Borrow))
+    (es : List (StorageEntry T)) : Type 0 where
+  -- it stands at the cell that it names
+  pub noted : is_noted r.noted ≡ true → IsNoted r lists (slice_get es r.slot)
+  -- a value that is lent without an index has the noted writer
+  pub written : (k : ℕ) → HasWriterAt r k (slice_get es k)

@@ -1,76 +1,106 @@
-//! The slots of a store, with the borrow that began last.
-#![tactic(auto, using(crate::proofs::states::Latest::lengths))]
+//! The slots of a store, with the borrows that stand at their cells.
+#![tactic(auto, using(crate::proofs::states::Entries::entries_len))]
 
-ghost use Rattle.std.specs.Prelude.{◌≡◌, ◌+◌, ◌-◌, ◌<◌, ◌≤◌, ◌∷◌, ◌++◌, [], true, Some, Err};
-ghost use Rattle.std.specs.Prelude.{IsTrue};
-ghost use Rattle.std.specs.Prelude.{◌↔◌, IfSome, IfErr, OnOk, OnErr, is_some, is_none, is_ok};
-ghost use Rattle.std.specs.Prelude.{length};
-ghost use Rattle.std.specs.Prelude.{option_copied, option_map, slice_get, slice_set};
-ghost use Rattle.generational_core.specs.Cells.Content.{Here};
+ghost use Rattle.std.specs.Prelude.{◌≡◌, ◌≢◌, ◌+◌, ◌-◌, ◌<◌, ◌≤◌, ◌∷◌, ◌++◌, ◌↔◌, [], true, false};
+ghost use Rattle.std.specs.Prelude.{length, slice_get, slice_set, Some, Err, IsTrue, IfSome, IfOk};
+ghost use Rattle.std.specs.Prelude.{IfErr, OnOk, OnErr, is_some, is_none, is_ok, option_copied};
+ghost use Rattle.std.specs.Prelude.{option_map, vec_capacity};
 ghost use Rattle.generational_core.specs.Answers.{value_of};
-ghost use Rattle.generational_core.specs.Borrowing.{read_refusal, write_refusal};
+ghost use Rattle.generational_core.specs.Borrowing.{leads_to, read_refusal, write_refusal};
 ghost use Rattle.generational_core.specs.Borrowing.BorrowRefusal.{BeingWritten};
-ghost use Rattle.generational_core.specs.Machine.{has_reader, has_writer};
-ghost use Rattle.generational_core.specs.Slots.{last_generation};
-ghost use Rattle.generational_errors.specs.declared.error.StoreError.TheVariants.{OutOfMemory};
-ghost use Rattle.generational_entries.specs.declared.entry.StorageEntryData.TheVariants as content;
-ghost use Rattle.generational_containers.specs.Borrows.{AreBelow};
-ghost use Rattle.generational_containers.specs.Table.{no_index};
-ghost use Rattle.generational_entries.specs.Entry.Kept.{Empty};
-ghost use Rattle.generational_entries.specs.Entry.{cell_of, kind_in, readers_of};
-ghost use Rattle.generational_containers.specs.CellNames.{name_of_cell};
-ghost use Rattle.generational_entries.specs.Entry.{is_unborrowed_value, referring, target_in};
-ghost use Rattle.generational_entries.specs.Entries.{IsUnborrowed, kept_data};
-ghost use Rattle.generational_core.specs.Borrowing.{leads_to};
-ghost use Rattle.generational_core.specs.Rows.{content_rows};
 ghost use Rattle.generational_core.specs.Cells.{content_of, location_of};
-ghost use Rattle.generational_entries.specs.Entry.{content_in, has_no_borrow, with_content};
-ghost use Rattle.generational_entries.specs.Entry.{with_reader, value_for};
-ghost use Rattle.generational_entries.specs.Entry.{without_reader_in, lend_to, with_value};
-ghost use Rattle.generational_entries.specs.Entry.{FoundBorrowed};
-ghost use Rattle.generational_entries.specs.Entry.{cell_at, change_entry};
-ghost use Rattle.generational_entries.specs.Latest.{noted, IsAlone, IsNoted, IsReadable, is_noted};
-ghost use Rattle.generational_entries.specs.Latest.{is_reader, is_writer, joined};
-ghost use Rattle.std.specs.Prelude.{false};
+ghost use Rattle.generational_core.specs.Cells.Content.{Here};
+ghost use Rattle.generational_core.specs.Machine.{has_reader, has_writer};
+ghost use Rattle.generational_core.specs.Rows.{content_rows};
+ghost use Rattle.generational_core.specs.Slots.{last_generation};
+ghost use Rattle.generational_core.specs.declared.rows.BaseRow.TheVariants as row;
+ghost use Rattle.generational_errors.specs.declared.error.BorrowMutError.TheVariants as writes;
+ghost use Rattle.generational_errors.specs.declared.error.Refused.TheVariants as refused;
+ghost use Rattle.generational_errors.specs.declared.error.StoreError.TheVariants.{OutOfMemory};
+ghost use Rattle.generational_containers.specs.Borrows.{AreBelow};
+ghost use Rattle.generational_containers.specs.CellNames.{name_of_cell};
+ghost use Rattle.generational_containers.specs.Table.{no_index, list_at, IsClosed, IsUsed};
+ghost use Rattle.generational_entries.specs.Entries.{index_of, kept_data, listed_beside, IsListable};
+ghost use Rattle.generational_entries.specs.Entries.{IsListed, IsUnborrowed};
+ghost use Rattle.generational_entries.specs.Entry.{cell_at, cell_of, change_entry, content_in};
+ghost use Rattle.generational_entries.specs.Entry.{has_no_borrow, is_unborrowed_value, kind_in};
+ghost use Rattle.generational_entries.specs.Entry.{lend_to, readers_of, referring, target_in, value_for};
+ghost use Rattle.generational_entries.specs.Entry.{with_reader, with_value, without_reader_in};
+ghost use Rattle.generational_entries.specs.Entry.{FoundBorrowed, FoundReaders, IsAlone, IsReadable};
+ghost use Rattle.generational_entries.specs.Entry.Kept.{Empty};
+ghost use Rattle.generational_entries.specs.Latest.{cleared, is_noted};
+ghost use Rattle.generational_entries.specs.declared.entry.StorageEntryData.TheVariants as content;
 
-use crate::entry::{EntryDetails, Kind, StorageEntryData};
-use crate::latest::{LastBorrow, Standing};
-use crate::settled::{SettledEntries, push_writer, reader_error, writer_error};
+use crate::entry::{EntryDetails, Kind, StorageEntry, StorageEntryData};
+use crate::latest::{LastBorrow, Noted};
 use generational_containers::names::CellName;
 use generational_containers::queue::reader_row;
+use generational_containers::room::{more_room, reserve_room};
+use generational_containers::table::{BorrowTable, NO_INDEX};
 use generational_core::parts::Borrow;
 use generational_core::{
-    AlreadyBorrowedMutError, BaseRow, BorrowMutError, BorrowMutResult, GenerationalBoxId, Location,
-    Refused, StoreError,
+    AlreadyBorrowedError, AlreadyBorrowedMutError, BaseRow, BorrowMutError, BorrowMutResult,
+    GenerationalBoxId, Location, Refused, StoreError,
 };
-use reservation::push_more;
+use reservation::{halfway, push_more};
 use std::alloc::{AllocError, Global};
 use std::marker::Model;
+use std::mem;
 
 /// The slots of a store. Contracts see each as its generation and its cell with the borrows that
 /// stand there, and for how many slots there is room.
 ///
-/// The borrow that began last is noted here, until another begins. A writer touches no list, and a
-/// reader of a cell that nobody else reads touches neither a list nor its slot; a reader beside
-/// others is listed with them as well.
-#[derive(Drop)]
+/// What every call asks for stands together in `entries`. What is seldom asked of a cell stands
+/// apart, and so do borrows, in a table that stays as small as the most that stood at once. The
+/// borrow that began last is noted, until another begins. So a writer touches no list, and a reader
+/// of a value that nobody else reads touches neither a list nor its slot; a reader beside others is
+/// listed with them as well.
 pub struct Entries<T> {
-    settled: SettledEntries<T>,
+    alloc: Global,
+    entries: Vec<StorageEntry<T>>,
+    details: Vec<EntryDetails>,
+    borrows: BorrowTable,
     last: LastBorrow,
+    // for how many slots there is room in each of these
+    room: usize,
 }
 
 impl<T> Model for Entries<T> {
-    ghost use Rattle.generational_entries.specs.Entries.{EntryList};
-    ghost use Rattle.generational_entries.specs.Latest.{noted, IsNoted};
+    ghost use Rattle.std.specs.Prelude.{◌≡◌, ◌≤◌, length, vec_capacity};
+    ghost use Rattle.generational_entries.specs.Entries.{EntryList, entries_of, AreIndexed};
+    ghost use Rattle.generational_entries.specs.Entries.{AreRoomy};
+    ghost use Rattle.generational_entries.specs.Latest.{AreNoted};
 
     ghost Value = { EntryList T };
 
     ghost view = { λ e. record {
-      slots = noted e.last e.settled.slots;
-      rooms = e.settled.rooms;
+      slots = entries_of e.last e.borrows.lists e.entries.items e.details.items;
+      rooms = e.room;
     } };
 
-    ghost invariant = { λ e. IsNoted e.last e.settled.slots };
+    ghost invariant = { λ e. AreIndexed e.borrows e.entries.items
+        × AreNoted e.last e.borrows.lists e.entries.items
+        × (length e.details.items ≡ length e.entries.items)
+        × AreRoomy e.room (length e.entries.items) (vec_capacity e.entries)
+        (vec_capacity e.details) e.borrows.rooms };
+}
+
+// In which order the buffers go decides how much of their memory glibc's malloc keeps for the next
+// store, and how much it gives back to the system: `docs/PERFORMANCE.md` tells of it.
+impl<T: Drop> Drop for Entries<T> {
+    fn drop(self) {
+        let Entries {
+            alloc: _,
+            entries,
+            details,
+            borrows,
+            last: _,
+            room: _,
+        } = self;
+        drop(entries);
+        drop(borrows);
+        drop(details);
+    }
 }
 
 impl<T> Entries<T> {
@@ -79,16 +109,12 @@ impl<T> Entries<T> {
         ensures { result ≡ record { slots = []; rooms = 0 } }
     {
         Entries {
-            settled: SettledEntries::new(alloc),
-            last: LastBorrow {
-                standing: Standing::Nobody,
-                slot: 0,
-                generation: 0,
-                borrow: Borrow {
-                    ticket: 0,
-                    location: Location::new("", 0, 0),
-                },
-            },
+            alloc,
+            entries: Vec::new(alloc),
+            details: Vec::new(alloc),
+            borrows: BorrowTable::new(alloc),
+            last: LastBorrow::nobody(),
+            room: 0,
         }
     }
 
@@ -97,7 +123,7 @@ impl<T> Entries<T> {
     pub fn len(&self) -> usize
         ensures { result ≡ length self.now.slots }
     {
-        self.settled.entries.len()
+        self.entries.len()
     }
 
     /// For how many there is room.
@@ -105,7 +131,7 @@ impl<T> Entries<T> {
     pub fn room(&self) -> usize
         ensures { result ≡ self.now.rooms }
     {
-        self.settled.room
+        self.room
     }
 
     /// What a box of this name reaches.
@@ -114,7 +140,7 @@ impl<T> Entries<T> {
         ensures { option_map name_of_cell result ≡ leads_to
             (cell_at self.now.slots (name_of_cell name)) (name_of_cell name) }
     {
-        match self.settled.entries.get(name.slot) {
+        match self.entries.get(name.slot) {
             Some(entry) => entry.reach(name),
             None => None,
         }
@@ -125,7 +151,7 @@ impl<T> Entries<T> {
     pub fn kind(&self, name: CellName) -> Option<Kind>
         ensures { result ≡ kind_in (cell_at self.now.slots (name_of_cell name)) }
     {
-        match self.settled.entries.get(name.slot) {
+        match self.entries.get(name.slot) {
             Some(entry) => entry.kind(name.generation),
             None => None,
         }
@@ -137,7 +163,7 @@ impl<T> Entries<T> {
         ensures { option_map name_of_cell result
             ≡ target_in (cell_at self.now.slots (name_of_cell name)) }
     {
-        match self.settled.entries.get(name.slot) {
+        match self.entries.get(name.slot) {
             Some(entry) => entry.target(name.generation),
             None => None,
         }
@@ -152,7 +178,7 @@ impl<T> Entries<T> {
         ensures created { IfSome (slice_get self.now.slots slot)
             (λ e. IfSome (location_of (cell_of e.kept)) (λ l. result.created_at ≡ l)) }
     {
-        self.settled.details[slot]
+        self.details[slot]
     }
 
     /// A reference to a slot's cell.
@@ -161,7 +187,7 @@ impl<T> Entries<T> {
         ensures { IfSome (slice_get self.now.slots slot)
             (λ e. result ≡ content.Reference slot e.generation) }
     {
-        let generation = self.settled.entries[slot].generation;
+        let generation = self.entries[slot].generation;
         StorageEntryData::Reference(slot as u32, generation)
     }
 
@@ -171,7 +197,7 @@ impl<T> Entries<T> {
         requires { slot < length self.now.slots }
         ensures { IfSome (slice_get self.now.slots slot) (λ e. result ≡ e.generation) }
     {
-        self.settled.entries[slot].generation
+        self.entries[slot].generation
     }
 
     /// Whether the cell of this name is a value, also one that is lent.
@@ -180,10 +206,7 @@ impl<T> Entries<T> {
         ensures { result
             ≡ is_some (content_of (cell_at self.now.slots (name_of_cell name))) }
     {
-        if self.last.is_noted()
-            && self.last.slot == name.slot
-            && self.last.generation == name.generation
-        {
+        if self.last.is_at(name.slot) && self.last.generation == name.generation {
             return true;
         }
         self.kind(name).is_some()
@@ -194,10 +217,10 @@ impl<T> Entries<T> {
     pub fn has_unborrowed_value(&self, name: CellName) -> bool
         ensures { result ≡ is_unborrowed_value (cell_at self.now.slots (name_of_cell name)) }
     {
-        if self.last.is_noted() && self.last.slot == name.slot {
+        if self.last.is_at(name.slot) {
             return false;
         }
-        match self.settled.entries.get(name.slot) {
+        match self.entries.get(name.slot) {
             Some(entry) => entry.has_unborrowed_value(name.generation),
             None => false,
         }
@@ -210,10 +233,13 @@ impl<T> Entries<T> {
         ensures { IfSome (slice_get self.now.slots slot) (λ e. option_map
             (λ x. BeingWritten x.borrowed_mut_at) result ≡ read_refusal (content_in e.kept)) }
     {
-        if self.last.is_writer() && self.last.slot == slot {
-            return Some(AlreadyBorrowedMutError::new(self.last.borrow.location));
+        match &self.entries[slot].content {
+            StorageEntryData::Lent(_, index) => {
+                let writer = writer_at(&self.borrows, &self.last, *index);
+                Some(AlreadyBorrowedMutError::new(writer.location))
+            }
+            _ => None,
         }
-        self.settled.borrow_error(slot)
     }
 
     /// Whether no borrow stands at the cell.
@@ -223,10 +249,14 @@ impl<T> Entries<T> {
         ensures { IfSome (slice_get self.now.slots slot)
             (λ e. result ≡ is_none (write_refusal (content_in e.kept))) }
     {
-        if self.last.is_noted() && self.last.slot == slot {
+        if self.last.is_at(slot) {
             return false;
         }
-        self.settled.is_unborrowed(slot)
+        match &self.entries[slot].content {
+            StorageEntryData::Read(_, _, _) => false,
+            StorageEntryData::Lent(_, _) => false,
+            _ => true,
+        }
     }
 
     /// The borrows that stand in the way of a write or an end.
@@ -236,10 +266,20 @@ impl<T> Entries<T> {
         ensures { IfSome (slice_get self.now.slots slot)
             (λ e. FoundBorrowed (write_refusal (content_in e.kept)) result) }
     {
-        if self.last.is_noted() && self.last.slot == slot {
-            return last_error(&self.settled, self.last);
+        match &self.entries[slot].content {
+            StorageEntryData::Lent(_, index) => {
+                Err(writer_error(writer_at(&self.borrows, &self.last, *index)))
+            }
+            StorageEntryData::Read(_, index, _) => {
+                Err(readers_error(&self.borrows, *index, self.alloc))
+            }
+            _ => {
+                if self.last.is_at(slot) {
+                    return Err(reader_error(self.last.borrow, self.alloc));
+                }
+                Ok(())
+            }
         }
-        self.settled.borrow_mut_error(slot)
     }
 
     /// Appends a row for each borrow of the slot's value, in order, under the value's id.
@@ -253,13 +293,23 @@ impl<T> Entries<T> {
         ensures { OnOk result (IfSome (slice_get self.now.slots slot)
             (λ e. rows.new.items ≡ rows.old.items ++ content_rows id (content_in e.kept))) }
     {
-        if self.last.is_noted() && self.last.slot == slot {
-            return push_with_last(&self.settled, self.last, id, rows);
+        match &self.entries[slot].content {
+            StorageEntryData::Lent(_, index) => {
+                push_writer(writer_at(&self.borrows, &self.last, *index), id, rows)
+            }
+            StorageEntryData::Read(_, index, _) => {
+                self.borrows.borrows_at(*index).push_readers(id, rows)
+            }
+            _ => {
+                if self.last.is_at(slot) {
+                    return push_more(rows, reader_row(id, &self.last.borrow));
+                }
+                Ok(())
+            }
         }
-        self.settled.push_borrows(slot, id, rows)
     }
 
-    /// Whether no borrow stands apart.
+    /// Whether no borrow is noted.
     #[inline(always)]
     pub fn is_settled(&self) -> bool {
         !self.last.is_noted()
@@ -272,7 +322,11 @@ impl<T> Entries<T> {
         ensures { IfSome (slice_get self.now.slots slot)
             (λ e. option_copied result ≡ value_of (content_in e.kept)) }
     {
-        self.settled.peek(slot)
+        match &self.entries[slot].content {
+            StorageEntryData::Data(_, value) => Some(value),
+            StorageEntryData::Read(_, _, value) => Some(value),
+            _ => None,
+        }
     }
 
     /// The value, where the reader stands.
@@ -282,16 +336,42 @@ impl<T> Entries<T> {
         ensures { IfSome (slice_get self.now.slots slot)
             (λ e. option_copied result ≡ value_for ticket (content_in e.kept)) }
     {
-        if self.last.is_reader() && self.last.slot == slot && self.last.borrow.ticket == ticket {
-            return Some(self.settled.value(slot));
+        let content = &self.entries[slot].content;
+        if self.last.is_reader_at(slot, ticket) {
+            return match content {
+                StorageEntryData::Data(_, value) => Some(value),
+                _ => self.peek_slow(slot),
+            };
         }
-        self.settled.open(slot, ticket)
+        match content {
+            StorageEntryData::Read(_, index, value) => {
+                if self.borrows.contains(*index, ticket) {
+                    return Some(value);
+                }
+                None
+            }
+            _ => None,
+        }
+    }
+
+    // The value of a cell beside whose noted reader others are listed.
+    #[cold]
+    #[inline(never)]
+    fn peek_slow(&self, slot: usize) -> Option<&T>
+        requires { slot < length self.now.slots }
+        ensures { IfSome (slice_get self.now.slots slot)
+            (λ e. option_copied result ≡ value_of (content_in e.kept)) }
+    {
+        self.peek(slot)
     }
 }
 
 impl<T: Drop> Entries<T> {
-    /// Makes room for one slot more at least, and for so many that few makings pay for it. The only
-    /// refusal is want of memory, also where no index of 32 bits is left for a slot's borrows.
+    /// Makes room for one slot more at least, and for so many that few makings pay for it, as far as
+    /// memory reaches. The only refusal is want of memory, also where no index of 32 bits is left for
+    /// a slot's borrows; it leaves the room that was.
+    #[cold]
+    #[inline(never)]
     pub fn grow(&mut self) -> Result<(), StoreError>
     where
         T: Drop,
@@ -301,26 +381,94 @@ impl<T: Drop> Entries<T> {
         ensures few { OnOk result (self.new.rooms < no_index) }
         ensures cause { IfErr result (λ error. error ≡ OutOfMemory) }
     {
-        self.settled.grow()
+        let room = larger_room(self.room)?;
+        self.grow_within(room)
     }
 
     /// Makes room for this many slots in all, where there is less. The only refusal is want of memory,
     /// also where no index of 32 bits is left for a slot's borrows; it leaves the room that was.
     pub fn reserve(&mut self, room: usize) -> Result<(), StoreError>
+    where
+        T: Drop,
         ensures slots { self.new.slots ≡ self.old.slots }
         ensures rooms { self.old.rooms ≤ self.new.rooms }
         ensures ok { OnOk result (room ≤ self.new.rooms) }
         ensures cause { IfErr result (λ error. error ≡ OutOfMemory) }
     {
-        self.settled.reserve(room)
+        if room <= self.room {
+            return Ok(());
+        }
+        if room >= NO_INDEX as usize {
+            return Err(StoreError::OutOfMemory);
+        }
+        if let Err(cause) = self.reserve_all(room) {
+            self.give_back_room();
+            return Err(cause);
+        }
+        Ok(())
     }
 
-    /// The borrow that stands apart, if there is one, goes to the table.
-    #[inline(always)]
-    pub fn settle(&mut self)
+    // Makes room for this many slots in all. Where memory is refused it makes room for half of those
+    // that are more than before, then for a quarter and so on, and for one more at least.
+    fn grow_within(&mut self, room: usize) -> Result<(), StoreError>
+    where
+        T: Drop,
+        requires more { self.old.rooms < room }
+        requires few { room < no_index }
+        ensures slots { self.new.slots ≡ self.old.slots }
+        ensures rooms { self.old.rooms ≤ self.new.rooms }
+        ensures ok { OnOk result (self.old.rooms < self.new.rooms) }
+        ensures few { OnOk result (self.new.rooms < no_index) }
+        ensures err { OnErr result (self.new.rooms ≡ self.old.rooms) }
+        ensures cause { IfErr result (λ error. error ≡ OutOfMemory) }
+    {
+        match self.reserve_all(room) {
+            Ok(()) => Ok(()),
+            Err(cause) => {
+                self.give_back_room();
+                match halfway(self.room, room) {
+                    Some(less) => self.grow_within(less),
+                    None => Err(cause),
+                }
+            }
+        }
+    }
+
+    // Gives back what the buffers have beyond the room for slots.
+    fn give_back_room(&mut self)
         ensures { self.new ≡ self.old }
     {
-        settle(&mut self.settled, &mut self.last);
+        self.entries.shrink_to(self.room);
+        self.details.shrink_to(self.room);
+        self.borrows.give_back_room();
+    }
+
+    // Makes room for this many slots in all. The lists of borrows come first: their buffer, mostly
+    // the largest, mostly has nothing to be moved. So few refusals come after slots were moved.
+    fn reserve_all(&mut self, room: usize) -> Result<(), StoreError>
+    where
+        T: Drop,
+        requires more { self.old.rooms ≤ room }
+        requires few { room < no_index }
+        ensures slots { self.new.slots ≡ self.old.slots }
+        ensures ok { OnOk result (self.new.rooms ≡ room) }
+        ensures err { OnErr result (self.new.rooms ≡ self.old.rooms) }
+        ensures cause { IfErr result (λ error. error ≡ OutOfMemory) }
+    {
+        self.borrows.reserve(room)?;
+        reserve_room(&mut self.entries, self.alloc, room)?;
+        reserve_room(&mut self.details, self.alloc, room)?;
+        self.borrows.grow(room)?;
+        self.room = room;
+        Ok(())
+    }
+
+    /// Lists the noted borrow, if there is one. Takes no memory.
+    #[inline(always)]
+    pub fn list_noted(&mut self)
+        ensures { self.new ≡ self.old }
+    {
+        list_noted(&mut self.entries, &mut self.borrows, &mut self.last);
     }
 
     /// Adds a reader to a value that isn't lent. Only a reader beside another may lack memory, and
@@ -330,12 +478,12 @@ impl<T: Drop> Entries<T> {
         &mut self,
         name: CellName,
         borrow: Borrow,
-        is_alone: bool,
+        is_unborrowed: bool,
     ) -> Result<(), AllocError>
         requires there { IsReadable name.generation (slice_get self.old.slots name.slot) }
         requires ascends { IfSome (slice_get self.old.slots name.slot)
             (λ e. AreBelow borrow.ticket (readers_of (content_in e.kept))) }
-        requires alone { is_alone ≡ true → IsAlone name.generation
+        requires alone { is_unborrowed ≡ true → IsAlone name.generation
             (slice_get self.old.slots name.slot) }
         ensures ok { OnOk result (self.new.slots ≡ change_entry self.old.slots name.slot
             (λ e. record e { kept = with_reader borrow e.kept })) }
@@ -344,15 +492,11 @@ impl<T: Drop> Entries<T> {
             (λ e. is_some (write_refusal (content_in e.kept)) ≡ true)) }
         ensures rooms { self.new.rooms ≡ self.old.rooms }
     {
-        settle(&mut self.settled, &mut self.last);
-        if !is_alone {
-            list_reader(&mut self.settled, name.slot, borrow)?;
+        list_noted(&mut self.entries, &mut self.borrows, &mut self.last);
+        if !is_unborrowed {
+            list_beside(&self.entries[name.slot], &mut self.borrows, borrow)?;
         }
-        self.last.slot = name.slot;
-        self.last.generation = name.generation;
-        self.last.borrow.ticket = borrow.ticket;
-        self.last.borrow.location = borrow.location;
-        self.last.standing = Standing::Reader;
+        self.last.note(Noted::Reader, name, borrow);
         Ok(())
     }
 
@@ -366,21 +510,19 @@ impl<T: Drop> Entries<T> {
             (λ e. record e { kept = without_reader_in ticket e.kept }) }
         ensures rooms { self.new.rooms ≡ self.old.rooms }
     {
-        if self.last.is_reader()
-            && self.last.slot == slot
-            && self.last.borrow.ticket == ticket
-            && self.settled.has_no_borrow(slot)
+        if self.last.is_reader_at(slot, ticket)
+            && self.entries[slot].content.is_unread()
         {
-            self.last.standing = Standing::Nobody;
+            self.last.noted = Noted::Nobody;
             return true;
         }
-        self.release_read_slow(slot, ticket)
+        self.release_listed(slot, ticket)
     }
 
-    // The same, for every reader.
+    // Takes a reader away that is listed, or that doesn't stand.
     #[cold]
     #[inline(never)]
-    fn release_read_slow(&mut self, slot: usize, ticket: u64) -> bool
+    fn release_listed(&mut self, slot: usize, ticket: u64) -> bool
         requires { slot < length self.old.slots }
         ensures known { IfSome (slice_get self.old.slots slot)
             (λ e. result ≡ has_reader (content_in e.kept) ticket) }
@@ -388,8 +530,16 @@ impl<T: Drop> Entries<T> {
             (λ e. record e { kept = without_reader_in ticket e.kept }) }
         ensures rooms { self.new.rooms ≡ self.old.rooms }
     {
-        settle(&mut self.settled, &mut self.last);
-        self.settled.release_read(slot, ticket)
+        list_noted(&mut self.entries, &mut self.borrows, &mut self.last);
+        let content = &mut self.entries[slot].content;
+        match content {
+            StorageEntryData::Read(_, index, _) => {
+                let known = self.borrows.release(index, ticket);
+                content.unlist();
+                known
+            }
+            _ => false,
+        }
     }
 
     /// Lends the value of a cell without borrows to a writer.
@@ -402,13 +552,9 @@ impl<T: Drop> Entries<T> {
             (λ e. record e { kept = lend_to writer e.kept }) }
         ensures rooms { self.new.rooms ≡ self.old.rooms }
     {
-        settle(&mut self.settled, &mut self.last);
-        let value = self.settled.take(name.slot);
-        self.last.slot = name.slot;
-        self.last.generation = name.generation;
-        self.last.borrow.ticket = writer.ticket;
-        self.last.borrow.location = writer.location;
-        self.last.standing = Standing::Writer;
+        list_noted(&mut self.entries, &mut self.borrows, &mut self.last);
+        let value = self.entries[name.slot].content.lend();
+        self.last.note(Noted::Writer, name, writer);
         value
     }
 
@@ -424,18 +570,19 @@ impl<T: Drop> Entries<T> {
         ensures err { IfErr result (λ back. (back ≡ value) × (self.new ≡ self.old)) }
         ensures rooms { self.new.rooms ≡ self.old.rooms }
     {
-        if self.last.is_writer() && self.last.slot == slot && self.last.borrow.ticket == ticket {
-            self.last.standing = Standing::Nobody;
-            self.settled.put_back(slot, value);
+        if self.last.is_writer_at(slot, ticket) {
+            self.last.noted = Noted::Nobody;
+            self.entries[slot].content.put_back(value);
             return Ok(());
         }
-        self.release_write_slow(slot, ticket, value)
+        self.release_listed_writer(slot, ticket, value)
     }
 
-    // The same, for every writer.
+    // Puts the value of a writer back that is listed, or hands it back where the writer doesn't
+    // stand.
     #[cold]
     #[inline(never)]
-    fn release_write_slow(&mut self, slot: usize, ticket: u64, value: T) -> Result<(), T>
+    fn release_listed_writer(&mut self, slot: usize, ticket: u64, value: T) -> Result<(), T>
         requires { slot < length self.old.slots }
         ensures known { IfSome (slice_get self.old.slots slot)
             (λ e. IsTrue (is_ok result) ↔ (has_writer (content_in e.kept) ticket ≡ true)) }
@@ -444,8 +591,20 @@ impl<T: Drop> Entries<T> {
         ensures err { IfErr result (λ back. (back ≡ value) × (self.new ≡ self.old)) }
         ensures rooms { self.new.rooms ≡ self.old.rooms }
     {
-        settle(&mut self.settled, &mut self.last);
-        self.settled.release_write(slot, ticket, value)
+        list_noted(&mut self.entries, &mut self.borrows, &mut self.last);
+        let content = &mut self.entries[slot].content;
+        match content {
+            StorageEntryData::Lent(_, index) => {
+                let index = *index;
+                if self.borrows.first(index).ticket != ticket {
+                    return Err(value);
+                }
+                content.put_back(value);
+                self.borrows.close(index);
+                Ok(())
+            }
+            _ => Err(value),
+        }
     }
 
     /// Puts another value in the place of that of a cell without borrows, and answers the old one.
@@ -460,29 +619,31 @@ impl<T: Drop> Entries<T> {
             (λ e. record e { kept = with_value value e.kept }) }
         ensures rooms { self.new.rooms ≡ self.old.rooms }
     {
-        settle(&mut self.settled, &mut self.last);
-        self.settled.replace(slot, value)
+        match &mut self.entries[slot].content {
+            StorageEntryData::Data(_, kept) => mem::replace(kept, value),
+            _ => unreachable!(),
+        }
     }
 
     /// Ends the slot's cell, with the borrows that stand there. The caller may know that it is a
     /// value without borrows.
     #[inline(always)]
-    pub fn end(&mut self, slot: usize, is_alone: bool)
+    pub fn end(&mut self, slot: usize, is_unborrowed: bool)
         requires within { slot < length self.old.slots }
-        requires alone { is_alone ≡ true → IfSome (slice_get self.old.slots slot)
+        requires alone { is_unborrowed ≡ true → IfSome (slice_get self.old.slots slot)
             (λ e. has_no_borrow (content_in e.kept) ≡ true) }
         ensures slots { self.new.slots ≡ change_entry self.old.slots slot
             (λ e. record e { kept = Empty }) }
         ensures rooms { self.new.rooms ≡ self.old.rooms }
     {
-        if is_alone {
-            self.settled.end(slot);
+        let entry = &mut self.entries[slot];
+        let index = entry.index();
+        entry.content = StorageEntryData::Empty;
+        if is_unborrowed {
             return;
         }
-        if self.last.slot == slot {
-            self.last.standing = Standing::Nobody;
-        }
-        self.settled.end(slot)
+        self.last.forget(slot);
+        give_back(&mut self.borrows, index);
     }
 
     /// Puts a cell without borrows into a slot that has none, under the next generation, which is
@@ -500,7 +661,11 @@ impl<T: Drop> Entries<T> {
             { generation = result; kept = kept_data [] created_at content; references = 0 }) }
         ensures rooms { self.new.rooms ≡ self.old.rooms }
     {
-        self.settled.refill(slot, content, created_at)
+        self.details[slot] = EntryDetails {
+            created_at,
+            references: 0,
+        };
+        self.entries[slot].refill(content)
     }
 
     /// Adds a slot with a cell without borrows, to which nothing refers. There is room for it.
@@ -514,7 +679,14 @@ impl<T: Drop> Entries<T> {
         ensures rooms { self.new.rooms ≡ self.old.rooms }
         ensures few { length self.old.slots < no_index }
     {
-        self.settled.push(generation, content, created_at)
+        self.entries.push_reserved(StorageEntry {
+            generation,
+            content,
+        });
+        self.details.push_reserved(EntryDetails {
+            created_at,
+            references: 0,
+        });
     }
 
     /// Lets the slot's reference name another cell.
@@ -529,7 +701,8 @@ impl<T: Drop> Entries<T> {
             })) }
         ensures rooms { self.new.rooms ≡ self.old.rooms }
     {
-        self.settled.redirect(slot, target)
+        let generation = self.entries[target].generation;
+        self.entries[slot].content = StorageEntryData::Reference(target as u32, generation);
     }
 
     /// One reference more names the slot's cell.
@@ -542,7 +715,7 @@ impl<T: Drop> Entries<T> {
             (λ e. record e { references = e.references + 1 }) }
         ensures rooms { self.new.rooms ≡ self.old.rooms }
     {
-        self.settled.details[slot].references += 1;
+        self.details[slot].references += 1;
     }
 
     /// One less does.
@@ -554,105 +727,161 @@ impl<T: Drop> Entries<T> {
             (λ e. record e { references = e.references - 1 }) }
         ensures rooms { self.new.rooms ≡ self.old.rooms }
     {
-        self.settled.details[slot].references -= 1;
+        self.details[slot].references -= 1;
     }
 }
 
-// The borrow that stands apart, if there is one, goes to the table.
+// Lists the noted borrow, if there is one. Takes no memory.
 #[inline(always)]
-fn settle<T: Drop>(settled: &mut SettledEntries<T>, last: &mut LastBorrow)
-    requires { IsNoted last.old settled.old.slots }
-    ensures slots { settled.new.slots ≡ noted last.old settled.old.slots }
-    ensures rooms { settled.new.rooms ≡ settled.old.rooms }
-    ensures none { is_noted last.new.standing ≡ false }
+fn list_noted<T: Drop>(
+    entries: &mut Vec<StorageEntry<T>>,
+    borrows: &mut BorrowTable,
+    last: &mut LastBorrow,
+)
+    requires { IsListable last.old borrows.old entries.old.items }
+    ensures listed { IsListed last.old last.new borrows.old borrows.new entries.old.items
+        entries.new.items }
+    ensures capacity { vec_capacity entries.new ≡ vec_capacity entries.old }
+    ensures nobody { is_noted last.new.noted ≡ false }
 {
     if last.is_noted() {
-        list_last(settled, *last);
-        last.standing = Standing::Nobody;
+        list_last(entries, borrows, last);
+        last.noted = Noted::Nobody;
     }
 }
 
-// The answer to a write or an end where the borrow that stands apart is in the way, and others
-// beside it.
+// Lists the noted borrow, unless it is a reader that is listed.
 #[cold]
 #[inline(never)]
-fn last_error<T>(entries: &SettledEntries<T>, last: LastBorrow) -> BorrowMutResult<()>
-    requires apart { is_noted last.standing ≡ true }
-    requires fits { IsNoted last entries.now.slots }
-    ensures { IfSome (slice_get entries.now.slots last.slot) (λ e. FoundBorrowed
-        (write_refusal (content_in (with_content (joined last.standing last.borrow) e.kept)))
-        result) }
+fn list_last<T: Drop>(
+    entries: &mut Vec<StorageEntry<T>>,
+    borrows: &mut BorrowTable,
+    last: &LastBorrow,
+)
+    requires noted { is_noted last.now.noted ≡ true }
+    requires fits { IsListable last.now borrows.old entries.old.items }
+    ensures listed { IsListed last.now (cleared last.now) borrows.old borrows.new entries.old.items
+        entries.new.items }
+    ensures capacity { vec_capacity entries.new ≡ vec_capacity entries.old }
 {
-    if last.is_writer() {
-        return Err(writer_error(last.borrow));
+    let content = &mut entries[last.slot].content;
+    match content {
+        StorageEntryData::Data(_, _) => content.list(borrows.open(last.borrow)),
+        StorageEntryData::Lent(_, index) => *index = borrows.open(last.borrow),
+        _ => {}
     }
-    if entries.has_no_borrow(last.slot) {
-        return Err(reader_error(last.borrow, entries.alloc));
-    }
-    entries.borrow_mut_error(last.slot)
 }
 
-// Appends the rows of the borrows of the value at which one stands apart.
-fn push_with_last<T>(
-    settled: &SettledEntries<T>,
-    last: LastBorrow,
+// Lists a reader of a value that others read. Want of memory changes nothing.
+#[cold]
+#[inline(never)]
+fn list_beside<T>(
+    entry: &StorageEntry<T>,
+    borrows: &mut BorrowTable,
+    reader: Borrow,
+) -> Result<(), AllocError>
+    requires within { index_of entry.now.content ≢ no_index
+        → index_of entry.now.content < length borrows.old.lists }
+    requires ascends { index_of entry.now.content ≢ no_index → AreBelow reader.ticket
+        (list_at borrows.old.lists (index_of entry.now.content)) }
+    ensures ok { OnOk result (borrows.new
+        ≡ listed_beside reader (index_of entry.now.content) borrows.old) }
+    ensures err { OnErr result (borrows.new ≡ borrows.old) }
+    ensures beside { OnErr result (index_of entry.now.content ≢ no_index) }
+{
+    let index = entry.index();
+    if index == NO_INDEX {
+        return Ok(());
+    }
+    borrows.push(index, reader)
+}
+
+// The writer of a lent value: the one that is listed at its index, or the noted one.
+#[inline(always)]
+fn writer_at(borrows: &BorrowTable, last: &LastBorrow, index: u32) -> Borrow
+    requires { index ≢ no_index → index < length borrows.now.lists }
+    ensures none { index ≡ no_index → result ≡ last.now.borrow }
+    ensures some { index ≢ no_index → slice_get (list_at borrows.now.lists index) 0 ≡ Some result }
+{
+    if index == NO_INDEX {
+        return last.borrow;
+    }
+    borrows.first(index)
+}
+
+// Gives the index of a slot's borrows back, if there is one.
+#[inline(always)]
+fn give_back(borrows: &mut BorrowTable, index: u32)
+    requires { index ≢ no_index → IsUsed borrows.old index }
+    ensures none { index ≡ no_index → borrows.new ≡ borrows.old }
+    ensures some { index ≢ no_index → IsClosed borrows.old borrows.new index }
+{
+    if index != NO_INDEX {
+        borrows.close(index);
+    }
+}
+
+// The next larger number of slots for which room is made.
+fn larger_room(room: usize) -> Result<usize, StoreError>
+    ensures more { IfOk result (λ more. (room < more) × (more < no_index)) }
+    ensures cause { IfErr result (λ error. error ≡ OutOfMemory) }
+{
+    let most = NO_INDEX as usize - 1;
+    if room >= most {
+        return Err(StoreError::OutOfMemory);
+    }
+    Ok(most.min(room + more_room(room)))
+}
+
+// The answer to a write or an end where the readers at this index stand.
+#[cold]
+#[inline(never)]
+fn readers_error(borrows: &BorrowTable, index: u32, alloc: Global) -> Refused<BorrowMutError>
+    requires { index < length borrows.now.lists }
+    ensures { FoundReaders (list_at borrows.now.lists index) result }
+{
+    match borrows.borrows_at(index).locations(alloc) {
+        Ok(borrowed_at) => Refused::Borrow(BorrowMutError::AlreadyBorrowed(
+            AlreadyBorrowedError::new(borrowed_at),
+        )),
+        Err(_) => Refused::Store(StoreError::OutOfMemory),
+    }
+}
+
+// The answer to a write or an end where one reader stands.
+#[cold]
+#[inline(never)]
+fn reader_error(reader: Borrow, alloc: Global) -> Refused<BorrowMutError>
+    ensures { FoundReaders (reader ∷ []) result }
+{
+    match Vec::with_capacity(alloc, 1) {
+        Ok(mut borrowed_at) => {
+            borrowed_at.push_reserved(reader.location);
+            Refused::Borrow(BorrowMutError::AlreadyBorrowed(AlreadyBorrowedError::new(borrowed_at)))
+        }
+        Err(_) => Refused::Store(StoreError::OutOfMemory),
+    }
+}
+
+// Appends the row of the writer of the value with this id.
+fn push_writer(
+    writer: Borrow,
     id: GenerationalBoxId,
     rows: &mut Vec<BaseRow>,
 ) -> Result<(), AllocError>
-    requires apart { is_noted last.standing ≡ true }
-    requires fits { IsNoted last settled.now.slots }
-    ensures { OnOk result (IfSome (slice_get settled.now.slots last.slot)
-        (λ e. rows.new.items ≡ rows.old.items ++ content_rows id
-        (content_in (with_content (joined last.standing last.borrow) e.kept)))) }
+    ensures { OnOk result (rows.new.items
+        ≡ rows.old.items ++ row.Writer id writer.ticket writer.location ∷ []) }
 {
-    if last.is_writer() {
-        return push_writer(last.borrow, id, rows);
-    }
-    if settled.has_no_borrow(last.slot) {
-        return push_more(rows, reader_row(id, &last.borrow));
-    }
-    settled.push_borrows(last.slot, id, rows)
+    push_more(rows, BaseRow::Writer(id, writer.ticket, writer.location))
 }
 
-// Lists the borrow that stands apart, unless it is a reader that is listed. Takes no memory.
-#[cold]
-#[inline(never)]
-fn list_last<T: Drop>(entries: &mut SettledEntries<T>, last: LastBorrow)
-    requires apart { is_noted last.standing ≡ true }
-    requires fits { IsNoted last entries.old.slots }
-    ensures slots { entries.new.slots ≡ noted last entries.old.slots }
-    ensures rooms { entries.new.rooms ≡ entries.old.rooms }
+// The answer to a write or an end where a writer stands.
+#[inline(always)]
+fn writer_error(writer: Borrow) -> Refused<BorrowMutError>
+    ensures { result ≡ refused.Borrow (writes.AlreadyBorrowedMut
+        (record { borrowed_mut_at = writer.location })) }
 {
-    if last.is_writer() {
-        entries.list_writer(last.slot, last.borrow);
-        return;
-    }
-    if !entries.has_no_borrow(last.slot) {
-        return;
-    }
-    match entries.begin_read(last.slot, last.borrow) {
-        Ok(()) => {}
-        Err(_) => unreachable!(),
-    }
-}
-
-// Lists a reader of a cell that isn't lent.
-#[cold]
-#[inline(never)]
-fn list_reader<T: Drop>(
-    entries: &mut SettledEntries<T>,
-    slot: usize,
-    reader: Borrow,
-) -> Result<(), AllocError>
-    requires within { slot < length entries.old.slots }
-    requires ascends { IfSome (slice_get entries.old.slots slot)
-        (λ e. AreBelow reader.ticket (readers_of (content_in e.kept))) }
-    ensures ok { OnOk result (entries.new.slots ≡ change_entry entries.old.slots slot
-        (λ e. record e { kept = with_reader reader e.kept })) }
-    ensures err { OnErr result (entries.new ≡ entries.old) }
-    ensures beside { OnErr result (IfSome (slice_get entries.old.slots slot)
-        (λ e. is_some (write_refusal (content_in e.kept)) ≡ true)) }
-    ensures rooms { entries.new.rooms ≡ entries.old.rooms }
-{
-    entries.begin_read(slot, reader)
+    Refused::Borrow(BorrowMutError::AlreadyBorrowedMut(AlreadyBorrowedMutError::new(
+        writer.location,
+    )))
 }

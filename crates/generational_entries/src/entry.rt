@@ -1,10 +1,12 @@
 //! What a slot keeps in one place: the generation of its last cell, and that cell.
 
-ghost use Rattle.std.specs.Prelude.{◌≡◌, ◌+◌, ◌<◌, IsSome, None, Some, nat_eq, option_map};
+ghost use Rattle.std.specs.Prelude.{◌≡◌, ◌+◌, ◌<◌, IsSome, None, Some, is_some, nat_eq};
+ghost use Rattle.std.specs.Prelude.{option_map};
 ghost use Rattle.std.specs.Prelude.{if◌then◌else◌};
 ghost use Rattle.generational_core.specs.Slots.{last_generation};
-ghost use Rattle.std.specs.Prelude.{false};
-ghost use Rattle.generational_entries.specs.Entries.{is_unborrowed_data, lent_data};
+ghost use Rattle.std.specs.Prelude.{false, true};
+ghost use Rattle.generational_entries.specs.Entries.{full_data, is_lent_data, is_unborrowed_data};
+ghost use Rattle.generational_entries.specs.Entries.{lent_data};
 ghost use Rattle.generational_entries.specs.Entries.{read_data, unread_data, unread_in};
 ghost use Rattle.generational_entries.specs.Entries.{index_of, lead_of, kind_of, target_of};
 ghost use Rattle.generational_entries.specs.Entries.{data_value};
@@ -158,7 +160,15 @@ impl<T> StorageEntryData<T> {
         }
     }
 
-    /// Lends the value, which is there and at which nobody stands. Nobody is its writer then.
+    /// Whether it is a value at which no reader is listed.
+    #[inline(always)]
+    pub fn is_unread(&self) -> bool
+        ensures { result ≡ is_some (unread_in self.now) }
+    {
+        matches!(self, StorageEntryData::Data(_, _))
+    }
+
+    /// Lends the value, which is there and at which no reader is listed. Its writer isn't listed.
     #[inline(always)]
     pub fn lend(&mut self) -> T
     where
@@ -175,6 +185,20 @@ impl<T> StorageEntryData<T> {
             StorageEntryData::Data(_, value) => value,
             _ => unreachable!(),
         }
+    }
+
+    /// Puts a value back where one is lent. Its writer is forgotten.
+    #[inline(always)]
+    pub fn put_back(&mut self, value: T)
+    where
+        T: Drop,
+        requires { is_lent_data self.old ≡ true }
+        ensures { self.new ≡ full_data value self.old }
+    {
+        *self = match self {
+            StorageEntryData::Lent(kind, _) => StorageEntryData::Data(*kind, value),
+            _ => unreachable!(),
+        };
     }
 
     /// Lets readers stand at a value where none stood, at an index of the table.

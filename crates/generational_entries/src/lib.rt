@@ -8,4 +8,3 @@
 pub mod entries;
 pub mod entry;
 pub mod latest;
-pub mod settled;

@@ -423,7 +423,7 @@ impl<T: Drop, P: SlotPool> Slots<T, P> {
     pub fn settle(&mut self)
         ensures { self.new ≡ self.old }
     {
-        self.entries.settle();
+        self.entries.list_noted();
     }
 
     /// Adds a reader to a value that isn't lent. Only a reader beside another may lack memory, and

@@ -1,11 +1,13 @@
 -- At which indexes of the table the borrows of a store's slots stand, and what is left of that
 -- where a slot is written.
 use Rattle.generational_entries.proofs.Common
-use Common.{AreIndexed, arith, cases_eq, eq-eqb, false, has_index, HasListIndex, HasListIndexIn}
-use Common.{how_many, index_in, index_of, IsUnborrowed, IsUsed, IsWritten, length, List, nat_cmp}
-use Common.{nat_tests, ne_eqb, no_index, Option, passes, refl, slice_get, Some, StorageEntry}
-use Common.{StorageEntryData, sym, Table, ℕ, [], ⊎_elim, ◌+◌, ◌∙◌, ◌≡◌, ◌≢◌, ◌≤◌}
+use Common.{AreIndexed, AreNoted, Borrow, HasListIndex, HasListIndexIn, IsUnborrowed, IsUsed}
+use Common.{IsWritten, LastBorrow, List, Option, Some, StorageEntry, StorageEntryData, Table, []}
+use Common.{ap, arith, cases_eq, eq-eqb, false, has_index, how_many, index_in, index_of, is_noted}
+use Common.{length, nat_cmp, nat_tests, ne_eqb, no_index, passes, refl, slice_get, sym}
+use Common.{true≢false, ℕ, ⊎_elim, ◌+◌, ◌∙◌, ◌≡◌, ◌≢◌, ◌≤◌}
 use Rattle.std.specs.FinSet as set
+use Rattle.generational_entries.specs.declared.latest.Noted.TheVariants as noted
 
 module _ {T : Type 0} where
   module _ {es es' : List (StorageEntry T)} {i : ℕ} {e : StorageEntry T}
@@ -87,3 +89,11 @@ module _ {T : Type 0} where
         rw (no_index_test (slice_get es i) before, no_index_test (Some e) none)
             at (w.count has_index),
       )) (omega arith)
+
+-- a store without slots
+pub noted_none : {T : Type 0} {r : LastBorrow} {lists : List (List Borrow)}
+    {es : List (StorageEntry T)} → es ≡ [] → r.noted ≡ noted.Nobody → AreNoted r lists es
+noted_none none nobody = rw none (record {
+  noted = λ is. absurd (true≢false (sym is ∙ ap is_noted nobody));
+  written = λ k. tt;
+})

@@ -1,26 +1,24 @@
 -- One reference less names a slot's cell.
-use Rattle.generational_entries.proofs.{ap, arith, details_noted, hears_of, refl, seen}
-use Rattle.generational_entries.proofs.{seen_details, seen_hears, ◌-◌, ◌<◌}
+use Rattle.generational_entries.proofs.{arith, details_at, details_changed, hears_of, kept}
+use Rattle.generational_entries.proofs.{length-set, read_details, refl, ◌-◌, ◌<◌, ◌∙◌}
 use Rattle.generational_entries.proofs.entries.Entries.count_down.Goals as goal
 
 pub overflow_sub-index_mut : goal.overflow_sub-index_mut
 overflow_sub-index_mut g c =
-    let o = seen c.self.view_is c.self.invariant c.self-inside.view_is c.self-inside.invariant in
-    let a = seen_details o c.requires.within c.index_mut.ensures.value in
-    let few = hears_of a.1 a.2 _
-    (seen_hears o c.args.slot (λ e. 0 < e.references) (λ e h. h) c.requires.some) in
+    let s = kept c.self.view_is c.self.invariant in
+    let a = details_at s c.requires.within in
+    let few = hears_of a.1 (read_details s c.requires.within c.index_mut.ensures.value)
+    (λ e. 0 < e.references) c.requires.some in
     omega (arith, few)
 
 pub invariant_of-self : goal.invariant_of-self
 invariant_of-self g c =
-    let o = seen c.self.view_is c.self.invariant c.self-inside.view_is c.self-inside.invariant in
-    let a = seen_details o c.requires.within c.index_mut.ensures.value in
-    (details_noted o (ap (λ x. x.last) c.self-inside.view_is) a.1 a.2 _
-    (λ e. record e { references = e.references - 1 }) refl (λ e. refl) (λ e has. has)).0
+    let v = c.self.invariant in
+    (v.0, v.1, length-set c.self.inside.details.items c.args.slot _ ∙ v.2, v.3)
 
 pub returns-clause-slots : goal.returns-clause-slots
 returns-clause-slots g c =
-    let o = seen c.self.view_is c.self.invariant c.self-inside.view_is c.self-inside.invariant in
-    let a = seen_details o c.requires.within c.index_mut.ensures.value in
-    (details_noted o (ap (λ x. x.last) c.self-inside.view_is) a.1 a.2 _
-    (λ e. record e { references = e.references - 1 }) refl (λ e. refl) (λ e has. has)).1
+    let s = kept c.self.view_is c.self.invariant in
+    let a = details_at s c.requires.within in
+    details_changed a.1 (read_details s c.requires.within c.index_mut.ensures.value) _
+    (λ e. record e { references = e.references - 1 }) refl

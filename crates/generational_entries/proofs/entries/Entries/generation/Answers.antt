@@ -1,10 +1,6 @@
 -- The generation of a slot's last cell.
-use Rattle.generational_entries.proofs.{refl, says, seen, seen_says, seen_slot, ◌≡◌}
+use Rattle.generational_entries.proofs.{found, refl, says}
 use Rattle.generational_entries.proofs.entries.Entries.generation.Goals as goal
 
 pub returns : goal.returns
-returns g c =
-    let o = seen c.self.view_is c.self.invariant c.self-inside.view_is c.self-inside.invariant in
-    let a = seen_slot o c.requires c.index.ensures in
-    seen_says o c.args.slot (λ e. c.index.result.now.generation ≡ e.generation) (λ e h. h)
-    (says a _ (λ l. refl))
+returns g c = says (found c.self.view_is c.self.invariant c.requires c.index.ensures) _ (λ d. refl)

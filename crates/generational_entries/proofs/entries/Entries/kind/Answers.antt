@@ -1,20 +1,16 @@
 -- Whose the value of a name is.
-use Rattle.generational_entries.proofs.{arith, here, kind_in, kind_same, kind_seen, name_of_cell}
-use Rattle.generational_entries.proofs.{refl, seen, seen_name, seen_past, slice_get_read, ◌∙◌}
+use Rattle.generational_entries.proofs.{arith, found, here, kept, kind_seen, lent, location, past}
+use Rattle.generational_entries.proofs.{refl, slice_get_read, slot_seen, ◌∙◌}
 use Rattle.generational_entries.proofs.entries.Entries.kind.Goals as goal
 
 pub returns-in-Some : goal.returns-in-Some
 returns-in-Some g c =
-    let o = seen c.self.view_is c.self.invariant c.self-inside.view_is c.self-inside.invariant in
     let found = rw c.deref.ensures.value at c.in-Some.ensures.lookup in
-    let a = here o.store (slice_get_read c.self-inside.inside.0.0.entries.items _ c.args.name.slot
-    c.in-Some.entry.now refl found.3.0 found.1) in
-    c.kind.ensures ∙ seen_name o (name_of_cell c.args.name) a kind_in kind_same
-    (λ d. kind_seen c.self-inside.inside.0.0.borrows.lists c.in-Some.entry.now d
-    c.args.name.generation)
+    let a = here (kept c.self.view_is c.self.invariant) (slice_get_read
+    c.self.inside.entries.items _ c.args.name.slot c.in-Some.entry.now refl found.3.0 found.1) in
+    rw (slot_seen a) (c.kind.ensures ∙ kind_seen c.in-Some.entry.now (location a).0 _ (lent a.at) c.args.name.generation)
 
 pub returns-in-None : goal.returns-in-None
 returns-in-None g c =
-    let o = seen c.self.view_is c.self.invariant c.self-inside.view_is c.self-inside.invariant in
     let found = rw c.deref.ensures.value at c.in-None.ensures.lookup in
-    rw (seen_past o c.args.name.slot (omega (arith, found.3))) refl
+    rw (past (kept c.self.view_is c.self.invariant) c.args.name.slot (omega (arith, found.3))) refl

@@ -1,20 +1,16 @@
 -- What a box of a name reaches.
-use Rattle.generational_entries.proofs.{arith, here, lead_same, lead_seen, leads_to, name_of_cell}
-use Rattle.generational_entries.proofs.{refl, seen, seen_name, seen_past, slice_get_read, ◌∙◌}
+use Rattle.generational_entries.proofs.{arith, found, here, kept, lead_seen, lent, location}
+use Rattle.generational_entries.proofs.{name_of_cell, past, refl, slice_get_read, slot_seen, ◌∙◌}
 use Rattle.generational_entries.proofs.entries.Entries.reach.Goals as goal
 
 pub returns-in-Some : goal.returns-in-Some
 returns-in-Some g c =
-    let o = seen c.self.view_is c.self.invariant c.self-inside.view_is c.self-inside.invariant in
     let found = rw c.deref.ensures.value at c.in-Some.ensures.lookup in
-    let a = here o.store (slice_get_read c.self-inside.inside.0.0.entries.items _ c.args.name.slot
-    c.in-Some.entry.now refl found.3.0 found.1) in
-    let n = name_of_cell c.args.name in
-    c.reach.ensures ∙ seen_name o n a (λ x. leads_to x n) (lead_same n)
-    (λ d. lead_seen c.self-inside.inside.0.0.borrows.lists c.in-Some.entry.now d n)
+    let a = here (kept c.self.view_is c.self.invariant) (slice_get_read
+    c.self.inside.entries.items _ c.args.name.slot c.in-Some.entry.now refl found.3.0 found.1) in
+    rw (slot_seen a) (c.reach.ensures ∙ lead_seen c.in-Some.entry.now (location a).0 _ (lent a.at) (name_of_cell c.args.name))
 
 pub returns-in-None : goal.returns-in-None
 returns-in-None g c =
-    let o = seen c.self.view_is c.self.invariant c.self-inside.view_is c.self-inside.invariant in
     let found = rw c.deref.ensures.value at c.in-None.ensures.lookup in
-    rw (seen_past o c.args.name.slot (omega (arith, found.3))) refl
+    rw (past (kept c.self.view_is c.self.invariant) c.args.name.slot (omega (arith, found.3))) refl

@@ -1,18 +1,20 @@
-use Rattle.generational_entries.proofs.{change_entry, IfSome_then, joined, joined_says, noted}
-use Rattle.generational_entries.proofs.{noted_order, refer_order, referring, slice_get, ◌≡◌}
+-- A reference that names another cell.
+use Rattle.generational_entries.proofs.{away_noted, changed, found, free_indexed, referred}
+use Rattle.generational_entries.proofs.{refers_away, refers_none, refl, same_table, slot_seen}
+use Rattle.generational_entries.proofs.{still}
 use Rattle.generational_entries.proofs.entries.Entries.redirect.Goals as goal
+
+pub invariant_of-self : goal.invariant_of-self
+invariant_of-self g c =
+    let a = found c.self.view_is c.self.invariant c.requires.within c.index_mut.ensures.value in
+    still a c.self.invariant _
+    (free_indexed a.at (refers_none a c.requires.refers) _ tt refl)
+    (away_noted a.at _ _ (refers_away a c.requires.refers) (λ k other. refl) tt) refl
 
 pub returns-clause-slots : goal.returns-clause-slots
 returns-clause-slots g c =
-    let last = c.self.inside.last in
-    let slots = c.self.inside.settled.slots in
-    rw (← c.self.view_is) (joined_says last slots c.self.invariant c.args.target
-    (λ t. noted last c.redirect.new.self.slots ≡ change_entry (noted last slots) c.args.slot
-    (λ e. record e {
-      kept = referring (record { slot = c.args.target; generation = t.generation }) e.kept;
-    }))
-    (λ apart at e fits h. h)
-    (IfSome_then (slice_get slots c.args.target) c.redirect.ensures.slots (λ t is.
-    rw is (noted_order last slots c.args.slot _ (λ e. rw (refer_order
-    (record { slot = c.args.target; generation = t.generation })
-    (joined last.standing last.borrow) e.kept))))))
+    let a = found c.self.view_is c.self.invariant c.requires.within c.index_mut.ensures.value in
+    let target = found c.self.view_is c.self.invariant c.requires.target c.index.ensures in
+    rw (slot_seen target) (changed a _ _ _ _ (same_table a.at _ (λ k other. refl)) refl refl
+    (λ d. rw (← referred a c.args.target c.index.result.now.generation d.created_at _
+    c.requires.refers)))
