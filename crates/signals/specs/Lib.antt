@@ -1,2 +1,3 @@
 pub mod Scopes
 pub mod Signals
+pub mod Texts

@@ -12,13 +12,14 @@ ghost use Rattle.generational_core.specs.Machine.{OwnerName, ownership};
 ghost use Rattle.generational_core.specs.Machine.Action.{NewOwner, MakeShared, Refer, ReleaseOwner};
 ghost use Rattle.generational_core.specs.Names.{Name, among};
 ghost use Rattle.generational_core.specs.Seeing.{value_in};
+ghost use Rattle.generational_core.specs.StepCalls.{id_of_owner};
 ghost use Rattle.generational_core.specs.Steps.{Meets};
 ghost use Rattle.signals.specs.Scopes.{HasSignals, LeavesScopes, LeavesOtherScopes};
 ghost use Rattle.signals.specs.Signals.{pointer_in, signal_answer, alias_answer};
 
 use crate::signal::Signal;
 use generational_core::{
-    AnyStorage, BorrowMutError, BorrowResult, Location, Owner, Refusal, Refused, Storage,
+    AnyStorage, BorrowMutError, BorrowResult, Location, Owner, OwnerId, Refusal, Refused, Storage,
     StoreError,
 };
 use generational_sessions::caller_laws::{
@@ -28,6 +29,7 @@ use generational_sessions::caller_laws::{
 use generational_sessions::laws::{
     boxes_and_guards_are_new, made_boxes_see_their_values, owners_list_their_boxes,
 };
+use std::fmt;
 use std::marker::Model;
 
 /// A scope of signals, which end with it. Contracts see it as its store's number and its key.
@@ -45,7 +47,26 @@ impl Model for Scope {
     ghost view = { λ s. s.owner };
 }
 
+/// Prints `scope KEY of store NUMBER`.
+impl fmt::Debug for Scope {
+    ghost use Rattle.signals.specs.Texts.{scope_text};
+
+    ghost debug_output = { λ s. Some (scope_text s) };
+
+    fn fmt<W: fmt::Write>(&self, f: &mut fmt::Formatter<W>) -> fmt::Result {
+        let id = self.owner.id();
+        write!(f, "scope {} of store {}", id.key, id.store)
+    }
+}
+
 impl Scope {
+    /// The id of the scope, which no other ever has. Takes no memory.
+    pub fn id(&self) -> OwnerId
+        ensures { result ≡ id_of_owner self.now }
+    {
+        self.owner.id()
+    }
+
     /// A scope without signals.
     ///
     /// Refused, in this order: `NumbersExhausted`, where no ticket is left; `OutOfMemory`. The store
@@ -181,6 +202,7 @@ impl Scope {
             Err((owner, refused)) => Err((Scope { owner }, refused)),
         }
     }
+
     /// Spends the scope and leaves its signals as they are: they never end by a scope from then on.
     /// So it lets go of a scope whose end was refused.
     pub fn leak(self) {

@@ -14,8 +14,8 @@ ghost use Rattle.signals.specs.Scopes.{LeavesScopes};
 ghost use Rattle.signals.specs.Signals.{box_in, pointer_in, AllSee};
 
 use generational_core::{
-    BorrowMutError, BorrowMutResult, BorrowResult, GenerationalBox, GenerationalRefMut, Location,
-    Refused, Storage,
+    BorrowMutError, BorrowMutResult, BorrowResult, GenerationalBox, GenerationalBoxId,
+    GenerationalRefMut, Location, Refused, Storage,
 };
 use generational_sessions::caller_laws::{
     calls_leave_other_boxes, calls_leave_other_owners, guards_stay_known,
@@ -26,6 +26,8 @@ use generational_sessions::laws::{
     guards_hold_what_boxes_see, made_boxes_see_their_values, unborrowed_boxes_are_free,
 };
 use std::alloc::AllocError;
+use std::fmt;
+use std::hash::{Hash, Hasher};
 
 /// A signal: it leads to a value that other signals may lead to as well, and is copied freely.
 /// Contracts see it as its box (`box_in`).
@@ -50,12 +52,68 @@ impl<T> Clone for Signal<T> {
 
 impl<T> Copy for Signal<T> {}
 
+/// Equal if both are one signal: if their ids are. An alias isn't the signal of which it was made.
+impl<T> PartialEq for Signal<T> {
+    ghost use Rattle.std.proofs.Common.{rules};
+    ghost use Rattle.std.specs.Cmp.Rules.{comparing};
+    ghost use Rattle.std.specs.Ordering.{on};
+    ghost use Rattle.generational_core.specs.Boxes.{has_same_id};
+
+    ghost eq = { on pointer_in has_same_id };
+
+    ghost laws = { Prim.search (comparing, rules) };
+
+    fn eq(&self, other: &Self) -> bool {
+        self.raw.ptr_eq(&other.raw)
+    }
+}
+
+impl<T> Eq for Signal<T> {
+    ghost use Rattle.std.proofs.Common.{rules};
+    ghost use Rattle.std.specs.Cmp.Rules.{comparing};
+
+    ghost laws = { Prim.search (comparing, rules) };
+}
+
+/// Hashes the id.
+impl<T> Hash for Signal<T> {
+    ghost use Rattle.std.proofs.Common.{rules};
+    ghost use Rattle.std.specs.Cmp.Rules.{hashing};
+    ghost use Rattle.generational_core.specs.Boxes.{hashed_id};
+
+    ghost hash_input = { λ it. hashed_id (pointer_in it) };
+
+    ghost respects_eq = { Prim.search (hashing, rules) };
+
+    fn hash<H: Hasher>(&self, state: &mut H) {
+        self.raw.hash(state);
+    }
+}
+
+/// Prints the id, as `slot@generation`.
+impl<T> fmt::Debug for Signal<T> {
+    ghost use Rattle.generational_core.specs.Texts.{id_text};
+
+    ghost debug_output = { λ it. Some (id_text (pointer_in it).id) };
+
+    fn fmt<W: fmt::Write>(&self, f: &mut fmt::Formatter<W>) -> fmt::Result {
+        write!(f, "{:?}", self.raw)
+    }
+}
+
 impl<T> Signal<T> {
     /// The signal's box, with which each call of a box may be made.
     pub fn as_box(self) -> GenerationalBox<T>
         ensures { result ≡ box_in self }
     {
         self.raw
+    }
+
+    /// The id of the signal, which no other ever has. Copies of one signal have one id. Takes no memory.
+    pub fn id(self) -> GenerationalBoxId
+        ensures { result ≡ (pointer_in self).id }
+    {
+        self.raw.id()
     }
 
     /// Reads the value, and answers what the closure makes of it, which is called once. Nothing is
