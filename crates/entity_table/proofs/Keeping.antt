@@ -1,39 +1,29 @@
 -- A table's store and rows after each of its calls.
-use Rattle.std.proofs.Common.{◌≡◌, ◌≢◌, ℕ, Bool, true, false, Option, None, Some, List, [], ◌∷◌, ◌++◌, ◌<◌}
+use Rattle.std.proofs.Common.{◌≡◌, ◌≢◌, ℕ, Option, None, Some, List, [], ◌∷◌, ◌++◌, ◌<◌}
 use Rattle.std.proofs.Common.{Ok, refl, sym, ap, subst, ◌∙◌, ⊎_elim, arith, get_or, length}
 use Rattle.std.proofs.lemmas.Bool.{true≢false}
 use Rattle.std.proofs.lemmas.Option.{get_or_from_slice_get, none-some, same_Some, slice_get_within}
 use Rattle.std.specs.Prelude.{◌-◌, is_some, slice_get, slice_set, swap_remove}
 use Rattle.std.specs.FinMap as map
-use Rattle.generational_core.specs.Borrowing.{can_write, reach}
 use Rattle.generational_core.specs.Boxes.{name_in, name_of}
 use Rattle.generational_core.specs.Conditions.{fresh}
-use Rattle.generational_core.specs.Leaving.{BeginsNoBorrow, IsUnborrowed}
-use Rattle.generational_core.specs.Machine.{Action, Answer}
-use Rattle.generational_core.specs.Machine.Action.{Make, End, SetValue}
-use Rattle.generational_core.specs.Machine.Answer.{Made, Done, Old}
-use Rattle.generational_core.specs.Names.{Name}
+use Rattle.generational_core.specs.Machine.Action.{Make, End}
+use Rattle.generational_core.specs.Machine.Answer.{Made, Done}
 use Rattle.generational_core.specs.Seeing.{value_in}
 use Rattle.generational_core.specs.Slots.{Fits, slots}
 use Rattle.generational_core.specs.State.{State, IsSound}
 use Rattle.generational_core.specs.Steps.{Meets}
 use Rattle.generational_core.specs.declared.boxes.GenerationalPointer.{GenerationalPointer}
 use Rattle.generational_errors.specs.declared.error.Location.{Location}
-use Rattle.generational_core.proofs.machine.Bounding.{fresh_bounded, meets_bounded}
 use Rattle.generational_core.proofs.machine.Boxing.{ended, reached_boxed}
-use Rattle.generational_core.proofs.machine.Calling.{made, seen_reached, unseen}
-use Rattle.generational_core.proofs.machine.Changes.{is_making}
-use Rattle.generational_core.proofs.machine.Ends.{some_live}
-use Rattle.generational_core.proofs.machine.Leaving.{same_reach, same_value}
-use Rattle.generational_core.proofs.machine.Resting.{free_sees}
-use Rattle.generational_core.proofs.machine.Seeing.{led_box, reaches}
-use Rattle.generational_core.proofs.machine.Stepping.{meets_number, meets_sound}
-use Rattle.generational_core.proofs.machine.Unborrowed.{quiet_free, quiet_fresh, quiet_sees, quiet_stays}
+use Rattle.generational_core.proofs.machine.Calling.{made}
+use Rattle.generational_core.proofs.machine.Leaving.{same_value}
+use Rattle.generational_core.proofs.machine.Stepping.{meets_sound}
 use Rattle.generational_core.proofs.maps.Maps.{by_number, key_cases, name_cases}
 use Rattle.generational_sessions.specs.PlainStores.{IsSimple}
 use Rattle.generational_sessions.proofs.callers.Ids.{IsSeen}
 use Rattle.generational_sessions.proofs.callers.SimpleStores.{fresh_simple, made_simple, making}
-use Rattle.generational_sessions.proofs.callers.Ids.{one_id, seen_cell, seen_reach, seen_store}
+use Rattle.generational_sessions.proofs.callers.Ids.{one_id, seen_cell, seen_reach}
 use Rattle.generational_sessions.proofs.callers.SimpleStores.{simple_still}
 use Rattle.generational_core.proofs.machine.Bounding.{slot_apart, slot_within}
 use Rattle.entity_table.specs.declared.entity.Entity.{Entity}

@@ -1,7 +1,7 @@
 -- Rows of entities after a push and after a removal, and the places of their slots.
-use Rattle.std.proofs.Common.{◌≡◌, ◌≢◌, ℕ, zero, suc, List, [], ◌∷◌, ◌++◌, ◌<◌, length, None, Some}
+use Rattle.std.proofs.Common.{◌≡◌, ◌≢◌, ℕ, List, [], ◌∷◌, ◌<◌, length, None, Some}
 use Rattle.std.proofs.Common.{inl, inr, refl, sym, ap, ◌∙◌, ⊎_elim, arith, length-set}
-use Rattle.std.specs.Prelude.{◌+◌, ◌-◌, ◌⊎◌, slice_get, slice_set, slice_index_or, swap_remove, take}
+use Rattle.std.specs.Prelude.{◌+◌, ◌-◌, ◌⊎◌, slice_get, slice_set, slice_index_or, swap_remove}
 use Rattle.std.proofs.lemmas.List.{length-take}
 use Rattle.std.proofs.lemmas.Option.{none-some, same_Some, slice_get_within, slice_get-get_or}
 use Rattle.generational_core.proofs.maps.Maps.{by_number, key_cases}

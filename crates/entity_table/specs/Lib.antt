@@ -3,3 +3,4 @@ pub mod Entities
 pub mod Keeping
 pub mod Rows
 pub mod Tables
+pub mod Texts
