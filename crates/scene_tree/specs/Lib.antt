@@ -1,4 +1,5 @@
 pub mod Families
 pub mod Keeping
 pub mod Nodes
+pub mod Texts
 pub mod Trees

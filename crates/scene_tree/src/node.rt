@@ -1,10 +1,13 @@
 //! Handles of nodes, and why a call on one is refused.
 
-ghost use Rattle.std.specs.Prelude.{◌≡◌};
+ghost use Rattle.std.specs.Prelude.{◌≡◌, Some};
 ghost use Rattle.scene_tree.specs.Nodes.{pointer_in, slot_in, made_at};
 
 use generational_core::{GenerationalBox, GenerationalBoxId, Location, StoreError};
 use std::alloc::AllocError;
+use std::error::Error;
+use std::fmt;
+use std::hash::{Hash, Hasher};
 
 /// A handle of a node. It is copied freely, owns nothing, and outlives its node: no later node is
 /// mistaken for it.
@@ -26,6 +29,55 @@ impl<T> Clone for Node<T> {
 }
 
 impl<T> Copy for Node<T> {}
+
+/// Equal if both are of one node: if their ids are.
+impl<T> PartialEq for Node<T> {
+    ghost use Rattle.std.proofs.Common.{rules};
+    ghost use Rattle.std.specs.Cmp.Rules.{comparing};
+    ghost use Rattle.std.specs.Ordering.{on};
+    ghost use Rattle.generational_core.specs.Boxes.{has_same_id};
+
+    ghost eq = { on pointer_in has_same_id };
+
+    ghost laws = { Prim.search (comparing, rules) };
+
+    fn eq(&self, other: &Self) -> bool {
+        self.raw.ptr_eq(&other.raw)
+    }
+}
+
+impl<T> Eq for Node<T> {
+    ghost use Rattle.std.proofs.Common.{rules};
+    ghost use Rattle.std.specs.Cmp.Rules.{comparing};
+
+    ghost laws = { Prim.search (comparing, rules) };
+}
+
+/// Hashes the id.
+impl<T> Hash for Node<T> {
+    ghost use Rattle.std.proofs.Common.{rules};
+    ghost use Rattle.std.specs.Cmp.Rules.{hashing};
+    ghost use Rattle.generational_core.specs.Boxes.{hashed_id};
+
+    ghost hash_input = { λ it. hashed_id (pointer_in it) };
+
+    ghost respects_eq = { Prim.search (hashing, rules) };
+
+    fn hash<H: Hasher>(&self, state: &mut H) {
+        self.raw.hash(state);
+    }
+}
+
+/// Prints the id, as `slot@generation`.
+impl<T> fmt::Debug for Node<T> {
+    ghost use Rattle.generational_core.specs.Texts.{id_text};
+
+    ghost debug_output = { λ it. Some (id_text (pointer_in it).id) };
+
+    fn fmt<W: fmt::Write>(&self, f: &mut fmt::Formatter<W>) -> fmt::Result {
+        write!(f, "{:?}", self.raw)
+    }
+}
 
 impl<T> Node<T> {
     /// The id of the node, which no other ever has. Handles of one node have one id.
@@ -57,6 +109,20 @@ pub struct Stale {
     pub made_at: Location,
 }
 
+/// Prints that the node is gone, and where it was made.
+impl fmt::Display for Stale {
+    ghost use Rattle.scene_tree.specs.Texts.{stale_text};
+
+    ghost output = { λ it. Some (stale_text it.made_at) };
+
+    fn fmt<W: fmt::Write>(&self, f: &mut fmt::Formatter<W>) -> fmt::Result {
+        let made_at = self.made_at;
+        write!(f, "the node is gone, which was made at {made_at}")
+    }
+}
+
+impl Error for Stale {}
+
 /// Why a call on a tree is refused.
 #[derive(Clone, Copy, Debug, PartialEq, Eq)]
 pub enum TreeError {
@@ -66,4 +132,35 @@ pub enum TreeError {
     Cycle,
     /// The store refused, or memory lacks.
     Store(StoreError),
+}
+
+/// Prints as `Stale` does where the node is gone, that the node would be below itself, or the text of
+/// the store's refusal.
+impl fmt::Display for TreeError {
+    ghost use Rattle.scene_tree.specs.Texts.{tree_error_text};
+
+    ghost output = { λ it. Some (tree_error_text it) };
+
+    fn fmt<W: fmt::Write>(&self, f: &mut fmt::Formatter<W>) -> fmt::Result {
+        match self {
+            TreeError::Stale(made_at) => {
+                write!(f, "the node is gone, which was made at {made_at}")
+            }
+            TreeError::Cycle => write!(f, "the node would be below itself"),
+            TreeError::Store(cause) => write!(f, "{cause}"),
+        }
+    }
+}
+
+impl Error for TreeError {}
+
+/// Keeps where the node was made. Takes no memory.
+impl From<Stale> for TreeError {
+    ghost use Rattle.scene_tree.specs.declared.node.TreeError.TheVariants as error;
+
+    ghost from_gives = { λ stale r. r ≡ error.Stale stale.made_at };
+
+    fn from(stale: Stale) -> TreeError {
+        TreeError::Stale(stale.made_at)
+    }
 }
