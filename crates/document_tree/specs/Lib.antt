@@ -2,3 +2,4 @@ pub mod Documents
 pub mod Keeping
 pub mod Outlines
 pub mod Places
+pub mod Texts
