@@ -2,3 +2,4 @@ pub mod Entries
 pub mod Keeping
 pub mod Sessions
 pub mod Tables
+pub mod Texts

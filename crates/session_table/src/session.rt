@@ -6,6 +6,8 @@ ghost use Rattle.session_table.specs.declared.session.Session.{Session};
 ghost use Rattle.session_table.specs.Sessions.{is_row};
 
 use generational_core::{Owner, StoreError};
+use std::error::Error;
+use std::fmt;
 
 /// A session that is logged in. Its table keeps it.
 pub struct Session {
@@ -38,6 +40,22 @@ pub enum LoginError {
     /// The store refused.
     Store(StoreError),
 }
+
+/// Prints that the id has a session already, or the text of the store's refusal.
+impl fmt::Display for LoginError {
+    ghost use Rattle.session_table.specs.Texts.{login_error_text};
+
+    ghost output = { λ it. Some (login_error_text it) };
+
+    fn fmt<W: fmt::Write>(&self, f: &mut fmt::Formatter<W>) -> fmt::Result {
+        match self {
+            LoginError::IdInUse => write!(f, "the id has a session already"),
+            LoginError::Store(cause) => write!(f, "{cause}"),
+        }
+    }
+}
+
+impl Error for LoginError {}
 
 /// The row of an id's session.
 pub(crate) fn row_of(rows: &Vec<Session>, id: u64) -> Option<usize>

@@ -1,0 +1,19 @@
+-- What the errors of tables of sessions print.
+use Rattle.std.specs.Prelude.{ℕ, List, ◌++◌, codes}
+use Rattle.generational_errors.specs.declared.error.Location.{Location}
+use Rattle.generational_errors.specs.Texts.{location_text, store_error_text}
+use Rattle.session_table.specs.declared.entry.PutError.{PutError}
+use Rattle.session_table.specs.declared.entry.PutError.TheVariants as put
+use Rattle.session_table.specs.declared.session.LoginError.{LoginError}
+use Rattle.session_table.specs.declared.session.LoginError.TheVariants as login
+
+abbrev pub stale_text : Location → List ℕ
+stale_text l = codes "the session is gone of the value that was put at " ++ location_text l
+
+abbrev pub put_error_text : PutError → List ℕ
+put_error_text put.NoSession = codes "the id has no session"
+put_error_text (put.Store cause) = store_error_text cause
+
+abbrev pub login_error_text : LoginError → List ℕ
+login_error_text login.IdInUse = codes "the id has a session already"
+login_error_text (login.Store cause) = store_error_text cause
