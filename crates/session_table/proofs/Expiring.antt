@@ -1,11 +1,10 @@
--- Tables while their old sessions are ended, row by row from the last one on.
-use Rattle.std.proofs.Common.{◌≡◌, ℕ, suc, Bool, true, false, cond, not, Option, None, Some, ◌≤◌, length}
-use Rattle.std.proofs.Common.{inl, inr, refl, sym, ap, subst, ◌∙◌, ⊎_elim, arith}
-use Rattle.std.specs.Prelude.{◌+◌, is_some, filter, slice_get, remove}
-use Rattle.std.proofs.lemmas.Bool.{true≢false, cases_Bool}
-use Rattle.std.proofs.lemmas.List.Edits.{length-remove}
+-- Tables whose old sessions have ended.
+use Rattle.std.proofs.Common.{◌≡◌, ℕ, Bool, true, false, cond, not, Option, None, Some, ◌≤◌, length}
+use Rattle.std.proofs.Common.{refl, sym, ap, ◌∙◌, ⊎_elim, arith}
+use Rattle.std.specs.Prelude.{◌⊎◌, is_some, filter}
+use Rattle.std.proofs.lemmas.Bool.{true≢false}
 use Rattle.std.proofs.lemmas.List.Filters.{length-filter_both}
-use Rattle.std.proofs.lemmas.Option.{none-some, same_Some, slice_get_within}
+use Rattle.std.proofs.lemmas.Option.{none-some}
 use Rattle.generational_core.specs.Boxes.{name_of}
 use Rattle.generational_core.specs.Names.{among}
 use Rattle.generational_core.proofs.maps.Maps.{by_number, key_cases}
@@ -13,82 +12,30 @@ use Rattle.session_table.specs.declared.entry.Entry.{Entry}
 use Rattle.session_table.specs.Entries.{pointer_in}
 use Rattle.session_table.specs.Keeping.{StandsIn}
 use Rattle.session_table.specs.Sessions.{LiveSession, session_in, entries_of, is_young, if_young}
-use Rattle.session_table.specs.Tables.{TableState, shown_in, keeps, has_session, WasPut, IsOrderly}
-use Rattle.session_table.specs.Tables.{Expires, IsExpired}
-use Rattle.session_table.proofs.Lists.{filter_all, filter_removed, removed_behind, removed_old}
-use Rattle.session_table.proofs.Lists.{stands_at, stands_index}
+use Rattle.session_table.specs.Tables.{TableState, shown_in, keeps, has_session, IsOrderly}
 use Rattle.session_table.proofs.Sessions.{session_of, young_filtered}
 
-module _ {T : Type 0} {time : ℕ} {first old : TableState T} {row : ℕ} where
-  -- a young session is left
-  pub expires_young : Expires time first old (row + 1) → (s : LiveSession)
-      → slice_get old.sessions row ≡ Some s → is_young time s ≡ true → Expires time first old row
-  expires_young e s at young = record {
-    young = e.young;
-    were = e.were;
-    asked = λ i x there le. ⊎_elim
-        (λ same. subst (λ y. is_young time y ≡ true)
-        (same_Some s x (sym at ∙ (ap (slice_get old.sessions) (sym same) ∙ there))) young)
-        (λ ne. e.asked i x there (omega (arith, le, ne)))
-        (key_cases by_number i row);
-    left = e.left;
-    put = e.put;
-    ticket = e.ticket;
-    within = omega (arith, e.within);
-  }
+-- an entry is one of a session that was last used before a time
+abbrev pub IsExpired : {T : Type 0} → ℕ → TableState T → Entry T → Type 0
+IsExpired time t e = (s : LiveSession) × StandsIn s t.sessions × (is_young time s ≡ false)
+    × (among s.entries (name_of (pointer_in e)) ≡ true)
 
-  -- an old one ends
-  pub expires_old : {new : TableState T} → Expires time first old (row + 1) → (s : LiveSession)
-      → slice_get old.sessions row ≡ Some s → is_young time s ≡ false
-      → new.sessions ≡ remove old.sessions row
-      → ((e : Entry T) → among s.entries (name_of (pointer_in e)) ≡ false
-      → shown_in new e ≡ shown_in old e)
-      → ((e : Entry T) → WasPut old e → WasPut new e) → new.state.next ≡ old.state.next
-      → Expires time first new row
-  expires_old {new} e s at gone is left put ticket = record {
-    young = ap (filter (is_young time)) is
-        ∙ (filter_removed (is_young time) old.sessions row s at gone ∙ e.young);
-    were = λ x there. e.were x (removed_old old.sessions row x (subst (StandsIn x) is there));
-    asked = λ i x there le. e.asked (suc i) x (removed_behind old.sessions row i x le
-        (ap (λ xs. slice_get xs i) (sym is) ∙ there)) (omega (arith, le));
-    left = λ x. ⊎_elim
-        (λ was. inr (s, e.were s (stands_at old.sessions row s at), gone, was))
-        (λ out. ⊎_elim (λ same. inl (left x out ∙ same)) (λ expired. inr expired) (e.left x))
-        (cases_Bool (among s.entries (name_of (pointer_in x))));
-    put = λ x given. put x (e.put x given);
-    ticket = ticket ∙ e.ticket;
-    within = let n = length-remove old.sessions row (slice_get_within old.sessions row s at) in
-        let m = ap length is in omega (arith, e.within, n, m);
-  }
-
-pub expires_begun : {T : Type 0} (time : ℕ) (old : TableState T) (n : ℕ)
-    → n ≡ length old.sessions → Expires time old old n
-expires_begun time old n is = record {
-  young = refl;
-  were = λ s there. there;
-  asked = λ i s there le.
-      let lt = slice_get_within old.sessions i s there in absurd (omega (arith, lt, le, is));
-  left = λ e. inl refl;
-  put = λ e given. given;
-  ticket = refl;
-  within = omega (arith, is);
-}
+-- the young sessions are left, in their order, and an entry shows what it showed, but for those of old
+-- sessions
+pub record HasExpired {T : Type 0} (time : ℕ) (old new : TableState T) : Type 0 where
+  pub young : new.sessions ≡ filter (is_young time) old.sessions
+  pub left : (e : Entry T) → (shown_in new e ≡ shown_in old e) ⊎ IsExpired time old e
 
 module _ {T : Type 0} {time : ℕ} {old new : TableState T} where
-  module _ {row : ℕ} (e : Expires time old new row) (low : row ≤ 0) where
-    -- in the end the young sessions are left
-    pub expired_sessions : new.sessions ≡ filter (is_young time) old.sessions
-    expired_sessions = sym (filter_all (is_young time) new.sessions (λ x there.
-        let at = stands_index new.sessions x there in e.asked at.0 x at.1 (omega (arith, low)))) ∙ e.young
-
+  module _ (e : HasExpired time old new) where
     pub expired_fewer : length new.sessions ≤ length old.sessions
     expired_fewer =
         let both = length-filter_both (is_young time) (λ s. not (is_young time s)) (λ s. refl) old.sessions in
-        let is = ap length expired_sessions in omega (arith, both, is)
+        let is = ap length e.young in omega (arith, both, is)
 
     pub expired_ids : IsOrderly old → (id : ℕ)
         → session_in new.sessions id ≡ if_young time (session_in old.sessions id)
-    expired_ids was id = ap (λ xs. session_in xs id) expired_sessions
+    expired_ids was id = ap (λ xs. session_in xs id) e.young
         ∙ young_filtered time old.sessions id was.once
 
     -- a young session is that which the id had
@@ -149,7 +96,8 @@ module _ {T : Type 0} {time : ℕ} {old new : TableState T} where
     -- and what a session keeps that is left shows what it showed
     pub expired_kept : IsOrderly old → (id : ℕ) (x : Entry T) → keeps old id x ≡ true
         → has_session new id ≡ true → shown_in new x ≡ shown_in old x
-    expired_kept was id x kept has = ⊎_elim (λ same. same) (λ expired. absurd (lost expired)) (e.left x)
+    expired_kept was id x kept has =
+        ⊎_elim (λ same. same) (λ expired. absurd (lost expired)) (e.left x)
       where
         lost : IsExpired time old x → ⊥
         lost expired =

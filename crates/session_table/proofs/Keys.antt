@@ -10,7 +10,7 @@ use Rattle.session_table.proofs.Lists.{removed_old, stands_at, stands_pushed}
 abbrev pub AreTwo : Key → Key → Type 0
 AreTwo a b = (a.id ≢ b.id) × (a.owner ≢ b.owner)
 
-flip : (a b : Key) → AreTwo a b → AreTwo b a
+pub flip : (a b : Key) → AreTwo a b → AreTwo b a
 flip a b two = (λ e. two.0 (sym e), λ e. two.1 (sym e))
 
 -- those that stand among them are one, or two

@@ -1,5 +1,6 @@
 pub mod Calls
 pub mod Expiring
+pub mod Gathering
 pub mod Keeping
 pub mod Keys
 pub mod Lists

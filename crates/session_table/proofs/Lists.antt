@@ -1,5 +1,5 @@
 -- Lists: where an element stands after a push and a removal, what is found, and what is mapped.
-use Rattle.std.proofs.Common.{◌≡◌, ℕ, zero, suc, ◌≤◌, arith, Bool, true, false, cond, List, [], ◌∷◌, ◌++◌, map}
+use Rattle.std.proofs.Common.{◌≡◌, ℕ, zero, suc, Bool, true, false, cond, List, [], ◌∷◌, ◌++◌, map}
 use Rattle.std.proofs.Common.{length, ltb, Option, None, Some, inl, inr, refl, sym, ap, subst, ◌∙◌, ⊎_elim}
 use Rattle.std.specs.Prelude.{◌⊎◌, slice_get, remove, find, filter, option_map, IfNone}
 use Rattle.std.specs.List.{position_or_len}
@@ -53,25 +53,7 @@ module _ {X : Type 0} where
   stands_index (y ∷ xs) x (inr there) =
       let rest = stands_index xs x there in (suc rest.0, rest.1)
 
-  -- what stands behind a place that was removed stood one place further
-  pub removed_behind : (xs : List X) (i k : ℕ) (x : X) → i ≤ k → slice_get (remove xs i) k ≡ Some x
-      → slice_get xs (suc k) ≡ Some x
-  removed_behind [] zero k x le is = absurd (none-some x is)
-  removed_behind [] (suc i) k x le is = absurd (none-some x is)
-  removed_behind (y ∷ xs) zero k x le is = is
-  removed_behind (y ∷ xs) (suc i) zero x le is = absurd (omega arith)
-  removed_behind (y ∷ xs) (suc i) (suc k) x le is = removed_behind xs i k x (omega arith) is
-
   -- ---- what is found, and what passes
-
-  -- what fails is removed without a trace
-  pub filter_removed : (p : X → Bool) (xs : List X) (i : ℕ) (x : X) → slice_get xs i ≡ Some x
-      → p x ≡ false → filter p (remove xs i) ≡ filter p xs
-  filter_removed p [] i x is fails = absurd (none-some x is)
-  filter_removed p (y ∷ xs) zero x is fails =
-      sym (ap (λ b. cond b (y ∷ filter p xs) (filter p xs)) (ap p (same_Some y x is) ∙ fails))
-  filter_removed p (y ∷ xs) (suc i) x is fails =
-      ap (λ ys. cond (p y) (y ∷ ys) ys) (filter_removed p xs i x is fails)
 
   pub found : (p : X → Bool) (xs : List X) (x : X) → find p xs ≡ Some x
       → StandsIn x xs × (p x ≡ true)

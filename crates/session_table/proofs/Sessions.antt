@@ -46,6 +46,18 @@ session_of (x ∷ xs) s once (inr there) =
     ap (λ b. cond b (Some x) (session_in xs s.id)) (behind x xs once s there)
     ∙ session_of xs s (IsDistinct-tail nat_eq x.id (map (λ y. y.id) xs) once) there
 
+-- and stands in one place
+pub once_index : (xs : List LiveSession) → AreOnce xs → (i j : ℕ) (s : LiveSession)
+    → slice_get xs i ≡ Some s → slice_get xs j ≡ Some s → i ≡ j
+once_index [] once i j s is at = absurd (none-some s is)
+once_index (x ∷ xs) once zero zero s is at = refl
+once_index (x ∷ xs) once zero (suc j) s is at = absurd (true≢false (sym (nat_eq_equiv.refl s.id)
+    ∙ (ap (λ y. nat_eq y.id s.id) (sym (same_Some x s is)) ∙ behind x xs once s (stands_at xs j s at))))
+once_index (x ∷ xs) once (suc i) zero s is at = absurd (true≢false (sym (nat_eq_equiv.refl s.id)
+    ∙ (ap (λ y. nat_eq y.id s.id) (sym (same_Some x s at)) ∙ behind x xs once s (stands_at xs i s is))))
+once_index (x ∷ xs) once (suc i) (suc j) s is at =
+    ap suc (once_index xs (IsDistinct-tail nat_eq x.id (map (λ y. y.id) xs) once) i j s is at)
+
 -- so it is of that of a row
 pub session_at : (xs : List LiveSession) (i : ℕ) (s : LiveSession) (id : ℕ) → AreOnce xs
     → slice_get xs i ≡ Some s → s.id ≡ id → session_in xs id ≡ Some s

@@ -29,9 +29,12 @@ abbrev pub entries_of : Option LiveSession → List Name
 entries_of None = []
 entries_of (Some s) = s.entries
 
--- whether a session was used at a time or after it; the session, where it was
+-- whether a session, and whether a row, was used at a time or after it; the session, where it was
 abbrev pub is_young : ℕ → LiveSession → Bool
 is_young time s = not (nat_lt s.used_at time)
+
+abbrev pub is_young_row : ℕ → Session → Bool
+is_young_row time s = not (nat_lt s.used_at time)
 
 abbrev pub if_young : ℕ → Option LiveSession → Option LiveSession
 if_young time None = None

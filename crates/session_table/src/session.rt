@@ -1,9 +1,10 @@
 //! Sessions, and the rows in which a table keeps them.
 
 ghost use Rattle.std.specs.Prelude.{◌≡◌, None, Some, IfSome, IfNone, find, slice_get};
-ghost use Rattle.std.specs.Prelude.{option_copied};
+ghost use Rattle.std.specs.Prelude.{option_copied, ◌≤◌, length, take, filter};
+ghost use Rattle.std.specs.List.Sorted.{IsPermutation};
 ghost use Rattle.session_table.specs.declared.session.Session.{Session};
-ghost use Rattle.session_table.specs.Sessions.{is_row};
+ghost use Rattle.session_table.specs.Sessions.{is_row, is_young_row};
 
 use generational_core::{Owner, StoreError};
 use std::error::Error;
@@ -56,6 +57,23 @@ impl fmt::Display for LoginError {
 }
 
 impl Error for LoginError {}
+
+/// Brings the rows that were used at a time or after it to the front, in the order in which they
+/// stood. Answers how many they are.
+pub(crate) fn gather(rows: &mut Vec<Session>, before: u64) -> usize
+    ensures within { result ≤ length rows.new.items }
+    ensures young { take result rows.new.items ≡ filter (is_young_row before) rows.old.items }
+    ensures same { IsPermutation rows.old.items rows.new.items }
+{
+    let mut kept = 0;
+    for row in 0..rows.len() {
+        if rows[row].used_at >= before {
+            rows.swap(kept, row);
+            kept += 1;
+        }
+    }
+    kept
+}
 
 /// The row of an id's session.
 pub(crate) fn row_of(rows: &Vec<Session>, id: u64) -> Option<usize>

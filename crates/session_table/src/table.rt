@@ -2,7 +2,8 @@
 
 ghost use Rattle.std.specs.Prelude.{◌≡◌, ◌≢◌, ◌↔◌, ◌⊎◌, ◌<◌, ◌+◌, ◌++◌, ◌∷◌, [], ℕ, true, false, length};
 ghost use Rattle.std.specs.Prelude.{None, Some, Err, is_some, option_map, option_copied, IfOk, OnOk};
-ghost use Rattle.std.specs.Prelude.{IfErr, OnErr, IsErr, IsTrue, IsFalse, filter, remove, slice_get};
+ghost use Rattle.std.specs.Prelude.{IfErr, OnErr, IsErr, IsTrue, IsFalse, filter, remove, slice_get, take, ◌≤◌};
+ghost use Rattle.std.specs.List.Sorted.{IsPermutation};
 ghost use Rattle.std.specs.Prelude.{map as list_map};
 ghost use Rattle.generational_core.specs.Boxes.{name_of};
 ghost use Rattle.generational_core.specs.Conditions.{IsFresh};
@@ -19,10 +20,10 @@ ghost use Rattle.session_table.specs.Entries.{pointer_in, put_at, IsOther};
 ghost use Rattle.session_table.specs.Sessions.{LiveSession, session_in, is_other, is_young, if_young};
 ghost use Rattle.session_table.specs.Sessions.{put_in, touch_in};
 ghost use Rattle.session_table.specs.Tables.{TableState, live_session, shown_in, keeps};
-ghost use Rattle.session_table.specs.Tables.{has_session, WasPut, IsOrderly, Expires};
+ghost use Rattle.session_table.specs.Tables.{has_session, WasPut, IsOrderly};
 
 use crate::entry::{Entry, PutError, PutRefusal, Stale};
-use crate::session::{LoginError, Session, row_of, session_of};
+use crate::session::{LoginError, Session, gather, row_of, session_of};
 use generational_core::{Location, Refusal, Storage, StoreError};
 use std::alloc::Global;
 use std::marker::{Model, PhantomData};
@@ -283,8 +284,8 @@ impl<T, S: Storage<T>> SessionTable<T, S> {
     /// Ends every session that was last used before a time, and all that those keep. Every other
     /// session is as it was, and what it keeps shows what it showed. Answers how many ended.
     ///
-    /// Never refused, as `logout`. Takes no memory. O(n) for n sessions, and for each that ends those
-    /// behind it move, and its entries end.
+    /// Never refused, as `logout`. Takes no memory. O(n + k) for n sessions and k entries of those that
+    /// end.
     pub fn expire(&mut self, before: u64) -> usize
         ensures sessions { self.new.sessions ≡ filter (is_young before) self.old.sessions }
         ensures count { result + length self.new.sessions ≡ length self.old.sessions }
@@ -298,24 +299,26 @@ impl<T, S: Storage<T>> SessionTable<T, S> {
         ensures put { (e : Entry T) → WasPut self.old e → WasPut self.new e }
         ensures ticket { self.new.state.next ≡ self.old.state.next }
     {
-        let count = self.rows.len();
-        let mut row = count;
-        while row > 0 {
-            row -= 1;
-            self.expire_row(row, before);
+        let count = self.len();
+        let kept = self.gather_young(before);
+        'shed: while self.len() > kept {
+            self.end_row(self.len() - 1);
         }
-        count - self.rows.len()
+        // The sessions are orderly now, as at any time.
+        let _ = self.sessions();
+        count - kept
     }
 
-    // Ends the session of a row where it was last used before a time. The rows behind it were asked.
-    fn expire_row(&mut self, row: usize, before: u64)
-        requires within { row < length self.old.sessions }
-        ensures { (first : TableState T) → Expires before first self.old (row + 1) →
-            Expires before first self.new row }
+    // Brings the sessions that were used at a time or after it to the front, in their order, and
+    // answers how many they are.
+    fn gather_young(&mut self, before: u64) -> usize
+        ensures within { result ≤ length self.new.sessions }
+        ensures young { take result self.new.sessions ≡ filter (is_young before) self.old.sessions }
+        ensures same { IsPermutation self.old.sessions self.new.sessions }
+        ensures state { self.new.state ≡ self.old.state }
+        ensures orderly { IsOrderly self.old }
     {
-        if self.rows[row].used_at < before {
-            self.end_row(row);
-        }
+        gather(&mut self.rows, before)
     }
 
     /// Ends all sessions and all that they keep, and hands back the store, which has nothing then: no

@@ -1,8 +1,9 @@
-use Rattle.session_table.specs.Tables.{Expires}
+use Rattle.std.proofs.Common.{length}
+use Rattle.session_table.proofs.Gathering.{Sheds}
 use Rattle.session_table.proofs.table.SessionTable.expire.Given as goal
 
-abbrev pub invariant-loop-row : goal.invariant-loop-row
-invariant-loop-row g l = Expires l.before l.initial.self l.self l.row
+abbrev pub invariant-shed : goal.invariant-shed
+invariant-shed g l = Sheds l.before l.kept l.fn.self l.self
 
-abbrev pub decreases-loop-row : goal.decreases-loop-row
-decreases-loop-row g l = l.row
+abbrev pub decreases-shed : goal.decreases-shed
+decreases-shed g l = length l.self.sessions
