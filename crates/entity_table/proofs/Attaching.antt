@@ -154,6 +154,7 @@ module _ {T C : Type 0} where
   fresh_attached number start next = record {
     unborrowed = quiet_fresh number start next;
     plain = fresh_plain number start next;
+    placed = λ slot p is. absurd (none-some p is);
     seen = λ slot p is. absurd (none-some p is);
     apart = λ i j p q ne is. absurd (none-some p is);
     listed = λ b seen. absurd (true≢false (sym seen ∙ ap is_some (fresh_sees number start next b)));
@@ -166,6 +167,7 @@ module _ {T C : Type 0} where
   attached_more k more same = record {
     unborrowed = k.unborrowed;
     plain = k.plain;
+    placed = λ slot p is. k.placed slot p (sym (same slot) ∙ is);
     seen = λ slot p is. k.seen slot p (sym (same slot) ∙ is);
     apart = λ i j p q ne is at. k.apart i j p q ne (sym (same i) ∙ is) (sym (same j) ∙ at);
     listed = λ b seen. let it = k.listed b seen in (it.0, it.1, same it.0 ∙ it.2, it.3);
@@ -183,13 +185,18 @@ module _ {T C : Type 0} where
         (λ same. k.apart j slot q p ne at is (sym (reach_apart S k.plain (pointer_of p.raw)
         (pointer_of q.raw) to.0 to.1 (sym same)))) tt
 
-    pub attached_set : (slot : ℕ) (p : Part T C) (e : Entity T) (v old : C)
+    pub attached_set : (slot : ℕ) (p : Part T C) (e : Entity T) (v old : C) → slot ≡ slot_in e
         → part_at parts slot ≡ Some p → Meets S (SetValue (pointer_of p.raw) v) (Old old) R
         → AreAttached R (slice_set parts slot (Some (record { entity = e; raw = p.raw })))
-    attached_set slot p e v old is m =
+    attached_set slot p e v old own is m =
         let answer : Answer C = Old old in record {
           unborrowed = quiet_stays (SetValue (pointer_of p.raw) v) answer m tt k.unborrowed;
           plain = stays_plain (SetValue (pointer_of p.raw) v) answer m tt k.plain;
+          placed = λ i q at. ⊎_elim
+              (λ here. sym (ap (λ (x : Part T C). slot_in x.entity)
+              (same_Some (record { entity = e; raw = p.raw }) q here.1)) ∙ (sym own ∙ sym here.0))
+              (λ other. k.placed i q other.1)
+              (set_cases parts slot i _ q (part_within parts slot p is) at);
           seen = λ i q at. let was = old_part i q at in
               set_seen s k.unborrowed (pointer_of p.raw) v old m (pointer_of q.raw)
               ∙ subst (λ x. is_some (value_in S (pointer_of x)) ≡ true) was.2 (k.seen i was.0 was.1);
@@ -239,12 +246,17 @@ module _ {T C : Type 0} where
             made_apart None v l (Ok a) s m (pointer_of q.raw) saw.0 saw.1
 
     pub attached_new : (slot : ℕ) (e : Entity T) (v : C) (l : Location) (a : GenerationalBox C)
-        → slot < length parts → part_at parts slot ≡ None
+        → slot ≡ slot_in e → slot < length parts → part_at parts slot ≡ None
         → Meets S (Make None v l) (Made (pointer_of a)) R
         → AreAttached R (slice_set parts slot (Some (record { entity = e; raw = a })))
-    attached_new slot e v l a lt none m = record {
+    attached_new slot e v l a own lt none m = record {
       unborrowed = quiet_stays (Make None v l) (Made (pointer_of a)) m tt k.unborrowed;
       plain = stays_plain (Make None v l) (Made (pointer_of a)) m tt k.plain;
+      placed = λ i q at. ⊎_elim
+          (λ here. sym (ap (λ (x : Part T C). slot_in x.entity) (same_Some part q here.1))
+          ∙ (sym own ∙ sym here.0))
+          (λ old. k.placed i q old.1)
+          (set_cases parts slot i (Some part) q lt at);
       seen = λ i q at. ⊎_elim
           (λ here. subst (λ (x : Part T C). is_some (value_in R (pointer_of x.raw)) ≡ true)
           (same_Some part q here.1) (ap is_some (made None v l (Ok a) m)))
@@ -298,6 +310,7 @@ module _ {T C : Type 0} where
     attached_gone slot p is m = record {
       unborrowed = quiet_stays (End (pointer_of p.raw)) Done m tt k.unborrowed;
       plain = stays_plain (End (pointer_of p.raw)) Done m tt k.plain;
+      placed = λ i q at. k.placed i q (left i q at).1;
       seen = λ i q at. let old = left i q at in
           ap is_some (gone_beside slot p is m i q old.0 old.1) ∙ k.seen i q old.1;
       apart = λ i j q r ne at there. k.apart i j q r ne (left i q at).1 (left j r there).1;

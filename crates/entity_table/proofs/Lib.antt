@@ -1,4 +1,6 @@
 pub mod Attaching
 pub mod Keeping
+pub mod Listing
 pub mod Removals
 pub mod Sifting
+pub mod Walking

@@ -4,3 +4,4 @@ pub mod Keeping
 pub mod Rows
 pub mod Tables
 pub mod Texts
+pub mod Walking

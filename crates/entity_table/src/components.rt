@@ -1,14 +1,16 @@
 //! Tables of components, beside a table of entities.
 
 ghost use Rattle.std.specs.Prelude.{◌≡◌, ◌≢◌, ◌<◌, length, None, Some, is_some, option_copied, IsTrue, ℕ};
-ghost use Rattle.std.specs.Prelude.{OnOk, IfErr, OnErr};
+ghost use Rattle.std.specs.Prelude.{OnOk, IfErr, OnErr, slice_get, map as list_map};
+ghost use Rattle.std.specs.List.Sorted.{IsStrictlyIncreasing};
 ghost use Rattle.generational_core.specs.Conditions.{IsFresh};
 ghost use Rattle.generational_errors.specs.declared.error.StoreError.TheVariants.{OutOfMemory};
 ghost use Rattle.entity_table.specs.declared.entity.Entity.{Entity};
-ghost use Rattle.entity_table.specs.Entities.{slot_in, IsOther};
+ghost use Rattle.entity_table.specs.Entities.{slot_in, IsOther, IsSame};
 ghost use Rattle.entity_table.specs.Components.{part_at, part_of, component_in, AreListed};
 
 use crate::entity::Entity;
+use crate::walk::ComponentIter;
 use generational_core::{GenerationalBox, Location, Refusal, Storage, StoreError};
 use std::alloc::{AllocError, Global};
 use std::marker::Model;
@@ -124,6 +126,19 @@ impl<T, C, S: Storage<C>> ComponentTable<T, C, S> {
     {
         let part = part_for(&self.parts, entity)?;
         part.raw.peek(&self.store)
+    }
+
+    /// The components with their entities, in the order of the entities' slots, each once. The table is
+    /// lent meanwhile. Takes no memory, and is O(1); all steps together are O(n) for n slots.
+    pub fn iter(&self) -> ComponentIter<'_, T, C, S>
+        ensures shown { (i : ℕ) (e : Entity T) (c : C) → slice_get result i ≡ Some (e, c) →
+            component_in self.now e ≡ Some c }
+        ensures every { (e : Entity T) (c : C) → component_in self.now e ≡ Some c →
+            (i : ℕ) × (f : Entity T) × (slice_get result i ≡ Some (f, c)) × IsSame f e }
+        ensures ordered { IsStrictlyIncreasing (list_map (λ p. slot_in p.0) result) }
+    {
+        let parts = &self.parts;
+        ComponentIter::new(&self.store, parts.as_slice())
     }
 
     /// Ends an entity's component: it goes from the store too. Answers whether it had one. Every other

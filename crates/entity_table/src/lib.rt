@@ -9,9 +9,13 @@
 
 mod components;
 mod entity;
+mod laws;
 mod rows;
 mod table;
+mod walk;
 
 pub use crate::components::ComponentTable;
 pub use crate::entity::{Entity, Stale};
+pub use crate::laws::equal_entities_show_the_same;
 pub use crate::table::EntityTable;
+pub use crate::walk::{ComponentIter, Iter};

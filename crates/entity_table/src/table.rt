@@ -2,6 +2,7 @@
 
 ghost use Rattle.std.specs.Prelude.{◌≡◌, ◌↔◌, ◌⊎◌, ◌<◌, ◌+◌, ◌-◌, ◌++◌, ◌∷◌, [], ℕ, true, length, None, Some, Err, is_some};
 ghost use Rattle.std.specs.Prelude.{IfOk, OnOk, IfErr, OnErr, IsErr, swap_remove, slice_get};
+ghost use Rattle.std.specs.Prelude.{map as list_map};
 ghost use Rattle.std.specs.Fn.{FnReturnsAt};
 ghost use Rattle.generational_core.specs.Conditions.{IsFresh};
 ghost use Rattle.generational_errors.specs.declared.error.StoreError.TheVariants.{OutOfMemory};
@@ -12,6 +13,7 @@ ghost use Rattle.entity_table.specs.Tables.{IsSifted, Sifts};
 
 use crate::entity::{Entity, Stale};
 use crate::rows::{entity_at, remove_row, reserve_row};
+use crate::walk::Iter;
 use generational_core::{GenerationalBox, Location, Refusal, Storage, StoreError};
 use std::alloc::Global;
 use std::marker::Model;
@@ -148,6 +150,18 @@ impl<T, S: Storage<T>> EntityTable<T, S> {
         }
         entity.raw.set(&mut self.store, element);
         Ok(())
+    }
+
+    /// The live entities with their elements, each once, in the order of the rows. The table is lent
+    /// meanwhile. Takes no memory, and is O(1), as each of its steps.
+    pub fn iter(&self) -> Iter<'_, T, S>
+        ensures rows { list_map (λ p. p.0) result ≡ self.now.rows }
+        ensures shown { (row : ℕ) (e : Entity T) (v : T) →
+            slice_get result row ≡ Some (e, v) → element_in self.now e ≡ Some v }
+        ensures dense { IsDense self.now }
+    {
+        let rows = &self.rows;
+        Iter::new(&self.store, rows.as_slice())
     }
 
     /// An entity's element. The table is lent meanwhile.

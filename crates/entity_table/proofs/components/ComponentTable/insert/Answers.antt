@@ -11,7 +11,7 @@ set-requires g c = seen_free _ (g.met.S.AnyStorage.sound _) c.self.invariant.unb
 
 pub invariant_of-self : goal.invariant_of-self
 invariant_of-self g c = attached_set (g.met.S.AnyStorage.sound _) c.self.invariant _ c.in-Some.part
-    c.args.entity _ _ (sym c.part_in.ensures ∙ c.in-Some.is) c.set.ensures.1
+    c.args.entity _ _ c.raw_ptr-slot.ensures (sym c.part_in.ensures ∙ c.in-Some.is) c.set.ensures.1
 
 pub returns-in-Some-clause-shown : goal.returns-in-Some-clause-shown
 returns-in-Some-clause-shown g c =
@@ -39,7 +39,7 @@ returns-in_err-raw-clause-refused g c =
 pub invariant_of-self-2 : goal.invariant_of-self-2
 invariant_of-self-2 g c = attached_new (g.met.S.AnyStorage.sound _)
     (attached_more c.self.invariant _ c.reserve_part.ensures.same) _ c.args.entity _ _
-    c.in_ok-raw.raw (c.reserve_part.ensures.within (grind arith))
+    c.in_ok-raw.raw c.raw_ptr-slot.ensures (c.reserve_part.ensures.within (grind arith))
     (c.reserve_part.ensures.same _ ∙ (sym c.part_in.ensures ∙ c.in_default.is))
     c.in_ok-raw.ensures.step
 
@@ -58,7 +58,7 @@ returns-clause-others g c e other =
 
 pub returns-in-Some-clause-listed : goal.returns-in-Some-clause-listed
 returns-in-Some-clause-listed g c = (attached_set (g.met.S.AnyStorage.sound _) c.self.invariant _
-    c.in-Some.part c.args.entity _ _ (sym c.part_in.ensures ∙ c.in-Some.is) c.set.ensures.1).listed
+    c.in-Some.part c.args.entity _ _ c.raw_ptr-slot.ensures (sym c.part_in.ensures ∙ c.in-Some.is) c.set.ensures.1).listed
 
 pub returns-then-not-reserve_part-clause-listed : goal.returns-then-not-reserve_part-clause-listed
 returns-then-not-reserve_part-clause-listed g c =
@@ -67,6 +67,6 @@ returns-then-not-reserve_part-clause-listed g c =
 pub returns-clause-listed : goal.returns-clause-listed
 returns-clause-listed g c = (attached_new (g.met.S.AnyStorage.sound _)
     (attached_more c.self.invariant _ c.reserve_part.ensures.same) _ c.args.entity _ _
-    c.in_ok-raw.raw (c.reserve_part.ensures.within (grind arith))
+    c.in_ok-raw.raw c.raw_ptr-slot.ensures (c.reserve_part.ensures.within (grind arith))
     (c.reserve_part.ensures.same _ ∙ (sym c.part_in.ensures ∙ c.in_default.is))
     c.in_ok-raw.ensures.step).listed

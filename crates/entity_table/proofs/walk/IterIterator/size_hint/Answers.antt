@@ -1,0 +1,14 @@
+use Rattle.std.proofs.Common.{ap, arith, length}
+use Rattle.entity_table.specs.Entities.{pointer_in}
+use Rattle.entity_table.proofs.Walking.{shown_length}
+use Rattle.entity_table.proofs.walk.IterIterator.size_hint.Goals as goal
+
+pub returns-clause-lower : goal.returns-clause-lower
+returns-clause-lower g c _ =
+    let all = shown_length (λ e. e) pointer_in _ _ c.self.invariant in
+    let is = ap length c.self.view_is in omega (arith, all, is)
+
+pub returns-clause-upper : goal.returns-clause-upper
+returns-clause-upper g c =
+    let all = shown_length (λ e. e) pointer_in _ _ c.self.invariant in
+    let is = ap length c.self.view_is in (tt, omega (arith, all, is))

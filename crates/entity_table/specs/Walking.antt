@@ -1,0 +1,21 @@
+-- What a walk over rows yields, of which each has a key and the box of a value.
+use Rattle.std.specs.Prelude.{◌≡◌, List, [], ◌∷◌, Option, None, Some, true, is_some}
+use Rattle.generational_core.specs.Seeing.{value_in}
+use Rattle.generational_core.specs.State.{State}
+use Rattle.generational_core.specs.declared.boxes.GenerationalPointer.{GenerationalPointer}
+
+-- a key with its value, where there is one, before others
+abbrev pub shown_first : {E V : Type 0} → E → Option V → List (E × V) → List (E × V)
+shown_first e None rest = rest
+shown_first e (Some v) rest = (e, v) ∷ rest
+
+module _ {E V R : Type 0} (key : R → E) (box : R → GenerationalPointer) (S : State V) where
+  -- the keys of rows with the values that their boxes see, in order
+  abbrev pub shown_rows : List R → List (E × V)
+  shown_rows [] = []
+  shown_rows (r ∷ rows) = shown_first (key r) (value_in S (box r)) (shown_rows rows)
+
+-- the box of each row sees a value
+abbrev pub AreSeen : {V R : Type 0} → (R → GenerationalPointer) → State V → List R → Type 0
+AreSeen box S [] = Unit {0}
+AreSeen box S (r ∷ rows) = (is_some (value_in S (box r)) ≡ true) × AreSeen box S rows
