@@ -85,6 +85,19 @@ module _ {T : Type 0} where
         place = ap (λ id. slice_get places id.slot) (sym at.3) ∙ k.placed at.0 at.1 at.2;
       }
 
+  -- so two live entities of one slot are one
+  pub one_slot : {S : State T} {rows : List (Entity T)} {places : List ℕ} → IsKept S rows places
+      → (a b : Entity T) → IsSeen S (pointer_in a) → IsSeen S (pointer_in b) → slot_in a ≡ slot_in b
+      → IsSame a b
+  one_slot {rows = rows} {places = places} k a b seen_a seen_b slot =
+      let at = stands k a seen_a in
+      let by = stands k b seen_b in
+      let row = same_Some at.row by.row (sym at.place
+      ∙ (ap (slice_get places) slot ∙ by.place)) in
+      let one = same_Some at.entity by.entity (sym at.there
+      ∙ (ap (slice_get rows) row ∙ by.there)) in
+      sym at.same ∙ (ap (λ e. (pointer_in e).id) one ∙ by.same)
+
   -- so that is the row which is read at the slot, and where the entity stands
   pub row_is : {rows : List (Entity T)} {places : List ℕ} {a : Entity T} (at : Stands rows places a)
       (slot row : ℕ) → slot ≡ slot_in a → row ≡ get_or places slot row → row ≡ at.row

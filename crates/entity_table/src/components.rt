@@ -1,19 +1,73 @@
 //! Tables of components, beside a table of entities.
 
 ghost use Rattle.std.specs.Prelude.{◌≡◌, ◌≢◌, ◌<◌, length, None, Some, is_some, option_copied, IsTrue, ℕ};
-ghost use Rattle.std.specs.Prelude.{OnOk, IfErr, OnErr, slice_get, map as list_map};
+ghost use Rattle.std.specs.Prelude.{OnOk, IfErr, OnErr, IsErrAnd, true, slice_get, map as list_map};
 ghost use Rattle.std.specs.List.Sorted.{IsStrictlyIncreasing};
 ghost use Rattle.generational_core.specs.Conditions.{IsFresh};
 ghost use Rattle.generational_errors.specs.declared.error.StoreError.TheVariants.{OutOfMemory};
 ghost use Rattle.entity_table.specs.declared.entity.Entity.{Entity};
-ghost use Rattle.entity_table.specs.Entities.{slot_in, IsOther, IsSame};
+ghost use Rattle.entity_table.specs.declared.components.AttachError.TheVariants as attach;
+ghost use Rattle.entity_table.specs.Entities.{slot_in, spawned_at, IsOther, IsSame};
+ghost use Rattle.entity_table.specs.Tables.{element_in};
 ghost use Rattle.entity_table.specs.Components.{part_at, part_of, component_in, AreListed};
 
-use crate::entity::Entity;
+use crate::entity::{Entity, Stale};
+use crate::table::EntityTable;
 use crate::walk::ComponentIter;
 use generational_core::{GenerationalBox, Location, Refusal, Storage, StoreError};
 use std::alloc::{AllocError, Global};
+use std::error::Error;
+use std::fmt;
 use std::marker::Model;
+
+/// Why a component isn't given.
+#[derive(Clone, Copy, Debug, PartialEq, Eq)]
+pub enum AttachError {
+    /// The entity is gone.
+    Stale(Stale),
+    /// The store refused.
+    Store(StoreError),
+}
+
+/// Prints the text of what it holds.
+impl fmt::Display for AttachError {
+    ghost use Rattle.std.specs.Prelude.{Some};
+    ghost use Rattle.entity_table.specs.Texts.{attach_error_text};
+
+    ghost output = { λ it. Some (attach_error_text it) };
+
+    fn fmt<W: fmt::Write>(&self, f: &mut fmt::Formatter<W>) -> fmt::Result {
+        match self {
+            AttachError::Stale(stale) => write!(f, "{stale}"),
+            AttachError::Store(cause) => write!(f, "{cause}"),
+        }
+    }
+}
+
+impl Error for AttachError {}
+
+/// A component that wasn't given, handed back, and why.
+#[derive(Debug, Drop)]
+pub struct AttachRefusal<C> {
+    /// The component that was handed in.
+    pub value: C,
+    /// Why it wasn't given.
+    pub cause: AttachError,
+}
+
+/// Prints the text of the cause.
+impl<C> fmt::Display for AttachRefusal<C> {
+    ghost use Rattle.std.specs.Prelude.{Some};
+    ghost use Rattle.entity_table.specs.Texts.{attach_error_text};
+
+    ghost output = { λ it. Some (attach_error_text it.cause) };
+
+    fn fmt<W: fmt::Write>(&self, f: &mut fmt::Formatter<W>) -> fmt::Result {
+        write!(f, "{}", self.cause)
+    }
+}
+
+impl<C: fmt::Debug + Drop> Error for AttachRefusal<C> {}
 
 /// An entity's component.
 pub(crate) struct Part<T, C> {
@@ -76,7 +130,8 @@ impl<T, C, S: Storage<C>> ComponentTable<T, C, S> {
     }
 
     /// Gives an entity a component, in the place of the one that its slot has, which goes. Every entity
-    /// of another slot keeps its own; one that had this slot before loses its.
+    /// of another slot keeps its own; one that had this slot before loses its, and so does one that has
+    /// it now where this entity is gone: `attach` asks whether it is live.
     ///
     /// Refused by `OutOfMemory` alone, where the slot has no component yet: the component comes back,
     /// and nothing changes. O(1), but for finding room, and for letting the old one go.
@@ -117,6 +172,57 @@ impl<T, C, S: Storage<C>> ComponentTable<T, C, S> {
         let raw = GenerationalBox::leak(&mut self.store, component, here)?;
         self.parts[slot] = Some(Part { entity, raw });
         Ok(())
+    }
+
+    /// Gives a live entity of a table a component, in the place of the one that it has, which goes.
+    /// Every other live entity of that table keeps its own, and so does every entity of another slot;
+    /// one that had this slot before loses its.
+    ///
+    /// Refused, in this order: `Stale`, where the entity is gone, or is another table's; `Store` of
+    /// `OutOfMemory`, where the slot has no component yet. The component comes back then, and nothing
+    /// changes. O(1), but for finding room, and for letting the old one go.
+    pub fn attach<E: Storage<T>>(
+        &mut self,
+        table: &EntityTable<T, E>,
+        entity: Entity<T>,
+        component: C,
+        here: Location,
+    ) -> Result<(), AttachRefusal<C>>
+    where
+        C: Drop,
+        ensures shown { OnOk result (component_in self.new entity ≡ Some component) }
+        ensures kept { (e : Entity T) → is_some (element_in table.now e) ≡ true →
+            IsOther entity e → component_in self.new e ≡ component_in self.old e }
+        ensures others { (e : Entity T) → slot_in entity ≢ slot_in e →
+            component_in self.new e ≡ component_in self.old e }
+        ensures lost { OnOk result ((e : Entity T) → slot_in entity ≡ slot_in e →
+            IsOther entity e → component_in self.new e ≡ None) }
+        ensures stale { element_in table.now entity ≡ None → IsErrAnd result (λ refusal.
+            refusal.cause ≡ attach.Stale (record { spawned_at = spawned_at entity })) }
+        ensures short { is_some (element_in table.now entity) ≡ true → IfErr result (λ refusal.
+            (refusal.cause ≡ attach.Store OutOfMemory)
+            × (part_at self.old.parts (slot_in entity) ≡ None)) }
+        ensures refused { OnErr result ((self.new.state ≡ self.old.state)
+            × ((e : Entity T) → component_in self.new e ≡ component_in self.old e)) }
+        ensures back { IfErr result (λ refusal. refusal.value ≡ component) }
+        ensures listed { OnOk result (AreListed self.new.state self.new.parts) }
+    {
+        if !table.has_slot(entity) {
+            let stale = Stale {
+                spawned_at: entity.spawned_at(),
+            };
+            return Err(AttachRefusal {
+                value: component,
+                cause: AttachError::Stale(stale),
+            });
+        }
+        match self.insert(entity, component, here) {
+            Ok(()) => Ok(()),
+            Err(Refusal { value, cause }) => Err(AttachRefusal {
+                value,
+                cause: AttachError::Store(cause),
+            }),
+        }
     }
 
     /// An entity's component; None where it has none. The table is lent meanwhile. Takes no memory,

@@ -14,7 +14,7 @@ mod rows;
 mod table;
 mod walk;
 
-pub use crate::components::ComponentTable;
+pub use crate::components::{AttachError, AttachRefusal, ComponentTable};
 pub use crate::entity::{Entity, Stale};
 pub use crate::laws::equal_entities_show_the_same;
 pub use crate::table::EntityTable;

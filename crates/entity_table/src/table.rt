@@ -1,13 +1,13 @@
 //! Tables of entities.
 
 ghost use Rattle.std.specs.Prelude.{◌≡◌, ◌↔◌, ◌⊎◌, ◌<◌, ◌+◌, ◌-◌, ◌++◌, ◌∷◌, [], ℕ, true, length, None, Some, Err, is_some};
-ghost use Rattle.std.specs.Prelude.{IfOk, OnOk, IfErr, OnErr, IsErr, swap_remove, slice_get};
+ghost use Rattle.std.specs.Prelude.{IfOk, OnOk, IfErr, OnErr, IsErr, IsTrue, swap_remove, slice_get};
 ghost use Rattle.std.specs.Prelude.{map as list_map};
 ghost use Rattle.std.specs.Fn.{FnReturnsAt};
 ghost use Rattle.generational_core.specs.Conditions.{IsFresh};
 ghost use Rattle.generational_errors.specs.declared.error.StoreError.TheVariants.{OutOfMemory};
 ghost use Rattle.entity_table.specs.declared.entity.Entity.{Entity};
-ghost use Rattle.entity_table.specs.Entities.{spawned_at, IsOther, IsSame};
+ghost use Rattle.entity_table.specs.Entities.{spawned_at, slot_in, IsOther, IsSame};
 ghost use Rattle.entity_table.specs.Tables.{TableState, element_in, WasSpawned, IsDense};
 ghost use Rattle.entity_table.specs.Tables.{IsSifted, Sifts};
 
@@ -184,6 +184,15 @@ impl<T, S: Storage<T>> EntityTable<T, S> {
     /// memory, and is O(1).
     pub fn is_alive(&self, entity: Entity<T>) -> bool
         ensures { result ≡ is_some (element_in self.now entity) }
+    {
+        entity.raw.can_read(&self.store)
+    }
+
+    // Whether an entity is live. No other live entity has its slot then.
+    pub(crate) fn has_slot(&self, entity: Entity<T>) -> bool
+        ensures live { result ≡ is_some (element_in self.now entity) }
+        ensures alone { IsTrue result → (e : Entity T) →
+            is_some (element_in self.now e) ≡ true → slot_in entity ≡ slot_in e → IsSame entity e }
     {
         entity.raw.can_read(&self.store)
     }
