@@ -5,4 +5,5 @@ unfoldable pub use Common.*
 unfoldable pub use lists.TableChanges.*
 unfoldable pub use states.Entries.*
 unfoldable pub use states.Indexes.*
+unfoldable pub use states.Outcomes.*
 unfoldable pub use states.SlotWrites.*

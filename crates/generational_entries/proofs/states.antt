@@ -1,3 +1,4 @@
 pub mod Entries
 pub mod Indexes
+pub mod Outcomes
 pub mod SlotWrites

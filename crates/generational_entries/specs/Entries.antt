@@ -165,11 +165,11 @@ pub record AreIndexed {T : Type 0} (t : Table) (es : List (StorageEntry T)) : Ty
 
 -- what it takes to list the noted borrow
 pub record IsListable {T : Type 0} (r : LastBorrow) (t : Table) (es : List (StorageEntry T)) : Type 0
-    where
-  pub indexed : AreIndexed t es
-  pub noted : AreNoted r t.lists es
-  pub room : length es ≤ t.rooms
-  pub small : length es < no_index
+  where
+    pub indexed : AreIndexed t es
+    pub noted : AreNoted r t.lists es
+    pub room : length es ≤ t.rooms
+    pub small : length es < no_index
 
 -- the noted borrow is listed, and contracts see no change
 pub record IsListed {T : Type 0} (r r' : LastBorrow) (t t' : Table)

@@ -4,7 +4,7 @@
 ghost use Rattle.std.specs.Prelude.{◌≡◌, ◌≢◌, ◌+◌, ◌-◌, ◌<◌, ◌≤◌, ◌∷◌, ◌++◌, ◌↔◌, [], true, false};
 ghost use Rattle.std.specs.Prelude.{length, slice_get, slice_set, Some, Err, IsTrue, IfSome, IfOk};
 ghost use Rattle.std.specs.Prelude.{IfErr, OnOk, OnErr, is_some, is_none, is_ok, option_copied};
-ghost use Rattle.std.specs.Prelude.{option_map, vec_capacity};
+ghost use Rattle.std.specs.Prelude.{max, option_map, vec_capacity};
 ghost use Rattle.generational_core.specs.Answers.{value_of};
 ghost use Rattle.generational_core.specs.Borrowing.{leads_to, read_refusal, write_refusal};
 ghost use Rattle.generational_core.specs.Borrowing.BorrowRefusal.{BeingWritten};
@@ -393,6 +393,8 @@ impl<T: Drop> Entries<T> {
         ensures slots { self.new.slots ≡ self.old.slots }
         ensures rooms { self.old.rooms ≤ self.new.rooms }
         ensures ok { OnOk result (room ≤ self.new.rooms) }
+        ensures most { self.new.rooms ≤ max self.old.rooms room }
+        ensures err { OnErr result (self.new.rooms ≡ self.old.rooms) }
         ensures cause { IfErr result (λ error. error ≡ OutOfMemory) }
     {
         if room <= self.room {
@@ -422,15 +424,12 @@ impl<T: Drop> Entries<T> {
         ensures err { OnErr result (self.new.rooms ≡ self.old.rooms) }
         ensures cause { IfErr result (λ error. error ≡ OutOfMemory) }
     {
-        match self.reserve_all(room) {
+        match self.reserve(room) {
             Ok(()) => Ok(()),
-            Err(cause) => {
-                self.give_back_room();
-                match halfway(self.room, room) {
-                    Some(less) => self.grow_within(less),
-                    None => Err(cause),
-                }
-            }
+            Err(cause) => match halfway(self.room, room) {
+                Some(less) => self.grow_within(less),
+                None => Err(cause),
+            },
         }
     }
 
@@ -510,9 +509,7 @@ impl<T: Drop> Entries<T> {
             (λ e. record e { kept = without_reader_in ticket e.kept }) }
         ensures rooms { self.new.rooms ≡ self.old.rooms }
     {
-        if self.last.is_reader_at(slot, ticket)
-            && self.entries[slot].content.is_unread()
-        {
+        if self.last.is_reader_at(slot, ticket) && self.entries[slot].content.is_unread() {
             self.last.noted = Noted::Nobody;
             return true;
         }

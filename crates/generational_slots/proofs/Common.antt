@@ -51,8 +51,7 @@ pub use specs.Slots.{free, is_free, is_retired, last_generation, last_name, reti
 pub use specs.State.{content_at, HasTargets, is_named, State}
 pub use specs.StepCalls.{is_hindered, may_set, tells_of_borrow}
 pub use specs.declared.{boxes.GenerationalPointer.GenerationalPointer, rows.BaseRow.BaseRow}
-pub use Rattle.generational_entries.proofs.states.Entries.{err_from, ok_then}
-pub use Rattle.generational_entries.proofs.states.Entries.{readable, unrefused}
+pub use Rattle.generational_entries.proofs.states.Outcomes.{err_from, ok_then, readable, unrefused}
 pub use Rattle.generational_entries.specs.Entries.{EntryList, IsUnborrowed, kept_data, target_of}
 pub use Entry.{cell_at, cell_in, cell_of, change_entry, change_entry_if, content_in, Entry}
 pub use Entry.{FoundBorrowed, has_no_borrow, is_live, is_unborrowed_value, Kept, kind_in, less_read}

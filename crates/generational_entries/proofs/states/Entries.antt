@@ -1,23 +1,23 @@
 -- The slots of a store with the table of their borrows and the noted one, as methods find them.
 use Rattle.generational_entries.proofs.Common
-use Common.{AreIndexed, AreNoted, AreRoomy, Borrow, BorrowMutError, Content, Empty, Entry}
-use Common.{EntryDetails, EntryList, Err, FoundBorrowed, FoundReaders, GenerationalBoxId}
-use Common.{HasWriter, HasWriterAt, Here, IfSome, IsAlone, IsListable, IsListed, IsNoted}
-use Common.{IsReadable, IsUnborrowed, IsUsed, IsWritten, Kept, Kind, LastBorrow, Lent, List, Live}
-use Common.{Location, Name, None, OnErr, OnOk, Option, Refers, Refused, Releases, Result, Some}
-use Common.{StorageEntry, StorageEntryData, Table, [], and_parts, ap, arith, borrows_of}
-use Common.{cases_Bool, cases_eq, cell_in, cell_of, change_entry, cleared, cond, content_in}
-use Common.{content_of, content_rows, entries_from, entries_of, entry_of, entry_with, eq-eqb}
-use Common.{eqb-true, false, get_or, get_or-eq_default, has_no_borrow, has_reader, has_writer}
-use Common.{index_in, index_of, inl, inr, is_lent, is_none, is_noted, is_noted_at, is_reader}
-use Common.{is_some, is_unborrowed_data, is_unborrowed_value, is_writer, kept_data, kind_in}
-use Common.{kind_of, lead_of, leads_to, length, length-set, lent_kept, list_any, list_at}
-use Common.{location_of, may_note, nat_eq, nat_tests, ne_eqb, no_index, noted_at, read_refusal}
-use Common.{referring, refl, set-own, set_written, slice_get, slice_get_cases, slice_get_past}
-use Common.{slice_get_read, slice_get_within, slice_set, subst, suc, sym, target_in, target_of}
-use Common.{true, true≢false, unread_in, value_for, value_of, without_reader_in, write_refusal}
-use Common.{zero, ℕ, ⊎_elim, ◌&&◌, ◌++◌, ◌+◌, ◌<◌, ◌∙◌, ◌∷◌, ◌≡◌, ◌≢◌, ◌≤◌}
-use Rattle.generational_entries.proofs.lists.TableChanges.{closed, none_some}
+use Common.{AreIndexed, AreNoted, AreRoomy, Borrow, BorrowMutError, Empty, Entry, EntryDetails}
+use Common.{EntryList, Err, FoundBorrowed, FoundReaders, GenerationalBoxId, HasWriter}
+use Common.{HasWriterAt, IfSome, IsAlone, IsListable, IsListed, IsNoted, IsReadable, IsUnborrowed}
+use Common.{IsUsed, IsWritten, Kept, Kind, LastBorrow, Lent, List, Live, Location, Name, None}
+use Common.{Option, Refers, Refused, Releases, Some, StorageEntry, StorageEntryData, Table, []}
+use Common.{and_parts, ap, arith, borrows_of, cases_Bool, cases_eq, cell_in, cell_of}
+use Common.{change_entry, cleared, cond, content_in, content_of, content_rows, entries_from}
+use Common.{entries_of, entry_of, entry_with, eq-eqb, eqb-true, false, get_or, has_no_borrow}
+use Common.{has_reader, has_writer, index_in, index_of, inl, inr, is_lent_data, is_none, is_noted}
+use Common.{is_noted_at, is_reader, is_some, is_unborrowed_data, is_unborrowed_value, is_writer}
+use Common.{kept_data, kind_in, kind_of, lead_of, leads_to, length, length-set, lent_kept}
+use Common.{list_any, list_at, location_of, may_note, nat_eq, nat_tests, ne_eqb, no_index}
+use Common.{read_refusal, referring, refl, set-own, set_written, slice_get, slice_get_cases}
+use Common.{slice_get_past, slice_get_read, slice_get_within, slice_set, subst, suc, sym}
+use Common.{target_in, target_of, true, true≢false, unread_in, value_for, value_of}
+use Common.{without_reader_in, write_refusal, zero, ℕ, ⊎_elim, ◌&&◌, ◌++◌, ◌+◌, ◌<◌, ◌∙◌, ◌∷◌}
+use Common.{◌≡◌, ◌≢◌, ◌≤◌}
+use Rattle.generational_entries.proofs.lists.TableChanges.{none_some}
 use Rattle.generational_entries.proofs.states.Indexes.{indexed}
 use Rattle.generational_entries.specs.declared.entry.StorageEntryData.TheVariants as slot
 
@@ -76,8 +76,11 @@ module _ {T : Type 0} where
   from_same r r' before after n [] ds same = refl
   from_same r r' before after n (e ∷ es) [] same = refl
   from_same r r' before after n (e ∷ es) (d ∷ ds) same =
-      rw (same n 0 (omega arith) tt, from_same r r' before after (suc n) es ds
-      (λ m k is u. same m (suc k) (omega (arith, is)) tt))
+      rw (
+        same n 0 (omega arith) tt,
+        from_same r r' before after (suc n) es ds
+            (λ m k is u. same m (suc k) (omega (arith, is)) tt),
+      )
 
   -- a slot that is written, with its details
   from_set : (r r' : LastBorrow) (before after : List (List Borrow)) (n : ℕ)
@@ -93,8 +96,11 @@ module _ {T : Type 0} where
       absurd (omega (arith, within))
   from_set r r' before after n (x ∷ es) (y ∷ ds) zero p e d at below within same =
       let here : p ≡ n = omega (arith, at) in
-      rw (here, from_same r r' before after (suc n) es ds
-      (λ m k is u. same m (suc k) (omega (arith, is)) (λ z. omega arith)))
+      rw (
+        here,
+        from_same r r' before after (suc n) es ds
+            (λ m k is u. same m (suc k) (omega (arith, is)) (λ z. omega arith)),
+      )
   from_set r r' before after n (x ∷ es) (y ∷ ds) (suc i) p e d at below within same = rw (
     same n 0 (omega arith) (λ z. omega arith),
     from_set r r' before after (suc n) es ds i p e d (omega (arith, at)) (omega arith) (omega arith)
@@ -137,10 +143,6 @@ module _ {T : Type 0} (d : StorageEntryData T) where
       → Refers n m ≡ referring n (kept_data bs' m d)
   refers_kept bs bs' l m n h = grind arith
 
-  lent_test : (bs : List Borrow) (l : Location) → NotLent
-      → is_lent (content_in (kept_data bs l d)) ≡ false
-  lent_test bs l gone = grind (arith, gone)
-
   -- a cell has the location where it was made
   pub created_there : (bs : List Borrow) (l : Location)
       → IfSome (location_of (cell_of (kept_data bs l d))) (λ x. l ≡ x)
@@ -153,10 +155,6 @@ module _ {T : Type 0} (d : StorageEntryData T) where
 
     pub rowless : (id : GenerationalBoxId) → content_rows id (content_in (kept_data [] l d)) ≡ []
     rowless id = grind arith
-
-    pub unopened : (n : ℕ) → value_for n (content_in (kept_data [] l d)) ≡ None
-    unopened n = grind arith
-
 
   module _ (bs : List Borrow) (l : Location) where
     -- where none is lent, no writer is in the way of a read, and none stands
@@ -172,12 +170,12 @@ module _ {T : Type 0} (d : StorageEntryData T) where
 
     -- where no reader is listed, and none noted, none stands or ends
     module _ (n : ℕ) (none : NotRead) (free : (kd : Kind) (v : T) → d ≡ slot.Data kd v → bs ≡ [])
-        where
-      pub no_reader : has_reader (content_in (kept_data bs l d)) n ≡ false
-      no_reader = grind (arith, none, free)
+      where
+        pub no_reader : has_reader (content_in (kept_data bs l d)) n ≡ false
+        no_reader = grind (arith, none, free)
 
-      pub reader_left : kept_data bs l d ≡ without_reader_in n (kept_data bs l d)
-      reader_left = grind (arith, none, free)
+        pub reader_left : kept_data bs l d ≡ without_reader_in n (kept_data bs l d)
+        reader_left = grind (arith, none, free)
 
     -- where a borrow stands, it is in the way of a write
     module _ (some : bs ≢ []) where
@@ -234,23 +232,10 @@ lent_kept_first kd [] l w first = absurd cc
 lent_kept_first kd (b ∷ bs) l w first = let same : b ≡ w = cc in rw same
 
 -- readers stand in the way
-found_readers : {T : Type 0} (v : T) (bs : List Borrow) (r : Refused BorrowMutError) → bs ≢ []
-    → FoundReaders bs r → FoundBorrowed (write_refusal (Some (Here v bs))) (Err r)
-found_readers v bs r some found = grind arith
-
-module _ {T : Type 0} {d : StorageEntryData T} {kd : Kind} {v : T} (bs : List Borrow) (l : Location)
-    (r : Refused BorrowMutError) (some : bs ≢ []) (found : FoundReaders bs r) where
-  pub found_data : d ≡ slot.Data kd v
-      → FoundBorrowed (write_refusal (content_in (kept_data bs l d))) (Err r)
-  found_data is =
-      subst (λ d. FoundBorrowed (write_refusal (content_in (kept_data bs l d))) (Err r)) (sym is)
-      (found_readers v bs r some found)
-
-  pub found_read : {x : ℕ} → d ≡ slot.Read kd x v
-      → FoundBorrowed (write_refusal (content_in (kept_data bs l d))) (Err r)
-  found_read is =
-      subst (λ d. FoundBorrowed (write_refusal (content_in (kept_data bs l d))) (Err r)) (sym is)
-      (found_readers v bs r some found)
+pub found_readers : {T : Type 0} (d : StorageEntryData T) (bs : List Borrow) (l : Location)
+    (r : Refused BorrowMutError) → bs ≢ [] → is_lent_data d ≡ false → is_some (kind_of d) ≡ true
+    → FoundReaders bs r → FoundBorrowed (write_refusal (content_in (kept_data bs l d))) (Err r)
+found_readers d bs l r some here value found = grind arith
 
 -- a value at which no reader is listed
 pub unread_is : {T : Type 0} (d : StorageEntryData T) → is_some (unread_in d) ≡ true
@@ -260,15 +245,6 @@ unread_is d some = grind arith
 -- an entry with what it keeps
 abbrev pub entry_kept : {T : Type 0} → ℕ → ℕ → Kept T → Entry T
 entry_kept g n k = record { generation = g; kept = k; references = n }
-
-module _ {T : Type 0} (c : Content T) where
-  -- what no borrow keeps from being written has none
-  pub unrefused : write_refusal (Some c) ≡ None → has_no_borrow (Some c) ≡ true
-  unrefused free = grind arith
-
-  -- and what no borrow keeps from being read has a value
-  pub readable : read_refusal (Some c) ≡ None → is_some (value_of (Some c)) ≡ true
-  readable free = grind arith
 
 -- ---- a store's slots, as their methods find them
 
@@ -296,15 +272,6 @@ kept view v =
       slots = ap (λ (x : EntryList _). x.slots) view;
       made = v.2;
     }
-
-pub ok_then : {A E : Type 0} (r : Result A E) {P Q : Type 0} → (P → Q) → OnOk r P → OnOk r Q
-ok_then r f p = grind arith
-
-pub err_from : {A E : Type 0} (r : Result A E) {P Q : Type 0} → (P → Q) → OnErr r P → OnErr r Q
-err_from r f p = grind arith
-
-pub err_then : {A E : Type 0} (r : Result A E) {P : Type 0} → P → OnErr r P
-err_then r p = grind arith
 
 pub release_rooms : (t t' : Table) (x y : ℕ) (left : List Borrow) → Releases t t' x y left
     → t'.rooms ≡ t.rooms
@@ -342,9 +309,6 @@ module _ {T : Type 0} {r : LastBorrow} {t : Table} {es : List (StorageEntry T)}
     {ds : List EntryDetails} {now : EntryList T} (s : IsKept r t es ds now) where
   pub many : length now.slots ≡ length es
   many = rw (← s.slots) (entries_len r t.lists es ds s.made)
-
-  pub list_none : list_at t.lists no_index ≡ []
-  list_none = get_or-eq_default t.lists [] (omega (arith, s.base.indexed.few, s.base.small))
 
   -- the details that a read at an index finds
   pub read_details : {i : ℕ} → i < length now.slots → {d : EntryDetails} → d ≡ get_or ds i d
@@ -530,11 +494,6 @@ module _ {T : Type 0} {r : LastBorrow} {t : Table} {es : List (StorageEntry T)} 
   pub lent : (kd : Kind) (x : ℕ) → e.content ≡ slot.Lent kd x
       → borrows_of r t.lists i (index_of e.content) ≢ []
   lent kd x is = lent_some is
-
-  -- a cell without an index has the noted borrow alone
-  pub noted_alone : index_of e.content ≡ no_index
-      → borrows_of r t.lists i (index_of e.content) ≡ noted_at r i
-  noted_alone none = rw none refl
 
   pub unborrowed : index_of e.content ≡ no_index → is_noted_at r i ≡ false
       → borrows_of r t.lists i (index_of e.content) ≡ []
@@ -841,8 +800,8 @@ module _ {T : Type 0} {r : LastBorrow} {t : Table} {es : List (StorageEntry T)}
   changed r' lists e' f same was is becomes =
       let d = location in
       rw (set-own ds i d.0 d.1) at (slot_changed d.1 r' lists e' d.0 f same (
-        ap (λ bs. entry_with bs e' d.0) is ∙ becomes d.0
-        ∙ ap (λ bs. f (entry_with bs e d.0)) (sym was)))
+      ap (λ bs. entry_with bs e' d.0) is ∙ becomes d.0
+      ∙ ap (λ bs. f (entry_with bs e d.0)) (sym was)))
 
   -- a slot that stays as it is, while its borrows change
   pub reborrowed : (r' : LastBorrow) (lists : List (List Borrow)) (f : Entry T → Entry T)
@@ -915,15 +874,6 @@ module _ {T : Type 0} {r : LastBorrow} {t : Table} {es : List (StorageEntry T)}
             not_free e.content _ location.0.created_at some,
             hears (λ e. has_no_borrow (content_in e.kept) ≡ true) h,
           )
-
-  -- where no cell is lent, no content is
-  pub not_lent_there : NotLent e.content
-      → IfSome (slice_get now.slots i) (λ e. is_lent (content_in e.kept) ≡ true) → ⊥
-  not_lent_there none h =
-      cc (
-        lent_test e.content (borrows_of r t.lists i (index_of e.content)) location.0.created_at none,
-        hears (λ e. is_lent (content_in e.kept) ≡ true) h,
-      )
 
   -- a reference has no borrows
   pub refers_none : IfSome (slice_get now.slots i)

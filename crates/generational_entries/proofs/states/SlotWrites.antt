@@ -322,10 +322,10 @@ module _ {T : Type 0} {r : LastBorrow} {t : Table} {es : List (StorageEntry T)}
   listed_below n h some = elim readable_here [
     | inl own ↦ absurd (some (rw own.2 refl))
     | inr own ↦ subst (AreBelow n) (
-      ap (λ d. readers_of (content_in (kept_data (borrows_of r t.lists i (index_of e.content))
-          (location a).0.created_at d))) own.3
-      ∙ read_borrows a.at own.3 ∙ ap (λ d. list_at t.lists (index_of d)) (sym own.3))
-      (hears a (λ e. AreBelow n (readers_of (content_in e.kept))) h)
+        ap (λ d. readers_of (content_in (kept_data (borrows_of r t.lists i (index_of e.content))
+        (location a).0.created_at d))) own.3
+        ∙ read_borrows a.at own.3 ∙ ap (λ d. list_at t.lists (index_of d)) (sym own.3))
+        (hears a (λ e. AreBelow n (readers_of (content_in e.kept))) h)
   ]
 
   pub begun : is_noted r.noted ≡ false → (b : Borrow) (t' : Table)

@@ -38,8 +38,10 @@ invariant_of-self g c =
     (rw (c.lend-value.ensures.lent, own.2) tt) (rw (c.lend-value.ensures.lent, own.2)))
     (near_noted a.at c.note.new.self _ _ (near_none c.list_noted.new.last slot c.list_noted.ensures.nobody)
     (near_own c.note.new.self slot (rw c.note.ensures refl))
-    (λ z. rw c.note.ensures (alone_generation a c.args.name.generation c.requires.free,
-    rw (c.lend-value.ensures.lent, own.2) refl))
+    (λ z. rw c.note.ensures (
+      alone_generation a c.args.name.generation c.requires.free,
+      rw (c.lend-value.ensures.lent, own.2) refl,
+    ))
     (rw (c.lend-value.ensures.lent, own.2, c.note.ensures)
     (λ z. rw (eq-eqb slot slot refl) refl))) refl
 

@@ -1,7 +1,7 @@
 -- The borrows that stand in the way of a write or an end.
-use Rattle.generational_entries.proofs.{Err, FoundBorrowed, [], content_in, found, found_data}
-use Rattle.generational_entries.proofs.{found_read, free_index, lent_seen, lent_used, none_some}
-use Rattle.generational_entries.proofs.{noted_data, noted_one, read_borrows, says, says_with, sym}
+use Rattle.generational_entries.proofs.{Err, FoundBorrowed, [], content_in, found, found_readers}
+use Rattle.generational_entries.proofs.{free_index, lent_seen, lent_used, none_some, noted_data}
+use Rattle.generational_entries.proofs.{noted_one, read_borrows, refl, says, says_with, sym}
 use Rattle.generational_entries.proofs.{unborrowed, unhindered, used_at, write_refusal, ◌∙◌}
 use Rattle.generational_entries.proofs.entries.Entries.borrow_mut_error.Goals as goal
 
@@ -28,16 +28,17 @@ returns-in-Lent g c =
 pub returns-in-Read : goal.returns-in-Read
 returns-in-Read g c =
     let a = found c.self.view_is c.self.invariant c.requires c.index.ensures in
-    says_with a (read_borrows a.at c.in-Read.is) _ (λ d. found_read _ d.created_at _
-    (used_at a.at c.in-Read.is).some c.readers_error.ensures c.in-Read.is)
+    says_with a (read_borrows a.at c.in-Read.is) _ (λ d. found_readers _ _ d.created_at _
+    (used_at a.at c.in-Read.is).some (rw c.in-Read.is refl) (rw c.in-Read.is refl)
+    c.readers_error.ensures)
 
 pub returns-then-is_at : goal.returns-then-is_at
 returns-then-is_at g c =
     let a = found c.self.view_is c.self.invariant c.requires c.index.ensures in
     let on = sym c.is_at.ensures ∙ c.if-is_at.true in
     let own = noted_data a.at on c.in_default.not-Read c.in_default.not-Lent in
-    says_with a (noted_one a.at own.2 on) _ (λ d. found_data _ d.created_at _
-    (none_some _ []) c.reader_error.ensures own.2)
+    says_with a (noted_one a.at own.2 on) _ (λ d. found_readers _ _ d.created_at _
+    (none_some _ []) (rw own.2 refl) (rw own.2 refl) c.reader_error.ensures)
 
 pub returns-else-is_at : goal.returns-else-is_at
 returns-else-is_at g c =

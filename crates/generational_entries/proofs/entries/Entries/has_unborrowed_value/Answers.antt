@@ -1,5 +1,5 @@
 -- Whether the value of a name is its own and has no borrow.
-use Rattle.generational_entries.proofs.{arith, found, here, kept, location, noted_at_slot}
+use Rattle.generational_entries.proofs.{arith, here, kept, location, noted_at_slot}
 use Rattle.generational_entries.proofs.{noted_some, past, refl, slice_get_read, slot_seen, sym}
 use Rattle.generational_entries.proofs.{unfree, value_test, ◌∙◌}
 use Rattle.generational_entries.proofs.entries.Entries.has_unborrowed_value.Goals as goal

@@ -1,5 +1,5 @@
 -- Whose the value of a name is.
-use Rattle.generational_entries.proofs.{arith, found, here, kept, kind_seen, lent, location, past}
+use Rattle.generational_entries.proofs.{arith, here, kept, kind_seen, lent, location, past}
 use Rattle.generational_entries.proofs.{refl, slice_get_read, slot_seen, ◌∙◌}
 use Rattle.generational_entries.proofs.entries.Entries.kind.Goals as goal
 

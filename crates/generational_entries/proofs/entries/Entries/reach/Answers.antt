@@ -1,5 +1,5 @@
 -- What a box of a name reaches.
-use Rattle.generational_entries.proofs.{arith, found, here, kept, lead_seen, lent, location}
+use Rattle.generational_entries.proofs.{arith, here, kept, lead_seen, lent, location}
 use Rattle.generational_entries.proofs.{name_of_cell, past, refl, slice_get_read, slot_seen, ◌∙◌}
 use Rattle.generational_entries.proofs.entries.Entries.reach.Goals as goal
 

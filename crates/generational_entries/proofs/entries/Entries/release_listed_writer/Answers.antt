@@ -81,9 +81,12 @@ returns-in_default g c =
             c.in_default.not-Lent) ∙ h,
       ));
       ok = tt;
-      err = (refl, rw (
-        set-own c.list_noted.new.entries.items c.args.slot c.index_mut.result.now a.at.there,
-        c.list_noted.ensures.listed.slots _ c.self.invariant.2,
-      ) c.self.view_is);
+      err = (
+        refl,
+        rw (
+          set-own c.list_noted.new.entries.items c.args.slot c.index_mut.result.now a.at.there,
+          c.list_noted.ensures.listed.slots _ c.self.invariant.2,
+        ) c.self.view_is,
+      );
       rooms = ap (λ (x : EntryList _). x.rooms) c.self.view_is;
     }

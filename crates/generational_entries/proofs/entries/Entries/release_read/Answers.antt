@@ -11,9 +11,13 @@ invariant_of-self g c =
     let is = reads_at r c.args.slot c.args.ticket
     (sym c.is_reader_at.ensures ∙ c.if-is_reader_at.true) in
     let own = unread_is _ (sym c.is_unread.ensures ∙ c.if-is_unread.true) in
-    let v = c.self.invariant in
-    (v.0, own_noted a.at (cleared r) _ (near_own r c.args.slot (noted_slot r c.args.slot is.0))
-        (λ k other. refl) (λ z. absurd cc) (rw own.2 tt), v.2, v.3)
+    let v = c.self.invariant in (
+      v.0,
+      own_noted a.at (cleared r) _ (near_own r c.args.slot (noted_slot r c.args.slot is.0))
+          (λ k other. refl) (λ z. absurd cc) (rw own.2 tt),
+      v.2,
+      v.3,
+    )
 
 pub returns-then-is_unread-clause-known : goal.returns-then-is_unread-clause-known
 returns-then-is_unread-clause-known g c =

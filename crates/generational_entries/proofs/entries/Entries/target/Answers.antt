@@ -1,5 +1,5 @@
 -- What the reference of a name names.
-use Rattle.generational_entries.proofs.{arith, found, here, kept, lent, location, past, refl}
+use Rattle.generational_entries.proofs.{arith, here, kept, lent, location, past, refl}
 use Rattle.generational_entries.proofs.{slice_get_read, slot_seen, target_seen, ◌∙◌}
 use Rattle.generational_entries.proofs.entries.Entries.target.Goals as goal
 
