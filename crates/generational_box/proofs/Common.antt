@@ -10,7 +10,8 @@ pub use Rattle.std.proofs.Common.{sym, true, ℕ, [], ⊎_elim, ◌+◌, ◌<◌
 pub use Rattle.std.proofs.Common.{ap, ◌∷◌, ◌≡◌, ◌≢◌, ◌≤◌, ◌⊎◌}
 pub use Rattle.std.proofs.lemmas.{Bool.cond_both, Bool.Decides.nat_tests, Bool.lt-ltb, Bool.ne_eqb}
 pub use Rattle.std.proofs.lemmas.{Bool.or_parts, Cmp.eq_by_cmp_equiv, Map.Keys.IsDistinct-push}
-pub use Rattle.std.proofs.lemmas.Bool.{eq-eqb, false_from_ne_true, false≢true, le-ltb}
+pub use Rattle.std.proofs.lemmas.Option.{cond_some}
+pub use Rattle.std.proofs.lemmas.Bool.{eq-eqb, eqb-true, false_from_ne_true, false≢true, le-ltb}
 pub use Rattle.std.specs.{Cmp.IsEquivalence, Cmp.nat_cmp_total, Cmp.nat_eq_equiv, Option.option_or}
 pub use Rattle.std.specs.List.{AllByRecursion, list_any}
 pub use Rattle.std.specs.Ordering.{eq_by_cmp, nat_cmp}
@@ -59,9 +60,11 @@ pub use Rattle.generational_errors.specs.Texts.{as_borrow_mut}
 pub use declared.error.{BorrowError.BorrowError, BorrowMutError.BorrowMutError, Location.Location}
 pub use declared.error.{Refused.Refused, StoreError.StoreError}
 pub use declared.error.StoreError.TheVariants.{NumbersExhausted, OutOfMemory, UnknownOwner}
+pub use Rattle.generational_slots.specs.{declared.found.Found.Found}
 pub use Rattle.generational_slots.specs.SlotRows.{all_slot_rows, ReadSlots}
-pub use SlotsState.{change_content, change_content_if, content_reached, IsMade, IsTurned, reached}
-pub use SlotsState.{refusal_to_read_at, refusal_to_refer_at, refusal_to_write_at, shared_reached}
+pub use SlotsState.{change_content, change_content_if, content_reached, Finds, HasEnded, IsMade}
+pub use SlotsState.{IsTurned}
+pub use SlotsState.{reached, refusal_to_read_at, refusal_to_refer_at, refusal_to_write_at, shared_reached}
 pub use SlotsState.{SlotsState, with_records}
 unfoldable pub use Rattle.std.specs.List.{IsDistinct}
 unfoldable pub use Rattle.generational_core.specs.Names.{change, is_name}

@@ -1,6 +1,7 @@
 pub mod Calls
 pub mod EndCalls
 pub mod Frees
+pub mod Looks
 pub mod Makings
 pub mod OwnerCalls
 pub mod Points

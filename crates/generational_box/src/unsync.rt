@@ -10,14 +10,14 @@ ghost use Rattle.generational_core.specs.Sound.{IsSound-prop, IsBounded-prop};
 ghost use Rattle.generational_containers.specs.CellNames.{name_of_cell};
 ghost use Rattle.generational_entries.specs.Entry.{cell_of};
 ghost use Rattle.generational_entries.specs.Entries.{IsUnborrowed, kept_data, target_of};
-ghost use Rattle.generational_slots.specs.SlotsState.{IsMade, with_records};
+ghost use Rattle.generational_slots.specs.SlotsState.{Finds, IsMade, with_records};
 
 use crate::ids::{cell_name, id_in, pointer_in};
 use generational_containers::names::CellName;
 use generational_containers::owners::{OwnerRecord, OwnerRecords};
 use generational_containers::pool::{LastFirst, SlotPool};
 use generational_core::parts::{
-    Borrow, id_read, into_reader, into_writer, owner_at, pointer_at, reader_at, writer_at,
+    Borrow, id_read, into_reader, into_writer, owner_at, reader_at, writer_at,
 };
 use generational_core::{
     AnyStorage, BaseRow, BorrowError, BorrowMutError, BorrowMutResult, BorrowResult,
@@ -25,6 +25,7 @@ use generational_core::{
     Refusal, Refused, StepCall, Storage, StoreError,
 };
 use generational_entries::entry::{Kind, StorageEntryData};
+use generational_slots::found::Found;
 use generational_slots::refusals::{dropped, dropped_mut};
 use generational_slots::slots::Slots;
 use std::alloc::Global;
@@ -303,19 +304,14 @@ impl<T: Drop, P: SlotPool> AnyStorage<T> for Store<T, P> {
     }
 
     fn target(&self, pointer: GenerationalPointer) -> Option<GenerationalBoxId> {
-        if pointer.id.store != self.number {
-            return None;
-        }
-        let name = self.slots.target(cell_name(pointer.id))?;
+        let name = self.slots.target(self.own(pointer.id)?)?;
         Some(id_in(self.number, name))
     }
 
     fn find(&self, id: GenerationalBoxId) -> Option<GenerationalPointer> {
-        if id.store != self.number {
-            return None;
-        }
-        let created_at = self.slots.find(cell_name(id))?;
-        Some(pointer_at(id.store, id.slot, id.generation, created_at))
+        let name = self.own(id)?;
+        let created_at = self.slots.find(name)?;
+        Some(pointer_in(self.number, name, created_at))
     }
 
     fn rows(&self) -> Result<Vec<BaseRow>, StoreError> {
@@ -327,25 +323,38 @@ impl<T: Drop, P: SlotPool> AnyStorage<T> for Store<T, P> {
 
     #[inline(always)]
     fn can_read(&self, pointer: GenerationalPointer) -> bool {
-        pointer.id.store == self.number && self.slots.can_read(cell_name(pointer.id))
+        match self.look(pointer) {
+            Found::Nothing => false,
+            Found::Unborrowed(_) => true,
+            Found::Read(_) => true,
+            Found::Lent(_) => false,
+        }
     }
 
     #[inline(always)]
     fn is_live(&self, pointer: GenerationalPointer) -> bool {
-        pointer.id.store == self.number && self.slots.is_live(cell_name(pointer.id))
+        match self.own(pointer.id) {
+            Some(name) => self.slots.is_live(name),
+            None => false,
+        }
     }
 
     #[inline(always)]
     fn can_write(&self, pointer: GenerationalPointer) -> bool {
-        pointer.id.store == self.number && self.slots.can_write(cell_name(pointer.id))
+        match self.look(pointer) {
+            Found::Nothing => false,
+            Found::Unborrowed(_) => true,
+            Found::Read(_) => false,
+            Found::Lent(_) => false,
+        }
     }
 
     #[inline(always)]
     fn recycle(&mut self, pointer: GenerationalPointer) -> BorrowMutResult<()> {
-        if pointer.id.store != self.number {
-            return Ok(());
+        match self.own(pointer.id) {
+            Some(name) => self.slots.end(name),
+            None => Ok(()),
         }
-        self.slots.end(cell_name(pointer.id))
     }
 }
 
@@ -407,10 +416,10 @@ impl<T: Drop, P: SlotPool> Storage<T> for Store<T, P> {
         if !self.knows(owner) {
             return Err(Refused::Store(StoreError::UnknownOwner));
         }
-        if inner.id.store != self.number {
+        let Some(name) = self.own(inner.id) else {
             return Err(Refused::Borrow(dropped(inner.created_at)));
-        }
-        let shared = match self.slots.shared(cell_name(inner.id), inner.created_at) {
+        };
+        let shared = match self.slots.shared(name, inner.created_at) {
             Ok(shared) => shared,
             Err(error) => return Err(Refused::Borrow(error)),
         };
@@ -436,18 +445,17 @@ impl<T: Drop, P: SlotPool> Storage<T> for Store<T, P> {
         if pointer == other {
             return Ok(());
         }
-        if other.id.store != self.number {
+        let Some(name) = self.own(other.id) else {
             return Err(dropped_mut(other.created_at));
-        }
-        let new = match self.slots.unlent(cell_name(other.id), other.created_at) {
-            Ok(new) => new,
+        };
+        let (new, shared) = match self.slots.unlent(name, other.created_at) {
+            Ok(found) => found,
             Err(error) => return Err(Refused::Borrow(BorrowMutError::from(error))),
         };
-        if pointer.id.store != self.number {
+        let Some(name) = self.own(pointer.id) else {
             return Err(dropped_mut(pointer.created_at));
-        }
-        self.slots
-            .point(cell_name(pointer.id), pointer.created_at, new)
+        };
+        self.slots.point(name, pointer.created_at, new, shared)
     }
 
     #[inline(always)]
@@ -457,13 +465,10 @@ impl<T: Drop, P: SlotPool> Storage<T> for Store<T, P> {
         location: Location,
     ) -> BorrowResult<GenerationalRef<T>> {
         self.slots.settle();
-        if pointer.id.store != self.number {
+        let Some(name) = self.own(pointer.id) else {
             return Err(Refused::Borrow(dropped(pointer.created_at)));
-        }
-        match self
-            .slots
-            .readable(cell_name(pointer.id), pointer.created_at)
-        {
+        };
+        match self.slots.readable(name, pointer.created_at) {
             Ok((name, is_alone)) => self.begin_read(pointer, name, location, is_alone),
             Err(error) => Err(Refused::Borrow(error)),
         }
@@ -476,13 +481,10 @@ impl<T: Drop, P: SlotPool> Storage<T> for Store<T, P> {
         location: Location,
     ) -> BorrowMutResult<GenerationalRefMut<T>> {
         self.settle();
-        if pointer.id.store != self.number {
+        let Some(name) = self.own(pointer.id) else {
             return Err(dropped_mut(pointer.created_at));
-        }
-        match self
-            .slots
-            .writable(cell_name(pointer.id), pointer.created_at)
-        {
+        };
+        match self.slots.writable(name, pointer.created_at) {
             Ok(name) => self.begin_write(pointer, name, location),
             Err(refused) => Err(refused),
         }
@@ -499,27 +501,26 @@ impl<T: Drop, P: SlotPool> Storage<T> for Store<T, P> {
             (back_answer result) self.new.state }
     {
         let (id, ticket, value) = into_writer(guard);
-        if id.store == self.number {
-            return self.slots.release_write(cell_name(id), ticket, value);
+        match self.own(id) {
+            Some(name) => self.slots.release_write(name, ticket, value),
+            None => Err(value),
         }
-        Err(value)
     }
 
     #[inline(always)]
     fn peek(&self, pointer: GenerationalPointer) -> Option<&T> {
-        if pointer.id.store == self.number {
-            return self.slots.peek(cell_name(pointer.id));
+        match self.own(pointer.id) {
+            Some(name) => self.slots.peek(name),
+            None => None,
         }
-        None
     }
 
     #[inline(always)]
     fn open(&self, guard: &GenerationalRef<T>) -> Option<&T> {
-        let id = id_read(guard);
-        if id.store == self.number {
-            return self.slots.open(cell_name(id), guard.ticket());
+        match self.own(id_read(guard)) {
+            Some(name) => self.slots.open(name, guard.ticket()),
+            None => None,
         }
-        None
     }
 
     #[inline(always)]
@@ -527,16 +528,20 @@ impl<T: Drop, P: SlotPool> Storage<T> for Store<T, P> {
         ensures { Meets self.old.state (ReleaseReader guard) (Flag result) self.new.state }
     {
         let (id, ticket) = into_reader(guard);
-        id.store == self.number && self.slots.release_read(cell_name(id), ticket)
+        match self.own(id) {
+            Some(name) => self.slots.release_read(name, ticket),
+            None => false,
+        }
     }
 }
 
 // What the calls ask and do.
 impl<T: Drop, P: SlotPool> Store<T, P> {
     ghost use Rattle.std.specs.Prelude.{◌≡◌, true, None, Some, option_copied};
-    ghost use Rattle.std.specs.Prelude.{not, option_map};
+    ghost use Rattle.std.specs.Prelude.{if◌then◌else◌, nat_eq, not, option_map};
     ghost use Rattle.std.specs.List.{IsDistinct};
     ghost use Rattle.generational_core.specs.Answers.{read_answer, write_answer};
+    ghost use Rattle.generational_core.specs.Boxes.{name_in};
     ghost use Rattle.generational_core.specs.Borrowing.{reach, read_refusal, write_refusal};
     ghost use Rattle.generational_core.specs.Borrowing.{refusal_to_read, refusal_to_write};
     ghost use Rattle.generational_core.specs.Cells.{content_of};
@@ -550,11 +555,39 @@ impl<T: Drop, P: SlotPool> Store<T, P> {
     ghost use Rattle.generational_core.specs.Steps.{Meets};
     ghost use Rattle.generational_containers.specs.CellNames.{name_of_cell};
 
+    // The name in an id, exactly where the id is of this store.
+    #[inline(always)]
+    fn own(&self, id: GenerationalBoxId) -> Option<CellName>
+        ensures { option_map name_of_cell result
+            ≡ (if nat_eq id.store self.now.state.number then Some (name_in id) else None) }
+    {
+        if id.store != self.number {
+            return None;
+        }
+        Some(cell_name(id))
+    }
+
+    // What the box reaches, and which borrow is there.
+    #[inline(always)]
+    fn look(&self, pointer: GenerationalPointer) -> Found
+        ensures { Finds self.now.state.cells (reach self.now.state pointer) result }
+    {
+        match self.own(pointer.id) {
+            Some(name) => self.slots.look(name),
+            None => Found::Nothing,
+        }
+    }
+
     // Whether no writer has what the box reaches, if it reaches a value.
     fn may_read(&self, pointer: GenerationalPointer) -> bool
         ensures { result ≡ not (tells_of_borrow (refusal_to_read self.now.state pointer)) }
     {
-        pointer.id.store != self.number || self.slots.may_read(cell_name(pointer.id))
+        match self.look(pointer) {
+            Found::Nothing => true,
+            Found::Unborrowed(_) => true,
+            Found::Read(_) => true,
+            Found::Lent(_) => false,
+        }
     }
 
     // Whether no borrow stands at what the box reaches, if it reaches a value.
@@ -563,7 +596,12 @@ impl<T: Drop, P: SlotPool> Store<T, P> {
         ensures set { result ≡ may_set (reach self.now.state pointer)
             (content_of (cell_at self.now.state (reach self.now.state pointer))) }
     {
-        pointer.id.store != self.number || self.slots.may_write(cell_name(pointer.id))
+        match self.look(pointer) {
+            Found::Nothing => true,
+            Found::Unborrowed(_) => true,
+            Found::Read(_) => false,
+            Found::Lent(_) => false,
+        }
     }
 
     // Whether no borrow stands in the way of the end of the box's cell.
@@ -571,23 +609,31 @@ impl<T: Drop, P: SlotPool> Store<T, P> {
         ensures { result
             ≡ not (tells_of_borrow (hindrance_to self.now.state (own_name self.now.state pointer))) }
     {
-        pointer.id.store != self.number || self.slots.may_end(cell_name(pointer.id))
+        match self.own(pointer.id) {
+            Some(name) => self.slots.may_end(name),
+            None => true,
+        }
     }
 
     // Whether no borrow stands in the way where a box is pointed to what another reaches.
     fn may_point(&self, pointer: GenerationalPointer, other: GenerationalPointer) -> bool
         ensures { result ≡ is_free self.now.state (Point pointer other) }
     {
-        if pointer == other || other.id.store != self.number {
+        if pointer == other {
             return true;
         }
-        match self.slots.unlent(cell_name(other.id), other.created_at) {
-            Err(BorrowError::AlreadyBorrowedMut(_)) => false,
-            Err(BorrowError::Dropped(_)) => true,
-            Ok(new) => {
-                pointer.id.store != self.number || self.slots.may_point(cell_name(pointer.id), new)
-            }
-        }
+        let Some(name) = self.own(other.id) else {
+            return true;
+        };
+        let (new, shared) = match self.slots.unlent(name, other.created_at) {
+            Ok(found) => found,
+            Err(BorrowError::AlreadyBorrowedMut(_)) => return false,
+            Err(BorrowError::Dropped(_)) => return true,
+        };
+        let Some(name) = self.own(pointer.id) else {
+            return true;
+        };
+        self.slots.may_point(name, new, shared)
     }
 
     // Whether no borrow stands in the way of the release of an owner value of a record, if the

@@ -41,7 +41,7 @@ pub use specs.{Steps.IsNew, Names.among, Names.Name, Names.name_cmp, Names.NameM
 pub use specs.{Slots.slots_of, Plain.bare_cell, Plain.bare_cells, Plain.bare_entry, Plain.Plain}
 pub use specs.{Conditions.fresh, Conditions.IsFresh, Conditions.IsLinked, Boxes.box_of}
 pub use specs.{Boxes.name_of, Machine.Answer.Done}
-pub use specs.Borrowing.{BorrowRefusal, fill, leads_to, read_refusal, write_refusal}
+pub use specs.Borrowing.{BorrowRefusal, fill, leads_to, read_refusal, refusal_at, write_refusal}
 pub use specs.Cells.{Cell, Content, content_of, is_shared, location_of, refers_to, refill}
 pub use specs.Cells.{Cell.Ref, Cell.Shared, Cell.Value, Content.Here, Content.Lent}
 pub use specs.Ending.{cells_after, close, first_hindrance, hindrance_at}
@@ -63,7 +63,7 @@ pub use Rattle.generational_errors.specs.declared.error.{Location.Location, Refu
 pub use Rattle.generational_errors.specs.declared.error.BorrowMutError.{BorrowMutError}
 pub use Rattle.generational_errors.specs.declared.error.StoreError.TheVariants.{OutOfMemory}
 pub use Rattle.generational_slots.specs.SlotRows.{all_slot_rows, entry_rows, rows_from}
-pub use SlotsState.{AreReferred, borrowed_at, content_reached, Count, count_less, count_more}
+pub use SlotsState.{AreReferred, borrowed_at, Finds, read_refusal_of, content_reached, Count, count_less, count_more}
 pub use SlotsState.{count_of, doomed_by, given_from, given_in, has_more, HasBegun, if_borrowed}
 pub use SlotsState.{is_reusable, is_spent, IsReferred, IsSlotTable, IsTurned, live_from, names_up}
 pub use SlotsState.{reached, refers, refers_among, refusal_of, refusal_to_write_at, Retirements}

@@ -2,6 +2,7 @@ pub mod Changes
 pub mod Counting
 pub mod Endings
 pub mod Hindrance
+pub mod Lists
 pub mod Makings
 pub mod Pointing
 pub mod Reaching

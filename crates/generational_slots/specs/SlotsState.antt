@@ -1,7 +1,7 @@
 -- The state for which a list of slots stands, and what holds of every such list.
 use Rattle.std.specs.Prelude.{◌≡◌, ℕ, ◌+◌, ◌-◌, ◌≤◌, suc, zero, Bool, true, false, ◌&&◌, nat_eq}
 use Rattle.std.specs.Prelude.{nat_le, nat_lt, not, if◌then◌else◌, length, List, [], ◌∷◌, ◌++◌}
-use Rattle.std.specs.Prelude.{Option, None, Some, IfSome, IsTrue, Result, is_ok, slice_get}
+use Rattle.std.specs.Prelude.{Option, None, Some, IfSome, IsTrue, Result, Ok, Err, is_ok, slice_get}
 use Rattle.std.specs.Prelude.{max, is_some}
 use Rattle.std.specs.List.{count_by}
 use Rattle.std.specs.Option.{option_or}
@@ -12,19 +12,26 @@ use Rattle.generational_core.specs.Names.{Name, NameMap, Names}
 use Rattle.generational_errors.specs.declared.error.Location.{Location}
 use Rattle.generational_core.specs.Borrowing.{BorrowRefusal, fill, leads_to, read_refusal, refusal_at}
 use Rattle.generational_core.specs.Borrowing.{write_refusal}
-use Rattle.generational_core.specs.Borrowing.BorrowRefusal.{Dropped}
+use Rattle.generational_core.specs.Borrowing.BorrowRefusal.{BeingWritten, Dropped}
 use Rattle.generational_core.specs.Cells.{Cell, Content, content_of, is_shared, refers_to}
 use Rattle.generational_core.specs.Cells.Cell.{Value, Ref}
 use Rattle.generational_core.specs.State.{State, Owners, content_at}
 use Rattle.generational_core.specs.Machine.{add_cell, Outcome}
 use Rattle.generational_core.specs.Machine.Answer.{Done, BorrowRefused}
+use Rattle.generational_core.specs.Answers.{refusal_of_read_error}
+use Rattle.generational_errors.specs.declared.error.BorrowError.{BorrowError}
 use Rattle.generational_errors.specs.declared.error.BorrowMutError.{BorrowMutError}
 use Rattle.generational_errors.specs.declared.error.Refused.{Refused}
+use Rattle.generational_core.specs.Ending.{close, hindrance_to}
 use Rattle.generational_core.specs.Slots.{last_generation}
 use Rattle.generational_core.specs.Steps.{IsNew}
 use Rattle.generational_entries.specs.Entry.{Entry, FoundBorrowed, cell_of, is_live}
 use Rattle.generational_containers.specs.Lists.{how_many}
 use Rattle.generational_entries.specs.Entry.{cell_at, change_entry}
+use Rattle.generational_containers.specs.CellNames.{name_of_cell}
+use Rattle.generational_containers.specs.declared.names.CellName.{CellName}
+use Rattle.generational_slots.specs.declared.found.Found.{Found}
+use Rattle.generational_slots.specs.declared.found.Found.TheVariants as found
 
 -- The slots of a store: the state for which they stand, without owners and numbers, and how many
 -- cells more take no memory.
@@ -125,12 +132,46 @@ module _ {T : Type 0} where
   content_reached S None = None
   content_reached S (Some m) = content_at S m
 
+  -- how a read is refused of what was reached, if something was
+  abbrev pub read_refusal_of : NameMap (Cell T) → Option Name → Option BorrowRefusal
+  read_refusal_of cells None = None
+  read_refusal_of cells (Some m) = read_refusal (content_of (map.get cells m))
+
+  -- what a look at a box finds: what the box reaches, and which borrow is there
+  abbrev pub Finds : NameMap (Cell T) → Option Name → Found → Type 0
+  Finds cells r found.Nothing = r ≡ None
+  Finds cells r (found.Unborrowed m) =
+      (r ≡ Some (name_of_cell m))
+      × (write_refusal (content_of (map.get cells (name_of_cell m))) ≡ None)
+  Finds cells r (found.Read m) =
+      (r ≡ Some (name_of_cell m))
+      × (read_refusal (content_of (map.get cells (name_of_cell m))) ≡ None)
+      × (is_some (write_refusal (content_of (map.get cells (name_of_cell m)))) ≡ true)
+  Finds cells r (found.Lent e) = read_refusal_of cells r ≡ Some (BeingWritten e.borrowed_mut_at)
+
   -- how a read is refused of what a box reaches that was made at l, and how a write is
   abbrev pub refusal_to_read_at : State T → Name → Location → Option BorrowRefusal
   refusal_to_read_at S n l = refusal_at (reached S n) l (λ m. read_refusal (content_at S m))
 
   abbrev pub refusal_to_write_at : State T → Name → Location → Option BorrowRefusal
   refusal_to_write_at S n l = refusal_at (reached S n) l (λ m. write_refusal (content_at S m))
+
+  -- what is answered of a read: what the box reaches, which no writer has, and whether it is known to
+  -- have no borrow, or a refusal
+  abbrev pub IsReadable : State T → Name → Location → Result (CellName × Bool) BorrowError → Type 0
+  IsReadable S n l (Ok r) =
+      (reached S n ≡ Some (name_of_cell r.0))
+      × (read_refusal (content_at S (name_of_cell r.0)) ≡ None)
+      × (r.1 ≡ true → write_refusal (content_at S (name_of_cell r.0)) ≡ None)
+  IsReadable S n l (Err e) = refusal_to_read_at S n l ≡ Some (refusal_of_read_error e)
+
+  -- what is answered of a write: what the box reaches, at which no borrow stands, or a refusal
+  abbrev pub IsWritable : State T → Name → Location → Result CellName (Refused BorrowMutError)
+      → Type 0
+  IsWritable S n l (Ok m) =
+      (reached S n ≡ Some (name_of_cell m))
+      × (write_refusal (content_at S (name_of_cell m)) ≡ None)
+  IsWritable S n l (Err e) = FoundBorrowed (refusal_to_write_at S n l) (Err e)
 
   -- how a reference to it is refused: as a read is, and where what is reached isn't shared
   abbrev pub shared_reached : State T → Option Name → Bool
@@ -241,6 +282,13 @@ module _ {T : Type 0} where
     pub fits : IsNew s.state n
     pub added : IfSome cell (λ c. r.state ≡ add_cell s.state n c)
     pub room : s.spare ≤ r.spare + 1
+
+-- what is answered of the end of names: nothing hindered it and they have ended, or the first borrow
+-- that does, and nothing has changed
+abbrev pub HasEnded : {T : Type 0} → State T → State T → List Name
+    → Result (Unit {0}) (Refused BorrowMutError) → Type 0
+HasEnded S R names (Ok u) = (hindrance_to S names ≡ None) × (R ≡ close S names)
+HasEnded S R names (Err e) = FoundBorrowed (hindrance_to S names) (Err e) × (R ≡ S)
 
 -- a call that lets a reference name another value does and answers what the machine does
 abbrev pub IsTurned : {T : Type 0} → State T → State T → Result (Unit {0}) (Refused BorrowMutError)

@@ -9,6 +9,7 @@ ghost use Rattle.generational_core.specs.Ending.{cells_after, first_hindrance, t
 ghost use Rattle.generational_core.specs.Names.{is_name};
 ghost use Rattle.generational_core.specs.State.{is_named};
 ghost use Rattle.generational_entries.specs.Entry.{FoundBorrowed, cell_at, is_unborrowed_value};
+ghost use Rattle.generational_entries.specs.Entry.{target_in};
 ghost use Rattle.generational_containers.specs.CellNames.{name_of_cell};
 ghost use Rattle.generational_slots.specs.SlotsState.{AreReferred, cells_of, doomed_by, has_more};
 ghost use Rattle.generational_slots.specs.SlotsState.{borrowed_at, refusal_of};
@@ -19,13 +20,20 @@ use generational_entries::entries::Entries;
 use generational_entries::entry::Kind;
 
 /// The value that goes where a name ends: its own, or the target's, if nothing else refers to that.
+/// The caller knows the target.
 #[inline(always)]
-pub fn doomed<T: Drop>(entries: &Entries<T>, name: CellName) -> Option<CellName>
-    requires { IsLinked (cells_of entries.now.slots) }
+pub fn doomed<T: Drop>(
+    entries: &Entries<T>,
+    name: CellName,
+    target: Option<CellName>,
+) -> Option<CellName>
+    requires linked { IsLinked (cells_of entries.now.slots) }
+    requires target { option_map name_of_cell target
+        ≡ target_in (cell_at entries.now.slots (name_of_cell name)) }
     ensures { option_map name_of_cell result ≡ doomed_by (has_more entries.now.slots 1)
         (cell_at entries.now.slots (name_of_cell name)) (name_of_cell name) }
 {
-    if let Some(target) = entries.target(name) {
+    if let Some(target) = target {
         if entries.details(target.slot).references == 1 {
             return Some(target);
         }
@@ -35,6 +43,15 @@ pub fn doomed<T: Drop>(entries: &Entries<T>, name: CellName) -> Option<CellName>
         Some(Kind::Value) => Some(name),
         _ => None,
     }
+}
+
+/// Whether each of the names is of a value that isn't shared and has no borrow.
+#[inline(always)]
+pub fn are_unborrowed_values<T: Drop>(entries: &Entries<T>, names: &[CellName]) -> bool
+    ensures { result ≡ list_all
+        (λ n. is_unborrowed_value (cell_at entries.now.slots (name_of_cell n))) names.now }
+{
+    names.iter().all(|name| entries.has_unborrowed_value(*name))
 }
 
 /// What hinders the end of the names of a list, at the first of them that is hindered. Nothing takes
@@ -55,41 +72,12 @@ pub fn find_hindrance<T: Drop>(entries: &Entries<T>, names: &[CellName]) -> Borr
 }
 
 /// The borrowed value that hinders the end of the names of a list: the first that a name reaches
-/// and that would go. Takes no memory. Where all are values that aren't shared and have no borrow,
-/// a small loop asks them.
-#[inline(always)]
-pub fn find_hindered<T: Drop>(entries: &Entries<T>, names: &[CellName]) -> Option<CellName>
-    requires linked { IsLinked (cells_of entries.now.slots) }
-    requires referred { AreReferred (λ m. 0) entries.now.slots }
-    requires apart { IsDistinct is_name (list_map name_of_cell names.now) }
-    ensures hindrance { first_hindrance (cells_of entries.now.slots)
-        (cells_after (cells_of entries.now.slots) (list_map name_of_cell names.now))
-        (list_map name_of_cell names.now)
-        ≡ refusal_of (cells_of entries.now.slots) (option_map name_of_cell result) }
-    ensures borrowed { IfSome result (λ m.
-        is_some (refusal_of (cells_of entries.now.slots) (Some (name_of_cell m))) ≡ true) }
-{
-    if are_unborrowed_values(entries, names) {
-        return None;
-    }
-    find_hindered_slow(entries, names)
-}
-
-// Whether each of the names is of a value that isn't shared and has no borrow.
-#[inline(always)]
-fn are_unborrowed_values<T: Drop>(entries: &Entries<T>, names: &[CellName]) -> bool
-    ensures { result ≡ list_all
-        (λ n. is_unborrowed_value (cell_at entries.now.slots (name_of_cell n))) names.now }
-{
-    names.iter().all(|name| entries.has_unborrowed_value(*name))
-}
-
-// The same, for all lists. A borrowed value that lives on is asked about once where names one after
-// another reach it; so the time goes with the list, and once more with the list where the names
-// come to another such value.
+/// and that would go. Takes no memory. A borrowed value that lives on is asked about once where
+/// names one after another reach it; so the time goes with the list, and once more with the list
+/// where the names come to another such value.
 #[cold]
 #[inline(never)]
-fn find_hindered_slow<T: Drop>(entries: &Entries<T>, names: &[CellName]) -> Option<CellName>
+pub fn find_hindered<T: Drop>(entries: &Entries<T>, names: &[CellName]) -> Option<CellName>
     requires linked { IsLinked (cells_of entries.now.slots) }
     requires referred { AreReferred (λ m. 0) entries.now.slots }
     requires apart { IsDistinct is_name (list_map name_of_cell names.now) }

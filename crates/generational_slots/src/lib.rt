@@ -6,6 +6,7 @@
 #![tactic(auto)]
 
 pub mod counts;
+pub mod found;
 pub mod hindrance;
 mod references;
 pub mod refusals;

@@ -12,24 +12,6 @@ use generational_containers::names::CellName;
 use generational_entries::entries::Entries;
 use generational_entries::entry::Kind;
 
-// What a box of this name reaches. The paths that few calls take ask this.
-#[cold]
-#[inline(never)]
-pub(crate) fn reach_slow<T: Drop>(entries: &Entries<T>, name: CellName) -> Option<CellName>
-    ensures { option_map name_of_cell result
-        ≡ leads_to (cell_at entries.now.slots (name_of_cell name)) (name_of_cell name) }
-{
-    entries.reach(name)
-}
-
-// Whether the cell of this name is a shared value, also one that is lent.
-#[inline(always)]
-pub(crate) fn is_shared<T: Drop>(entries: &Entries<T>, name: CellName) -> bool
-    ensures { result ≡ is_shared (cell_at entries.now.slots (name_of_cell name)) }
-{
-    matches!(entries.kind(name), Some(Kind::Shared))
-}
-
 // Whether a live cell of this name has a box: a shared value has none.
 pub(crate) fn is_boxed<T: Drop>(entries: &Entries<T>, name: CellName) -> bool
     ensures { result ≡ is_some (boxed_at (cell_at entries.now.slots (name_of_cell name))) }

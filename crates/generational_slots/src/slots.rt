@@ -5,7 +5,7 @@ ghost use Rattle.std.specs.Prelude.{Err, IfSome, IfOk, IfErr, IsSome, OnOk, OnEr
 ghost use Rattle.std.specs.Prelude.{is_none, is_ok, option_copied, option_map, length, not};
 ghost use Rattle.std.specs.Prelude.{is_some};
 ghost use Rattle.std.specs.Prelude.{map as list_map};
-ghost use Rattle.std.specs.List.{IsDistinct};
+ghost use Rattle.std.specs.List.{IsDistinct, list_all};
 ghost use Rattle.std.specs.FinMap as map;
 ghost use Rattle.generational_core.specs.declared.boxes.GenerationalPointer.{GenerationalPointer};
 ghost use Rattle.generational_errors.specs.declared.error.StoreError.TheVariants.{OutOfMemory};
@@ -30,26 +30,30 @@ ghost use Rattle.generational_entries.specs.declared.entry.StorageEntryData.TheV
 ghost use Rattle.generational_containers.specs.Borrows.{AreBelow};
 ghost use Rattle.generational_entries.specs.Entries.{IsUnborrowed, kept_data, target_of};
 ghost use Rattle.generational_entries.specs.Entry.{FoundBorrowed, cell_of, has_no_borrow};
+ghost use Rattle.generational_entries.specs.Entry.{is_unborrowed_value};
 ghost use Rattle.generational_entries.specs.Entry.{less_read, one_read, readers_of};
 ghost use Rattle.generational_containers.specs.CellNames.{name_of_cell};
 ghost use Rattle.generational_entries.specs.Entry.{target_in, value_for};
 ghost use Rattle.generational_slots.specs.SlotsState.{change_content, content_reached, reached};
 ghost use Rattle.generational_slots.specs.SlotsState.{refusal_to_read_at, refusal_to_refer_at};
 ghost use Rattle.generational_slots.specs.SlotsState.{refusal_to_write_at};
-ghost use Rattle.generational_slots.specs.SlotsState.{doomed_by, IsMade};
+ghost use Rattle.generational_slots.specs.SlotsState.{doomed_by, Finds, HasEnded, IsMade, IsReadable, IsWritable};
 ghost use Rattle.generational_slots.specs.SlotsState.{IsTurned};
 ghost use Rattle.generational_slots.specs.SlotRows.{all_slot_rows, ReadSlots};
 ghost use Rattle.generational_slots.specs.SlotsState.{with_records};
 
 use crate::counts::{Counts, SlotCounts};
-use crate::hindrance::{doomed, find_hindered, find_hindrance};
-use crate::references::{forget, is_boxed, is_shared, reach_slow, refer};
+use crate::found::{Found, look};
+use crate::hindrance::{are_unborrowed_values, doomed, find_hindered, find_hindrance};
+use crate::references::{forget, is_boxed, refer};
 use crate::refusals::{dropped, dropped_mut};
 use crate::rows::push_slots;
 use generational_containers::names::CellName;
 use generational_containers::pool::{SlotPool, grow_within};
 use generational_core::parts::Borrow;
-use generational_core::{BaseRow, BorrowError, BorrowMutResult, Location, StoreError};
+use generational_core::{
+    BaseRow, BorrowError, BorrowMutError, BorrowMutResult, Location, Refused, StoreError,
+};
 use generational_entries::entries::Entries;
 use generational_entries::entry::{Kind, StorageEntryData};
 use std::alloc::{AllocError, Global};
@@ -172,19 +176,6 @@ impl<T: Drop, P: SlotPool> Slots<T, P> {
         self.entries.reference_to(name.slot)
     }
 
-    /// Whether a box of this name reaches a value that no writer has.
-    #[inline(always)]
-    pub fn can_read(&self, name: CellName) -> bool
-        requires { IsLinked self.now.state.cells }
-        ensures { (created : Location) → result
-            ≡ is_none (refusal_to_read_at self.now.state (name_of_cell name) created) }
-    {
-        match self.entries.reach(name) {
-            Some(value) => self.entries.borrow_error(value.slot).is_none(),
-            None => false,
-        }
-    }
-
     /// The value that a box of this name reaches, unless a writer has it.
     #[inline(always)]
     pub fn peek(&self, name: CellName) -> Option<&T>
@@ -206,49 +197,21 @@ impl<T: Drop, P: SlotPool> Slots<T, P> {
         self.entries.reach(name).is_some()
     }
 
-    /// Whether no writer has what a box of this name reaches, if it reaches a value.
-    pub fn may_read(&self, name: CellName) -> bool
-        requires { IsLinked self.now.state.cells }
-        ensures { (created : Location) → result ≡ not (tells_of_borrow
-            (refusal_to_read_at self.now.state (name_of_cell name) created)) }
-    {
-        match self.entries.reach(name) {
-            Some(value) => self.entries.borrow_error(value.slot).is_none(),
-            None => true,
-        }
-    }
-
-    /// Whether a box of this name reaches a value without borrows.
+    /// What a box of this name reaches, and which borrow is there.
     #[inline(always)]
-    pub fn can_write(&self, name: CellName) -> bool
+    pub fn look(&self, name: CellName) -> Found
         requires { IsLinked self.now.state.cells }
-        ensures { (created : Location) → result
-            ≡ is_none (refusal_to_write_at self.now.state (name_of_cell name) created) }
+        ensures { Finds self.now.state.cells (reached self.now.state (name_of_cell name)) result }
     {
-        match self.entries.reach(name) {
-            Some(value) => self.entries.is_unborrowed(value.slot),
-            None => false,
-        }
-    }
-
-    /// Whether no borrow stands at what a box of this name reaches, if it reaches a value.
-    pub fn may_write(&self, name: CellName) -> bool
-        requires { IsLinked self.now.state.cells }
-        ensures write { (created : Location) → result ≡ not (tells_of_borrow
-            (refusal_to_write_at self.now.state (name_of_cell name) created)) }
-        ensures set { result ≡ may_set (reached self.now.state (name_of_cell name))
-            (content_reached self.now.state (reached self.now.state (name_of_cell name))) }
-    {
-        match self.entries.reach(name) {
-            Some(value) => self.entries.is_unborrowed(value.slot),
-            None => true,
-        }
+        look(&self.entries, name)
     }
 
     /// Whether no borrow stands in the way where the reference of this name is to name another
     /// value.
-    pub fn may_point(&self, name: CellName, new: CellName) -> bool
-        requires { IsLinked self.now.state.cells }
+    pub fn may_point(&self, name: CellName, new: CellName, shared: bool) -> bool
+        requires linked { IsLinked self.now.state.cells }
+        requires shared { shared
+            ≡ is_shared (map.get self.now.state.cells (name_of_cell new)) }
         ensures { (a b : GenerationalPointer) → name_of a ≡ name_of_cell name
             → result ≡ not (is_hindered (Point a b) (point self.now.state a b
             (map.get self.now.state.cells (name_of_cell name)) (Some (name_of_cell new))
@@ -257,10 +220,10 @@ impl<T: Drop, P: SlotPool> Slots<T, P> {
         let Some(old) = self.entries.target(name) else {
             return true;
         };
-        if old == new || !is_shared(&self.entries, new) {
+        if old == new || !shared {
             return true;
         }
-        self.may_end(name)
+        self.may_lose(name, Some(old))
     }
 
     /// What the reference of this name names, if it is one.
@@ -281,23 +244,37 @@ impl<T: Drop, P: SlotPool> Slots<T, P> {
         created_at: Location,
     ) -> Result<(CellName, bool), BorrowError>
         requires { IsLinked self.now.state.cells }
-        ensures ok { IfOk result (λ r.
-            (reached self.now.state (name_of_cell name) ≡ Some (name_of_cell r.0))
-            × (read_refusal (content_at self.now.state (name_of_cell r.0)) ≡ None)
-            × (r.1 ≡ true → write_refusal (content_at self.now.state (name_of_cell r.0)) ≡ None)) }
-        ensures err { IfErr result (λ e.
-            refusal_to_read_at self.now.state (name_of_cell name) created_at
-            ≡ Some (refusal_of_read_error e)) }
+        ensures { IsReadable self.now.state (name_of_cell name) created_at result }
     {
         if self.entries.has_unborrowed_value(name) {
             return Ok((name, true));
         }
-        self.readable_slow(name, created_at)
+        self.find_readable(name, created_at)
     }
 
-    // The same, for every box.
+    // What `readable` promises, by a look. Apart from it, so that the place of what the look finds is
+    // made only here.
     #[inline(always)]
-    fn readable_slow(
+    fn find_readable(
+        &self,
+        name: CellName,
+        created_at: Location,
+    ) -> Result<(CellName, bool), BorrowError>
+        requires { IsLinked self.now.state.cells }
+        ensures { IsReadable self.now.state (name_of_cell name) created_at result }
+    {
+        match self.look(name) {
+            Found::Nothing => Err(dropped(created_at)),
+            Found::Unborrowed(value) => Ok((value, true)),
+            Found::Read(value) => Ok((value, false)),
+            Found::Lent(writer) => Err(BorrowError::AlreadyBorrowedMut(writer)),
+        }
+    }
+
+    /// The value that a box of this name reaches, unless a writer has it, and whether it is shared.
+    /// A refusal tells where the box was made.
+    #[inline(always)]
+    pub fn unlent(
         &self,
         name: CellName,
         created_at: Location,
@@ -306,37 +283,20 @@ impl<T: Drop, P: SlotPool> Slots<T, P> {
         ensures ok { IfOk result (λ r.
             (reached self.now.state (name_of_cell name) ≡ Some (name_of_cell r.0))
             × (read_refusal (content_at self.now.state (name_of_cell r.0)) ≡ None)
-            × (r.1 ≡ true → write_refusal (content_at self.now.state (name_of_cell r.0)) ≡ None)) }
+            × (r.1 ≡ is_shared (map.get self.now.state.cells (name_of_cell r.0)))) }
         ensures err { IfErr result (λ e.
             refusal_to_read_at self.now.state (name_of_cell name) created_at
             ≡ Some (refusal_of_read_error e)) }
     {
-        let Some(value) = reach_slow(&self.entries, name) else {
-            return Err(dropped(created_at));
+        let (value, shared) = match self.entries.target(name) {
+            Some(target) => (target, true),
+            None => match self.entries.reach(name) {
+                Some(own) => (own, false),
+                None => return Err(dropped(created_at)),
+            },
         };
         match self.entries.borrow_error(value.slot) {
-            None => Ok((value, self.entries.is_unborrowed(value.slot))),
-            Some(writer) => Err(BorrowError::AlreadyBorrowedMut(writer)),
-        }
-    }
-
-    /// The value that a box of this name reaches, unless a writer has it. A refusal tells where the
-    /// box was made.
-    #[inline(always)]
-    pub fn unlent(&self, name: CellName, created_at: Location) -> Result<CellName, BorrowError>
-        requires { IsLinked self.now.state.cells }
-        ensures ok { IfOk result (λ m.
-            (reached self.now.state (name_of_cell name) ≡ Some (name_of_cell m))
-            × (read_refusal (content_at self.now.state (name_of_cell m)) ≡ None)) }
-        ensures err { IfErr result (λ e.
-            refusal_to_read_at self.now.state (name_of_cell name) created_at
-            ≡ Some (refusal_of_read_error e)) }
-    {
-        let Some(value) = self.entries.reach(name) else {
-            return Err(dropped(created_at));
-        };
-        match self.entries.borrow_error(value.slot) {
-            None => Ok(value),
+            None => Ok((value, shared)),
             Some(writer) => Err(BorrowError::AlreadyBorrowedMut(writer)),
         }
     }
@@ -353,11 +313,11 @@ impl<T: Drop, P: SlotPool> Slots<T, P> {
             refusal_to_refer_at self.now.state (name_of_cell name) created_at
             ≡ Some (refusal_of_read_error e)) }
     {
-        let value = match self.unlent(name, created_at) {
-            Ok(value) => value,
+        let (value, shared) = match self.unlent(name, created_at) {
+            Ok(found) => found,
             Err(error) => return Err(error),
         };
-        if is_shared(&self.entries, value) {
+        if shared {
             return Ok(value);
         }
         Err(dropped(created_at))
@@ -368,34 +328,30 @@ impl<T: Drop, P: SlotPool> Slots<T, P> {
     #[inline(always)]
     pub fn writable(&self, name: CellName, created_at: Location) -> BorrowMutResult<CellName>
         requires { IsLinked self.now.state.cells }
-        ensures ok { IfOk result (λ m.
-            (reached self.now.state (name_of_cell name) ≡ Some (name_of_cell m))
-            × (write_refusal (content_at self.now.state (name_of_cell m)) ≡ None)) }
-        ensures err { IfErr result (λ e. FoundBorrowed
-            (refusal_to_write_at self.now.state (name_of_cell name) created_at) (Err e)) }
+        ensures { IsWritable self.now.state (name_of_cell name) created_at result }
     {
         if self.entries.has_unborrowed_value(name) {
             return Ok(name);
         }
-        self.writable_slow(name, created_at)
+        self.find_writable(name, created_at)
     }
 
-    // The same, for every box.
+    // What `writable` promises, by a look.
     #[inline(always)]
-    fn writable_slow(&self, name: CellName, created_at: Location) -> BorrowMutResult<CellName>
+    fn find_writable(&self, name: CellName, created_at: Location) -> BorrowMutResult<CellName>
         requires { IsLinked self.now.state.cells }
-        ensures ok { IfOk result (λ m.
-            (reached self.now.state (name_of_cell name) ≡ Some (name_of_cell m))
-            × (write_refusal (content_at self.now.state (name_of_cell m)) ≡ None)) }
-        ensures err { IfErr result (λ e. FoundBorrowed
-            (refusal_to_write_at self.now.state (name_of_cell name) created_at) (Err e)) }
+        ensures { IsWritable self.now.state (name_of_cell name) created_at result }
     {
-        let Some(value) = reach_slow(&self.entries, name) else {
-            return Err(dropped_mut(created_at));
-        };
-        match self.entries.borrow_mut_error(value.slot) {
-            Ok(()) => Ok(value),
-            Err(refused) => Err(refused),
+        match self.look(name) {
+            Found::Nothing => Err(dropped_mut(created_at)),
+            Found::Unborrowed(value) => Ok(value),
+            Found::Read(value) => match self.entries.borrow_mut_error(value.slot) {
+                Ok(()) => Ok(value),
+                Err(refused) => Err(refused),
+            },
+            Found::Lent(writer) => {
+                Err(Refused::Borrow(BorrowMutError::AlreadyBorrowedMut(writer)))
+            }
         }
     }
 
@@ -655,15 +611,18 @@ impl<T: Drop, P: SlotPool> Slots<T, P> {
         }
     }
 
-    // The value that goes where a name ends: its own, or the one that it refers to as the last.
+    // The value that goes where a name ends: its own, or the one that it refers to as the last. The
+    // caller knows what it refers to.
     #[inline(always)]
-    fn doomed(&self, name: CellName) -> Option<CellName>
-        requires { IsLinked self.now.state.cells }
+    fn doomed(&self, name: CellName, target: Option<CellName>) -> Option<CellName>
+        requires linked { IsLinked self.now.state.cells }
+        requires target { option_map name_of_cell target
+            ≡ target_in (map.get self.now.state.cells (name_of_cell name)) }
         ensures { option_map name_of_cell result ≡ doomed_by
             (is_named (map.remove self.now.state.cells (name_of_cell name)))
             (map.get self.now.state.cells (name_of_cell name)) (name_of_cell name) }
     {
-        doomed(&self.entries, name)
+        doomed(&self.entries, name, target)
     }
 
     /// Whether no borrow stands in the way of a name's end.
@@ -671,7 +630,18 @@ impl<T: Drop, P: SlotPool> Slots<T, P> {
         requires { IsLinked self.now.state.cells }
         ensures { result ≡ is_none (hindrance_to self.now.state (name_of_cell name ∷ [])) }
     {
-        match self.doomed(name) {
+        let target = self.entries.target(name);
+        self.may_lose(name, target)
+    }
+
+    // Whether no borrow stands at the value that goes where a name ends.
+    fn may_lose(&self, name: CellName, target: Option<CellName>) -> bool
+        requires linked { IsLinked self.now.state.cells }
+        requires target { option_map name_of_cell target
+            ≡ target_in (map.get self.now.state.cells (name_of_cell name)) }
+        ensures { result ≡ is_none (hindrance_to self.now.state (name_of_cell name ∷ [])) }
+    {
+        match self.doomed(name, target) {
             Some(doomed) => self.entries.is_unborrowed(doomed.slot),
             None => true,
         }
@@ -681,64 +651,73 @@ impl<T: Drop, P: SlotPool> Slots<T, P> {
     #[inline(always)]
     pub fn end(&mut self, name: CellName) -> BorrowMutResult<()>
         requires { IsLinked self.old.state.cells }
-        ensures found { FoundBorrowed (hindrance_to self.old.state (name_of_cell name ∷ []))
-            result }
-        ensures ok { OnOk result (self.new.state ≡ close self.old.state (name_of_cell name ∷ [])) }
-        ensures err { OnErr result (self.new.state ≡ self.old.state) }
+        ensures { HasEnded self.old.state self.new.state (name_of_cell name ∷ []) result }
     {
         if self.entries.has_unborrowed_value(name) {
             self.remove(name, None, true);
             return Ok(());
         }
-        self.end_slow(name)
+        self.end_other(name)
     }
 
-    // The same, for every cell.
+    // Hands on what `end_slow` answers, so that its place is made only here.
     #[inline(always)]
+    fn end_other(&mut self, name: CellName) -> BorrowMutResult<()>
+        requires { IsLinked self.old.state.cells }
+        ensures { HasEnded self.old.state self.new.state (name_of_cell name ∷ []) result }
+    {
+        match self.end_slow(name) {
+            Ok(()) => Ok(()),
+            Err(refused) => Err(refused),
+        }
+    }
+
+    // Ends a name of any cell, unless a borrow stands in the way.
+    #[cold]
+    #[inline(never)]
     fn end_slow(&mut self, name: CellName) -> BorrowMutResult<()>
         requires { IsLinked self.old.state.cells }
-        ensures found { FoundBorrowed (hindrance_to self.old.state (name_of_cell name ∷ []))
-            result }
-        ensures ok { OnOk result (self.new.state ≡ close self.old.state (name_of_cell name ∷ [])) }
-        ensures err { OnErr result (self.new.state ≡ self.old.state) }
+        ensures { HasEnded self.old.state self.new.state (name_of_cell name ∷ []) result }
     {
-        if let Some(doomed) = self.doomed(name) {
-            match self.entries.borrow_mut_error(doomed.slot) {
+        let target = self.entries.target(name);
+        let doomed = self.doomed(name, target);
+        if let Some(value) = doomed {
+            match self.entries.borrow_mut_error(value.slot) {
                 Ok(()) => {}
                 Err(refused) => return Err(refused),
             }
         }
-        self.close_slow(name);
+        self.take_away(name, target, doomed);
         Ok(())
     }
 
-    // Ends a name, whatever stands in the way. Where a shared value goes with its last reference,
-    // its slot is free before the reference's.
+    // Ends a name, whatever stands in the way.
     #[inline(always)]
     fn close(&mut self, name: CellName)
         requires { IsLinked self.old.state.cells }
         ensures { self.new.state ≡ close self.old.state (name_of_cell name ∷ []) }
     {
-        if self.entries.has_unborrowed_value(name) {
-            self.remove(name, None, true);
-            return;
-        }
-        self.close_slow(name);
+        let target = self.entries.target(name);
+        let doomed = self.doomed(name, target);
+        self.take_away(name, target, doomed);
     }
 
-    // The same, for every cell.
-    #[cold]
-    #[inline(never)]
-    fn close_slow(&mut self, name: CellName)
-        requires { IsLinked self.old.state.cells }
+    // Takes the cell of a name away with the value that goes then. Where that is shared, its slot is
+    // free before the reference's. The caller knows what the cell refers to, and which value goes.
+    #[inline(always)]
+    fn take_away(&mut self, name: CellName, target: Option<CellName>, doomed: Option<CellName>)
+        requires linked { IsLinked self.old.state.cells }
+        requires target { option_map name_of_cell target
+            ≡ target_in (map.get self.old.state.cells (name_of_cell name)) }
+        requires doomed { option_map name_of_cell doomed ≡ doomed_by
+            (is_named (map.remove self.old.state.cells (name_of_cell name)))
+            (map.get self.old.state.cells (name_of_cell name)) (name_of_cell name) }
         ensures { self.new.state ≡ close self.old.state (name_of_cell name ∷ []) }
     {
-        let target = self.entries.target(name);
-        let is_reference = target.is_some();
-        if let Some(doomed) = self.doomed(name) {
-            self.remove(doomed, None, false);
+        if let Some(value) = doomed {
+            self.remove(value, None, false);
         }
-        if is_reference {
+        if target.is_some() {
             self.remove(name, target, false);
         }
     }
@@ -751,9 +730,12 @@ impl<T: Drop, P: SlotPool> Slots<T, P> {
         name: CellName,
         created_at: Location,
         new: CellName,
+        shared: bool,
     ) -> BorrowMutResult<()>
         requires linked { IsLinked self.old.state.cells }
         requires there { IsSome (content_at self.old.state (name_of_cell new)) }
+        requires shared { shared
+            ≡ is_shared (map.get self.old.state.cells (name_of_cell new)) }
         ensures { (b : GenerationalPointer) → IsTurned self.old.state self.new.state result
             (point self.old.state (box_of 0 (name_of_cell name) created_at) b
             (map.get self.old.state.cells (name_of_cell name)) (Some (name_of_cell new))
@@ -765,7 +747,7 @@ impl<T: Drop, P: SlotPool> Slots<T, P> {
             }
             return Err(dropped_mut(self.entries.details(new.slot).created_at));
         };
-        if !is_shared(&self.entries, new) {
+        if !shared {
             return Err(dropped_mut(self.entries.details(new.slot).created_at));
         }
         self.turn(name, old, new)
@@ -784,7 +766,7 @@ impl<T: Drop, P: SlotPool> Slots<T, P> {
         if old == new {
             return Ok(());
         }
-        let Some(doomed) = self.doomed(name) else {
+        let Some(doomed) = self.doomed(name, Some(old)) else {
             self.redirect(name, old, new);
             return Ok(());
         };
@@ -809,7 +791,7 @@ impl<T: Drop, P: SlotPool> Slots<T, P> {
                   (name_of_cell name) (Ref (name_of_cell new) l);
             }) }
     {
-        forget(&mut self.entries, Some(old));
+        self.entries.count_down(old.slot);
         self.entries.redirect(name.slot, new.slot);
         refer(&mut self.entries, Some(new));
     }
@@ -820,7 +802,7 @@ impl<T: Drop, P: SlotPool> Slots<T, P> {
         requires apart { IsDistinct is_name (list_map name_of_cell names.now) }
         ensures { result ≡ is_none (hindrance_to self.now.state (list_map name_of_cell names.now)) }
     {
-        find_hindered(&self.entries, names).is_none()
+        are_unborrowed_values(&self.entries, names) || find_hindered(&self.entries, names).is_none()
     }
 
     /// Ends the names of a list, from the first to the last, or none of them, where a borrow stands
@@ -828,11 +810,36 @@ impl<T: Drop, P: SlotPool> Slots<T, P> {
     pub fn end_all(&mut self, names: &[CellName]) -> BorrowMutResult<()>
         requires linked { IsLinked self.old.state.cells }
         requires apart { IsDistinct is_name (list_map name_of_cell names.now) }
-        ensures found { FoundBorrowed
-            (hindrance_to self.old.state (list_map name_of_cell names.now)) result }
-        ensures ok { OnOk result
-            (self.new.state ≡ close self.old.state (list_map name_of_cell names.now)) }
-        ensures err { OnErr result (self.new.state ≡ self.old.state) }
+        ensures { HasEnded self.old.state self.new.state (list_map name_of_cell names.now) result }
+    {
+        if are_unborrowed_values(&self.entries, names) {
+            self.remove_all(names);
+            return Ok(());
+        }
+        self.end_all_slow(names)
+    }
+
+    // Takes values away that aren't shared and have no borrow.
+    #[inline(always)]
+    fn remove_all(&mut self, names: &[CellName])
+        requires linked { IsLinked self.old.state.cells }
+        requires apart { IsDistinct is_name (list_map name_of_cell names.now) }
+        requires unborrowed { list_all (λ n. is_unborrowed_value
+            (map.get self.old.state.cells (name_of_cell n))) names.now ≡ true }
+        ensures { self.new.state ≡ close self.old.state (list_map name_of_cell names.now) }
+    {
+        for name in names {
+            self.remove(*name, None, true);
+        }
+    }
+
+    // Ends the names of any list, or none of them.
+    #[cold]
+    #[inline(never)]
+    fn end_all_slow(&mut self, names: &[CellName]) -> BorrowMutResult<()>
+        requires linked { IsLinked self.old.state.cells }
+        requires apart { IsDistinct is_name (list_map name_of_cell names.now) }
+        ensures { HasEnded self.old.state self.new.state (list_map name_of_cell names.now) result }
     {
         match find_hindrance(&self.entries, names) {
             Ok(()) => {}

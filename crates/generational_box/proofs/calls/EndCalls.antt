@@ -1,10 +1,10 @@
 -- The ends of names, and which calls no borrow hinders, as steps of the machine.
 use Rattle.generational_box.proofs.Common
 use Common.{arith, Bool, BorrowMutError, BorrowRefusal, Cell, cells_after, close, close_nothing}
-use Common.{Content, content_of, Done, End, end_answer, eq-eqb, Err, first_hindrance, FoundBorrowed}
-use Common.{GenerationalPointer, hindrance_at, hindrance_to, inl, is_none, is_ready, IsLinked}
+use Common.{Content, content_of, Done, End, end_answer, eq-eqb, Err, first_hindrance}
+use Common.{GenerationalPointer, HasEnded, hindrance_at, hindrance_to, inl, is_none, is_ready, IsLinked}
 use Common.{IsSound, List, ManuallyDrop, Meets, Name, name_of, NameMap, ne_eqb, no_names, not, Ok}
-use Common.{OnErr, OnOk, Option, Owners, refl, Refused, Result, sound_linked, State, subst, sym}
+use Common.{Option, Owners, refl, Refused, Result, sound_linked, State, subst, sym}
 use Common.{tells_of_borrow, true, with_records, write_refusal, ℕ, [], ◌∙◌, ◌∷◌, ◌≡◌, ◌≢◌}
 use Rattle.generational_box.proofs.calls.Calls.{hindered_step}
 use Rattle.std.specs.FinMap as map
@@ -37,15 +37,14 @@ module _ {T : Type 0} where
 
       -- where it is this store's, its name ends unless a borrow stands in the way
       pub end_own : (n : Name) (Y : State T) (r : Result (Unit {0}) (Refused BorrowMutError))
-          → n ≡ name_of b → b.id.store ≡ number → FoundBorrowed (hindrance_to X (n ∷ [])) r
-          → OnOk r (Y ≡ close X (n ∷ [])) → OnErr r (Y ≡ X)
+          → n ≡ name_of b → b.id.store ≡ number → HasEnded X Y (n ∷ []) r
           → Meets S (End b) (end_answer r) (with_records Y number owners next)
       unfolding hindrance_to
-      end_own n Y (Ok u) at own found ok err = rw (← view, ok, at)
-          (inl (no_names, tt, rw (eq-eqb b.id.store number own, rw at at found)))
-      end_own n Y (Err e) at own found ok err = rw (← view, err)
+      end_own n Y (Ok u) at own ended = rw (← view, ended.1, at)
+          (inl (no_names, tt, rw (eq-eqb b.id.store number own, rw at at ended.0)))
+      end_own n Y (Err e) at own ended = rw (← view, ended.1)
           (hindered_step state (End b) e (hindrance_to X (n ∷ [])) (Done, close state (n ∷ []))
-          (rw (at, eq-eqb b.id.store number own) refl) found)
+          (rw (at, eq-eqb b.id.store number own) refl) ended.0)
 
   -- ---- which calls no borrow hinders
 

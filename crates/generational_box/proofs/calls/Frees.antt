@@ -1,9 +1,9 @@
 -- Whether a read and a write are free, and values that are set, as the machine has them.
 use Rattle.generational_box.proofs.Common
-use Common.{ap, arith, can_read, can_write, Content, content_at, content_reached, false, fill}
+use Common.{ap, arith, can_write, Content, content_at, content_reached, fill}
 use Common.{GenerationalPointer, has_no_borrow, Here, IfSome, inl, is_none, IsSound, Meets, Name}
 use Common.{name_of, nat_tests, no_names, None, Old, Option, Owners, reach, reached, refl}
-use Common.{refusal_at, refusal_to_read, refusal_to_write, SetValue, Some, State, sym, true}
+use Common.{refusal_at, refusal_to_write, SetValue, Some, State, sym, true}
 use Common.{with_records, write_refusal, ℕ, [], ◌∙◌, ◌≡◌}
 use Rattle.generational_box.proofs.calls.Calls.{reach_here, reach_own, reaches, write_own}
 
@@ -12,16 +12,6 @@ module _ {T : Type 0} where
   unborrowed : (c : Content T) → is_none (write_refusal (Some c)) ≡ true
       → has_no_borrow (Some c) ≡ true
   unborrowed c free = grind arith
-
-  module _ {V S : State T} (view : V ≡ S) (b : GenerationalPointer) where
-    -- what reaches nothing can't be read or written
-    pub read_unreached : None ≡ reach S b → false ≡ can_read S b
-    unfolding refusal_to_read
-    read_unreached none = rw (← none)
-
-    pub write_unreached : None ≡ reach S b → false ≡ can_write S b
-    unfolding refusal_to_write
-    write_unreached none = rw (← none)
 
   -- what can be written is of this store
   written_here : (number : ℕ) (V : State T) (b : GenerationalPointer) → V.number ≡ number

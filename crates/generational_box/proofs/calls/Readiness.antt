@@ -1,28 +1,15 @@
 -- Which calls of a store no borrow hinders, as its slots tell it.
 use Rattle.generational_box.proofs.Common
 use Rattle.generational_box.proofs.{Common.◌≤◌, calls.EndCalls.end_tells, calls.Points.points}
-use Common.{ap, arith, Bool, BorrowRefusal, Cell, cell_at, close, cond, content_of, Done, eq-eqb}
+use Common.{ap, arith, Bool, BorrowRefusal, Cell, close, cond, Done, eq-eqb}
 use Common.{false, GenerationalPointer, has_same_id, hindrance_at, hindrance_to, is_free}
-use Common.{is_hindered, is_name, is_none, le-ltb, List, lt-ltb, may_set, Name, name_of, NameMap}
+use Common.{is_hindered, is_name, is_none, le-ltb, List, lt-ltb, Name, name_of, NameMap}
 use Common.{ne_eqb, None, not, Option, Outcome, OwnerName, Owners, ownership, Ownership, point}
-use Common.{Point, reach, Ref, refl, refusal_to_read, refusal_to_write, ReleaseOwner, Shared, Some}
+use Common.{Point, reach, Ref, refl, refusal_to_read, ReleaseOwner, Shared, Some}
 use Common.{State, sweep, sym, tells_of_borrow, true, unless, with_records, ℕ, ◌<◌, ◌∙◌, ◌≡◌, ◌≢◌}
 use Rattle.std.specs.FinMap as map
 
 module _ {T : Type 0} where
-  module _ (S : State T) (b : GenerationalPointer) (gone : None ≡ reach S b) where
-    -- a box that reaches nothing meets no borrow
-    pub gone_read : true ≡ not (tells_of_borrow (refusal_to_read S b))
-    unfolding refusal_to_read
-    gone_read = rw (← gone)
-
-    pub gone_write : true ≡ not (tells_of_borrow (refusal_to_write S b))
-    unfolding refusal_to_write
-    gone_write = rw (← gone)
-
-    pub gone_set : true ≡ may_set (reach S b) (content_of (cell_at S (reach S b)))
-    gone_set = rw (← gone)
-
   module _ (S : State T) (a b : GenerationalPointer) where
     -- a box that names itself changes nothing
     pub same_free : true ≡ has_same_id a b → true ≡ is_free S (Point a b)

@@ -185,9 +185,13 @@ module _ {T : Type 0} where
   content_kept k = grind arith
 
   -- what hinders the end of a live value
+  pub content_there : (slots : List (Entry T)) (m : Name) (f : IsFound slots m)
+      → content_of (map.get (cells_of slots) m) ≡ content_in f.kept
+  content_there slots m f = rw (f.cell, content_kept f.kept) refl
+
   pub refusal_there : (slots : List (Entry T)) (m : Name) (f : IsFound slots m)
       → refusal_of (cells_of slots) (Some m) ≡ write_refusal (content_in f.kept)
-  refusal_there slots m f = rw (f.cell, content_kept f.kept) refl
+  refusal_there slots m f = ap write_refusal (content_there slots m f)
 
   -- what is refused is live
   pub refused_live : (slots : List (Entry T)) (m : Name)

@@ -1,11 +1,12 @@
 -- What the box of a name reaches, as the slots tell it and as the state sees it.
 use Rattle.generational_slots.proofs.Common
-use Common.{arith, Bool, Cell, cell_at, cond, Content, content_at, content_of, doomed_by, Entry}
+use Common.{arith, Bool, Cell, cell_at, CellName, cond, Content, content_at, content_of, doomed_by, Entry}
 use Common.{false, Here, is_named, is_none, is_shared, is_some, is_unborrowed_value, IsLinked}
-use Common.{leads_to, List, Location, Name, None, not, Option, option_map, reached, read_refusal}
-use Common.{Ref, refl, SlotsState, Some, State, state_of, sym, tells_of_borrow, true, Value}
-use Common.{write_refusal, ℕ, [], ◌∙◌, ◌≡◌}
-use Rattle.generational_slots.proofs.states.Changes.{cell_seen, held_in, IsSeen}
+use Common.{BorrowRefusal, leads_to, List, Location, Name, None, not, Option}
+use Common.{name_of_cell, NameMap, option_map, reached, read_refusal, read_refusal_of, Ref, refl, refusal_at, SlotsState, Some, State}
+use Common.{state_of, sym, target_in, tells_of_borrow, true, Value, write_refusal, ℕ, [], ◌∙◌, ◌≡◌}
+use Rattle.generational_slots.proofs.states.{Changes.cell_seen, Changes.held_in, Changes.IsSeen}
+use Rattle.generational_slots.proofs.states.References.{reference_to}
 use Rattle.std.specs.FinMap as map
 
 -- nothing is found of what isn't there
@@ -28,12 +29,22 @@ pub none_there : {A : Type 0} (o : Option A) → is_none o ≡ true → o ≡ No
 none_there None h = refl
 none_there (Some x) h = cc
 
+pub some_there : {A : Type 0} (o : Option A) → is_none o ≡ false → is_some o ≡ true
+some_there None h = cc
+some_there (Some x) h = refl
+
 -- the slot of a content that the box of a name reaches
 pub record IsReached {T : Type 0} (slots : List (Entry T)) (S : State T) (n m : Name) : Type 0
   where
     pub place : IsSeen slots S m
     pub open place use *
     pub leads : reached S n ≡ Some m
+
+-- the slot of a value that the box of a name reaches, and whether it is shared
+pub record IsLed {T : Type 0} (slots : List (Entry T)) (S : State T) (n : Name)
+    (led : CellName × Bool) : Type 0 where
+  pub reached : IsReached slots S n (name_of_cell led.0)
+  pub shared : led.1 ≡ is_shared (map.get S.cells (name_of_cell led.0))
 
 module _ {T : Type 0} where
   -- a shared cell has a content
@@ -117,3 +128,66 @@ module _ {T : Type 0} where
           × (write_refusal (content_of o) ≡ None)
       at (Some (Value (Here v []) l)) h = (refl, refl, refl)
       at _ h = cc
+
+  -- what isn't refused to a writer isn't refused to a reader
+  pub unread : (c : Option (Content T)) → write_refusal c ≡ None → read_refusal c ≡ None
+  unread c h = grind arith
+
+  -- what is lent refuses a read of the box that reaches it, and a write
+  module _ (cells : NameMap (Cell T)) (r : Option Name) (l : Location) (t : BorrowRefusal)
+      (lent : read_refusal_of cells r ≡ Some t) where
+    pub lent_read : refusal_at r l (λ m. read_refusal (content_of (map.get cells m))) ≡ Some t
+    lent_read = at r lent
+      where
+        at : (r : Option Name) → read_refusal_of cells r ≡ Some t
+            → refusal_at r l (λ m. read_refusal (content_of (map.get cells m))) ≡ Some t
+        at None h = cc
+        at (Some m) h = h
+
+    pub lent_write : refusal_at r l (λ m. write_refusal (content_of (map.get cells m))) ≡ Some t
+    lent_write = at r lent
+      where
+        own : (c : Option (Content T)) → read_refusal c ≡ Some t → write_refusal c ≡ Some t
+        own c h = grind arith
+
+        at : (r : Option Name) → read_refusal_of cells r ≡ Some t
+            → refusal_at r l (λ m. write_refusal (content_of (map.get cells m))) ≡ Some t
+        at None h = cc
+        at (Some m) h = own (content_of (map.get cells m)) h
+
+  -- a reference leads to what it names
+  leads_named : (o : Option (Cell T)) (n m : Name) → Some m ≡ target_in o → Some m ≡ leads_to o n
+  leads_named (Some (Ref q l)) n m h = h
+  leads_named (Some (Value c l)) n m h = cc
+  leads_named _ n m h = cc
+
+  -- and what names nothing to itself, where it has a box
+  leads_own : (o : Option (Cell T)) (n m : Name) → None ≡ target_in o → Some m ≡ leads_to o n
+      → (m ≡ n) × (is_shared o ≡ false)
+  leads_own (Some (Value c l)) n m none leads = (cc, refl)
+  leads_own (Some (Ref q l)) n m none leads = absurd cc
+  leads_own _ n m none leads = absurd cc
+
+  module _ {now : SlotsState T} {start peak spare : ℕ} {slots : List (Entry T)}
+      (view : record { state = state_of start peak slots; spare = spare } ≡ now)
+      (linked : IsLinked now.state.cells) (n : Name) (m : CellName) where
+    pub led_reference : Some (name_of_cell m) ≡ target_in (cell_at slots n)
+        → IsLed slots now.state n (m, true)
+    led_reference named =
+        let ref = reference_to (map.get now.state.cells n) (name_of_cell m)
+        (sym (rw (cell_seen slots view n) at named)) in
+        record {
+          reached = reached_in view linked n (name_of_cell m)
+              (leads_named (cell_at slots n) n (name_of_cell m) named);
+          shared = sym (linked.targets n (name_of_cell m) ref.0 ref.1);
+        }
+
+    pub led_own : None ≡ target_in (cell_at slots n)
+        → Some (name_of_cell m) ≡ leads_to (cell_at slots n) n
+        → IsLed slots now.state n (m, false)
+    led_own none leads =
+        let own = leads_own (cell_at slots n) n (name_of_cell m) none leads in
+        record {
+          reached = reached_in view linked n (name_of_cell m) leads;
+          shared = rw (own.0, ← cell_seen slots view n) (sym own.1);
+        }

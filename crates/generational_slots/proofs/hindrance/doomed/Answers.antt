@@ -5,13 +5,13 @@ use Rattle.generational_slots.proofs.hindrance.doomed.Goals as goal
 
 pub details-requires : goal.details-requires
 details-requires g c =
-    found_within (found_target c.args.entries.now.slots c.requires.targets
-    (name_of_cell c.args.name) _ (rw c.in-Some.is at c.target.ensures)).slot
+    found_within (found_target c.args.entries.now.slots c.requires.linked.targets
+    (name_of_cell c.args.name) _ (rw c.in-Some.is at c.requires.target)).slot
 
 pub returns-in-Some : goal.returns-in-Some
 returns-in-Some g c =
-    let target = rw c.in-Some.is at c.target.ensures in
-    let t = found_target c.args.entries.now.slots c.requires.targets (name_of_cell c.args.name) _
+    let target = rw c.in-Some.is at c.requires.target in
+    let t = found_target c.args.entries.now.slots c.requires.linked.targets (name_of_cell c.args.name) _
     target in
     let same = rw t.there at c.details.ensures.references in
     let more = ne_eqb t.references 1 (λ is. c.if-details-eq1.false (same ∙ is)) in

@@ -1,18 +1,18 @@
-use Rattle.generational_box.proofs.{ap, are_linked, is_none, ne_eqb, reach_strange, state_is, sym}
-use Rattle.generational_box.proofs.{write_own, write_unreached, ◌∙◌}
+use Rattle.generational_box.proofs.{look_writes}
 use Rattle.generational_box.proofs.unsync.StoreAnyStorage.can_write.Goals as goal
 
-pub can_write-requires : goal.can_write-requires
-can_write-requires g c = are_linked c.self.inside.slots.state (state_is c.self.view_is) c.args.self.now.sound
+pub returns-in-Nothing : goal.returns-in-Nothing
+returns-in-Nothing g c = rw c.in-Nothing.is at
+    (look_writes c.args.self.now.state c.args.pointer c.look.result c.look.ensures)
 
-pub returns-then-pointer-self : goal.returns-then-pointer-self
-returns-then-pointer-self g c =
-    c.can_write.ensures c.args.pointer.created_at
-    ∙ ap is_none (sym (write_own c.self.inside.slots.state (state_is c.self.view_is) c.args.pointer
-    c.cell_name.ensures c.if-pointer-self.true))
+pub returns-in-Unborrowed : goal.returns-in-Unborrowed
+returns-in-Unborrowed g c = rw c.in-Unborrowed.is at
+    (look_writes c.args.self.now.state c.args.pointer c.look.result c.look.ensures)
 
-pub returns-else-pointer-self : goal.returns-else-pointer-self
-returns-else-pointer-self g c =
-    let view = state_is c.self.view_is in
-    ne_eqb _ _ c.if-pointer-self.false
-    ∙ write_unreached view c.args.pointer (reach_strange view c.args.pointer c.if-pointer-self.false)
+pub returns-in-Read : goal.returns-in-Read
+returns-in-Read g c = rw c.in-Read.is at
+    (look_writes c.args.self.now.state c.args.pointer c.look.result c.look.ensures)
+
+pub returns-in-Lent : goal.returns-in-Lent
+returns-in-Lent g c = rw c.in-Lent.is at
+    (look_writes c.args.self.now.state c.args.pointer c.look.result c.look.ensures)

@@ -26,7 +26,7 @@ pub returns-in-Err-clause-step : goal.returns-in-Err-clause-step
 returns-in-Err-clause-step g c =
     last_refused c.self.inside.slots.state (state_is c.self.view_is) c.args.owner _ c.in-Some.ensures
     (omega (arith, c.count.ensures, c.if-count-gt1.false)) _ c.boxes.ensures _
-    c.in-Err.refused c.in-Err.ensures.err c.in-Err.ensures.found
+    c.in-Err.refused c.in-Err.ensures.1 c.in-Err.ensures.0
 
 pub invariant_of-self-2 : goal.invariant_of-self-2
 invariant_of-self-2 g c =
@@ -36,7 +36,7 @@ pub returns-clause-step : goal.returns-clause-step
 returns-clause-step g c =
     last_done c.self.inside.slots.state (state_is c.self.view_is) c.args.owner _ c.in-Some.ensures
     (omega (arith, c.count.ensures, c.if-count-gt1.false)) _ c.boxes.ensures _ _
-    c.in-Ok.ensures.found c.in-Ok.ensures.ok c.take.ensures.after
+    c.in-Ok.ensures.0 c.in-Ok.ensures.1 c.take.ensures.after
 
 pub invariant_of-self-inside-in-Some : goal.invariant_of-self-inside-in-Some
 invariant_of-self-inside-in-Some g c =
@@ -49,7 +49,7 @@ invariant_of-self-inside-2 g c =
     meets_kept _ _ (ReleaseOwner c.args.owner) _ c.args.self.now.sound c.args.self.now.bounded
     (last_done c.self.inside.slots.state (state_is c.self.view_is) c.args.owner _ c.in-Some.ensures
     (omega (arith, c.count.ensures, c.if-count-gt1.false)) _ c.boxes.ensures _ _
-    c.in-Ok.ensures.found c.in-Ok.ensures.ok c.take.ensures.after)
+    c.in-Ok.ensures.0 c.in-Ok.ensures.1 c.take.ensures.after)
 
 pub same-self : goal.same-self
 same-self g c = both (λ s b. record c.self.inside { sound = s; bounded = b })

@@ -1,15 +1,18 @@
 use Rattle.generational_box.proofs.{are_linked, BorrowRefused, Dropped, end_refused, Err}
-use Rattle.generational_box.proofs.{FoundBorrowed, Meets, reach_own, reach_strange, state_is, subst}
-use Rattle.generational_box.proofs.{sym, Write, write_gone, write_hindered, write_own, ◌∙◌}
+use Rattle.generational_box.proofs.{FoundBorrowed, is_own, is_strange, Meets, reach_own}
+use Rattle.generational_box.proofs.{reach_strange, state_is, subst, sym, Write, write_gone}
+use Rattle.generational_box.proofs.{write_hindered, write_own, ◌∙◌}
 use Rattle.generational_box.proofs.unsync.StoreStorage.try_write.Goals as goal
 
-pub returns-then-pointer-self : goal.returns-then-pointer-self
-returns-then-pointer-self g c =
+pub returns-in_default : goal.returns-in_default
+returns-in_default g c =
+    let view = state_is c.self.view_is in
     rw c.dropped_mut.ensures (subst
     (λ S. Meets S (Write c.args.pointer c.args.location)
     (BorrowRefused (Dropped c.args.pointer.created_at)) c.settle.new.self.state)
     c.settle.ensures (write_gone c.args.pointer c.args.location
-    (reach_strange (state_is c.self.view_is) c.args.pointer c.if-pointer-self.true)))
+    (reach_strange view c.args.pointer
+    (is_strange c.self.inside.slots.state view c.args.pointer.id c.in_default.ensures))))
 
 pub writable-requires : goal.writable-requires
 writable-requires g c =
@@ -17,14 +20,18 @@ writable-requires g c =
 
 pub begin_write-requires-clause-to : goal.begin_write-requires-clause-to
 begin_write-requires-clause-to g c =
-    reach_own c.self.inside.slots.state (state_is c.self.view_is) c.args.pointer
-    c.cell_name.ensures c.if-pointer-self.false ∙ c.in-Ok.ensures.ok.0
+    let view = state_is c.self.view_is in
+    let X = c.self.inside.slots.state in
+    let own = is_own X view c.args.pointer.id c.in-Some.ensures in
+    reach_own X view c.args.pointer own.name own.store ∙ c.in-Ok.ensures.0
 
 pub returns-in-Err : goal.returns-in-Err
 returns-in-Err g c =
+    let view = state_is c.self.view_is in
+    let X = c.self.inside.slots.state in
+    let own = is_own X view c.args.pointer.id c.in-Some.ensures in
     subst (λ S. Meets S (Write c.args.pointer c.args.location) (end_refused c.in-Err.refused)
     c.settle.new.self.state)
     c.settle.ensures (write_hindered c.args.pointer c.args.location c.in-Err.refused
     (subst (λ t. FoundBorrowed t (Err c.in-Err.refused))
-    (sym (write_own c.self.inside.slots.state (state_is c.self.view_is) c.args.pointer
-    c.cell_name.ensures c.if-pointer-self.false)) c.in-Err.ensures.err))
+    (sym (write_own X view c.args.pointer own.name own.store)) c.in-Err.ensures))

@@ -15,16 +15,10 @@ remove-requires g c =
       alone = λ _. free_alone S n c.requires free;
     }
 
-pub returns-then-has_unborrowed_value-clause-found : goal.returns-then-has_unborrowed_value-clause-found
-returns-then-has_unborrowed_value-clause-found g c =
+pub returns-then-has_unborrowed_value : goal.returns-then-has_unborrowed_value
+returns-then-has_unborrowed_value g c =
+    let S = c.args.self.now.state in
     let n = name_of_cell c.args.name in
     let free = unborrowed_told _ c.self.view_is n c.has_unborrowed_value.ensures
     c.if-has_unborrowed_value.true in
-    free_hindrance c.args.self.now.state n c.requires free
-
-pub returns-then-has_unborrowed_value-clause-ok : goal.returns-then-has_unborrowed_value-clause-ok
-returns-then-has_unborrowed_value-clause-ok g c =
-    let n = name_of_cell c.args.name in
-    let free = unborrowed_told _ c.self.view_is n c.has_unborrowed_value.ensures
-    c.if-has_unborrowed_value.true in
-    c.remove.ensures ∙ free_closes c.args.self.now.state n c.requires free
+    (free_hindrance S n c.requires free, c.remove.ensures ∙ free_closes S n c.requires free)

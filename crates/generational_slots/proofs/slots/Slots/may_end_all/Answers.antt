@@ -1,7 +1,8 @@
 -- Whether a borrow stands in the way of the end of a list of names.
 use Rattle.generational_slots.proofs.{Cell, CellName, cells_of, false, hindrance_is, IfSome}
 use Rattle.generational_slots.proofs.{is_none, is_some, name_of_cell, NameMap, None, none_map}
-use Rattle.generational_slots.proofs.{Option, option_map, refl, refusal_of, Some, state_is, true}
+use Rattle.generational_slots.proofs.{Option, option_map, refl, refusal_of, Some, state_is, sym, true}
+use Rattle.generational_slots.proofs.{unborrowed_free}
 use Rattle.generational_slots.proofs.{◌∙◌, ◌≡◌}
 use Rattle.std.proofs.Common.{map as list_map}
 use Rattle.generational_slots.proofs.slots.Slots.may_end_all.Goals as goal
@@ -17,8 +18,14 @@ found_refused cells (Some m) borrowed = some _ borrowed
     some None h = cc
     some (Some x) h = refl
 
-pub returns : goal.returns
-returns g c = rw (
+pub returns-then-are_unborrowed_values : goal.returns-then-are_unborrowed_values
+returns-then-are_unborrowed_values g c =
+    let free = unborrowed_free c.self.inside.entries.slots c.self.view_is c.args.names.now
+    (sym c.are_unborrowed_values.ensures ∙ c.if-are_unborrowed_values.true) c.requires.linked in
+    rw free c.if-are_unborrowed_values.true
+
+pub returns-else-are_unborrowed_values : goal.returns-else-are_unborrowed_values
+returns-else-are_unborrowed_values g c = rw (
   hindrance_is c.args.self.now.state (list_map name_of_cell c.args.names.now),
   ← state_is c.self.view_is,
   c.find_hindered.ensures.hindrance,

@@ -1,7 +1,7 @@
 use Rattle.generational_slots.proofs.{cell_seen, name_of_cell, name_test, plain_free, refl}
 use Rattle.generational_slots.proofs.{same_free, sym, turned_free, unshared_free, ◌∙◌}
 use Rattle.generational_slots.proofs.slots.Slots.may_point.Goals as goal
-use goal.{then-eq-via-else-eq+then-not-is_shared, then-eq-via-then-eq}
+use goal.{then-eq-via-else-eq+then-not-shared, then-eq-via-then-eq}
 
 pub returns-in_default : goal.returns-in_default
 returns-in_default g c a b at =
@@ -16,16 +16,20 @@ returns-then-eq g c a b at =
       | then-eq-via-then-eq w ↦ same_free S a b m _ _ (name_of_cell c.in-Some.old)
           (rw (cell_seen _ c.self.view_is (name_of_cell c.args.name)) at c.in-Some.ensures)
           (name_test _ m ∙ (sym c.eq.ensures ∙ w.if-eq.true))
-      | then-eq-via-else-eq+then-not-is_shared w ↦ unshared_free S a b m _ _
-          (rw (cell_seen _ c.self.view_is m) at w.if-not-is_shared.ensures)
+      | then-eq-via-else-eq+then-not-shared w ↦ unshared_free S a b m _ _
+          (sym w.if-not-shared.true ∙ c.requires.shared)
     ]
+
+pub may_lose-requires-clause-target : goal.may_lose-requires-clause-target
+may_lose-requires-clause-target g c =
+    rw (cell_seen _ c.self.view_is (name_of_cell c.args.name)) at c.in-Some.ensures
 
 pub returns : goal.returns
 returns g c a b at =
     let m = name_of_cell c.args.new in
     let seen = cell_seen _ c.self.view_is (name_of_cell c.args.name) in
-    rw (c.may_end.ensures, ← at)
-    (turned_free c.args.self.now.state a b m _ _ (name_of_cell c.in-Some.old) refl c.requires
-    (rw (seen, ← at) at c.in-Some.ensures)
-    (rw (cell_seen _ c.self.view_is m) at c.if-not-is_shared.ensures)
+    rw (c.may_lose.ensures, ← at)
+    (turned_free c.args.self.now.state a b m _ _ (name_of_cell c.in-Some.old) refl
+    c.requires.linked (rw (seen, ← at) at c.in-Some.ensures)
+    (sym c.if-not-shared.false ∙ c.requires.shared)
     (name_test _ m ∙ (sym c.eq.ensures ∙ c.if-eq.false)))

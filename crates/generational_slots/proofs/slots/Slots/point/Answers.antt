@@ -1,7 +1,7 @@
 -- A name that is to name another value.
 use Rattle.generational_slots.proofs.{cell_seen, content_of, created_in, found_in, held_in}
 use Rattle.generational_slots.proofs.{held_within, is_some, name_of_cell, points_gone, points_plain}
-use Rattle.generational_slots.proofs.{points_turn, points_value, refl, some_if, sym}
+use Rattle.generational_slots.proofs.{points_turn, points_value, refl, some_if, sym, ◌∙◌}
 use Rattle.generational_slots.proofs.slots.Slots.point.Goals as goal
 
 pub returns-then-not-holds : goal.returns-then-not-holds
@@ -25,21 +25,21 @@ returns-in_default g c b =
     _ _ _ (created_in c.self.view_is (found_in c.self.view_is m there) _ c.details.ensures.created)
     (rw seen at c.in_default.ensures) (rw seen at c.if-not-holds.ensures))
 
-pub details-requires-then-not-is_shared : goal.details-requires-then-not-is_shared
-details-requires-then-not-is_shared g c =
+pub details-requires-then-not-shared : goal.details-requires-then-not-shared
+details-requires-then-not-shared g c =
     held_within (held_in c.self.view_is (name_of_cell c.args.new) c.requires.there).held
 
-pub returns-then-not-is_shared : goal.returns-then-not-is_shared
-returns-then-not-is_shared g c b =
+pub returns-then-not-shared : goal.returns-then-not-shared
+returns-then-not-shared g c b =
     let n = name_of_cell c.args.name in
     let m = name_of_cell c.args.new in
     let there = some_if (λ o. is_some (content_of o)) _ refl c.requires.there in
-    rw c.dropped_mut-then-not-is_shared.ensures (points_plain c.args.self.now.state n m
+    rw c.dropped_mut-then-not-shared.ensures (points_plain c.args.self.now.state n m
     c.args.created_at b _ _ _ _
     (created_in c.self.view_is (found_in c.self.view_is m there) _
-    c.details-then-not-is_shared.ensures.created)
+    c.details-then-not-shared.ensures.created)
     (rw (cell_seen _ c.self.view_is n) at c.in-Some.ensures)
-    (rw (cell_seen _ c.self.view_is m) at c.if-not-is_shared.ensures))
+    (sym c.if-not-shared.true ∙ c.requires.shared))
 
 pub turn-requires-clause-refers : goal.turn-requires-clause-refers
 turn-requires-clause-refers g c =
@@ -51,8 +51,8 @@ returns g c b =
     let m = name_of_cell c.args.new in
     points_turn c.args.self.now.state n m c.args.created_at b _ _ (name_of_cell c.in-Some.old) _ _
     (rw (cell_seen _ c.self.view_is n) at c.in-Some.ensures)
-    (rw (cell_seen _ c.self.view_is m) at c.if-not-is_shared.ensures) c.turn.ensures
+    (sym c.if-not-shared.false ∙ c.requires.shared) c.turn.ensures
 
 pub turn-requires-clause-shared : goal.turn-requires-clause-shared
 turn-requires-clause-shared g c =
-    sym (rw (cell_seen _ c.self.view_is (name_of_cell c.args.new)) at c.if-not-is_shared.ensures)
+    sym c.requires.shared ∙ c.if-not-shared.false

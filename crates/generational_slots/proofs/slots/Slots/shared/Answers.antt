@@ -1,16 +1,11 @@
-use Rattle.generational_slots.proofs.{cell_seen, name_of_cell, refl, sym}
+use Rattle.generational_slots.proofs.{refl, sym, ◌∙◌}
 use Rattle.generational_slots.proofs.slots.Slots.shared.Goals as goal
 
-pub returns-then-is_shared-clause-ok : goal.returns-then-is_shared-clause-ok
-returns-then-is_shared-clause-ok g c =
-    let seen = cell_seen _ c.self.view_is (name_of_cell c.in-Ok.value) in
-    (c.in-Ok.ensures.ok.0, c.in-Ok.ensures.ok.1, sym (rw seen at c.if-is_shared.ensures))
+pub returns-then-shared-clause-ok : goal.returns-then-shared-clause-ok
+returns-then-shared-clause-ok g c =
+    let f = c.in-Ok.ensures.ok in (f.0, f.1, sym f.2 ∙ c.if-shared.true)
 
 pub returns-clause-err : goal.returns-clause-err
 returns-clause-err g c =
-    let seen = cell_seen _ c.self.view_is (name_of_cell c.in-Ok.value) in rw (
-      c.dropped.ensures,
-      c.in-Ok.ensures.ok.0,
-      c.in-Ok.ensures.ok.1,
-      ← rw seen at c.if-is_shared.ensures,
-    ) refl
+    let f = c.in-Ok.ensures.ok in
+    rw (c.dropped.ensures, f.0, f.1, ← (sym c.if-shared.false ∙ f.2)) refl

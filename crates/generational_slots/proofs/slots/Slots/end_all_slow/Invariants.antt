@@ -1,6 +1,6 @@
 use Rattle.generational_slots.proofs.{close, drop, IsLinked, name_of_cell, ◌≡◌}
 use Rattle.std.specs.Prelude.{map as list_map}
-use Rattle.generational_slots.proofs.slots.Slots.end_all.Given as goal
+use Rattle.generational_slots.proofs.slots.Slots.end_all_slow.Given as goal
 
 -- the end of what is left leads to the end of all
 abbrev pub invariant-loop-name : goal.invariant-loop-name
